@@ -1,0 +1,20 @@
+-- A parser is a place in a list of octets.
+use Rattle.std.specs.Prelude.{◌≡◌, ◌+◌, ℕ, List, drop}
+use Rattle.dns_octets.specs.declared.parser.Parser.{Parser}
+
+-- all the octets, those in front of the place too
+abbrev pub octets_of : Parser → List ℕ
+octets_of parser = parser.octets.now
+
+-- how many octets stand in front
+abbrev pub place_of : Parser → ℕ
+place_of parser = parser.place
+
+-- the octets that are left
+abbrev pub rest_of : Parser → List ℕ
+rest_of parser = drop (place_of parser) (octets_of parser)
+
+-- the new parser stands in the same octets, count octets further on
+pub record GoesOn (old new : Parser) (count : ℕ) : Type 0 where
+  pub octets : new.octets ≡ old.octets
+  pub place : place_of new ≡ place_of old + count

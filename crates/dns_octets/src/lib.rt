@@ -1,0 +1,12 @@
+//! Octets: what holds them, and how they are read one after another.
+//!
+//! A part of `dns_name`, which hands all of it on.
+#![tactic(auto)]
+
+mod error;
+mod octets;
+mod parser;
+
+pub use error::{FormError, ParseError, ShortInput};
+pub use octets::Octets;
+pub use parser::Parser;

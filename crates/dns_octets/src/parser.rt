@@ -1,0 +1,138 @@
+//! Reading octets one after another.
+ghost use Rattle.std.specs.Prelude.{◌≡◌, ◌+◌, ◌-◌, ◌≤◌, ◌<◌, ◌↔◌, [], ◌∷◌, length, take, drop, IsOk, IfOk, OnOk, OnErr};
+
+use crate::error::ShortInput;
+
+/// A place in a slice of octets, from which values are read.
+///
+/// A call that is refused leaves the parser as it was.
+#[derive(Debug)]
+pub struct Parser<'a> {
+    octets: &'a [u8],
+    place: usize,
+    ghost within: { place ≤ length octets.now },
+}
+
+impl Clone for Parser<'_> {
+    fn clone(&self) -> Result<Self, std::alloc::AllocError> {
+        Ok(*self)
+    }
+}
+
+impl Copy for Parser<'_> {}
+
+impl<'a> Parser<'a> {
+    ghost use Rattle.dns_octets.specs.Parser.{GoesOn, octets_of, place_of, rest_of};
+    ghost use Rattle.std.specs.Int.{from_be_bytes, w16, w32};
+
+    /// A parser in front of the octets.
+    pub fn from_ref(octets: &'a [u8]) -> Self
+        ensures octets { octets_of result ≡ octets.now }
+        ensures place { place_of result ≡ 0 }
+    {
+        Parser { octets, place: 0 }
+    }
+
+    /// How many octets stand in front of the place.
+    pub fn pos(&self) -> usize
+        ensures { result ≡ place_of self.now }
+    {
+        self.place
+    }
+
+    /// How many octets there are, those in front of the place too.
+    pub fn len(&self) -> usize
+        ensures { result ≡ length (octets_of self.now) }
+    {
+        self.octets.len()
+    }
+
+    /// How many octets are left.
+    pub fn remaining(&self) -> usize
+        ensures { result + place_of self.now ≡ length (octets_of self.now) }
+    {
+        self.octets.len() - self.place
+    }
+
+    /// The next `len` octets, which stay to be read. Refused where fewer are left.
+    pub fn peek(&self, len: usize) -> Result<&'a [u8], ShortInput>
+        ensures ok { IfOk result (λ octets. octets.now ≡ take len (rest_of self.now)) }
+        ensures enough { IsOk result ↔ (place_of self.now + len ≤ length (octets_of self.now)) }
+    {
+        if len > self.remaining() {
+            return Err(ShortInput);
+        }
+        Ok(&self.octets[self.place..self.place + len])
+    }
+
+    /// Goes to the place `pos`. Refused behind the last octet.
+    pub fn seek(&mut self, pos: usize) -> Result<(), ShortInput>
+        ensures ok { OnOk result ((self.new.octets ≡ self.old.octets) × (place_of self.new ≡ pos)) }
+        ensures enough { IsOk result ↔ (pos ≤ length (octets_of self.old)) }
+        ensures err { OnErr result (self.new ≡ self.old) }
+    {
+        if pos > self.octets.len() {
+            return Err(ShortInput);
+        }
+        self.place = pos;
+        Ok(())
+    }
+
+    /// Goes `len` octets on. Refused where fewer are left.
+    pub fn advance(&mut self, len: usize) -> Result<(), ShortInput>
+        ensures ok { OnOk result (GoesOn self.old self.new len) }
+        ensures enough { IsOk result ↔ (place_of self.old + len ≤ length (octets_of self.old)) }
+        ensures err { OnErr result (self.new ≡ self.old) }
+    {
+        if len > self.remaining() {
+            return Err(ShortInput);
+        }
+        self.place += len;
+        Ok(())
+    }
+
+    /// Reads the next `len` octets. Refused where fewer are left.
+    pub fn parse_octets(&mut self, len: usize) -> Result<&'a [u8], ShortInput>
+        ensures ok { IfOk result (λ octets. octets.now ≡ take len (rest_of self.old)) }
+        ensures place { OnOk result (GoesOn self.old self.new len) }
+        ensures enough { IsOk result ↔ (place_of self.old + len ≤ length (octets_of self.old)) }
+        ensures err { OnErr result (self.new ≡ self.old) }
+    {
+        let octets = self.peek(len)?;
+        self.place += len;
+        Ok(octets)
+    }
+
+    /// Reads an octet. Refused where none is left.
+    pub fn parse_u8(&mut self) -> Result<u8, ShortInput>
+        ensures ok { IfOk result (λ octet. octet ∷ [] ≡ take 1 (rest_of self.old)) }
+        ensures place { OnOk result (GoesOn self.old self.new 1) }
+        ensures enough { IsOk result ↔ (place_of self.old + 1 ≤ length (octets_of self.old)) }
+        ensures err { OnErr result (self.new ≡ self.old) }
+    {
+        let octets = self.parse_octets(1)?;
+        Ok(octets[0])
+    }
+
+    /// Reads a number of two octets, the high one first. Refused where fewer are left.
+    pub fn parse_u16_be(&mut self) -> Result<u16, ShortInput>
+        ensures ok { IfOk result (λ number. number ≡ from_be_bytes w16 (take 2 (rest_of self.old))) }
+        ensures place { OnOk result (GoesOn self.old self.new 2) }
+        ensures enough { IsOk result ↔ (place_of self.old + 2 ≤ length (octets_of self.old)) }
+        ensures err { OnErr result (self.new ≡ self.old) }
+    {
+        let octets = self.parse_octets(2)?;
+        Ok(u16::from_be_bytes([octets[0], octets[1]]))
+    }
+
+    /// Reads a number of four octets, the high one first. Refused where fewer are left.
+    pub fn parse_u32_be(&mut self) -> Result<u32, ShortInput>
+        ensures ok { IfOk result (λ number. number ≡ from_be_bytes w32 (take 4 (rest_of self.old))) }
+        ensures place { OnOk result (GoesOn self.old self.new 4) }
+        ensures enough { IsOk result ↔ (place_of self.old + 4 ≤ length (octets_of self.old)) }
+        ensures err { OnErr result (self.new ≡ self.old) }
+    {
+        let octets = self.parse_octets(4)?;
+        Ok(u32::from_be_bytes([octets[0], octets[1], octets[2], octets[3]]))
+    }
+}
