@@ -1,0 +1,6 @@
+pub mod Name
+pub mod Spelled
+pub mod Label
+pub mod Split
+pub mod Symbol
+pub mod NameText

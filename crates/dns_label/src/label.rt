@@ -1,0 +1,132 @@
+//! Labels, and how one is split off the front of octets.
+ghost use Rattle.std.specs.Prelude.{◌≡◌, ◌+◌, ◌-◌, ◌*◌, ◌≤◌, ◌↔◌, [], length, IsTrue, IsOk, IfOk, IfErr};
+ghost use Rattle.dns_label.specs.declared.label.SplitLabelError.TheVariants.{BadType};
+
+use std::alloc::AllocError;
+use thiserror::Error;
+
+/// The octets are more than the 63 of a label (RFC 1035 2.3.4).
+#[derive(Clone, Copy, Debug, PartialEq, Eq, Error)]
+#[error("long label")]
+pub struct LongLabelError;
+
+/// The octet in the place of a label's length is of a kind that no standard in use defines (RFC 1035 4.1.4).
+#[derive(Clone, Copy, Debug, PartialEq, Eq, Error)]
+pub enum LabelTypeError {
+    /// Its top bits are 10.
+    #[error("undefined label type")]
+    Undefined,
+    /// Its top bits are 01 (RFC 6891 5).
+    #[error("unknown extended label type")]
+    Extended,
+}
+
+/// Why no label is split off octets.
+#[derive(Clone, Copy, Debug, PartialEq, Eq, Error)]
+pub enum SplitLabelError {
+    /// They begin with a pointer to this place.
+    #[error("compressed domain name")]
+    Pointer(u16),
+    /// They begin with an octet that begins neither a label nor a pointer.
+    #[error("{0}")]
+    BadType(LabelTypeError),
+    /// They end before the label or the pointer does.
+    #[error("unexpected end of input")]
+    ShortInput,
+}
+
+impl From<LabelTypeError> for SplitLabelError {
+    ghost from_gives = { λ kind error. error ≡ BadType kind };
+
+    fn from(kind: LabelTypeError) -> SplitLabelError {
+        SplitLabelError::BadType(kind)
+    }
+}
+
+/// A label of a domain name: at most 63 octets, and none in the root's (RFC 1035 3.1).
+#[derive(Debug)]
+pub struct Label<'a> {
+    octets: &'a [u8],
+    pub ghost short: { length octets.now ≤ 63 },
+}
+
+impl Clone for Label<'_> {
+    fn clone(&self) -> Result<Self, AllocError> {
+        Ok(*self)
+    }
+}
+
+impl Copy for Label<'_> {}
+
+impl<'a> Label<'a> {
+    ghost use Rattle.dns_label.specs.Label.{octets_of};
+    ghost use Rattle.dns_label.specs.Split.{NoLabel, StartsWithLabel};
+
+    /// The label of these octets. Refused past 63 of them.
+    pub fn from_slice(octets: &'a [u8]) -> Result<Self, LongLabelError>
+        ensures ok { IfOk result (λ label. octets_of label ≡ octets.now) }
+        ensures short { IsOk result ↔ (length octets.now ≤ 63) }
+    {
+        if octets.len() > 63 {
+            return Err(LongLabelError);
+        }
+        Ok(Label { octets })
+    }
+
+    /// The label at the front of the octets, which stands behind its length, and the octets behind it.
+    ///
+    /// Refused where the front is a pointer, is of another kind, or ends early (RFC 1035 4.1.4).
+    pub fn split_from(octets: &'a [u8]) -> Result<(Self, &'a [u8]), SplitLabelError>
+        ensures ok { IfOk result (λ found. StartsWithLabel octets.now (octets_of found.0) found.1.now) }
+        ensures err { IfErr result (NoLabel octets.now) }
+    {
+        let Some((&head, behind)) = octets.split_first() else {
+            return Err(SplitLabelError::ShortInput);
+        };
+        match head {
+            0..=63 => {
+                let len = usize::from(head);
+                if behind.len() < len {
+                    return Err(SplitLabelError::ShortInput);
+                }
+                let (octets, rest) = behind.split_at(len);
+                Ok((Label { octets }, rest))
+            }
+            64..=127 => Err(SplitLabelError::BadType(LabelTypeError::Extended)),
+            128..=191 => Err(SplitLabelError::BadType(LabelTypeError::Undefined)),
+            192..=255 => match behind.first() {
+                Some(&low) => Err(SplitLabelError::Pointer(pointer_place(head, low))),
+                None => Err(SplitLabelError::ShortInput),
+            },
+        }
+    }
+
+    /// The octets, without their length.
+    pub fn as_slice(&self) -> &'a [u8]
+        ensures { result.now ≡ octets_of self.now }
+    {
+        self.octets
+    }
+
+    /// How many octets the label has, its length octet not counted.
+    pub fn len(&self) -> usize
+        ensures { result ≡ length (octets_of self.now) }
+    {
+        self.octets.len()
+    }
+
+    /// Whether this is the root's label, which has no octets.
+    pub fn is_root(&self) -> bool
+        ensures { IsTrue result ↔ (octets_of self.now ≡ []) }
+    {
+        self.octets.is_empty()
+    }
+}
+
+/// The place that a pointer of these two octets gives.
+fn pointer_place(first: u8, second: u8) -> u16
+    requires { 192 ≤ first }
+    ensures { result ≡ 256 * (first - 192) + second }
+{
+    256 * u16::from(first - 192) + u16::from(second)
+}

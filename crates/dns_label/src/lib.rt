@@ -1,0 +1,11 @@
+//! Labels of domain names, and the symbols in which text writes their octets.
+//!
+//! A part of `dns_name`, which hands all of it on. Its `specs/` say what a name is, which name a message spells at a
+//! place, and which name a text spells.
+#![tactic(auto)]
+
+mod label;
+mod symbol;
+
+pub use label::{Label, LabelTypeError, LongLabelError, SplitLabelError};
+pub use symbol::Symbol;
