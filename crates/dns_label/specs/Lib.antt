@@ -1,5 +1,6 @@
 pub mod Name
 pub mod Spelled
+pub mod Labels
 pub mod Label
 pub mod Split
 pub mod Symbol

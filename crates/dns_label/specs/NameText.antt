@@ -2,7 +2,7 @@
 use Rattle.std.specs.Prelude.{◌≡◌, ◌<◌, ◌==◌, ℕ, Bool, false, List, [], ◌∷◌, ◌++◌, length, if◌then◌else◌}
 use Rattle.std.specs.List.{AllByRecursion, flat_map}
 use Rattle.dns_label.specs.declared.symbol.Symbol.{Symbol}
-use Rattle.dns_label.specs.declared.symbol.Symbol.TheVariants.{Char, SimpleEscape, DecimalEscape}
+use Rattle.dns_label.specs.declared.symbol.Symbol.TheVariants.{Char}
 use Rattle.dns_label.specs.Name.{IsName, IsLabel}
 use Rattle.dns_label.specs.Symbol.{IsSymbol, octet, spelled}
 
