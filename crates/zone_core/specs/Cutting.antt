@@ -1,6 +1,6 @@
 -- Cuttings: how a list is cut into groups that stand one behind the other, as the records of a zone into messages.
 -- `size` is what a group takes, as the octets of the message that carries it, and `max` is the most that one may take.
-use Rattle.std.specs.Prelude.{◌≡◌, ℕ, suc, ◌+◌, ◌<◌, ◌≤◌, List, [], ◌∷◌, ◌++◌, length, flat_map, slice_get, IfSome, None, ⊤}
+use Rattle.std.specs.Prelude.{◌≡◌, ℕ, ◌+◌, ◌<◌, ◌≤◌, List, [], ◌∷◌, ◌++◌, length, ◌⊎◌, flat_map, slice_get, IfSome, None, ⊤}
 use Rattle.std.specs.List.{AllByRecursion, last_or, push}
 
 -- the groups joined again, the first group first
@@ -48,11 +48,20 @@ pub record IsBlocked {X : Type 0} (size : List X → ℕ) (max : ℕ) (xs : List
   pub behind : FitsNotBehind size max groups x
   pub alone : max < size (x ∷ [])
 
--- What is put behind a list never makes it smaller.
-abbrev pub GrowsBehind : {X : Type 0} → (List X → ℕ) → Type 0
-GrowsBehind {X} size = (xs more : List X) → size xs ≤ size (xs ++ more)
+-- The list has a full cut, or one of its elements is blocked.
+abbrev pub CutOrBlocked : {X : Type 0} → (List X → ℕ) → ℕ → List X → Type 0
+CutOrBlocked {X} size max xs = ((groups : List (List X)) × IsFullCut size max xs groups) ⊎ ((n : ℕ) × IsBlocked size max xs n)
 
--- Neither does what is put in front of it.
+-- Each front of a list that takes at most `max` does so too.
+abbrev pub FrontsFit : {X : Type 0} → (List X → ℕ) → ℕ → Type 0
+FrontsFit {X} size max = (xs more : List X) → size (xs ++ more) ≤ max → size xs ≤ max
+
+-- So does each end of it, and by both each part.
+pub record PartsFit {X : Type 0} (size : List X → ℕ) (max : ℕ) : Type 0 where
+  pub front : FrontsFit size max
+  pub back : (more xs : List X) → size (more ++ xs) ≤ max → size xs ≤ max
+
+-- What is put behind a list or in front of it never makes it smaller.
 pub record Grows {X : Type 0} (size : List X → ℕ) : Type 0 where
   pub front : (xs more : List X) → size xs ≤ size (xs ++ more)
   pub back : (more xs : List X) → size xs ≤ size (more ++ xs)
