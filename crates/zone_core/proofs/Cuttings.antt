@@ -1,9 +1,8 @@
 -- Which cuttings a list has: a full one is the only full one, and none that fits has fewer groups.
-use Rattle.std.proofs.Common.{◌≡◌, ℕ, ◌<◌, ◌≤◌, ◌+◌, List, [], ◌∷◌, ◌++◌, length, refl, ap, sym, ◌∙◌, arith, append_assoc}
-use mathlib.Core.Logic.{◌⊎◌, inl, inr}
+use Rattle.std.proofs.Common.{◌≡◌, ℕ, ◌<◌, ◌≤◌, List, [], ◌∷◌, ◌++◌, length, refl, ap, sym, ◌∙◌, arith, append_assoc}
 use Rattle.std.specs.List.{AllByRecursion, push}
-use Rattle.zone_core.specs.Cutting.{joined, IsNonempty, IsCutting, Fits, IsFull, IsFullCut, FitsNotBehind, IsBlocked, FrontsFit, PartsFit, Grows}
-use Rattle.zone_core.proofs.Splits.{AreSame, GoesPast, Compared, two_splits, nil_append_cons, push_append}
+use Rattle.zone_core.specs.Cutting.{joined, IsNonempty, Fits, IsFull, IsFullCut, FitsNotBehind, IsBlocked, FrontsFit, PartsFit, Grows}
+use Rattle.zone_core.proofs.Splits.{GoesPast, two_splits, nil_append_cons, push_append}
 use Rattle.zone_core.proofs.Splits.Compared.{same, longer, shorter}
 
 -- Where a size grows, each part of what fits fits.

@@ -1,11 +1,11 @@
 -- A full cut made from the left, an element at a time, as a sender makes it.
 use Rattle.std.proofs.Common.{◌≡◌, ℕ, ◌<◌, ◌≤◌, ◌+◌, zero, suc, take, drop, List, [], ◌∷◌, ◌++◌, length, refl, ap, sym, ◌∙◌, arith, append_assoc}
 use mathlib.Core.Logic.{◌⊎◌, inl, inr}
-use Rattle.std.specs.Prelude.{slice_get, Some, None}
-use Rattle.std.specs.List.{AllByRecursion, push, last_or, flat_map}
+use Rattle.std.specs.Prelude.{slice_get, Some}
+use Rattle.std.specs.List.{AllByRecursion, push, last_or}
 use Rattle.std.proofs.lemmas.Bool.{cases_lt}
 use Rattle.std.proofs.lemmas.List.{append-nil}
-use Rattle.zone_core.specs.Cutting.{joined, IsNonempty, IsCutting, Fits, IsFull, IsFullCut, FitsNotBehind, IsBlocked, CutOrBlocked}
+use Rattle.zone_core.specs.Cutting.{joined, IsNonempty, IsFull, IsFullCut, FitsNotBehind, IsBlocked, CutOrBlocked}
 use Rattle.zone_core.proofs.Splits.{push_append}
 
 -- what holds of all groups and of one more

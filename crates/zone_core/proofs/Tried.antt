@@ -1,6 +1,6 @@
 -- The definitions tried on three records: an SOA of 39 octets, an A of 17 and the SOA again, in messages whose header and
 -- question take 19. Each record stands here for its size.
-use Rattle.std.proofs.Common.{◌≡◌, ℕ, ◌<◌, ◌≤◌, ◌+◌, List, [], ◌∷◌, refl, arith}
+use Rattle.std.proofs.Common.{ℕ, ◌+◌, List, [], ◌∷◌, refl, arith}
 use Rattle.std.specs.Prelude.{sum}
 use Rattle.zone_core.specs.Cutting.{Fits, IsFull, IsFullCut, IsBlocked}
 

@@ -1,5 +1,6 @@
--- Cuttings: how a list is cut into groups that stand one behind the other, as the records of a zone into messages.
--- `size` is what a group takes, as the octets of the message that carries it, and `max` is the most that one may take.
+-- Cuttings: how a list is cut into groups that stand one behind the other, as the records of a transfer into messages
+-- (RFC 5936 2.2). `size` says what a group takes, as the octets of the message that carries it, and no group may take
+-- more than `max`.
 use Rattle.std.specs.Prelude.{◌≡◌, ℕ, ◌+◌, ◌<◌, ◌≤◌, List, [], ◌∷◌, ◌++◌, length, ◌⊎◌, flat_map, slice_get, IfSome, None, ⊤}
 use Rattle.std.specs.List.{AllByRecursion, last_or, push}
 
@@ -11,32 +12,34 @@ abbrev pub IsNonempty : {X : Type 0} → List X → Type 0
 IsNonempty [] = ⊥
 IsNonempty (x ∷ xs) = ⊤
 
--- The list is cut into these groups: none is empty, and joined they are the list.
+-- A cutting of a list: none of its groups is empty, and joined they are the list.
 pub record IsCutting {X : Type 0} (xs : List X) (groups : List (List X)) : Type 0 where
   pub nonempty : AllByRecursion IsNonempty groups
   pub joins : joined groups ≡ xs
 
--- It is cut into groups that each take at most `max`.
+-- A cutting that fits: each group takes at most `max`.
 pub record Fits {X : Type 0} (size : List X → ℕ) (max : ℕ) (xs : List X) (groups : List (List X)) : Type 0 where
   pub cut : IsCutting xs groups
   pub small : AllByRecursion (λ group. size group ≤ max) groups
 
--- No group takes at most `max` together with the element behind it, which is the first of the groups behind.
+-- Each group is full: together with the element behind it, the first of the groups behind, it would take more than
+-- `max`. Nothing is behind the last group.
 abbrev pub IsFull : {X : Type 0} → (List X → ℕ) → ℕ → List (List X) → Type 0
 IsFull size max [] = ⊤
-IsFull size max (group ∷ behind) = IfSome (slice_get (joined behind) 0) (λ x. max < size (push group x)) × IsFull size max behind
+IsFull size max (group ∷ behind) =
+    IfSome (slice_get (joined behind) 0) (λ x. max < size (push group x)) × IsFull size max behind
 
--- The full cut of a list, by which a sender begins a new message only where it has to.
+-- The full cut: the cutting that fits of a sender who begins a new group only where the next element has no room.
 pub record IsFullCut {X : Type 0} (size : List X → ℕ) (max : ℕ) (xs : List X) (groups : List (List X)) : Type 0 where
   pub fits : Fits size max xs groups
   pub full : IsFull size max groups
 
--- The element takes too much behind the last of the groups, if there is one.
+-- If there is a last group, it would take more than `max` with the element behind it.
 abbrev pub FitsNotBehind : {X : Type 0} → (List X → ℕ) → ℕ → List (List X) → X → Type 0
 FitsNotBehind size max groups x = IfSome (last_or None groups) (λ last. max < size (push last x))
 
--- The n-th element, counted from 1, can't be placed: the elements before it have a full cut, and it fits neither behind
--- the last group of that cut nor alone.
+-- The n-th element, counted from 1, is blocked: the elements before it have a full cut, and it fits neither behind the
+-- last group of that cut nor alone.
 pub record IsBlocked {X : Type 0} (size : List X → ℕ) (max : ℕ) (xs : List X) (n : ℕ) : Type 0 where
   pub before : List X
   pub x : X
@@ -48,20 +51,21 @@ pub record IsBlocked {X : Type 0} (size : List X → ℕ) (max : ℕ) (xs : List
   pub behind : FitsNotBehind size max groups x
   pub alone : max < size (x ∷ [])
 
--- The list has a full cut, or one of its elements is blocked.
+-- The list has a full cut, or an element that is blocked.
 abbrev pub CutOrBlocked : {X : Type 0} → (List X → ℕ) → ℕ → List X → Type 0
-CutOrBlocked {X} size max xs = ((groups : List (List X)) × IsFullCut size max xs groups) ⊎ ((n : ℕ) × IsBlocked size max xs n)
+CutOrBlocked {X} size max xs =
+    ((groups : List (List X)) × IsFullCut size max xs groups) ⊎ ((n : ℕ) × IsBlocked size max xs n)
 
--- Each front of a list that takes at most `max` does so too.
+-- Where a list takes at most `max`, so does each front of it.
 abbrev pub FrontsFit : {X : Type 0} → (List X → ℕ) → ℕ → Type 0
 FrontsFit {X} size max = (xs more : List X) → size (xs ++ more) ≤ max → size xs ≤ max
 
--- So does each end of it, and by both each part.
+-- Where a list takes at most `max`, so does each part of it, from its front or up to its end.
 pub record PartsFit {X : Type 0} (size : List X → ℕ) (max : ℕ) : Type 0 where
   pub front : FrontsFit size max
   pub back : (more xs : List X) → size (more ++ xs) ≤ max → size xs ≤ max
 
--- What is put behind a list or in front of it never makes it smaller.
+-- A size that grows: no part of a list, from its front or up to its end, takes more than the list.
 pub record Grows {X : Type 0} (size : List X → ℕ) : Type 0 where
   pub front : (xs more : List X) → size xs ≤ size (xs ++ more)
   pub back : (more xs : List X) → size xs ≤ size (more ++ xs)
