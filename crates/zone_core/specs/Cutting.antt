@@ -61,6 +61,8 @@ abbrev pub FrontsFit : {X : Type 0} → (List X → ℕ) → ℕ → Type 0
 FrontsFit {X} size max = (xs more : List X) → size (xs ++ more) ≤ max → size xs ≤ max
 
 -- Where a list takes at most `max`, so does each part of it, from its front or up to its end.
+-- (A size that grows up to `max` is enough. Past 16,384 octets, which no pointer of RFC 1035 4.1.4 reaches, a compressed
+-- message can become shorter by what is put in front.)
 pub record PartsFit {X : Type 0} (size : List X → ℕ) (max : ℕ) : Type 0 where
   pub front : FrontsFit size max
   pub back : (more xs : List X) → size (more ++ xs) ≤ max → size xs ≤ max
