@@ -1,0 +1,5 @@
+pub mod Header
+pub mod Item
+pub mod Question
+pub mod Record
+pub mod Tried

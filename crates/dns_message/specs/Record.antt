@@ -1,0 +1,51 @@
+-- Resource records (RFC 1035 3.2.1), and the parts by which a message spells them.
+use Rattle.std.specs.Prelude.{◌≡◌, ◌<◌, ◌^◌, ℕ, List, [], ◌∷◌, ◌++◌, length, Option, Some, None}
+use Rattle.std.specs.Int.{to_be_bytes, w16, w32}
+use Rattle.dns_label.specs.Name.{IsName, wire}
+use Rattle.dns_rdata.specs.Fields.{Field, number8, number16, number32, ipv4, ipv6, compressible, uncompressed, string, strings, tag, rest_text, rest16, rest64, field_octets, octets, IsRow, kinds_of}
+use Rattle.dns_message.specs.Item.{Parts, End, Octets, Named, Counted}
+
+-- a record: its owner's labels without the root's, and its data as uncompressed octets
+pub record Record : Type 0 where
+  pub owner : List (List ℕ)
+  pub rtype : ℕ
+  pub class : ℕ
+  pub ttl : ℕ
+  pub rdata : List ℕ
+
+-- what the numbers of a record may be
+pub record IsRecord (r : Record) : Type 0 where
+  pub owner : IsName r.owner
+  pub rtype : r.rtype < 2 ^ 16
+  pub class : r.class < 2 ^ 16
+  pub ttl : r.ttl < 2 ^ 32
+  pub rdata : length r.rdata < 2 ^ 16
+
+-- data as a reader takes it: every name may have a pointer (RFC 3597 4 asks readers for that)
+abbrev pub read_parts : List Field → Parts
+read_parts [] = End
+read_parts (compressible name ∷ row) = Named name (read_parts row)
+read_parts (uncompressed name ∷ row) = Named name (read_parts row)
+read_parts (field ∷ row) = Octets (field_octets field) (read_parts row)
+
+-- data as a writer gives it: only a compressible name may have a pointer (RFC 3597 4)
+abbrev pub written_parts : List Field → Parts
+written_parts [] = End
+written_parts (compressible name ∷ row) = Named name (written_parts row)
+written_parts (field ∷ row) = Octets (field_octets field) (written_parts row)
+
+-- the parts of a record around those of its data
+abbrev pub record_parts : Record → Parts → Parts
+record_parts r data' =
+    Named r.owner (Octets (to_be_bytes w16 r.rtype ++ to_be_bytes w16 r.class ++ to_be_bytes w32 r.ttl) (Counted data' End))
+
+-- The parts of the record as a reader takes them. Opaque data is its octets.
+pub data IsRead (r : Record) : Parts → Type 0 where
+  typed : (row : List Field) → IsRow r.rtype row → r.rdata ≡ octets row → IsRead r (record_parts r (read_parts row))
+  opaque : kinds_of r.rtype ≡ None → IsRead r (record_parts r (Octets r.rdata End))
+
+-- the record with every name written out
+abbrev pub record_octets : Record → List ℕ
+record_octets r =
+    wire r.owner ++ to_be_bytes w16 r.rtype ++ to_be_bytes w16 r.class ++ to_be_bytes w32 r.ttl
+    ++ to_be_bytes w16 (length r.rdata) ++ r.rdata

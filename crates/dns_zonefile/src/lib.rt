@@ -1,0 +1,4 @@
+//! Zone files: the rows of a text as entries (RFC 1035 5.1).
+//!
+//! Today the crate holds definitions alone.
+#![tactic(auto)]
