@@ -1,10 +1,17 @@
 //! The class of a record.
-ghost use Rattle.std.specs.Prelude.{◌≡◌, ◌+◌, ◌≤◌, ◌↔◌, take, length, IsOk, IfOk, OnOk, OnErr, IfErr};
+ghost use Rattle.std.specs.Prelude.{◌≡◌, ◌+◌, ◌≤◌, ◌↔◌, take, length, IsOk, IfOk, OnOk, OnErr, IfErr, Some};
 ghost use Rattle.std.specs.Int.{from_be_bytes, w16};
+ghost use Rattle.std.specs.Option.{option_copied};
+ghost use Rattle.std.specs.Result.{result_ok};
 ghost use Rattle.dns_octets.specs.Parser.{GoesOn, octets_of, place_of, rest_of};
+ghost use Rattle.dns_values.specs.Mnemonic.{class_read, class_written, rows_of, text_of, classes};
 
+use crate::mnemonic::{self, Mnemonic};
 use dns_octets::{ParseError, Parser};
+use std::fmt;
 use std::marker::Model;
+use std::str::FromStr;
+use thiserror::Error;
 
 /// The class of a record (RFC 1035, section 3.2.4).
 #[derive(Clone, Copy, Debug, PartialEq, Eq, PartialOrd, Ord, Hash)]
@@ -52,5 +59,106 @@ impl Class {
         ensures err { OnErr result (parser.new ≡ parser.old) }
     {
         Ok(Class(parser.parse_u16_be()?))
+    }
+
+    /// The class that a word stands for: its mnemonic in any case, or `CLASS` in any case and the
+    /// number in digits (RFC 3597, section 5).
+    pub fn from_bytes(word: &[u8]) -> Option<Self>
+        ensures { result ≡ class_read word.now }
+    {
+        let number = mnemonic::number_read(mnemonics(), "CLASS", word)?;
+        Some(Class(number))
+    }
+
+    /// The mnemonic, if there is one.
+    fn mnemonic(self) -> Option<&'static str>
+        ensures { option_copied result ≡ text_of classes self }
+    {
+        mnemonic::text_of(mnemonics(), self.0)
+    }
+}
+
+/// Reads what `Class::from_bytes` does.
+impl FromStr for Class {
+    type Err = ClassFromStrError;
+
+    ghost from_str_gives = { λ word result. result_ok result ≡ class_read word };
+
+    fn from_str(word: &str) -> Result<Self, ClassFromStrError> {
+        Class::from_bytes(word.as_bytes()).ok_or(ClassFromStrError)
+    }
+}
+
+/// Writes the mnemonic, or `CLASS` and the number where there is none.
+impl fmt::Display for Class {
+    ghost output = { λ class. Some (class_written class) };
+
+    #[tactic(auto, using(crate::proofs::Words::written_rules))]
+    fn fmt<W: fmt::Write>(&self, f: &mut fmt::Formatter<W>) -> fmt::Result {
+        match self.mnemonic() {
+            Some(text) => f.write_str(text),
+            None => write!(f, "CLASS{}", self.0),
+        }
+    }
+}
+
+/// The word stands for no class.
+#[derive(Clone, Copy, Debug, PartialEq, Eq, Error)]
+#[error("unknown class")]
+pub struct ClassFromStrError;
+
+/// The numbers that have a mnemonic.
+#[rattlefmt::skip]
+static MNEMONICS: [Mnemonic; 3] = [(1, "IN"), (3, "CH"), (4, "HS")];
+
+/// The numbers that have a mnemonic.
+#[tactic(auto, unfolding(crate::specs::Mnemonic::classes))]
+fn mnemonics() -> &'static [Mnemonic]
+    ensures { rows_of result.now ≡ classes }
+{
+    &MNEMONICS
+}
+
+#[cfg(test)]
+mod tests {
+    use super::*;
+    use std::test::Fail;
+
+    #[test]
+    fn reads_words(rt: HostRuntime) -> Result<(), Fail> {
+        assert_eq!(rt; "in".parse::<Class>()?, Class::IN);
+        assert_eq!(rt; "CLASS254".parse::<Class>()?, Class::from_int(254));
+        assert_eq!(rt; Class::from_bytes(b"cLaSs01"), Some(Class::IN));
+        for word in ["", "CLASS", "CLASS-1", "CLASS65536", "NONE", "ANY", "TYPE1"] {
+            assert_eq!(rt; word.parse::<Class>(), Err(ClassFromStrError));
+        }
+        Ok(())
+    }
+
+    #[test]
+    fn writes_words(rt: HostRuntime) -> Result<(), Fail> {
+        assert_eq!(rt; Class::HS.to_string(rt.alloc())?.as_str(), "HS");
+        assert_eq!(rt;
+            Class::from_int(254).to_string(rt.alloc())?.as_str(),
+            "CLASS254"
+        );
+        assert_eq!(rt;
+            Class::from_int(255).to_string(rt.alloc())?.as_str(),
+            "CLASS255"
+        );
+        assert_eq!(rt;
+            ClassFromStrError.to_string(rt.alloc())?.as_str(),
+            "unknown class"
+        );
+        Ok(())
+    }
+
+    #[test]
+    fn parses_in_front(rt: HostRuntime) {
+        let octets = [0u8, 3, 9];
+        let mut parser = Parser::from_ref(&octets);
+        assert_eq!(rt; Class::parse(&mut parser), Ok(Class::CH));
+        assert!(rt; Class::parse(&mut parser).is_err());
+        assert_eq!(rt; Class::CH.to_int(), 3);
     }
 }

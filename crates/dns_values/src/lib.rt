@@ -4,9 +4,11 @@
 #![tactic(auto)]
 
 mod class;
+pub mod laws;
+mod mnemonic;
 mod rtype;
 mod ttl;
 
-pub use class::Class;
-pub use rtype::Rtype;
+pub use class::{Class, ClassFromStrError};
+pub use rtype::{Rtype, RtypeFromStrError};
 pub use ttl::Ttl;

@@ -1,10 +1,17 @@
 //! What a record holds.
-ghost use Rattle.std.specs.Prelude.{◌≡◌, ◌+◌, ◌≤◌, ◌↔◌, take, length, IsOk, IfOk, OnOk, OnErr, IfErr};
+ghost use Rattle.std.specs.Prelude.{◌≡◌, ◌+◌, ◌≤◌, ◌↔◌, take, length, IsOk, IfOk, OnOk, OnErr, IfErr, Some};
 ghost use Rattle.std.specs.Int.{from_be_bytes, w16};
+ghost use Rattle.std.specs.Option.{option_copied};
+ghost use Rattle.std.specs.Result.{result_ok};
 ghost use Rattle.dns_octets.specs.Parser.{GoesOn, octets_of, place_of, rest_of};
+ghost use Rattle.dns_values.specs.Mnemonic.{type_read, type_written, rows_of, text_of, types};
 
+use crate::mnemonic::{self, Mnemonic};
 use dns_octets::{ParseError, Parser};
+use std::fmt;
 use std::marker::Model;
+use std::str::FromStr;
+use thiserror::Error;
 
 /// The type of a record (RFC 1035, section 3.2.2).
 #[derive(Clone, Copy, Debug, PartialEq, Eq, PartialOrd, Ord, Hash)]
@@ -132,5 +139,163 @@ impl Rtype {
         ensures err { OnErr result (parser.new ≡ parser.old) }
     {
         Ok(Rtype(parser.parse_u16_be()?))
+    }
+
+    /// The type that a word stands for: its mnemonic in any case, or `TYPE` in any case and the
+    /// number in digits (RFC 3597, section 5).
+    pub fn from_bytes(word: &[u8]) -> Option<Self>
+        ensures { result ≡ type_read word.now }
+    {
+        let number = mnemonic::number_read(mnemonics(), "TYPE", word)?;
+        Some(Rtype(number))
+    }
+
+    /// The mnemonic, if there is one.
+    fn mnemonic(self) -> Option<&'static str>
+        ensures { option_copied result ≡ text_of types self }
+    {
+        mnemonic::text_of(mnemonics(), self.0)
+    }
+}
+
+/// Reads what `Rtype::from_bytes` does.
+impl FromStr for Rtype {
+    type Err = RtypeFromStrError;
+
+    ghost from_str_gives = { λ word result. result_ok result ≡ type_read word };
+
+    fn from_str(word: &str) -> Result<Self, RtypeFromStrError> {
+        Rtype::from_bytes(word.as_bytes()).ok_or(RtypeFromStrError)
+    }
+}
+
+/// Writes the mnemonic, or `TYPE` and the number where there is none.
+impl fmt::Display for Rtype {
+    ghost output = { λ rtype. Some (type_written rtype) };
+
+    #[tactic(auto, using(crate::proofs::Words::written_rules))]
+    fn fmt<W: fmt::Write>(&self, f: &mut fmt::Formatter<W>) -> fmt::Result {
+        match self.mnemonic() {
+            Some(text) => f.write_str(text),
+            None => write!(f, "TYPE{}", self.0),
+        }
+    }
+}
+
+/// The word stands for no type.
+#[derive(Clone, Copy, Debug, PartialEq, Eq, Error)]
+#[error("unknown record type")]
+pub struct RtypeFromStrError;
+
+/// The numbers that have a mnemonic.
+#[rattlefmt::skip]
+static MNEMONICS: [Mnemonic; 43] = [
+    (1, "A"),
+    (2, "NS"),
+    (3, "MD"),
+    (4, "MF"),
+    (5, "CNAME"),
+    (6, "SOA"),
+    (7, "MB"),
+    (8, "MG"),
+    (9, "MR"),
+    (10, "NULL"),
+    (11, "WKS"),
+    (12, "PTR"),
+    (13, "HINFO"),
+    (14, "MINFO"),
+    (15, "MX"),
+    (16, "TXT"),
+    (17, "RP"),
+    (18, "AFSDB"),
+    (28, "AAAA"),
+    (29, "LOC"),
+    (33, "SRV"),
+    (35, "NAPTR"),
+    (36, "KX"),
+    (39, "DNAME"),
+    (41, "OPT"),
+    (43, "DS"),
+    (44, "SSHFP"),
+    (46, "RRSIG"),
+    (47, "NSEC"),
+    (48, "DNSKEY"),
+    (50, "NSEC3"),
+    (51, "NSEC3PARAM"),
+    (52, "TLSA"),
+    (59, "CDS"),
+    (60, "CDNSKEY"),
+    (63, "ZONEMD"),
+    (64, "SVCB"),
+    (65, "HTTPS"),
+    (99, "SPF"),
+    (250, "TSIG"),
+    (251, "IXFR"),
+    (252, "AXFR"),
+    (257, "CAA"),
+];
+
+/// The numbers that have a mnemonic.
+#[tactic(auto, unfolding(crate::specs::Mnemonic::types))]
+fn mnemonics() -> &'static [Mnemonic]
+    ensures { rows_of result.now ≡ types }
+{
+    &MNEMONICS
+}
+
+#[cfg(test)]
+mod tests {
+    use super::*;
+    use std::test::Fail;
+
+    #[test]
+    fn reads_words(rt: HostRuntime) -> Result<(), Fail> {
+        assert_eq!(rt; "type65280".parse::<Rtype>()?, Rtype::from_int(65280));
+        assert_eq!(rt; "TYPE1".parse::<Rtype>()?, Rtype::A);
+        assert_eq!(rt; "a".parse::<Rtype>()?, Rtype::A);
+        assert_eq!(rt; "TYPE007".parse::<Rtype>()?, Rtype::MB);
+        assert_eq!(rt; Rtype::from_bytes(b"nsec3Param"), Some(Rtype::NSEC3PARAM));
+        for word in [
+            "",
+            "TYPE",
+            "TYPE+1",
+            "TYPE65536",
+            "TYPE1 ",
+            "AA",
+            "ANY",
+            "TYPEA",
+        ] {
+            assert_eq!(rt; word.parse::<Rtype>(), Err(RtypeFromStrError));
+        }
+        Ok(())
+    }
+
+    #[test]
+    fn writes_words(rt: HostRuntime) -> Result<(), Fail> {
+        assert_eq!(rt; Rtype::CAA.to_string(rt.alloc())?.as_str(), "CAA");
+        assert_eq!(rt;
+            Rtype::from_int(255).to_string(rt.alloc())?.as_str(),
+            "TYPE255"
+        );
+        assert_eq!(rt;
+            RtypeFromStrError.to_string(rt.alloc())?.as_str(),
+            "unknown record type"
+        );
+        Ok(())
+    }
+
+    #[test]
+    fn compares_numbers(rt: HostRuntime) {
+        assert!(rt; Rtype::A < Rtype::SOA);
+        assert_eq!(rt; Rtype::AXFR.to_int(), 252);
+    }
+
+    #[test]
+    fn parses_in_front(rt: HostRuntime) {
+        let octets = [0u8, 28, 9];
+        let mut parser = Parser::from_ref(&octets);
+        assert_eq!(rt; Rtype::parse(&mut parser), Ok(Rtype::AAAA));
+        assert!(rt; Rtype::parse(&mut parser).is_err());
+        assert_eq!(rt; parser.pos(), 2);
     }
 }

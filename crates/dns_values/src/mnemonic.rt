@@ -1,0 +1,83 @@
+//! Words for numbers of 16 bits: a mnemonic of a table, or a prefix and the number.
+ghost use Rattle.std.specs.Prelude.{◌≡◌};
+ghost use Rattle.std.specs.Char.{is_ascii_digit};
+ghost use Rattle.std.specs.List.{list_all};
+ghost use Rattle.std.specs.Option.{option_copied};
+ghost use Rattle.dns_values.specs.Mnemonic as word_of;
+
+use std::str;
+
+/// A number and the text that stands for it.
+pub(crate) type Mnemonic = (u16, &'static str);
+
+/// The number that a word stands for: that of the mnemonic that it is in any case, or the number
+/// behind the prefix in any case (RFC 3597, section 5).
+#[tactic(auto, unfolding(crate::specs::Mnemonic::number_read))]
+pub(crate) fn number_read(table: &[Mnemonic], prefix: &str, word: &[u8]) -> Option<u16>
+    ensures { result ≡ word_of.number_read (word_of.rows_of table.now) prefix.now word.now }
+{
+    number_behind(prefix.as_bytes(), word).or_else(|| number_named(table, word))
+}
+
+/// The number whose mnemonic is the word, in any case.
+#[tactic(auto, using(crate::proofs::Words::named_rules))]
+fn number_named(table: &[Mnemonic], word: &[u8]) -> Option<u16>
+    ensures { result ≡ word_of.number_named (word_of.rows_of table.now) word.now }
+{
+    for row in table {
+        if row.1.as_bytes().eq_ignore_ascii_case(word) {
+            return Some(row.0);
+        }
+    }
+    None
+}
+
+/// The number behind the prefix, which may be in any case.
+#[tactic(auto, using(crate::proofs::Words::behind_rules))]
+fn number_behind(prefix: &[u8], word: &[u8]) -> Option<u16>
+    ensures { result ≡ word_of.number_behind prefix.now word.now }
+{
+    if word.len() < prefix.len() {
+        return None;
+    }
+    let (front, digits) = word.split_at(prefix.len());
+    if prefix.eq_ignore_ascii_case(front) {
+        number_spelled(digits)
+    } else {
+        None
+    }
+}
+
+/// The number that is spelled by these digits, which no sign may precede.
+#[tactic(auto, using(crate::proofs::Words::spelled_rules))]
+fn number_spelled(digits: &[u8]) -> Option<u16>
+    ensures { result ≡ word_of.number_spelled digits.now }
+{
+    if !is_digits(digits) {
+        return None;
+    }
+    match str::from_utf8(digits) {
+        Ok(text) => text.parse().ok(),
+        Err(_) => None,
+    }
+}
+
+/// Whether these are decimal digits alone.
+fn is_digits(octets: &[u8]) -> bool
+    ensures { result ≡ list_all is_ascii_digit octets.now }
+{
+    octets.iter().all(u8::is_ascii_digit)
+}
+
+/// The text that stands for a number.
+#[tactic(auto, using(crate::proofs::Words::text_rules))]
+pub(crate) fn text_of(table: &[Mnemonic], number: u16) -> Option<&'static str>
+    ensures { option_copied result ≡ word_of.text_of (word_of.rows_of table.now) number }
+{
+    for row in table {
+        if row.0 == number {
+            return Some(row.1);
+        }
+    }
+    None
+}
