@@ -70,20 +70,20 @@ from_feed (octet ∷ rest) = if octet == 10 then octet ∷ rest else from_feed r
 pub data Next : Bool → List ℕ → Option Token → Bool → List ℕ → Type 0 where
   ended : {inside : Bool} {rest : List ℕ} (octet : ℕ) → head_of inside octet ≡ Feed → Next inside (octet ∷ rest) None false rest
   goes : {inside : Bool} {text : List ℕ} {found : Option Token} {out : Bool} {rest : List ℕ} (octet : ℕ) (behind : Bool)
-    → head_of inside octet ≡ Go behind → Next behind text found out rest → Next inside (octet ∷ text) found out rest
+      → head_of inside octet ≡ Go behind → Next behind text found out rest → Next inside (octet ∷ text) found out rest
   comment : {inside : Bool} {text : List ℕ} {found : Option Token} {out : Bool} {rest : List ℕ} (octet : ℕ)
-    → head_of inside octet ≡ Comment → Next inside (from_feed text) found out rest → Next inside (octet ∷ text) found out rest
+      → head_of inside octet ≡ Comment → Next inside (from_feed text) found out rest → Next inside (octet ∷ text) found out rest
   quoted : {inside : Bool} {text front rest : List ℕ} (octet : ℕ) → head_of inside octet ≡ Quote
-    → IsRun true text front (34 ∷ rest) → Next inside (octet ∷ text) (Some (record { quoted = true; text = front })) inside rest
+      → IsRun true text front (34 ∷ rest) → Next inside (octet ∷ text) (Some (record { quoted = true; text = front })) inside rest
   unquoted : {inside : Bool} {text front rest : List ℕ} (octet : ℕ) → head_of inside octet ≡ Word
-    → IsRun false (octet ∷ text) front rest → 0 < length front
-    → Next inside (octet ∷ text) (Some (record { quoted = false; text = front })) inside rest
+      → IsRun false (octet ∷ text) front rest → 0 < length front
+      → Next inside (octet ∷ text) (Some (record { quoted = false; text = front })) inside rest
 
 -- the tokens of a row, and what is left behind its line feed
 pub data Row : Bool → List ℕ → List Token → List ℕ → Type 0 where
   end : {inside : Bool} {text rest : List ℕ} → Next inside text None false rest → Row inside text [] rest
   token : {inside : Bool} {text rest : List ℕ} {found : Token} {others : List Token} (out : Bool) (behind : List ℕ)
-    → Next inside text (Some found) out behind → Row out behind others rest → Row inside text (found ∷ others) rest
+      → Next inside text (Some found) out behind → Row out behind others rest → Row inside text (found ∷ others) rest
 
 abbrev pub has_feed : List ℕ → Bool
 has_feed [] = false

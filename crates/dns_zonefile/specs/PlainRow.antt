@@ -1,6 +1,6 @@
 -- Rows in their plainest form, the only one that is read today: owner, TTL, class, type and data of an SOA or an A record,
 -- each an unquoted token, with spaces between them and nothing else. Names have their last dot.
-use Rattle.std.specs.Prelude.{◌≡◌, ◌≢◌, ◌<◌, ◌^◌, ℕ, List, [], ◌∷◌, ◌++◌, length, Some, slice_index}
+use Rattle.std.specs.Prelude.{◌≡◌, ◌≢◌, ◌<◌, ◌^◌, ℕ, List, [], ◌∷◌, ◌++◌, length, Some, slice_index, false}
 use Rattle.std.specs.List.{AllByRecursion, flat_map}
 use Rattle.std.specs.Int.{to_be_bytes, w32}
 use Rattle.std.specs.Net.Grammar.{IsDotted}
@@ -13,7 +13,6 @@ use Rattle.dns_text.specs.Tokens.{IsIn}
 use Rattle.dns_text.specs.Numbers.{IsNumberText}
 use Rattle.dns_rdata.specs.Fields.{Field, number32, ipv4, compressible, octets}
 use Rattle.dns_message.specs.Record.{Record}
-use Rattle.std.proofs.Common.{false}
 
 -- an unquoted token
 pub record IsWord (word : List ℕ) : Type 0 where
@@ -30,7 +29,7 @@ pub record AreSpaces (spaces : List ℕ) : Type 0 where
 pub data Words : List ℕ → List (List ℕ) → List ℕ → Type 0 where
   last : {text word rest : List ℕ} → IsWord word → text ≡ word ++ 10 ∷ rest → Words text (word ∷ []) rest
   more : {text word rest : List ℕ} {words : List (List ℕ)} (spaces behind : List ℕ) → IsWord word → AreSpaces spaces
-    → text ≡ word ++ spaces ++ behind → Words behind words rest → Words text (word ∷ words) rest
+      → text ≡ word ++ spaces ++ behind → Words behind words rest → Words text (word ∷ words) rest
 
 -- A row that begins with a plain dollar sign is a directive, which is not read yet.
 pub record PlainRow (text : List ℕ) (words : List (List ℕ)) (rest : List ℕ) : Type 0 where
@@ -41,16 +40,16 @@ pub record PlainRow (text : List ℕ) (words : List (List ℕ)) (rest : List ℕ
 pub data DataWords : ℕ → List (List ℕ) → List Field → Type 0 where
   a : {word address : List ℕ} → IsDotted word address → DataWords 1 (word ∷ []) (ipv4 address ∷ [])
   soa : {mname rname serial refresh retry expire minimum : List ℕ} {m r : List (List ℕ)} {n1 n2 n3 n4 n5 : ℕ}
-    → IsAbsoluteText mname m → IsAbsoluteText rname r
-    → IsNumberText (2 ^ 32) serial n1 → IsNumberText (2 ^ 32) refresh n2 → IsNumberText (2 ^ 32) retry n3
-    → IsNumberText (2 ^ 32) expire n4 → IsNumberText (2 ^ 32) minimum n5
-    → DataWords 6 (mname ∷ rname ∷ serial ∷ refresh ∷ retry ∷ expire ∷ minimum ∷ [])
-        (compressible m ∷ compressible r ∷ number32 n1 ∷ number32 n2 ∷ number32 n3 ∷ number32 n4 ∷ number32 n5 ∷ [])
+      → IsAbsoluteText mname m → IsAbsoluteText rname r
+      → IsNumberText (2 ^ 32) serial n1 → IsNumberText (2 ^ 32) refresh n2 → IsNumberText (2 ^ 32) retry n3
+      → IsNumberText (2 ^ 32) expire n4 → IsNumberText (2 ^ 32) minimum n5
+      → DataWords 6 (mname ∷ rname ∷ serial ∷ refresh ∷ retry ∷ expire ∷ minimum ∷ [])
+      (compressible m ∷ compressible r ∷ number32 n1 ∷ number32 n2 ∷ number32 n3 ∷ number32 n4 ∷ number32 n5 ∷ [])
 
 -- the record of the class that the words spell
 pub data RecordWords (class : ℕ) : List (List ℕ) → Record → Type 0 where
-  spelled : {owner ttl class_word type_word : List ℕ} {data_words : List (List ℕ)} {name : List (List ℕ)} {seconds rtype : ℕ}
-    {row : List Field} → IsAbsoluteText owner name → IsNumberText (2 ^ 32) ttl seconds → class_read class_word ≡ Some class
-    → type_read type_word ≡ Some rtype → DataWords rtype data_words row
-    → RecordWords class (owner ∷ ttl ∷ class_word ∷ type_word ∷ data_words)
-        (record { owner = name; rtype = rtype; class = class; ttl = seconds; rdata = octets row })
+  words : {owner ttl class_word type_word : List ℕ} {data_words : List (List ℕ)} {name : List (List ℕ)} {seconds rtype : ℕ}
+      {row : List Field} → IsAbsoluteText owner name → IsNumberText (2 ^ 32) ttl seconds → class_read class_word ≡ Some class
+      → type_read type_word ≡ Some rtype → DataWords rtype data_words row
+      → RecordWords class (owner ∷ ttl ∷ class_word ∷ type_word ∷ data_words)
+      (record { owner = name; rtype = rtype; class = class; ttl = seconds; rdata = octets row })

@@ -1,2 +1,9 @@
 pub mod Record
 pub mod Cutting
+pub mod Zone
+pub mod ZoneText
+pub mod Query
+pub mod Frames
+pub mod Transfer
+pub mod Sent
+pub mod Tried

@@ -2,3 +2,10 @@
 #![tactic(auto)]
 
 pub mod laws;
+mod query_error;
+mod send_error;
+mod zone_error;
+
+pub use query_error::QueryError;
+pub use send_error::SendError;
+pub use zone_error::ZoneError;

@@ -1,0 +1,28 @@
+//! Why a text is no zone's.
+use thiserror::Error;
+
+/// The first rule that a text breaks, in this order. An entry's number counts the rows with tokens from 1.
+#[derive(Clone, Copy, Debug, PartialEq, Eq, Error)]
+pub enum ZoneError {
+    /// The class handed in is ANY, which no zone has.
+    #[error("class ANY")]
+    ClassAny,
+    /// The entry is not read.
+    #[error("entry {0}: text")]
+    Text(usize),
+    /// The first record is no SOA (RFC 1035 5.2).
+    #[error("entry {0}: first record is not SOA")]
+    FirstNotSoa(usize),
+    /// A later record is an SOA (RFC 1035 5.2).
+    #[error("entry {0}: second SOA")]
+    SecondSoa(usize),
+    /// The record's owner is not at or under the SOA's, up to ASCII case.
+    #[error("entry {0}: out of zone")]
+    OutOfZone(usize),
+    /// The text has no record.
+    #[error("no SOA")]
+    NoSoa,
+    /// A growth was refused.
+    #[error("out of memory")]
+    OutOfMemory,
+}
