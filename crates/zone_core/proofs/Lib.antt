@@ -4,3 +4,7 @@ pub mod Greedy
 pub mod Tried
 pub mod Plain
 pub mod Framing
+pub mod WrittenAnswers
+pub mod LastRecord
+pub mod SentTransfers
+pub mod TriedTransfer

@@ -3,9 +3,11 @@
 
 mod cutting;
 mod framing;
+mod sent;
 
 pub use cutting::{
     blocked_record_fits_no_cutting, blocked_record_is_one, cut_or_blocked, full_cut_is_fewest,
     full_cut_is_one, parts_fit_where_size_grows, plain_full_cut_is_fewest, sum_of_sizes_grows,
 };
 pub use framing::two_splits_are_one;
+pub use sent::sent_is_a_transfer;
