@@ -60,7 +60,7 @@ records-written class octets place (r ∷ group) rest at within each =
     let goes = records-written class octets (place + length (record_octets r)) group rest behind (omega arith) each.1 in
     let P : ℕ → Type 0 = λ next. SpellsRecords octets place (r ∷ group) next in
     subst P (omega (arith, length-append (record_octets r) (flat_map record_octets group)))
-    (one first.parts (place + length (record_octets r)) first.read first.spelled goes)
+    (one first.parts (place + length (record_octets r)) each.0.lawful first.read first.spelled goes)
 
 -- the message of a group that isn't too large is an answer
 answer-written : (query : AxfrQuery) (first : Bool) (class : ℕ) (records group : List Record) → IsQueryFor records class query
