@@ -1,8 +1,8 @@
 -- A record that a message spells at a place is one.
-use Rattle.std.proofs.Common.{◌≡◌, ℕ, ◌+◌, ◌<◌, ◌^◌, List, [], ◌∷◌, ◌++◌, length, take, drop, map, refl, sym, ap, ◌∙◌, subst, arith, Some, None}
+use Rattle.std.proofs.Common.{◌≡◌, ℕ, ◌+◌, List, ◌++◌, length, take, map, refl, sym, ap, ◌∙◌, subst, arith, Some, None}
 use Rattle.std.specs.Int.{to_be_bytes, w16, w32}
 use Rattle.dns_label.proofs.Spelling.{reads_one}
-use Rattle.dns_rdata.specs.Fields.{Field, IsRow, kind_of, kinds_of, octets}
+use Rattle.dns_rdata.specs.Fields.{kind_of, kinds_of}
 use Rattle.dns_rdata.proofs.Fronts.{same_fronts, same_number16, same_number32}
 use Rattle.dns_rdata.proofs.Delimited.{kinds_delimited}
 use Rattle.dns_message.specs.Item.{Parts, Spells}

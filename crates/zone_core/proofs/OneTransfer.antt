@@ -1,9 +1,8 @@
 -- A stream is a transfer of one list of records.
-use Rattle.std.proofs.Common.{◌≡◌, ℕ, ◌+◌, Bool, true, false, List, [], ◌∷◌, ◌++◌, length, refl, sym, ap, ◌∙◌, subst, arith, append_assoc, append-nil, inl, inr}
+use Rattle.std.proofs.Common.{◌≡◌, ℕ, Bool, true, false, List, [], ◌∷◌, ◌++◌, length, refl, sym, ap, ◌∙◌, subst, arith, append_assoc, append-nil, inl, inr}
 use Rattle.std.proofs.lemmas.List.{same_from_push}
 use Rattle.std.proofs.lemmas.List.Concat.{flat_map-append}
 use Rattle.dns_label.proofs.Spelling.{reads_one}
-use Rattle.dns_message.specs.Header.{question_count}
 use Rattle.dns_message.specs.Item.{Parts, Spells}
 use Rattle.dns_message.specs.Question.{Question, ReadsQuestion}
 use Rattle.dns_message.specs.Record.{IsRecord, IsRead}
