@@ -1,0 +1,136 @@
+//! What a record holds.
+ghost use Rattle.std.specs.Prelude.{◌≡◌, ◌+◌, ◌≤◌, ◌↔◌, take, length, IsOk, IfOk, OnOk, OnErr, IfErr};
+ghost use Rattle.std.specs.Int.{from_be_bytes, w16};
+ghost use Rattle.dns_octets.specs.Parser.{GoesOn, octets_of, place_of, rest_of};
+
+use dns_octets::{ParseError, Parser};
+use std::marker::Model;
+
+/// The type of a record (RFC 1035, section 3.2.2).
+#[derive(Clone, Copy, Debug, PartialEq, Eq, PartialOrd, Ord, Hash)]
+pub struct Rtype(u16);
+
+impl Model for Rtype {
+    ghost use Rattle.std.specs.Prelude.{ℕ};
+
+    ghost Value = { ℕ };
+
+    ghost view = { λ rtype. rtype.0 };
+
+    ghost inverse = { λ number. record { 0 = number } };
+}
+
+impl Rtype {
+    /// An IPv4 address (RFC 1035).
+    pub const A: Rtype = Rtype(1);
+    /// A name server of the zone (RFC 1035).
+    pub const NS: Rtype = Rtype(2);
+    /// A mail destination, obsolete (RFC 1035).
+    pub const MD: Rtype = Rtype(3);
+    /// A mail forwarder, obsolete (RFC 1035).
+    pub const MF: Rtype = Rtype(4);
+    /// The canonical name of an alias (RFC 1035).
+    pub const CNAME: Rtype = Rtype(5);
+    /// The start of a zone of authority (RFC 1035).
+    pub const SOA: Rtype = Rtype(6);
+    /// A mailbox (RFC 1035).
+    pub const MB: Rtype = Rtype(7);
+    /// A member of a mail group (RFC 1035).
+    pub const MG: Rtype = Rtype(8);
+    /// A mailbox's new name (RFC 1035).
+    pub const MR: Rtype = Rtype(9);
+    /// Any octets (RFC 1035).
+    pub const NULL: Rtype = Rtype(10);
+    /// Well-known services (RFC 1035).
+    pub const WKS: Rtype = Rtype(11);
+    /// A pointer to another name (RFC 1035).
+    pub const PTR: Rtype = Rtype(12);
+    /// A host's hardware and system (RFC 1035).
+    pub const HINFO: Rtype = Rtype(13);
+    /// A mail list's mailboxes (RFC 1035).
+    pub const MINFO: Rtype = Rtype(14);
+    /// A mail exchange (RFC 1035).
+    pub const MX: Rtype = Rtype(15);
+    /// Text (RFC 1035).
+    pub const TXT: Rtype = Rtype(16);
+    /// A responsible person (RFC 1183).
+    pub const RP: Rtype = Rtype(17);
+    /// An AFS database (RFC 1183).
+    pub const AFSDB: Rtype = Rtype(18);
+    /// An IPv6 address (RFC 3596).
+    pub const AAAA: Rtype = Rtype(28);
+    /// A location (RFC 1876).
+    pub const LOC: Rtype = Rtype(29);
+    /// Where a service runs (RFC 2782).
+    pub const SRV: Rtype = Rtype(33);
+    /// A naming authority pointer (RFC 3403).
+    pub const NAPTR: Rtype = Rtype(35);
+    /// A key exchanger (RFC 2230).
+    pub const KX: Rtype = Rtype(36);
+    /// A subtree's new name (RFC 6672).
+    pub const DNAME: Rtype = Rtype(39);
+    /// An extension of the message, no record of a zone (RFC 6891).
+    pub const OPT: Rtype = Rtype(41);
+    /// A delegation's signing key (RFC 4034).
+    pub const DS: Rtype = Rtype(43);
+    /// The fingerprint of a host's SSH key (RFC 4255).
+    pub const SSHFP: Rtype = Rtype(44);
+    /// A signature (RFC 4034).
+    pub const RRSIG: Rtype = Rtype(46);
+    /// The next name of the zone (RFC 4034).
+    pub const NSEC: Rtype = Rtype(47);
+    /// A public key of the zone (RFC 4034).
+    pub const DNSKEY: Rtype = Rtype(48);
+    /// The next hashed name of the zone (RFC 5155).
+    pub const NSEC3: Rtype = Rtype(50);
+    /// How the zone's names are hashed (RFC 5155).
+    pub const NSEC3PARAM: Rtype = Rtype(51);
+    /// A certificate of a TLS server (RFC 6698).
+    pub const TLSA: Rtype = Rtype(52);
+    /// A child's copy of DS (RFC 7344).
+    pub const CDS: Rtype = Rtype(59);
+    /// A child's copy of DNSKEY (RFC 7344).
+    pub const CDNSKEY: Rtype = Rtype(60);
+    /// A digest of the zone (RFC 8976).
+    pub const ZONEMD: Rtype = Rtype(63);
+    /// How a service is reached (RFC 9460).
+    pub const SVCB: Rtype = Rtype(64);
+    /// How an HTTPS server is reached (RFC 9460).
+    pub const HTTPS: Rtype = Rtype(65);
+    /// Who may send mail, obsolete (RFC 7208).
+    pub const SPF: Rtype = Rtype(99);
+    /// A message's signature, no record of a zone (RFC 8945).
+    pub const TSIG: Rtype = Rtype(250);
+    /// A question for what changed in a zone (RFC 1995).
+    pub const IXFR: Rtype = Rtype(251);
+    /// A question for a whole zone (RFC 5936).
+    pub const AXFR: Rtype = Rtype(252);
+    /// Who may issue certificates (RFC 8659).
+    pub const CAA: Rtype = Rtype(257);
+
+    /// The type of this number.
+    pub const fn from_int(number: u16) -> Self
+        ensures { result ≡ number }
+    {
+        Rtype(number)
+    }
+
+    /// The number of the type.
+    pub const fn to_int(self) -> u16
+        ensures { result ≡ self }
+    {
+        self.0
+    }
+
+    /// Reads a type, the high octet of its number first. Refused where fewer than two octets
+    /// are left; the parser then stays where it was.
+    pub fn parse(parser: &mut Parser<'_>) -> Result<Self, ParseError>
+        ensures ok { IfOk result (λ rtype. rtype ≡ from_be_bytes w16 (take 2 (rest_of parser.old))) }
+        ensures place { OnOk result (GoesOn parser.old parser.new 2) }
+        ensures enough { IsOk result ↔ (place_of parser.old + 2 ≤ length (octets_of parser.old)) }
+        ensures short { IfErr result (λ e. e ≡ ParseError.ShortInput) }
+        ensures err { OnErr result (parser.new ≡ parser.old) }
+    {
+        Ok(Rtype(parser.parse_u16_be()?))
+    }
+}

@@ -1,0 +1,4 @@
+pub mod Splits
+pub mod Cuttings
+pub mod Greedy
+pub mod Tried
