@@ -16,9 +16,9 @@ use Rattle.dns_name.specs.Name.{IsWritten, StartsWithName}
 -- a name can be taken off the octets exactly where one can be taken off the rest, and what stays is the same
 pub record Leads (octets rest : List ℕ) : Type 0 where
   pub on : (name : List (List ℕ)) (behind : List ℕ) → StartsWithName rest name behind
-    → (whole : List (List ℕ)) × StartsWithName octets whole behind
+      → (whole : List (List ℕ)) × StartsWithName octets whole behind
   pub back : (whole : List (List ℕ)) (behind : List ℕ) → StartsWithName octets whole behind
-    → (name : List (List ℕ)) × StartsWithName rest name behind
+      → (name : List (List ℕ)) × StartsWithName rest name behind
 
 pub leads_here : (octets : List ℕ) → Leads octets octets
 leads_here octets = record { on = λ name behind here. (name, here); back = λ whole behind here. (whole, here) }
@@ -73,17 +73,20 @@ root_front octets rest front = record { labels = tt; whole = front.spelled }
 pub name_front : (octets : List ℕ) (name : List (List ℕ)) (rest : List ℕ) → StartsWithName octets name rest
     → (text behind : List ℕ) × StartsWithLabel octets text behind
 name_front octets [] rest here = ([], rest, record { spelled = here.whole; short = omega arith })
-name_front octets (first ∷ name) rest here = (first, wire name ++ rest, record {
-  spelled = here.whole ∙ append_assoc (length first ∷ first) (wire name) rest;
-  short = here.labels.0.short;
-})
+name_front octets (first ∷ name) rest here = (
+  first,
+  wire name ++ rest,
+  record {
+    spelled = here.whole ∙ append_assoc (length first ∷ first) (wire name) rest;
+    short = here.labels.0.short;
+  },
+)
 
 -- where no label can be split off, no name stands in front
 pub no_label_no_name : (octets : List ℕ) (error : SplitLabelError) → NoLabel octets error
     → (name : List (List ℕ)) (rest : List ℕ) → StartsWithName octets name rest → ⊥
 no_label_no_name octets error none name rest here =
     let front = name_front octets name rest here in no_label_no_front octets front.0 front.1 error none front.2
-
 
 pub some_octets : (text : List ℕ) → (text ≡ [] → ⊥) → 0 < length text
 some_octets [] none = absurd (none refl)
@@ -94,7 +97,7 @@ pub leads-label : (octets here text rest : List ℕ) → Leads octets here → S
 leads-label octets here text rest leads front none = let some = some_octets text none in record {
   on = λ name behind at. leads.on (text ∷ name) behind (label_on here text rest name behind front some at);
   back = λ whole behind at.
-    let front' = leads.back whole behind at in label_back here text rest front'.0 behind front some front'.1;
+      let front' = leads.back whole behind at in label_back here text rest front'.0 behind front some front'.1;
 }
 
 -- where the root's label stands, the name ends
@@ -117,7 +120,7 @@ written-whole octets name few here =
     let is : octets ≡ wire name = here.whole ∙ append-nil (wire name) in
     let is_name : IsName name = record { labels = here.labels; short = subst (λ (l : List ℕ). length l ≤ 255) is few } in
     let reads : Reads octets 0 name (0 + length (wire name)) =
-      record { spelled = spelled-written octets 255 0 name [] here.whole here.labels; is_name = is_name } in
+    record { spelled = spelled-written octets 255 0 name [] here.whole here.labels; is_name = is_name } in
     let found = sym (labels_at-reads reads) in
     let P : List (List ℕ) → Type 0 = λ n. IsName n in
     record { is_name = subst P found is_name; whole = is ∙ ap wire found }
@@ -131,6 +134,6 @@ pub same_rest : (octets : List ℕ) (name other : List (List ℕ)) (rest behind 
     → StartsWithName octets other behind → rest ≡ behind
 same_rest octets name other rest behind here there =
     let end = spelled_end octets (spelled-written octets 0 0 name rest here.whole here.labels)
-      (spelled-written octets 0 0 other behind there.whole there.labels) refl in
+    (spelled-written octets 0 0 other behind there.whole there.labels) refl in
     let long : length (wire name) ≡ length (wire other) = omega arith in
     (same_front (wire name) (wire other) rest behind (sym here.whole ∙ there.whole) long).1

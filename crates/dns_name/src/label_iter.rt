@@ -1,9 +1,10 @@
 //! What all names have in common: their labels, one after another.
-ghost use Rattle.std.specs.Prelude.{◌≡◌, List, ℕ, length, option_map, slice_get};
+ghost use Rattle.std.specs.Prelude.{◌≡◌, ◌+◌, ◌≤◌, ◌^◌, ◌<◌, List, ℕ, length, option_map, slice_get};
 ghost use Rattle.dns_label.specs.Label.{octets_of};
 ghost use Rattle.dns_label.specs.Name.{labels_wire};
 
 use dns_label::Label;
+use std::marker::Model;
 
 /// A name that gives its labels. Of an absolute name the last one is the root's, which is empty.
 pub trait ToLabelIter {
@@ -11,7 +12,7 @@ pub trait ToLabelIter {
 
     /// The label with this number, counted from 0 and from the left, or None behind the last one.
     fn label(&self, index: usize) -> Option<Label<'_>>
-        ensures { option_map octets_of result ≡ slice_get (labels self.now) index };
+        ensures label { option_map octets_of result ≡ slice_get (labels self.now) index };
 
     /// How many octets the labels take on the wire, each behind its length.
     fn compose_len(&self) -> u16

@@ -7,8 +7,12 @@
 mod label_iter;
 mod name;
 mod parsed;
+mod suffix;
+#[cfg(test)]
+mod tests;
 mod text;
 mod to_name;
+mod walk;
 
 pub use dns_label::{Label, LabelTypeError, LongLabelError, SplitLabelError, Symbol};
 pub use dns_octets::{FormError, Octets, ParseError, Parser, ShortInput};
