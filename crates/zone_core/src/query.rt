@@ -1,0 +1,123 @@
+//! Queries for a zone's transfer.
+ghost use Rattle.std.specs.Prelude.{◌≡◌, ◌+◌, ◌≤◌, ◌↔◌, ℕ, length, IsTrue, IfOk, IfErr, OnErr};
+ghost use Rattle.dns_octets.specs.Parser.{octets_of, place_of};
+ghost use Rattle.dns_message.specs.Header as header;
+ghost use Rattle.dns_message.specs.Question.{ReadsQuestion};
+ghost use Rattle.zone_core.specs.Query.{AsksOne, IsQuery, IsQueryFault};
+
+use crate::query_error::QueryError;
+use dns_name::{Class, ParsedName, Parser, Rtype};
+
+/// A query for the transfer of a zone (RFC 5936 2.1), as far as it counts.
+#[derive(Debug, Drop)]
+pub struct Query<'a> {
+    id: u16,
+    rd: bool,
+    name: ParsedName<&'a [u8]>,
+    class: Class,
+}
+
+/// What a message asks, with the name where it stands.
+#[derive(Drop)]
+struct Question<'a> {
+    name: ParsedName<&'a [u8]>,
+    qtype: Rtype,
+    qclass: Class,
+}
+
+impl<'a> Query<'a> {
+    /// The number that the answer repeats.
+    pub fn id(&self) -> u16 {
+        self.id
+    }
+
+    /// Whether recursion is desired (RD), which the answer repeats.
+    pub fn rd(&self) -> bool {
+        self.rd
+    }
+
+    /// The name of the zone that is asked for.
+    pub fn name(&self) -> ParsedName<&'a [u8]> {
+        self.name
+    }
+
+    /// The class of the zone that is asked for.
+    pub fn class(&self) -> Class {
+        self.class
+    }
+}
+
+/// Reads a query for a zone's transfer, and refuses other octets by the first rule that they break.
+///
+/// All bits of the header that no rule names are ignored.
+pub fn check_query(octets: &[u8]) -> Result<Query<'_>, QueryError> {
+    if octets.len() < 12 {
+        return Err(QueryError::Short);
+    }
+    if octets[2] >= 128 {
+        return Err(QueryError::Response);
+    }
+    if octets[2] / 8 % 16 != 0 {
+        return Err(QueryError::Opcode);
+    }
+    if !asks_one(octets) {
+        return Err(QueryError::Counts);
+    }
+    let Some((question, end)) = read_question(octets) else {
+        return Err(QueryError::Malformed);
+    };
+    if question.qtype != Rtype::AXFR {
+        return Err(QueryError::NotAxfr);
+    }
+    if question.qclass.to_int() == 255 {
+        return Err(QueryError::ClassAny);
+    }
+    if end != octets.len() {
+        return Err(QueryError::Trailing);
+    }
+    Ok(Query {
+        id: number_at(octets, 0),
+        rd: octets[2] % 2 == 1,
+        name: question.name,
+        class: question.qclass,
+    })
+}
+
+/// The number of two octets at a place.
+fn number_at(octets: &[u8], place: usize) -> u16
+    requires { place + 2 ≤ length octets.now }
+    ensures { result ≡ header.number_at octets.now place }
+{
+    let number = &octets[place..place + 2];
+    u16::from_be_bytes([number[0], number[1]])
+}
+
+/// Whether a message counts one question and no record.
+fn asks_one(octets: &[u8]) -> bool
+    requires { 12 ≤ length octets.now }
+    ensures { IsTrue result ↔ AsksOne octets.now }
+{
+    number_at(octets, 4) == 1
+        && number_at(octets, 6) == 0
+        && number_at(octets, 8) == 0
+        && number_at(octets, 10) == 0
+}
+
+/// The question behind a header, and the place behind it.
+fn read_question(octets: &[u8]) -> Option<(Question<'_>, usize)>
+    requires { 12 ≤ length octets.now }
+{
+    let mut parser = Parser::from_ref(octets);
+    parser.seek(12).ok()?;
+    let Ok(name) = ParsedName::parse(&mut parser) else {
+        return None;
+    };
+    let qtype = Rtype::parse(&mut parser).ok()?;
+    let qclass = Class::parse(&mut parser).ok()?;
+    let question = Question {
+        name,
+        qtype,
+        qclass,
+    };
+    Some((question, parser.pos()))
+}

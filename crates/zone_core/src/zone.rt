@@ -1,0 +1,151 @@
+//! A zone: its records, in order.
+use crate::record::Record;
+use crate::text::{EntryError, next_record};
+use crate::zone_error::ZoneError;
+use dns_name::{Class, Name, Rtype, Ttl};
+use std::alloc::Global;
+
+/// A zone: one SOA record, and then the others of its class, all at or under the SOA's owner (RFC 1035 5.2).
+#[derive(Debug, Drop)]
+pub struct Zone {
+    records: Vec<Record>,
+    class: Class,
+}
+
+impl Zone {
+    /// Reads the zone of this class from the text of its zone file (RFC 1035 5.1).
+    ///
+    /// Today only records of the types SOA and A in their plainest form are read, and the origin is not used.
+    /// The class ANY is refused first; then the first entry that breaks a rule is, by the first rule of `ZoneError`
+    /// that it breaks; and then a text without a record.
+    pub fn read(
+        alloc: Global,
+        text: &[u8],
+        _origin: Option<&Name<&[u8]>>,
+        class: Class,
+    ) -> Result<Zone, ZoneError> {
+        if class.to_int() == 255 {
+            return Err(ZoneError::ClassAny);
+        }
+        let records = read_records(alloc, text, class)?;
+        if records.is_empty() {
+            return Err(ZoneError::NoSoa);
+        }
+        Ok(Zone { records, class })
+    }
+
+    /// The records in order; the SOA is the first of them.
+    pub fn records(&self) -> ZoneRecords<'_> {
+        ZoneRecords {
+            rest: self.records.as_slice(),
+            class: self.class,
+        }
+    }
+
+    /// The zone's name: the owner of its SOA.
+    pub fn apex(&self) -> Name<&[u8]> {
+        self.records[0].owner.for_ref()
+    }
+
+    /// The class of all the records.
+    pub fn class(&self) -> Class {
+        self.class
+    }
+
+    /// The records as the zone owns them.
+    pub(crate) fn owned_records(&self) -> &[Record] {
+        self.records.as_slice()
+    }
+}
+
+/// The records of a text, as far as a zone's rules hold.
+fn read_records(alloc: Global, text: &[u8], class: Class) -> Result<Vec<Record>, ZoneError> {
+    let mut records = Vec::new(alloc);
+    let mut rest = text;
+    while let Some((record, behind)) = read_next(alloc, rest, class, records.len())? {
+        check_rules(records.as_slice(), &record)?;
+        records.push(record).map_err(|_| ZoneError::OutOfMemory)?;
+        rest = behind;
+    }
+    Ok(records)
+}
+
+/// The next record behind so many, and the text behind it.
+fn read_next(
+    alloc: Global,
+    text: &[u8],
+    class: Class,
+    count: usize,
+) -> Result<Option<(Record, &[u8])>, ZoneError> {
+    match next_record(alloc, text, class) {
+        Ok(found) => Ok(found),
+        Err(EntryError::Text) => Err(ZoneError::Text(count + 1)),
+        Err(EntryError::OutOfMemory) => Err(ZoneError::OutOfMemory),
+    }
+}
+
+/// Refuses a record that may not stand behind these of the zone.
+fn check_rules(front: &[Record], record: &Record) -> Result<(), ZoneError> {
+    let number = front.len() + 1;
+    match front.first() {
+        None if record.rtype == Rtype::SOA => Ok(()),
+        None => Err(ZoneError::FirstNotSoa(number)),
+        Some(_) if record.rtype == Rtype::SOA => Err(ZoneError::SecondSoa(number)),
+        Some(soa) if record.owner.ends_with(&soa.owner) => Ok(()),
+        Some(_) => Err(ZoneError::OutOfZone(number)),
+    }
+}
+
+/// The records of a zone, one after another.
+#[derive(Debug, Drop)]
+pub struct ZoneRecords<'a> {
+    rest: &'a [Record],
+    class: Class,
+}
+
+impl<'a> Iterator for ZoneRecords<'a> {
+    type Item = ZoneRecord<'a>;
+
+    fn next(&mut self) -> Option<ZoneRecord<'a>> {
+        let (record, rest) = self.rest.split_first()?;
+        self.rest = rest;
+        Some(ZoneRecord {
+            record,
+            class: self.class,
+        })
+    }
+}
+
+/// A record of a zone.
+#[derive(Clone, Copy, Debug)]
+pub struct ZoneRecord<'a> {
+    record: &'a Record,
+    class: Class,
+}
+
+impl<'a> ZoneRecord<'a> {
+    /// The name that the record is about.
+    pub fn owner(&self) -> Name<&'a [u8]> {
+        self.record.owner.for_ref()
+    }
+
+    /// The type of the data.
+    pub fn rtype(&self) -> Rtype {
+        self.record.rtype
+    }
+
+    /// The class, which is the zone's.
+    pub fn class(&self) -> Class {
+        self.class
+    }
+
+    /// For how many seconds the record may be kept.
+    pub fn ttl(&self) -> Ttl {
+        self.record.ttl
+    }
+
+    /// The data as octets, with every name written out.
+    pub fn data(&self) -> &'a [u8] {
+        self.record.data.as_slice()
+    }
+}
