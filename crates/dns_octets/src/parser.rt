@@ -33,6 +33,13 @@ impl<'a> Parser<'a> {
         Parser { octets, place: 0 }
     }
 
+    /// All the octets, those in front of the place too.
+    pub fn as_slice(&self) -> &'a [u8]
+        ensures { result.now ≡ octets_of self.now }
+    {
+        self.octets
+    }
+
     /// How many octets stand in front of the place.
     pub fn pos(&self) -> usize
         ensures { result ≡ place_of self.now }
