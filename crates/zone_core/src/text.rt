@@ -1,20 +1,6 @@
-//! Stub.
-use crate::record::Record;
-use dns_name::Class;
-use std::alloc::Global;
-
-#[derive(Clone, Copy, Debug)]
-pub(crate) enum EntryError {
-    Text,
-    OutOfMemory,
-}
-
-pub(crate) fn next_record(_alloc: Global, text: &[u8], _class: Class) -> Result<Option<(Record, &[u8])>, EntryError> {
-    if text.is_empty() {
-        Ok(None)
-    } else if text.len() == 7 {
-        Err(EntryError::OutOfMemory)
-    } else {
-        Err(EntryError::Text)
-    }
-}
+//! Text of a zone, read in its plainest form (RFC 1035 5.1): each row is an SOA or an A record with all its parts.
+pub(crate) mod blank;
+pub(crate) mod entry;
+pub(crate) mod number;
+pub(crate) mod rdata;
+pub(crate) mod word;

@@ -1,6 +1,6 @@
 //! A zone: its records, in order.
 use crate::record::Record;
-use crate::text::{EntryError, next_record};
+use crate::text::entry::{EntryError, next_record};
 use crate::zone_error::ZoneError;
 use dns_name::{Class, Name, Rtype, Ttl};
 use std::alloc::Global;
