@@ -10,3 +10,6 @@ pub use jobs::Job;
 pub use sink::{Sink, SinkError, StdSink};
 pub use source::{Source, SourceError, StdSource};
 pub use words::{WordsFault, job};
+
+#[cfg(test)]
+mod tests;
