@@ -1,0 +1,5 @@
+mod Known
+mod Uses
+mod Rows
+mod Named
+mod Numbers
