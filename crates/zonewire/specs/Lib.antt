@@ -1,3 +1,4 @@
 pub mod Command
 pub mod Words
 pub mod Stream
+pub mod Fault
