@@ -1,5 +1,7 @@
 //! What the contracts don't say: texts, and each call at concrete types.
 
+mod rows;
+
 use crate::jobs::Job;
 use crate::sink::{Sink, SinkError, StdSink, write_all};
 use crate::source::{ReadAllError, Source, SourceError, StdSource, read_all};

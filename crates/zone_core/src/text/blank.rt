@@ -13,8 +13,7 @@ pub(crate) enum RowStart<'t> {
 }
 
 /// Skips a row without tokens: white space, comments and empty parentheses, perhaps over several lines.
-pub(crate) fn skip_row(text: &[u8]) -> RowStart<'_>
-{
+pub(crate) fn skip_row(text: &[u8]) -> RowStart<'_> {
     let mut rest = text;
     let mut inside = false;
     let mut has_parentheses = false;

@@ -54,11 +54,7 @@ pub(crate) fn next_record(
 }
 
 /// The record at the front of the text, and the text behind its row.
-fn split_record(
-    alloc: Global,
-    text: &[u8],
-    class: Class,
-) -> Result<(Record, &[u8]), EntryError> {
+fn split_record(alloc: Global, text: &[u8], class: Class) -> Result<(Record, &[u8]), EntryError> {
     if text.first() == Some(&b'$') {
         return Err(EntryError::Text);
     }
@@ -102,37 +98,62 @@ mod tests {
         data: &[u8],
     ) -> Result<bool, EntryError> {
         match next_record(alloc, text, Class::IN)? {
-            Some((record, rest)) => Ok(record.owner.as_slice() == b"\x01a\x00".as_slice()
-                && record.rtype == rtype
-                && record.ttl.as_secs() == ttl
-                && record.data.as_slice() == data
-                && next_record(alloc, rest, Class::IN)?.is_none()),
+            Some((record, rest)) => Ok(
+                record.owner.as_slice() == b"\x01a\x00".as_slice()
+                    && record.rtype == rtype
+                    && record.ttl.as_secs() == ttl
+                    && record.data.as_slice() == data
+                    && next_record(alloc, rest, Class::IN)?.is_none(),
+            ),
             None => Ok(false),
         }
     }
 
     fn is_refused(alloc: Global, text: &[u8]) -> bool {
-        matches!(
-            next_record(alloc, text, Class::IN),
-            Err(EntryError::Text)
-        )
+        matches!(next_record(alloc, text, Class::IN), Err(EntryError::Text))
     }
 
     #[test]
     fn rows_are_read(rt: HostRuntime) -> Result<(), Fail> {
         let alloc = rt.alloc();
-        let soa = b"\x01b\x00\x01c\x00\x00\x00\x00\x01\x00\x00\x00\x02\x00\x00\x00\x03\x00\x00\x00\x04\x00\x00\x00\x05";
-        assert!(rt; reads(alloc, b"a. 60 IN SOA b. c. 1 2 3 4 5\n", Rtype::SOA, 60, soa)?);
-        assert!(rt; reads(alloc, b"a.  007 in  type6 b. c. 1 2 3 4 5\n", Rtype::SOA, 7, soa)?);
+        let soa =
+            b"\x01b\x00\x01c\x00\x00\x00\x00\x01\x00\x00\x00\x02\x00\x00\x00\x03\x00\x00\x00\x04\x00\x00\x00\x05";
+        assert!(rt;
+            reads(
+                alloc,
+                b"a. 60 IN SOA b. c. 1 2 3 4 5\n",
+                Rtype::SOA,
+                60,
+                soa
+            )?
+        );
+        assert!(rt;
+            reads(
+                alloc,
+                b"a.  007 in  type6 b. c. 1 2 3 4 5\n",
+                Rtype::SOA,
+                7,
+                soa
+            )?
+        );
         assert!(rt; reads(alloc, b"a. 60 IN A 1.2.3.4\n", Rtype::A, 60, &[1, 2, 3, 4])?);
-        assert!(rt; reads(alloc, b"\\097. 0 CLASS1 TYPE1 0.0.0.255\n", Rtype::A, 0, &[0, 0, 0, 255])?);
+        assert!(rt;
+            reads(
+                alloc,
+                b"\\097. 0 CLASS1 TYPE1 0.0.0.255\n",
+                Rtype::A,
+                0,
+                &[0, 0, 0, 255]
+            )?
+        );
         Ok(())
     }
 
     #[test]
     fn rows_without_tokens_are_no_entries(rt: HostRuntime) -> Result<(), Fail> {
         let alloc = rt.alloc();
-        let text = b"\n \t\r\n; a comment (\n ( ; inside\n ) ; behind\n()\na. 1 IN A 1.2.3.4\n \t; the end";
+        let text =
+            b"\n \t\r\n; a comment (\n ( ; inside\n ) ; behind\n()\na. 1 IN A 1.2.3.4\n \t; the end";
         assert!(rt; reads(alloc, text, Rtype::A, 1, &[1, 2, 3, 4])?);
         assert!(rt; next_record(alloc, b"", Class::IN)?.is_none());
         assert!(rt; is_refused(alloc, b"( )"));
