@@ -2,3 +2,4 @@ pub mod Command
 pub mod Words
 pub mod Stream
 pub mod Fault
+pub mod Output

@@ -1,4 +1,9 @@
 //! A run of the program, from its input to its output.
+ghost use Rattle.std.specs.Prelude.{◌≡◌, ◌≢◌, ℕ, List, IfOk, IfErr, IfSome, OnOk};
+ghost use Rattle.std.specs.Io.KnownBytes.{Appends, IsAtEnd};
+ghost use Rattle.zonewire.specs.Output.{IsOutput, IsJobFault};
+ghost use Rattle.zonewire.specs.declared.fault.Fault.TheVariants as fault;
+
 use crate::fault::Fault;
 use crate::jobs::Job;
 use crate::sink::{Sink, write_all};
@@ -16,7 +21,17 @@ pub fn run<R: Source, W: Sink>(
     source: &mut R,
     sink: &mut W,
     job: Job,
-) -> Result<(), Fault> {
+) -> Result<(), Fault>
+    // What is written is what the job makes of all that was read.
+    ensures written { OnOk result (IfSome (R.remaining source.old) (λ input.
+        (output : List ℕ) × IsOutput job input output × Appends (W.written sink.old) (W.written sink.new) output)) }
+    ensures ended { OnOk result (IsAtEnd (R.remaining source.new)) }
+
+    // A fault of the job is the one of all that was read, and nothing is written unless a write is refused.
+    ensures faults { IfErr result (λ error. error ≢ fault.Read → error ≢ fault.Write →
+        IfSome (R.remaining source.old) (λ input. IsJobFault job input error)) }
+    ensures silent { IfErr result (λ error. error ≢ fault.Write → sink.new ≡ sink.old) }
+{
     let input = read_all(alloc, source)?;
     let output = output(alloc, input.as_slice(), &job)?;
     write_all(sink, output.as_slice())?;
@@ -24,7 +39,10 @@ pub fn run<R: Source, W: Sink>(
 }
 
 /// What the job makes of the input.
-fn output(alloc: Global, input: &[u8], job: &Job) -> Result<Vec<u8>, Fault> {
+fn output(alloc: Global, input: &[u8], job: &Job) -> Result<Vec<u8>, Fault>
+    ensures ok { IfOk result (λ output. IsOutput job.now input.now output.items) }
+    ensures err { IfErr result (IsJobFault job.now input.now) }
+{
     match job {
         Job::Send {
             origin,
