@@ -6,9 +6,6 @@ pub mod Query
 pub mod Frames
 pub mod Transfer
 pub mod Sent
-<<<<<<< HEAD
-pub mod View
-=======
 pub mod Records
->>>>>>> main
+pub mod View
 pub mod Tried
