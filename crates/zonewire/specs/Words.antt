@@ -11,8 +11,7 @@ use Rattle.clap.specs.Kinds.{HasKind}
 use Rattle.clap.specs.Lexer.{without_minus}
 use Rattle.clap.specs.Values.{IsSignedIn, kind_of}
 use Rattle.clap.specs.declared.error.kind.ErrorKind.TheVariants as kind
-use Rattle.dns_name.specs.declared.TheConstants.Class.{IN}
-use Rattle.zone_core.specs.declared.Spelling.TheVariants.{Plain}
+use Rattle.zone_core.specs.declared.transfer.Spelling.TheVariants.{Plain}
 use Rattle.zonewire.specs.declared.jobs.Job.{Job}
 use Rattle.zonewire.specs.declared.jobs.Job.TheVariants.{Send}
 use Rattle.zonewire.specs.declared.words.WordsFault.{WordsFault}
@@ -32,10 +31,14 @@ HasNumber option rows = IfSome (one_of option rows) (λ text. (value : Text)
     × (text ≡ without_minus value)
     × IsSignedIn (pos 0) (pos 65535) value)
 
+-- the class IN (RFC 1035 3.2.4)
+abbrev pub internet : ℕ
+internet = 1
+
 -- the matches of a subcommand name the job
 abbrev pub IsJobOf : Text × List Row → Job → Type 0
 IsJobOf (name, rows) (Send origin class id apex max spelling) =
-    (name ≡ codes "send") × (origin ≡ None) × (class ≡ IN)
+    (name ≡ codes "send") × (origin ≡ None) × (class ≡ internet)
     × (id ≡ number_or 0 (codes "id") rows)
     × (apex ≡ None) × (max ≡ number_or 65535 (codes "max") rows) × (spelling ≡ Plain)
 
