@@ -1,5 +1,5 @@
 -- The header of an answer says what it was made of.
-use Rattle.std.proofs.Common.{◌≡◌, ℕ, ◌+◌, ◌<◌, ◌≤◌, ◌^◌, List, ◌++◌, Bool, true, false, refl}
+use Rattle.std.proofs.Common.{◌≡◌, ℕ, ◌<◌, ◌^◌, List, ◌++◌, Bool, true, false, refl}
 use Rattle.std.proofs.lemmas.Nat.{from_be_bytes-to_be_bytes_2}
 use Rattle.dns_message.specs.Header.{answer_header, id_of, is_response, opcode_of, recursion_desired, rcode_of, question_count, answer_count, authority_count, additional_count}
 

@@ -1,5 +1,5 @@
 -- Which fields say by themselves where they end. In a row of a type each field does but the last.
-use Rattle.std.proofs.Common.{◌≡◌, ◌==◌, ℕ, ◌+◌, suc, Bool, true, false, List, [], ◌∷◌, ◌++◌, length, map, refl, sym, ap, ◌∙◌, subst, arith, add-one, Option, Some, None, if◌then◌else◌}
+use Rattle.std.proofs.Common.{◌≡◌, ◌==◌, ℕ, suc, Bool, true, false, List, [], ◌∷◌, ◌++◌, length, refl, sym, ap, ◌∙◌, subst, Option, Some, None, if◌then◌else◌}
 use Rattle.std.specs.Prelude.{⊤}
 use Rattle.dns_rdata.proofs.Fronts.{same_fronts}
 use Rattle.dns_rdata.specs.Fields.{Kind, Field, kind_of, kinds_of, field_octets, IsField}

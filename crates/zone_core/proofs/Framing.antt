@@ -1,31 +1,17 @@
 -- A stream is whole messages behind their lengths, and less than a whole one, in one way.
-use Rattle.std.proofs.Common.{◌≡◌, ℕ, ◌+◌, ◌<◌, ◌^◌, List, [], ◌∷◌, ◌++◌, length, refl, sym, ap, ◌∙◌, subst, arith, append_assoc, append-nil, length-append}
+use Rattle.std.proofs.Common.{◌≡◌, ℕ, ◌<◌, List, [], ◌∷◌, ◌++◌, length, refl, sym, ◌∙◌, subst, arith, append_assoc, append-nil, length-append}
 use Rattle.std.specs.Int.{to_be_bytes, from_be_bytes, w16}
 use Rattle.std.specs.List.{AllByRecursion}
 use Rattle.std.proofs.lemmas.Nat.{from_be_bytes-to_be_bytes_2}
+use Rattle.dns_rdata.proofs.Fronts.{same_fronts, same_number16}
 use Rattle.zone_core.specs.Frames.{frame, frames, IsFramable, IsPartial, Splits}
-
--- fronts of one length, with something behind each
-pub same_fronts : {X : Type 0} (a b more rest : List X) → length a ≡ length b → a ++ more ≡ b ++ rest → (a ≡ b) × (more ≡ rest)
-same_fronts [] [] more rest long e = (refl, e)
-same_fronts [] (y ∷ b) more rest long e = absurd (omega arith)
-same_fronts (x ∷ a) [] more rest long e = absurd (omega arith)
-same_fronts (x ∷ a) (y ∷ b) more rest long e =
-    let heads : x ≡ y = cc in
-    let tails = same_fronts a b more rest (omega arith) cc in
-    (cc (heads, tails.0), tails.1)
-
--- two octets say one number
-pub same_number : (m n : ℕ) → m < 2 ^ 16 → n < 2 ^ 16 → to_be_bytes w16 m ≡ to_be_bytes w16 n → m ≡ n
-same_number m n small small' e =
-    sym (from_be_bytes-to_be_bytes_2 m small) ∙ ap (from_be_bytes w16) e ∙ from_be_bytes-to_be_bytes_2 n small'
 
 -- messages at the front of two streams that are one
 pub same_message : (m n more rest : List ℕ) → IsFramable m → IsFramable n → frame m ++ more ≡ frame n ++ rest
     → (m ≡ n) × (more ≡ rest)
 same_message m n more rest small small' e =
     let lengths : to_be_bytes w16 (length m) ≡ to_be_bytes w16 (length n) = cc in
-    same_fronts m n more rest (same_number (length m) (length n) small small' lengths) cc
+    same_fronts m n more rest (same_number16 (length m) (length n) small small' lengths) cc
 
 -- a whole frame is no part of one
 whole_is_not_partial : (rest m more : List ℕ) → IsPartial rest → IsFramable m → rest ≡ frame m ++ more → ⊥

@@ -1,16 +1,15 @@
 -- What is sent is a transfer.
-use Rattle.std.proofs.Common.{◌≡◌, ◌≢◌, ℕ, ◌<◌, ◌≤◌, ◌^◌, List, [], ◌∷◌, ◌++◌, map, refl, sym, ap, ◌∙◌, subst, arith, Some, None, true}
+use Rattle.std.proofs.Common.{◌≡◌, ◌≢◌, ℕ, ◌<◌, ◌≤◌, ◌^◌, List, [], ◌∷◌, ◌++◌, map, refl, sym, ap, ◌∙◌, subst, arith, None, true}
 use Rattle.std.specs.List.{AllByRecursion}
 use Rattle.dns_label.specs.Name.{low}
 use Rattle.dns_rdata.specs.Fields.{IsData, IsRow, kinds_of}
 use Rattle.dns_rdata.specs.Fields.IsData.{typed, opaque}
 use Rattle.zone_core.specs.Record.{Record}
-use Rattle.zone_core.specs.Zone.{IsUnder, IsBehindSoa, IsZone, soa_type}
+use Rattle.zone_core.specs.Zone.{IsUnder, IsBehindSoa, soa_type}
 use Rattle.zone_core.specs.Query.{AxfrQuery}
-use Rattle.zone_core.specs.Cutting.{joined}
 use Rattle.zone_core.specs.Records.{IsRecordOf, AreRecordsOf, IsQueryFor}
-use Rattle.zone_core.specs.Sent.{AsksFor, IsSent, message, size, with_soa_again}
-use Rattle.zone_core.specs.Transfer.{IsInZoneOf, IsTransferred, SameSoa, IsTransfer}
+use Rattle.zone_core.specs.Sent.{AsksFor, IsSent, message, size}
+use Rattle.zone_core.specs.Transfer.{IsInZoneOf, SameSoa, IsTransfer}
 use Rattle.zone_core.proofs.LastRecord.{all_append, all_joined, ends_with}
 use Rattle.zone_core.proofs.WrittenAnswers.{answers-written, framable-written}
 

@@ -1,7 +1,7 @@
 -- The premises of what is sent, tried on a zone of two records: they hold, so its stream is a transfer.
-use Rattle.std.proofs.Common.{◌≡◌, ℕ, ◌<◌, ◌^◌, List, [], ◌∷◌, refl, arith, Some}
+use Rattle.std.proofs.Common.{ℕ, List, [], ◌∷◌, refl, arith}
 use Rattle.dns_label.specs.Name.{IsName}
-use Rattle.dns_rdata.specs.Fields.{Field, IsRow, octets}
+use Rattle.dns_rdata.specs.Fields.{Field}
 use Rattle.dns_rdata.specs.Fields.Field.{compressible, number32, ipv4}
 use Rattle.dns_rdata.specs.Fields.IsData.{typed}
 use Rattle.zone_core.specs.Records.{AreRecordsOf, IsQueryFor}

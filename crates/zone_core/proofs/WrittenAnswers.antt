@@ -1,24 +1,21 @@
 -- A message that is sent is an answer with its group of records.
-use Rattle.std.proofs.Common.{◌≡◌, ℕ, ◌+◌, ◌*◌, ◌<◌, ◌≤◌, ◌^◌, Bool, false, List, [], ◌∷◌, ◌++◌, length, drop, map, refl, sym, ap, ◌∙◌, subst, arith, append_assoc, append-nil, length-append, inr}
+use Rattle.std.proofs.Common.{◌≡◌, ℕ, ◌+◌, ◌*◌, ◌<◌, ◌≤◌, ◌^◌, Bool, false, List, [], ◌∷◌, ◌++◌, length, drop, map, refl, sym, ◌∙◌, subst, arith, append_assoc, append-nil, length-append, inr}
 use Rattle.std.specs.Prelude.{flat_map}
 use Rattle.std.specs.Int.{to_be_bytes, w16, w32}
 use Rattle.std.specs.List.{AllByRecursion}
-use Rattle.std.proofs.lemmas.List.{drop_at}
 use Rattle.dns_label.specs.Name.{wire}
 use Rattle.dns_label.proofs.Spelling.{drop_behind}
-use Rattle.dns_message.specs.Header.{answer_header}
-use Rattle.dns_message.specs.Question.{ReadsQuestion, question_octets}
+use Rattle.dns_message.specs.Question.{question_octets}
 use Rattle.dns_message.specs.Record.{record_octets}
 use Rattle.dns_message.proofs.Headers.{header_says}
 use Rattle.dns_message.proofs.Written.{within_message}
 use Rattle.dns_message.proofs.WrittenRecords.{record-written, question-written}
 use Rattle.zone_core.specs.Record.{Record}
 use Rattle.zone_core.specs.Query.{AxfrQuery, question_of}
-use Rattle.zone_core.specs.Frames.{frames, IsFramable}
-use Rattle.zone_core.specs.Cutting.{joined}
+use Rattle.zone_core.specs.Frames.{IsFramable}
 use Rattle.zone_core.specs.Records.{IsRecordOf, IsQueryFor}
 use Rattle.zone_core.specs.Sent.{message, size}
-use Rattle.zone_core.specs.Transfer.{SpellsRecords, IsQuestionOf, IsAnswer, AreAnswers}
+use Rattle.zone_core.specs.Transfer.{SpellsRecords, IsAnswer, AreAnswers}
 use Rattle.zone_core.specs.Transfer.SpellsRecords.{none, one}
 use Rattle.zone_core.proofs.Plain.{size_is}
 

@@ -3,6 +3,7 @@
 
 mod cutting;
 mod framing;
+mod received;
 mod sent;
 
 pub use cutting::{
@@ -10,4 +11,5 @@ pub use cutting::{
     full_cut_is_one, parts_fit_where_size_grows, plain_full_cut_is_fewest, sum_of_sizes_grows,
 };
 pub use framing::two_splits_are_one;
+pub use received::transfers_are_one;
 pub use sent::sent_is_a_transfer;
