@@ -137,3 +137,18 @@ same_rest octets name other rest behind here there =
     (spelled-written octets 0 0 other behind there.whole there.labels) refl in
     let long : length (wire name) ≡ length (wire other) = omega arith in
     (same_front (wire name) (wire other) rest behind (sym here.whole ∙ there.whole) long).1
+
+-- a name in its wire form is read
+pub flat-reads : (octets : List ℕ) (name : List (List ℕ)) → IsName name → octets ≡ wire name
+    → Reads octets 0 name (0 + length (wire name))
+flat-reads octets name is_name is =
+    record { spelled = spelled-written octets 255 0 name [] (whole_front octets name is_name is).whole is_name.labels; is_name = is_name }
+
+pub flat-labels : (octets : List ℕ) (name : List (List ℕ)) → IsName name → octets ≡ wire name → labels_at octets 0 ≡ name
+flat-labels octets name is_name is = labels_at-reads (flat-reads octets name is_name is)
+
+pub flat-written : (octets : List ℕ) (name : List (List ℕ)) → IsName name → octets ≡ wire name → IsWritten octets
+flat-written octets name is_name is =
+    let found = sym (flat-labels octets name is_name is) in
+    let P : List (List ℕ) → Type 0 = λ n. IsName n in
+    record { is_name = subst P found is_name; whole = is ∙ ap wire found }

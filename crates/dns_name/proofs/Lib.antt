@@ -3,3 +3,5 @@ pub mod Wire
 pub mod Heads
 pub mod Walking
 pub mod Readable
+pub mod Front
+pub mod Case

@@ -4,7 +4,8 @@ use Rattle.std.proofs.lemmas.List.{drop_all}
 use mathlib.Core.Logic.{∥∥₁_elim, ∥∥₁_map}
 
 use Rattle.std.specs.Coded.{Coded-set, coded_ℕ, coded_list}
-use Rattle.dns_label.specs.Name.{IsLabel, IsName, wire}
+use Rattle.dns_label.specs.Name.{IsLabel, IsName, wire, with_root}
+use Rattle.dns_name.proofs.Wire.{few_labels, root_length}
 use Rattle.dns_label.specs.Spelled.{Spells, Reads}
 use Rattle.dns_label.specs.Labels.{labels_at}
 use Rattle.dns_label.specs.Split.{StartsWithLabel, StartsWithPointer, NoLabel}
@@ -109,3 +110,12 @@ read-within message place there out =
     let none : drop place message ≡ [] = drop_all place message (omega arith) in
     none_from_merely there (λ read. spelled-not read.reads.spelled
     (λ text rest at. let is = at.spelled in cc) (λ target at. let is = at.spelled in cc))
+
+pub read-few : (message : List ℕ) (place : ℕ) → ∥ IsReadAt message place ∥₁
+    → (128 < length (with_root (labels_at message place)) → ⊥)
+read-few message place there many =
+    none_from_merely there (λ read. let few = few_labels (labels_at message place) read.reads.is_name in omega arith)
+
+pub read-root : (message : List ℕ) (place : ℕ) → ∥ IsReadAt message place ∥₁ → length (wire (labels_at message place)) ≡ 1
+    → labels_at message place ≡ []
+read-root message place there one = from_merely there (λ read. root_length (labels_at message place) read.reads.is_name one)

@@ -1,0 +1,11 @@
+use Rattle.std.proofs.Common.{◌≡◌, ◌≤◌, length, ap, ◌∙◌, sym, arith}
+use Rattle.dns_name.proofs.parsed.ParsedName+ref+slice+u8.parse.Goals as goal
+
+pub returns-in_err-seek-clause-err : goal.returns-in_err-seek-clause-err
+returns-in_err-seek-clause-err c = ?
+
+pub invariant_of-result : goal.invariant_of-result
+invariant_of-result c = ?
+
+pub returns-clause-ok : goal.returns-clause-ok
+returns-clause-ok c = ?
