@@ -1,5 +1,6 @@
 -- Octets up to ASCII case.
-use Rattle.std.proofs.Common.{◌≡◌, ◌≢◌, ℕ, ◌+◌, ◌<◌, ◌≤◌, Bool, true, false, List, [], ◌∷◌, ◌++◌, length, map, refl, sym, ◌∙◌, ap, subst, arith, length-append, map-append, length-map}
+use Rattle.std.proofs.Common.{◌≡◌, ◌≢◌, ℕ, ◌+◌, ◌<◌, ◌≤◌, Bool, true, false, List, [], ◌∷◌, ◌++◌, length, map, refl, sym, ◌∙◌, ap, subst, arith, length-append}
+use Rattle.std.proofs.lemmas.List.{map-append, length-map}
 use Rattle.std.specs.Prelude.{nat_eq, IsTrue}
 use Rattle.std.proofs.lemmas.Grind.{common_steps}
 use Rattle.std.specs.List.{AllByRecursion}
@@ -19,7 +20,7 @@ pub low_wire : (name : List (List ℕ)) → AllByRecursion IsLabel name → map 
 low_wire [] each = refl
 low_wire (text ∷ name) each =
     let here : to_ascii_lowercase (length text) ≡ length (map to_ascii_lowercase text) =
-      low_length (length text) each.0.short ∙ sym (length-map to_ascii_lowercase text) in
+      low_length (length text) each.0.short ∙ sym (length-map text to_ascii_lowercase) in
     let more : map to_ascii_lowercase (text ++ wire name) ≡ map to_ascii_lowercase text ++ wire (low name) =
       map-append to_ascii_lowercase text (wire name) ∙ ap (λ l. map to_ascii_lowercase text ++ l) (low_wire name each.1) in
     ap (λ n. n ∷ map to_ascii_lowercase (text ++ wire name)) here ∙ ap (λ l. length (map to_ascii_lowercase text) ∷ l) more

@@ -2,6 +2,7 @@
 use Rattle.std.proofs.Common.{◌≡◌, ℕ, ◌+◌, ◌<◌, ◌≤◌, List, [], ◌∷◌, ◌++◌, length, take, drop, refl, sym, ◌∙◌, ap, subst, arith, append_assoc, append-nil, length-append, inl, inr}
 use Rattle.std.proofs.lemmas.Grind.{common_steps}
 use Rattle.std.specs.List.{AllByRecursion}
+use Rattle.std.specs.Prelude.{Result, Ok, Err, OnErr}
 use Rattle.std.proofs.Math.Seq.{take-append_seam, drop-append_seam}
 use Rattle.dns_label.specs.Name.{IsLabel, IsName, wire}
 use Rattle.dns_label.specs.Spelled.{Reads}
@@ -152,3 +153,8 @@ flat-written octets name is_name is =
     let found = sym (flat-labels octets name is_name is) in
     let P : List (List ℕ) → Type 0 = λ n. IsName n in
     record { is_name = subst P found is_name; whole = is ∙ ap wire found }
+
+-- what holds in any case holds on an error
+pub always_on_err : {T E P : Type 0} (result : Result T E) → P → OnErr result P
+always_on_err (Ok value) always = tt
+always_on_err (Err error) always = always

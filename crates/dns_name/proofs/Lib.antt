@@ -5,3 +5,4 @@ pub mod Walking
 pub mod Readable
 pub mod Front
 pub mod Case
+pub mod Items

@@ -119,3 +119,13 @@ read-few message place there many =
 pub read-root : (message : List ℕ) (place : ℕ) → ∥ IsReadAt message place ∥₁ → length (wire (labels_at message place)) ≡ 1
     → labels_at message place ≡ []
 read-root message place there one = from_merely there (λ read. root_length (labels_at message place) read.reads.is_name one)
+
+-- the same reading, of what the parser has
+pub parsed_ok : {octets whole : List ℕ} {place pos next end : ℕ} {name : List (List ℕ)} → octets ≡ whole → place ≡ pos → end ≡ next
+    → Reads octets place name next → Reads whole pos (labels_at octets place) end
+parsed_ok {octets} {whole} {place} {pos} {next} {end} same here there reads =
+    let P : List ℕ → Type 0 = λ o. Reads o pos (labels_at octets place) end in
+    let Q : ℕ → Type 0 = λ p. Reads octets p (labels_at octets place) end in
+    let R : ℕ → Type 0 = λ n. Reads octets place (labels_at octets place) n in
+    let S : List (List ℕ) → Type 0 = λ n. Reads octets place n next in
+    subst P same (subst Q here (subst R (sym there) (subst S (sym (labels_at-reads reads)) reads)))
