@@ -5,6 +5,8 @@ use Rattle.std.proofs.lemmas.List.{take-append-drop, drop-drop, take_all}
 use Rattle.std.proofs.lemmas.Grind.{common_steps}
 use Rattle.dns_label.specs.Name.{IsLabel, IsName, wire}
 use Rattle.dns_label.specs.Labels.{labels_at}
+use Rattle.dns_octets.specs.Parser.{octets_of, place_of, rest_of, GoesOn}
+use Rattle.dns_octets.specs.declared.parser.Parser.{Parser}
 use Rattle.dns_name.specs.Flat.{StartsWithName, IsWritten}
 use Rattle.dns_name.proofs.Flat.{flat-labels, flat-written}
 
@@ -91,3 +93,8 @@ pub front_all : (octets : List ℕ) (place : ℕ) → length octets < place + 25
 front_all octets place few =
     take_all (length octets - place) (drop place octets) (omega (arith, length-drop place octets))
     ∙ sym (take_all 255 (drop place octets) (omega (arith, length-drop place octets)))
+
+-- what is left where the parser has gone on
+pub goes_rest : {old new : Parser} {count : ℕ} → GoesOn old new count → drop (place_of old + count) (octets_of old) ≡ rest_of new
+goes_rest {old} {new} {count} goes =
+    ap (λ (n : ℕ). drop n (octets_of old)) (sym goes.place) ∙ ap (λ o. drop (place_of new) o.now) (sym goes.octets)

@@ -6,6 +6,7 @@ use mathlib.Core.Logic.{∥∥₁_elim, ∥∥₁_map}
 use Rattle.std.specs.Coded.{Coded-set, coded_ℕ, coded_list}
 use Rattle.dns_label.specs.Name.{IsLabel, IsName, wire, with_root}
 use Rattle.dns_name.proofs.Wire.{few_labels, root_length}
+use Rattle.std.specs.List.{AllByRecursion}
 use Rattle.dns_label.specs.Spelled.{Spells, Reads}
 use Rattle.dns_label.specs.Labels.{labels_at}
 use Rattle.dns_label.specs.Split.{StartsWithLabel, StartsWithPointer, NoLabel}
@@ -129,3 +130,20 @@ parsed_ok {octets} {whole} {place} {pos} {next} {end} same here there reads =
     let R : ℕ → Type 0 = λ n. Reads octets place (labels_at octets place) n in
     let S : List (List ℕ) → Type 0 = λ n. Reads octets place n next in
     subst P same (subst Q here (subst R (sym there) (subst S (sym (labels_at-reads reads)) reads)))
+
+labels_from_merely : (name : List (List ℕ)) → ∥ AllByRecursion IsLabel name ∥₁ → AllByRecursion IsLabel name
+labels_from_merely [] there = tt
+labels_from_merely (text ∷ name) there =
+    let some : length text ≤ 0 → ⊥ = λ none. none_from_merely there (λ each. omega (arith, each.0.some)) in
+    let short : 63 < length text → ⊥ = λ long. none_from_merely there (λ each. omega (arith, each.0.short)) in
+    (record { some = omega arith; short = omega arith }, labels_from_merely name (∥∥₁_map there (λ each. each.1)))
+
+-- what is read is a name
+pub read-name : (message : List ℕ) (place : ℕ) → ∥ IsReadAt message place ∥₁ → IsName (labels_at message place)
+read-name message place there =
+    let short : 255 < length (wire (labels_at message place)) → ⊥ =
+      λ long. none_from_merely there (λ read. omega (arith, read.reads.is_name.short)) in
+    record {
+      labels = labels_from_merely (labels_at message place) (∥∥₁_map there (λ read. read.reads.is_name.labels));
+      short = omega arith;
+    }

@@ -3,7 +3,8 @@ use Rattle.dns_octets.specs.Parser.{octets_of, place_of, rest_of, GoesOn}
 use Rattle.dns_label.specs.Name.{wire}
 use Rattle.dns_name.specs.Flat.{StartsWithName}
 use Rattle.dns_name.proofs.Flat.{always_on_err}
-use Rattle.dns_name.proofs.Front.{Taken, front_back, front_taken, front_within}
+use Rattle.dns_name.proofs.Front.{Taken, front_back, front_taken, front_within, goes_rest}
+use Rattle.dns_label.specs.Labels.{labels_at}
 use Rattle.dns_name.proofs.name.Name+ref+slice+u8.parse.Goals as goal
 use Rattle.dns_name.proofs.name.Name+ref+slice+u8.parse.Goals.{In_ok-octets}
 
@@ -19,8 +20,8 @@ invariant_of-result c = (taken_at c).written
 pub returns-clause-ok : goal.returns-clause-ok
 returns-clause-ok c =
     let taken = taken_at c in
-    let moved = c.in_ok-octets.ensures.place in
-    (taken.is_name, taken.whole ∙ ?)
+    let behind = goes_rest c.in_ok-octets.ensures.place in
+    (taken.is_name, taken.whole ∙ ap (λ (l : List ℕ). wire (labels_at c.in_ok-octets.octets.now 0) ++ l) behind)
 
 pub returns-clause-place : goal.returns-clause-place
 returns-clause-place c =
