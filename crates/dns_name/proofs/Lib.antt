@@ -6,3 +6,5 @@ pub mod Readable
 pub mod Front
 pub mod Case
 pub mod Items
+pub mod Parts
+pub mod Drafts

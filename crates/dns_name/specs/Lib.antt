@@ -2,6 +2,7 @@ pub mod Flat
 pub mod Parsed
 pub mod Suffix
 pub mod Text
+pub mod Draft
 pub use Rattle.dns_octets.specs.Parser
 pub use Rattle.dns_label.specs.Name
 pub use Rattle.dns_label.specs.Spelled
