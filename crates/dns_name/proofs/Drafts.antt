@@ -4,6 +4,7 @@ use Rattle.std.specs.List.{AllByRecursion}
 use Rattle.dns_label.specs.Name.{IsLabel, IsName, wire, labels_wire}
 use Rattle.dns_name.specs.Draft.{Holds}
 use Rattle.dns_name.specs.declared.text.Spelling.{Spelling}
+use Rattle.dns_name.proofs.Case.{wire_one}
 use Rattle.dns_name.proofs.Wire.{labels_wire-append, length-labels_wire_more, wire_is}
 
 -- a write behind what is taken
@@ -65,3 +66,25 @@ labels_more (first ∷ done) label each is_label = (each.0, labels_more done lab
 pub draft-wire : (octets : List ℕ) (len : ℕ) (done : List (List ℕ)) → take len octets ≡ labels_wire done ++ 0 ∷ []
     → take len octets ≡ wire done
 draft-wire octets len done is = is ∙ sym (wire_is done)
+
+pub draft-name : (octets : List ℕ) (len : ℕ) (done : List (List ℕ)) → len ≤ length octets → len ≤ 255
+    → take len octets ≡ labels_wire done ++ 0 ∷ [] → AllByRecursion IsLabel done → IsName done
+draft-name octets len done within few is each = record {
+  labels = each;
+  short = omega (arith, length-take len octets, ap (length {A = ℕ}) (draft-wire octets len done is));
+}
+
+-- it is not the root's
+pub draft-some : (octets : List ℕ) (len : ℕ) (done : List (List ℕ)) → len ≤ length octets → (len ≡ 1 → ⊥)
+    → take len octets ≡ labels_wire done ++ 0 ∷ [] → 0 < length done
+draft-some octets len [] within some is = absurd (some (draft-len octets len [] [] within is))
+draft-some octets len (label ∷ done) within some is = omega arith
+
+pub draft-none : (octets : List ℕ) (len : ℕ) (done : List (List ℕ)) → len ≤ length octets → len ≡ 1
+    → take len octets ≡ labels_wire done ++ 0 ∷ [] → length done ≡ 0
+draft-none octets len [] within one is = refl
+draft-none octets len (label ∷ done) within one is =
+    let size = draft-len octets len (label ∷ done) [] within is in absurd (omega arith)
+
+pub holds_one : (spelling : Spelling) (done other : List (List ℕ)) → Holds spelling done [] → wire other ≡ take spelling.len spelling.octets → other ≡ done
+holds_one spelling done other holds is = wire_one other done (is ∙ draft-wire spelling.octets spelling.len done holds.written)

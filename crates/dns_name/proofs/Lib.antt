@@ -8,3 +8,4 @@ pub mod Case
 pub mod Items
 pub mod Parts
 pub mod Drafts
+pub mod Texts

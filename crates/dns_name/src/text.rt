@@ -70,21 +70,6 @@ impl Name<Vec<u8>> {
         Name::from_text(alloc, text.as_bytes())
     }
 
-    /// The name that characters spell, the last dot there or not.
-    ///
-    /// Refused where they spell no name, and where there is no memory for them.
-    pub fn from_chars<C: Iterator<Item = char> + Drop>(
-        alloc: Global,
-        chars: C,
-    ) -> Result<Self, FromStrError> {
-        let mut text = Vec::new(alloc);
-        for c in chars {
-            let octet = u8::try_from(c).map_err(|_| PresentationError::BadSymbol)?;
-            text.push(octet).map_err(AllocError::from)?;
-        }
-        Name::from_text(alloc, text.as_slice())
-    }
-
     /// The name that octets of text spell, the last dot there or not.
     fn from_text(alloc: Global, text: &[u8]) -> Result<Self, FromStrError>
         ensures ok { IfOk result (λ name. IsNameText text.now name) }
@@ -126,6 +111,7 @@ struct Spelling {
     len: usize,
     /// Where the length of the open label goes.
     start: usize,
+    ghost whole: { length octets ≡ 255 },
     ghost room: { start < len },
     ghost few: { len ≤ 255 },
     ghost short: { len ≤ start + 64 },

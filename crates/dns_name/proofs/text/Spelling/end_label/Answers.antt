@@ -6,7 +6,7 @@ use Rattle.dns_name.proofs.text.Spelling.end_label.Goals as goal
 
 pub returns-clause-ok : goal.returns-clause-ok
 returns-clause-ok c = λ done begun holds.
-    let all : length c.args.self.now.octets ≡ 255 = ? in
+    let all = c.args.self.now.whole in
     let few = c.args.self.now.few in
     let short = c.args.self.now.short in
     let full = c.args.self.now.full in
