@@ -52,10 +52,10 @@ draft-end octets len place count done begun within is at long same =
     ap (λ (n : ℕ). take n (set (set octets place count) len 0)) e
     ∙ take_set_at (set octets place count) len 0 (omega arith)
     ∙ ap (λ l. l ++ 0 ∷ []) (take_set_in octets len place count (omega arith)
-      ∙ ap (λ l. set l place count) is ∙ ap (λ (n : ℕ). set (labels_wire done ++ 0 ∷ begun) n count) at
-      ∙ set_seam (labels_wire done) 0 count begun ∙ ap (λ (n : ℕ). labels_wire done ++ n ∷ begun) long
-      ∙ ap (λ l. labels_wire done ++ length begun ∷ l) (sym (append-nil begun))
-      ∙ sym (labels_wire-append done (begun ∷ [])))
+    ∙ ap (λ l. set l place count) is ∙ ap (λ (n : ℕ). set (labels_wire done ++ 0 ∷ begun) n count) at
+    ∙ set_seam (labels_wire done) 0 count begun ∙ ap (λ (n : ℕ). labels_wire done ++ n ∷ begun) long
+    ∙ ap (λ l. labels_wire done ++ length begun ∷ l) (sym (append-nil begun))
+    ∙ sym (labels_wire-append done (begun ∷ [])))
 
 pub labels_more : (done : List (List ℕ)) (label : List ℕ) → AllByRecursion IsLabel done → IsLabel label
     → AllByRecursion IsLabel (done ++ label ∷ [])

@@ -98,11 +98,15 @@ joined_none (part ∷ parts) some = refl
 pub reading_here : (text : List ℕ) → Reading text text [] []
 reading_here text = record {
   on = λ parts left. record {
-    symbols = left.symbols; each = left.each; written = left.written;
+    symbols = left.symbols;
+    each = left.each;
+    written = left.written;
     between = sym (joined_none (parts_of left.symbols) (some_part left.symbols)) ∙ sym left.is;
   };
   back = λ parts has. record {
-    symbols = has.symbols; each = has.each; written = has.written;
+    symbols = has.symbols;
+    each = has.each;
+    written = has.written;
     is = sym has.between ∙ sym (joined_none (parts_of has.symbols) (some_part has.symbols));
   };
 }
@@ -165,7 +169,10 @@ pub reading-has : (text rest : List ℕ) (done : List (List ℕ)) (begun : List 
     → HasParts text (done ++ begun ∷ [])
 reading-has text rest done begun reading none =
     reading.on (done ++ begun ∷ []) (record {
-      symbols = []; each = tt; written = none; is = ap (λ t. done ++ t ∷ []) (sym (append-nil begun));
+      symbols = [];
+      each = tt;
+      written = none;
+      is = ap (λ t. done ++ t ∷ []) (sym (append-nil begun));
     })
 
 only_end : (rest : List ℕ) (symbols : List Symbol) → rest ≡ [] → rest ≡ flat_map spelled symbols → symbols ≡ []
@@ -228,9 +235,10 @@ pub among-short : (done : List (List ℕ)) (part : List ℕ) (parts name : List 
 among-short done part parts name some listed =
     let found = among done part parts name some listed in
     let P : List (List ℕ) → Type 0 = λ n. IsName n in
-    let is_name = subst P found.is listed.is_name in
-    ((label_among done part found.more is_name.labels).short,
-    omega (arith, is_name.short, length-wire-append done (part ∷ found.more), length-append part (wire found.more), length-wire_is found.more))
+    let is_name = subst P found.is listed.is_name in (
+      (label_among done part found.more is_name.labels).short,
+      omega (arith, is_name.short, length-wire-append done (part ∷ found.more), length-append part (wire found.more), length-wire_is found.more),
+    )
 
 -- an empty part is the last one
 empty_dotted : (done : List (List ℕ)) (part : List ℕ) (parts name : List (List ℕ)) → AllByRecursion IsLabel name
@@ -263,10 +271,10 @@ octet_over text behind done begun len start c reading at long over parts name ha
     let some = some_part left.symbols in
     let part = (begun ++ c ∷ []) ++ some.part in
     let is : parts ≡ done ++ part ∷ some.more =
-      left.is ∙ ap (λ (p : List (List ℕ)). done ++ joined (begun ++ c ∷ []) p) some.is in
+    left.is ∙ ap (λ (p : List (List ℕ)). done ++ joined (begun ++ c ∷ []) p) some.is in
     let P : List (List ℕ) → Type 0 = λ p. IsListed p name in
     let size : length part ≡ length begun + 1 + length some.part =
-      length-append (begun ++ c ∷ []) some.part ∙ ap (λ (n : ℕ). n + length some.part) (length-append begun (c ∷ [])) in
+    length-append (begun ++ c ∷ []) some.part ∙ ap (λ (n : ℕ). n + length some.part) (length-append begun (c ∷ [])) in
     let short = among-short done part some.more name (omega arith) (subst P is listed) in
     omega (arith, short.0, short.1)
 
@@ -278,7 +286,7 @@ dot_empty text behind done [] reading none parts name has listed =
     let left = reading.back parts has in
     let some = some_part left.symbols in
     let is : parts ≡ done ++ [] ∷ some.part ∷ some.more =
-      left.is ∙ ap (λ (p : List (List ℕ)). (done ++ [] ∷ []) ++ joined [] p) some.is
-      ∙ append_assoc done ([] ∷ []) (some.part ∷ some.more) in
+    left.is ∙ ap (λ (p : List (List ℕ)). (done ++ [] ∷ []) ++ joined [] p) some.is
+    ∙ append_assoc done ([] ∷ []) (some.part ∷ some.more) in
     let P : List (List ℕ) → Type 0 = λ p. IsListed p name in
     empty_listed done some.part some.more name (subst P is listed)

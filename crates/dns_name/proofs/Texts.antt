@@ -11,6 +11,7 @@ use Rattle.dns_name.specs.Text.{IsRefused, IsFault}
 use Rattle.dns_name.specs.declared.text.Spelling.{Spelling}
 use Rattle.dns_name.specs.declared.text.FromStrError.{FromStrError}
 use Rattle.dns_name.specs.declared.text.FromStrError.TheVariants.{Presentation, ShortBuf}
+use Rattle.dns_name.proofs.Wire.{last_same}
 use Rattle.dns_name.proofs.Drafts.{draft-name, draft-some, draft-none, draft-wire, holds_one, draft-len}
 use Rattle.std.proofs.Common.{inl, inr}
 
@@ -32,18 +33,6 @@ pub record Whole (Spells : List ℕ → List (List ℕ) → Type 0) (text : List
   pub holds : Holds spelling done []
   pub spells : 0 < length done → IsName done → Spells text done
   pub only : (name : List (List ℕ)) → Spells text name → (0 < length name) × (name ≡ done)
-
-last_same : (a b : List (List ℕ)) (x y : List ℕ) → a ++ x ∷ [] ≡ b ++ y ∷ [] → (a ≡ b) × (x ≡ y)
-last_same [] [] x y same = let e : x ≡ y = cc in (refl, e)
-last_same [] (label ∷ b) x y same =
-    let e : b ++ y ∷ [] ≡ [] = cc in absurd (omega (arith, ap (length {A = List ℕ}) e, length-append b (y ∷ [])))
-last_same (label ∷ a) [] x y same =
-    let e : a ++ x ∷ [] ≡ [] = cc in absurd (omega (arith, ap (length {A = List ℕ}) e, length-append a (x ∷ [])))
-last_same (label ∷ a) (first ∷ b) x y same =
-    let e : label ≡ first = cc in
-    let f : a ++ x ∷ [] ≡ b ++ y ∷ [] = cc in
-    let both = last_same a b x y f in
-    (ap (λ l. l ∷ a) e ∙ ap (λ n. first ∷ n) both.0, both.1)
 
 last_label : (done : List (List ℕ)) (label : List ℕ) → AllByRecursion IsLabel (done ++ label ∷ []) → IsLabel label
 last_label [] label each = each.0

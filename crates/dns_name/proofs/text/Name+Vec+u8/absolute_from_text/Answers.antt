@@ -29,19 +29,19 @@ pub finish-requires : goal.finish-requires
 finish-requires c =
     let read = c.in_ok-spelling.ensures.ok in
     let whole = whole-absolute c.args.text.now c.in_ok-spelling.spelling (λ is. let bad = c.if-is_dot_alone.ensures.1 is in cc) read
-      (begun_none _ _ read (λ more. let bad = c.if-has_open_label.ensures.1 more in cc)) in
+    (begun_none _ _ read (λ more. let bad = c.if-has_open_label.ensures.1 more in cc)) in
     (whole.done, whole.holds)
 
 pub returns-clause-ok : goal.returns-clause-ok
 returns-clause-ok c =
     let read = c.in_ok-spelling.ensures.ok in
     let whole = whole-absolute c.args.text.now c.in_ok-spelling.spelling (λ is. let bad = c.if-is_dot_alone.ensures.1 is in cc) read
-      (begun_none _ _ read (λ more. let bad = c.if-has_open_label.ensures.1 more in cc)) in
+    (begun_none _ _ read (λ more. let bad = c.if-has_open_label.ensures.1 more in cc)) in
     whole-result _ _ _ c.finish.result whole c.finish.ensures.ok
 
 pub returns-clause-err : goal.returns-clause-err
 returns-clause-err c =
     let read = c.in_ok-spelling.ensures.ok in
     let whole = whole-absolute c.args.text.now c.in_ok-spelling.spelling (λ is. let bad = c.if-is_dot_alone.ensures.1 is in cc) read
-      (begun_none _ _ read (λ more. let bad = c.if-has_open_label.ensures.1 more in cc)) in
+    (begun_none _ _ read (λ more. let bad = c.if-has_open_label.ensures.1 more in cc)) in
     whole-err _ _ _ c.finish.result whole c.finish.ensures.err

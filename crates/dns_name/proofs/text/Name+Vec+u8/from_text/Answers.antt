@@ -25,14 +25,14 @@ joined c =
     let read = c.in_ok-spelling.ensures.ok in
     let no_dot : c.args.text.now ≡ 46 ∷ [] → ⊥ = λ is. let bad = c.if-is_dot_alone.ensures.1 is in cc in
     elim c.if-has_open_label.branch [
-      then-has_open_label+in_ok-end_label w ↦
-      rw w.spelling-is
-      (whole-open c.args.text.now c.in_ok-spelling.spelling _ no_dot read
-      (begun_some _ _ read (w.if-has_open_label.ensures.0 refl)) (w.in_ok-end_label.ensures.ok read.done read.begun read.holds))
-    | else-has_open_label w ↦
-      rw w.spelling-is
-      (whole-dotted c.args.text.now c.in_ok-spelling.spelling no_dot read
-      (begun_none _ _ read (λ more. let bad = w.if-has_open_label.ensures.1 more in cc)))
+      | then-has_open_label+in_ok-end_label w ↦
+          rw w.spelling-is
+          (whole-open c.args.text.now c.in_ok-spelling.spelling _ no_dot read
+          (begun_some _ _ read (w.if-has_open_label.ensures.0 refl)) (w.in_ok-end_label.ensures.ok read.done read.begun read.holds))
+      | else-has_open_label w ↦
+          rw w.spelling-is
+          (whole-dotted c.args.text.now c.in_ok-spelling.spelling no_dot read
+          (begun_none _ _ read (λ more. let bad = w.if-has_open_label.ensures.1 more in cc)))
     ]
 
 finished : (c : After-finish) → Whole IsNameText c.args.text.now c.if-has_open_label.spelling
@@ -40,14 +40,14 @@ finished c =
     let read = c.in_ok-spelling.ensures.ok in
     let no_dot : c.args.text.now ≡ 46 ∷ [] → ⊥ = λ is. let bad = c.if-is_dot_alone.ensures.1 is in cc in
     elim c.if-has_open_label.branch [
-      then-has_open_label+in_ok-end_label w ↦
-      rw w.spelling-is
-      (whole-open c.args.text.now c.in_ok-spelling.spelling _ no_dot read
-      (begun_some _ _ read (w.if-has_open_label.ensures.0 refl)) (w.in_ok-end_label.ensures.ok read.done read.begun read.holds))
-    | else-has_open_label w ↦
-      rw w.spelling-is
-      (whole-dotted c.args.text.now c.in_ok-spelling.spelling no_dot read
-      (begun_none _ _ read (λ more. let bad = w.if-has_open_label.ensures.1 more in cc)))
+      | then-has_open_label+in_ok-end_label w ↦
+          rw w.spelling-is
+          (whole-open c.args.text.now c.in_ok-spelling.spelling _ no_dot read
+          (begun_some _ _ read (w.if-has_open_label.ensures.0 refl)) (w.in_ok-end_label.ensures.ok read.done read.begun read.holds))
+      | else-has_open_label w ↦
+          rw w.spelling-is
+          (whole-dotted c.args.text.now c.in_ok-spelling.spelling no_dot read
+          (begun_none _ _ read (λ more. let bad = w.if-has_open_label.ensures.1 more in cc)))
     ]
 
 pub finish-requires : goal.finish-requires

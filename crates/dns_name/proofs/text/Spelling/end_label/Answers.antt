@@ -15,7 +15,7 @@ returns-clause-ok c = λ done begun holds.
     let size = draft-len c.args.self.now.octets c.args.self.now.len done begun (omega arith) holds.written in
     record {
       written = draft-end c.args.self.now.octets c.args.self.now.len c.args.self.now.start (c.args.self.now.len - c.args.self.now.start - 1) done begun
-        (omega arith) holds.written holds.place (omega arith) (length-set c.args.self.now.octets _ _);
+          (omega arith) holds.written holds.place (omega arith) (length-set c.args.self.now.octets _ _);
       place = omega (arith, length-labels_wire_more done begun);
       labels = labels_more done begun holds.labels (record { some = omega arith; short = omega arith });
     }

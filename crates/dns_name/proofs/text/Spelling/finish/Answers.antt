@@ -22,6 +22,8 @@ returns-clause-ok c =
     let holds = c.requires.1 in
     let is = holds_one s c.requires.0 c.of_wire.result holds (sym c.of_wire.ensures ∙ c.in_ok-octets.ensures.items) in
     let P : List (List ℕ) → Type 0 = λ n. IsName n × Holds s n [] × (0 < length n) in
-    subst P (sym is)
-    (draft-name s.octets s.len c.requires.0 (omega arith) few holds.written holds.labels, holds,
-    draft-some s.octets s.len c.requires.0 (omega arith) c.if-self-eq1.false holds.written)
+    subst P (sym is) (
+      draft-name s.octets s.len c.requires.0 (omega arith) few holds.written holds.labels,
+      holds,
+      draft-some s.octets s.len c.requires.0 (omega arith) c.if-self-eq1.false holds.written,
+    )

@@ -61,13 +61,19 @@ loop-rest-preserved-in_ok-push-in-Some-octet_of c =
     let at = c.loop-rest.invariant in
     let found = c.in-Some.ensures.found in
     let plain = c.in-Some-octet_of.ensures.octet in
-    let P : ℕ → Type 0 = λ o. Reading c.args.text.now c.in-Some.behind.now at.0 (at.1 ++ o ∷ []) in
-    (at.0, at.1 ++ c.in-Some-octet_of.octet ∷ [], c.in_ok-push-in-Some-octet_of.ensures.ok at.0 at.1 at.2,
-    subst P (sym plain.0) (reading-octet _ _ _ at.0 at.1 c.in-Some.symbol at.3 found.0 found.1 plain.1))
+    let P : ℕ → Type 0 = λ o. Reading c.args.text.now c.in-Some.behind.now at.0 (at.1 ++ o ∷ []) in (
+      at.0,
+      at.1 ++ c.in-Some-octet_of.octet ∷ [],
+      c.in_ok-push-in-Some-octet_of.ensures.ok at.0 at.1 at.2,
+      subst P (sym plain.0) (reading-octet _ _ _ at.0 at.1 c.in-Some.symbol at.3 found.0 found.1 plain.1),
+    )
 
 pub loop-rest-preserved : goal.loop-rest-preserved
 loop-rest-preserved c =
     let at = c.loop-rest.invariant in
-    let found = c.in-Some.ensures.found in
-    (at.0 ++ at.1 ∷ [], [], c.in_ok-end_label-in-None.ensures.ok at.0 at.1 at.2,
-    reading-dot _ _ _ at.0 at.1 c.in-Some.symbol at.3 found.0 found.1 c.in-None.ensures.dot)
+    let found = c.in-Some.ensures.found in (
+      at.0 ++ at.1 ∷ [],
+      [],
+      c.in_ok-end_label-in-None.ensures.ok at.0 at.1 at.2,
+      reading-dot _ _ _ at.0 at.1 c.in-Some.symbol at.3 found.0 found.1 c.in-None.ensures.dot,
+    )
