@@ -1,5 +1,6 @@
 pub mod Flat
 pub mod Parsed
+pub mod ParsedName
 pub mod Suffix
 pub mod Text
 pub mod Draft
