@@ -33,7 +33,7 @@ impl<Octs: Octets + Copy> Copy for ParsedName<Octs> {}
 
 impl<'a> ParsedName<&'a [u8]> {
     ghost use Rattle.dns_octets.specs.Parser.{octets_of, place_of};
-    ghost use Rattle.dns_name.specs.ParsedName.{labels_in};
+    ghost use Rattle.dns_name.specs.ParsedName.{labels_of};
 
     /// Reads the name at the parser's place, and leaves the parser behind it: behind its root, or behind its first
     /// pointer.
@@ -41,7 +41,7 @@ impl<'a> ParsedName<&'a [u8]> {
     /// A pointer has to be less than its own place, at most 255 of them are followed, and the name has at most 255
     /// octets. Refused where no such name stands, and the parser then stays where it is.
     pub fn parse(parser: &mut Parser<'a>) -> Result<Self, ParseError>
-        ensures ok { IfOk result (λ name. Reads (octets_of parser.old) (place_of parser.old) (labels_in (λ octets. octets.now) name) (place_of parser.new)) }
+        ensures ok { IfOk result (λ name. Reads (octets_of parser.old) (place_of parser.old) (labels_of name) (place_of parser.new)) }
         ensures err { OnErr result ((name : List (List ℕ)) (next : ℕ) → Reads (octets_of parser.old) (place_of parser.old) name next → ⊥) }
         ensures same { octets_of parser.new ≡ octets_of parser.old }
         ensures stays { OnErr result (parser.new ≡ parser.old) }
