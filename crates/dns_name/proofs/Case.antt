@@ -1,5 +1,5 @@
 -- Octets up to ASCII case.
-use Rattle.std.proofs.Common.{◌≡◌, ◌≢◌, ℕ, ◌+◌, ◌-◌, zero, suc, take, drop, ◌<◌, ◌≤◌, Bool, true, false, List, [], ◌∷◌, ◌++◌, length, map, refl, sym, ◌∙◌, ap, subst, arith, length-append}
+use Rattle.std.proofs.Common.{◌≡◌, ◌≢◌, ℕ, ◌+◌, ◌-◌, zero, suc, take, drop, ◌<◌, ◌≤◌, Bool, true, false, List, [], ◌∷◌, ◌++◌, length, map, refl, sym, ◌∙◌, ap, subst, arith, append_assoc, length-append}
 use Rattle.std.proofs.lemmas.List.{map-append, length-map, take-append-drop, drop-drop}
 use Rattle.std.proofs.Math.Seq.{drop-append_seam}
 use Rattle.std.specs.Prelude.{Option, Some, None}
@@ -13,9 +13,9 @@ use Rattle.std.specs.List.{AllByRecursion}
 use Rattle.std.specs.Char.{to_ascii_lowercase}
 use Rattle.std.specs.Cmp.Lexicographic.{pointwise}
 use lib.Pointwise.{pointwise_decides, bytes_decides}
-use Rattle.dns_label.specs.Name.{IsLabel, IsName, wire, low}
+use Rattle.dns_label.specs.Name.{IsLabel, IsName, wire, low, with_root}
 use Rattle.dns_name.proofs.Flat.{same_front}
-use Rattle.dns_name.proofs.Wire.{length-wire_is}
+use Rattle.dns_name.proofs.Wire.{length-wire_is, last_same}
 
 -- a label's length is no letter
 pub low_length : (n : ℕ) → n ≤ 63 → to_ascii_lowercase n ≡ n
@@ -26,9 +26,9 @@ pub low_wire : (name : List (List ℕ)) → AllByRecursion IsLabel name → map 
 low_wire [] each = refl
 low_wire (text ∷ name) each =
     let here : to_ascii_lowercase (length text) ≡ length (map to_ascii_lowercase text) =
-      low_length (length text) each.0.short ∙ sym (length-map text to_ascii_lowercase) in
+    low_length (length text) each.0.short ∙ sym (length-map text to_ascii_lowercase) in
     let more : map to_ascii_lowercase (text ++ wire name) ≡ map to_ascii_lowercase text ++ wire (low name) =
-      map-append to_ascii_lowercase text (wire name) ∙ ap (λ l. map to_ascii_lowercase text ++ l) (low_wire name each.1) in
+    map-append to_ascii_lowercase text (wire name) ∙ ap (λ l. map to_ascii_lowercase text ++ l) (low_wire name each.1) in
     ap (λ n. n ∷ map to_ascii_lowercase (text ++ wire name)) here ∙ ap (λ l. length (map to_ascii_lowercase text) ∷ l) more
 
 -- the wire form is of one name
@@ -102,7 +102,7 @@ pub ends_on : (labels rest end : List (List ℕ)) (count : ℕ) → rest ≡ dro
 ends_on labels rest end count is same = record {
   front = take count (low labels);
   whole_is = sym (take-append-drop count (low labels))
-    ∙ ap (λ l. take count (low labels) ++ l) (sym (drop_low count labels) ∙ sym (ap low is) ∙ same);
+      ∙ ap (λ l. take count (low labels) ++ l) (sym (drop_low count labels) ∙ sym (ap low is) ∙ same);
 }
 
 pub ends_back : (labels rest end : List (List ℕ)) (count : ℕ) → rest ≡ drop count labels → count + length end ≡ length labels
@@ -110,10 +110,28 @@ pub ends_back : (labels rest end : List (List ℕ)) (count : ℕ) → rest ≡ d
 ends_back labels rest end count is long ends =
     let l = ap (length {A = List ℕ}) ends.whole_is in
     let n : count ≡ length ends.front =
-      omega (arith, l, length-append ends.front (low end), length-map labels (map to_ascii_lowercase), length-map end (map to_ascii_lowercase)) in
+    omega (arith, l, length-append ends.front (low end), length-map labels (map to_ascii_lowercase), length-map end (map to_ascii_lowercase)) in
     ap low is ∙ drop_low count labels ∙ ap (λ (n : ℕ). drop n (low labels)) n ∙ ap (drop (length ends.front)) ends.whole_is
     ∙ drop-append_seam ends.front (low end)
 
 pub ends_short : (labels end : List (List ℕ)) → length labels < length end → EndsWith (low labels) (low end) → ⊥
 ends_short labels end short ends =
     omega (arith, ap (length {A = List ℕ}) ends.whole_is, length-append ends.front (low end), length-map labels (map to_ascii_lowercase), length-map end (map to_ascii_lowercase))
+
+low_rooted : (name : List (List ℕ)) → low (with_root name) ≡ low name ++ [] ∷ []
+low_rooted name = map-append (map to_ascii_lowercase) name ([] ∷ [])
+
+-- the root's label at both ends says nothing
+pub rooted_on : (name base : List (List ℕ)) → EndsWith (low (with_root name)) (low (with_root base)) → EndsWith (low name) (low base)
+rooted_on name base ends = record {
+  front = ends.front;
+  whole_is = (last_same (low name) (ends.front ++ low base) [] []
+      (sym (low_rooted name) ∙ ends.whole_is ∙ ap (λ l. ends.front ++ l) (low_rooted base) ∙ sym (append_assoc ends.front (low base) ([] ∷ [])))).0;
+}
+
+pub rooted_back : (name base : List (List ℕ)) → EndsWith (low name) (low base) → EndsWith (low (with_root name)) (low (with_root base))
+rooted_back name base ends = record {
+  front = ends.front;
+  whole_is = low_rooted name ∙ ap (λ l. l ++ [] ∷ []) ends.whole_is ∙ append_assoc ends.front (low base) ([] ∷ [])
+      ∙ ap (λ l. ends.front ++ l) (sym (low_rooted base));
+}

@@ -65,10 +65,10 @@ front_taken octets front behind taken place len name is here long got =
     let size = front_len octets front behind place len name is here long in
     let rest = behind ++ drop 255 (drop place octets) in
     let wired : taken ≡ wire name =
-      got ∙ ap (λ n. take n (drop place octets)) size ∙ ap (λ l. take (length (wire name)) l) whole ∙ take-append_seam (wire name) rest in
+    got ∙ ap (λ n. take n (drop place octets)) size ∙ ap (λ l. take (length (wire name)) l) whole ∙ take-append_seam (wire name) rest in
     let left : drop (place + len) octets ≡ rest =
-      ap (λ n. drop n octets) (omega arith) ∙ sym (drop-drop len place octets) ∙ ap (λ n. drop n (drop place octets)) size
-      ∙ ap (λ l. drop (length (wire name)) l) whole ∙ drop-append_seam (wire name) rest in
+    ap (λ n. drop n octets) (omega arith) ∙ sym (drop-drop len place octets) ∙ ap (λ n. drop n (drop place octets)) size
+    ∙ ap (λ l. drop (length (wire name)) l) whole ∙ drop-append_seam (wire name) rest in
     let found = flat-labels taken name is_name wired in
     let written = flat-written taken name is_name wired in
     record {

@@ -2,7 +2,6 @@
 use Rattle.std.proofs.Common.{◌≡◌, ℕ, ◌+◌, ◌-◌, ◌*◌, ◌<◌, ◌≤◌, zero, suc, List, [], ◌∷◌, ◌++◌, length, drop, refl, sym, ◌∙◌, ap, subst, arith, length-append}
 use Rattle.std.proofs.lemmas.List.{drop_all}
 use mathlib.Core.Logic.{∥∥₁_elim, ∥∥₁_map}
-
 use Rattle.std.specs.Coded.{Coded-set, coded_ℕ, coded_list}
 use Rattle.dns_label.specs.Name.{IsLabel, IsName, wire, with_root}
 use Rattle.dns_name.proofs.Wire.{few_labels, root_length}
@@ -85,7 +84,7 @@ read-led : (message : List ℕ) (place target : ℕ) → StartsWithPointer (drop
 read-led message place target at read =
     let led = spelled-pointer target read.reads.spelled at in
     let reads : Reads message target (labels_at message place) led.after =
-      record { spelled = more_by_one led.pointers_is led.spelled; is_name = read.reads.is_name } in
+    record { spelled = more_by_one led.pointers_is led.spelled; is_name = read.reads.is_name } in
     record {
       labels = sym (labels_at-reads reads);
       read = read_at message target led.after (labels_at message place) reads;
@@ -142,7 +141,7 @@ labels_from_merely (text ∷ name) there =
 pub read-name : (message : List ℕ) (place : ℕ) → ∥ IsReadAt message place ∥₁ → IsName (labels_at message place)
 read-name message place there =
     let short : 255 < length (wire (labels_at message place)) → ⊥ =
-      λ long. none_from_merely there (λ read. omega (arith, read.reads.is_name.short)) in
+    λ long. none_from_merely there (λ read. omega (arith, read.reads.is_name.short)) in
     record {
       labels = labels_from_merely (labels_at message place) (∥∥₁_map there (λ read. read.reads.is_name.labels));
       short = omega arith;

@@ -20,7 +20,7 @@ pub record Comes (message : List ℕ) (left place : ℕ) (front whole : List (Li
 pub record Walks (message : List ℕ) (start place len left : ℕ) (behind : Option ℕ) : Type 0 where
   pub front : List (List ℕ)
   pub on : (name : List (List ℕ)) (after : ℕ) → Spells message left place name after
-    → Spells message 255 start (front ++ name) (unwrap_or behind after)
+      → Spells message 255 start (front ++ name) (unwrap_or behind after)
   pub back : (whole : List (List ℕ)) (end : ℕ) → Spells message 255 start whole end → Comes message left place front whole
   pub long : length (labels_wire front) ≡ len
 
@@ -41,18 +41,18 @@ walks-label {message} {start} {place} {len} {left} {behind} text rest place' len
     subst P (sym is) (record {
       front = walks.front ++ text ∷ [];
       on = λ name after here.
-        let Q : List (List ℕ) → Type 0 = λ n. Spells message 255 start n (unwrap_or behind after) in
-        subst Q (sym (append_assoc walks.front (text ∷ []) name))
-        (walks.on (text ∷ name) after (label rest at.spelled (record { some = some; short = at.short }) here));
+          let Q : List (List ℕ) → Type 0 = λ n. Spells message 255 start n (unwrap_or behind after) in
+          subst Q (sym (append_assoc walks.front (text ∷ []) name))
+          (walks.on (text ∷ name) after (label rest at.spelled (record { some = some; short = at.short }) here));
       back = λ whole end here.
-        let comes = walks.back whole end here in
-        let more = spelled-label text rest comes.spelled at some in
-        record {
-          name = more.parent;
-          after = comes.after;
-          spelled = more.spelled;
-          whole_is = comes.whole_is ∙ ap (λ n. walks.front ++ n) more.whole_is ∙ sym (append_assoc walks.front (text ∷ []) more.parent);
-        };
+          let comes = walks.back whole end here in
+          let more = spelled-label text rest comes.spelled at some in
+          record {
+            name = more.parent;
+            after = comes.after;
+            spelled = more.spelled;
+            whole_is = comes.whole_is ∙ ap (λ n. walks.front ++ n) more.whole_is ∙ sym (append_assoc walks.front (text ∷ []) more.parent);
+          };
       long = omega (arith, walks.long, length-labels_wire_more walks.front text);
     })
 
@@ -62,16 +62,16 @@ pub walks-pointer : {message : List ℕ} {start place len left : ℕ} {behind : 
 walks-pointer {message} {start} {place} {len} {left} {behind} target left' walks at less more = record {
   front = walks.front;
   on = λ name after here.
-    let P : ℕ → Type 0 = λ n. Spells message left' n name after in
-    let Q : ℕ → Type 0 = λ n. Spells message n place name (place + 2) in
-    walks.on name (place + 2)
-    (subst Q (sym more) (pointer at.first at.second after at.rest at.spelled at.both_bits (omega (arith, at.is)) (subst P at.is here)));
+      let P : ℕ → Type 0 = λ n. Spells message left' n name after in
+      let Q : ℕ → Type 0 = λ n. Spells message n place name (place + 2) in
+      walks.on name (place + 2)
+      (subst Q (sym more) (pointer at.first at.second after at.rest at.spelled at.both_bits (omega (arith, at.is)) (subst P at.is here)));
   back = λ whole end here.
-    let comes = walks.back whole end here in
-    let led = spelled-pointer target comes.spelled at in
-    let same : led.left ≡ left' = omega (arith, led.pointers_is) in
-    let P : ℕ → Type 0 = λ n. Spells message n target comes.name led.after in
-    record { name = comes.name; after = led.after; spelled = subst P same led.spelled; whole_is = comes.whole_is };
+      let comes = walks.back whole end here in
+      let led = spelled-pointer target comes.spelled at in
+      let same : led.left ≡ left' = omega (arith, led.pointers_is) in
+      let P : ℕ → Type 0 = λ n. Spells message n target comes.name led.after in
+      record { name = comes.name; after = led.after; spelled = subst P same led.spelled; whole_is = comes.whole_is };
   long = walks.long;
 }
 

@@ -50,10 +50,23 @@ pub wire_step : (whole items pushed extended text : List ℕ) (labels rest : Lis
 wire_step whole items pushed extended text labels rest count is are push long extend =
     is ∙ ap (λ n. items ++ labels_wire n) are ∙ sym (append_assoc items (length text ∷ text) (labels_wire rest))
     ∙ ap (λ l. l ++ labels_wire rest)
-      (sym (append_assoc items (length text ∷ []) text) ∙ ap (λ (n : ℕ). (items ++ n ∷ []) ++ text) (sym long) ∙ ap (λ l. l ++ text) (sym push) ∙ sym extend)
+    (sym (append_assoc items (length text ∷ []) text) ∙ ap (λ (n : ℕ). (items ++ n ∷ []) ++ text) (sym long) ∙ ap (λ l. l ++ text) (sym push) ∙ sym extend)
 
 -- all labels are written
 pub wire_made : (items : List ℕ) (left name : List (List ℕ)) → labels_wire (with_root name) ≡ items ++ labels_wire left → left ≡ []
     → items ≡ wire name
 wire_made items left name is none =
     sym (append-nil items) ∙ sym (ap (λ n. items ++ labels_wire n) none) ∙ sym is ∙ labels_wire-with_root name
+
+-- two lists of labels with one more at the end
+pub last_same : (a b : List (List ℕ)) (x y : List ℕ) → a ++ x ∷ [] ≡ b ++ y ∷ [] → (a ≡ b) × (x ≡ y)
+last_same [] [] x y same = let e : x ≡ y = cc in (refl, e)
+last_same [] (label ∷ b) x y same =
+    let e : b ++ y ∷ [] ≡ [] = cc in absurd (omega (arith, ap (length {A = List ℕ}) e, length-append b (y ∷ [])))
+last_same (label ∷ a) [] x y same =
+    let e : a ++ x ∷ [] ≡ [] = cc in absurd (omega (arith, ap (length {A = List ℕ}) e, length-append a (x ∷ [])))
+last_same (label ∷ a) (first ∷ b) x y same =
+    let e : label ≡ first = cc in
+    let f : a ++ x ∷ [] ≡ b ++ y ∷ [] = cc in
+    let both = last_same a b x y f in
+    (ap (λ l. l ∷ a) e ∙ ap (λ n. first ∷ n) both.0, both.1)

@@ -131,8 +131,7 @@ fn flat_name_is_read_without_pointers(rt: HostRuntime) -> Result<(), Fail> {
 
 fn spelled(alloc: Global, text: &str, wire: &[u8]) -> Result<bool, FromStrError> {
     let name = Name::vec_from_str(alloc, text)?;
-    let again = Name::from_chars(alloc, text.chars())?;
-    Ok(name.as_slice() == wire && again.as_slice() == wire)
+    Ok(name.as_slice() == wire)
 }
 
 #[test]

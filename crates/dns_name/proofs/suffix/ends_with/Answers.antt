@@ -11,7 +11,8 @@ pub returns : goal.returns
 returns c =
     let at : c.loop.counter ≡ c.in-Some.extra = omega arith in
     let is : c.loop.labels ≡ drop c.in-Some.extra c.args.labels =
-      c.loop.invariant ∙ ap (λ (n : ℕ). drop n c.args.labels) at in
-    (λ yes. ends_on c.args.labels c.loop.labels c.args.end c.in-Some.extra is (c.same_labels.ensures.0 yes),
-    λ ends. c.same_labels.ensures.1
-    (ends_back c.args.labels c.loop.labels c.args.end c.in-Some.extra is (omega (arith, c.in-Some.ensures)) ends))
+    c.loop.invariant ∙ ap (λ (n : ℕ). drop n c.args.labels) at in (
+      λ yes. ends_on c.args.labels c.loop.labels c.args.end c.in-Some.extra is (c.same_labels.ensures.0 yes),
+      λ ends. c.same_labels.ensures.1
+          (ends_back c.args.labels c.loop.labels c.args.end c.in-Some.extra is (omega (arith, c.in-Some.ensures)) ends),
+    )

@@ -5,5 +5,5 @@ use Rattle.dns_name.proofs.suffix.same_labels.Given as goal
 abbrev pub invariant-loop-label : goal.invariant-loop-label
 invariant-loop-label l = record {
   on : low l.labels ≡ low l.others → low l.fn.labels ≡ low l.fn.others;
-  back : low l.fn.labels ≡ low l.fn.others → low l.labels ≡ low l.others
+  back : low l.fn.labels ≡ low l.fn.others → low l.labels ≡ low l.others;
 }

@@ -42,7 +42,7 @@ loop-label-preserved c =
     let is = c.from-target.ensures in
     record {
       walks = rw (c.from-target.ensures, c.unwrap_or.ensures)
-        (walks-pointer _ _ c.loop-label.invariant.walks (to_pointer _ c.in-Err-Pointer.ensures.err c.in-Err-Pointer.field-0-is) (omega arith) (omega arith));
+          (walks-pointer _ _ c.loop-label.invariant.walks (to_pointer _ c.in-Err-Pointer.ensures.err c.in-Err-Pointer.field-0-is) (omega arith) (omega arith));
       within = omega (arith, c.loop-label.invariant.within);
       few = c.loop-label.invariant.few;
     }
