@@ -11,7 +11,7 @@ use Rattle.dns_label.specs.declared.label.SplitLabelError.TheVariants.{Pointer, 
 use Rattle.dns_label.specs.declared.label.LabelTypeError.TheVariants.{Undefined, Extended}
 use Rattle.dns_label.specs.Labels.{labels_at}
 use Rattle.dns_label.proofs.Spelling.{labels_at-reads, spelled-written, spelled_end}
-use Rattle.dns_name.specs.Name.{IsWritten, StartsWithName}
+use Rattle.dns_name.specs.Flat.{IsWritten, StartsWithName}
 
 -- a name can be taken off the octets exactly where one can be taken off the rest, and what stays is the same
 pub record Leads (octets rest : List ℕ) : Type 0 where

@@ -7,6 +7,7 @@
 mod label_iter;
 mod name;
 mod parsed;
+mod parsed_iter;
 mod suffix;
 #[cfg(test)]
 mod tests;
@@ -19,6 +20,7 @@ pub use dns_octets::{FormError, Octets, ParseError, Parser, ShortInput};
 pub use dns_values::{Class, Rtype, Ttl};
 pub use label_iter::{LabelIter, ToLabelIter};
 pub use name::{Name, NameError, NameIter};
-pub use parsed::{ParsedName, ParsedNameIter};
+pub use parsed::ParsedName;
+pub use parsed_iter::ParsedNameIter;
 pub use text::{FromStrError, PresentationError};
 pub use to_name::ToName;

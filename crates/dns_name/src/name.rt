@@ -1,10 +1,11 @@
 //! Absolute names, flat in octets.
 ghost use Rattle.std.specs.Prelude.{◌≡◌, ◌+◌, ◌↔◌, List, ℕ, [], ◌++◌, length, take, IsTrue, IfOk, OnErr, OnOk, nat_eq, refl};
 ghost use Rattle.std.specs.Ordering.{on};
+ghost use Rattle.std.specs.Cmp.Lexicographic.{pointwise};
 ghost use Rattle.std.specs.Cmp.Rules.{comparing};
 ghost use Rattle.std.proofs.Common.{rules};
 ghost use Rattle.dns_label.specs.Name.{IsName, wire, with_root, low};
-ghost use Rattle.dns_name.specs.Name.{IsWritten, StartsWithName};
+ghost use Rattle.dns_name.specs.Flat.{IsWritten, StartsWithName};
 ghost use Rattle.dns_name.specs.Suffix.{EndsWith};
 ghost use Rattle.dns_label.specs.Labels.{labels_at};
 

@@ -1,17 +1,15 @@
 //! Names in messages, with pointers.
-ghost use Rattle.std.specs.Prelude.{◌≡◌, ◌≤◌, ◌+◌, ◌↔◌, List, ℕ, [], ◌∷◌, length, IsTrue, IfOk, OnErr};
+ghost use Rattle.std.specs.Prelude.{◌≡◌, ◌↔◌, List, ℕ, [], length, refl, IsTrue, IfOk, OnErr};
 ghost use Rattle.dns_label.specs.Name.{wire, with_root};
-ghost use Rattle.dns_label.specs.Label.{octets_of};
 ghost use Rattle.dns_label.specs.Spelled.{Reads};
 ghost use Rattle.dns_label.specs.Labels.{labels_at};
-ghost use Rattle.dns_name.specs.Parsed.{IsReadAt, IsLeft, labels_left};
+ghost use Rattle.dns_name.specs.Parsed.{IsReadAt};
 
 use crate::walk::walk_name;
-use crate::{Name, ToLabelIter, ToName};
-use dns_label::{Label, SplitLabelError};
+use crate::{Name, ParsedNameIter, ToLabelIter, ToName};
+use dns_label::Label;
 use dns_octets::{Octets, ParseError, Parser};
 use std::alloc::{AllocError, Global};
-use std::marker::Model;
 
 /// An absolute name at a place of a message, where pointers may stand for the ends of names (RFC 1035 4.1.4).
 ///
@@ -61,17 +59,23 @@ impl<'a> ParsedName<&'a [u8]> {
 
 impl<Octs: Octets> ParsedName<Octs> {
     /// Whether this is the root, which has no labels but its own.
-    pub fn is_root(&self) -> bool {
+    pub fn is_root(&self) -> bool
+        ensures { IsTrue result ↔ (labels_at (Octs.list self.now.octets) self.now.start ≡ []) }
+    {
         self.len == 1
     }
 
     /// How many labels there are, the root's counted.
-    pub fn label_count(&self) -> usize {
+    pub fn label_count(&self) -> usize
+        ensures { result ≡ length (with_root (labels_at (Octs.list self.now.octets) self.now.start)) }
+    {
         self.iter().count()
     }
 
     /// The labels from the left, the root's last.
-    pub fn iter(&self) -> ParsedNameIter<'_> {
+    pub fn iter(&self) -> ParsedNameIter<'_>
+        ensures { result ≡ with_root (labels_at (Octs.list self.now.octets) self.now.start) }
+    {
         ParsedNameIter::at(self.octets.octets(), self.start)
     }
 }
@@ -91,7 +95,7 @@ impl<Octs: Octets> ToLabelIter for ParsedName<Octs> {
 impl<Octs: Octets> ToName for ParsedName<Octs> {
     ghost name = { λ name. labels_at (Octs.list name.octets) name.start };
 
-    ghost is_absolute = { ? };
+    ghost is_absolute = { λ _. refl };
 
     fn to_vec(&self, alloc: Global) -> Result<Name<Vec<u8>>, AllocError> {
         let mut octets = Vec::with_capacity(alloc, usize::from(self.len))?;
@@ -100,74 +104,5 @@ impl<Octs: Octets> ToName for ParsedName<Octs> {
             octets.extend_from_slice(label.as_slice())?;
         }
         Ok(Name::of_wire(octets))
-    }
-}
-
-/// The labels of a name in a message, from the left, the root's last.
-#[derive(Debug, Drop)]
-pub struct ParsedNameIter<'a> {
-    octets: &'a [u8],
-    /// Where the next label stands, or None behind the root's.
-    place: Option<usize>,
-}
-
-impl<'a> Model for ParsedNameIter<'a> {
-    ghost Value = { List (List ℕ) };
-
-    ghost view = { λ it. labels_left it.octets.now it.place };
-
-    ghost invariant = { λ it. IsLeft it.octets.now it.place };
-}
-
-impl<'a> ParsedNameIter<'a> {
-    /// The labels of the name that is read at the place.
-    pub(crate) fn at(octets: &'a [u8], place: usize) -> Self
-        requires { ∥ IsReadAt octets.now place ∥₁ }
-        ensures { result ≡ with_root (labels_at octets.now place) }
-    {
-        ParsedNameIter {
-            octets,
-            place: Some(place),
-        }
-    }
-
-    /// The label with this number, counted from 0.
-    pub(crate) fn label(mut self, index: usize) -> Option<Label<'a>> {
-        self.nth(index)
-    }
-}
-
-impl<'a> Iterator for ParsedNameIter<'a> {
-    ghost use Rattle.std.specs.Iterator.{YieldsFirstBy, item_count};
-
-    type Item = Label<'a>;
-
-    ghost next_gives = { YieldsFirstBy octets_of (λ labels. labels) };
-
-    ghost remaining = { item_count (λ labels. labels) };
-
-    fn next(&mut self) -> Option<Label<'a>> {
-        let (label, place) = split_label(self.octets, self.place?);
-        self.place = place;
-        Some(label)
-    }
-}
-
-/// The label at the place, pointers followed, and where the next one stands: None behind the root's.
-fn split_label(octets: &[u8], start: usize) -> (Label<'_>, Option<usize>)
-    requires { ∥ IsReadAt octets.now start ∥₁ }
-    ensures left { IsLeft octets.now result.1 }
-    ensures labels { with_root (labels_at octets.now start) ≡ octets_of result.0 ∷ labels_left octets.now result.1 }
-{
-    let mut place = start;
-    loop {
-        match Label::split_from(&octets[place..]) {
-            Ok((label, _)) => {
-                let next = place + 1 + label.len();
-                return (label, if label.is_root() { None } else { Some(next) });
-            }
-            Err(SplitLabelError::Pointer(target)) => place = usize::from(target),
-            Err(_) => unreachable!(),
-        }
     }
 }

@@ -14,8 +14,8 @@ pub fn ends_with(
     end: ParsedNameIter<'_>,
     end_count: usize,
 ) -> bool
-    requires count { count ≡ length labels.entry }
-    requires end_count { end_count ≡ length end.entry }
+    requires count { count ≡ length labels }
+    requires end_count { end_count ≡ length end }
     ensures { IsTrue result ↔ EndsWith (low labels.entry) (low end.entry) }
 {
     let mut labels = labels;

@@ -1,7 +1,9 @@
 //! The walk over the heads of a name in a message (RFC 1035 4.1.4).
-ghost use Rattle.std.specs.Prelude.{◌≡◌, ◌≤◌, ◌+◌, List, ℕ, length, IfOk, OnErr};
+ghost use Rattle.std.specs.Prelude.{◌≡◌, ◌≤◌, ◌+◌, List, ℕ, length, drop, IfOk, IfErr, OnErr};
+ghost use Rattle.dns_label.specs.Label.{octets_of};
 ghost use Rattle.dns_label.specs.Name.{wire};
 ghost use Rattle.dns_label.specs.Spelled.{Reads};
+ghost use Rattle.dns_label.specs.Split.{NoLabel, StartsWithLabel};
 
 use dns_label::{Label, SplitLabelError};
 use dns_octets::ParseError;
@@ -26,7 +28,7 @@ pub fn walk_name(octets: &[u8], start: usize) -> Result<Walk, ParseError>
     let mut left = 255u8;
     let mut behind = None;
     loop {
-        match Label::split_from(&octets[place..]) {
+        match label_at(octets, place) {
             Ok((label, _)) => {
                 let count = label.len() as u16 + 1;
                 if len + count > 255 {
@@ -57,4 +59,13 @@ pub fn walk_name(octets: &[u8], start: usize) -> Result<Walk, ParseError>
             Err(SplitLabelError::ShortInput) => return Err(ParseError::ShortInput),
         }
     }
+}
+
+/// The label at a place, and the octets behind it. Refused where none stands there.
+pub fn label_at(octets: &[u8], place: usize) -> Result<(Label<'_>, &[u8]), SplitLabelError>
+    requires { place ≤ length octets.now }
+    ensures ok { IfOk result (λ found. StartsWithLabel (drop place octets.now) (octets_of found.0) found.1.now) }
+    ensures err { IfErr result (NoLabel (drop place octets.now)) }
+{
+    Label::split_from(&octets[place..])
 }
