@@ -2,3 +2,9 @@ pub mod Splits
 pub mod Cuttings
 pub mod Greedy
 pub mod Tried
+pub mod Plain
+pub mod Framing
+pub mod WrittenAnswers
+pub mod LastRecord
+pub mod SentTransfers
+pub mod TriedTransfer
