@@ -157,3 +157,12 @@ pub short-spells_none : {message : List ℕ} {place : ℕ} {error : SplitLabelEr
     → {pointers end : ℕ} {whole : List (List ℕ)} → Spells message pointers place whole end → ⊥
 short-spells_none {message} {place} none is spelled =
     let P : SplitLabelError → Type 0 = λ e. NoLabel (drop place message) e in spelled-short (subst P is none) spelled
+
+-- what is spelled ends within the message
+pub spelled-within : {message : List ℕ} {pointers place end : ℕ} {whole : List (List ℕ)} → Spells message pointers place whole end
+    → end ≤ length message
+spelled-within {message} {place = place} (root rest at) =
+    omega (arith, ap (length {A = ℕ}) at, length-drop place message)
+spelled-within (label rest at is_label parent) = spelled-within parent
+spelled-within {message} {place = place} (pointer first second after rest at both back name) =
+    omega (arith, ap (length {A = ℕ}) at, length-drop place message)

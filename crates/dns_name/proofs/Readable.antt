@@ -4,7 +4,8 @@ use Rattle.std.proofs.lemmas.List.{drop_all}
 use mathlib.Core.Logic.{∥∥₁_elim, ∥∥₁_map}
 
 use Rattle.std.specs.Coded.{Coded-set, coded_ℕ, coded_list}
-use Rattle.dns_label.specs.Name.{IsLabel, IsName, wire}
+use Rattle.dns_label.specs.Name.{IsLabel, IsName, wire, with_root}
+use Rattle.dns_name.proofs.Wire.{few_labels, root_length}
 use Rattle.dns_label.specs.Spelled.{Spells, Reads}
 use Rattle.dns_label.specs.Labels.{labels_at}
 use Rattle.dns_label.specs.Split.{StartsWithLabel, StartsWithPointer, NoLabel}
@@ -109,3 +110,22 @@ read-within message place there out =
     let none : drop place message ≡ [] = drop_all place message (omega arith) in
     none_from_merely there (λ read. spelled-not read.reads.spelled
     (λ text rest at. let is = at.spelled in cc) (λ target at. let is = at.spelled in cc))
+
+pub read-few : (message : List ℕ) (place : ℕ) → ∥ IsReadAt message place ∥₁
+    → (128 < length (with_root (labels_at message place)) → ⊥)
+read-few message place there many =
+    none_from_merely there (λ read. let few = few_labels (labels_at message place) read.reads.is_name in omega arith)
+
+pub read-root : (message : List ℕ) (place : ℕ) → ∥ IsReadAt message place ∥₁ → length (wire (labels_at message place)) ≡ 1
+    → labels_at message place ≡ []
+read-root message place there one = from_merely there (λ read. root_length (labels_at message place) read.reads.is_name one)
+
+-- the same reading, of what the parser has
+pub parsed_ok : {octets whole : List ℕ} {place pos next end : ℕ} {name : List (List ℕ)} → octets ≡ whole → place ≡ pos → end ≡ next
+    → Reads octets place name next → Reads whole pos (labels_at octets place) end
+parsed_ok {octets} {whole} {place} {pos} {next} {end} same here there reads =
+    let P : List ℕ → Type 0 = λ o. Reads o pos (labels_at octets place) end in
+    let Q : ℕ → Type 0 = λ p. Reads octets p (labels_at octets place) end in
+    let R : ℕ → Type 0 = λ n. Reads octets place (labels_at octets place) n in
+    let S : List (List ℕ) → Type 0 = λ n. Reads octets place n next in
+    subst P same (subst Q here (subst R (sym there) (subst S (sym (labels_at-reads reads)) reads)))

@@ -37,3 +37,8 @@ length-labels_wire_more front text =
 pub root_length : (name : List (List ℕ)) → IsName name → length (wire name) ≡ 1 → name ≡ []
 root_length [] is_name one = refl
 root_length (text ∷ name) is_name one = absurd (omega (arith, length-wire (text ∷ name) is_name.labels))
+
+-- a name has at most 127 labels, and the root's
+pub few_labels : (name : List (List ℕ)) → IsName name → length (with_root name) ≤ 128
+few_labels name is_name =
+    omega (arith, length-wire name is_name.labels, is_name.short, length-append name ([] ∷ []))

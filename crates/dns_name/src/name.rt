@@ -1,13 +1,14 @@
 //! Absolute names, flat in octets.
-ghost use Rattle.std.specs.Prelude.{◌≡◌, ◌+◌, ◌↔◌, List, ℕ, [], ◌++◌, length, take, IsTrue, IfOk, OnErr, OnOk, nat_eq, refl};
+ghost use Rattle.std.specs.Prelude.{◌≡◌, ◌≤◌, ◌↔◌, List, ℕ, [], ◌++◌, length, take, IsTrue, IfOk, OnErr, OnOk, nat_eq, refl};
 ghost use Rattle.std.specs.Ordering.{on};
-ghost use Rattle.std.specs.Cmp.Lexicographic.{pointwise};
+ghost use Rattle.std.specs.Cmp.Lexicographic.{pointwise, nat_list_eq_equiv};
 ghost use Rattle.std.specs.Cmp.Rules.{comparing};
 ghost use Rattle.std.proofs.Common.{rules};
 ghost use Rattle.dns_label.specs.Name.{IsName, wire, with_root, low};
 ghost use Rattle.dns_name.specs.Flat.{IsWritten, StartsWithName};
 ghost use Rattle.dns_name.specs.Suffix.{EndsWith};
 ghost use Rattle.dns_label.specs.Labels.{labels_at};
+ghost use Rattle.dns_octets.specs.Parser.{GoesOn, rest_of};
 
 use crate::suffix::ends_with;
 use crate::{ParsedNameIter, ToLabelIter, ToName};
@@ -124,7 +125,8 @@ impl<Octs: Octets> Name<Octs> {
 
     /// The labels from the left, the root's last.
     pub fn iter(&self) -> NameIter<'_>
-        ensures { result ≡ with_root self.now }
+        ensures labels { result ≡ with_root self.now }
+        ensures few { length result ≤ 128 }
     {
         NameIter(ParsedNameIter::at(self.as_slice(), 0))
     }
@@ -143,8 +145,6 @@ impl<Octs: Octets> Name<Octs> {
 }
 
 impl<'a> Name<&'a [u8]> {
-    ghost use Rattle.dns_octets.specs.Parser.{octets_of, place_of, rest_of};
-
     /// The name that the octets are. Refused where they are no name, uncompressed and whole.
     pub fn from_slice(octets: &'a [u8]) -> Result<Self, NameError>
         ensures ok { IfOk result (λ name. IsName name × (octets.now ≡ wire name)) }
@@ -157,16 +157,28 @@ impl<'a> Name<&'a [u8]> {
     ///
     /// Refused where no such name of at most 255 octets stands, and the parser then stays where it is.
     pub fn parse(parser: &mut Parser<'a>) -> Result<Self, ParseError>
-        ensures ok { IfOk result (λ name. IsName name × (wire name ≡ take (length (wire name)) (rest_of parser.old)) × (place_of parser.new ≡ place_of parser.old + length (wire name))) }
+        ensures ok { IfOk result (λ name. IsName name × (rest_of parser.old ≡ wire name ++ rest_of parser.new)) }
+        ensures place { IfOk result (λ name. GoesOn parser.old parser.new (length (wire name))) }
         ensures err { OnErr result ((name : List (List ℕ)) (rest : List ℕ) → IsName name → rest_of parser.old ≡ wire name ++ rest → ⊥) }
-        ensures same { octets_of parser.new ≡ octets_of parser.old }
         ensures stays { OnErr result (parser.new ≡ parser.old) }
     {
-        let rest = parser.peek(parser.remaining())?;
-        let front = &rest[..rest.len().min(255)];
-        let behind = behind_root(front).map_err(form_error)?;
+        let front = next_255(parser);
+        let behind = match behind_root(front) {
+            Ok(behind) => behind,
+            Err(error) => return Err(form_error(error)),
+        };
         let octets = parser.parse_octets(front.len() - behind.len())?;
         Ok(Name { octets })
+    }
+}
+
+/// The next 255 octets, or as many as are left.
+fn next_255<'a>(parser: &Parser<'a>) -> &'a [u8]
+    ensures { result.now ≡ take 255 (rest_of parser.now) }
+{
+    match parser.peek(255) {
+        Ok(front) => front,
+        Err(_) => &parser.as_slice()[parser.pos()..],
     }
 }
 

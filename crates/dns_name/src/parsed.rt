@@ -1,5 +1,5 @@
 //! Names in messages, with pointers.
-ghost use Rattle.std.specs.Prelude.{◌≡◌, ◌↔◌, List, ℕ, [], length, refl, IsTrue, IfOk, OnErr};
+ghost use Rattle.std.specs.Prelude.{◌≡◌, ◌≤◌, ◌↔◌, List, ℕ, [], length, refl, IsTrue, IfOk, OnErr};
 ghost use Rattle.dns_label.specs.Name.{wire, with_root};
 ghost use Rattle.dns_label.specs.Spelled.{Reads};
 ghost use Rattle.dns_label.specs.Labels.{labels_at};
@@ -74,7 +74,8 @@ impl<Octs: Octets> ParsedName<Octs> {
 
     /// The labels from the left, the root's last.
     pub fn iter(&self) -> ParsedNameIter<'_>
-        ensures { result ≡ with_root (labels_at (Octs.list self.now.octets) self.now.start) }
+        ensures labels { result ≡ with_root (labels_at (Octs.list self.now.octets) self.now.start) }
+        ensures few { length result ≤ 128 }
     {
         ParsedNameIter::at(self.octets.octets(), self.start)
     }
