@@ -8,3 +8,4 @@ pub mod WrittenAnswers
 pub mod LastRecord
 pub mod SentTransfers
 pub mod TriedTransfer
+pub mod Questions

@@ -3,6 +3,7 @@ pub mod Cutting
 pub mod Zone
 pub mod ZoneText
 pub mod Query
+pub mod Asked
 pub mod Frames
 pub mod Transfer
 pub mod Sent
