@@ -9,3 +9,5 @@ pub mod LastRecord
 pub mod SentTransfers
 pub mod TriedTransfer
 pub mod Questions
+pub mod Patched
+pub mod Placing

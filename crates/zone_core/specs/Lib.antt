@@ -7,6 +7,8 @@ pub mod Asked
 pub mod Frames
 pub mod Transfer
 pub mod Sent
+pub mod Owned
+pub mod Sending
 pub mod View
 pub mod Records
 pub mod Tried
