@@ -9,3 +9,8 @@ pub mod LastRecord
 pub mod SentTransfers
 pub mod TriedTransfer
 pub mod OneTransfer
+pub mod Questions
+pub mod Patched
+pub mod Placing
+pub mod ReadEntries
+pub mod ReadZones

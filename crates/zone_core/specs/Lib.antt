@@ -3,9 +3,15 @@ pub mod Cutting
 pub mod Zone
 pub mod ZoneText
 pub mod Query
+pub mod Asked
 pub mod Frames
 pub mod Transfer
 pub mod Sent
+pub mod Owned
+pub mod Sending
 pub mod Records
 pub mod View
+pub mod Rules
+pub mod Reading
+pub mod ZoneRecord
 pub mod Tried

@@ -1,12 +1,14 @@
 //! Queries for a zone's transfer.
 ghost use Rattle.std.specs.Prelude.{◌≡◌, ◌+◌, ◌≤◌, ◌↔◌, ℕ, length, IsTrue, IfOk, IfErr, OnErr};
-ghost use Rattle.dns_octets.specs.Parser.{octets_of, place_of};
+ghost use Rattle.dns_label.specs.Labels.{labels_at};
 ghost use Rattle.dns_message.specs.Header as header;
+ghost use Rattle.dns_message.specs.Question as spec;
 ghost use Rattle.dns_message.specs.Question.{ReadsQuestion};
+ghost use Rattle.zone_core.specs.Asked.{asked_by, question_by};
 ghost use Rattle.zone_core.specs.Query.{AsksOne, IsQuery, IsQueryFault};
 
 use crate::query_error::QueryError;
-use dns_name::{Class, ParsedName, Parser, Rtype};
+use dns_name::{Class, ParseError, ParsedName, Parser, Rtype};
 
 /// A query for the transfer of a zone (RFC 5936 2.1), as far as it counts.
 #[derive(Debug, Drop)]
@@ -27,22 +29,30 @@ struct Question<'a> {
 
 impl<'a> Query<'a> {
     /// The number that the answer repeats.
-    pub fn id(&self) -> u16 {
+    pub fn id(&self) -> u16
+        ensures { result ≡ (asked_by self.now).id }
+    {
         self.id
     }
 
     /// Whether recursion is desired (RD), which the answer repeats.
-    pub fn rd(&self) -> bool {
+    pub fn rd(&self) -> bool
+        ensures { result ≡ (asked_by self.now).recursion }
+    {
         self.rd
     }
 
     /// The name of the zone that is asked for.
-    pub fn name(&self) -> ParsedName<&'a [u8]> {
+    pub fn name(&self) -> ParsedName<&'a [u8]>
+        ensures { labels_at result.octets.now result.start ≡ (asked_by self.now).name }
+    {
         self.name
     }
 
     /// The class of the zone that is asked for.
-    pub fn class(&self) -> Class {
+    pub fn class(&self) -> Class
+        ensures { result ≡ (asked_by self.now).class }
+    {
         self.class
     }
 }
@@ -50,7 +60,10 @@ impl<'a> Query<'a> {
 /// Reads a query for a zone's transfer, and refuses other octets by the first rule that they break.
 ///
 /// All bits of the header that no rule names are ignored.
-pub fn check_query(octets: &[u8]) -> Result<Query<'_>, QueryError> {
+pub fn check_query(octets: &[u8]) -> Result<Query<'_>, QueryError>
+    ensures ok { IfOk result (λ query. IsQuery octets.now (asked_by query)) }
+    ensures err { IfErr result (IsQueryFault octets.now) }
+{
     if octets.len() < 12 {
         return Err(QueryError::Short);
     }
@@ -63,7 +76,7 @@ pub fn check_query(octets: &[u8]) -> Result<Query<'_>, QueryError> {
     if !asks_one(octets) {
         return Err(QueryError::Counts);
     }
-    let Some((question, end)) = read_question(octets) else {
+    let Ok((question, end)) = read_question(octets) else {
         return Err(QueryError::Malformed);
     };
     if question.qtype != Rtype::AXFR {
@@ -104,20 +117,20 @@ fn asks_one(octets: &[u8]) -> bool
 }
 
 /// The question behind a header, and the place behind it.
-fn read_question(octets: &[u8]) -> Option<(Question<'_>, usize)>
+fn read_question(octets: &[u8]) -> Result<(Question<'_>, usize), ParseError>
     requires { 12 ≤ length octets.now }
+    ensures ok { IfOk result (λ found. ReadsQuestion octets.now 12 (question_by found.0) found.1) }
+    ensures err { OnErr result ((q : spec.Question) (next : ℕ) → ReadsQuestion octets.now 12 q next → ⊥) }
 {
     let mut parser = Parser::from_ref(octets);
-    parser.seek(12).ok()?;
-    let Ok(name) = ParsedName::parse(&mut parser) else {
-        return None;
-    };
-    let qtype = Rtype::parse(&mut parser).ok()?;
-    let qclass = Class::parse(&mut parser).ok()?;
+    parser.seek(12)?;
+    let name = ParsedName::parse(&mut parser)?;
+    let qtype = Rtype::from_int(parser.parse_u16_be()?);
+    let qclass = Class::from_int(parser.parse_u16_be()?);
     let question = Question {
         name,
         qtype,
         qclass,
     };
-    Some((question, parser.pos()))
+    Ok((question, parser.pos()))
 }

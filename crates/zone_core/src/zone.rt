@@ -1,15 +1,38 @@
 //! A zone: its records, in order.
+ghost use Rattle.std.specs.Prelude.{◌≡◌, ◌≢◌, ◌<◌, ◌^◌, ◌++◌, ◌∷◌, [], ◌+◌, List, ℕ, length, map, IfOk, IfErr, OnOk, IfSome, IfNone};
+ghost use Rattle.zone_core.specs.Records.{AreRecordsOf, apex_of};
+ghost use Rattle.zone_core.specs.Zone.{IsZoneFront, any_class};
+ghost use Rattle.zone_core.specs.ZoneText.{Entries, IsZoneText, IsZoneFault};
+ghost use Rattle.zone_core.specs.Entry.{EndsBehindRows};
+ghost use Rattle.zone_core.specs.Owned.{record_of};
+ghost use Rattle.zone_core.specs.Rules.{BreaksRule};
+ghost use Rattle.zone_core.specs.Reading.{IsWhole, StopsReading};
+
 use crate::record::Record;
 use crate::text::entry::{EntryError, next_record};
 use crate::zone_error::ZoneError;
 use dns_name::{Class, Name, Rtype, Ttl};
 use std::alloc::Global;
+use std::marker::Model;
 
 /// A zone: one SOA record, and then the others of its class, all at or under the SOA's owner (RFC 1035 5.2).
 #[derive(Debug, Drop)]
 pub struct Zone {
     records: Vec<Record>,
     class: Class,
+}
+
+impl Model for Zone {
+    ghost use Rattle.std.specs.Prelude.{map};
+    ghost use Rattle.zone_core.specs.View.{Contents};
+    ghost use Rattle.zone_core.specs.Owned.{record_of};
+    ghost use Rattle.zone_core.specs.Records.{AreRecordsOf};
+
+    ghost Value = { Contents };
+
+    ghost view = { λ zone. record { records = map (record_of zone.class) zone.records.items; class = zone.class } };
+
+    ghost invariant = { λ zone. AreRecordsOf zone.class (map (record_of zone.class) zone.records.items) };
 }
 
 impl Zone {
@@ -23,7 +46,11 @@ impl Zone {
         text: &[u8],
         _origin: Option<&Name<&[u8]>>,
         class: Class,
-    ) -> Result<Zone, ZoneError> {
+    ) -> Result<Zone, ZoneError>
+        ensures ok { IfOk result (λ zone. IsZoneText text.now class zone.records) }
+        ensures class_is { IfOk result (λ zone. zone.class ≡ class) }
+        ensures err { IfErr result (IsZoneFault text.now class) }
+    {
         if class.to_int() == 255 {
             return Err(ZoneError::ClassAny);
         }
@@ -35,7 +62,9 @@ impl Zone {
     }
 
     /// The records in order; the SOA is the first of them.
-    pub fn records(&self) -> ZoneRecords<'_> {
+    pub fn records(&self) -> ZoneRecords<'_>
+        ensures { result ≡ self.now.records }
+    {
         ZoneRecords {
             rest: self.records.as_slice(),
             class: self.class,
@@ -43,31 +72,53 @@ impl Zone {
     }
 
     /// The zone's name: the owner of its SOA.
-    pub fn apex(&self) -> Name<&[u8]> {
+    pub fn apex(&self) -> Name<&[u8]>
+        ensures { result ≡ apex_of self.now.records }
+    {
         self.records[0].owner.for_ref()
     }
 
     /// The class of all the records.
-    pub fn class(&self) -> Class {
+    pub fn class(&self) -> Class
+        ensures { result ≡ self.now.class }
+    {
         self.class
     }
 
     /// The records as the zone owns them.
-    pub(crate) fn owned_records(&self) -> &[Record] {
+    pub(crate) fn owned_records(&self) -> &[Record]
+        ensures records { map (record_of self.now.class) result.now ≡ self.now.records }
+        ensures lawful { AreRecordsOf self.now.class self.now.records }
+    {
         self.records.as_slice()
     }
 }
 
 /// The records of a text, as far as a zone's rules hold.
-fn read_records(alloc: Global, text: &[u8], class: Class) -> Result<Vec<Record>, ZoneError> {
+fn read_records(alloc: Global, text: &[u8], class: Class) -> Result<Vec<Record>, ZoneError>
+    requires known { class ≢ any_class }
+    requires fits { class < 2 ^ 16 }
+    ensures ok { IfOk result (λ records. IsWhole class text.now (map (record_of class) records.items)) }
+    ensures err { IfErr result (IsZoneFault text.now class) }
+{
     let mut records = Vec::new(alloc);
     let mut rest = text;
     while let Some((record, behind)) = read_next(alloc, rest, class, records.len())? {
         check_rules(records.as_slice(), &record)?;
-        records.push(record).map_err(|_| ZoneError::OutOfMemory)?;
+        push_record(&mut records, record)?;
         rest = behind;
     }
     Ok(records)
+}
+
+fn push_record(records: &mut Vec<Record>, next: Record) -> Result<(), ZoneError>
+    ensures ok { OnOk result (records.new.items ≡ records.old.items ++ next ∷ []) }
+    ensures err { IfErr result (λ error. error ≡ ZoneError.OutOfMemory) }
+{
+    match records.push(next) {
+        Ok(()) => Ok(()),
+        Err(_) => Err(ZoneError::OutOfMemory),
+    }
 }
 
 /// The next record behind so many, and the text behind it.
@@ -76,7 +127,12 @@ fn read_next(
     text: &[u8],
     class: Class,
     count: usize,
-) -> Result<Option<(Record, &[u8])>, ZoneError> {
+) -> Result<Option<(Record, &[u8])>, ZoneError>
+    requires { count + 1 < 2 ^ 64 }
+    ensures found { IfOk result (λ next. IfSome next (λ found. Entries class text.now (record_of class found.0 ∷ []) found.1.now)) }
+    ensures end { IfOk result (λ next. IfNone next (EndsBehindRows class text.now)) }
+    ensures err { IfErr result (StopsReading class text.now (count + 1)) }
+{
     match next_record(alloc, text, class) {
         Ok(found) => Ok(found),
         Err(EntryError::Text) => Err(ZoneError::Text(count + 1)),
@@ -85,13 +141,17 @@ fn read_next(
 }
 
 /// Refuses a record that may not stand behind these of the zone.
-fn check_rules(front: &[Record], record: &Record) -> Result<(), ZoneError> {
+fn check_rules(front: &[Record], next: &Record) -> Result<(), ZoneError>
+    ensures ok { OnOk result ((class : ℕ) → IsZoneFront (map (record_of class) front.now)
+        → IsZoneFront (map (record_of class) front.now ++ record_of class next.now ∷ [])) }
+    ensures err { IfErr result (λ error. (class : ℕ) → BreaksRule (map (record_of class) front.now) (record_of class next.now) error) }
+{
     let number = front.len() + 1;
     match front.first() {
-        None if record.rtype == Rtype::SOA => Ok(()),
+        None if next.rtype == Rtype::SOA => Ok(()),
         None => Err(ZoneError::FirstNotSoa(number)),
-        Some(_) if record.rtype == Rtype::SOA => Err(ZoneError::SecondSoa(number)),
-        Some(soa) if record.owner.ends_with(&soa.owner) => Ok(()),
+        Some(_) if next.rtype == Rtype::SOA => Err(ZoneError::SecondSoa(number)),
+        Some(soa) if next.owner.ends_with(&soa.owner) => Ok(()),
         Some(_) => Err(ZoneError::OutOfZone(number)),
     }
 }
@@ -103,8 +163,25 @@ pub struct ZoneRecords<'a> {
     class: Class,
 }
 
+impl<'a> Model for ZoneRecords<'a> {
+    ghost use Rattle.std.specs.Prelude.{List, map};
+    ghost use Rattle.zone_core.specs.Record as spec;
+    ghost use Rattle.zone_core.specs.Owned.{record_of};
+
+    ghost Value = { List spec.Record };
+
+    ghost view = { λ records. map (record_of records.class) records.rest.now };
+}
+
 impl<'a> Iterator for ZoneRecords<'a> {
+    ghost use Rattle.std.specs.Iterator.{YieldsFirstBy, item_count};
+    ghost use Rattle.zone_core.specs.ZoneRecord.{record_in};
+
     type Item = ZoneRecord<'a>;
+
+    ghost next_gives = { YieldsFirstBy record_in (λ records. records) };
+
+    ghost remaining = { item_count (λ records. records) };
 
     fn next(&mut self) -> Option<ZoneRecord<'a>> {
         let (record, rest) = self.rest.split_first()?;
@@ -124,28 +201,40 @@ pub struct ZoneRecord<'a> {
 }
 
 impl<'a> ZoneRecord<'a> {
+    ghost use Rattle.zone_core.specs.ZoneRecord.{record_in};
+
     /// The name that the record is about.
-    pub fn owner(&self) -> Name<&'a [u8]> {
+    pub fn owner(&self) -> Name<&'a [u8]>
+        ensures { result ≡ (record_in self.now).owner }
+    {
         self.record.owner.for_ref()
     }
 
     /// The type of the data.
-    pub fn rtype(&self) -> Rtype {
+    pub fn rtype(&self) -> Rtype
+        ensures { result ≡ (record_in self.now).rtype }
+    {
         self.record.rtype
     }
 
     /// The class, which is the zone's.
-    pub fn class(&self) -> Class {
+    pub fn class(&self) -> Class
+        ensures { result ≡ (record_in self.now).class }
+    {
         self.class
     }
 
     /// For how many seconds the record may be kept.
-    pub fn ttl(&self) -> Ttl {
+    pub fn ttl(&self) -> Ttl
+        ensures { result ≡ (record_in self.now).ttl }
+    {
         self.record.ttl
     }
 
     /// The data as octets, with every name written out.
-    pub fn data(&self) -> &'a [u8] {
+    pub fn data(&self) -> &'a [u8]
+        ensures { result.now ≡ (record_in self.now).rdata }
+    {
         self.record.data.as_slice()
     }
 }

@@ -1,0 +1,24 @@
+-- What the program's queries ask.
+use Rattle.std.specs.Prelude.{ℕ, List}
+use Rattle.dns_label.specs.Labels.{labels_at}
+use Rattle.dns_message.specs.Question as spec
+use Rattle.zone_core.specs.Query.{AxfrQuery}
+use Rattle.zone_core.specs.declared.query.Query.{Query}
+use Rattle.zone_core.specs.declared.query.Question.{Question}
+
+-- the query with its name's labels
+abbrev pub asked_by : Query → AxfrQuery
+asked_by query = record {
+  id = query.id;
+  recursion = query.rd;
+  name = labels_at query.name.octets.now query.name.start;
+  class = query.class;
+}
+
+-- the same of a question
+abbrev pub question_by : Question → spec.Question
+question_by q = record {
+  name = labels_at q.name.octets.now q.name.start;
+  qtype = q.qtype;
+  qclass = q.qclass;
+}
