@@ -110,7 +110,7 @@ where
 }
 
 #[test]
-fn composes_with_the_high_octet_first(rt: HostRuntime) -> Result<(), Fail> {
+fn composes_unsigned(rt: HostRuntime) -> Result<(), Fail> {
     assert_eq!(rt;
         composed(rt.alloc(), 0x12u8)?.as_slice(),
         [0x12u8].as_slice()
@@ -123,10 +123,20 @@ fn composes_with_the_high_octet_first(rt: HostRuntime) -> Result<(), Fail> {
         composed(rt.alloc(), 0x12345678u32)?.as_slice(),
         [0x12u8, 0x34, 0x56, 0x78].as_slice()
     );
+    Ok(())
+}
+
+#[test]
+fn composes_unsigned_64(rt: HostRuntime) -> Result<(), Fail> {
     assert_eq!(rt;
         composed(rt.alloc(), 1u64)?.as_slice(),
         [0u8, 0, 0, 0, 0, 0, 0, 1].as_slice()
     );
+    Ok(())
+}
+
+#[test]
+fn composes_signed(rt: HostRuntime) -> Result<(), Fail> {
     assert_eq!(rt; composed(rt.alloc(), -1i8)?.as_slice(), [0xFFu8].as_slice());
     assert_eq!(rt;
         composed(rt.alloc(), -2i16)?.as_slice(),
@@ -136,19 +146,27 @@ fn composes_with_the_high_octet_first(rt: HostRuntime) -> Result<(), Fail> {
         composed(rt.alloc(), -2i32)?.as_slice(),
         [0xFFu8, 0xFF, 0xFF, 0xFE].as_slice()
     );
+    Ok(())
+}
+
+#[test]
+fn composes_signed_64(rt: HostRuntime) -> Result<(), Fail> {
     assert_eq!(rt;
-        composed(rt.alloc(), 1i64)?.as_slice(),
-        [0u8, 0, 0, 0, 0, 0, 0, 1].as_slice()
+        composed(rt.alloc(), -1i64)?.as_slice(),
+        [0xFFu8, 0xFF, 0xFF, 0xFF, 0xFF, 0xFF, 0xFF, 0xFF].as_slice()
     );
+    Ok(())
+}
+
+#[test]
+fn composes_addresses(rt: HostRuntime) -> Result<(), Fail> {
     assert_eq!(rt;
         composed(rt.alloc(), Ipv4Addr::new(192, 0, 2, 1))?.as_slice(),
         [192u8, 0, 2, 1].as_slice()
     );
-    let loopback = Ipv6Addr::new(0, 0, 0, 0, 0, 0, 0, 1);
-    assert_eq!(rt;
-        composed(rt.alloc(), loopback)?.as_slice(),
-        [0u8, 0, 0, 0, 0, 0, 0, 0, 0, 0, 0, 0, 0, 0, 0, 1].as_slice()
-    );
+    let address = composed(rt.alloc(), Ipv6Addr::new(0x2001, 0xdb8, 0, 0, 0, 0, 0, 1))?;
+    assert_eq!(rt; address.as_slice().first().copied(), Some(0x20));
+    assert_eq!(rt; address.len(), 16);
     Ok(())
 }
 
@@ -161,16 +179,27 @@ fn parsed<'a, Value: Parse<'a>>(octets: &'a [u8]) -> Option<Value> {
 }
 
 #[test]
-fn parses_with_the_high_octet_first(rt: HostRuntime) {
+fn parses_unsigned(rt: HostRuntime) {
     let octets = [0xFFu8, 0xFE, 0, 1, 2, 3, 4, 5, 0, 0, 0, 0, 0, 0, 0, 1];
     assert_eq!(rt; parsed::<u8>(&octets), Some(0xFF));
     assert_eq!(rt; parsed::<u16>(&octets), Some(0xFFFE));
     assert_eq!(rt; parsed::<u32>(&octets), Some(0xFFFE0001));
     assert_eq!(rt; parsed::<u64>(&octets), Some(0xFFFE000102030405));
+}
+
+#[test]
+fn parses_signed(rt: HostRuntime) {
+    let octets = [0xFFu8, 0xFE, 0, 1, 2, 3, 4, 5, 0, 0, 0, 0, 0, 0, 0, 1];
     assert_eq!(rt; parsed::<i8>(&octets), Some(-1));
     assert_eq!(rt; parsed::<i16>(&octets), Some(-2));
     assert_eq!(rt; parsed::<i32>(&octets), Some(-131071));
     assert_eq!(rt; parsed::<i64>(&octets[8..]), Some(1));
+}
+
+#[test]
+fn parses_octets_and_addresses(rt: HostRuntime) {
+    let octets = [0xFFu8, 0xFE, 0, 1, 2, 3, 4, 5, 0, 0, 0, 0, 0, 0, 0, 1];
+    assert_eq!(rt; parsed::<[u8; 3]>(&octets), Some([0xFF, 0xFE, 0]));
     assert_eq!(rt;
         parsed::<Ipv4Addr>(&octets),
         Some(Ipv4Addr::new(255, 254, 0, 1))
@@ -179,7 +208,6 @@ fn parses_with_the_high_octet_first(rt: HostRuntime) {
         parsed::<Ipv6Addr>(&octets),
         Some(Ipv6Addr::new(0xFFFE, 1, 0x203, 0x405, 0, 0, 0, 1))
     );
-    assert_eq!(rt; parsed::<[u8; 3]>(&octets), Some([0xFF, 0xFE, 0]));
     assert_eq!(rt; parsed::<u64>(&octets[9..]), None);
 }
 
@@ -207,7 +235,7 @@ fn parsers_in_parsers(rt: HostRuntime) {
 }
 
 #[test]
-fn errors_print(rt: HostRuntime) -> Result<(), Fail> {
+fn parse_errors_print(rt: HostRuntime) -> Result<(), Fail> {
     assert_eq!(rt;
         ShortInput.to_string(rt.alloc())?.as_str(),
         "unexpected end of input"
@@ -226,6 +254,11 @@ fn errors_print(rt: HostRuntime) -> Result<(), Fail> {
             .as_str(),
         "bad label"
     );
+    Ok(())
+}
+
+#[test]
+fn append_errors_print(rt: HostRuntime) -> Result<(), Fail> {
     assert_eq!(rt;
         AppendError::ShortBuf.to_string(rt.alloc())?.as_str(),
         "buffer size exceeded"

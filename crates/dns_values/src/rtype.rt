@@ -1,13 +1,13 @@
 //! What a record holds.
 ghost use Rattle.std.specs.Prelude.{◌≡◌, ◌+◌, ◌≤◌, ◌↔◌, take, length, IsOk, IfOk, OnOk, OnErr, IfErr, Some};
-ghost use Rattle.std.specs.Int.{from_be_bytes, w16};
+ghost use Rattle.std.specs.Int.{from_be_bytes, to_be_bytes, w16};
 ghost use Rattle.std.specs.Option.{option_copied};
 ghost use Rattle.std.specs.Result.{result_ok};
 ghost use Rattle.dns_octets.specs.Parser.{GoesOn, octets_of, place_of, rest_of};
 ghost use Rattle.dns_values.specs.Mnemonic.{type_read, type_written, rows_of, text_of, types};
 
 use crate::mnemonic::{self, Mnemonic};
-use dns_octets::{ParseError, Parser};
+use dns_octets::{AppendError, Compose, OctetsBuilder, ParseError, Parser};
 use std::fmt;
 use std::marker::Model;
 use std::str::FromStr;
@@ -155,6 +155,15 @@ impl Rtype {
         ensures { option_copied result ≡ text_of types self }
     {
         mnemonic::text_of(mnemonics(), self.0)
+    }
+}
+
+/// Writes the two octets of the number, the high one first.
+impl Compose for Rtype {
+    ghost composed = { λ rtype. to_be_bytes w16 rtype };
+
+    fn compose<Target: OctetsBuilder>(&self, target: &mut Target) -> Result<(), AppendError> {
+        self.0.compose(target)
     }
 }
 
