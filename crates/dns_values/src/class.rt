@@ -170,4 +170,12 @@ mod tests {
         assert!(rt; Class::parse(&mut parser).is_err());
         assert_eq!(rt; Class::CH.to_int(), 3);
     }
+
+    #[test]
+    fn composes(rt: HostRuntime) -> Result<(), Fail> {
+        let mut target = Vec::new(rt.alloc());
+        Class::HS.compose(&mut target)?;
+        assert_eq!(rt; target.as_slice(), [0u8, 4].as_slice());
+        Ok(())
+    }
 }

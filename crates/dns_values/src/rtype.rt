@@ -307,4 +307,12 @@ mod tests {
         assert!(rt; Rtype::parse(&mut parser).is_err());
         assert_eq!(rt; parser.pos(), 2);
     }
+
+    #[test]
+    fn composes(rt: HostRuntime) -> Result<(), Fail> {
+        let mut target = Vec::new(rt.alloc());
+        Rtype::CAA.compose(&mut target)?;
+        assert_eq!(rt; target.as_slice(), [1u8, 1].as_slice());
+        Ok(())
+    }
 }
