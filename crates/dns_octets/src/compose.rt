@@ -30,7 +30,7 @@ impl Compose for u8 {
     ghost composed = { λ number. number ∷ [] };
 
     fn compose<Target: OctetsBuilder>(&self, target: &mut Target) -> Result<(), AppendError> {
-        target.append_slice(&self.to_be_bytes())
+        target.append_slice(&u8::to_be_bytes(*self))
     }
 }
 
@@ -38,7 +38,7 @@ impl Compose for u16 {
     ghost composed = { λ number. to_be_bytes w16 number };
 
     fn compose<Target: OctetsBuilder>(&self, target: &mut Target) -> Result<(), AppendError> {
-        target.append_slice(&self.to_be_bytes())
+        target.append_slice(&u16::to_be_bytes(*self))
     }
 }
 
@@ -46,7 +46,7 @@ impl Compose for u32 {
     ghost composed = { λ number. to_be_bytes w32 number };
 
     fn compose<Target: OctetsBuilder>(&self, target: &mut Target) -> Result<(), AppendError> {
-        target.append_slice(&self.to_be_bytes())
+        target.append_slice(&u32::to_be_bytes(*self))
     }
 }
 
@@ -54,7 +54,7 @@ impl Compose for u64 {
     ghost composed = { λ number. to_be_bytes w64 number };
 
     fn compose<Target: OctetsBuilder>(&self, target: &mut Target) -> Result<(), AppendError> {
-        target.append_slice(&self.to_be_bytes())
+        target.append_slice(&u64::to_be_bytes(*self))
     }
 }
 
@@ -62,7 +62,7 @@ impl Compose for i8 {
     ghost composed = { λ number. cast_unsigned w8 number ∷ [] };
 
     fn compose<Target: OctetsBuilder>(&self, target: &mut Target) -> Result<(), AppendError> {
-        target.append_slice(&self.to_be_bytes())
+        target.append_slice(&i8::to_be_bytes(*self))
     }
 }
 
@@ -70,7 +70,7 @@ impl Compose for i16 {
     ghost composed = { λ number. to_be_bytes w16 (cast_unsigned w16 number) };
 
     fn compose<Target: OctetsBuilder>(&self, target: &mut Target) -> Result<(), AppendError> {
-        target.append_slice(&self.to_be_bytes())
+        target.append_slice(&i16::to_be_bytes(*self))
     }
 }
 
@@ -78,7 +78,7 @@ impl Compose for i32 {
     ghost composed = { λ number. to_be_bytes w32 (cast_unsigned w32 number) };
 
     fn compose<Target: OctetsBuilder>(&self, target: &mut Target) -> Result<(), AppendError> {
-        target.append_slice(&self.to_be_bytes())
+        target.append_slice(&i32::to_be_bytes(*self))
     }
 }
 
@@ -86,7 +86,7 @@ impl Compose for i64 {
     ghost composed = { λ number. to_be_bytes w64 (cast_unsigned w64 number) };
 
     fn compose<Target: OctetsBuilder>(&self, target: &mut Target) -> Result<(), AppendError> {
-        target.append_slice(&self.to_be_bytes())
+        target.append_slice(&i64::to_be_bytes(*self))
     }
 }
 
@@ -94,7 +94,7 @@ impl Compose for Ipv4Addr {
     ghost composed = { ipv4_octets };
 
     fn compose<Target: OctetsBuilder>(&self, target: &mut Target) -> Result<(), AppendError> {
-        target.append_slice(&self.octets())
+        target.append_slice(&Ipv4Addr::octets(self))
     }
 }
 
@@ -102,6 +102,6 @@ impl Compose for Ipv6Addr {
     ghost composed = { ipv6_octets };
 
     fn compose<Target: OctetsBuilder>(&self, target: &mut Target) -> Result<(), AppendError> {
-        target.append_slice(&self.octets())
+        target.append_slice(&Ipv6Addr::octets(self))
     }
 }

@@ -14,6 +14,8 @@ pub struct Parser<'a> {
 }
 
 impl Clone for Parser<'_> {
+    ghost is_clone = { λ parser copy. copy ≡ parser };
+
     fn clone(&self) -> Result<Self, std::alloc::AllocError> {
         Ok(*self)
     }
@@ -98,7 +100,7 @@ impl<'a> Parser<'a> {
         ensures enough { IsOk result ↔ (place_of self.old + len ≤ length (octets_of self.old)) }
         ensures err { OnErr result (self.new ≡ self.old) }
     {
-        if len > self.remaining() {
+        if self.remaining() < len {
             return Err(ShortInput);
         }
         self.place += len;

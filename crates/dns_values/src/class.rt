@@ -67,14 +67,14 @@ impl Class {
         ensures { result ≡ class_read word.now }
     {
         let number = mnemonic::number_read(mnemonics(), "CLASS", word)?;
-        Some(Class(number))
+        Some(Class::from_int(number))
     }
 
     /// The mnemonic, if there is one.
     fn mnemonic(self) -> Option<&'static str>
         ensures { option_copied result ≡ text_of classes self }
     {
-        mnemonic::text_of(mnemonics(), self.0)
+        mnemonic::text_of(mnemonics(), self.to_int())
     }
 }
 
@@ -83,7 +83,7 @@ impl Compose for Class {
     ghost composed = { λ class. to_be_bytes w16 class };
 
     fn compose<Target: OctetsBuilder>(&self, target: &mut Target) -> Result<(), AppendError> {
-        self.0.compose(target)
+        self.to_int().compose(target)
     }
 }
 
@@ -106,7 +106,7 @@ impl fmt::Display for Class {
     fn fmt<W: fmt::Write>(&self, f: &mut fmt::Formatter<W>) -> fmt::Result {
         match self.mnemonic() {
             Some(text) => f.write_str(text),
-            None => write!(f, "CLASS{}", self.0),
+            None => write!(f, "CLASS{}", self.to_int()),
         }
     }
 }

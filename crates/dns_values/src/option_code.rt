@@ -53,7 +53,7 @@ impl Compose for OptionCode {
     ghost composed = { λ code. to_be_bytes w16 code };
 
     fn compose<Target: OctetsBuilder>(&self, target: &mut Target) -> Result<(), AppendError> {
-        self.0.compose(target)
+        self.to_int().compose(target)
     }
 }
 

@@ -147,14 +147,14 @@ impl Rtype {
         ensures { result ≡ type_read word.now }
     {
         let number = mnemonic::number_read(mnemonics(), "TYPE", word)?;
-        Some(Rtype(number))
+        Some(Rtype::from_int(number))
     }
 
     /// The mnemonic, if there is one.
     fn mnemonic(self) -> Option<&'static str>
         ensures { option_copied result ≡ text_of types self }
     {
-        mnemonic::text_of(mnemonics(), self.0)
+        mnemonic::text_of(mnemonics(), self.to_int())
     }
 }
 
@@ -163,7 +163,7 @@ impl Compose for Rtype {
     ghost composed = { λ rtype. to_be_bytes w16 rtype };
 
     fn compose<Target: OctetsBuilder>(&self, target: &mut Target) -> Result<(), AppendError> {
-        self.0.compose(target)
+        self.to_int().compose(target)
     }
 }
 
@@ -186,7 +186,7 @@ impl fmt::Display for Rtype {
     fn fmt<W: fmt::Write>(&self, f: &mut fmt::Formatter<W>) -> fmt::Result {
         match self.mnemonic() {
             Some(text) => f.write_str(text),
-            None => write!(f, "TYPE{}", self.0),
+            None => write!(f, "TYPE{}", self.to_int()),
         }
     }
 }

@@ -141,7 +141,7 @@ impl FromStr for Serial {
 
     fn from_str(word: &str) -> Result<Self, IllegalSignatureTime> {
         match mnemonic::number_spelled(word.as_bytes()) {
-            Some(number) => Ok(Serial(number)),
+            Some(number) => Ok(Serial::from(number)),
             None => Err(IllegalSignatureTime),
         }
     }

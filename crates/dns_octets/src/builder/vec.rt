@@ -1,5 +1,5 @@
 //! Targets that grow.
-ghost use Rattle.std.specs.Prelude.{◌≡◌, [], ⊤, None, IfOk, Err};
+ghost use Rattle.std.specs.Prelude.{◌≡◌, [], ⊤, None, IfOk, Err, vec_capacity};
 ghost use Rattle.dns_octets.specs.declared.error.AppendError.TheVariants.{ShortBuf, BadLength};
 
 use super::{
@@ -36,7 +36,12 @@ impl EmptyBuilder for Vec<u8> {
         Vec::new(alloc)
     }
 
-    fn with_capacity(alloc: Global, capacity: usize) -> Result<Self, AppendError> {
+    fn with_capacity(alloc: Global, capacity: usize) -> Result<Self, AppendError>
+        ensures octets { IfOk result (λ builder. builder.items ≡ []) }
+        ensures room { IfOk result (λ builder. vec_capacity builder ≡ capacity) }
+        ensures short { result ≡ Err ShortBuf → ⊥ }
+        ensures not_bad { result ≡ Err BadLength → ⊥ }
+    {
         Ok(Vec::with_capacity(alloc, capacity)?)
     }
 }
