@@ -6,4 +6,5 @@ pub mod Query
 pub mod Frames
 pub mod Transfer
 pub mod Sent
+pub mod Entry
 pub mod Tried

@@ -1,4 +1,11 @@
 //! The entries of a zone's text: rows that are records, among rows without tokens (RFC 1035 5.1).
+ghost use Rattle.std.specs.Prelude.{◌≡◌, ◌++◌, List, ℕ, [], ◌∷◌, IfOk, IfErr, IfSome, IfNone};
+ghost use Rattle.dns_zonefile.specs.PlainRow.{RecordWords};
+ghost use Rattle.zone_core.specs.Record as spec;
+ghost use Rattle.zone_core.specs.ZoneText.{Entries};
+ghost use Rattle.zone_core.specs.Entry.{record_of, texts_of, OnText, error_of_name, StartsWithRecord, EndsBehindRows, RefusedBehindRows};
+ghost use Rattle.zone_core.specs.declared.text.entry.EntryError.TheVariants as entry_error;
+
 use crate::record::Record;
 use crate::text::blank::{RowStart, skip_row};
 use crate::text::number::parse_number;
@@ -20,12 +27,16 @@ pub(crate) enum EntryError {
 }
 
 impl From<AllocError> for EntryError {
+    ghost from_gives = { λ _ error. error ≡ entry_error.OutOfMemory };
+
     fn from(_: AllocError) -> EntryError {
         EntryError::OutOfMemory
     }
 }
 
 impl From<FromStrError> for EntryError {
+    ghost from_gives = { λ reason error. error ≡ error_of_name reason };
+
     fn from(error: FromStrError) -> EntryError {
         match error {
             FromStrError::Presentation(_) => EntryError::Text,
@@ -42,7 +53,11 @@ pub(crate) fn next_record(
     alloc: Global,
     text: &[u8],
     class: Class,
-) -> Result<Option<(Record, &[u8])>, EntryError> {
+) -> Result<Option<(Record, &[u8])>, EntryError>
+    ensures record { IfOk result (λ next. IfSome next (λ found. Entries class text.now (record_of class found.0 ∷ []) found.1.now)) }
+    ensures end { IfOk result (λ next. IfNone next (EndsBehindRows class text.now)) }
+    ensures err { IfErr result (λ e. OnText e (RefusedBehindRows class text.now)) }
+{
     let mut rest = text;
     loop {
         match skip_row(rest) {
@@ -54,11 +69,10 @@ pub(crate) fn next_record(
 }
 
 /// The record at the front of the text, and the text behind its row.
-fn split_record(
-    alloc: Global,
-    text: &[u8],
-    class: Class,
-) -> Result<(Record, &[u8]), EntryError> {
+fn split_record(alloc: Global, text: &[u8], class: Class) -> Result<(Record, &[u8]), EntryError>
+    ensures ok { IfOk result (λ found. StartsWithRecord class text.now (record_of class found.0) found.1.now) }
+    ensures err { IfErr result (λ e. OnText e ((r : spec.Record) (rest : List ℕ) → StartsWithRecord class text.now r rest → ⊥)) }
+{
     if text.first() == Some(&b'$') {
         return Err(EntryError::Text);
     }
@@ -68,7 +82,10 @@ fn split_record(
 }
 
 /// The record of the class that the words spell.
-fn parse_record(alloc: Global, words: &[&[u8]], class: Class) -> Result<Record, EntryError> {
+fn parse_record(alloc: Global, words: &[&[u8]], class: Class) -> Result<Record, EntryError>
+    ensures ok { IfOk result (λ r. RecordWords class (texts_of words.now) (record_of class r)) }
+    ensures err { IfErr result (λ e. OnText e ((r : spec.Record) → RecordWords class (texts_of words.now) r → ⊥)) }
+{
     if words.len() < 4 {
         return Err(EntryError::Text);
     }
@@ -102,37 +119,62 @@ mod tests {
         data: &[u8],
     ) -> Result<bool, EntryError> {
         match next_record(alloc, text, Class::IN)? {
-            Some((record, rest)) => Ok(record.owner.as_slice() == b"\x01a\x00".as_slice()
-                && record.rtype == rtype
-                && record.ttl.as_secs() == ttl
-                && record.data.as_slice() == data
-                && next_record(alloc, rest, Class::IN)?.is_none()),
+            Some((record, rest)) => Ok(
+                record.owner.as_slice() == b"\x01a\x00".as_slice()
+                    && record.rtype == rtype
+                    && record.ttl.as_secs() == ttl
+                    && record.data.as_slice() == data
+                    && next_record(alloc, rest, Class::IN)?.is_none(),
+            ),
             None => Ok(false),
         }
     }
 
     fn is_refused(alloc: Global, text: &[u8]) -> bool {
-        matches!(
-            next_record(alloc, text, Class::IN),
-            Err(EntryError::Text)
-        )
+        matches!(next_record(alloc, text, Class::IN), Err(EntryError::Text))
     }
 
     #[test]
     fn rows_are_read(rt: HostRuntime) -> Result<(), Fail> {
         let alloc = rt.alloc();
-        let soa = b"\x01b\x00\x01c\x00\x00\x00\x00\x01\x00\x00\x00\x02\x00\x00\x00\x03\x00\x00\x00\x04\x00\x00\x00\x05";
-        assert!(rt; reads(alloc, b"a. 60 IN SOA b. c. 1 2 3 4 5\n", Rtype::SOA, 60, soa)?);
-        assert!(rt; reads(alloc, b"a.  007 in  type6 b. c. 1 2 3 4 5\n", Rtype::SOA, 7, soa)?);
+        let soa =
+            b"\x01b\x00\x01c\x00\x00\x00\x00\x01\x00\x00\x00\x02\x00\x00\x00\x03\x00\x00\x00\x04\x00\x00\x00\x05";
+        assert!(rt;
+            reads(
+                alloc,
+                b"a. 60 IN SOA b. c. 1 2 3 4 5\n",
+                Rtype::SOA,
+                60,
+                soa
+            )?
+        );
+        assert!(rt;
+            reads(
+                alloc,
+                b"a.  007 in  type6 b. c. 1 2 3 4 5\n",
+                Rtype::SOA,
+                7,
+                soa
+            )?
+        );
         assert!(rt; reads(alloc, b"a. 60 IN A 1.2.3.4\n", Rtype::A, 60, &[1, 2, 3, 4])?);
-        assert!(rt; reads(alloc, b"\\097. 0 CLASS1 TYPE1 0.0.0.255\n", Rtype::A, 0, &[0, 0, 0, 255])?);
+        assert!(rt;
+            reads(
+                alloc,
+                b"\\097. 0 CLASS1 TYPE1 0.0.0.255\n",
+                Rtype::A,
+                0,
+                &[0, 0, 0, 255]
+            )?
+        );
         Ok(())
     }
 
     #[test]
     fn rows_without_tokens_are_no_entries(rt: HostRuntime) -> Result<(), Fail> {
         let alloc = rt.alloc();
-        let text = b"\n \t\r\n; a comment (\n ( ; inside\n ) ; behind\n()\na. 1 IN A 1.2.3.4\n \t; the end";
+        let text =
+            b"\n \t\r\n; a comment (\n ( ; inside\n ) ; behind\n()\na. 1 IN A 1.2.3.4\n \t; the end";
         assert!(rt; reads(alloc, text, Rtype::A, 1, &[1, 2, 3, 4])?);
         assert!(rt; next_record(alloc, b"", Class::IN)?.is_none());
         assert!(rt; is_refused(alloc, b"( )"));
