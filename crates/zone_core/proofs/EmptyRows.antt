@@ -1,11 +1,11 @@
 -- Rows without tokens: what follows the octet in front of one, and that there is one at most.
-use Rattle.std.proofs.Common.{◌≡◌, ◌⊎◌, ℕ, ◌≤◌, Bool, true, false, not, ◌==◌, List, [], ◌∷◌, length, Option, None, refl, sym, ◌∙◌, ap, subst, arith, inl, inr}
+use Rattle.std.proofs.Common.{◌≡◌, ◌⊎◌, ℕ, ◌≤◌, Bool, true, false, not, ◌==◌, List, [], ◌∷◌, length, None, refl, sym, ◌∙◌, ap, subst, arith, inl, inr}
 use Rattle.std.proofs.lemmas.Bool.Decides.{Decides-eqb}
 use Rattle.zone_core.proofs.WordSymbols.{differs}
-use Rattle.dns_text.specs.Tokens.{Head, Next, Row, IsEmptyRow, Token, head_of, is_gap, is_end, has_feed, from_feed}
+use Rattle.dns_text.specs.Tokens.{Head, Next, IsEmptyRow, head_of, is_gap, is_end, has_feed, from_feed}
 use Rattle.dns_text.specs.Tokens.Head.{Go, Comment, Feed, Quote, Word, Refused}
-use Rattle.dns_text.specs.Tokens.Next.{ended, goes, comment, quoted, unquoted}
-use Rattle.dns_text.specs.Tokens.Row.{end, token}
+use Rattle.dns_text.specs.Tokens.Next.{ended, goes, comment}
+use Rattle.dns_text.specs.Tokens.Row.{end}
 
 -- the row ends without a token
 abbrev pub Ends : Bool → List ℕ → List ℕ → Type 0
@@ -195,11 +195,11 @@ skips_open text rest octet inside parentheses skips is outside =
     let head : head_of false octet ≡ Go true = head_at false octet 40 is in
     let none = not_end text rest octet inside parentheses skips
     (subst (λ (n : ℕ). is_end (n ∷ rest) ≡ false) (sym is) refl) in record {
-  on = λ behind row. here.on behind (of_after false octet rest behind (Go true) head row);
-  back = λ behind row. after_at false octet rest behind (Go true) head (here.back behind row);
-  plain = λ e. cc;
-  behind_parentheses = λ _. none;
-}
+      on = λ behind row. here.on behind (of_after false octet rest behind (Go true) head row);
+      back = λ behind row. after_at false octet rest behind (Go true) head (here.back behind row);
+      plain = λ e. cc;
+      behind_parentheses = λ _. none;
+    }
 
 -- at the end of the row
 pub skips_row : (text rest : List ℕ) (octet : ℕ) (inside parentheses : Bool) → Skips text (octet ∷ rest) inside parentheses
@@ -282,12 +282,12 @@ other_of octet gaps feed open'' close comment'' =
     let a = differs octet 9 (λ e. gaps (inl e)) in
     let b = differs octet 13 (λ e. gaps (inr (inl e))) in
     let d = differs octet 32 (λ e. gaps (inr (inr e))) in record {
-  gap = rw (d, a, b) refl;
-  feed = differs octet 10 feed;
-  open' = differs octet 40 open'';
-  close = differs octet 41 close;
-  comment' = differs octet 59 comment'';
-}
+      gap = rw (d, a, b) refl;
+      feed = differs octet 10 feed;
+      open' = differs octet 40 open'';
+      close = differs octet 41 close;
+      comment' = differs octet 59 comment'';
+    }
 
 -- the parentheses are no gaps
 pub parenthesis_no_gap : (octet known : ℕ) → octet ≡ known → is_gap known ≡ false → is_gap octet ≡ false

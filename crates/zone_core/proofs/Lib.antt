@@ -6,3 +6,6 @@ pub mod WordSymbols
 pub mod EmptyRows
 pub mod WordRows
 pub mod HeldWords
+pub mod NumberTexts
+pub mod RecordData
+pub mod EntryRows

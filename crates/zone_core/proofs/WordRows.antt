@@ -1,16 +1,16 @@
 -- Rows of words: how their words come off the front, one by one, and that a text begins with one such row at most.
-use Rattle.std.proofs.Common.{◌≡◌, ◌≢◌, ◌⊎◌, ℕ, ◌+◌, ◌-◌, ◌<◌, ◌≤◌, Bool, true, false, ◌==◌, List, [], ◌∷◌, ◌++◌, length, take, drop, slice_index, refl, sym, ◌∙◌, ap, subst, arith, append_assoc, append-nil, length-append, inl, inr}
+use Rattle.std.proofs.Common.{◌≡◌, ◌≢◌, ℕ, ◌+◌, ◌<◌, ◌≤◌, true, false, List, [], ◌∷◌, ◌++◌, length, take, drop, slice_index, refl, sym, ◌∙◌, ap, subst, arith, append_assoc, length-append}
 use Rattle.std.proofs.Math.Seq.{take-append_seam, drop-append_seam}
 use Rattle.std.proofs.lemmas.List.{flat_map_more}
 use Rattle.std.specs.List.{AllByRecursion, flat_map}
 use Rattle.dns_label.specs.declared.symbol.Symbol.{Symbol}
 use Rattle.dns_label.specs.Symbol.{spelled}
-use Rattle.dns_text.specs.Tokens.{IsIn, IsRun, EndsToken, IsEmptyRow, stands_plain, head_of, is_gap, is_end}
+use Rattle.dns_text.specs.Tokens.{IsIn, IsRun, EndsToken, IsEmptyRow, stands_plain, is_end}
 use Rattle.dns_text.specs.Tokens.Head.{Word}
 use Rattle.dns_zonefile.specs.PlainRow.{IsWord, AreSpaces, Words}
 use Rattle.dns_zonefile.specs.PlainRow.Words.{last, more}
 use Rattle.zone_core.specs.Entry.{StartsWithSymbol, StartsWithSpaces}
-use Rattle.zone_core.proofs.WordSymbols.{one_symbol, symbol_first, ends_nil, ends_plain, ends_low, one_word, word_head, word_no_gap, differs, plain_differs}
+use Rattle.zone_core.proofs.WordSymbols.{symbol_first, ends_nil, ends_plain, ends_low, one_word, word_head, word_no_gap, differs, plain_differs}
 use Rattle.zone_core.proofs.EmptyRows.{Ends, after_at, ends_of_row, end_at_other}
 
 -- symbols of a word have been taken off the front
@@ -32,9 +32,9 @@ taken_more text rest behind taken front = record {
   symbols = taken.symbols ++ front.symbol ∷ [];
   each = each_more taken.symbols front.symbol taken.each front.is_in;
   whole =
-    taken.whole ∙ ap (λ l. flat_map spelled taken.symbols ++ l) front.whole
-    ∙ sym (append_assoc (flat_map spelled taken.symbols) (spelled front.symbol) behind)
-    ∙ ap (λ l. l ++ behind) (flat_map_more spelled [] taken.symbols front.symbol);
+      taken.whole ∙ ap (λ l. flat_map spelled taken.symbols ++ l) front.whole
+      ∙ sym (append_assoc (flat_map spelled taken.symbols) (spelled front.symbol) behind)
+      ∙ ap (λ l. l ++ behind) (flat_map_more spelled [] taken.symbols front.symbol);
 }
 
 -- they are the longest run where no symbol stands behind them

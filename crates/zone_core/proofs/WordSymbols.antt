@@ -1,13 +1,13 @@
 -- Symbols are a prefix code: no symbol's spelling begins another's. So a word at the front of a text is one.
-use Rattle.std.proofs.Common.{◌≡◌, ◌≢◌, ℕ, ◌+◌, ◌/◌, ◌%◌, ◌<◌, ◌≤◌, List, [], ◌∷◌, ◌++◌, length, Bool, true, false, ◌==◌, refl, sym, ◌∙◌, ap, subst, arith, append_assoc, inl, inr}
+use Rattle.std.proofs.Common.{◌≡◌, ℕ, ◌+◌, ◌/◌, ◌%◌, ◌<◌, ◌≤◌, List, [], ◌∷◌, ◌++◌, Bool, true, false, ◌==◌, refl, sym, ◌∙◌, ap, subst, arith, append_assoc, inl, inr}
 use Rattle.std.proofs.lemmas.Bool.Decides.{nat_tests}
 use Rattle.std.specs.List.{AllByRecursion, flat_map}
 use Rattle.dns_label.specs.declared.symbol.Symbol.{Symbol}
 use Rattle.dns_label.specs.declared.symbol.Symbol.TheVariants.{Char, SimpleEscape, DecimalEscape}
-use Rattle.dns_label.specs.Symbol.{IsSymbol, spelled, three_digits}
-use Rattle.dns_text.specs.Tokens.{IsIn, Stands, EndsToken, stands_plain, head_of, is_gap, Head}
+use Rattle.dns_label.specs.Symbol.{IsSymbol, spelled}
+use Rattle.dns_text.specs.Tokens.{IsIn, EndsToken, stands_plain, head_of, is_gap}
 use Rattle.dns_text.specs.Tokens.Head.{Word}
-use Rattle.dns_zonefile.specs.PlainRow.{IsWord, AreSpaces}
+use Rattle.dns_zonefile.specs.PlainRow.{IsWord}
 
 -- three digits of a number say which number
 one_number : (m n : ℕ) → m < 256 → n < 256 → 48 + m / 100 ≡ 48 + n / 100 → 48 + m / 10 % 10 ≡ 48 + n / 10 % 10

@@ -36,7 +36,9 @@ fn parse_a(alloc: Global, words: &[&[u8]]) -> Result<Vec<u8>, EntryError>
 {
     match words {
         [address] => {
-            let address = Ipv4Addr::parse_ascii(address).map_err(|_| EntryError::Text)?;
+            let Ok(address) = Ipv4Addr::parse_ascii(address) else {
+                return Err(EntryError::Text);
+            };
             Ok(Vec::from_slice(alloc, &address.octets())?)
         }
         _ => Err(EntryError::Text),

@@ -1,4 +1,4 @@
-use Rattle.std.proofs.Common.{◌≡◌, ◌⊎◌, ℕ, ◌<◌, List, length, refl, ap, subst, arith}
+use Rattle.std.proofs.Common.{◌≡◌, ◌⊎◌, ℕ, List, length, refl, ap, subst, arith}
 use Rattle.zone_core.proofs.EmptyRows.{Skips, skips_gap, skips_comment, skips_feed, skips_open, skips_close, skips_row, skips_to_token, skips_unclosed, length-from_feed, gap_among, refused_open, refused_close, at_other, other_of, parenthesis_no_gap}
 use Rattle.zone_core.proofs.WordSymbols.{differs}
 use Rattle.zone_core.proofs.text.blank.skip_row.Goals as goal

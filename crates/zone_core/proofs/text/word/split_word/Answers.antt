@@ -1,4 +1,4 @@
-use Rattle.zone_core.proofs.WordRows.{taken_more, taken_run}
+use Rattle.zone_core.proofs.WordRows.{taken_more}
 use Rattle.zone_core.proofs.text.word.split_word.Goals as goal
 
 pub loop-behind-preserved : goal.loop-behind-preserved

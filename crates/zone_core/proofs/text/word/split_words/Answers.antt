@@ -1,4 +1,4 @@
-use Rattle.std.proofs.Common.{List, ℕ, ◌++◌, ◌∷◌, [], slice_index, subst, sym, ap, arith}
+use Rattle.std.proofs.Common.{arith}
 use Rattle.zone_core.proofs.HeldWords.{held_last, held_more, held_no_word, held_no_rest, held_no_octet, none_given}
 use Rattle.zone_core.proofs.text.word.split_words.Goals as goal
 
