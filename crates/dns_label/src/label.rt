@@ -130,3 +130,52 @@ fn pointer_place(first: u8, second: u8) -> u16
 {
     256 * u16::from(first - 192) + u16::from(second)
 }
+
+#[cfg(test)]
+mod tests {
+    use super::*;
+    use std::test::Fail;
+
+    #[test]
+    fn a_label_has_at_most_63_octets(rt: HostRuntime) -> Result<(), Fail> {
+        let octets = [b'a'; 64];
+        let label = Label::from_slice(&octets[..63])?;
+        assert_eq!(rt; label.len(), 63);
+        assert_eq!(rt; label.as_slice(), &octets[..63]);
+        assert!(rt; !label.is_root());
+        assert_eq!(rt; Label::from_slice(&octets).is_err(), true);
+        Ok(())
+    }
+
+    #[test]
+    fn what_stands_in_a_labels_place_is_told_apart(rt: HostRuntime) {
+        let short = Err(SplitLabelError::ShortInput);
+        assert!(rt;
+            matches!(Label::split_from(b"\x03wwwrest"), Ok((label, b"rest")) if label.as_slice() == b"www".as_slice())
+        );
+        assert!(rt; matches!(Label::split_from(b"\x00"), Ok((label, b"")) if label.is_root()));
+        assert_eq!(rt; split_error(b"\xc0\x0c"), Err(SplitLabelError::Pointer(12)));
+        assert_eq!(rt;
+            split_error(b"\xff\xff"),
+            Err(SplitLabelError::Pointer(16383))
+        );
+        assert_eq!(rt;
+            split_error(b"\x41"),
+            Err(SplitLabelError::BadType(LabelTypeError::Extended))
+        );
+        assert_eq!(rt;
+            split_error(b"\x80"),
+            Err(SplitLabelError::BadType(LabelTypeError::Undefined))
+        );
+        assert_eq!(rt; split_error(b""), short);
+        assert_eq!(rt; split_error(b"\x03ww"), short);
+        assert_eq!(rt; split_error(b"\xc0"), short);
+    }
+
+    fn split_error(octets: &[u8]) -> Result<(), SplitLabelError> {
+        match Label::split_from(octets) {
+            Ok(_) => Ok(()),
+            Err(error) => Err(error),
+        }
+    }
+}

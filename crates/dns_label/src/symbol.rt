@@ -69,3 +69,36 @@ fn digit(octet: u8) -> Option<u8>
         _ => None,
     }
 }
+
+#[cfg(test)]
+mod tests {
+    use super::*;
+
+    #[test]
+    fn symbols_stand_for_octets(rt: HostRuntime) {
+        assert_eq!(rt; front(b"ab"), Some((Symbol::Char('a'), 1)));
+        assert_eq!(rt; front(b"\\;b"), Some((Symbol::SimpleEscape(b';'), 1)));
+        assert_eq!(rt; front(b"\\\\"), Some((Symbol::SimpleEscape(b'\\'), 0)));
+        assert_eq!(rt; front(b"\\112"), Some((Symbol::DecimalEscape(112), 0)));
+        assert_eq!(rt; front(b"\\2550"), Some((Symbol::DecimalEscape(255), 1)));
+        for text in [
+            b"".as_slice(),
+            b"\x1f",
+            b"\x7f",
+            b"\x80",
+            b"\\",
+            b"\\\t",
+            b"\\25",
+            b"\\256",
+            b"\\1a2",
+        ] {
+            assert_eq!(rt; front(text), None);
+        }
+    }
+
+    /// The symbol in front, and how many octets are behind it.
+    fn front(text: &[u8]) -> Option<(Symbol, usize)> {
+        let (symbol, rest) = Symbol::split_from(text)?;
+        Some((symbol, rest.len()))
+    }
+}

@@ -9,3 +9,10 @@ pub mod HeldWords
 pub mod NumberTexts
 pub mod RecordData
 pub mod EntryRows
+pub mod Plain
+pub mod Framing
+pub mod WrittenAnswers
+pub mod LastRecord
+pub mod SentTransfers
+pub mod TriedTransfer
+pub mod OneTransfer

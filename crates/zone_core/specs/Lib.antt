@@ -7,4 +7,5 @@ pub mod Frames
 pub mod Transfer
 pub mod Sent
 pub mod Entry
+pub mod Records
 pub mod Tried

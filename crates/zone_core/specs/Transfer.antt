@@ -6,7 +6,7 @@ use Rattle.dns_rdata.specs.Fields.{Field, IsRow, octets, lowered}
 use Rattle.dns_message.specs.Header.{is_response, opcode_of, rcode_of, question_count, answer_count, authority_count, additional_count, id_of}
 use Rattle.dns_message.specs.Question.{Question, ReadsQuestion}
 use Rattle.dns_message.specs.Item.{Parts, Spells}
-use Rattle.dns_message.specs.Record.{IsRead}
+use Rattle.dns_message.specs.Record.{IsRecord, IsRead}
 use Rattle.zone_core.specs.Record.{Record}
 use Rattle.zone_core.specs.Zone.{IsUnder, axfr_type, soa_type}
 use Rattle.zone_core.specs.Query.{AxfrQuery}
@@ -29,7 +29,7 @@ AsksAgain query first message place =
 -- the message spells the records one behind the other, and `next` is the place behind the last
 pub data SpellsRecords (message : List ℕ) : ℕ → List Record → ℕ → Type 0 where
   none : {place : ℕ} → SpellsRecords message place [] place
-  one : {place next : ℕ} {r : Record} {records : List Record} (parts : Parts) (behind : ℕ) → IsRead r parts
+  one : {place next : ℕ} {r : Record} {records : List Record} (parts : Parts) (behind : ℕ) → IsRecord r → IsRead r parts
       → Spells message place parts behind → SpellsRecords message behind records next → SpellsRecords message place (r ∷ records) next
 
 -- An answer to the query that carries these records and nothing else. Bits that are not named are ignored.

@@ -1,57 +1,15 @@
-//! What holds of every way to cut records into messages.
-//!
-//! A law is a function with an empty body, whose contract is the law. `size` is what a group of records takes as a
-//! message, and `max` is the most that a message may take.
+//! What holds of the definitions that the crate's contracts stand on. A law is a function with an empty body, whose
+//! contract is the law.
 
-ghost use Rattle.std.specs.Prelude.{◌≡◌, ℕ, ◌+◌, ◌≤◌, List, length, sum_by};
-ghost use Rattle.zone_core.specs.Record.{Record};
-ghost use Rattle.zone_core.specs.Cutting.{Fits, IsFullCut, IsBlocked, CutOrBlocked, FrontsFit, PartsFit, Grows};
+mod cutting;
+mod framing;
+mod received;
+mod sent;
 
-/// A full cut has the fewest groups: no cutting of the same records that fits has fewer.
-pub fn full_cut_is_fewest()
-    ensures { (size : List Record → ℕ) (max : ℕ) (records : List Record)
-        (full others : List (List Record)) →
-        PartsFit size max → IsFullCut size max records full → Fits size max records others →
-        length full ≤ length others }
-{}
-
-/// Records have at most one full cut.
-pub fn full_cut_is_one()
-    ensures { (size : List Record → ℕ) (max : ℕ) (records : List Record)
-        (full others : List (List Record)) →
-        FrontsFit size max → IsFullCut size max records full → IsFullCut size max records others →
-        full ≡ others }
-{}
-
-/// Where a record is blocked, no cutting of the records fits at all.
-pub fn blocked_record_fits_no_cutting()
-    ensures { (size : List Record → ℕ) (max : ℕ) (records : List Record) (n : ℕ)
-        (groups : List (List Record)) →
-        PartsFit size max → IsBlocked size max records n → Fits size max records groups → ⊥ }
-{}
-
-/// At most one of the records is blocked.
-pub fn blocked_record_is_one()
-    ensures { (size : List Record → ℕ) (max : ℕ) (records : List Record) (m n : ℕ) →
-        FrontsFit size max → IsBlocked size max records m → IsBlocked size max records n → m ≡ n }
-{}
-
-/// Any records have a full cut or a blocked record, and never both: a sender that answers with the one or the other
-/// has an answer for all records, and only one.
-pub fn cut_or_blocked()
-    ensures one_of_them { (size : List Record → ℕ) (max : ℕ) (records : List Record) →
-        CutOrBlocked size max records }
-    ensures not_both { (size : List Record → ℕ) (max : ℕ) (records : List Record)
-        (groups : List (List Record)) (n : ℕ) →
-        FrontsFit size max → IsFullCut size max records groups → IsBlocked size max records n → ⊥ }
-{}
-
-/// Where a size grows, each part of what fits fits.
-pub fn parts_fit_where_size_grows()
-    ensures { (size : List Record → ℕ) (max : ℕ) → Grows size → PartsFit size max }
-{}
-
-/// A size that adds up what each record takes, and something for the rest of the message, grows.
-pub fn sum_of_sizes_grows()
-    ensures { (base : ℕ) (f : Record → ℕ) → Grows (λ group. base + sum_by f group) }
-{}
+pub use cutting::{
+    blocked_record_fits_no_cutting, blocked_record_is_one, cut_or_blocked, full_cut_is_fewest,
+    full_cut_is_one, parts_fit_where_size_grows, plain_full_cut_is_fewest, sum_of_sizes_grows,
+};
+pub use framing::two_splits_are_one;
+pub use received::transfers_are_one;
+pub use sent::sent_is_a_transfer;

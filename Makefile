@@ -1,0 +1,15 @@
+ZONE := crates/zone_main
+
+# The program on its first zone, before any proof; what it writes is shown as octets.
+run:
+	@cd $(ZONE) && rt try -- $$(cat args) < stdin 2>/dev/null | od -An -v -tx1
+
+# The gate: every proof from nothing, the must-fail edits, the tests, the program.
+test:
+	rt ci
+
+# The proved program, at build/zonewire.
+build:
+	@mkdir -p build && cd $(ZONE) && rt run -- $$(cat args) < stdin > /dev/null && cp out/zone_main ../../build/zonewire
+
+.PHONY: run test build

@@ -1,0 +1,117 @@
+-- Records and questions whose names are written out are read.
+use Rattle.std.proofs.Common.{◌≡◌, ℕ, ◌+◌, ◌<◌, ◌≤◌, ◌^◌, List, [], ◌∷◌, ◌++◌, length, take, drop, refl, sym, ap, ◌∙◌, subst, arith, append_assoc, append-nil, length-append}
+use Rattle.std.specs.Int.{to_be_bytes, from_be_bytes, w16, w32}
+use Rattle.std.specs.List.{AllByRecursion}
+use Rattle.std.proofs.lemmas.Nat.{from_be_bytes-to_be_bytes_2}
+use Rattle.dns_label.specs.Name.{IsName, wire}
+use Rattle.dns_label.proofs.Spelling.{drop_behind}
+use Rattle.dns_rdata.specs.Fields.{Field, IsField, IsData, field_octets, octets}
+use Rattle.dns_rdata.specs.Fields.Field.{number8, number16, number32, ipv4, ipv6, compressible, uncompressed, string, strings, tag, rest_text, rest16, rest64}
+use Rattle.dns_rdata.specs.Fields.IsData.{typed as typed_data, opaque as opaque_data}
+use Rattle.dns_message.specs.Item.{Parts, Spells, plain}
+use Rattle.dns_message.specs.Item.Parts.{End, Octets}
+use Rattle.dns_message.specs.Question.{Question, ReadsQuestion, question_octets}
+use Rattle.dns_message.specs.Record.{Record, IsRecord, IsRead, read_parts, record_parts, record_octets}
+use Rattle.dns_message.specs.Record.IsRead.{typed, opaque}
+use Rattle.dns_message.proofs.Written.{AreWritable, reads-written, spells-written, within_message}
+
+-- the first field of a row as a part
+plain_first : (field : Field) (row : List Field) → plain (read_parts (field ∷ row)) ≡ field_octets field ++ plain (read_parts row)
+plain_first (number8 n) row = refl
+plain_first (number16 n) row = refl
+plain_first (number32 n) row = refl
+plain_first (ipv4 text) row = refl
+plain_first (ipv6 text) row = refl
+plain_first (compressible name) row = refl
+plain_first (uncompressed name) row = refl
+plain_first (string text) row = refl
+plain_first (strings each) row = refl
+plain_first (tag text) row = refl
+plain_first (rest_text text) row = refl
+plain_first (rest16 text) row = refl
+plain_first (rest64 text) row = refl
+
+writable_first : (field : Field) (row : List Field) → IsField field → AreWritable (read_parts row) → AreWritable (read_parts (field ∷ row))
+writable_first (number8 n) row is can = can
+writable_first (number16 n) row is can = can
+writable_first (number32 n) row is can = can
+writable_first (ipv4 text) row is can = can
+writable_first (ipv6 text) row is can = can
+writable_first (compressible name) row is can = (is, can)
+writable_first (uncompressed name) row is can = (is, can)
+writable_first (string text) row is can = can
+writable_first (strings each) row is can = can
+writable_first (tag text) row is can = can
+writable_first (rest_text text) row is can = can
+writable_first (rest16 text) row is can = can
+writable_first (rest64 text) row is can = can
+
+-- a row as a reader takes it, with its names written out
+pub plain-read : (row : List Field) → plain (read_parts row) ≡ octets row
+plain-read [] = refl
+plain-read (field ∷ row) = plain_first field row ∙ ap (λ l. field_octets field ++ l) (plain-read row)
+
+pub writable-read : (row : List Field) → AllByRecursion IsField row → AreWritable (read_parts row)
+writable-read [] each = tt
+writable-read (field ∷ row) each = writable_first field row each.0 (writable-read row each.1)
+
+regrouped : (a b c d e f : List ℕ) → a ++ ((b ++ c ++ d) ++ (e ++ f ++ [])) ≡ a ++ b ++ c ++ d ++ e ++ f
+regrouped a b c d e f = simp (append_assoc, append-nil)
+
+-- the parts of a record around those of its data are the record's octets
+pub plain-record : (r : Record) (parts : Parts) → plain parts ≡ r.rdata → plain (record_parts r parts) ≡ record_octets r
+plain-record r parts is =
+    rw is (regrouped (wire r.owner) (to_be_bytes w16 r.rtype) (to_be_bytes w16 r.class) (to_be_bytes w32 r.ttl)
+    (to_be_bytes w16 (length r.rdata)) r.rdata)
+
+pub writable-record : (r : Record) (parts : Parts) → plain parts ≡ r.rdata → IsRecord r → AreWritable parts → AreWritable (record_parts r parts)
+writable-record r parts is good can = (good.owner, (rw is good.rdata, can, tt))
+
+-- what is read at a place: parts of the record
+pub record SpellsRecord (message : List ℕ) (place : ℕ) (r : Record) (next : ℕ) : Type 0 where
+  pub parts : Parts
+  pub read : IsRead r parts
+  pub spelled : Spells message place parts next
+
+record_spelled : (message : List ℕ) (place : ℕ) (r : Record) (parts : Parts) (rest : List ℕ) → drop place message ≡ record_octets r ++ rest
+    → place ≤ length message → IsRecord r → plain parts ≡ r.rdata → AreWritable parts → IsRead r (record_parts r parts)
+    → SpellsRecord message place r (place + length (record_octets r))
+record_spelled message place r parts rest at within good is can read =
+    let whole : plain (record_parts r parts) ≡ record_octets r = plain-record r parts is in
+    let here : drop place message ≡ plain (record_parts r parts) ++ rest = at ∙ ap (λ l. l ++ rest) (sym whole) in
+    let goes = spells-written message place (record_parts r parts) rest here within (writable-record r parts is good can) in
+    let P : List ℕ → Type 0 = λ l. Spells message place (record_parts r parts) (place + length l) in
+    record { parts = record_parts r parts; read = read; spelled = subst P whole goes }
+
+-- A record that is written out is read.
+pub record-written : (message : List ℕ) (place : ℕ) (r : Record) (rest : List ℕ) → drop place message ≡ record_octets r ++ rest
+    → place ≤ length message → IsRecord r → IsData r.rtype r.rdata → SpellsRecord message place r (place + length (record_octets r))
+record-written message place r rest at within good (typed_data row is_row is) =
+    record_spelled message place r (read_parts row) rest at within good (plain-read row ∙ sym is) (writable-read row is_row.each)
+    (typed row is_row is)
+record-written message place r rest at within good (opaque_data none short) =
+    record_spelled message place r (Octets r.rdata End) rest at within good (append-nil r.rdata) tt (opaque none)
+
+-- A question that is written out is read.
+pub question-written : (message : List ℕ) (place : ℕ) (q : Question) (rest : List ℕ) → drop place message ≡ question_octets q ++ rest
+    → place ≤ length message → IsName q.name → q.qtype < 2 ^ 16 → q.qclass < 2 ^ 16
+    → ReadsQuestion message place q (place + length (question_octets q))
+question-written message place q rest at within name small small' =
+    let numbers : List ℕ = to_be_bytes w16 q.qtype ++ (to_be_bytes w16 q.qclass ++ rest) in
+    let here : drop place message ≡ wire q.name ++ numbers =
+    at ∙ ap (λ l. l ++ rest) (append_assoc (wire q.name) (to_be_bytes w16 q.qtype) (to_be_bytes w16 q.qclass))
+    ∙ append_assoc (wire q.name) (to_be_bytes w16 q.qtype ++ to_be_bytes w16 q.qclass) rest in
+    let long = length-append (wire q.name) (to_be_bytes w16 q.qtype ++ to_be_bytes w16 q.qclass) in
+    let parted = ap length (append_assoc (wire q.name) (to_be_bytes w16 q.qtype) (to_be_bytes w16 q.qclass)) in
+    let room = within_message message place (wire q.name) numbers here within in
+    let behind : drop (place + length (wire q.name)) message ≡ numbers = drop_behind message place _ (wire q.name) numbers here refl in
+    let behind' : drop (place + length (wire q.name) + 2) message ≡ to_be_bytes w16 q.qclass ++ rest =
+    drop_behind message (place + length (wire q.name)) _ (to_be_bytes w16 q.qtype) (to_be_bytes w16 q.qclass ++ rest) behind refl in
+    record {
+      behind = place + length (wire q.name);
+      name = reads-written message place q.name numbers here name;
+      whole = omega arith;
+      qtype = sym (from_be_bytes-to_be_bytes_2 q.qtype small) ∙ ap (λ l. from_be_bytes w16 (take 2 l)) (sym behind);
+      qclass = sym (from_be_bytes-to_be_bytes_2 q.qclass small') ∙ ap (λ l. from_be_bytes w16 (take 2 l)) (sym behind');
+      ends = omega (arith, long, parted);
+    }

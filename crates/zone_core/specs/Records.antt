@@ -1,0 +1,35 @@
+-- What is known of the records of a zone, and of a query that asks for it.
+use Rattle.std.specs.Prelude.{◌≡◌, ◌<◌, ◌^◌, ℕ, List, [], ◌∷◌}
+use Rattle.std.specs.List.{AllByRecursion}
+use Rattle.dns_label.specs.Name.{IsName}
+use Rattle.dns_rdata.specs.Fields.{IsData}
+use Rattle.dns_message.specs.Record.{IsRecord}
+use Rattle.zone_core.specs.Record.{Record}
+use Rattle.zone_core.specs.Zone.{IsZone}
+use Rattle.zone_core.specs.Query.{AxfrQuery}
+use Rattle.zone_core.specs.Transfer.{IsSpellable}
+use Rattle.zone_core.specs.Sent.{AsksFor}
+
+-- A record of the class whose data is that of its type, and which text can spell.
+pub record IsRecordOf (class : ℕ) (r : Record) : Type 0 where
+  pub lawful : IsRecord r
+  pub data_is : IsData r.rtype r.rdata
+  pub class_is : r.class ≡ class
+  pub spellable : IsSpellable r
+
+-- The records are a zone of the class.
+pub record AreRecordsOf (class : ℕ) (records : List Record) : Type 0 where
+  pub each : AllByRecursion (IsRecordOf class) records
+  pub zone : IsZone records
+
+-- the owner of the SOA, which is the first record
+abbrev pub apex_of : List Record → List (List ℕ)
+apex_of [] = []
+apex_of (soa ∷ others) = soa.owner
+
+-- A query that asks for the zone, and whose values are what a message can say.
+pub record IsQueryFor (records : List Record) (class : ℕ) (query : AxfrQuery) : Type 0 where
+  pub id : query.id < 2 ^ 16
+  pub name : IsName query.name
+  pub class_fits : query.class < 2 ^ 16
+  pub asks : AsksFor query (apex_of records) class
