@@ -11,14 +11,12 @@ const WWW: &[u8] = b"\x03com\x00\x07example\xc0\x00\x03www\xc0\x05";
 
 fn labels_of<N: ToLabelIter>(alloc: Global, name: &N) -> Result<Vec<u8>, AllocError> {
     let mut text = Vec::new(alloc);
-    let mut index = 0usize;
-    while index < 200 {
+    for index in 0..200usize {
         let Some(label) = name.label(index) else {
             break;
         };
         text.extend_from_slice(label.as_slice())?;
         text.push(b'/')?;
-        index += 1;
     }
     Ok(text)
 }

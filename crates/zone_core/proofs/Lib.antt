@@ -2,6 +2,13 @@ pub mod Splits
 pub mod Cuttings
 pub mod Greedy
 pub mod Tried
+pub mod WordSymbols
+pub mod EmptyRows
+pub mod WordRows
+pub mod HeldWords
+pub mod NumberTexts
+pub mod RecordData
+pub mod EntryRows
 pub mod Plain
 pub mod Framing
 pub mod WrittenAnswers

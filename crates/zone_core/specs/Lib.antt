@@ -8,6 +8,7 @@ pub mod Frames
 pub mod Transfer
 pub mod Sent
 pub mod Owned
+pub mod Entry
 pub mod Sending
 pub mod Records
 pub mod View

@@ -1,6 +1,7 @@
 //! What stands at the start of a row (RFC 1035 5.1).
 ghost use Rattle.std.specs.Prelude.{◌≡◌, List, ℕ};
 ghost use Rattle.dns_text.specs.Tokens.{from_feed};
+ghost use Rattle.zone_core.specs.Entry.{StartsRow};
 
 /// What stands at the start of a row.
 pub(crate) enum RowStart<'t> {
@@ -13,7 +14,9 @@ pub(crate) enum RowStart<'t> {
 }
 
 /// Skips a row without tokens: white space, comments and empty parentheses, perhaps over several lines.
-pub(crate) fn skip_row(text: &[u8]) -> RowStart<'_> {
+pub(crate) fn skip_row(text: &[u8]) -> RowStart<'_>
+    ensures { StartsRow text.now result }
+{
     let mut rest = text;
     let mut inside = false;
     let mut has_parentheses = false;
@@ -46,6 +49,12 @@ pub(crate) fn skip_row(text: &[u8]) -> RowStart<'_> {
 fn skip_comment(text: &[u8]) -> &[u8]
     ensures { result.now ≡ from_feed text.now }
 {
-    let end = text.iter().position(|&octet| octet == b'\n');
-    &text[end.unwrap_or(text.len())..]
+    let mut rest = text;
+    while let Some((&octet, behind)) = rest.split_first() {
+        if octet == b'\n' {
+            break;
+        }
+        rest = behind;
+    }
+    rest
 }

@@ -1,4 +1,11 @@
 //! The entries of a zone's text: rows that are records, among rows without tokens (RFC 1035 5.1).
+ghost use Rattle.std.specs.Prelude.{◌≡◌, ◌++◌, List, ℕ, [], ◌∷◌, IfOk, IfErr, IfSome, IfNone};
+ghost use Rattle.dns_zonefile.specs.PlainRow.{RecordWords};
+ghost use Rattle.zone_core.specs.Record as spec;
+ghost use Rattle.zone_core.specs.ZoneText.{Entries};
+ghost use Rattle.zone_core.specs.Entry.{record_of, texts_of, OnText, error_of_name, StartsWithRecord, EndsBehindRows, RefusedBehindRows};
+ghost use Rattle.zone_core.specs.declared.text.entry.EntryError.TheVariants as entry_error;
+
 use crate::record::Record;
 use crate::text::blank::{RowStart, skip_row};
 use crate::text::number::parse_number;
@@ -20,12 +27,16 @@ pub(crate) enum EntryError {
 }
 
 impl From<AllocError> for EntryError {
+    ghost from_gives = { λ _ error. error ≡ entry_error.OutOfMemory };
+
     fn from(_: AllocError) -> EntryError {
         EntryError::OutOfMemory
     }
 }
 
 impl From<FromStrError> for EntryError {
+    ghost from_gives = { λ reason error. error ≡ error_of_name reason };
+
     fn from(error: FromStrError) -> EntryError {
         match error {
             FromStrError::Presentation(_) => EntryError::Text,
@@ -42,7 +53,11 @@ pub(crate) fn next_record(
     alloc: Global,
     text: &[u8],
     class: Class,
-) -> Result<Option<(Record, &[u8])>, EntryError> {
+) -> Result<Option<(Record, &[u8])>, EntryError>
+    ensures record { IfOk result (λ next. IfSome next (λ found. Entries class text.now (record_of class found.0 ∷ []) found.1.now)) }
+    ensures end { IfOk result (λ next. IfNone next (EndsBehindRows class text.now)) }
+    ensures err { IfErr result (λ e. OnText e (RefusedBehindRows class text.now)) }
+{
     let mut rest = text;
     loop {
         match skip_row(rest) {
@@ -54,7 +69,10 @@ pub(crate) fn next_record(
 }
 
 /// The record at the front of the text, and the text behind its row.
-fn split_record(alloc: Global, text: &[u8], class: Class) -> Result<(Record, &[u8]), EntryError> {
+fn split_record(alloc: Global, text: &[u8], class: Class) -> Result<(Record, &[u8]), EntryError>
+    ensures ok { IfOk result (λ found. StartsWithRecord class text.now (record_of class found.0) found.1.now) }
+    ensures err { IfErr result (λ e. OnText e ((r : spec.Record) (rest : List ℕ) → StartsWithRecord class text.now r rest → ⊥)) }
+{
     if text.first() == Some(&b'$') {
         return Err(EntryError::Text);
     }
@@ -64,7 +82,10 @@ fn split_record(alloc: Global, text: &[u8], class: Class) -> Result<(Record, &[u
 }
 
 /// The record of the class that the words spell.
-fn parse_record(alloc: Global, words: &[&[u8]], class: Class) -> Result<Record, EntryError> {
+fn parse_record(alloc: Global, words: &[&[u8]], class: Class) -> Result<Record, EntryError>
+    ensures ok { IfOk result (λ r. RecordWords class (texts_of words.now) (record_of class r)) }
+    ensures err { IfErr result (λ e. OnText e ((r : spec.Record) → RecordWords class (texts_of words.now) r → ⊥)) }
+{
     if words.len() < 4 {
         return Err(EntryError::Text);
     }

@@ -1,5 +1,7 @@
 //! Numbers in text.
-ghost use Rattle.std.specs.Prelude.{◌^◌, ℕ, IfSome, IfNone};
+ghost use Rattle.std.specs.Prelude.{◌≡◌, ◌^◌, ℕ, IfSome, IfNone};
+ghost use Rattle.std.specs.Char.{is_ascii_digit};
+ghost use Rattle.std.specs.List.{list_all};
 ghost use Rattle.dns_text.specs.Numbers.{IsNumberText};
 
 use std::str;
@@ -9,11 +11,18 @@ pub(crate) fn parse_number(text: &[u8]) -> Option<u32>
     ensures found { IfSome result (IsNumberText (2 ^ 32) text.now) }
     ensures none { IfNone result ((n : ℕ) → IsNumberText (2 ^ 32) text.now n → ⊥) }
 {
-    if !text.iter().all(u8::is_ascii_digit) {
+    if !is_digits(text) {
         return None;
     }
     match str::from_utf8(text) {
         Ok(digits) => digits.parse().ok(),
         Err(_) => None,
     }
+}
+
+/// Whether these are decimal digits alone.
+fn is_digits(octets: &[u8]) -> bool
+    ensures { result ≡ list_all is_ascii_digit octets.now }
+{
+    octets.iter().all(u8::is_ascii_digit)
 }

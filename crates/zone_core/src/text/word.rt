@@ -1,14 +1,22 @@
 //! Words, which are unquoted tokens, and rows of them (RFC 1035 5.1).
+ghost use Rattle.std.specs.Prelude.{◌≡◌, ◌<◌, ◌≤◌, ◌↔◌, List, ℕ, false, length, IsTrue, IfSome, IfNone};
+ghost use Rattle.dns_text.specs.Tokens.{EndsToken, IsRun, Stands};
+ghost use Rattle.dns_zonefile.specs.PlainRow.{Words};
+ghost use Rattle.zone_core.specs.Entry.{texts_of, StartsWithSymbol, StartsWithSpaces};
+
 use arrayvec::ArrayVec;
 use dns_name::Symbol;
 
 /// The words of a row. An SOA record has the most.
-pub(crate) type Words<'t> = ArrayVec<&'t [u8], 11>;
+pub(crate) type RowWords<'t> = ArrayVec<&'t [u8], 11>;
 
 /// The words of the row at the front, with spaces between them, and the text behind its line feed.
 ///
 /// None where no such row stands there, and where it has more than 11 words.
-pub(crate) fn split_words(text: &[u8]) -> Option<(Words<'_>, &[u8])> {
+pub(crate) fn split_words(text: &[u8]) -> Option<(RowWords<'_>, &[u8])>
+    ensures found { IfSome result (λ found. Words text.now (texts_of found.0.items) found.1.now) }
+    ensures none { IfNone result ((words : List (List ℕ)) (rest : List ℕ) → length words ≤ 11 → Words text.now words rest → ⊥) }
+{
     let mut words = ArrayVec::new();
     let mut rest = text;
     while !words.is_full() {
@@ -25,7 +33,10 @@ pub(crate) fn split_words(text: &[u8]) -> Option<(Words<'_>, &[u8])> {
 }
 
 /// The longest word at the front, and the text behind it.
-pub(crate) fn split_word(text: &[u8]) -> Option<(&[u8], &[u8])> {
+pub(crate) fn split_word(text: &[u8]) -> Option<(&[u8], &[u8])>
+    ensures found { IfSome result (λ found. IsRun false text.now found.0.now found.1.now × (0 < length found.0.now)) }
+    ensures none { IfNone result (EndsToken false text.now) }
+{
     let mut rest = text;
     while let Some(behind) = skip_symbol(rest) {
         rest = behind;
@@ -39,7 +50,10 @@ pub(crate) fn split_word(text: &[u8]) -> Option<(&[u8], &[u8])> {
 }
 
 /// The text behind a symbol that may stand in a word.
-fn skip_symbol(text: &[u8]) -> Option<&[u8]> {
+fn skip_symbol(text: &[u8]) -> Option<&[u8]>
+    ensures found { IfSome result (λ rest. StartsWithSymbol text.now rest.now) }
+    ensures none { IfNone result (EndsToken false text.now) }
+{
     let (symbol, rest) = Symbol::split_from(text)?;
     if stands_in_word(symbol) {
         Some(rest)
@@ -49,12 +63,19 @@ fn skip_symbol(text: &[u8]) -> Option<&[u8]> {
 }
 
 /// Whether the symbol may stand in a word: a space, a quote, parentheses and a semicolon stand only escaped.
-fn stands_in_word(symbol: Symbol) -> bool {
+fn stands_in_word(symbol: Symbol) -> bool
+    ensures { IsTrue result ↔ Stands false symbol }
+{
     !matches!(symbol, Symbol::Char(' ' | '"' | '(' | ')' | ';'))
 }
 
 /// The text behind the spaces in front.
-fn skip_spaces(text: &[u8]) -> &[u8] {
-    let end = text.iter().position(|&octet| octet != b' ');
-    &text[end.unwrap_or(text.len())..]
+fn skip_spaces(text: &[u8]) -> &[u8]
+    ensures { StartsWithSpaces text.now result.now }
+{
+    let mut rest = text;
+    while let Some((b' ', behind)) = rest.split_first() {
+        rest = behind;
+    }
+    rest
 }
