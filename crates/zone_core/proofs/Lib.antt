@@ -11,3 +11,4 @@ pub mod TriedTransfer
 pub mod Questions
 pub mod Patched
 pub mod Placing
+pub mod Streams
