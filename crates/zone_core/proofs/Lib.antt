@@ -12,3 +12,4 @@ pub mod Questions
 pub mod Patched
 pub mod Placing
 pub mod Streams
+pub mod SendFaults

@@ -8,6 +8,7 @@ pub mod Frames
 pub mod Transfer
 pub mod Sent
 pub mod Owned
+pub mod Seen
 pub mod Sending
 pub mod View
 pub mod Records

@@ -1,15 +1,33 @@
 //! A zone: its records, in order.
+ghost use Rattle.std.specs.Prelude.{◌≡◌};
+ghost use Rattle.zone_core.specs.Owned.{records_of};
+ghost use Rattle.zone_core.specs.Records.{AreRecordsOf};
+ghost use Rattle.zone_core.specs.View.{apex_of};
+
 use crate::record::Record;
 use crate::text::entry::{EntryError, next_record};
 use crate::zone_error::ZoneError;
 use dns_name::{Class, Name, Rtype, Ttl};
 use std::alloc::Global;
+use std::marker::Model;
 
 /// A zone: one SOA record, and then the others of its class, all at or under the SOA's owner (RFC 1035 5.2).
 #[derive(Debug, Drop)]
 pub struct Zone {
     records: Vec<Record>,
     class: Class,
+}
+
+impl Model for Zone {
+    ghost use Rattle.zone_core.specs.View.{Contents};
+    ghost use Rattle.zone_core.specs.Owned.{records_of};
+    ghost use Rattle.zone_core.specs.Records.{AreRecordsOf};
+
+    ghost Value = { Contents };
+
+    ghost view = { λ zone. record { records = records_of zone.class zone.records.items; class = zone.class } };
+
+    ghost invariant = { λ zone. AreRecordsOf zone.class (records_of zone.class zone.records.items) };
 }
 
 impl Zone {
@@ -35,7 +53,10 @@ impl Zone {
     }
 
     /// The records in order; the SOA is the first of them.
-    pub fn records(&self) -> ZoneRecords<'_> {
+    pub fn records(&self) -> ZoneRecords<'_>
+        ensures records { result ≡ self.now.records }
+        ensures known { AreRecordsOf self.now.class self.now.records }
+    {
         ZoneRecords {
             rest: self.records.as_slice(),
             class: self.class,
@@ -43,17 +64,24 @@ impl Zone {
     }
 
     /// The zone's name: the owner of its SOA.
-    pub fn apex(&self) -> Name<&[u8]> {
+    pub fn apex(&self) -> Name<&[u8]>
+        ensures { result ≡ apex_of self.now.records }
+    {
         self.records[0].owner.for_ref()
     }
 
     /// The class of all the records.
-    pub fn class(&self) -> Class {
+    pub fn class(&self) -> Class
+        ensures { result ≡ self.now.class }
+    {
         self.class
     }
 
     /// The records as the zone owns them.
-    pub(crate) fn owned_records(&self) -> &[Record] {
+    pub(crate) fn owned_records(&self) -> &[Record]
+        ensures records { records_of self.now.class result.now ≡ self.now.records }
+        ensures known { AreRecordsOf self.now.class self.now.records }
+    {
         self.records.as_slice()
     }
 }
@@ -103,8 +131,25 @@ pub struct ZoneRecords<'a> {
     class: Class,
 }
 
+impl<'a> Model for ZoneRecords<'a> {
+    ghost use Rattle.std.specs.Prelude.{List};
+    ghost use Rattle.zone_core.specs.Record.{Record};
+    ghost use Rattle.zone_core.specs.Owned.{records_of};
+
+    ghost Value = { List Record };
+
+    ghost view = { λ it. records_of it.class it.rest.now };
+}
+
 impl<'a> Iterator for ZoneRecords<'a> {
+    ghost use Rattle.std.specs.Iterator.{YieldsFirstBy, item_count};
+    ghost use Rattle.zone_core.specs.Seen.{seen_record};
+
     type Item = ZoneRecord<'a>;
+
+    ghost next_gives = { YieldsFirstBy seen_record (λ records. records) };
+
+    ghost remaining = { item_count (λ records. records) };
 
     fn next(&mut self) -> Option<ZoneRecord<'a>> {
         let (record, rest) = self.rest.split_first()?;
@@ -124,28 +169,40 @@ pub struct ZoneRecord<'a> {
 }
 
 impl<'a> ZoneRecord<'a> {
+    ghost use Rattle.zone_core.specs.Seen.{seen_record};
+
     /// The name that the record is about.
-    pub fn owner(&self) -> Name<&'a [u8]> {
+    pub fn owner(&self) -> Name<&'a [u8]>
+        ensures { result ≡ (seen_record self.now).owner }
+    {
         self.record.owner.for_ref()
     }
 
     /// The type of the data.
-    pub fn rtype(&self) -> Rtype {
+    pub fn rtype(&self) -> Rtype
+        ensures { result ≡ (seen_record self.now).rtype }
+    {
         self.record.rtype
     }
 
     /// The class, which is the zone's.
-    pub fn class(&self) -> Class {
+    pub fn class(&self) -> Class
+        ensures { result ≡ (seen_record self.now).class }
+    {
         self.class
     }
 
     /// For how many seconds the record may be kept.
-    pub fn ttl(&self) -> Ttl {
+    pub fn ttl(&self) -> Ttl
+        ensures { result ≡ (seen_record self.now).ttl }
+    {
         self.record.ttl
     }
 
     /// The data as octets, with every name written out.
-    pub fn data(&self) -> &'a [u8] {
+    pub fn data(&self) -> &'a [u8]
+        ensures { result.now ≡ (seen_record self.now).rdata }
+    {
         self.record.data.as_slice()
     }
 }

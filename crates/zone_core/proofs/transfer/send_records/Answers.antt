@@ -28,9 +28,9 @@ loop-i-preserved c =
     let placed = at_true _ c.if-not-branch.false c.in_ok-put.ensures.placed in
     record {
       holds = λ query holds.
-        let P : List spec.Record → Type 0 = λ rs. Holds c.put.new.self query rs in
-        subst P (one_more (record_of query.class) c.args.records.now c.loop-i.i c.index-records-i.result c.loop-i-test.true c.index-records-i.is)
-        (placed query (records_of query.class (take c.loop-i.i c.args.records.now)) (c.loop-i.invariant.holds query holds));
+          let P : List spec.Record → Type 0 = λ rs. Holds c.put.new.self query rs in
+          subst P (one_more (record_of query.class) c.args.records.now c.loop-i.i c.index-records-i.result c.loop-i-test.true c.index-records-i.is)
+          (placed query (records_of query.class (take c.loop-i.i c.args.records.now)) (c.loop-i.invariant.holds query holds));
       max = c.in_ok-put.ensures.max ∙ c.loop-i.invariant.max;
     }
 
