@@ -9,6 +9,8 @@ pub mod HeldWords
 pub mod NumberTexts
 pub mod RecordData
 pub mod EntryRows
+pub mod ReadEntries
+pub mod ReadZones
 pub mod Plain
 pub mod Framing
 pub mod WrittenAnswers
@@ -19,5 +21,5 @@ pub mod OneTransfer
 pub mod Questions
 pub mod Patched
 pub mod Placing
-pub mod ReadEntries
-pub mod ReadZones
+pub mod Streams
+pub mod SendFaults

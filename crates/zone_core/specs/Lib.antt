@@ -8,11 +8,11 @@ pub mod Frames
 pub mod Transfer
 pub mod Sent
 pub mod Owned
+pub mod Seen
 pub mod Entry
 pub mod Sending
-pub mod Records
 pub mod View
+pub mod Records
 pub mod Rules
 pub mod Reading
-pub mod ZoneRecord
 pub mod Tried

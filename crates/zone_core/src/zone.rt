@@ -1,12 +1,13 @@
 //! A zone: its records, in order.
-ghost use Rattle.std.specs.Prelude.{◌≡◌, ◌≢◌, ◌<◌, ◌^◌, ◌++◌, ◌∷◌, [], ◌+◌, List, ℕ, length, map, IfOk, IfErr, OnOk, IfSome, IfNone};
-ghost use Rattle.zone_core.specs.Records.{AreRecordsOf, apex_of};
-ghost use Rattle.zone_core.specs.Zone.{IsZoneFront, any_class};
-ghost use Rattle.zone_core.specs.ZoneText.{Entries, IsZoneText, IsZoneFault};
+ghost use Rattle.std.specs.Prelude.{◌≡◌, ◌≢◌, ◌<◌, ◌^◌, ◌++◌, ◌∷◌, [], ◌+◌, ℕ, map, IfOk, IfErr, OnOk, IfSome, IfNone};
 ghost use Rattle.zone_core.specs.Entry.{EndsBehindRows};
-ghost use Rattle.zone_core.specs.Owned.{record_of};
-ghost use Rattle.zone_core.specs.Rules.{BreaksRule};
+ghost use Rattle.zone_core.specs.Owned.{record_of, records_of};
 ghost use Rattle.zone_core.specs.Reading.{IsWhole, StopsReading};
+ghost use Rattle.zone_core.specs.Records.{AreRecordsOf};
+ghost use Rattle.zone_core.specs.Rules.{BreaksRule};
+ghost use Rattle.zone_core.specs.View.{apex_of};
+ghost use Rattle.zone_core.specs.Zone.{IsZoneFront, any_class};
+ghost use Rattle.zone_core.specs.ZoneText.{Entries, IsZoneFault, IsZoneText};
 
 use crate::record::Record;
 use crate::text::entry::{EntryError, next_record};
@@ -23,16 +24,15 @@ pub struct Zone {
 }
 
 impl Model for Zone {
-    ghost use Rattle.std.specs.Prelude.{map};
     ghost use Rattle.zone_core.specs.View.{Contents};
-    ghost use Rattle.zone_core.specs.Owned.{record_of};
+    ghost use Rattle.zone_core.specs.Owned.{records_of};
     ghost use Rattle.zone_core.specs.Records.{AreRecordsOf};
 
     ghost Value = { Contents };
 
-    ghost view = { λ zone. record { records = map (record_of zone.class) zone.records.items; class = zone.class } };
+    ghost view = { λ zone. record { records = records_of zone.class zone.records.items; class = zone.class } };
 
-    ghost invariant = { λ zone. AreRecordsOf zone.class (map (record_of zone.class) zone.records.items) };
+    ghost invariant = { λ zone. AreRecordsOf zone.class (records_of zone.class zone.records.items) };
 }
 
 impl Zone {
@@ -63,7 +63,8 @@ impl Zone {
 
     /// The records in order; the SOA is the first of them.
     pub fn records(&self) -> ZoneRecords<'_>
-        ensures { result ≡ self.now.records }
+        ensures records { result ≡ self.now.records }
+        ensures known { AreRecordsOf self.now.class self.now.records }
     {
         ZoneRecords {
             rest: self.records.as_slice(),
@@ -87,8 +88,8 @@ impl Zone {
 
     /// The records as the zone owns them.
     pub(crate) fn owned_records(&self) -> &[Record]
-        ensures records { map (record_of self.now.class) result.now ≡ self.now.records }
-        ensures lawful { AreRecordsOf self.now.class self.now.records }
+        ensures records { records_of self.now.class result.now ≡ self.now.records }
+        ensures known { AreRecordsOf self.now.class self.now.records }
     {
         self.records.as_slice()
     }
@@ -164,22 +165,22 @@ pub struct ZoneRecords<'a> {
 }
 
 impl<'a> Model for ZoneRecords<'a> {
-    ghost use Rattle.std.specs.Prelude.{List, map};
-    ghost use Rattle.zone_core.specs.Record as spec;
-    ghost use Rattle.zone_core.specs.Owned.{record_of};
+    ghost use Rattle.std.specs.Prelude.{List};
+    ghost use Rattle.zone_core.specs.Record.{Record};
+    ghost use Rattle.zone_core.specs.Owned.{records_of};
 
-    ghost Value = { List spec.Record };
+    ghost Value = { List Record };
 
-    ghost view = { λ records. map (record_of records.class) records.rest.now };
+    ghost view = { λ it. records_of it.class it.rest.now };
 }
 
 impl<'a> Iterator for ZoneRecords<'a> {
     ghost use Rattle.std.specs.Iterator.{YieldsFirstBy, item_count};
-    ghost use Rattle.zone_core.specs.ZoneRecord.{record_in};
+    ghost use Rattle.zone_core.specs.Seen.{seen_record};
 
     type Item = ZoneRecord<'a>;
 
-    ghost next_gives = { YieldsFirstBy record_in (λ records. records) };
+    ghost next_gives = { YieldsFirstBy seen_record (λ records. records) };
 
     ghost remaining = { item_count (λ records. records) };
 
@@ -201,39 +202,39 @@ pub struct ZoneRecord<'a> {
 }
 
 impl<'a> ZoneRecord<'a> {
-    ghost use Rattle.zone_core.specs.ZoneRecord.{record_in};
+    ghost use Rattle.zone_core.specs.Seen.{seen_record};
 
     /// The name that the record is about.
     pub fn owner(&self) -> Name<&'a [u8]>
-        ensures { result ≡ (record_in self.now).owner }
+        ensures { result ≡ (seen_record self.now).owner }
     {
         self.record.owner.for_ref()
     }
 
     /// The type of the data.
     pub fn rtype(&self) -> Rtype
-        ensures { result ≡ (record_in self.now).rtype }
+        ensures { result ≡ (seen_record self.now).rtype }
     {
         self.record.rtype
     }
 
     /// The class, which is the zone's.
     pub fn class(&self) -> Class
-        ensures { result ≡ (record_in self.now).class }
+        ensures { result ≡ (seen_record self.now).class }
     {
         self.class
     }
 
     /// For how many seconds the record may be kept.
     pub fn ttl(&self) -> Ttl
-        ensures { result ≡ (record_in self.now).ttl }
+        ensures { result ≡ (seen_record self.now).ttl }
     {
         self.record.ttl
     }
 
     /// The data as octets, with every name written out.
     pub fn data(&self) -> &'a [u8]
-        ensures { result.now ≡ (record_in self.now).rdata }
+        ensures { result.now ≡ (seen_record self.now).rdata }
     {
         self.record.data.as_slice()
     }
