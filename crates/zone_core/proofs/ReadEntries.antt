@@ -85,7 +85,7 @@ soa-row m r n1 n2 n3 n4 n5 m_is r_is f1 f2 f3 f4 f5 = record {
   kinds = refl;
   each = (m_is, (r_is, (f1, (f2, (f3, (f4, (f5, tt)))))));
   short = let numbers = to_be_bytes w32 n1 ++ (to_be_bytes w32 n2 ++ (to_be_bytes w32 n3 ++ (to_be_bytes w32 n4 ++ (to_be_bytes w32 n5 ++ [])))) in
-    omega (arith, length-append (wire m) (wire r ++ numbers), length-append (wire r) numbers, m_is.short, r_is.short);
+      omega (arith, length-append (wire m) (wire r ++ numbers), length-append (wire r) numbers, m_is.short, r_is.short);
 }
 
 -- a row of a type that is no CAA makes a record of the class
@@ -107,7 +107,7 @@ record-lawful {class} (words {name = name} {seconds = seconds} {row = row} owner
 record-lawful {class} (words {name = name} {seconds = seconds} {row = row} owner ttl class_is type_is
     (soa {m = m} {r = r} {n1 = n1} {n2 = n2} {n3 = n3} {n4 = n4} {n5 = n5} m_is r_is f1 f2 f3 f4 f5)) fits =
     row-lawful class 6 seconds name row (soa-row m r n1 n2 n3 n4 n5 (absolute-is-name m_is) (absolute-is-name r_is) f1.fits f2.fits f3.fits f4.fits f5.fits)
-      (absolute-is-name owner) ttl.fits fits (omega arith)
+    (absolute-is-name owner) ttl.fits fits (omega arith)
 
 -- an entry is a record of the class
 pub entry-lawful : {class : ℕ} {text rest : List ℕ} {r : Record} → Entries class text (r ∷ []) rest → class < 2 ^ 16 → IsRecordOf class r

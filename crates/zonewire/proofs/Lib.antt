@@ -3,3 +3,4 @@ mod Uses
 mod Rows
 mod Named
 mod Numbers
+pub mod Outputs
