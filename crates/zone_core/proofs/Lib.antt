@@ -16,3 +16,5 @@ pub mod LastRecord
 pub mod SentTransfers
 pub mod TriedTransfer
 pub mod OneTransfer
+pub mod OneRecord
+pub mod OneReading
