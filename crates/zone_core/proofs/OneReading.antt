@@ -1,11 +1,11 @@
 -- A text has one reading: two readings of its rows have the one as a front of the other.
-use Rattle.std.proofs.Common.{◌≡◌, ◌≢◌, ◌⊎◌, ◌+◌, ℕ, Bool, true, false, List, [], ◌∷◌, ◌++◌, length, refl, sym, ◌∙◌, ap, subst, append-nil, inl, inr}
+use Rattle.std.proofs.Common.{◌≡◌, ◌≢◌, ◌⊎◌, ◌+◌, ℕ, true, false, List, [], ◌∷◌, ◌++◌, length, refl, sym, ◌∙◌, ap, subst, append-nil, inl, inr}
 use Rattle.std.specs.List.{AllByRecursion}
-use Rattle.dns_text.specs.Tokens.{IsEmptyRow, is_end}
-use Rattle.dns_zonefile.specs.PlainRow.{PlainRow, RecordWords}
+use Rattle.dns_text.specs.Tokens.{is_end}
+use Rattle.dns_zonefile.specs.PlainRow.{RecordWords}
 use Rattle.zone_core.specs.Record.{Record}
 use Rattle.zone_core.specs.Zone.{IsUnder, IsZone, IsZoneFront, IsBehindSoa, any_class, soa_type}
-use Rattle.zone_core.specs.ZoneText.{Entries, IsRefused, IsZoneText, IsZoneFault, Reaches, StopsAt}
+use Rattle.zone_core.specs.ZoneText.{Entries, IsRefused, IsZoneText, IsZoneFault, Reaches}
 use Rattle.zone_core.specs.ZoneText.Entries.{none, empty, entry}
 use Rattle.zone_core.specs.declared.zone_error.ZoneError.{ZoneError}
 use Rattle.zone_core.specs.declared.zone_error.ZoneError.TheVariants as zone_error

@@ -1,5 +1,5 @@
 -- Words spell one record at most.
-use Rattle.std.proofs.Common.{◌≡◌, ◌<◌, ◌≤◌, ◌^◌, ℕ, List, [], ◌∷◌, ◌++◌, length, Option, Some, refl, sym, ◌∙◌, ap, subst, arith, length-append}
+use Rattle.std.proofs.Common.{◌≡◌, ℕ, List, [], ◌∷◌, ◌++◌, length, Option, Some, refl, sym, ◌∙◌, ap, subst, arith, length-append}
 use Rattle.std.specs.List.{AllByRecursion, flat_map}
 use Rattle.std.specs.declared.net.ipv4_addr.Ipv4Addr.{Ipv4Addr}
 use Rattle.std.specs.Net.Grammar.{IsDotted}
@@ -10,7 +10,7 @@ use Rattle.dns_label.specs.Symbol.{IsSymbol, spelled}
 use Rattle.dns_label.specs.Name.{IsLabel}
 use Rattle.dns_label.specs.NameText.{HasParts, IsAbsoluteText, parts_of}
 use Rattle.dns_label.specs.NameText.IsAbsoluteText.{root, labels}
-use Rattle.dns_rdata.specs.Fields.{Field, ipv4, compressible, number32, octets}
+use Rattle.dns_rdata.specs.Fields.{Field, ipv4, octets}
 use Rattle.dns_zonefile.specs.PlainRow.{DataWords, RecordWords}
 use Rattle.dns_zonefile.specs.PlainRow.DataWords.{a as a_data, soa as soa_data}
 use Rattle.dns_zonefile.specs.PlainRow.RecordWords.{words}
