@@ -18,3 +18,4 @@ pub mod TriedTransfer
 pub mod OneTransfer
 pub mod OneRecord
 pub mod OneReading
+pub mod EntryLists
