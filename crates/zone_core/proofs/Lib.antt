@@ -9,8 +9,11 @@ pub mod HeldWords
 pub mod NumberTexts
 pub mod RecordData
 pub mod EntryRows
+pub mod EntryLists
 pub mod ReadEntries
 pub mod ReadZones
+pub mod OneRecord
+pub mod OneReading
 pub mod Plain
 pub mod Framing
 pub mod WrittenAnswers
