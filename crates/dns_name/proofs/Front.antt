@@ -1,10 +1,11 @@
 -- A name in front of octets, of which the first 255 are looked at.
-use Rattle.std.proofs.Common.{◌≡◌, ℕ, ◌+◌, ◌-◌, ◌<◌, ◌≤◌, List, [], ◌∷◌, ◌++◌, length, take, drop, refl, sym, ◌∙◌, ap, subst, arith, append_assoc, length-append, length-drop, length-take, zero, suc}
+use Rattle.std.proofs.Common.{◌≡◌, ℕ, ◌+◌, ◌-◌, ◌<◌, ◌≤◌, List, [], ◌∷◌, ◌++◌, length, take, drop, sym, ◌∙◌, ap, subst, arith, append_assoc, length-append, length-drop, length-take, zero, suc}
 use Rattle.std.proofs.Math.Seq.{take-append_seam, drop-append_seam}
 use Rattle.std.proofs.lemmas.List.{take-append-drop, drop-drop, take_all}
-use Rattle.std.proofs.lemmas.Grind.{common_steps}
-use Rattle.dns_label.specs.Name.{IsLabel, IsName, wire}
+use Rattle.dns_label.specs.Name.{IsName, wire}
 use Rattle.dns_label.specs.Labels.{labels_at}
+use Rattle.dns_octets.specs.Parser.{octets_of, place_of, rest_of, GoesOn}
+use Rattle.dns_octets.specs.declared.parser.Parser.{Parser}
 use Rattle.dns_name.specs.Flat.{StartsWithName, IsWritten}
 use Rattle.dns_name.proofs.Flat.{flat-labels, flat-written}
 
@@ -63,10 +64,10 @@ front_taken octets front behind taken place len name is here long got =
     let size = front_len octets front behind place len name is here long in
     let rest = behind ++ drop 255 (drop place octets) in
     let wired : taken ≡ wire name =
-      got ∙ ap (λ n. take n (drop place octets)) size ∙ ap (λ l. take (length (wire name)) l) whole ∙ take-append_seam (wire name) rest in
+    got ∙ ap (λ n. take n (drop place octets)) size ∙ ap (λ l. take (length (wire name)) l) whole ∙ take-append_seam (wire name) rest in
     let left : drop (place + len) octets ≡ rest =
-      ap (λ n. drop n octets) (omega arith) ∙ sym (drop-drop len place octets) ∙ ap (λ n. drop n (drop place octets)) size
-      ∙ ap (λ l. drop (length (wire name)) l) whole ∙ drop-append_seam (wire name) rest in
+    ap (λ n. drop n octets) (omega arith) ∙ sym (drop-drop len place octets) ∙ ap (λ n. drop n (drop place octets)) size
+    ∙ ap (λ l. drop (length (wire name)) l) whole ∙ drop-append_seam (wire name) rest in
     let found = flat-labels taken name is_name wired in
     let written = flat-written taken name is_name wired in
     record {
@@ -91,3 +92,8 @@ pub front_all : (octets : List ℕ) (place : ℕ) → length octets < place + 25
 front_all octets place few =
     take_all (length octets - place) (drop place octets) (omega (arith, length-drop place octets))
     ∙ sym (take_all 255 (drop place octets) (omega (arith, length-drop place octets)))
+
+-- what is left where the parser has gone on
+pub goes_rest : {old new : Parser} {count : ℕ} → GoesOn old new count → drop (place_of old + count) (octets_of old) ≡ rest_of new
+goes_rest {old} {new} {count} goes =
+    ap (λ (n : ℕ). drop n (octets_of old)) (sym goes.place) ∙ ap (λ o. drop (place_of new) o.now) (sym goes.octets)

@@ -1,7 +1,7 @@
 -- What the head at a place says of the name that is spelled there.
-use Rattle.std.proofs.Common.{◌≡◌, ℕ, ◌+◌, ◌-◌, ◌*◌, ◌<◌, ◌≤◌, zero, suc, List, [], ◌∷◌, ◌++◌, length, drop, refl, sym, ◌∙◌, ap, subst, arith, inl, inr, length-drop, length-append}
+use Rattle.std.proofs.Common.{◌≡◌, ℕ, ◌+◌, ◌-◌, ◌*◌, ◌<◌, ◌≤◌, suc, List, [], ◌∷◌, ◌++◌, length, drop, refl, ◌∙◌, ap, subst, arith, inl, inr, length-drop, length-append}
 use Rattle.std.specs.List.{AllByRecursion}
-use Rattle.dns_label.specs.Name.{IsLabel, wire}
+use Rattle.dns_label.specs.Name.{IsLabel}
 use Rattle.dns_label.specs.Spelled.{Spells}
 use Rattle.dns_label.specs.Spelled.Spells.{root, label, pointer}
 use Rattle.dns_label.specs.Split.{StartsWithLabel, StartsWithPointer, NoLabel}
@@ -101,7 +101,12 @@ spelled-not (label {label = text} rest at is_label parent) no_label no_pointer =
     no_label text rest (record { spelled = at; short = is_label.short })
 spelled-not (pointer first second after rest at both back name) no_label no_pointer =
     no_pointer (256 * (first - 192) + second) (record {
-      first = first; second = second; rest = rest; spelled = at; both_bits = both; is = refl;
+      first = first;
+      second = second;
+      rest = rest;
+      spelled = at;
+      both_bits = both;
+      is = refl;
     })
 
 pub bad_type-no_pointer : (octets : List ℕ) (kind : LabelTypeError) (target : ℕ) → NoLabel octets (BadType kind)
@@ -138,7 +143,7 @@ pub label-within : (message text rest : List ℕ) (place : ℕ) → StartsWithLa
     → place ≤ length message → place + 1 + length text ≤ length message
 label-within message text rest place front within =
     let e : length (drop place message) ≡ 1 + (length text + length rest) =
-      ap (length {A = ℕ}) front.spelled ∙ omega (arith, length-append text rest) in
+    ap (length {A = ℕ}) front.spelled ∙ omega (arith, length-append text rest) in
     omega (arith, length-drop place message)
 
 -- an error of a known kind

@@ -6,3 +6,6 @@ pub mod Readable
 pub mod Front
 pub mod Case
 pub mod Items
+pub mod Parts
+pub mod Drafts
+pub mod Texts

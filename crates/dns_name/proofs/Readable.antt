@@ -1,14 +1,14 @@
 -- The labels of a name that is read at a place, one after another.
-use Rattle.std.proofs.Common.{◌≡◌, ℕ, ◌+◌, ◌-◌, ◌*◌, ◌<◌, ◌≤◌, zero, suc, List, [], ◌∷◌, ◌++◌, length, drop, refl, sym, ◌∙◌, ap, subst, arith, length-append}
+use Rattle.std.proofs.Common.{◌≡◌, ℕ, ◌+◌, ◌<◌, ◌≤◌, suc, List, [], ◌∷◌, length, drop, sym, ◌∙◌, ap, subst, arith, length-append}
 use Rattle.std.proofs.lemmas.List.{drop_all}
 use mathlib.Core.Logic.{∥∥₁_elim, ∥∥₁_map}
-
 use Rattle.std.specs.Coded.{Coded-set, coded_ℕ, coded_list}
 use Rattle.dns_label.specs.Name.{IsLabel, IsName, wire, with_root}
 use Rattle.dns_name.proofs.Wire.{few_labels, root_length}
+use Rattle.std.specs.List.{AllByRecursion}
 use Rattle.dns_label.specs.Spelled.{Spells, Reads}
 use Rattle.dns_label.specs.Labels.{labels_at}
-use Rattle.dns_label.specs.Split.{StartsWithLabel, StartsWithPointer, NoLabel}
+use Rattle.dns_label.specs.Split.{StartsWithLabel, StartsWithPointer}
 use Rattle.dns_label.proofs.Spelling.{labels_at-reads}
 use Rattle.dns_name.specs.Parsed.{IsReadAt}
 use Rattle.dns_name.proofs.Heads.{spelled-more, spelled-not, spelled-root, spelled-label, spelled-pointer}
@@ -84,7 +84,7 @@ read-led : (message : List ℕ) (place target : ℕ) → StartsWithPointer (drop
 read-led message place target at read =
     let led = spelled-pointer target read.reads.spelled at in
     let reads : Reads message target (labels_at message place) led.after =
-      record { spelled = more_by_one led.pointers_is led.spelled; is_name = read.reads.is_name } in
+    record { spelled = more_by_one led.pointers_is led.spelled; is_name = read.reads.is_name } in
     record {
       labels = sym (labels_at-reads reads);
       read = read_at message target led.after (labels_at message place) reads;
@@ -129,3 +129,20 @@ parsed_ok {octets} {whole} {place} {pos} {next} {end} same here there reads =
     let R : ℕ → Type 0 = λ n. Reads octets place (labels_at octets place) n in
     let S : List (List ℕ) → Type 0 = λ n. Reads octets place n next in
     subst P same (subst Q here (subst R (sym there) (subst S (sym (labels_at-reads reads)) reads)))
+
+labels_from_merely : (name : List (List ℕ)) → ∥ AllByRecursion IsLabel name ∥₁ → AllByRecursion IsLabel name
+labels_from_merely [] there = tt
+labels_from_merely (text ∷ name) there =
+    let some : length text ≤ 0 → ⊥ = λ none. none_from_merely there (λ each. omega (arith, each.0.some)) in
+    let short : 63 < length text → ⊥ = λ long. none_from_merely there (λ each. omega (arith, each.0.short)) in
+    (record { some = omega arith; short = omega arith }, labels_from_merely name (∥∥₁_map there (λ each. each.1)))
+
+-- what is read is a name
+pub read-name : (message : List ℕ) (place : ℕ) → ∥ IsReadAt message place ∥₁ → IsName (labels_at message place)
+read-name message place there =
+    let short : 255 < length (wire (labels_at message place)) → ⊥ =
+    λ long. none_from_merely there (λ read. omega (arith, read.reads.is_name.short)) in
+    record {
+      labels = labels_from_merely (labels_at message place) (∥∥₁_map there (λ read. read.reads.is_name.labels));
+      short = omega arith;
+    }

@@ -1,12 +1,11 @@
 -- The walk over the heads of a name.
-use Rattle.std.proofs.Common.{◌≡◌, ℕ, ◌+◌, ◌-◌, ◌*◌, ◌<◌, ◌≤◌, zero, suc, List, [], ◌∷◌, ◌++◌, length, drop, refl, sym, ◌∙◌, ap, subst, arith, append_assoc, append-nil}
+use Rattle.std.proofs.Common.{◌≡◌, ℕ, ◌+◌, ◌<◌, ◌≤◌, suc, List, [], ◌∷◌, ◌++◌, length, drop, refl, sym, ◌∙◌, ap, subst, arith, append_assoc}
 use Rattle.std.specs.Prelude.{Option, Some, None, unwrap_or}
-use Rattle.std.specs.List.{AllByRecursion}
-use Rattle.dns_label.specs.Name.{IsLabel, IsName, wire, labels_wire}
+use Rattle.dns_label.specs.Name.{wire, labels_wire}
 use Rattle.dns_label.specs.Spelled.{Spells, Reads}
 use Rattle.dns_label.specs.Spelled.Spells.{root, label, pointer}
-use Rattle.dns_label.specs.Split.{StartsWithLabel, StartsWithPointer, NoLabel}
-use Rattle.dns_name.proofs.Wire.{length-wire_is, length-wire-append, length-labels_wire_more}
+use Rattle.dns_label.specs.Split.{StartsWithLabel, StartsWithPointer}
+use Rattle.dns_name.proofs.Wire.{length-wire-append, length-labels_wire_more}
 use Rattle.dns_name.proofs.Heads.{spelled-labels, spelled-root, spelled-label, spelled-pointer}
 
 -- what is left of a name that has these labels in front
@@ -20,7 +19,7 @@ pub record Comes (message : List ℕ) (left place : ℕ) (front whole : List (Li
 pub record Walks (message : List ℕ) (start place len left : ℕ) (behind : Option ℕ) : Type 0 where
   pub front : List (List ℕ)
   pub on : (name : List (List ℕ)) (after : ℕ) → Spells message left place name after
-    → Spells message 255 start (front ++ name) (unwrap_or behind after)
+      → Spells message 255 start (front ++ name) (unwrap_or behind after)
   pub back : (whole : List (List ℕ)) (end : ℕ) → Spells message 255 start whole end → Comes message left place front whole
   pub long : length (labels_wire front) ≡ len
 
@@ -41,18 +40,18 @@ walks-label {message} {start} {place} {len} {left} {behind} text rest place' len
     subst P (sym is) (record {
       front = walks.front ++ text ∷ [];
       on = λ name after here.
-        let Q : List (List ℕ) → Type 0 = λ n. Spells message 255 start n (unwrap_or behind after) in
-        subst Q (sym (append_assoc walks.front (text ∷ []) name))
-        (walks.on (text ∷ name) after (label rest at.spelled (record { some = some; short = at.short }) here));
+          let Q : List (List ℕ) → Type 0 = λ n. Spells message 255 start n (unwrap_or behind after) in
+          subst Q (sym (append_assoc walks.front (text ∷ []) name))
+          (walks.on (text ∷ name) after (label rest at.spelled (record { some = some; short = at.short }) here));
       back = λ whole end here.
-        let comes = walks.back whole end here in
-        let more = spelled-label text rest comes.spelled at some in
-        record {
-          name = more.parent;
-          after = comes.after;
-          spelled = more.spelled;
-          whole_is = comes.whole_is ∙ ap (λ n. walks.front ++ n) more.whole_is ∙ sym (append_assoc walks.front (text ∷ []) more.parent);
-        };
+          let comes = walks.back whole end here in
+          let more = spelled-label text rest comes.spelled at some in
+          record {
+            name = more.parent;
+            after = comes.after;
+            spelled = more.spelled;
+            whole_is = comes.whole_is ∙ ap (λ n. walks.front ++ n) more.whole_is ∙ sym (append_assoc walks.front (text ∷ []) more.parent);
+          };
       long = omega (arith, walks.long, length-labels_wire_more walks.front text);
     })
 
@@ -62,16 +61,16 @@ pub walks-pointer : {message : List ℕ} {start place len left : ℕ} {behind : 
 walks-pointer {message} {start} {place} {len} {left} {behind} target left' walks at less more = record {
   front = walks.front;
   on = λ name after here.
-    let P : ℕ → Type 0 = λ n. Spells message left' n name after in
-    let Q : ℕ → Type 0 = λ n. Spells message n place name (place + 2) in
-    walks.on name (place + 2)
-    (subst Q (sym more) (pointer at.first at.second after at.rest at.spelled at.both_bits (omega (arith, at.is)) (subst P at.is here)));
+      let P : ℕ → Type 0 = λ n. Spells message left' n name after in
+      let Q : ℕ → Type 0 = λ n. Spells message n place name (place + 2) in
+      walks.on name (place + 2)
+      (subst Q (sym more) (pointer at.first at.second after at.rest at.spelled at.both_bits (omega (arith, at.is)) (subst P at.is here)));
   back = λ whole end here.
-    let comes = walks.back whole end here in
-    let led = spelled-pointer target comes.spelled at in
-    let same : led.left ≡ left' = omega (arith, led.pointers_is) in
-    let P : ℕ → Type 0 = λ n. Spells message n target comes.name led.after in
-    record { name = comes.name; after = led.after; spelled = subst P same led.spelled; whole_is = comes.whole_is };
+      let comes = walks.back whole end here in
+      let led = spelled-pointer target comes.spelled at in
+      let same : led.left ≡ left' = omega (arith, led.pointers_is) in
+      let P : ℕ → Type 0 = λ n. Spells message n target comes.name led.after in
+      record { name = comes.name; after = led.after; spelled = subst P same led.spelled; whole_is = comes.whole_is };
   long = walks.long;
 }
 

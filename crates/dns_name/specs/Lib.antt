@@ -1,7 +1,9 @@
 pub mod Flat
 pub mod Parsed
+pub mod ParsedName
 pub mod Suffix
 pub mod Text
+pub mod Draft
 pub use Rattle.dns_octets.specs.Parser
 pub use Rattle.dns_label.specs.Name
 pub use Rattle.dns_label.specs.Spelled

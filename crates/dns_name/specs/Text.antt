@@ -7,3 +7,8 @@ use Rattle.dns_name.specs.declared.text.FromStrError.TheVariants.{Presentation, 
 abbrev pub IsRefused : (List ℕ → List (List ℕ) → Type 0) → List ℕ → FromStrError → Type 0
 IsRefused Spells text (Presentation error) = (name : List (List ℕ)) → Spells text name → ⊥
 IsRefused Spells text ShortBuf = (name : List (List ℕ)) × Spells text name
+
+-- the text is at fault, and not memory
+abbrev pub IsFault : FromStrError → Type 0
+IsFault (Presentation error) = Unit {0}
+IsFault ShortBuf = ⊥

@@ -33,6 +33,7 @@ impl<Octs: Octets + Copy> Copy for ParsedName<Octs> {}
 
 impl<'a> ParsedName<&'a [u8]> {
     ghost use Rattle.dns_octets.specs.Parser.{octets_of, place_of};
+    ghost use Rattle.dns_name.specs.ParsedName.{labels_of};
 
     /// Reads the name at the parser's place, and leaves the parser behind it: behind its root, or behind its first
     /// pointer.
@@ -40,7 +41,7 @@ impl<'a> ParsedName<&'a [u8]> {
     /// A pointer has to be less than its own place, at most 255 of them are followed, and the name has at most 255
     /// octets. Refused where no such name stands, and the parser then stays where it is.
     pub fn parse(parser: &mut Parser<'a>) -> Result<Self, ParseError>
-        ensures ok { IfOk result (λ name. Reads (octets_of parser.old) (place_of parser.old) (labels_at name.octets.now name.start) (place_of parser.new)) }
+        ensures ok { IfOk result (λ name. Reads (octets_of parser.old) (place_of parser.old) (labels_of name) (place_of parser.new)) }
         ensures err { OnErr result ((name : List (List ℕ)) (next : ℕ) → Reads (octets_of parser.old) (place_of parser.old) name next → ⊥) }
         ensures same { octets_of parser.new ≡ octets_of parser.old }
         ensures stays { OnErr result (parser.new ≡ parser.old) }
@@ -58,23 +59,25 @@ impl<'a> ParsedName<&'a [u8]> {
 }
 
 impl<Octs: Octets> ParsedName<Octs> {
+    ghost use Rattle.dns_name.specs.ParsedName.{labels_in};
+
     /// Whether this is the root, which has no labels but its own.
     pub fn is_root(&self) -> bool
-        ensures { IsTrue result ↔ (labels_at (Octs.list self.now.octets) self.now.start ≡ []) }
+        ensures { IsTrue result ↔ (labels_in Octs.list self.now ≡ []) }
     {
         self.len == 1
     }
 
     /// How many labels there are, the root's counted.
     pub fn label_count(&self) -> usize
-        ensures { result ≡ length (with_root (labels_at (Octs.list self.now.octets) self.now.start)) }
+        ensures { result ≡ length (with_root (labels_in Octs.list self.now)) }
     {
         self.iter().count()
     }
 
     /// The labels from the left, the root's last.
     pub fn iter(&self) -> ParsedNameIter<'_>
-        ensures labels { result ≡ with_root (labels_at (Octs.list self.now.octets) self.now.start) }
+        ensures labels { result ≡ with_root (labels_in Octs.list self.now) }
         ensures few { length result ≤ 128 }
     {
         ParsedNameIter::at(self.octets.octets(), self.start)
@@ -82,7 +85,9 @@ impl<Octs: Octets> ParsedName<Octs> {
 }
 
 impl<Octs: Octets> ToLabelIter for ParsedName<Octs> {
-    ghost labels = { λ name. with_root (labels_at (Octs.list name.octets) name.start) };
+    ghost use Rattle.dns_name.specs.ParsedName.{labels_in};
+
+    ghost labels = { λ name. with_root (labels_in Octs.list name) };
 
     fn label(&self, index: usize) -> Option<Label<'_>> {
         self.iter().label(index)
@@ -94,7 +99,9 @@ impl<Octs: Octets> ToLabelIter for ParsedName<Octs> {
 }
 
 impl<Octs: Octets> ToName for ParsedName<Octs> {
-    ghost name = { λ name. labels_at (Octs.list name.octets) name.start };
+    ghost use Rattle.dns_name.specs.ParsedName.{labels_in};
+
+    ghost name = { λ name. labels_in Octs.list name };
 
     ghost is_absolute = { λ _. refl };
 

@@ -1,6 +1,8 @@
 //! Text to names (RFC 1035 5.1).
-ghost use Rattle.std.specs.Prelude.{◌≡◌, ◌+◌, ◌≤◌, ◌<◌, ◌↔◌, List, ℕ, [], ◌∷◌, ◌++◌, length, IsTrue, IfOk, IfErr, OnErr};
-ghost use Rattle.dns_label.specs.NameText.{IsNameText, IsAbsoluteText};
+ghost use Rattle.std.specs.Prelude.{◌≡◌, ◌+◌, ◌≤◌, ◌<◌, ◌⊎◌, ◌↔◌, List, ℕ, [], ◌∷◌, ◌++◌, length, true, false, IsTrue, IfOk, IfErr, OnOk, OnErr, IfSome, IfNone};
+ghost use Rattle.dns_label.specs.Name.{IsName};
+ghost use Rattle.dns_label.specs.Symbol.{IsSymbol, octet};
+ghost use Rattle.dns_label.specs.NameText.{HasParts, IsNameText, IsAbsoluteText, is_dot};
 ghost use Rattle.dns_name.specs.declared.text.FromStrError.TheVariants.{Presentation, ShortBuf};
 
 use crate::Name;
@@ -68,28 +70,13 @@ impl Name<Vec<u8>> {
         Name::from_text(alloc, text.as_bytes())
     }
 
-    /// The name that characters spell, the last dot there or not.
-    ///
-    /// Refused where they spell no name, and where there is no memory for them.
-    pub fn from_chars<C: Iterator<Item = char> + Drop>(
-        alloc: Global,
-        chars: C,
-    ) -> Result<Self, FromStrError> {
-        let mut text = Vec::new(alloc);
-        for c in chars {
-            let octet = u8::try_from(c).map_err(|_| PresentationError::BadSymbol)?;
-            text.push(octet).map_err(AllocError::from)?;
-        }
-        Name::from_text(alloc, text.as_slice())
-    }
-
     /// The name that octets of text spell, the last dot there or not.
     fn from_text(alloc: Global, text: &[u8]) -> Result<Self, FromStrError>
         ensures ok { IfOk result (λ name. IsNameText text.now name) }
         ensures err { IfErr result (IsRefused IsNameText text.now) }
     {
-        if matches!(text, [b'.']) {
-            return Ok(Name::of_wire(Vec::from_slice(alloc, &[0])?));
+        if is_dot_alone(text) {
+            return Ok(root(alloc)?);
         }
         let mut spelling = Spelling::read(text)?;
         if spelling.has_open_label() {
@@ -105,8 +92,8 @@ impl Name<Vec<u8>> {
         ensures ok { IfOk result (λ name. IsAbsoluteText text.now name) }
         ensures err { IfErr result (IsRefused IsAbsoluteText text.now) }
     {
-        if matches!(text, [b'.']) {
-            return Ok(Name::of_wire(Vec::from_slice(alloc, &[0])?));
+        if is_dot_alone(text) {
+            return Ok(root(alloc)?);
         }
         let spelling = Spelling::read(text)?;
         if spelling.has_open_label() {
@@ -123,20 +110,33 @@ struct Spelling {
     /// How many octets there are.
     len: usize,
     /// Where the length of the open label goes.
-    open: usize,
+    start: usize,
+    ghost whole: { length octets ≡ 255 },
+    ghost room: { start < len },
+    ghost few: { len ≤ 255 },
+    ghost short: { len ≤ start + 64 },
+    ghost full: { 254 < len → len ≡ start + 1 },
 }
 
 impl Spelling {
+    ghost use Rattle.dns_name.specs.Draft.{Holds, IsListed, IsReadAs};
+    ghost use Rattle.dns_name.specs.Text.{IsFault};
+
     /// What the text spells, the last label still open.
-    fn read(text: &[u8]) -> Result<Spelling, PresentationError> {
+    fn read(text: &[u8]) -> Result<Spelling, PresentationError>
+        ensures ok { IfOk result (IsReadAs text.now) }
+        ensures err { OnErr result ((parts name : List (List ℕ)) → HasParts text.now parts → IsListed parts name → ⊥) }
+    {
         let mut spelling = Spelling {
             octets: [0; 255],
             len: 1,
-            open: 0,
+            start: 0,
         };
         let mut rest = text;
         while !rest.is_empty() {
-            let (symbol, behind) = Symbol::split_from(rest).ok_or(PresentationError::BadSymbol)?;
+            let Some((symbol, behind)) = Symbol::split_from(rest) else {
+                return Err(PresentationError::BadSymbol);
+            };
             match octet_of(symbol) {
                 Some(octet) => spelling.push(octet)?,
                 None => spelling.end_label()?,
@@ -147,13 +147,18 @@ impl Spelling {
     }
 
     /// Whether the open label has an octet.
-    fn has_open_label(&self) -> bool {
-        self.len - self.open > 1
+    fn has_open_label(&self) -> bool
+        ensures { IsTrue result ↔ (self.now.start + 1 < self.now.len) }
+    {
+        self.len - self.start > 1
     }
 
     /// Puts an octet to the open label. Refused past 63 of them, and where no room for the root would be left.
-    fn push(&mut self, octet: u8) -> Result<(), PresentationError> {
-        if self.len - self.open > 63 {
+    fn push(&mut self, octet: u8) -> Result<(), PresentationError>
+        ensures ok { OnOk result ((done : List (List ℕ)) (begun : List ℕ) → Holds self.old done begun → Holds self.new done (begun ++ octet ∷ [])) }
+        ensures err { OnErr result ((self.old.len ≡ self.old.start + 64) ⊎ (253 < self.old.len)) }
+    {
+        if self.len - self.start > 63 {
             return Err(PresentationError::LongLabel);
         }
         if self.len > 253 {
@@ -165,20 +170,27 @@ impl Spelling {
     }
 
     /// Ends the open label, and begins the next. Refused where it is empty.
-    fn end_label(&mut self) -> Result<(), PresentationError> {
-        let count = self.len - self.open - 1;
+    fn end_label(&mut self) -> Result<(), PresentationError>
+        ensures ok { OnOk result ((done : List (List ℕ)) (begun : List ℕ) → Holds self.old done begun → Holds self.new (done ++ begun ∷ []) []) }
+        ensures err { OnErr result (self.old.len ≡ self.old.start + 1) }
+    {
+        let count = self.len - self.start - 1;
         if count == 0 {
             return Err(PresentationError::EmptyLabel);
         }
-        self.octets[self.open] = count as u8;
+        self.octets[self.start] = count as u8;
         self.octets[self.len] = 0;
-        self.open = self.len;
+        self.start = self.len;
         self.len += 1;
         Ok(())
     }
 
     /// The name of the finished labels, of which there has to be one.
-    fn finish(self, alloc: Global) -> Result<Name<Vec<u8>>, FromStrError> {
+    fn finish(self, alloc: Global) -> Result<Name<Vec<u8>>, FromStrError>
+        requires { (done : List (List ℕ)) × Holds self done [] }
+        ensures ok { IfOk result (λ name. IsName name × Holds self name [] × (0 < length name)) }
+        ensures err { IfErr result (λ error. IsFault error ↔ (self.len ≡ 1)) }
+    {
         if self.len == 1 {
             return Err(FromStrError::Presentation(PresentationError::EmptyLabel));
         }
@@ -188,10 +200,28 @@ impl Spelling {
 }
 
 /// The octet of a symbol, or None at a plain dot.
-fn octet_of(symbol: Symbol) -> Option<u8> {
+fn octet_of(symbol: Symbol) -> Option<u8>
+    requires { IsSymbol symbol }
+    ensures octet { IfSome result (λ value. (value ≡ octet symbol) × (is_dot symbol ≡ false)) }
+    ensures dot { IfNone result (is_dot symbol ≡ true) }
+{
     match symbol {
         Symbol::Char('.') => None,
         Symbol::Char(c) => u8::try_from(c).ok(),
         Symbol::SimpleEscape(octet) | Symbol::DecimalEscape(octet) => Some(octet),
     }
+}
+
+/// Whether the text is the root's.
+fn is_dot_alone(text: &[u8]) -> bool
+    ensures { IsTrue result ↔ (text.now ≡ 46 ∷ []) }
+{
+    matches!(text, [b'.'])
+}
+
+/// The root.
+fn root(alloc: Global) -> Result<Name<Vec<u8>>, AllocError>
+    ensures { IfOk result (λ name. name ≡ []) }
+{
+    Ok(Name::of_wire(Vec::from_slice(alloc, &[0])?))
 }

@@ -1,4 +1,4 @@
-use Rattle.std.proofs.Common.{◌≡◌, ◌≤◌, ◌≢◌, List, ℕ, [], length, subst, arith, rules}
+use Rattle.std.proofs.Common.{◌≡◌, List, ℕ, [], subst, arith}
 use Rattle.std.proofs.lemmas.Grind.{common_steps}
 use Rattle.dns_name.specs.Flat.{StartsWithName}
 use Rattle.dns_name.proofs.Flat.{written-whole, whole_front, same_rest, always_on_err}
@@ -20,5 +20,5 @@ pub returns-else-is_empty-clause-err : goal.returns-else-is_empty-clause-err
 returns-else-is_empty-clause-err c = λ name is_name is.
     let found = c.in_ok-behind.ensures.ok in
     let none : c.in_ok-behind.behind.now ≡ [] =
-      same_rest _ _ _ _ _ found.1 (whole_front c.args.octets.now name is_name is) in
+    same_rest _ _ _ _ _ found.1 (whole_front c.args.octets.now name is_name is) in
     grind (arith, common_steps)

@@ -1,7 +1,4 @@
-use Rattle.std.proofs.Common.{◌≡◌, ◌<◌, ◌≤◌, ◌≢◌, ◌+◌, [], ◌∷◌, ◌∙◌, ap, subst, length, refl, arith, rules}
-use Rattle.std.specs.Prelude.{Option, Some, None}
-use Rattle.dns_label.specs.Name.{with_root}
-use Rattle.dns_name.specs.Parsed.{IsLeft, labels_left}
+use Rattle.std.proofs.Common.{◌≡◌, ◌+◌, [], ◌∙◌, refl, arith}
 use Rattle.dns_name.proofs.Flat.{some_octets}
 use Rattle.dns_name.proofs.Heads.{to_pointer, bad_type-spells_none, short-spells_none}
 use Rattle.dns_name.proofs.Readable.{label-labels, label-read, root-labels, pointer-labels, pointer-read, pointer-back, none_from_merely, read-within}
@@ -11,11 +8,11 @@ use Rattle.dns_name.proofs.parsed_iter.split_label.Goals.{then-is_root, else-is_
 pub returns-in-Ok-clause-left : goal.returns-in-Ok-clause-left
 returns-in-Ok-clause-left c =
     elim c.if-is_root.branch [
-      then-is_root w ↦ rw w.result-is tt
-    | else-is_root w ↦
-      rw w.result-is
-      (label-read _ _ _ _ _ c.loop-label.invariant.read c.in-Ok.ensures.ok
-      (some_octets c.in-Ok.label.octets.now (λ e. let bad = w.if-is_root.ensures.1 e in cc)) (omega (arith, c.len.ensures)))
+      | then-is_root w ↦ rw w.result-is tt
+      | else-is_root w ↦
+          rw w.result-is
+          (label-read _ _ _ _ _ c.loop-label.invariant.read c.in-Ok.ensures.ok
+          (some_octets c.in-Ok.label.octets.now (λ e. let bad = w.if-is_root.ensures.1 e in cc)) (omega (arith, c.len.ensures)))
     ]
 
 pub returns-in-Ok-clause-labels : goal.returns-in-Ok-clause-labels
@@ -24,13 +21,13 @@ returns-in-Ok-clause-labels c =
     let at = c.in-Ok.ensures.ok in
     let same = c.loop-label.invariant.labels in
     elim c.if-is_root.branch [
-      then-is_root w ↦
-      let none : c.in-Ok.label.octets.now ≡ [] = w.if-is_root.ensures.0 refl in
-      rw (w.result-is, same ∙ root-labels _ _ _ _ there at none, none) refl
-    | else-is_root w ↦
-      let some = some_octets c.in-Ok.label.octets.now (λ e. let bad = w.if-is_root.ensures.1 e in cc) in
-      let next = c.loop-label.place + 1 + c.len.result in
-      rw (w.result-is, same ∙ label-labels _ _ _ _ next there at some (omega (arith, c.len.ensures))) refl
+      | then-is_root w ↦
+          let none : c.in-Ok.label.octets.now ≡ [] = w.if-is_root.ensures.0 refl in
+          rw (w.result-is, same ∙ root-labels _ _ _ _ there at none, none) refl
+      | else-is_root w ↦
+          let some = some_octets c.in-Ok.label.octets.now (λ e. let bad = w.if-is_root.ensures.1 e in cc) in
+          let next = c.loop-label.place + 1 + c.len.result in
+          rw (w.result-is, same ∙ label-labels _ _ _ _ next there at some (omega (arith, c.len.ensures))) refl
     ]
 
 pub loop-label-smaller : goal.loop-label-smaller

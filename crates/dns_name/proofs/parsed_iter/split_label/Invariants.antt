@@ -6,7 +6,7 @@ use Rattle.dns_name.proofs.parsed_iter.split_label.Given as goal
 abbrev pub invariant-loop-label : goal.invariant-loop-label
 invariant-loop-label l = record {
   read : ∥ IsReadAt l.octets l.place ∥₁;
-  labels : labels_at l.octets l.start ≡ labels_at l.octets l.place
+  labels : labels_at l.octets l.start ≡ labels_at l.octets l.place;
 }
 
 abbrev pub decreases-loop-label : goal.decreases-loop-label

@@ -1,4 +1,4 @@
-use Rattle.std.proofs.Common.{ℕ, ◌≡◌, ◌<◌, ◌≢◌, ◌+◌, ◌-◌, [], suc, length, refl, ap, ◌∙◌, arith, rules}
+use Rattle.std.proofs.Common.{ℕ, ◌≡◌, ◌+◌, [], length, ap, ◌∙◌, arith, rules}
 use Rattle.std.specs.Prelude.{unwrap_or}
 use Rattle.dns_name.proofs.Walking.{walks-label, walks-pointer, walks-root, walks-none, walks-long, walks-forward, walks-spent}
 use Rattle.dns_name.proofs.Heads.{to_pointer, bad_type-spells_none, short-spells_none, label-within}
@@ -42,7 +42,7 @@ loop-label-preserved c =
     let is = c.from-target.ensures in
     record {
       walks = rw (c.from-target.ensures, c.unwrap_or.ensures)
-        (walks-pointer _ _ c.loop-label.invariant.walks (to_pointer _ c.in-Err-Pointer.ensures.err c.in-Err-Pointer.field-0-is) (omega arith) (omega arith));
+          (walks-pointer _ _ c.loop-label.invariant.walks (to_pointer _ c.in-Err-Pointer.ensures.err c.in-Err-Pointer.field-0-is) (omega arith) (omega arith));
       within = omega (arith, c.loop-label.invariant.within);
       few = c.loop-label.invariant.few;
     }

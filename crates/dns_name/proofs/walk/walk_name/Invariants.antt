@@ -6,7 +6,7 @@ abbrev pub invariant-loop-label : goal.invariant-loop-label
 invariant-loop-label l = record {
   walks : Walks l.octets l.start l.place l.len l.left l.behind;
   within : l.place ≤ length l.octets;
-  few : l.len ≤ 255
+  few : l.len ≤ 255;
 }
 
 abbrev pub decreases-loop-label : goal.decreases-loop-label
