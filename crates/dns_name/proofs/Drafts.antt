@@ -1,11 +1,11 @@
 -- A name while its text is read.
-use Rattle.std.proofs.Common.{◌≡◌, ℕ, zero, suc, ◌+◌, ◌-◌, ◌<◌, ◌≤◌, List, [], ◌∷◌, ◌++◌, length, take, drop, set, refl, sym, ◌∙◌, ap, subst, arith, append_assoc, append-nil, length-append, length-take}
+use Rattle.std.proofs.Common.{◌≡◌, ℕ, zero, suc, ◌+◌, ◌<◌, ◌≤◌, List, [], ◌∷◌, ◌++◌, length, take, set, refl, sym, ◌∙◌, ap, arith, append_assoc, append-nil, length-append, length-take}
 use Rattle.std.specs.List.{AllByRecursion}
 use Rattle.dns_label.specs.Name.{IsLabel, IsName, wire, labels_wire}
 use Rattle.dns_name.specs.Draft.{Holds}
 use Rattle.dns_name.specs.declared.text.Spelling.{Spelling}
 use Rattle.dns_name.proofs.Case.{wire_one}
-use Rattle.dns_name.proofs.Wire.{labels_wire-append, length-labels_wire_more, wire_is}
+use Rattle.dns_name.proofs.Wire.{labels_wire-append, wire_is}
 
 -- a write behind what is taken
 pub take_set_at : (octets : List ℕ) (len : ℕ) (octet : ℕ) → len < length octets

@@ -1,10 +1,8 @@
 -- Names that are written out: one label after another is taken off the front.
 use Rattle.std.proofs.Common.{◌≡◌, ℕ, ◌+◌, ◌<◌, ◌≤◌, List, [], ◌∷◌, ◌++◌, length, take, drop, refl, sym, ◌∙◌, ap, subst, arith, append_assoc, append-nil, length-append, inl, inr}
-use Rattle.std.proofs.lemmas.Grind.{common_steps}
-use Rattle.std.specs.List.{AllByRecursion}
 use Rattle.std.specs.Prelude.{Result, Ok, Err, OnErr}
 use Rattle.std.proofs.Math.Seq.{take-append_seam, drop-append_seam}
-use Rattle.dns_label.specs.Name.{IsLabel, IsName, wire}
+use Rattle.dns_label.specs.Name.{IsName, wire}
 use Rattle.dns_label.specs.Spelled.{Reads}
 use Rattle.dns_label.specs.Split.{StartsWithLabel, NoLabel}
 use Rattle.dns_label.specs.declared.label.SplitLabelError.{SplitLabelError}

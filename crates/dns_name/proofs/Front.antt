@@ -1,9 +1,8 @@
 -- A name in front of octets, of which the first 255 are looked at.
-use Rattle.std.proofs.Common.{◌≡◌, ℕ, ◌+◌, ◌-◌, ◌<◌, ◌≤◌, List, [], ◌∷◌, ◌++◌, length, take, drop, refl, sym, ◌∙◌, ap, subst, arith, append_assoc, length-append, length-drop, length-take, zero, suc}
+use Rattle.std.proofs.Common.{◌≡◌, ℕ, ◌+◌, ◌-◌, ◌<◌, ◌≤◌, List, [], ◌∷◌, ◌++◌, length, take, drop, sym, ◌∙◌, ap, subst, arith, append_assoc, length-append, length-drop, length-take, zero, suc}
 use Rattle.std.proofs.Math.Seq.{take-append_seam, drop-append_seam}
 use Rattle.std.proofs.lemmas.List.{take-append-drop, drop-drop, take_all}
-use Rattle.std.proofs.lemmas.Grind.{common_steps}
-use Rattle.dns_label.specs.Name.{IsLabel, IsName, wire}
+use Rattle.dns_label.specs.Name.{IsName, wire}
 use Rattle.dns_label.specs.Labels.{labels_at}
 use Rattle.dns_octets.specs.Parser.{octets_of, place_of, rest_of, GoesOn}
 use Rattle.dns_octets.specs.declared.parser.Parser.{Parser}

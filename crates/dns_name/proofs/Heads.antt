@@ -1,7 +1,7 @@
 -- What the head at a place says of the name that is spelled there.
-use Rattle.std.proofs.Common.{◌≡◌, ℕ, ◌+◌, ◌-◌, ◌*◌, ◌<◌, ◌≤◌, zero, suc, List, [], ◌∷◌, ◌++◌, length, drop, refl, sym, ◌∙◌, ap, subst, arith, inl, inr, length-drop, length-append}
+use Rattle.std.proofs.Common.{◌≡◌, ℕ, ◌+◌, ◌-◌, ◌*◌, ◌<◌, ◌≤◌, suc, List, [], ◌∷◌, ◌++◌, length, drop, refl, ◌∙◌, ap, subst, arith, inl, inr, length-drop, length-append}
 use Rattle.std.specs.List.{AllByRecursion}
-use Rattle.dns_label.specs.Name.{IsLabel, wire}
+use Rattle.dns_label.specs.Name.{IsLabel}
 use Rattle.dns_label.specs.Spelled.{Spells}
 use Rattle.dns_label.specs.Spelled.Spells.{root, label, pointer}
 use Rattle.dns_label.specs.Split.{StartsWithLabel, StartsWithPointer, NoLabel}

@@ -1,5 +1,5 @@
 -- The labels of a name that is read at a place, one after another.
-use Rattle.std.proofs.Common.{◌≡◌, ℕ, ◌+◌, ◌-◌, ◌*◌, ◌<◌, ◌≤◌, zero, suc, List, [], ◌∷◌, ◌++◌, length, drop, refl, sym, ◌∙◌, ap, subst, arith, length-append}
+use Rattle.std.proofs.Common.{◌≡◌, ℕ, ◌+◌, ◌<◌, ◌≤◌, suc, List, [], ◌∷◌, length, drop, sym, ◌∙◌, ap, subst, arith, length-append}
 use Rattle.std.proofs.lemmas.List.{drop_all}
 use mathlib.Core.Logic.{∥∥₁_elim, ∥∥₁_map}
 use Rattle.std.specs.Coded.{Coded-set, coded_ℕ, coded_list}
@@ -8,7 +8,7 @@ use Rattle.dns_name.proofs.Wire.{few_labels, root_length}
 use Rattle.std.specs.List.{AllByRecursion}
 use Rattle.dns_label.specs.Spelled.{Spells, Reads}
 use Rattle.dns_label.specs.Labels.{labels_at}
-use Rattle.dns_label.specs.Split.{StartsWithLabel, StartsWithPointer, NoLabel}
+use Rattle.dns_label.specs.Split.{StartsWithLabel, StartsWithPointer}
 use Rattle.dns_label.proofs.Spelling.{labels_at-reads}
 use Rattle.dns_name.specs.Parsed.{IsReadAt}
 use Rattle.dns_name.proofs.Heads.{spelled-more, spelled-not, spelled-root, spelled-label, spelled-pointer}

@@ -1,9 +1,9 @@
 -- What a text that has been read spells.
-use Rattle.std.proofs.Common.{◌≡◌, ℕ, ◌+◌, ◌<◌, ◌≤◌, List, [], ◌∷◌, ◌++◌, length, refl, sym, ◌∙◌, ap, subst, arith, length-append}
+use Rattle.std.proofs.Common.{◌≡◌, ℕ, ◌+◌, ◌<◌, List, [], ◌∷◌, ◌++◌, length, refl, sym, ◌∙◌, ap, subst, arith, length-append}
 use Rattle.std.specs.Prelude.{Result, Ok, Err, IfOk, IfErr, ◌↔◌}
 use Rattle.std.specs.List.{AllByRecursion}
 use Rattle.dns_label.specs.Name.{IsLabel, IsName}
-use Rattle.dns_label.specs.NameText.{HasParts, IsNameText, IsAbsoluteText, IsRelativeText}
+use Rattle.dns_label.specs.NameText.{HasParts, IsNameText, IsAbsoluteText}
 use Rattle.dns_label.specs.NameText.IsAbsoluteText.{root, labels}
 use Rattle.dns_label.specs.NameText.IsNameText.{absolute, relative}
 use Rattle.dns_name.specs.Draft.{Holds, IsListed, IsReadAs}

@@ -1,12 +1,11 @@
 -- The walk over the heads of a name.
-use Rattle.std.proofs.Common.{◌≡◌, ℕ, ◌+◌, ◌-◌, ◌*◌, ◌<◌, ◌≤◌, zero, suc, List, [], ◌∷◌, ◌++◌, length, drop, refl, sym, ◌∙◌, ap, subst, arith, append_assoc, append-nil}
+use Rattle.std.proofs.Common.{◌≡◌, ℕ, ◌+◌, ◌<◌, ◌≤◌, suc, List, [], ◌∷◌, ◌++◌, length, drop, refl, sym, ◌∙◌, ap, subst, arith, append_assoc}
 use Rattle.std.specs.Prelude.{Option, Some, None, unwrap_or}
-use Rattle.std.specs.List.{AllByRecursion}
-use Rattle.dns_label.specs.Name.{IsLabel, IsName, wire, labels_wire}
+use Rattle.dns_label.specs.Name.{wire, labels_wire}
 use Rattle.dns_label.specs.Spelled.{Spells, Reads}
 use Rattle.dns_label.specs.Spelled.Spells.{root, label, pointer}
-use Rattle.dns_label.specs.Split.{StartsWithLabel, StartsWithPointer, NoLabel}
-use Rattle.dns_name.proofs.Wire.{length-wire_is, length-wire-append, length-labels_wire_more}
+use Rattle.dns_label.specs.Split.{StartsWithLabel, StartsWithPointer}
+use Rattle.dns_name.proofs.Wire.{length-wire-append, length-labels_wire_more}
 use Rattle.dns_name.proofs.Heads.{spelled-labels, spelled-root, spelled-label, spelled-pointer}
 
 -- what is left of a name that has these labels in front

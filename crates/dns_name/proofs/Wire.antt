@@ -1,7 +1,6 @@
 -- The octets of labels.
-use Rattle.std.proofs.Common.{◌≡◌, ℕ, ◌+◌, ◌*◌, ◌<◌, ◌≤◌, List, [], ◌∷◌, ◌++◌, length, refl, sym, ◌∙◌, ap, arith, append_assoc, append-nil, length-append}
-use Rattle.std.specs.List.{AllByRecursion}
-use Rattle.dns_label.specs.Name.{IsLabel, IsName, wire, labels_wire, with_root}
+use Rattle.std.proofs.Common.{◌≡◌, ℕ, ◌+◌, ◌≤◌, List, [], ◌∷◌, ◌++◌, length, refl, sym, ◌∙◌, ap, arith, append_assoc, append-nil, length-append}
+use Rattle.dns_label.specs.Name.{IsName, wire, labels_wire, with_root}
 use Rattle.dns_label.proofs.Spelling.{length-wire}
 
 pub labels_wire-append : (front more : List (List ℕ)) → labels_wire (front ++ more) ≡ labels_wire front ++ labels_wire more

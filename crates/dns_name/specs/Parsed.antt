@@ -1,5 +1,5 @@
 -- Names in messages.
-use Rattle.std.specs.Prelude.{◌+◌, ◌≡◌, ℕ, List, [], Option, Some, None}
+use Rattle.std.specs.Prelude.{ℕ, List, [], Option, Some, None}
 use Rattle.dns_label.specs.Name.{with_root}
 use Rattle.dns_label.specs.Spelled.{Reads}
 use Rattle.dns_label.specs.Labels.{labels_at}

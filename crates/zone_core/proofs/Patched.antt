@@ -1,5 +1,5 @@
 -- Octets that are written over others.
-use Rattle.std.proofs.Common.{◌≡◌, ℕ, ◌+◌, ◌-◌, zero, suc, List, [], ◌∷◌, ◌++◌, length, refl, sym, ap, ◌∙◌, subst, arith, append_assoc, add-one, length-append}
+use Rattle.std.proofs.Common.{◌≡◌, ℕ, ◌+◌, ◌-◌, suc, List, [], ◌∷◌, ◌++◌, length, refl, sym, ap, ◌∙◌, arith, append_assoc, add-one, length-append}
 use Rattle.std.proofs.Math.ListN.{set}
 
 set_two : (front : List ℕ) (a b high low : ℕ) (behind : List ℕ)

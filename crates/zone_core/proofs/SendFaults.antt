@@ -1,5 +1,5 @@
 -- What a stream and a refusal say of a zone and a query.
-use Rattle.std.proofs.Common.{◌≡◌, ℕ, ◌+◌, ◌*◌, ◌<◌, ◌^◌, Bool, List, [], ◌∷◌, get_or, subst, ap, sym, ◌∙◌, arith}
+use Rattle.std.proofs.Common.{◌≡◌, ℕ, ◌<◌, ◌^◌, Bool, List, [], ◌∷◌, get_or, subst, ap, sym, ◌∙◌, arith}
 use Rattle.std.specs.Prelude.{IsTrue, nat_eq}
 use Rattle.std.specs.Cmp.Lexicographic.{pointwise}
 use lib.Pointwise.{pointwise_decides, bytes_decides}
@@ -9,7 +9,7 @@ use Rattle.zone_core.specs.Record as spec
 use Rattle.zone_core.specs.declared.record.Record.{Record}
 use Rattle.zone_core.specs.declared.send_error.SendError.{SendError}
 use Rattle.zone_core.specs.declared.send_error.SendError.TheVariants as send_error
-use Rattle.zone_core.specs.Owned.{record_of, records_of}
+use Rattle.zone_core.specs.Owned.{records_of}
 use Rattle.zone_core.specs.Query.{AxfrQuery, IsQuery}
 use Rattle.zone_core.specs.Records.{AreRecordsOf, IsQueryFor}
 use Rattle.zone_core.specs.Sent.{AsksFor, IsSent, IsSendFault}

@@ -1,7 +1,6 @@
 -- The stream of all records of a zone.
 use Rattle.std.proofs.Common.{◌≡◌, ℕ, ◌+◌, ◌<◌, ◌≤◌, zero, suc, Bool, true, false, Option, Some, None, List, [], ◌∷◌, ◌++◌, length, map, take, get_or, refl, sym, ap, ◌∙◌, subst, arith, append-nil, add-one}
 use Rattle.std.specs.Prelude.{slice_get}
-use Rattle.std.specs.Int.{to_be_bytes, w16}
 use Rattle.std.specs.Bool.{OnTrue, OnFalse}
 use Rattle.std.specs.List.{push}
 use Rattle.std.proofs.lemmas.List.{map-append}

@@ -1,6 +1,5 @@
 -- What the program's queries ask.
-use Rattle.std.specs.Prelude.{ℕ, List}
-use Rattle.dns_label.specs.Labels.{labels_at}
+use Rattle.dns_name.specs.ParsedName.{labels_of}
 use Rattle.dns_message.specs.Question as spec
 use Rattle.zone_core.specs.Query.{AxfrQuery}
 use Rattle.zone_core.specs.declared.query.Query.{Query}
@@ -11,14 +10,14 @@ abbrev pub asked_by : Query → AxfrQuery
 asked_by query = record {
   id = query.id;
   recursion = query.rd;
-  name = labels_at query.name.octets.now query.name.start;
+  name = labels_of query.name;
   class = query.class;
 }
 
 -- the same of a question
 abbrev pub question_by : Question → spec.Question
 question_by q = record {
-  name = labels_at q.name.octets.now q.name.start;
+  name = labels_of q.name;
   qtype = q.qtype;
   qclass = q.qclass;
 }

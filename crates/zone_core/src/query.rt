@@ -1,6 +1,6 @@
 //! Queries for a zone's transfer.
 ghost use Rattle.std.specs.Prelude.{◌≡◌, ◌+◌, ◌≤◌, ◌↔◌, ℕ, length, IsTrue, IfOk, IfErr, OnErr};
-ghost use Rattle.dns_label.specs.Labels.{labels_at};
+ghost use Rattle.dns_name.specs.ParsedName.{labels_of};
 ghost use Rattle.dns_message.specs.Header as header;
 ghost use Rattle.dns_message.specs.Question as spec;
 ghost use Rattle.dns_message.specs.Question.{ReadsQuestion};
@@ -44,7 +44,7 @@ impl<'a> Query<'a> {
 
     /// The name of the zone that is asked for.
     pub fn name(&self) -> ParsedName<&'a [u8]>
-        ensures { labels_at result.octets.now result.start ≡ (asked_by self.now).name }
+        ensures { labels_of result ≡ (asked_by self.now).name }
     {
         self.name
     }
@@ -133,4 +133,64 @@ fn read_question(octets: &[u8]) -> Result<(Question<'_>, usize), ParseError>
         qclass,
     };
     Ok((question, parser.pos()))
+}
+
+#[cfg(test)]
+mod tests {
+    use super::*;
+    use dns_name::ToName;
+    use std::test::Fail;
+
+    /// `a. IN AXFR`, alone.
+    const QUERY: [u8; 19] = [
+        0x12, 0x34, 0, 0, 0, 1, 0, 0, 0, 0, 0, 0, 1, b'a', 0, 0, 252, 0, 1,
+    ];
+
+    #[test]
+    fn reads_a_query(rt: HostRuntime) -> Result<(), Fail> {
+        let Ok(query) = check_query(&QUERY) else {
+            panic!(rt; "refused");
+        };
+        assert_eq!(rt; query.id(), 0x1234);
+        assert_eq!(rt; query.rd(), false);
+        assert_eq!(rt; query.class(), Class::IN);
+        let name = query.name().to_vec(rt.alloc())?;
+        assert_eq!(rt; name.as_slice(), [1, b'a', 0].as_slice());
+        Ok(())
+    }
+
+    #[test]
+    fn refuses_by_the_first_rule(rt: HostRuntime) {
+        assert_eq!(rt; refusal(&QUERY[..11]), Some(QueryError::Short));
+        assert_eq!(rt; refusal_with(2, 128), Some(QueryError::Response));
+        assert_eq!(rt; refusal_with(2, 8), Some(QueryError::Opcode));
+        assert_eq!(rt; refusal_with(5, 2), Some(QueryError::Counts));
+        assert_eq!(rt; refusal_with(11, 1), Some(QueryError::Counts));
+        assert_eq!(rt; refusal_with(12, 64), Some(QueryError::Malformed));
+        assert_eq!(rt; refusal_with(16, 251), Some(QueryError::NotAxfr));
+        assert_eq!(rt; refusal_with(18, 255), Some(QueryError::ClassAny));
+        // The root's question ends in front of the last octets, and its type is judged first.
+        assert_eq!(rt; refusal_with(12, 0), Some(QueryError::NotAxfr));
+        // Other bits of the header are ignored.
+        assert_eq!(rt; refusal_with(2, 7), None);
+        assert_eq!(rt; refusal_with(3, 255), None);
+        let longer = [0, 0, 0, 0, 0, 1, 0, 0, 0, 0, 0, 0, 0, 0, 252, 0, 1, 0];
+        assert_eq!(rt; refusal(&longer), Some(QueryError::Trailing));
+    }
+
+    /// Why the query with another octet at a place is refused.
+    fn refusal_with(place: usize, octet: u8) -> Option<QueryError> {
+        let mut octets = QUERY;
+        if let Some(old) = octets.get_mut(place) {
+            *old = octet;
+        }
+        refusal(&octets)
+    }
+
+    fn refusal(octets: &[u8]) -> Option<QueryError> {
+        match check_query(octets) {
+            Ok(_) => None,
+            Err(error) => Some(error),
+        }
+    }
 }

@@ -1,5 +1,5 @@
-use Rattle.std.proofs.Common.{◌≡◌, ◌<◌, [], length, rules, arith}
-use Rattle.dns_name.proofs.Flat.{leads_here, leads-label, leads-root, leads-none}
+use Rattle.std.proofs.Common.{rules}
+use Rattle.dns_name.proofs.Flat.{leads-label, leads-root, leads-none}
 use Rattle.dns_name.proofs.name.behind_root.Goals as goal
 
 pub returns-then-is_root-clause-ok : goal.returns-then-is_root-clause-ok

@@ -1,4 +1,4 @@
-use Rattle.std.proofs.Common.{◌≡◌, ◌≤◌, ◌≢◌, List, ℕ, [], length, subst, arith, rules}
+use Rattle.std.proofs.Common.{◌≡◌, List, ℕ, [], subst, arith}
 use Rattle.std.proofs.lemmas.Grind.{common_steps}
 use Rattle.dns_name.specs.Flat.{StartsWithName}
 use Rattle.dns_name.proofs.Flat.{written-whole, whole_front, same_rest, always_on_err}

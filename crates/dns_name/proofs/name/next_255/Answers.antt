@@ -1,4 +1,4 @@
-use Rattle.std.proofs.Common.{◌≡◌, ◌<◌, ◌≤◌, ◌+◌, ◌-◌, ℕ, List, length, take, drop, ap, ◌∙◌, arith}
+use Rattle.std.proofs.Common.{◌<◌, ◌≤◌, ◌+◌, length, arith}
 use Rattle.dns_octets.specs.Parser.{octets_of, place_of}
 use Rattle.dns_name.proofs.Front.{front_all}
 use Rattle.dns_name.proofs.name.next_255.Goals as goal

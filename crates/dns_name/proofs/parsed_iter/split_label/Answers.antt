@@ -1,7 +1,4 @@
-use Rattle.std.proofs.Common.{◌≡◌, ◌<◌, ◌≤◌, ◌≢◌, ◌+◌, [], ◌∷◌, ◌∙◌, ap, subst, length, refl, arith, rules}
-use Rattle.std.specs.Prelude.{Option, Some, None}
-use Rattle.dns_label.specs.Name.{with_root}
-use Rattle.dns_name.specs.Parsed.{IsLeft, labels_left}
+use Rattle.std.proofs.Common.{◌≡◌, ◌+◌, [], ◌∙◌, refl, arith}
 use Rattle.dns_name.proofs.Flat.{some_octets}
 use Rattle.dns_name.proofs.Heads.{to_pointer, bad_type-spells_none, short-spells_none}
 use Rattle.dns_name.proofs.Readable.{label-labels, label-read, root-labels, pointer-labels, pointer-read, pointer-back, none_from_merely, read-within}

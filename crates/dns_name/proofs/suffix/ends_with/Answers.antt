@@ -1,6 +1,5 @@
-use Rattle.std.proofs.Common.{◌≡◌, ◌+◌, ◌-◌, ◌<◌, List, ℕ, length, drop, refl, ap, ◌∙◌, arith}
-use Rattle.dns_label.specs.Name.{low}
-use Rattle.dns_name.proofs.Case.{next_drops, ends_on, ends_back, ends_short}
+use Rattle.std.proofs.Common.{◌≡◌, ◌+◌, ℕ, drop, ap, ◌∙◌, arith}
+use Rattle.dns_name.proofs.Case.{next_drops, ends_on, ends_back}
 use Rattle.dns_name.proofs.suffix.ends_with.Goals as goal
 
 pub loop-preserved : goal.loop-preserved

@@ -1,4 +1,4 @@
-use Rattle.std.proofs.Common.{◌≡◌, map, refl, sym, ◌∙◌, ap, List, ℕ}
+use Rattle.std.proofs.Common.{map, refl, sym, ◌∙◌, ap}
 use Rattle.std.specs.Char.{to_ascii_lowercase}
 use Rattle.dns_label.specs.Name.{low}
 use Rattle.dns_name.proofs.Case.{low_more, low_less, low_left}

@@ -1,4 +1,4 @@
-use Rattle.std.proofs.Common.{◌≡◌, ◌∙◌, [], sym, arith}
+use Rattle.std.proofs.Common.{◌∙◌, [], sym, arith}
 use Rattle.dns_label.specs.Name.{IsName}
 use Rattle.dns_name.proofs.Flat.{flat-written}
 use Rattle.dns_name.proofs.Case.{wire_one}

@@ -1,4 +1,4 @@
-use Rattle.std.proofs.Common.{ℕ, ◌≡◌, ◌<◌, ◌≢◌, ◌+◌, ◌-◌, [], suc, length, refl, ap, ◌∙◌, arith, rules}
+use Rattle.std.proofs.Common.{ℕ, ◌≡◌, ◌+◌, [], length, ap, ◌∙◌, arith, rules}
 use Rattle.std.specs.Prelude.{unwrap_or}
 use Rattle.dns_name.proofs.Walking.{walks-label, walks-pointer, walks-root, walks-none, walks-long, walks-forward, walks-spent}
 use Rattle.dns_name.proofs.Heads.{to_pointer, bad_type-spells_none, short-spells_none, label-within}

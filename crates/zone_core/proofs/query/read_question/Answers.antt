@@ -1,4 +1,4 @@
-use Rattle.std.proofs.Common.{◌≡◌, ◌+◌, ◌<◌, ◌≤◌, ℕ, List, length, arith, ap, ◌∙◌}
+use Rattle.std.proofs.Common.{◌≡◌, ◌+◌, ◌<◌, ℕ, length, arith, ap, ◌∙◌}
 use Rattle.dns_name.specs.Parser.{octets_of, place_of}
 use Rattle.dns_name.proofs.Flat.{always_on_err}
 use Rattle.dns_message.specs.Question.{Question, ReadsQuestion}

@@ -1,8 +1,7 @@
-use Rattle.std.proofs.Common.{◌≡◌, ◌∙◌, ℕ, ◌<◌, ◌^◌, List, arith, true}
+use Rattle.std.proofs.Common.{◌<◌, ◌^◌, arith}
 use Rattle.std.proofs.lemmas.Result.{IfOk-weaker, MatchResult-weaker}
 use Rattle.zone_core.specs.Asked.{asked_by}
-use Rattle.zone_core.specs.Query.{AxfrQuery}
-use Rattle.zone_core.specs.Sent.{AsksFor, IsSent}
+use Rattle.zone_core.specs.Sent.{AsksFor}
 use Rattle.zone_core.specs.View.{apex_of}
 use Rattle.zone_core.proofs.SendFaults.{sent_for, fault_for, query_for, id_small}
 use Rattle.zone_core.proofs.SentTransfers.{sent_is_transfer}

@@ -1,4 +1,4 @@
-use Rattle.std.proofs.Common.{◌≡◌, ◌≤◌, ◌<◌, ◌+◌, List, ℕ, length, ap, sym, ◌∙◌, arith, rules}
+use Rattle.std.proofs.Common.{◌≤◌, ◌<◌, List, ℕ, length, ap, sym, ◌∙◌, arith, rules}
 use Rattle.dns_name.proofs.Items.{none_left, some_left, some_within}
 use Rattle.dns_name.proofs.label_iter.LabelIterIterator.next.Goals as goal
 

@@ -1,4 +1,4 @@
-use Rattle.std.proofs.Common.{◌≡◌, ◌≤◌, ◌<◌, ◌+◌, ◌-◌, ◌++◌, List, ℕ, length, take, drop, refl, ap, ◌∙◌, sym, subst, arith}
+use Rattle.std.proofs.Common.{◌-◌, ◌++◌, List, ℕ, length, take, refl, ap, ◌∙◌, sym, subst}
 use Rattle.dns_octets.specs.Parser.{octets_of, place_of, rest_of, GoesOn}
 use Rattle.dns_label.specs.Name.{wire}
 use Rattle.dns_name.specs.Flat.{StartsWithName}

@@ -1,4 +1,4 @@
-use Rattle.std.proofs.Common.{◌≡◌, [], length, ap, ◌∙◌, sym, List, ℕ, arith, rules}
+use Rattle.std.proofs.Common.{◌≡◌, length, ap, ◌∙◌, sym, List, ℕ, rules}
 use borrow.Author.Tests.{tests}
 use Rattle.dns_label.specs.Name.{wire}
 use Rattle.dns_name.proofs.Readable.{read-root}

@@ -1,4 +1,4 @@
-use Rattle.std.proofs.Common.{◌≡◌, ◌≤◌, List, ℕ, length, ap, ◌∙◌, arith}
+use Rattle.std.proofs.Common.{List, ℕ, length, ap, ◌∙◌, arith}
 use Rattle.dns_label.specs.Name.{with_root}
 use Rattle.dns_label.specs.Labels.{labels_at}
 use Rattle.dns_name.proofs.Readable.{read-few}

@@ -1,4 +1,4 @@
-use Rattle.std.proofs.Common.{◌≡◌, ◌≤◌, List, ℕ, length, ap, arith}
+use Rattle.std.proofs.Common.{List, ℕ, length, ap, arith}
 use Rattle.dns_name.proofs.parsed.ParsedNameToLabelIter.label.Goals as goal
 
 pub returns-clause-few : goal.returns-clause-few

@@ -1,6 +1,5 @@
-use Rattle.std.proofs.Common.{◌≡◌, ◌++◌, List, ℕ, [], length, refl, sym, ◌∙◌, ap, arith}
+use Rattle.std.proofs.Common.{◌++◌, sym, ◌∙◌, ap}
 use Rattle.dns_label.specs.Name.{labels_wire}
-use Rattle.dns_label.specs.Labels.{labels_at}
 use Rattle.dns_name.proofs.Wire.{wire_step, wire_made}
 use Rattle.dns_name.proofs.Case.{wire_one}
 use Rattle.dns_name.proofs.Flat.{flat-written}

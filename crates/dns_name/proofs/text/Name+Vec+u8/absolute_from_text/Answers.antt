@@ -1,9 +1,7 @@
-use Rattle.std.proofs.Common.{◌≡◌, ◌≤◌, ◌<◌, ◌+◌, ◌-◌, ℕ, List, [], ◌∷◌, ◌++◌, ◌∙◌, length, refl, sym, subst, arith}
+use Rattle.std.proofs.Common.{[], refl}
 use Rattle.std.proofs.lemmas.Result.{err_from_is_err_and}
-use Rattle.dns_label.specs.NameText.{IsNameText, IsAbsoluteText}
 use Rattle.dns_label.specs.NameText.IsAbsoluteText.{root}
-use Rattle.dns_label.specs.NameText.IsNameText.{absolute}
-use Rattle.dns_name.proofs.Texts.{no_absolute, no_text, Whole, whole-absolute, whole-dotted, open_label, whole-open, whole-result, whole-err, begun_some, begun_none}
+use Rattle.dns_name.proofs.Texts.{no_absolute, whole-absolute, open_label, whole-result, whole-err, begun_some, begun_none}
 use Rattle.dns_name.proofs.text.Name+Vec+u8.absolute_from_text.Goals as goal
 
 pub returns-in_err-root-clause-err : goal.returns-in_err-root-clause-err

@@ -1,9 +1,9 @@
-use Rattle.std.proofs.Common.{◌≡◌, ◌≤◌, ◌<◌, ◌+◌, ◌-◌, ℕ, List, [], ◌∷◌, ◌++◌, ◌∙◌, length, refl, sym, subst, arith}
+use Rattle.std.proofs.Common.{◌≡◌, [], ◌∷◌, refl}
 use Rattle.std.proofs.lemmas.Result.{err_from_is_err_and}
-use Rattle.dns_label.specs.NameText.{IsNameText, IsAbsoluteText}
+use Rattle.dns_label.specs.NameText.{IsNameText}
 use Rattle.dns_label.specs.NameText.IsAbsoluteText.{root}
 use Rattle.dns_label.specs.NameText.IsNameText.{absolute}
-use Rattle.dns_name.proofs.Texts.{no_absolute, no_text, Whole, whole-absolute, whole-dotted, open_label, whole-open, whole-result, whole-err, begun_some, begun_none}
+use Rattle.dns_name.proofs.Texts.{no_text, Whole, whole-dotted, whole-open, whole-result, whole-err, begun_some, begun_none}
 use Rattle.dns_name.proofs.text.Name+Vec+u8.from_text.Goals as goal
 use Rattle.dns_name.proofs.text.Name+Vec+u8.from_text.Goals.{then-has_open_label+in_ok-end_label, else-has_open_label, Joined-has_open_label, After-finish}
 

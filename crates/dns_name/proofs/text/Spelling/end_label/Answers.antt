@@ -1,5 +1,4 @@
-use Rattle.std.proofs.Common.{◌≡◌, ◌≤◌, ◌<◌, ◌+◌, ◌-◌, ℕ, List, [], ◌∷◌, ◌++◌, length, refl, arith, length-set}
-use Rattle.dns_label.specs.Name.{labels_wire}
+use Rattle.std.proofs.Common.{◌-◌, arith, length-set}
 use Rattle.dns_name.proofs.Wire.{length-labels_wire_more}
 use Rattle.dns_name.proofs.Drafts.{draft-end, draft-len, labels_more}
 use Rattle.dns_name.proofs.text.Spelling.end_label.Goals as goal

@@ -1,4 +1,4 @@
-use Rattle.std.proofs.Common.{◌≡◌, ◌≤◌, ◌<◌, ◌+◌, ◌-◌, ℕ, List, [], ◌∷◌, ◌++◌, ◌∙◌, length, refl, sym, subst, arith}
+use Rattle.std.proofs.Common.{◌<◌, ℕ, List, [], ◌∙◌, length, sym, subst, arith}
 use Rattle.dns_label.specs.Name.{IsName}
 use Rattle.dns_name.specs.Draft.{Holds}
 use Rattle.dns_name.proofs.Flat.{flat-written}

@@ -1,6 +1,5 @@
-use Rattle.std.proofs.Common.{◌≡◌, ◌≤◌, ◌<◌, ◌+◌, ◌-◌, ℕ, List, [], ◌∷◌, ◌++◌, length, refl, sym, subst, arith}
+use Rattle.std.proofs.Common.{◌≡◌, ℕ, [], ◌∷◌, ◌++◌, refl, sym, subst, arith}
 use Rattle.std.proofs.lemmas.Grind.{common_steps}
-use Rattle.dns_name.specs.Draft.{Holds}
 use Rattle.dns_name.proofs.Flat.{always_on_err}
 use Rattle.dns_name.proofs.Drafts.{draft-len}
 use Rattle.dns_name.proofs.Parts.{Reading, reading_here, reading-dot, reading-octet, reading-has, reading-only, reading-none, octet_over, dot_empty}

@@ -1,7 +1,6 @@
 use Rattle.std.proofs.Common.{List, ℕ, length}
 use Rattle.dns_name.specs.Draft.{Holds}
 use Rattle.dns_name.proofs.Parts.{Reading}
-use Rattle.dns_name.proofs.Drafts.{draft-push}
 use Rattle.dns_name.proofs.text.Spelling.read.Given as goal
 
 abbrev pub invariant-loop-rest : goal.invariant-loop-rest

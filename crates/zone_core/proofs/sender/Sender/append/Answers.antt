@@ -1,5 +1,4 @@
 use Rattle.std.proofs.Common.{◌≡◌, ◌+◌, ◌-◌, length, refl, arith}
-use Rattle.zone_core.specs.Sent.{size}
 use Rattle.zone_core.specs.Owned.{record_of}
 use Rattle.zone_core.proofs.Plain.{size_is}
 use Rattle.zone_core.proofs.Placing.{few_records, record_long, appended}

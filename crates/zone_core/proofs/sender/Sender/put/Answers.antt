@@ -1,5 +1,4 @@
-use Rattle.std.proofs.Common.{◌≡◌, ◌+◌, ◌<◌, ◌≤◌, [], ◌∷◌, length, arith, ◌∙◌}
-use Rattle.zone_core.specs.Sent.{size}
+use Rattle.std.proofs.Common.{[], ◌∷◌, arith, ◌∙◌}
 use Rattle.zone_core.specs.Owned.{record_of}
 use Rattle.zone_core.proofs.Placing.{opening_short, size_alone, size-push, placed_behind, placed_alone, placed_nowhere}
 use Rattle.zone_core.proofs.sender.Sender.put.Goals as goal
