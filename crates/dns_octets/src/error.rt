@@ -1,7 +1,9 @@
-//! Why a message was not read.
+//! Why a message was not read or written.
 ghost use Rattle.std.specs.Prelude.{◌≡◌};
 ghost use Rattle.dns_octets.specs.declared.error.ParseError.TheVariants as parse_error;
+ghost use Rattle.dns_octets.specs.declared.error.AppendError.TheVariants as append_error;
 
+use std::alloc::AllocError;
 use thiserror::Error;
 
 /// The octets ended before the value did.
@@ -58,5 +60,27 @@ impl From<FormError> for ParseError {
 
     fn from(form: FormError) -> ParseError {
         ParseError::Form(form)
+    }
+}
+
+/// Why octets were not appended.
+#[derive(Clone, Copy, Debug, PartialEq, Eq, Error)]
+pub enum AppendError {
+    /// The target may not hold so many octets.
+    #[error("buffer size exceeded")]
+    ShortBuf,
+    /// A growth of the target was refused.
+    #[error("out of memory")]
+    OutOfMemory,
+    /// The octets have another length than was stated, or one that its field can't state.
+    #[error("bad length")]
+    BadLength,
+}
+
+impl From<AllocError> for AppendError {
+    ghost from_gives = { λ _ e. e ≡ append_error.OutOfMemory };
+
+    fn from(_: AllocError) -> AppendError {
+        AppendError::OutOfMemory
     }
 }

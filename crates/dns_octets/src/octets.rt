@@ -1,5 +1,9 @@
 //! Whatever holds a list of octets.
-ghost use Rattle.std.specs.Prelude.{◌≡◌, List, ℕ};
+ghost use Rattle.std.specs.Prelude.{◌≡◌, ◌≤◌, List, ℕ, length, slice_range};
+ghost use Rattle.std.specs.Cow.{cow_slice_items};
+
+use arrayvec::ArrayVec;
+use std::borrow::CowSlice;
 
 /// A type that holds a list of octets and lends it.
 pub trait Octets {
@@ -8,6 +12,15 @@ pub trait Octets {
     /// The octets.
     fn octets(&self) -> &[u8]
         ensures { result.now ≡ list self.now };
+
+    /// The octets from the place `start` to the place `end`.
+    fn range(&self, start: usize, end: usize) -> &[u8]
+        requires in_order { start ≤ end }
+        requires in_bounds { end ≤ length (list self.now) }
+        ensures { result.now ≡ slice_range (list self.now) start end }
+    {
+        &self.octets()[start..end]
+    }
 }
 
 impl Octets for &[u8] {
@@ -23,5 +36,29 @@ impl Octets for Vec<u8> {
 
     fn octets(&self) -> &[u8] {
         self.as_slice()
+    }
+}
+
+impl<const N: usize> Octets for ArrayVec<u8, N> {
+    ghost list = { λ octets. octets.items };
+
+    fn octets(&self) -> &[u8] {
+        self.as_slice()
+    }
+}
+
+impl Octets for CowSlice<'_, u8> {
+    ghost list = { cow_slice_items };
+
+    fn octets(&self) -> &[u8] {
+        self.as_slice()
+    }
+}
+
+impl<T: Octets> Octets for &mut T {
+    ghost list = { λ octets. T.list octets.now };
+
+    fn octets(&self) -> &[u8] {
+        (**self).octets()
     }
 }

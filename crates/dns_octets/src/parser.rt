@@ -14,6 +14,8 @@ pub struct Parser<'a> {
 }
 
 impl Clone for Parser<'_> {
+    ghost is_clone = { λ parser copy. copy ≡ parser };
+
     fn clone(&self) -> Result<Self, std::alloc::AllocError> {
         Ok(*self)
     }
@@ -31,6 +33,13 @@ impl<'a> Parser<'a> {
         ensures place { place_of result ≡ 0 }
     {
         Parser { octets, place: 0 }
+    }
+
+    /// All the octets, those in front of the place too.
+    pub fn as_slice(&self) -> &'a [u8]
+        ensures { result.now ≡ octets_of self.now }
+    {
+        self.octets
     }
 
     /// How many octets stand in front of the place.
@@ -65,6 +74,13 @@ impl<'a> Parser<'a> {
         Ok(&self.octets[self.place..self.place + len])
     }
 
+    /// All octets that are left, which stay to be read.
+    pub fn peek_all(&self) -> &'a [u8]
+        ensures { result.now ≡ rest_of self.now }
+    {
+        &self.octets[self.place..]
+    }
+
     /// Goes to the place `pos`. Refused behind the last octet.
     pub fn seek(&mut self, pos: usize) -> Result<(), ShortInput>
         ensures ok { OnOk result ((self.new.octets ≡ self.old.octets) × (place_of self.new ≡ pos)) }
@@ -84,11 +100,19 @@ impl<'a> Parser<'a> {
         ensures enough { IsOk result ↔ (place_of self.old + len ≤ length (octets_of self.old)) }
         ensures err { OnErr result (self.new ≡ self.old) }
     {
-        if len > self.remaining() {
+        if self.remaining() < len {
             return Err(ShortInput);
         }
         self.place += len;
         Ok(())
+    }
+
+    /// Goes behind the last octet.
+    pub fn advance_to_end(&mut self)
+        ensures octets { octets_of self.new ≡ octets_of self.old }
+        ensures place { place_of self.new ≡ length (octets_of self.old) }
+    {
+        self.place = self.octets.len();
     }
 
     /// Reads the next `len` octets. Refused where fewer are left.
@@ -101,6 +125,39 @@ impl<'a> Parser<'a> {
         let octets = self.peek(len)?;
         self.place += len;
         Ok(octets)
+    }
+
+    /// Reads as many octets as `buf` has, into it. Refused where fewer are left; `buf` then stays as
+    /// it was.
+    pub fn parse_buf(&mut self, buf: &mut [u8]) -> Result<(), ShortInput>
+        ensures ok { OnOk result (buf.new ≡ take (length buf.old) (rest_of self.old)) }
+        ensures place { OnOk result (GoesOn self.old self.new (length buf.old)) }
+        ensures enough { IsOk result ↔ (place_of self.old + length buf.old ≤ length (octets_of self.old)) }
+        ensures err { OnErr result ((self.new ≡ self.old) × (buf.new ≡ buf.old)) }
+    {
+        let octets = self.parse_octets(buf.len())?;
+        buf.copy_from_slice(octets);
+        Ok(())
+    }
+
+    /// A parser in the same octets and at the same place that ends `len` octets further on; this one
+    /// goes behind them. Refused where fewer are left.
+    pub fn parse_parser(&mut self, len: usize) -> Result<Parser<'a>, ShortInput>
+        ensures octets { IfOk result (λ parser. octets_of parser ≡ take (place_of self.old + len) (octets_of self.old)) }
+        ensures here { IfOk result (λ parser. place_of parser ≡ place_of self.old) }
+        ensures place { OnOk result (GoesOn self.old self.new len) }
+        ensures enough { IsOk result ↔ (place_of self.old + len ≤ length (octets_of self.old)) }
+        ensures err { OnErr result (self.new ≡ self.old) }
+    {
+        if len > self.remaining() {
+            return Err(ShortInput);
+        }
+        let place = self.place;
+        self.place += len;
+        Ok(Parser {
+            octets: &self.octets[..place + len],
+            place,
+        })
     }
 
     /// Reads an octet. Refused where none is left.

@@ -1,2 +1,3 @@
 pub mod Words
 mod ReadsBack
+pub mod Serials

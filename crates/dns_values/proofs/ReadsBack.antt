@@ -57,17 +57,17 @@ both_hold : (len number : ℕ) → 0 < len → number < 65536
     → cond (nat_lt 0 len && nat_lt number 65536) (Some number) None ≡ Some number
 both_hold len number some small = grind (arith, nat_tests)
 
-digits_text : (number : ℕ) → number < 65536 → number_spelled (decimal number) ≡ Some number
+digits_text : (number : ℕ) → number < 65536 → number_spelled 65536 (decimal number) ≡ Some number
 digits_text number small =
     let wide : number < 2 ^ 64 = omega arith in
-    rw (number_spelled-digits _ (digits_decimal digits_model number wide), digits_value-decimal digits_model number wide)
+    rw (number_spelled-digits 65536 _ (digits_decimal digits_model number wide), digits_value-decimal digits_model number wide)
     (both_hold (length (decimal number)) number (decimal_nonempty number wide) small)
 
 behind_text : (prefix : List ℕ) (number : ℕ) → number < 65536 → number_behind prefix (prefix ++ decimal number) ≡ Some number
 behind_text prefix number small =
     let front : take (length prefix) (prefix ++ decimal number) ≡ prefix = take-append_seam prefix _ in
     let back : drop (length prefix) (prefix ++ decimal number) ≡ decimal number = drop-append_seam prefix _ in
-    number_behind-same prefix _ (ap (map to_ascii_lowercase) (sym front)) ∙ ap number_spelled back ∙ digits_text number small
+    number_behind-same prefix _ (ap (map to_ascii_lowercase) (sym front)) ∙ ap (number_spelled 65536) back ∙ digits_text number small
 
 own_number : (table : Mnemonics) (prefix : List ℕ) (number : ℕ) → number < 65536
     → number_read table prefix (prefix ++ decimal number) ≡ Some number

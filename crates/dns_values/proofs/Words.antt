@@ -1,5 +1,5 @@
 -- Facts on words for numbers.
-use Rattle.std.proofs.Common.{◌≡◌, ◌<◌, ◌^◌, ℕ, true, false, List, length, Some, None, Result, Ok, Err, arith, refl, ◌∙◌, ap, map, take, drop, ◌++◌, ◌+◌, ◌≤◌, get_or, drop-cons, add-one, length-take, cond, nat_lt, ◌==◌, ◌&&◌, rules}
+use Rattle.std.proofs.Common.{sym, Option, Bool, option_and_then, ◌≡◌, ◌<◌, ◌^◌, ℕ, true, false, List, length, Some, None, Result, Ok, Err, arith, refl, ◌∙◌, ap, map, take, drop, ◌++◌, ◌+◌, ◌≤◌, get_or, drop-cons, add-one, length-take, cond, nat_lt, ◌==◌, ◌&&◌, rules}
 use Rattle.std.specs.Borrow.{Bor}
 use Rattle.std.proofs.lemmas.List.{length-map, drop_all}
 use Rattle.std.specs.Char.{is_ascii_digit, to_ascii_lowercase}
@@ -22,27 +22,44 @@ pub IsUtf8-digits : (ds : List ℕ) → list_all is_ascii_digit ds ≡ true → 
 IsUtf8-digits ds h = IsUtf8-from_ascii ds (IsAscii-from_digits ds (digits_model.to ds h))
 
 -- what is no text of digits spells nothing
-pub number_spelled-other : (ds : List ℕ) → list_all is_ascii_digit ds ≡ false → number_spelled ds ≡ None
+pub number_spelled-other : (limit : ℕ) (ds : List ℕ) → list_all is_ascii_digit ds ≡ false → number_spelled limit ds ≡ None
 unfolding number_spelled
-number_spelled-other ds h = rw h refl
+number_spelled-other limit ds h = rw h refl
 
--- what is a text of digits spells the number, where that has 16 bits
-pub number_spelled-digits : (ds : List ℕ) → list_all is_ascii_digit ds ≡ true
-    → number_spelled ds ≡ cond (nat_lt 0 (length ds) && nat_lt (digits_value 10 ds) 65536) (Some (digits_value 10 ds)) None
+-- what is a text of digits spells the number, where that is below the limit
+pub number_spelled-digits : (limit : ℕ) (ds : List ℕ) → list_all is_ascii_digit ds ≡ true
+    → number_spelled limit ds ≡ cond (nat_lt 0 (length ds) && nat_lt (digits_value 10 ds) limit) (Some (digits_value 10 ds)) None
 unfolding number_spelled
-number_spelled-digits ds h = rw h refl
+number_spelled-digits limit ds h = rw h refl
 
 -- which is what is parsed of it
 pub number_spelled-ok : {E : Type 0} (ds : List ℕ) (r : Result ℕ E) → list_all is_ascii_digit ds ≡ true
-    → OkIff r ((0 < length ds) × (digits_value 10 ds < 2 ^ 16)) (digits_value 10 ds) → result_ok r ≡ number_spelled ds
+    → OkIff r ((0 < length ds) × (digits_value 10 ds < 2 ^ 32)) (digits_value 10 ds) → result_ok r ≡ number_spelled (2 ^ 32) ds
 number_spelled-ok ds (Ok x) digits exact = rw number_spelled-digits (grind (arith, nat_tests))
 number_spelled-ok ds (Err e) digits exact = rw number_spelled-digits (grind (arith, nat_tests))
 
 pub number_spelled-parse : {E : Type 0} (ds : List ℕ) (r : Result ℕ E)
-    → ParsesUnsigned 16 10 ds r → list_all is_ascii_digit ds ≡ true → result_ok r ≡ number_spelled ds
-number_spelled-parse ds r parsed digits = number_spelled-ok ds r digits (parse_digits digits_model 16 ds r parsed digits)
+    → ParsesUnsigned 32 10 ds r → list_all is_ascii_digit ds ≡ true → result_ok r ≡ number_spelled (2 ^ 32) ds
+number_spelled-parse ds r parsed digits = number_spelled-ok ds r digits (parse_digits digits_model 32 ds r parsed digits)
 
 pub ruleset spelled_rules = (number_spelled-other, number_spelled-parse, IsUtf8-digits)
+
+-- a lower limit leaves out what is not below it
+limited-none : (test : Bool) (value : ℕ) → cond (test && nat_lt value (2 ^ 32)) (Some value) None ≡ None
+    → cond (test && nat_lt value 65536) (Some value) None ≡ None
+limited-none test value e = grind (arith, nat_tests)
+
+limited-some : (test : Bool) (value n : ℕ) → cond (test && nat_lt value (2 ^ 32)) (Some value) None ≡ Some n
+    → cond (test && nat_lt value 65536) (Some value) None ≡ cond (nat_lt n 65536) (Some n) None
+limited-some test value n e = grind (arith, nat_tests)
+
+pub number_spelled-short : (ds : List ℕ) (read : Option ℕ) → read ≡ number_spelled (2 ^ 32) ds
+    → number_spelled 65536 ds ≡ option_and_then (λ n. cond (nat_lt n 65536) (Some n) None) read
+unfolding number_spelled
+number_spelled-short ds (Some n) e = limited-some (list_all is_ascii_digit ds && nat_lt 0 (length ds)) (digits_value 10 ds) n (sym e)
+number_spelled-short ds None e = limited-none (list_all is_ascii_digit ds && nat_lt 0 (length ds)) (digits_value 10 ds) (sym e)
+
+pub ruleset short_rules = (number_spelled-short)
 
 -- two texts are the same up to case, or not
 pub same_text : (a b : List ℕ) → map to_ascii_lowercase a ≡ map to_ascii_lowercase b → str_eq_ignore_ascii_case a b ≡ true
@@ -66,7 +83,7 @@ number_behind-other prefix word differ = rw (other_text _ _ differ) refl
 
 pub number_behind-same : (prefix word : List ℕ)
     → map to_ascii_lowercase prefix ≡ map to_ascii_lowercase (take (length prefix) word)
-    → number_behind prefix word ≡ number_spelled (drop (length prefix) word)
+    → number_behind prefix word ≡ number_spelled 65536 (drop (length prefix) word)
 unfolding number_behind
 number_behind-same prefix word same = rw (same_text _ _ same) refl
 

@@ -1,1 +1,2 @@
 pub mod Mnemonic
+pub mod Serial

@@ -36,17 +36,17 @@ classes = (1, codes "IN") ∷ (3, codes "CH") ∷ (4, codes "HS") ∷ []
 unfoldable pub number_named : Mnemonics → List ℕ → Option ℕ
 number_named table word = option_map (λ row. row.0) (find (λ row. str_eq_ignore_ascii_case row.1 word) table)
 
--- the number of 16 bits that is spelled by these digits: no sign, and zeros may lead
-unfoldable pub number_spelled : List ℕ → Option ℕ
-number_spelled digits =
-    if list_all is_ascii_digit digits && nat_lt 0 (length digits) && nat_lt (digits_value 10 digits) 65536
+-- the number below the limit that is spelled by these digits: no sign, and zeros may lead
+unfoldable pub number_spelled : ℕ → List ℕ → Option ℕ
+number_spelled limit digits =
+    if list_all is_ascii_digit digits && nat_lt 0 (length digits) && nat_lt (digits_value 10 digits) limit
     then Some (digits_value 10 digits)
     else None
 
--- the number behind the prefix, which may be in any case
+-- the number of 16 bits behind the prefix, which may be in any case
 unfoldable pub number_behind : List ℕ → List ℕ → Option ℕ
 number_behind prefix word =
-    if str_eq_ignore_ascii_case prefix (take (length prefix) word) then number_spelled (drop (length prefix) word) else None
+    if str_eq_ignore_ascii_case prefix (take (length prefix) word) then number_spelled 65536 (drop (length prefix) word) else None
 
 -- the number that a word stands for
 unfoldable pub number_read : Mnemonics → List ℕ → List ℕ → Option ℕ

@@ -1,13 +1,13 @@
 //! The class of a record.
 ghost use Rattle.std.specs.Prelude.{◌≡◌, ◌+◌, ◌≤◌, ◌↔◌, take, length, IsOk, IfOk, OnOk, OnErr, IfErr, Some};
-ghost use Rattle.std.specs.Int.{from_be_bytes, w16};
+ghost use Rattle.std.specs.Int.{from_be_bytes, to_be_bytes, w16};
 ghost use Rattle.std.specs.Option.{option_copied};
 ghost use Rattle.std.specs.Result.{result_ok};
 ghost use Rattle.dns_octets.specs.Parser.{GoesOn, octets_of, place_of, rest_of};
 ghost use Rattle.dns_values.specs.Mnemonic.{class_read, class_written, rows_of, text_of, classes};
 
 use crate::mnemonic::{self, Mnemonic};
-use dns_octets::{ParseError, Parser};
+use dns_octets::{AppendError, Compose, OctetsBuilder, ParseError, Parser};
 use std::fmt;
 use std::marker::Model;
 use std::str::FromStr;
@@ -67,14 +67,23 @@ impl Class {
         ensures { result ≡ class_read word.now }
     {
         let number = mnemonic::number_read(mnemonics(), "CLASS", word)?;
-        Some(Class(number))
+        Some(Class::from_int(number))
     }
 
     /// The mnemonic, if there is one.
     fn mnemonic(self) -> Option<&'static str>
         ensures { option_copied result ≡ text_of classes self }
     {
-        mnemonic::text_of(mnemonics(), self.0)
+        mnemonic::text_of(mnemonics(), self.to_int())
+    }
+}
+
+/// Writes the two octets of the number, the high one first.
+impl Compose for Class {
+    ghost composed = { λ class. to_be_bytes w16 class };
+
+    fn compose<Target: OctetsBuilder>(&self, target: &mut Target) -> Result<(), AppendError> {
+        self.to_int().compose(target)
     }
 }
 
@@ -97,7 +106,7 @@ impl fmt::Display for Class {
     fn fmt<W: fmt::Write>(&self, f: &mut fmt::Formatter<W>) -> fmt::Result {
         match self.mnemonic() {
             Some(text) => f.write_str(text),
-            None => write!(f, "CLASS{}", self.0),
+            None => write!(f, "CLASS{}", self.to_int()),
         }
     }
 }
@@ -160,5 +169,13 @@ mod tests {
         assert_eq!(rt; Class::parse(&mut parser), Ok(Class::CH));
         assert!(rt; Class::parse(&mut parser).is_err());
         assert_eq!(rt; Class::CH.to_int(), 3);
+    }
+
+    #[test]
+    fn composes(rt: HostRuntime) -> Result<(), Fail> {
+        let mut target = Vec::new(rt.alloc());
+        Class::HS.compose(&mut target)?;
+        assert_eq!(rt; target.as_slice(), [0u8, 4].as_slice());
+        Ok(())
     }
 }

@@ -1,5 +1,5 @@
 //! Words for numbers of 16 bits: a mnemonic of a table, or a prefix and the number.
-ghost use Rattle.std.specs.Prelude.{◌≡◌};
+ghost use Rattle.std.specs.Prelude.{◌≡◌, ◌^◌};
 ghost use Rattle.std.specs.Char.{is_ascii_digit};
 ghost use Rattle.std.specs.List.{list_all};
 ghost use Rattle.std.specs.Option.{option_copied};
@@ -42,16 +42,27 @@ fn number_behind(prefix: &[u8], word: &[u8]) -> Option<u16>
     }
     let (front, digits) = word.split_at(prefix.len());
     if prefix.eq_ignore_ascii_case(front) {
-        number_spelled(digits)
+        short_number_spelled(digits)
     } else {
         None
     }
 }
 
-/// The number that is spelled by these digits, which no sign may precede.
+/// The number of 16 bits that is spelled by these digits, which no sign may precede.
+#[tactic(auto, using(crate::proofs::Words::short_rules))]
+fn short_number_spelled(digits: &[u8]) -> Option<u16>
+    ensures { result ≡ word_of.number_spelled 65536 digits.now }
+{
+    match number_spelled(digits) {
+        Some(number) => u16::try_from(number).ok(),
+        None => None,
+    }
+}
+
+/// The number of 32 bits that is spelled by these digits, which no sign may precede.
 #[tactic(auto, using(crate::proofs::Words::spelled_rules))]
-fn number_spelled(digits: &[u8]) -> Option<u16>
-    ensures { result ≡ word_of.number_spelled digits.now }
+pub(crate) fn number_spelled(digits: &[u8]) -> Option<u32>
+    ensures { result ≡ word_of.number_spelled (2 ^ 32) digits.now }
 {
     if !is_digits(digits) {
         return None;

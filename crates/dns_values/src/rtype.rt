@@ -1,13 +1,13 @@
 //! What a record holds.
 ghost use Rattle.std.specs.Prelude.{◌≡◌, ◌+◌, ◌≤◌, ◌↔◌, take, length, IsOk, IfOk, OnOk, OnErr, IfErr, Some};
-ghost use Rattle.std.specs.Int.{from_be_bytes, w16};
+ghost use Rattle.std.specs.Int.{from_be_bytes, to_be_bytes, w16};
 ghost use Rattle.std.specs.Option.{option_copied};
 ghost use Rattle.std.specs.Result.{result_ok};
 ghost use Rattle.dns_octets.specs.Parser.{GoesOn, octets_of, place_of, rest_of};
 ghost use Rattle.dns_values.specs.Mnemonic.{type_read, type_written, rows_of, text_of, types};
 
 use crate::mnemonic::{self, Mnemonic};
-use dns_octets::{ParseError, Parser};
+use dns_octets::{AppendError, Compose, OctetsBuilder, ParseError, Parser};
 use std::fmt;
 use std::marker::Model;
 use std::str::FromStr;
@@ -147,14 +147,23 @@ impl Rtype {
         ensures { result ≡ type_read word.now }
     {
         let number = mnemonic::number_read(mnemonics(), "TYPE", word)?;
-        Some(Rtype(number))
+        Some(Rtype::from_int(number))
     }
 
     /// The mnemonic, if there is one.
     fn mnemonic(self) -> Option<&'static str>
         ensures { option_copied result ≡ text_of types self }
     {
-        mnemonic::text_of(mnemonics(), self.0)
+        mnemonic::text_of(mnemonics(), self.to_int())
+    }
+}
+
+/// Writes the two octets of the number, the high one first.
+impl Compose for Rtype {
+    ghost composed = { λ rtype. to_be_bytes w16 rtype };
+
+    fn compose<Target: OctetsBuilder>(&self, target: &mut Target) -> Result<(), AppendError> {
+        self.to_int().compose(target)
     }
 }
 
@@ -177,7 +186,7 @@ impl fmt::Display for Rtype {
     fn fmt<W: fmt::Write>(&self, f: &mut fmt::Formatter<W>) -> fmt::Result {
         match self.mnemonic() {
             Some(text) => f.write_str(text),
-            None => write!(f, "TYPE{}", self.0),
+            None => write!(f, "TYPE{}", self.to_int()),
         }
     }
 }
@@ -297,5 +306,13 @@ mod tests {
         assert_eq!(rt; Rtype::parse(&mut parser), Ok(Rtype::AAAA));
         assert!(rt; Rtype::parse(&mut parser).is_err());
         assert_eq!(rt; parser.pos(), 2);
+    }
+
+    #[test]
+    fn composes(rt: HostRuntime) -> Result<(), Fail> {
+        let mut target = Vec::new(rt.alloc());
+        Rtype::CAA.compose(&mut target)?;
+        assert_eq!(rt; target.as_slice(), [1u8, 1].as_slice());
+        Ok(())
     }
 }

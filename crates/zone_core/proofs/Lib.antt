@@ -2,6 +2,18 @@ pub mod Splits
 pub mod Cuttings
 pub mod Greedy
 pub mod Tried
+pub mod WordSymbols
+pub mod EmptyRows
+pub mod WordRows
+pub mod HeldWords
+pub mod NumberTexts
+pub mod RecordData
+pub mod EntryRows
+pub mod EntryLists
+pub mod ReadEntries
+pub mod ReadZones
+pub mod OneRecord
+pub mod OneReading
 pub mod Plain
 pub mod Framing
 pub mod WrittenAnswers
@@ -9,3 +21,8 @@ pub mod LastRecord
 pub mod SentTransfers
 pub mod TriedTransfer
 pub mod OneTransfer
+pub mod Questions
+pub mod Patched
+pub mod Placing
+pub mod Streams
+pub mod SendFaults

@@ -18,7 +18,7 @@ pub size_is : (query : AxfrQuery) (group : List Record)
 size_is query group =
     omega (arith, length-append (question_octets (question_of query)) (flat_map record_octets group))
 
-records_append : (front back : List Record)
+pub records_append : (front back : List Record)
     → length (flat_map record_octets (front ++ back)) ≡ length (flat_map record_octets front) + length (flat_map record_octets back)
 records_append front back =
     ap length (flat_map-append record_octets front back) ∙ length-append (flat_map record_octets front) (flat_map record_octets back)

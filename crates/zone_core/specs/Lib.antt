@@ -3,8 +3,16 @@ pub mod Cutting
 pub mod Zone
 pub mod ZoneText
 pub mod Query
+pub mod Asked
 pub mod Frames
 pub mod Transfer
 pub mod Sent
+pub mod Owned
+pub mod Seen
+pub mod Entry
+pub mod Sending
+pub mod View
 pub mod Records
+pub mod Rules
+pub mod Reading
 pub mod Tried

@@ -1,5 +1,5 @@
 -- What is known of the records of a zone, and of a query that asks for it.
-use Rattle.std.specs.Prelude.{◌≡◌, ◌<◌, ◌^◌, ℕ, List, [], ◌∷◌}
+use Rattle.std.specs.Prelude.{◌≡◌, ◌<◌, ◌^◌, ℕ, List}
 use Rattle.std.specs.List.{AllByRecursion}
 use Rattle.dns_label.specs.Name.{IsName}
 use Rattle.dns_rdata.specs.Fields.{IsData}
@@ -7,6 +7,7 @@ use Rattle.dns_message.specs.Record.{IsRecord}
 use Rattle.zone_core.specs.Record.{Record}
 use Rattle.zone_core.specs.Zone.{IsZone}
 use Rattle.zone_core.specs.Query.{AxfrQuery}
+use Rattle.zone_core.specs.View.{apex_of}
 use Rattle.zone_core.specs.Transfer.{IsSpellable}
 use Rattle.zone_core.specs.Sent.{AsksFor}
 
@@ -21,11 +22,6 @@ pub record IsRecordOf (class : ℕ) (r : Record) : Type 0 where
 pub record AreRecordsOf (class : ℕ) (records : List Record) : Type 0 where
   pub each : AllByRecursion (IsRecordOf class) records
   pub zone : IsZone records
-
--- the owner of the SOA, which is the first record
-abbrev pub apex_of : List Record → List (List ℕ)
-apex_of [] = []
-apex_of (soa ∷ others) = soa.owner
 
 -- A query that asks for the zone, and whose values are what a message can say.
 pub record IsQueryFor (records : List Record) (class : ℕ) (query : AxfrQuery) : Type 0 where

@@ -1,5 +1,5 @@
 -- What is sent for a zone and a query, with every name written out (RFC 5936 2.2).
-use Rattle.std.specs.Prelude.{◌≡◌, ◌≢◌, ◌⊎◌, ℕ, List, [], ◌∷◌, ◌++◌, length, map, flat_map}
+use Rattle.std.specs.Prelude.{◌≡◌, ℕ, List, [], ◌∷◌, ◌++◌, length, map, flat_map}
 use Rattle.dns_label.specs.Name.{low}
 use Rattle.dns_message.specs.Header.{answer_header}
 use Rattle.dns_message.specs.Question.{question_octets}

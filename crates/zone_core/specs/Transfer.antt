@@ -11,7 +11,7 @@ use Rattle.zone_core.specs.Record.{Record}
 use Rattle.zone_core.specs.Zone.{IsUnder, axfr_type, soa_type}
 use Rattle.zone_core.specs.Query.{AxfrQuery}
 use Rattle.zone_core.specs.Frames.{frames, IsFramable}
-use Rattle.zone_core.specs.Cutting.{joined, IsNonempty}
+use Rattle.zone_core.specs.Cutting.{joined}
 
 -- the question is the query's, its name up to ASCII case
 pub record IsQuestionOf (query : AxfrQuery) (q : Question) : Type 0 where

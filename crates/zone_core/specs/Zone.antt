@@ -1,5 +1,5 @@
 -- Which records are a zone: one SOA, the first, and then others at or under its owner (RFC 1035 5.2, RFC 5936 2.2).
-use Rattle.std.specs.Prelude.{◌≡◌, ◌≢◌, ◌<◌, ◌++◌, ℕ, List, [], ◌∷◌, length, ⊤}
+use Rattle.std.specs.Prelude.{◌≡◌, ◌≢◌, ◌++◌, ℕ, List, [], ◌∷◌, ⊤}
 use Rattle.std.specs.List.{AllByRecursion}
 use Rattle.dns_label.specs.Name.{low}
 use Rattle.zone_core.specs.Record.{Record}

@@ -1,5 +1,5 @@
 -- Which text is a zone's, and else the first rule that it breaks.
-use Rattle.std.specs.Prelude.{◌≡◌, ◌≢◌, ◌+◌, ◌<◌, ℕ, Bool, true, false, List, [], ◌∷◌, ◌++◌, length}
+use Rattle.std.specs.Prelude.{◌≡◌, ◌≢◌, ◌+◌, ℕ, true, false, List, [], ◌∷◌, ◌++◌, length}
 use Rattle.dns_text.specs.Tokens.{IsEmptyRow, is_end}
 use Rattle.dns_zonefile.specs.PlainRow.{PlainRow, RecordWords}
 use Rattle.zone_core.specs.Record.{Record}

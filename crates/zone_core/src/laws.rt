@@ -5,6 +5,7 @@ mod cutting;
 mod framing;
 mod received;
 mod sent;
+mod text;
 
 pub use cutting::{
     blocked_record_fits_no_cutting, blocked_record_is_one, cut_or_blocked, full_cut_is_fewest,
@@ -13,3 +14,4 @@ pub use cutting::{
 pub use framing::two_splits_are_one;
 pub use received::transfers_are_one;
 pub use sent::sent_is_a_transfer;
+pub use text::{one_zone_fault, text_has_one_reading, zone_text_breaks_no_rule};

@@ -1,11 +1,23 @@
-//! What the crates of a zone share: resource records as values, and how a list of records is cut into messages.
+//! Zones: reading them from text, and sending them as the stream of a transfer.
+//!
+//! A part of `zonewire`, which hands all of it on. Its `specs/` say which text is a zone's, which stream is its transfer,
+//! and how its records are cut into messages.
 #![tactic(auto)]
 
 pub mod laws;
+mod query;
 mod query_error;
+mod record;
 mod send_error;
+mod sender;
+mod text;
+mod transfer;
+mod zone;
 mod zone_error;
 
+pub use query::{Query, check_query};
 pub use query_error::QueryError;
 pub use send_error::SendError;
+pub use transfer::{Spelling, send};
+pub use zone::{Zone, ZoneRecord, ZoneRecords};
 pub use zone_error::ZoneError;

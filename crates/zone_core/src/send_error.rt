@@ -1,5 +1,9 @@
 //! Why a zone is not sent.
+ghost use Rattle.std.specs.Prelude.{◌≡◌};
+ghost use Rattle.zone_core.specs.declared.send_error.SendError.TheVariants.{OutOfMemory};
+
 use crate::query_error::QueryError;
+use std::alloc::AllocError;
 use thiserror::Error;
 
 /// The first rule that is broken, in this order.
@@ -17,4 +21,12 @@ pub enum SendError {
     /// A growth was refused.
     #[error("out of memory")]
     OutOfMemory,
+}
+
+impl From<AllocError> for SendError {
+    ghost from_gives = { λ _ error. error ≡ OutOfMemory };
+
+    fn from(_: AllocError) -> SendError {
+        SendError::OutOfMemory
+    }
 }

@@ -1,0 +1,13 @@
+use Rattle.std.proofs.Common.{◌≤◌, ◌+◌, ◌-◌, length}
+use Rattle.dns_name.proofs.Walking.{Walks}
+use Rattle.dns_name.proofs.walk.walk_name.Given as goal
+
+abbrev pub invariant-loop-label : goal.invariant-loop-label
+invariant-loop-label l = record {
+  walks : Walks l.octets l.start l.place l.len l.left l.behind;
+  within : l.place ≤ length l.octets;
+  few : l.len ≤ 255;
+}
+
+abbrev pub decreases-loop-label : goal.decreases-loop-label
+decreases-loop-label l = l.left + (255 - l.len)

@@ -1,0 +1,14 @@
+pub mod Flat
+pub mod Parsed
+pub mod ParsedName
+pub mod Suffix
+pub mod Text
+pub mod Draft
+pub use Rattle.dns_octets.specs.Parser
+pub use Rattle.dns_label.specs.Name
+pub use Rattle.dns_label.specs.Spelled
+pub use Rattle.dns_label.specs.Labels
+pub use Rattle.dns_label.specs.Label
+pub use Rattle.dns_label.specs.Split
+pub use Rattle.dns_label.specs.Symbol
+pub use Rattle.dns_label.specs.NameText

@@ -1,0 +1,19 @@
+-- Names in messages.
+use Rattle.std.specs.Prelude.{ℕ, List, [], Option, Some, None}
+use Rattle.dns_label.specs.Name.{with_root}
+use Rattle.dns_label.specs.Spelled.{Reads}
+use Rattle.dns_label.specs.Labels.{labels_at}
+
+-- a name is read at the place
+pub record IsReadAt (message : List ℕ) (place : ℕ) : Type 0 where
+  pub next : ℕ
+  pub reads : Reads message place (labels_at message place) next
+
+-- the labels from the place on, the root's last, or none where there is no place
+abbrev pub labels_left : List ℕ → Option ℕ → List (List ℕ)
+labels_left message None = []
+labels_left message (Some place) = with_root (labels_at message place)
+
+abbrev pub IsLeft : List ℕ → Option ℕ → Type 0
+IsLeft message None = Unit {0}
+IsLeft message (Some place) = ∥ IsReadAt message place ∥₁

@@ -1,0 +1,7 @@
+-- The ends of names.
+use Rattle.std.specs.Prelude.{◌≡◌, ◌++◌, ℕ, List}
+
+-- the list ends with the other
+pub record EndsWith (whole end : List (List ℕ)) : Type 0 where
+  pub front : List (List ℕ)
+  pub whole_is : whole ≡ front ++ end

@@ -1,0 +1,26 @@
+//! Domain names: flat, in messages, and in text (RFC 1035 3.1, 4.1.4, 5.1).
+//!
+//! The face of the lowest layer. Its parts are `dns_octets` (octets and how they are read), `dns_values` (the small
+//! values of records) and `dns_label` (labels and symbols), and it hands all of them on.
+#![tactic(auto)]
+
+mod label_iter;
+mod name;
+mod parsed;
+mod parsed_iter;
+mod suffix;
+#[cfg(test)]
+mod tests;
+mod text;
+mod to_name;
+mod walk;
+
+pub use dns_label::{Label, LabelTypeError, LongLabelError, SplitLabelError, Symbol};
+pub use dns_octets::{FormError, Octets, ParseError, Parser, ShortInput};
+pub use dns_values::{Class, Rtype, Ttl};
+pub use label_iter::{LabelIter, ToLabelIter};
+pub use name::{Name, NameError, NameIter};
+pub use parsed::ParsedName;
+pub use parsed_iter::ParsedNameIter;
+pub use text::{FromStrError, PresentationError};
+pub use to_name::ToName;

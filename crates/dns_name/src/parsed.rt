@@ -1,0 +1,116 @@
+//! Names in messages, with pointers.
+ghost use Rattle.std.specs.Prelude.{◌≡◌, ◌≤◌, ◌↔◌, List, ℕ, [], length, refl, IsTrue, IfOk, OnErr};
+ghost use Rattle.dns_label.specs.Name.{wire, with_root};
+ghost use Rattle.dns_label.specs.Spelled.{Reads};
+ghost use Rattle.dns_label.specs.Labels.{labels_at};
+ghost use Rattle.dns_name.specs.Parsed.{IsReadAt};
+
+use crate::walk::walk_name;
+use crate::{Name, ParsedNameIter, ToLabelIter, ToName};
+use dns_label::Label;
+use dns_octets::{Octets, ParseError, Parser};
+use std::alloc::{AllocError, Global};
+
+/// An absolute name at a place of a message, where pointers may stand for the ends of names (RFC 1035 4.1.4).
+///
+/// It holds the message's octets up to the end of its parser, and walks them anew each time.
+#[derive(Debug, Drop)]
+pub struct ParsedName<Octs: Octets> {
+    octets: Octs,
+    start: usize,
+    len: u16,
+    ghost reads: { ∥ IsReadAt (Octs.list octets) start ∥₁ },
+    ghost counted: { len ≡ length (wire (labels_at (Octs.list octets) start)) },
+}
+
+impl<Octs: Octets + Copy> Clone for ParsedName<Octs> {
+    fn clone(&self) -> Result<Self, AllocError> {
+        Ok(*self)
+    }
+}
+
+impl<Octs: Octets + Copy> Copy for ParsedName<Octs> {}
+
+impl<'a> ParsedName<&'a [u8]> {
+    ghost use Rattle.dns_octets.specs.Parser.{octets_of, place_of};
+    ghost use Rattle.dns_name.specs.ParsedName.{labels_of};
+
+    /// Reads the name at the parser's place, and leaves the parser behind it: behind its root, or behind its first
+    /// pointer.
+    ///
+    /// A pointer has to be less than its own place, at most 255 of them are followed, and the name has at most 255
+    /// octets. Refused where no such name stands, and the parser then stays where it is.
+    pub fn parse(parser: &mut Parser<'a>) -> Result<Self, ParseError>
+        ensures ok { IfOk result (λ name. Reads (octets_of parser.old) (place_of parser.old) (labels_of name) (place_of parser.new)) }
+        ensures err { OnErr result ((name : List (List ℕ)) (next : ℕ) → Reads (octets_of parser.old) (place_of parser.old) name next → ⊥) }
+        ensures same { octets_of parser.new ≡ octets_of parser.old }
+        ensures stays { OnErr result (parser.new ≡ parser.old) }
+    {
+        let octets = parser.as_slice();
+        let start = parser.pos();
+        let walk = walk_name(octets, start)?;
+        parser.seek(walk.next)?;
+        Ok(ParsedName {
+            octets,
+            start,
+            len: walk.len,
+        })
+    }
+}
+
+impl<Octs: Octets> ParsedName<Octs> {
+    ghost use Rattle.dns_name.specs.ParsedName.{labels_in};
+
+    /// Whether this is the root, which has no labels but its own.
+    pub fn is_root(&self) -> bool
+        ensures { IsTrue result ↔ (labels_in Octs.list self.now ≡ []) }
+    {
+        self.len == 1
+    }
+
+    /// How many labels there are, the root's counted.
+    pub fn label_count(&self) -> usize
+        ensures { result ≡ length (with_root (labels_in Octs.list self.now)) }
+    {
+        self.iter().count()
+    }
+
+    /// The labels from the left, the root's last.
+    pub fn iter(&self) -> ParsedNameIter<'_>
+        ensures labels { result ≡ with_root (labels_in Octs.list self.now) }
+        ensures few { length result ≤ 128 }
+    {
+        ParsedNameIter::at(self.octets.octets(), self.start)
+    }
+}
+
+impl<Octs: Octets> ToLabelIter for ParsedName<Octs> {
+    ghost use Rattle.dns_name.specs.ParsedName.{labels_in};
+
+    ghost labels = { λ name. with_root (labels_in Octs.list name) };
+
+    fn label(&self, index: usize) -> Option<Label<'_>> {
+        self.iter().label(index)
+    }
+
+    fn compose_len(&self) -> u16 {
+        self.len
+    }
+}
+
+impl<Octs: Octets> ToName for ParsedName<Octs> {
+    ghost use Rattle.dns_name.specs.ParsedName.{labels_in};
+
+    ghost name = { λ name. labels_in Octs.list name };
+
+    ghost is_absolute = { λ _. refl };
+
+    fn to_vec(&self, alloc: Global) -> Result<Name<Vec<u8>>, AllocError> {
+        let mut octets = Vec::with_capacity(alloc, usize::from(self.len))?;
+        for label in self.iter() {
+            octets.push(label.len() as u8)?;
+            octets.extend_from_slice(label.as_slice())?;
+        }
+        Ok(Name::of_wire(octets))
+    }
+}

@@ -1,0 +1,82 @@
+//! The labels of names, one after another.
+ghost use Rattle.std.specs.Prelude.{◌≡◌, ◌∷◌, List, ℕ, option_map, slice_get};
+ghost use Rattle.dns_label.specs.Name.{with_root};
+ghost use Rattle.dns_label.specs.Label.{octets_of};
+ghost use Rattle.dns_label.specs.Labels.{labels_at};
+ghost use Rattle.dns_name.specs.Parsed.{IsReadAt, IsLeft, labels_left};
+
+use crate::walk::label_at;
+use dns_label::{Label, SplitLabelError};
+use std::marker::Model;
+
+/// The labels of a name in a message, from the left, the root's last.
+#[derive(Debug, Drop)]
+pub struct ParsedNameIter<'a> {
+    octets: &'a [u8],
+    /// Where the next label stands, or None behind the root's.
+    place: Option<usize>,
+}
+
+impl<'a> Model for ParsedNameIter<'a> {
+    ghost Value = { List (List ℕ) };
+
+    ghost view = { λ it. labels_left it.octets.now it.place };
+
+    ghost invariant = { λ it. IsLeft it.octets.now it.place };
+}
+
+impl<'a> ParsedNameIter<'a> {
+    /// The labels of the name that is read at the place.
+    pub(crate) fn at(octets: &'a [u8], place: usize) -> Self
+        requires { ∥ IsReadAt octets.now place ∥₁ }
+        ensures { result ≡ with_root (labels_at octets.now place) }
+    {
+        ParsedNameIter {
+            octets,
+            place: Some(place),
+        }
+    }
+
+    /// The label with this number, counted from 0.
+    pub(crate) fn label(mut self, index: usize) -> Option<Label<'a>>
+        ensures { option_map octets_of result ≡ slice_get self.entry index }
+    {
+        self.nth(index)
+    }
+}
+
+impl<'a> Iterator for ParsedNameIter<'a> {
+    ghost use Rattle.std.specs.Iterator.{YieldsFirstBy, item_count};
+
+    type Item = Label<'a>;
+
+    ghost next_gives = { YieldsFirstBy octets_of (λ labels. labels) };
+
+    ghost remaining = { item_count (λ labels. labels) };
+
+    fn next(&mut self) -> Option<Label<'a>> {
+        let (label, place) = split_label(self.octets, self.place?);
+        self.place = place;
+        Some(label)
+    }
+}
+
+/// The label at the place, pointers followed, and where the next one stands: None behind the root's.
+fn split_label(octets: &[u8], start: usize) -> (Label<'_>, Option<usize>)
+    requires { ∥ IsReadAt octets.now start ∥₁ }
+    ensures left { IsLeft octets.now result.1 }
+    ensures labels { with_root (labels_at octets.now start) ≡ octets_of result.0 ∷ labels_left octets.now result.1 }
+{
+    let mut place = start;
+    loop {
+        match label_at(octets, place) {
+            Ok((label, _)) => {
+                let next = place + 1 + label.len();
+                return (label, if label.is_root() { None } else { Some(next) });
+            }
+            Err(SplitLabelError::Pointer(target)) => place = usize::from(target),
+            Err(SplitLabelError::BadType(_)) => unreachable!(),
+            Err(SplitLabelError::ShortInput) => unreachable!(),
+        }
+    }
+}

@@ -1,0 +1,71 @@
+//! The walk over the heads of a name in a message (RFC 1035 4.1.4).
+ghost use Rattle.std.specs.Prelude.{◌≡◌, ◌≤◌, ◌+◌, List, ℕ, length, drop, IfOk, IfErr, OnErr};
+ghost use Rattle.dns_label.specs.Label.{octets_of};
+ghost use Rattle.dns_label.specs.Name.{wire};
+ghost use Rattle.dns_label.specs.Spelled.{Reads};
+ghost use Rattle.dns_label.specs.Split.{NoLabel, StartsWithLabel};
+
+use dns_label::{Label, SplitLabelError};
+use dns_octets::ParseError;
+
+/// What a walk over a name found.
+#[derive(Clone, Copy)]
+pub struct Walk {
+    /// How many octets the name has on the wire, the root's counted.
+    pub len: u16,
+    /// The place behind the name: behind its root, or behind its first pointer.
+    pub next: usize,
+}
+
+/// Walks over the heads of the name at a place. Refused where none is read there.
+pub fn walk_name(octets: &[u8], start: usize) -> Result<Walk, ParseError>
+    requires { start ≤ length octets.now }
+    ensures ok { IfOk result (λ walk. (name : List (List ℕ)) × Reads octets.now start name walk.next × (walk.len ≡ length (wire name))) }
+    ensures err { OnErr result ((name : List (List ℕ)) (next : ℕ) → Reads octets.now start name next → ⊥) }
+{
+    let mut place = start;
+    let mut len = 0u16;
+    let mut left = 255u8;
+    let mut behind = None;
+    loop {
+        match label_at(octets, place) {
+            Ok((label, _)) => {
+                let count = label.len() as u16 + 1;
+                if len + count > 255 {
+                    return Err(ParseError::form_error("long domain name"));
+                }
+                len += count;
+                place += usize::from(count);
+                if label.is_root() {
+                    let next = behind.unwrap_or(place);
+                    return Ok(Walk { len, next });
+                }
+            }
+            Err(SplitLabelError::Pointer(target)) => {
+                let target = usize::from(target);
+                if target >= place {
+                    return Err(ParseError::form_error("forward pointer"));
+                }
+                if left == 0 {
+                    return Err(ParseError::form_error("too many pointers"));
+                }
+                left -= 1;
+                behind = Some(behind.unwrap_or(place + 2));
+                place = target;
+            }
+            Err(SplitLabelError::BadType(_)) => return Err(ParseError::form_error(
+                "bad label type",
+            )),
+            Err(SplitLabelError::ShortInput) => return Err(ParseError::ShortInput),
+        }
+    }
+}
+
+/// The label at a place, and the octets behind it. Refused where none stands there.
+pub fn label_at(octets: &[u8], place: usize) -> Result<(Label<'_>, &[u8]), SplitLabelError>
+    requires { place ≤ length octets.now }
+    ensures ok { IfOk result (λ found. StartsWithLabel (drop place octets.now) (octets_of found.0) found.1.now) }
+    ensures err { IfErr result (NoLabel (drop place octets.now)) }
+{
+    Label::split_from(&octets[place..])
+}

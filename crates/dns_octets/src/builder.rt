@@ -1,0 +1,110 @@
+//! What octets are appended to.
+ghost use Rattle.std.specs.Prelude.{◌≡◌, ◌++◌, List, ℕ, [], Option, Ok, Err, Result, take, length, IfOk, OnOk, OnErr};
+ghost use Rattle.dns_octets.specs.Builder.{Known, before, GrowsTo, IsWithin, IsPast};
+ghost use Rattle.dns_octets.specs.declared.error.AppendError.{AppendError};
+ghost use Rattle.dns_octets.specs.declared.error.AppendError.TheVariants.{ShortBuf, BadLength};
+
+mod array_vec;
+mod reference;
+mod vec;
+
+use crate::error::AppendError;
+use crate::octets::Octets;
+use std::alloc::Global;
+
+/// A type that may remember where suffixes of names stand in its octets. A plain target remembers none.
+pub trait Remembers {
+    ghost known: { Self → Known };
+}
+
+/// A target that octets are appended to.
+///
+/// `bound` is how many octets it may hold, None where only memory bounds it. `stays` says what it
+/// keeps of the target that it stands on.
+pub trait OctetsBuilder: Octets + Remembers {
+    ghost bound: { Self → Option ℕ };
+
+    ghost stays: { Self → Self → Type 0 };
+
+    /// Appends the octets, all or none. Refused with `ShortBuf` only where the target would then hold
+    /// more octets than it may, and with `OutOfMemory` where a growth was refused.
+    fn append_slice(&mut self, octets: &[u8]) -> Result<(), AppendError>
+        ensures ok { OnOk result (Self.list self.new ≡ Self.list self.old ++ octets.now) }
+        ensures err { OnErr result (Self.list self.new ≡ Self.list self.old) }
+        ensures known { Self.known self.new ≡ Self.known self.old }
+        ensures grows { GrowsTo (Self.list self.old) (Self.known self.old) (Self.list self.new) (Self.known self.new) }
+        ensures short { result ≡ Err ShortBuf → IsPast (bound self.old) (length (Self.list self.old ++ octets.now)) }
+        ensures fits { OnOk result (IsWithin (bound self.old) (length (Self.list self.new))) }
+        ensures not_bad { result ≡ Err BadLength → ⊥ }
+        ensures same_bound { bound self.new ≡ bound self.old }
+        ensures stays { stays self.old self.new };
+
+    ghost stays_on: { (a b c : Self) → stays a b → stays b c → stays a c };
+
+    ghost stays_here: { (a : Self) → stays a a };
+}
+
+/// A target that can be made empty.
+///
+/// `limit` is how many octets such a target may hold.
+pub trait EmptyBuilder: OctetsBuilder + Sized {
+    ghost limit: { Option ℕ };
+
+    /// A target without octets, which grows on this allocator if it grows at all.
+    fn empty(alloc: Global) -> Self
+        ensures octets { Self.list result ≡ [] }
+        ensures known { Self.known result ≡ [] }
+        ensures limit { Self.bound result ≡ limit };
+
+    /// A target without octets that has room for so many. Refused with `ShortBuf` only where it may
+    /// not hold them, and with `OutOfMemory` where the memory was refused.
+    fn with_capacity(alloc: Global, capacity: usize) -> Result<Self, AppendError>
+        ensures octets { IfOk result (λ builder. Self.list builder ≡ []) }
+        ensures known { IfOk result (λ builder. Self.known builder ≡ []) }
+        ensures limit { IfOk result (λ builder. Self.bound builder ≡ limit) }
+        ensures fits { OnOk result (IsWithin limit capacity) }
+        ensures short { result ≡ Err ShortBuf → IsPast limit capacity }
+        ensures not_bad { result ≡ Err BadLength → ⊥ };
+}
+
+/// Octets that are made of a target.
+pub trait FromBuilder: Octets + Sized {
+    type Builder: OctetsBuilder;
+
+    /// The octets of the target.
+    fn from_builder(builder: Self::Builder) -> Self
+        ensures { Self.list result ≡ ⟦<Self::Builder as Octets>⟧.list builder };
+}
+
+/// A target that can be cut.
+pub trait Truncate: OctetsBuilder {
+    /// Keeps the first `len` octets, and of the remembered suffixes those that stand wholly in them.
+    /// A length that isn't below the present one changes nothing.
+    fn truncate(&mut self, len: usize)
+        ensures octets { Self.list self.new ≡ take len (Self.list self.old) }
+        ensures known { Self.known self.new ≡ before len (Self.known self.old) }
+        ensures same_bound { Self.bound self.new ≡ Self.bound self.old }
+        ensures stays { Self.stays self.old self.new };
+}
+
+/// A target that gives its octets away.
+pub trait FreezeBuilder: Octets {
+    type Octets: Octets;
+
+    /// The octets of the target.
+    fn freeze(self) -> Self::Octets
+        ensures { ⟦<Self::Octets as Octets>⟧.list result ≡ Self.list self };
+}
+
+/// A value of other octets that can be made of a source.
+///
+/// `octets_from_gives` relates the source to the answer.
+pub trait OctetsFrom<S>: Sized {
+    ghost octets_from_gives: { S → Result Self AppendError → Type 0 };
+
+    /// The same value over octets of this kind, which grow on this allocator if they grow at all.
+    /// Refused with `ShortBuf` where the octets don't fit, and with `OutOfMemory` where the memory
+    /// was refused.
+    fn try_octets_from(alloc: Global, source: S) -> Result<Self, AppendError>
+        ensures { octets_from_gives source result };
+}

@@ -1,0 +1,5 @@
+use Rattle.std.proofs.Common.{◌≡◌, ◌<◌, ◌^◌, sum, take}
+use Rattle.dns_values.proofs.ttl.Ttl.checked_sum.Given as goal
+
+abbrev pub invariant-loop-ttl : goal.invariant-loop-ttl
+invariant-loop-ttl l = (l.total ≡ sum (take l.ttl-index l.ttls)) × (l.total < 2 ^ 32)

@@ -1,0 +1,78 @@
+//! What an option of an OPT record is.
+ghost use Rattle.std.specs.Prelude.{◌≡◌, ◌+◌, ◌≤◌, ◌↔◌, take, length, IsOk, IfOk, OnOk, OnErr, IfErr};
+ghost use Rattle.std.specs.Int.{from_be_bytes, to_be_bytes, w16};
+ghost use Rattle.dns_octets.specs.Parser.{GoesOn, octets_of, place_of, rest_of};
+
+use dns_octets::{AppendError, Compose, OctetsBuilder, ParseError, Parser};
+use std::marker::Model;
+
+/// The code of an EDNS option (RFC 6891, section 6.1.2).
+#[derive(Clone, Copy, Debug, PartialEq, Eq, PartialOrd, Ord, Hash)]
+pub struct OptionCode(u16);
+
+impl Model for OptionCode {
+    ghost use Rattle.std.specs.Prelude.{ℕ};
+
+    ghost Value = { ℕ };
+
+    ghost view = { λ code. code.0 };
+
+    ghost inverse = { λ number. record { 0 = number } };
+}
+
+impl OptionCode {
+    /// The code of this number.
+    pub const fn from_int(number: u16) -> Self
+        ensures { result ≡ number }
+    {
+        OptionCode(number)
+    }
+
+    /// The number of the code.
+    pub const fn to_int(self) -> u16
+        ensures { result ≡ self }
+    {
+        self.0
+    }
+
+    /// Reads a code, the high octet of its number first. Refused where fewer than two octets are
+    /// left; the parser then stays where it was.
+    pub fn parse(parser: &mut Parser<'_>) -> Result<Self, ParseError>
+        ensures ok { IfOk result (λ code. code ≡ from_be_bytes w16 (take 2 (rest_of parser.old))) }
+        ensures place { OnOk result (GoesOn parser.old parser.new 2) }
+        ensures enough { IsOk result ↔ (place_of parser.old + 2 ≤ length (octets_of parser.old)) }
+        ensures short { IfErr result (λ e. e ≡ ParseError.ShortInput) }
+        ensures err { OnErr result (parser.new ≡ parser.old) }
+    {
+        Ok(OptionCode(parser.parse_u16_be()?))
+    }
+}
+
+/// Writes the two octets of the number, the high one first.
+impl Compose for OptionCode {
+    ghost composed = { λ code. to_be_bytes w16 code };
+
+    fn compose<Target: OctetsBuilder>(&self, target: &mut Target) -> Result<(), AppendError> {
+        self.to_int().compose(target)
+    }
+}
+
+#[cfg(test)]
+mod tests {
+    use super::*;
+    use std::test::Fail;
+
+    #[test]
+    fn octets(rt: HostRuntime) -> Result<(), Fail> {
+        let mut target = Vec::new(rt.alloc());
+        OptionCode::from_int(0x0102).compose(&mut target)?;
+        assert_eq!(rt; target.as_slice(), [1u8, 2].as_slice());
+        let mut parser = Parser::from_ref(target.as_slice());
+        assert_eq!(rt;
+            OptionCode::parse(&mut parser),
+            Ok(OptionCode::from_int(0x0102))
+        );
+        assert_eq!(rt; OptionCode::from_int(3).to_int(), 3);
+        Ok(())
+    }
+}

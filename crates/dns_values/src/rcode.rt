@@ -1,0 +1,106 @@
+//! How a question was answered.
+ghost use Rattle.std.specs.Prelude.{◌≡◌, ◌<◌, ◌%◌};
+
+use std::marker::Model;
+
+/// The response code of a header, four bits (RFC 1035, section 4.1.1).
+#[derive(Clone, Copy, Debug, PartialEq, Eq, PartialOrd, Ord, Hash)]
+pub struct Rcode(u8);
+
+impl Model for Rcode {
+    ghost use Rattle.std.specs.Prelude.{ℕ, ◌<◌};
+
+    ghost Value = { ℕ };
+
+    ghost view = { λ rcode. rcode.0 };
+
+    ghost invariant = { λ rcode. rcode.0 < 16 };
+
+    ghost inverse = { λ number. record { 0 = number } };
+}
+
+impl Rcode {
+    /// No error (RFC 1035).
+    pub const NOERROR: Rcode = Rcode(0);
+    /// The query could not be read (RFC 1035).
+    pub const FORMERR: Rcode = Rcode(1);
+    /// The server failed (RFC 1035).
+    pub const SERVFAIL: Rcode = Rcode(2);
+    /// The name does not exist (RFC 1035).
+    pub const NXDOMAIN: Rcode = Rcode(3);
+    /// The server does not do this kind of query (RFC 1035).
+    pub const NOTIMP: Rcode = Rcode(4);
+    /// The server refuses to answer (RFC 1035).
+    pub const REFUSED: Rcode = Rcode(5);
+
+    /// The code of the number's low four bits.
+    pub fn masked_from_int(number: u8) -> Self
+        ensures { result ≡ number % 16 }
+    {
+        Rcode(number % 16)
+    }
+
+    /// The number of the code, below 16.
+    pub fn to_int(self) -> u8
+        ensures value { result ≡ self }
+        ensures four_bits { result < 16 }
+    {
+        self.0
+    }
+}
+
+/// The response code of a message with an OPT record, twelve bits (RFC 6891, section 6.1.3).
+#[derive(Clone, Copy, Debug, PartialEq, Eq, PartialOrd, Ord, Hash)]
+pub struct OptRcode(u16);
+
+impl Model for OptRcode {
+    ghost use Rattle.std.specs.Prelude.{ℕ, ◌<◌};
+
+    ghost Value = { ℕ };
+
+    ghost view = { λ rcode. rcode.0 };
+
+    ghost invariant = { λ rcode. rcode.0 < 4096 };
+
+    ghost inverse = { λ number. record { 0 = number } };
+}
+
+impl OptRcode {
+    /// The code of the number's low twelve bits.
+    pub fn masked_from_int(number: u16) -> Self
+        ensures { result ≡ number % 4096 }
+    {
+        OptRcode(number % 4096)
+    }
+
+    /// The number of the code, below 4,096.
+    pub fn to_int(self) -> u16
+        ensures value { result ≡ self }
+        ensures twelve_bits { result < 4096 }
+    {
+        self.0
+    }
+
+    /// What the header has of the code: its low four bits.
+    pub fn rcode(self) -> Rcode
+        ensures { result ≡ self % 16 }
+    {
+        Rcode((self.0 % 16) as u8)
+    }
+}
+
+#[cfg(test)]
+mod tests {
+    use super::*;
+    use crate::opcode::Opcode;
+
+    #[test]
+    fn masks(rt: HostRuntime) {
+        assert_eq!(rt; Rcode::masked_from_int(0xF3), Rcode::NXDOMAIN);
+        assert_eq!(rt; Rcode::REFUSED.to_int(), 5);
+        assert_eq!(rt; OptRcode::masked_from_int(0xF102).rcode(), Rcode::SERVFAIL);
+        assert_eq!(rt; OptRcode::masked_from_int(0xF102).to_int(), 0x102);
+        assert_eq!(rt; Opcode::from_int(5), Opcode::UPDATE);
+        assert_eq!(rt; Opcode::NOTIFY.to_int(), 4);
+    }
+}

@@ -1,0 +1,31 @@
+-- Octets that are written over others.
+use Rattle.std.proofs.Common.{◌≡◌, ℕ, ◌+◌, ◌-◌, suc, List, [], ◌∷◌, ◌++◌, length, refl, sym, ap, ◌∙◌, arith, append_assoc, add-one, length-append}
+use Rattle.std.proofs.Math.ListN.{set}
+
+set_two : (front : List ℕ) (a b high low : ℕ) (behind : List ℕ)
+    → set (set (front ++ a ∷ b ∷ behind) (length front) high) (suc (length front)) low ≡ front ++ high ∷ low ∷ behind
+set_two [] a b high low behind = refl
+set_two (x ∷ front) a b high low behind = ap (λ l. x ∷ l) (set_two front a b high low behind)
+
+-- two octets, one behind the other, over the two that stand at a place
+pub set_both : (items front octets behind : List ℕ) (place high low : ℕ) → items ≡ front ++ (octets ++ behind) → length front ≡ place
+    → length octets ≡ 2 → set (set items place high) (place + 1) low ≡ front ++ high ∷ low ∷ behind
+set_both items front [] behind place high low is at long = absurd cc
+set_both items front (a ∷ []) behind place high low is at long = absurd cc
+set_both items front (a ∷ (b ∷ (x ∷ octets))) behind place high low is at long = absurd (omega arith)
+set_both items front (a ∷ (b ∷ [])) behind place high low is at long =
+    rw (is, ← at, add-one) (set_two front a b high low behind)
+
+-- A message whose length and whose count of answers are written over what stood there, behind octets put at its end.
+pub written_over : (front mark head count tail records added length_octets count_octets : List ℕ) (old longer once twice : List ℕ) (start : ℕ)
+    → start ≡ length front + 2 → length head ≡ 6 → length mark ≡ 2 → length count ≡ 2 → length length_octets ≡ 2
+    → old ≡ front ++ (mark ++ (head ++ (count ++ (tail ++ records)))) → longer ≡ old ++ added
+    → ((a b c : List ℕ) → longer ≡ a ++ (b ++ c) → length a ≡ start - 2 → length b ≡ 2 → once ≡ a ++ (length_octets ++ c))
+    → ((a b c : List ℕ) → once ≡ a ++ (b ++ c) → length a ≡ start + 6 → length b ≡ 2 → twice ≡ a ++ (count_octets ++ c))
+    → twice ≡ front ++ (length_octets ++ (head ++ (count_octets ++ (tail ++ (records ++ added)))))
+written_over front mark head count tail records added length_octets count_octets old longer once twice start at six two two' two'' is grows first second =
+    let whole : longer ≡ front ++ (mark ++ (head ++ (count ++ (tail ++ (records ++ added))))) = grows ∙ ap (λ l. l ++ added) is ∙ simp append_assoc in
+    let marked : once ≡ front ++ (length_octets ++ (head ++ (count ++ (tail ++ (records ++ added))))) = first front mark (head ++ (count ++ (tail ++ (records ++ added)))) whole (omega arith) two in
+    let parted : once ≡ (front ++ (length_octets ++ head)) ++ (count ++ (tail ++ (records ++ added))) = marked ∙ sym (simp append_assoc) in
+    let place : length (front ++ (length_octets ++ head)) ≡ start + 6 = omega (arith, length-append front (length_octets ++ head), length-append length_octets head) in
+    second (front ++ (length_octets ++ head)) count (tail ++ (records ++ added)) parted place two' ∙ simp append_assoc

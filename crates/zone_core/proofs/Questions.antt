@@ -1,0 +1,21 @@
+-- Where a message has no question.
+use Rattle.std.proofs.Common.{◌≡◌, ℕ, ◌+◌, ◌<◌, ◌≤◌, true, false, List, length, subst, arith}
+use mathlib.Core.Logic.{inl, inr}
+use Rattle.std.proofs.lemmas.Bool.{cases_lt}
+use Rattle.dns_label.specs.Spelled.{Reads}
+use Rattle.dns_label.proofs.Spelling.{reads_one}
+use Rattle.dns_message.specs.Question.{Question, ReadsQuestion}
+
+-- the message ends in the four octets behind the name
+pub ends_early : (message there : List ℕ) (place behind : ℕ) (name : List (List ℕ)) (q : Question) (next : ℕ) → Reads there place name behind → there ≡ message
+    → place ≡ 12 → length message < behind + 4 → ReadsQuestion message 12 q next → ⊥
+ends_early message there place behind name q next reads same at short asked =
+    let P : List ℕ → Type 0 = λ m. Reads m place name behind in
+    let Q : ℕ → Type 0 = λ p. Reads message p name behind in
+    let here = subst Q at (subst P same reads) in
+    let one = reads_one here asked.name in
+    omega (arith, one.1, asked.whole)
+
+-- a test for enough octets that comes out false
+pub too_few : (wanted there : ℕ) → (wanted ≤ there → false ≡ true) → there < wanted
+too_few wanted there fails = elim (cases_lt there wanted) [ inl few ↦ few | inr enough ↦ let e = fails enough in absurd cc ]

@@ -1,0 +1,24 @@
+use Rattle.std.proofs.Common.{◌∙◌, sym}
+use Rattle.zone_core.proofs.RecordData.{text_exit, name_exit, number_of}
+use Rattle.zone_core.proofs.EntryRows.{is_none, is_some, no_type, no_owner, no_data, handed_exit, record_made, class_found}
+use Rattle.zone_core.proofs.text.entry.parse_record.Goals as goal
+
+pub returns-in_err-rtype-clause-err : goal.returns-in_err-rtype-clause-err
+returns-in_err-rtype-clause-err c =
+    text_exit _ (no_type c.args.words.now _ c.split_at.ensures.front (sym c.from_bytes-2.ensures ∙ is_none _ _ _ c.in_err-rtype.ensures.value))
+
+pub returns-in_err-owner-clause-err : goal.returns-in_err-owner-clause-err
+returns-in_err-owner-clause-err c =
+    name_exit _ _ _ c.from_residual-in_err-owner.ensures.1 c.in_err-owner.ensures.err
+    (λ none. no_owner c.args.words.now _ c.split_at.ensures.front none)
+
+pub returns-in_err-data-clause-err : goal.returns-in_err-data-clause-err
+returns-in_err-data-clause-err c =
+    handed_exit _ _ c.from_residual-in_err-data.ensures.1 c.in_err-data.ensures.err
+    (λ none. no_data c.args.words.now _ _ _ c.split_at.ensures.front c.split_at.ensures.back (sym c.from_bytes-2.ensures ∙ is_some _ _ _ c.in_ok-rtype.ensures.value) none)
+
+pub returns-clause-ok : goal.returns-clause-ok
+returns-clause-ok c =
+    record_made _ c.args.words.now _ _ _ _ _ _ _ c.if-words-lt4.false c.split_at.ensures.front c.split_at.ensures.back c.in_ok-owner.ensures.ok
+    (number_of _ _ _ _ c.in_ok-ttl.ensures.value c.parse_number.ensures.found) c.from_secs.ensures
+    (sym c.from_bytes.ensures ∙ class_found c.from_bytes.result c.args.class c.if-ne.ensures) (sym c.from_bytes-2.ensures ∙ is_some _ _ _ c.in_ok-rtype.ensures.value) c.in_ok-data.ensures.ok

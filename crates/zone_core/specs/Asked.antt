@@ -1,0 +1,23 @@
+-- What the program's queries ask.
+use Rattle.dns_name.specs.ParsedName.{labels_of}
+use Rattle.dns_message.specs.Question as spec
+use Rattle.zone_core.specs.Query.{AxfrQuery}
+use Rattle.zone_core.specs.declared.query.Query.{Query}
+use Rattle.zone_core.specs.declared.query.Question.{Question}
+
+-- the query with its name's labels
+abbrev pub asked_by : Query → AxfrQuery
+asked_by query = record {
+  id = query.id;
+  recursion = query.rd;
+  name = labels_of query.name;
+  class = query.class;
+}
+
+-- the same of a question
+abbrev pub question_by : Question → spec.Question
+question_by q = record {
+  name = labels_of q.name;
+  qtype = q.qtype;
+  qclass = q.qclass;
+}

@@ -1,0 +1,196 @@
+//! Queries for a zone's transfer.
+ghost use Rattle.std.specs.Prelude.{◌≡◌, ◌+◌, ◌≤◌, ◌↔◌, ℕ, length, IsTrue, IfOk, IfErr, OnErr};
+ghost use Rattle.dns_name.specs.ParsedName.{labels_of};
+ghost use Rattle.dns_message.specs.Header as header;
+ghost use Rattle.dns_message.specs.Question as spec;
+ghost use Rattle.dns_message.specs.Question.{ReadsQuestion};
+ghost use Rattle.zone_core.specs.Asked.{asked_by, question_by};
+ghost use Rattle.zone_core.specs.Query.{AsksOne, IsQuery, IsQueryFault};
+
+use crate::query_error::QueryError;
+use dns_name::{Class, ParseError, ParsedName, Parser, Rtype};
+
+/// A query for the transfer of a zone (RFC 5936 2.1), as far as it counts.
+#[derive(Debug, Drop)]
+pub struct Query<'a> {
+    id: u16,
+    rd: bool,
+    name: ParsedName<&'a [u8]>,
+    class: Class,
+}
+
+/// What a message asks, with the name where it stands.
+#[derive(Drop)]
+struct Question<'a> {
+    name: ParsedName<&'a [u8]>,
+    qtype: Rtype,
+    qclass: Class,
+}
+
+impl<'a> Query<'a> {
+    /// The number that the answer repeats.
+    pub fn id(&self) -> u16
+        ensures { result ≡ (asked_by self.now).id }
+    {
+        self.id
+    }
+
+    /// Whether recursion is desired (RD), which the answer repeats.
+    pub fn rd(&self) -> bool
+        ensures { result ≡ (asked_by self.now).recursion }
+    {
+        self.rd
+    }
+
+    /// The name of the zone that is asked for.
+    pub fn name(&self) -> ParsedName<&'a [u8]>
+        ensures { labels_of result ≡ (asked_by self.now).name }
+    {
+        self.name
+    }
+
+    /// The class of the zone that is asked for.
+    pub fn class(&self) -> Class
+        ensures { result ≡ (asked_by self.now).class }
+    {
+        self.class
+    }
+}
+
+/// Reads a query for a zone's transfer, and refuses other octets by the first rule that they break.
+///
+/// All bits of the header that no rule names are ignored.
+pub fn check_query(octets: &[u8]) -> Result<Query<'_>, QueryError>
+    ensures ok { IfOk result (λ query. IsQuery octets.now (asked_by query)) }
+    ensures err { IfErr result (IsQueryFault octets.now) }
+{
+    if octets.len() < 12 {
+        return Err(QueryError::Short);
+    }
+    if octets[2] >= 128 {
+        return Err(QueryError::Response);
+    }
+    if octets[2] / 8 % 16 != 0 {
+        return Err(QueryError::Opcode);
+    }
+    if !asks_one(octets) {
+        return Err(QueryError::Counts);
+    }
+    let Ok((question, end)) = read_question(octets) else {
+        return Err(QueryError::Malformed);
+    };
+    if question.qtype != Rtype::AXFR {
+        return Err(QueryError::NotAxfr);
+    }
+    if question.qclass.to_int() == 255 {
+        return Err(QueryError::ClassAny);
+    }
+    if end != octets.len() {
+        return Err(QueryError::Trailing);
+    }
+    Ok(Query {
+        id: number_at(octets, 0),
+        rd: octets[2] % 2 == 1,
+        name: question.name,
+        class: question.qclass,
+    })
+}
+
+/// The number of two octets at a place.
+fn number_at(octets: &[u8], place: usize) -> u16
+    requires { place + 2 ≤ length octets.now }
+    ensures { result ≡ header.number_at octets.now place }
+{
+    let number = &octets[place..place + 2];
+    u16::from_be_bytes([number[0], number[1]])
+}
+
+/// Whether a message counts one question and no record.
+fn asks_one(octets: &[u8]) -> bool
+    requires { 12 ≤ length octets.now }
+    ensures { IsTrue result ↔ AsksOne octets.now }
+{
+    number_at(octets, 4) == 1
+        && number_at(octets, 6) == 0
+        && number_at(octets, 8) == 0
+        && number_at(octets, 10) == 0
+}
+
+/// The question behind a header, and the place behind it.
+fn read_question(octets: &[u8]) -> Result<(Question<'_>, usize), ParseError>
+    requires { 12 ≤ length octets.now }
+    ensures ok { IfOk result (λ found. ReadsQuestion octets.now 12 (question_by found.0) found.1) }
+    ensures err { OnErr result ((q : spec.Question) (next : ℕ) → ReadsQuestion octets.now 12 q next → ⊥) }
+{
+    let mut parser = Parser::from_ref(octets);
+    parser.seek(12)?;
+    let name = ParsedName::parse(&mut parser)?;
+    let qtype = Rtype::from_int(parser.parse_u16_be()?);
+    let qclass = Class::from_int(parser.parse_u16_be()?);
+    let question = Question {
+        name,
+        qtype,
+        qclass,
+    };
+    Ok((question, parser.pos()))
+}
+
+#[cfg(test)]
+mod tests {
+    use super::*;
+    use dns_name::ToName;
+    use std::test::Fail;
+
+    /// `a. IN AXFR`, alone.
+    const QUERY: [u8; 19] = [
+        0x12, 0x34, 0, 0, 0, 1, 0, 0, 0, 0, 0, 0, 1, b'a', 0, 0, 252, 0, 1,
+    ];
+
+    #[test]
+    fn reads_a_query(rt: HostRuntime) -> Result<(), Fail> {
+        let Ok(query) = check_query(&QUERY) else {
+            panic!(rt; "refused");
+        };
+        assert_eq!(rt; query.id(), 0x1234);
+        assert_eq!(rt; query.rd(), false);
+        assert_eq!(rt; query.class(), Class::IN);
+        let name = query.name().to_vec(rt.alloc())?;
+        assert_eq!(rt; name.as_slice(), [1, b'a', 0].as_slice());
+        Ok(())
+    }
+
+    #[test]
+    fn refuses_by_the_first_rule(rt: HostRuntime) {
+        assert_eq!(rt; refusal(&QUERY[..11]), Some(QueryError::Short));
+        assert_eq!(rt; refusal_with(2, 128), Some(QueryError::Response));
+        assert_eq!(rt; refusal_with(2, 8), Some(QueryError::Opcode));
+        assert_eq!(rt; refusal_with(5, 2), Some(QueryError::Counts));
+        assert_eq!(rt; refusal_with(11, 1), Some(QueryError::Counts));
+        assert_eq!(rt; refusal_with(12, 64), Some(QueryError::Malformed));
+        assert_eq!(rt; refusal_with(16, 251), Some(QueryError::NotAxfr));
+        assert_eq!(rt; refusal_with(18, 255), Some(QueryError::ClassAny));
+        // The root's question ends in front of the last octets, and its type is judged first.
+        assert_eq!(rt; refusal_with(12, 0), Some(QueryError::NotAxfr));
+        // Other bits of the header are ignored.
+        assert_eq!(rt; refusal_with(2, 7), None);
+        assert_eq!(rt; refusal_with(3, 255), None);
+        let longer = [0, 0, 0, 0, 0, 1, 0, 0, 0, 0, 0, 0, 0, 0, 252, 0, 1, 0];
+        assert_eq!(rt; refusal(&longer), Some(QueryError::Trailing));
+    }
+
+    /// Why the query with another octet at a place is refused.
+    fn refusal_with(place: usize, octet: u8) -> Option<QueryError> {
+        let mut octets = QUERY;
+        if let Some(old) = octets.get_mut(place) {
+            *old = octet;
+        }
+        refusal(&octets)
+    }
+
+    fn refusal(octets: &[u8]) -> Option<QueryError> {
+        match check_query(octets) {
+            Ok(_) => None,
+            Err(error) => Some(error),
+        }
+    }
+}

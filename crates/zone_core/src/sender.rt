@@ -1,0 +1,192 @@
+//! The stream of a transfer while it grows.
+ghost use Rattle.std.specs.Prelude.{◌≡◌, ◌+◌, ◌≤◌, ◌<◌, ◌^◌, ◌++◌, [], ◌∷◌, ℕ, List, length, IfOk, OnOk, MatchOption, Some};
+ghost use Rattle.std.specs.Int.{to_be_bytes, w16};
+ghost use Rattle.dns_label.specs.Name.{IsName};
+ghost use Rattle.dns_message.specs.Record.{record_octets};
+ghost use Rattle.zone_core.specs.Record as spec;
+ghost use Rattle.zone_core.specs.Asked.{asked_by};
+ghost use Rattle.zone_core.specs.Owned.{record_of};
+ghost use Rattle.zone_core.specs.Query.{AxfrQuery};
+ghost use Rattle.zone_core.specs.Sent.{message};
+
+use crate::query::Query;
+use crate::record::Record;
+use dns_name::{Class, Name, Rtype};
+use std::alloc::{AllocError, Global};
+
+/// The octets of a message's length on a stream.
+const LENGTH_OCTETS: usize = 2;
+
+/// The place of the count of answers in a message (RFC 1035 4.1.1).
+const ANSWER_COUNT: usize = 6;
+
+/// The octets of a record besides its owner and its data (RFC 1035 3.2.1).
+const FIXED_OCTETS: usize = 10;
+
+/// A stream of whole frames, to whose last message records are still added.
+#[derive(Debug, Drop)]
+pub(crate) struct Sender {
+    stream: Vec<u8>,
+    /// A message without answers: header and question.
+    opening: Vec<u8>,
+    class: Class,
+    max: usize,
+    /// Where the last message begins, behind its length; None before the first.
+    last: Option<usize>,
+    /// How many answers the last message has.
+    answers: u16,
+}
+
+impl Sender {
+    ghost use Rattle.std.specs.Bool.{OnTrue, OnFalse};
+    ghost use Rattle.std.specs.List.{push};
+    ghost use Rattle.zone_core.specs.Sent.{size};
+    ghost use Rattle.zone_core.specs.Sending.{Stands, StandsWhole, HoldsGroups, Holds, HasNoRoom, FitsNowhere};
+
+    /// A stream without a message, for the answers to a query of this name.
+    pub(crate) fn new(
+        alloc: Global,
+        query: &Query<'_>,
+        name: &Name<Vec<u8>>,
+        max: u16,
+    ) -> Result<Sender, AllocError>
+        requires { name.now ≡ (asked_by query.now).name }
+        ensures holds { IfOk result (λ sender. Holds sender (asked_by query.now) []) }
+        ensures max { IfOk result (λ sender. sender.max ≡ max) }
+    {
+        Ok(Sender {
+            stream: Vec::new(alloc),
+            opening: opening(alloc, query, name)?,
+            class: query.class(),
+            max: usize::from(max),
+            last: None,
+            answers: 0,
+        })
+    }
+
+    /// Adds a record to the last message, or where it has no room there to a new one. False where it has none there
+    /// either.
+    pub(crate) fn put(&mut self, record: &Record) -> Result<bool, AllocError>
+        requires { (query : AxfrQuery) × (records : List spec.Record) × Holds self.old query records }
+        ensures placed { IfOk result (λ placed. OnTrue placed ((query : AxfrQuery) (records : List spec.Record) →
+            Holds self.old query records → Holds self.new query (push records (record_of query.class «record».now)))) }
+        ensures refused { IfOk result (λ placed. OnFalse placed ((query : AxfrQuery) (records : List spec.Record) →
+            Holds self.old query records → FitsNowhere self.old query records (record_of query.class «record».now))) }
+        ensures max { OnOk result (self.new.max ≡ self.old.max) }
+    {
+        let len = record_len(record);
+        if let Some(start) = self.last_with_room(len) {
+            self.append(start, record)?;
+            return Ok(true);
+        }
+        if self.opening.len() + len > self.max {
+            return Ok(false);
+        }
+        let start = self.open()?;
+        self.append(start, record)?;
+        Ok(true)
+    }
+
+    /// The stream.
+    pub(crate) fn into_stream(self) -> Vec<u8>
+        ensures { result.items ≡ self.stream.items }
+    {
+        self.stream
+    }
+
+    /// Where the last message begins, if there is one with room for so many octets.
+    fn last_with_room(&self, len: usize) -> Option<usize>
+        requires holds { (query : AxfrQuery) × (records : List spec.Record) × Holds self.now query records }
+        requires small { len < 2 ^ 63 + 2 ^ 16 }
+        ensures { MatchOption result (HasNoRoom self.now self.now.last len) (λ start. (self.now.last ≡ Some start) × (length self.now.stream.items + len ≤ self.now.max + start)) }
+    {
+        let start = self.last?;
+        if self.stream.len() - start + len <= self.max {
+            Some(start)
+        } else {
+            None
+        }
+    }
+
+    /// Begins a message, and answers where.
+    fn open(&mut self) -> Result<usize, AllocError>
+        ensures stands { IfOk result (λ start. (query : AxfrQuery) (groups : List (List spec.Record)) → HoldsGroups self.old query groups →
+            Stands self.new query start groups [] (0 ∷ 0 ∷ []) (0 ∷ 0 ∷ [])) }
+        ensures max { OnOk result (self.new.max ≡ self.old.max) }
+    {
+        let start = self.stream.len() + LENGTH_OCTETS;
+        self.stream.extend_from_slice(&[0; LENGTH_OCTETS])?;
+        self.stream.extend_from_slice(self.opening.as_slice())?;
+        self.last = Some(start);
+        self.answers = 0;
+        Ok(start)
+    }
+
+    /// Adds a record to the last message, which begins at `start` and has room, and counts it.
+    fn append(&mut self, start: usize, record: &Record) -> Result<(), AllocError>
+        requires { (query : AxfrQuery) × (front : List (List spec.Record)) × (group : List spec.Record) × (mark count : List ℕ) × Stands self.old query start front group mark count
+            × (size query group + length (record_octets (record_of query.class «record».now)) ≤ self.old.max) }
+        ensures whole { OnOk result ((query : AxfrQuery) (front : List (List spec.Record)) (group : List spec.Record) (mark count : List ℕ) →
+            Stands self.old query start front group mark count → StandsWhole self.new query start front (push group (record_of query.class «record».now))) }
+        ensures max { OnOk result (self.new.max ≡ self.old.max) }
+    {
+        append_record(&mut self.stream, self.class, record)?;
+        self.answers += 1;
+        let len = (self.stream.len() - start) as u16;
+        patch(&mut self.stream, start - LENGTH_OCTETS, len);
+        patch(&mut self.stream, start + ANSWER_COUNT, self.answers);
+        Ok(())
+    }
+}
+
+/// The header and the question of each message (RFC 1035 4.1.1, 4.1.2), without answers yet.
+fn opening(alloc: Global, query: &Query<'_>, name: &Name<Vec<u8>>) -> Result<Vec<u8>, AllocError>
+    requires { name.now ≡ (asked_by query.now).name }
+    ensures octets { IfOk result (λ opening. opening.items ≡ message (asked_by query.now) []) }
+    ensures name { OnOk result (IsName name.now) }
+{
+    let [id_high, id_low] = query.id().to_be_bytes();
+    // QR and AA, and RD where the query has it
+    let flags = if query.rd() { 133 } else { 132 };
+    let mut opening = Vec::with_capacity(alloc, 12 + name.len() + 4)?;
+    opening.extend_from_slice(&[id_high, id_low, flags, 0, 0, 1, 0, 0, 0, 0, 0, 0])?;
+    opening.extend_from_slice(name.as_slice())?;
+    opening.extend_from_slice(&Rtype::AXFR.to_int().to_be_bytes())?;
+    opening.extend_from_slice(&query.class().to_int().to_be_bytes())?;
+    Ok(opening)
+}
+
+/// How many octets a record takes with every name written out (RFC 1035 3.2.1).
+fn record_len(record: &Record) -> usize
+    ensures octets { (class : ℕ) → result ≡ length (record_octets (record_of class «record».now)) }
+    ensures small { result < 2 ^ 63 + 2 ^ 16 }
+{
+    record.owner.len() + FIXED_OCTETS + record.data.len()
+}
+
+/// Appends a record with every name written out (RFC 1035 3.2.1).
+fn append_record(stream: &mut Vec<u8>, class: Class, record: &Record) -> Result<(), AllocError>
+    requires { length «record».now.data.items < 2 ^ 16 }
+    ensures { OnOk result (stream.new.items ≡ stream.old.items ++ record_octets (record_of class «record».now)) }
+{
+    let [type_high, type_low] = record.rtype.to_int().to_be_bytes();
+    let [class_high, class_low] = class.to_int().to_be_bytes();
+    let [a, b, c, d] = record.ttl.as_secs().to_be_bytes();
+    let [len_high, len_low] = (record.data.len() as u16).to_be_bytes();
+    stream.extend_from_slice(record.owner.as_slice())?;
+    stream.extend_from_slice(&[
+        type_high, type_low, class_high, class_low, a, b, c, d, len_high, len_low,
+    ])?;
+    stream.extend_from_slice(record.data.as_slice())
+}
+
+/// Writes a number over the two octets at a place.
+fn patch(stream: &mut Vec<u8>, place: usize, number: u16)
+    requires { place + 2 ≤ length stream.old.items }
+    ensures { (front octets behind : List ℕ) → stream.old.items ≡ front ++ (octets ++ behind) → length front ≡ place →
+        length octets ≡ 2 → stream.new.items ≡ front ++ (to_be_bytes w16 number ++ behind) }
+{
+    let [high, low] = number.to_be_bytes();
+    stream[place] = high;
+    stream[place + 1] = low;
+}

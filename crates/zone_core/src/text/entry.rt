@@ -1,0 +1,213 @@
+//! The entries of a zone's text: rows that are records, among rows without tokens (RFC 1035 5.1).
+ghost use Rattle.std.specs.Prelude.{◌≡◌, ◌++◌, List, ℕ, [], ◌∷◌, IfOk, IfErr, IfSome, IfNone};
+ghost use Rattle.dns_zonefile.specs.PlainRow.{RecordWords};
+ghost use Rattle.zone_core.specs.Record as spec;
+ghost use Rattle.zone_core.specs.ZoneText.{Entries};
+ghost use Rattle.zone_core.specs.Entry.{record_of, texts_of, OnText, error_of_name, StartsWithRecord, EndsBehindRows, RefusedBehindRows};
+ghost use Rattle.zone_core.specs.declared.text.entry.EntryError.TheVariants as entry_error;
+
+use crate::record::Record;
+use crate::text::blank::{RowStart, skip_row};
+use crate::text::number::parse_number;
+use crate::text::rdata::parse_rdata;
+use crate::text::word::split_words;
+use dns_name::{Class, FromStrError, Name, Rtype, Ttl};
+use std::alloc::{AllocError, Global};
+use thiserror::Error;
+
+/// Why no entry was read.
+#[derive(Clone, Copy, Debug, PartialEq, Eq, Error)]
+pub(crate) enum EntryError {
+    /// The text does not go on with a record.
+    #[error("text")]
+    Text,
+    /// A growth was refused.
+    #[error("out of memory")]
+    OutOfMemory,
+}
+
+impl From<AllocError> for EntryError {
+    ghost from_gives = { λ _ error. error ≡ entry_error.OutOfMemory };
+
+    fn from(_: AllocError) -> EntryError {
+        EntryError::OutOfMemory
+    }
+}
+
+impl From<FromStrError> for EntryError {
+    ghost from_gives = { λ reason error. error ≡ error_of_name reason };
+
+    fn from(error: FromStrError) -> EntryError {
+        match error {
+            FromStrError::Presentation(_) => EntryError::Text,
+            FromStrError::ShortBuf => EntryError::OutOfMemory,
+        }
+    }
+}
+
+/// The next record of the text, of the class, and the text behind its row; None where the text ends.
+///
+/// Rows without tokens are no entries. Any other row has to be a record in its plainest form: its owner, TTL, class, type
+/// and data, in this order and with spaces between them, names with their last dot, and a line feed behind.
+pub(crate) fn next_record(
+    alloc: Global,
+    text: &[u8],
+    class: Class,
+) -> Result<Option<(Record, &[u8])>, EntryError>
+    ensures record { IfOk result (λ next. IfSome next (λ found. Entries class text.now (record_of class found.0 ∷ []) found.1.now)) }
+    ensures end { IfOk result (λ next. IfNone next (EndsBehindRows class text.now)) }
+    ensures err { IfErr result (λ e. OnText e (RefusedBehindRows class text.now)) }
+{
+    let mut rest = text;
+    loop {
+        match skip_row(rest) {
+            RowStart::Empty(behind) => rest = behind,
+            RowStart::End => return Ok(None),
+            RowStart::Tokens => return Ok(Some(split_record(alloc, rest, class)?)),
+        }
+    }
+}
+
+/// The record at the front of the text, and the text behind its row.
+fn split_record(alloc: Global, text: &[u8], class: Class) -> Result<(Record, &[u8]), EntryError>
+    ensures ok { IfOk result (λ found. StartsWithRecord class text.now (record_of class found.0) found.1.now) }
+    ensures err { IfErr result (λ e. OnText e ((r : spec.Record) (rest : List ℕ) → StartsWithRecord class text.now r rest → ⊥)) }
+{
+    if text.first() == Some(&b'$') {
+        return Err(EntryError::Text);
+    }
+    let (words, rest) = split_words(text).ok_or(EntryError::Text)?;
+    let record = parse_record(alloc, words.as_slice(), class)?;
+    Ok((record, rest))
+}
+
+/// The record of the class that the words spell.
+fn parse_record(alloc: Global, words: &[&[u8]], class: Class) -> Result<Record, EntryError>
+    ensures ok { IfOk result (λ r. RecordWords class (texts_of words.now) (record_of class r)) }
+    ensures err { IfErr result (λ e. OnText e ((r : spec.Record) → RecordWords class (texts_of words.now) r → ⊥)) }
+{
+    if words.len() < 4 {
+        return Err(EntryError::Text);
+    }
+    let (front, data_words) = words.split_at(4);
+    if Class::from_bytes(front[2]) != Some(class) {
+        return Err(EntryError::Text);
+    }
+    let ttl = parse_number(front[1]).ok_or(EntryError::Text)?;
+    let rtype = Rtype::from_bytes(front[3]).ok_or(EntryError::Text)?;
+    let owner = Name::absolute_from_text(alloc, front[0])?;
+    let data = parse_rdata(alloc, rtype, data_words)?;
+    Ok(Record {
+        owner,
+        rtype,
+        ttl: Ttl::from_secs(ttl),
+        data,
+    })
+}
+
+#[cfg(test)]
+mod tests {
+    use super::*;
+    use std::test::Fail;
+
+    /// The whole text is this record of class IN, and nothing is behind it.
+    fn reads(
+        alloc: Global,
+        text: &[u8],
+        rtype: Rtype,
+        ttl: u32,
+        data: &[u8],
+    ) -> Result<bool, EntryError> {
+        match next_record(alloc, text, Class::IN)? {
+            Some((record, rest)) => Ok(
+                record.owner.as_slice() == b"\x01a\x00".as_slice()
+                    && record.rtype == rtype
+                    && record.ttl.as_secs() == ttl
+                    && record.data.as_slice() == data
+                    && next_record(alloc, rest, Class::IN)?.is_none(),
+            ),
+            None => Ok(false),
+        }
+    }
+
+    fn is_refused(alloc: Global, text: &[u8]) -> bool {
+        matches!(next_record(alloc, text, Class::IN), Err(EntryError::Text))
+    }
+
+    #[test]
+    fn rows_are_read(rt: HostRuntime) -> Result<(), Fail> {
+        let alloc = rt.alloc();
+        let soa =
+            b"\x01b\x00\x01c\x00\x00\x00\x00\x01\x00\x00\x00\x02\x00\x00\x00\x03\x00\x00\x00\x04\x00\x00\x00\x05";
+        assert!(rt;
+            reads(
+                alloc,
+                b"a. 60 IN SOA b. c. 1 2 3 4 5\n",
+                Rtype::SOA,
+                60,
+                soa
+            )?
+        );
+        assert!(rt;
+            reads(
+                alloc,
+                b"a.  007 in  type6 b. c. 1 2 3 4 5\n",
+                Rtype::SOA,
+                7,
+                soa
+            )?
+        );
+        assert!(rt; reads(alloc, b"a. 60 IN A 1.2.3.4\n", Rtype::A, 60, &[1, 2, 3, 4])?);
+        assert!(rt;
+            reads(
+                alloc,
+                b"\\097. 0 CLASS1 TYPE1 0.0.0.255\n",
+                Rtype::A,
+                0,
+                &[0, 0, 0, 255]
+            )?
+        );
+        Ok(())
+    }
+
+    #[test]
+    fn rows_without_tokens_are_no_entries(rt: HostRuntime) -> Result<(), Fail> {
+        let alloc = rt.alloc();
+        let text =
+            b"\n \t\r\n; a comment (\n ( ; inside\n ) ; behind\n()\na. 1 IN A 1.2.3.4\n \t; the end";
+        assert!(rt; reads(alloc, text, Rtype::A, 1, &[1, 2, 3, 4])?);
+        assert!(rt; next_record(alloc, b"", Class::IN)?.is_none());
+        assert!(rt; is_refused(alloc, b"( )"));
+        assert!(rt; is_refused(alloc, b"(\n"));
+        assert!(rt; is_refused(alloc, b")\n"));
+        assert!(rt; is_refused(alloc, b"(()\n"));
+        Ok(())
+    }
+
+    #[test]
+    fn other_rows_are_refused(rt: HostRuntime) {
+        let alloc = rt.alloc();
+        let rows: [&[u8]; 17] = [
+            b"a.\t60\tIN\tA\t1.2.3.4\n",
+            b"a. 60 IN A 1.2.3.4",
+            b"a. 60 IN A 1.2.3.4\x80\n",
+            b"a. 60 IN A 1.2.3\n",
+            b"a. 4294967296 IN A 1.2.3.4\n",
+            b"a. +60 IN A 1.2.3.4\n",
+            b"a. \"60\" IN A 1.2.3.4\n",
+            b"a 60 IN A 1.2.3.4\n",
+            b"$TTL 5\n",
+            b"$a. 60 IN A 1.2.3.4\n",
+            b"a. 60 CH A 1.2.3.4\n",
+            b"a. 60 IN NS b.\n",
+            b"a. 60 IN A 1.2.3.4 \n",
+            b" a. 60 IN A 1.2.3.4\n",
+            b"a. 60 IN A 1.2.3.4 5\n",
+            b"a. 60 IN SOA b. c. 1 2 3 4\n",
+            b"a. 60 IN SOA b. c. 1 2 3 4 5 6\n",
+        ];
+        for row in rows {
+            assert!(rt; is_refused(alloc, row));
+        }
+    }
+}

@@ -1,0 +1,6 @@
+mod Known
+mod Uses
+mod Rows
+mod Named
+mod Numbers
+pub mod Outputs

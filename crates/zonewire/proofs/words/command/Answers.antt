@@ -1,0 +1,13 @@
+use Rattle.std.proofs.Common.{◌≡◌, ◌∙◌, ap, ap₂, true}
+use Rattle.std.proofs.lemmas.Result.{IfOk-weaker}
+use Rattle.clap.specs.Words.{App, app_of, with_subcommand}
+use Rattle.clap.specs.Simple.{app_of_fields, on_top}
+use Rattle.zonewire.specs.Command.{program}
+use Rattle.zonewire.proofs.words.command.Goals as goal
+
+pub returns : goal.returns
+returns c =
+    let top : app_of c.disable_help_subcommand.result ≡ program = ap app_of_fields c.disable_help_subcommand.ensures
+    ∙ ap (on_top (λ s. record s { disable_help_subcommand = true })) (ap app_of_fields c.subcommand_required.ensures
+    ∙ ap (on_top (λ s. record s { subcommand_required = true })) (ap app_of_fields c.about.ensures ∙ c.new.ensures.app)) in
+    IfOk-weaker c.subcommand.result _ _ (λ m h. (c.in_ok-send.ensures.0.0, c.in_ok-send.ensures.0.1, h.shape c.in_ok-send.ensures.1 ∙ ap₂ with_subcommand top (ap (λ (a : App). a.top) c.in_ok-send.ensures.0.2))) c.subcommand.ensures

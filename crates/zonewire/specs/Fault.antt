@@ -1,0 +1,21 @@
+-- The program's fault for each error of a layer below: want of memory is one fault, whatever it was wanted for.
+use Rattle.zone_core.specs.declared.zone_error.ZoneError.{ZoneError}
+use Rattle.zone_core.specs.declared.zone_error.ZoneError.TheVariants as zone_error
+use Rattle.zone_core.specs.declared.send_error.SendError.{SendError}
+use Rattle.zone_core.specs.declared.send_error.SendError.TheVariants as send_error
+use Rattle.zonewire.specs.declared.source.ReadAllError.{ReadAllError}
+use Rattle.zonewire.specs.declared.source.ReadAllError.TheVariants as read_all_error
+use Rattle.zonewire.specs.declared.fault.Fault.{Fault}
+use Rattle.zonewire.specs.declared.fault.Fault.TheVariants.{Read, Write, Zone, Send, OutOfMemory}
+
+abbrev pub of_read : ReadAllError → Fault
+of_read read_all_error.Read = Read
+of_read read_all_error.OutOfMemory = OutOfMemory
+
+abbrev pub of_zone : ZoneError → Fault
+of_zone zone_error.OutOfMemory = OutOfMemory
+of_zone error = Zone error
+
+abbrev pub of_send : SendError → Fault
+of_send send_error.OutOfMemory = OutOfMemory
+of_send error = Send error

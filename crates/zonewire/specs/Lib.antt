@@ -1,0 +1,5 @@
+pub mod Command
+pub mod Words
+pub mod Stream
+pub mod Fault
+pub mod Output

@@ -1,0 +1,60 @@
+-- The job that the words of a command line name, and why words are refused.
+use Rattle.std.specs.Prelude.{◌≡◌, ℕ, List, [], true, Some, None, Result, MatchResult, codes}
+use Rattle.std.specs.Prelude.{⊤, IfSome, pos}
+use Rattle.std.specs.Option.{option_map_or}
+use Rattle.std.specs.Str.Parse.{digits_value, without_leading_plus}
+use Rattle.clap.specs.Walk.{Row, Text, one_of}
+use Rattle.clap.specs.Simple.{App, subcommand_of}
+use Rattle.clap.specs.Takes.{takes}
+use Rattle.clap.specs.Faults.{fault_of}
+use Rattle.clap.specs.Kinds.{HasKind}
+use Rattle.clap.specs.Lexer.{without_minus}
+use Rattle.clap.specs.Values.{IsSignedIn, kind_of}
+use Rattle.clap.specs.declared.error.kind.ErrorKind.TheVariants as kind
+use Rattle.zone_core.specs.declared.transfer.Spelling.TheVariants.{Plain}
+use Rattle.zonewire.specs.declared.jobs.Job.{Job}
+use Rattle.zonewire.specs.declared.jobs.Job.TheVariants.{Send}
+use Rattle.zonewire.specs.declared.words.WordsFault.{WordsFault}
+use Rattle.zonewire.specs.declared.words.WordsFault.TheVariants.{Line, BadName, BadClass, OutOfMemory}
+
+-- the decimal number of a text of digits
+abbrev pub number : Text → ℕ
+number text = digits_value 10 (without_leading_plus text)
+
+-- the number that the matches have for an option, or the default where the option is left out
+abbrev pub number_or : ℕ → Text → List Row → ℕ
+number_or default option rows = option_map_or number (one_of option rows) default
+
+-- where the option is given, its value was taken for a number from 0 to 65535
+abbrev pub HasNumber : Text → List Row → Type 0
+HasNumber option rows = IfSome (one_of option rows) (λ text. (value : Text)
+    × (text ≡ without_minus value)
+    × IsSignedIn (pos 0) (pos 65535) value)
+
+-- the class IN (RFC 1035 3.2.4)
+abbrev pub internet : ℕ
+internet = 1
+
+-- the matches of a subcommand name the job
+abbrev pub IsJobOf : Text × List Row → Job → Type 0
+IsJobOf (name, rows) (Send origin class id apex max spelling) =
+    (name ≡ codes "send") × (origin ≡ None) × (class ≡ internet)
+    × (id ≡ number_or 0 (codes "id") rows)
+    × (apex ≡ None) × (max ≡ number_or 65535 (codes "max") rows) × (spelling ≡ Plain)
+
+-- the command takes the words, and the subcommand that they name is the job
+abbrev pub IsNamedJob : App → List Text → Job → Type 0
+IsNamedJob a words job = (fault_of a words ≡ [])
+    × ((met : Text × List Row) × (subcommand_of a words ≡ Some met) × IsJobOf met job)
+
+-- memory was wanting, or the command refuses the words, by its own rule
+abbrev pub IsRefusal : App → List Text → WordsFault → Type 0
+IsRefusal a words (Line e) = HasKind (fault_of a words) e
+    × (takes a words ≡ true → kind_of e ≡ kind.OutOfMemory)
+IsRefusal a words BadName = ⊥
+IsRefusal a words BadClass = ⊥
+IsRefusal a words OutOfMemory = ⊤
+
+-- what the words give under the command
+abbrev pub Reads : App → List Text → Result Job WordsFault → Type 0
+Reads a words r = MatchResult r (IsNamedJob a words) (IsRefusal a words)

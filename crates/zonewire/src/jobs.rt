@@ -1,0 +1,24 @@
+//! What the program is asked to do.
+
+use dns_name::{Class, Name};
+use zone_core::Spelling;
+
+/// One run of the program.
+#[derive(Debug, Drop)]
+pub enum Job {
+    /// Zone text comes in, and the messages of a zone transfer (RFC 5936) go out.
+    Send {
+        /// What relative names of the text stand under.
+        origin: Option<Name<Vec<u8>>>,
+        /// The zone's class.
+        class: Class,
+        /// The id of the query and its answers.
+        id: u16,
+        /// The name that the query asks for: that of the zone where there is none.
+        apex: Option<Name<Vec<u8>>>,
+        /// The most octets that a message may have.
+        max: u16,
+        /// How names are written in the messages.
+        spelling: Spelling,
+    },
+}

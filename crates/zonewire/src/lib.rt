@@ -1,0 +1,26 @@
+//! What the program `zonewire` does: its command line, its input and its output.
+//!
+//! The face of the topmost layer. Its part is `zone_core` (zones, queries, and the stream of a transfer), and it hands all
+//! of it on.
+#![tactic(auto)]
+
+mod fault;
+mod jobs;
+mod runs;
+mod sink;
+mod source;
+mod words;
+
+pub use fault::Fault;
+pub use jobs::Job;
+pub use runs::run;
+pub use sink::{Sink, SinkError, StdSink};
+pub use source::{Source, SourceError, StdSource};
+pub use words::{WordsFault, job};
+pub use zone_core::{
+    Query, QueryError, SendError, Spelling, Zone, ZoneError, ZoneRecord, ZoneRecords, check_query,
+    laws, send,
+};
+
+#[cfg(test)]
+mod tests;

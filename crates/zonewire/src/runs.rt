@@ -1,0 +1,135 @@
+//! A run of the program, from its input to its output.
+ghost use Rattle.std.specs.Prelude.{◌≡◌, ◌≢◌, ℕ, List, false, IfOk, IfErr, IfSome, OnOk};
+ghost use Rattle.zone_core.specs.ZoneText.{IsZoneFault, IsZoneText};
+ghost use Rattle.std.specs.Io.KnownBytes.{Appends, IsAtEnd};
+ghost use Rattle.zonewire.specs.Output.{IsOutput, IsJobFault, IsSendOutput, IsSendJobFault, query_octets, query_of};
+ghost use Rattle.zonewire.specs.declared.fault.Fault.TheVariants as fault;
+
+use crate::fault::Fault;
+use crate::jobs::Job;
+use crate::sink::{Sink, write_all};
+use crate::source::{Source, read_all};
+use dns_name::{Class, Name, Rtype};
+use std::alloc::{AllocError, Global};
+use zone_core::{Spelling, Zone, ZoneError, send};
+
+/// Reads all the input, and writes what the job makes of it.
+///
+/// Nothing is written before the output is whole. `Read` comes where a read was refused, `Write` where a write was, and
+/// then a beginning of the output was written; the other faults are those of the job.
+pub fn run<R: Source, W: Sink>(
+    alloc: Global,
+    source: &mut R,
+    sink: &mut W,
+    job: Job,
+) -> Result<(), Fault>
+    // What is written is what the job makes of all that was read.
+    ensures written { OnOk result (IfSome (R.remaining source.old) (λ input.
+        (output : List ℕ) × IsOutput job input output × Appends (W.written sink.old) (W.written sink.new) output)) }
+    ensures ended { OnOk result (IsAtEnd (R.remaining source.new)) }
+
+    // A fault of the job is the one of all that was read, and nothing is written unless a write is refused.
+    ensures faults { IfErr result (λ error. error ≢ fault.Read → error ≢ fault.Write →
+        IfSome (R.remaining source.old) (λ input. IsJobFault job input error)) }
+    ensures silent { IfErr result (λ error. error ≢ fault.Write → sink.new ≡ sink.old) }
+{
+    let input = read_all(alloc, source)?;
+    let output = output(alloc, input.as_slice(), &job)?;
+    write_all(sink, output.as_slice())?;
+    Ok(())
+}
+
+/// What the job makes of the input.
+fn output(alloc: Global, input: &[u8], job: &Job) -> Result<Vec<u8>, Fault>
+    ensures ok { IfOk result (λ output. IsOutput job.now input.now output.items) }
+    ensures err { IfErr result (IsJobFault job.now input.now) }
+{
+    match job {
+        Job::Send {
+            origin,
+            class,
+            id,
+            apex,
+            max,
+            spelling,
+        } => {
+            let zone = read_zone(alloc, input, origin, *class)?;
+            send_zone(alloc, &zone, *id, apex, *max, *spelling)
+        }
+    }
+}
+
+/// The stream for the zone, by the query that the job makes.
+fn send_zone(
+    alloc: Global,
+    zone: &Zone,
+    id: u16,
+    apex: &Option<Name<Vec<u8>>>,
+    max: u16,
+    spelling: Spelling,
+) -> Result<Vec<u8>, Fault>
+    ensures ok { (class : ℕ) (input : List ℕ) → IsZoneText input class zone.now.records → zone.now.class ≡ class
+        → IfOk result (λ output. IsSendOutput class id apex.now max input output.items) }
+    ensures err { (class : ℕ) (input : List ℕ) → IsZoneText input class zone.now.records → zone.now.class ≡ class
+        → IfErr result (IsSendJobFault class id apex.now max input) }
+{
+    let query = zone_query(alloc, id, apex, zone)?;
+    match send(alloc, zone, query.as_slice(), max, spelling) {
+        Ok(stream) => Ok(stream),
+        Err(error) => Err(Fault::from(error)),
+    }
+}
+
+/// The zone of the text, with the origin that the job gives.
+fn read_zone(
+    alloc: Global,
+    input: &[u8],
+    origin: &Option<Name<Vec<u8>>>,
+    class: Class,
+) -> Result<Zone, ZoneError>
+    ensures ok { IfOk result (λ zone. IsZoneText input.now class zone.records) }
+    ensures class_is { IfOk result (λ zone. zone.class ≡ class) }
+    ensures err { IfErr result (IsZoneFault input.now class) }
+{
+    match origin {
+        Some(name) => {
+            let name = name.for_ref();
+            Zone::read(alloc, input, Some(&name), class)
+        }
+        None => Zone::read(alloc, input, None, class),
+    }
+}
+
+/// The query for the zone's transfer, by the name that the job gives or else by the zone's own.
+fn zone_query(
+    alloc: Global,
+    id: u16,
+    apex: &Option<Name<Vec<u8>>>,
+    zone: &Zone,
+) -> Result<Vec<u8>, AllocError>
+    ensures { IfOk result (λ octets. octets.items ≡ query_octets (query_of id zone.now.class apex.now zone.now.records)) }
+{
+    match apex {
+        Some(name) => axfr_query(alloc, id, &name.for_ref(), zone.class()),
+        None => axfr_query(alloc, id, &zone.apex(), zone.class()),
+    }
+}
+
+/// The query for a zone's transfer, all flags clear (RFC 5936 2.1).
+fn axfr_query(
+    alloc: Global,
+    id: u16,
+    apex: &Name<&[u8]>,
+    class: Class,
+) -> Result<Vec<u8>, AllocError>
+    ensures { IfOk result (λ octets. octets.items
+        ≡ query_octets (record { id = id; recursion = false; name = apex.now; class = class })) }
+{
+    let mut query = Vec::with_capacity(alloc, 12 + apex.len() + 4)?;
+    query.extend_from_slice(&id.to_be_bytes())?;
+    query.extend_from_slice(&[0, 0, 0, 1, 0, 0, 0, 0, 0, 0])?;
+    query.extend_from_slice(apex.as_slice())?;
+    query.extend_from_slice(&Rtype::AXFR.to_int().to_be_bytes())?;
+    query.extend_from_slice(&class.to_int().to_be_bytes())?;
+    Ok(query)
+}
