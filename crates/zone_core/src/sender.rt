@@ -98,7 +98,8 @@ impl Sender {
     fn last_with_room(&self, len: usize) -> Option<usize>
         requires holds { (query : AxfrQuery) × (records : List spec.Record) × Holds self.now query records }
         requires small { len < 2 ^ 63 + 2 ^ 16 }
-        ensures { MatchOption result (HasNoRoom self.now self.now.last len) (λ start. (self.now.last ≡ Some start) × (length self.now.stream.items + len ≤ self.now.max + start)) }
+        ensures { MatchOption result (HasNoRoom self.now self.now.last len)
+            (λ start. (self.now.last ≡ Some start) × (length self.now.stream.items + len ≤ self.now.max + start)) }
     {
         let start = self.last?;
         if self.stream.len() - start + len <= self.max {
@@ -110,8 +111,8 @@ impl Sender {
 
     /// Begins a message, and answers where.
     fn open(&mut self) -> Result<usize, AllocError>
-        ensures stands { IfOk result (λ start. (query : AxfrQuery) (groups : List (List spec.Record)) → HoldsGroups self.old query groups →
-            Stands self.new query start groups [] (0 ∷ 0 ∷ []) (0 ∷ 0 ∷ [])) }
+        ensures stands { IfOk result (λ start. (query : AxfrQuery) (groups : List (List spec.Record)) →
+            HoldsGroups self.old query groups → Stands self.new query start groups [] (0 ∷ 0 ∷ []) (0 ∷ 0 ∷ [])) }
         ensures max { OnOk result (self.new.max ≡ self.old.max) }
     {
         let start = self.stream.len() + LENGTH_OCTETS;
@@ -124,10 +125,12 @@ impl Sender {
 
     /// Adds a record to the last message, which begins at `start` and has room, and counts it.
     fn append(&mut self, start: usize, record: &Record) -> Result<(), AllocError>
-        requires { (query : AxfrQuery) × (front : List (List spec.Record)) × (group : List spec.Record) × (mark count : List ℕ) × Stands self.old query start front group mark count
-            × (size query group + length (record_octets (record_of query.class «record».now)) ≤ self.old.max) }
+        requires { (query : AxfrQuery) × (front : List (List spec.Record)) × (group : List spec.Record) × (mark count : List ℕ) ×
+            Stands self.old query start front group mark count ×
+            (size query group + length (record_octets (record_of query.class «record».now)) ≤ self.old.max) }
         ensures whole { OnOk result ((query : AxfrQuery) (front : List (List spec.Record)) (group : List spec.Record) (mark count : List ℕ) →
-            Stands self.old query start front group mark count → StandsWhole self.new query start front (push group (record_of query.class «record».now))) }
+            Stands self.old query start front group mark count →
+            StandsWhole self.new query start front (push group (record_of query.class «record».now))) }
         ensures max { OnOk result (self.new.max ≡ self.old.max) }
     {
         append_record(&mut self.stream, self.class, record)?;
