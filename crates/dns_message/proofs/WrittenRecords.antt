@@ -11,7 +11,7 @@ use Rattle.dns_rdata.specs.Fields.IsData.{typed as typed_data, opaque as opaque_
 use Rattle.dns_message.specs.Item.{Parts, Spells, plain}
 use Rattle.dns_message.specs.Item.Parts.{End, Octets}
 use Rattle.dns_message.specs.Question.{Question, ReadsQuestion, question_octets}
-use Rattle.dns_message.specs.Record.{Record, IsRecord, IsRead, read_parts, record_parts, record_octets}
+use Rattle.dns_message.specs.Record.{Record, IsRecord, IsRead, ReadsRecord, read_parts, record_parts, record_octets}
 use Rattle.dns_message.specs.Record.IsRead.{typed, opaque}
 use Rattle.dns_message.proofs.Written.{AreWritable, reads-written, spells-written, within_message}
 
@@ -67,25 +67,19 @@ plain-record r parts is =
 pub writable-record : (r : Record) (parts : Parts) → plain parts ≡ r.rdata → IsRecord r → AreWritable parts → AreWritable (record_parts r parts)
 writable-record r parts is good can = (good.owner, (rw is good.rdata, can, tt))
 
--- what is read at a place: parts of the record
-pub record SpellsRecord (message : List ℕ) (place : ℕ) (r : Record) (next : ℕ) : Type 0 where
-  pub parts : Parts
-  pub read : IsRead r parts
-  pub spelled : Spells message place parts next
-
 record_spelled : (message : List ℕ) (place : ℕ) (r : Record) (parts : Parts) (rest : List ℕ) → drop place message ≡ record_octets r ++ rest
     → place ≤ length message → IsRecord r → plain parts ≡ r.rdata → AreWritable parts → IsRead r (record_parts r parts)
-    → SpellsRecord message place r (place + length (record_octets r))
+    → ReadsRecord message place r (place + length (record_octets r))
 record_spelled message place r parts rest at within good is can read =
     let whole : plain (record_parts r parts) ≡ record_octets r = plain-record r parts is in
     let here : drop place message ≡ plain (record_parts r parts) ++ rest = at ∙ ap (λ l. l ++ rest) (sym whole) in
     let goes = spells-written message place (record_parts r parts) rest here within (writable-record r parts is good can) in
     let P : List ℕ → Type 0 = λ l. Spells message place (record_parts r parts) (place + length l) in
-    record { parts = record_parts r parts; read = read; spelled = subst P whole goes }
+    record { is_record = good; parts = record_parts r parts; read = read; spelled = subst P whole goes }
 
 -- A record that is written out is read.
 pub record-written : (message : List ℕ) (place : ℕ) (r : Record) (rest : List ℕ) → drop place message ≡ record_octets r ++ rest
-    → place ≤ length message → IsRecord r → IsData r.rtype r.rdata → SpellsRecord message place r (place + length (record_octets r))
+    → place ≤ length message → IsRecord r → IsData r.rtype r.rdata → ReadsRecord message place r (place + length (record_octets r))
 record-written message place r rest at within good (typed_data row is_row is) =
     record_spelled message place r (read_parts row) rest at within good (plain-read row ∙ sym is) (writable-read row is_row.each)
     (typed row is_row is)

@@ -1,9 +1,9 @@
 -- Resource records (RFC 1035 3.2.1), and the parts by which a message spells them.
-use Rattle.std.specs.Prelude.{◌≡◌, ◌<◌, ◌^◌, ℕ, List, [], ◌∷◌, ◌++◌, length, Option, Some, None}
+use Rattle.std.specs.Prelude.{◌≡◌, ◌+◌, ◌<◌, ◌^◌, ℕ, List, [], ◌∷◌, ◌++◌, length, drop, Option, Some, None}
 use Rattle.std.specs.Int.{to_be_bytes, w16, w32}
 use Rattle.dns_label.specs.Name.{IsName, wire}
-use Rattle.dns_rdata.specs.Fields.{Field, number8, number16, number32, ipv4, ipv6, compressible, uncompressed, string, strings, tag, rest_text, rest16, rest64, field_octets, octets, IsRow, kinds_of}
-use Rattle.dns_message.specs.Item.{Parts, End, Octets, Named, Counted}
+use Rattle.dns_rdata.specs.Fields.{Field, number8, number16, number32, ipv4, ipv6, compressible, uncompressed, string, strings, tag, rest_text, rest16, rest64, field_octets, octets, IsRow, IsData, kinds_of}
+use Rattle.dns_message.specs.Item.{Parts, End, Octets, Named, Counted, Spells}
 
 -- a record: its owner's labels without the root's, and its data as uncompressed octets
 pub record Record : Type 0 where
@@ -49,3 +49,18 @@ abbrev pub record_octets : Record → List ℕ
 record_octets r =
     wire r.owner ++ to_be_bytes w16 r.rtype ++ to_be_bytes w16 r.class ++ to_be_bytes w32 r.ttl
     ++ to_be_bytes w16 (length r.rdata) ++ r.rdata
+
+-- The message has the record at a place, and `next` is the place behind it.
+pub record ReadsRecord (message : List ℕ) (place : ℕ) (r : Record) (next : ℕ) : Type 0 where
+  pub is_record : IsRecord r
+  pub parts : Parts
+  pub read : IsRead r parts
+  pub spelled : Spells message place parts next
+
+-- The same, and every name in the record is written out.
+pub record ReadsPlainRecord (message : List ℕ) (place : ℕ) (r : Record) (next : ℕ) : Type 0 where
+  pub is_record : IsRecord r
+  pub data_is : IsData r.rtype r.rdata
+  pub rest : List ℕ
+  pub at : drop place message ≡ record_octets r ++ rest
+  pub ends : next ≡ place + length (record_octets r)

@@ -15,7 +15,7 @@ use Rattle.zone_core.specs.Query.{AxfrQuery, question_of}
 use Rattle.zone_core.specs.Frames.{IsFramable}
 use Rattle.zone_core.specs.Records.{IsRecordOf, IsQueryFor}
 use Rattle.zone_core.specs.Sent.{message, size}
-use Rattle.zone_core.specs.Transfer.{SpellsRecords, IsAnswer, AreAnswers}
+use Rattle.zone_core.specs.Transfer.{Standard, SpellsRecords, IsAnswer, AreAnswers}
 use Rattle.zone_core.specs.Transfer.SpellsRecords.{none, one}
 use Rattle.zone_core.proofs.Plain.{size_is}
 
@@ -45,9 +45,9 @@ records_are_few (r ∷ group) =
 -- records that are written out are read
 records-written : (class : ℕ) (octets : List ℕ) (place : ℕ) (group : List Record) (rest : List ℕ)
     → drop place octets ≡ flat_map record_octets group ++ rest → place ≤ length octets → AllByRecursion (IsRecordOf class) group
-    → SpellsRecords octets place group (place + length (flat_map record_octets group))
+    → SpellsRecords Standard octets place group (place + length (flat_map record_octets group))
 records-written class octets place [] rest at within each =
-    let P : ℕ → Type 0 = λ next. SpellsRecords octets place [] next in subst P (omega arith) none
+    let P : ℕ → Type 0 = λ next. SpellsRecords Standard octets place [] next in subst P (omega arith) none
 records-written class octets place (r ∷ group) rest at within each =
     let more : List ℕ = flat_map record_octets group ++ rest in
     let here : drop place octets ≡ record_octets r ++ more = at ∙ append_assoc (record_octets r) (flat_map record_octets group) rest in
@@ -55,13 +55,13 @@ records-written class octets place (r ∷ group) rest at within each =
     let behind : drop (place + length (record_octets r)) octets ≡ more = drop_behind octets place _ (record_octets r) more here refl in
     let first = record-written octets place r more here within each.0.lawful each.0.data_is in
     let goes = records-written class octets (place + length (record_octets r)) group rest behind (omega arith) each.1 in
-    let P : ℕ → Type 0 = λ next. SpellsRecords octets place (r ∷ group) next in
+    let P : ℕ → Type 0 = λ next. SpellsRecords Standard octets place (r ∷ group) next in
     subst P (omega (arith, length-append (record_octets r) (flat_map record_octets group)))
-    (one first.parts (place + length (record_octets r)) each.0.lawful first.read first.spelled goes)
+    (one (place + length (record_octets r)) first goes)
 
 -- the message of a group that isn't too large is an answer
 answer-written : (query : AxfrQuery) (first : Bool) (class : ℕ) (records group : List Record) → IsQueryFor records class query
-    → AllByRecursion (IsRecordOf class) group → size query group < 2 ^ 16 → IsAnswer query first (message query group) group
+    → AllByRecursion (IsRecordOf class) group → size query group < 2 ^ 16 → IsAnswer Standard query first (message query group) group
 answer-written query first class records group asks each small =
     let question : List ℕ = question_octets (question_of query) in
     let carried : List ℕ = flat_map record_octets group in
@@ -72,15 +72,16 @@ answer-written query first class records group asks each small =
     let read = question-written (message query group) 12 (question_of query) carried here (omega arith) asks.name (omega arith) asks.class_fits in
     let behind = drop_behind (message query group) 12 (12 + length question) question carried here refl in
     let goes = records-written class (message query group) (12 + length question) group [] (behind ∙ sym (append-nil carried)) (omega arith) each in
-    let P : ℕ → Type 0 = λ next. SpellsRecords (message query group) (12 + length question) group next in
+    let P : ℕ → Type 0 = λ next. SpellsRecords Standard (message query group) (12 + length question) group next in
     record {
-      long = omega arith;
-      id = says.id_is;
-      response = says.response;
-      opcode = says.opcode;
-      rcode = says.rcode;
-      authority = says.authority;
-      additional = says.additional;
+      header = record {
+        long = omega arith;
+        id = says.id_is;
+        response = says.response;
+        opcode = says.opcode;
+        rcode = says.rcode;
+        counts = record { questions = omega (arith, says.questions); authority = says.authority; additional = says.additional };
+      };
       place = 12 + length question;
       asked = inr (says.questions, question_of query, read, record { name = refl; qtype = refl; qclass = refl });
       counted = says.answers_are;
@@ -90,7 +91,7 @@ answer-written query first class records group asks each small =
 -- messages of groups that aren't too large are answers
 pub answers-written : (query : AxfrQuery) (first : Bool) (class : ℕ) (records : List Record) (groups : List (List Record))
     → IsQueryFor records class query → AllByRecursion (AllByRecursion (IsRecordOf class)) groups
-    → AllByRecursion (λ group. size query group < 2 ^ 16) groups → AreAnswers query first (map (message query) groups) groups
+    → AllByRecursion (λ group. size query group < 2 ^ 16) groups → AreAnswers Standard query first (map (message query) groups) groups
 answers-written query first class records [] asks each small = tt
 answers-written query first class records (group ∷ groups) asks each small = (
   answer-written query first class records group asks each.0 small.0,

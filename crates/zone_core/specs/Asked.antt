@@ -3,6 +3,7 @@ use Rattle.dns_name.specs.ParsedName.{labels_of}
 use Rattle.dns_message.specs.Question as spec
 use Rattle.zone_core.specs.Query.{AxfrQuery}
 use Rattle.zone_core.specs.declared.query.Query.{Query}
+use Rattle.zone_core.specs.declared.query.OwnedQuery.{OwnedQuery}
 use Rattle.zone_core.specs.declared.query.Question.{Question}
 
 -- the query with its name's labels
@@ -21,3 +22,7 @@ question_by q = record {
   qtype = q.qtype;
   qclass = q.qclass;
 }
+
+-- the same query where it holds its name itself
+abbrev pub asked_of : OwnedQuery → AxfrQuery
+asked_of query = record { id = query.id; recursion = query.rd; name = query.name; class = query.class }

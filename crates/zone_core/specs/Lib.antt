@@ -6,6 +6,9 @@ pub mod Query
 pub mod Asked
 pub mod Frames
 pub mod Transfer
+pub mod Receiving
+pub mod Intake
+pub mod Received
 pub mod Sent
 pub mod Owned
 pub mod Seen

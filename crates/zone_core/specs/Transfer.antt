@@ -4,14 +4,33 @@ use Rattle.std.specs.List.{AllByRecursion}
 use Rattle.dns_label.specs.Name.{low}
 use Rattle.dns_rdata.specs.Fields.{Field, IsRow, octets, lowered}
 use Rattle.dns_message.specs.Header.{is_response, opcode_of, rcode_of, question_count, answer_count, authority_count, additional_count, id_of}
-use Rattle.dns_message.specs.Question.{Question, ReadsQuestion}
-use Rattle.dns_message.specs.Item.{Parts, Spells}
-use Rattle.dns_message.specs.Record.{IsRecord, IsRead}
+use Rattle.dns_message.specs.Question.{Question, ReadsQuestion, ReadsPlainQuestion}
+use Rattle.dns_message.specs.Record.{ReadsRecord, ReadsPlainRecord}
 use Rattle.zone_core.specs.Record.{Record}
-use Rattle.zone_core.specs.Zone.{IsUnder, axfr_type, soa_type}
+use Rattle.zone_core.specs.Zone.{IsUnder, a_type, axfr_type, soa_type}
 use Rattle.zone_core.specs.Query.{AxfrQuery}
 use Rattle.zone_core.specs.Frames.{frames, IsFramable}
 use Rattle.zone_core.specs.Cutting.{joined}
+
+-- The forms of messages that are spoken of: what the standard lets a server send, and what is received today, which is
+-- messages with every name written out and with records of the types SOA and A alone.
+pub data Form : Type 0 where
+  Standard : Form
+  WrittenOut : Form
+
+-- the types that are received today
+abbrev pub IsTypeToday : ℕ → Type 0
+IsTypeToday rtype = (rtype ≡ soa_type) ⊎ (rtype ≡ a_type)
+
+-- The message of the form has the question at a place, and `next` is the place behind it.
+abbrev pub HasQuestion : Form → List ℕ → ℕ → Question → ℕ → Type 0
+HasQuestion Standard message place q next = ReadsQuestion message place q next
+HasQuestion WrittenOut message place q next = ReadsPlainQuestion message place q next
+
+-- the same of a record
+abbrev pub HasRecord : Form → List ℕ → ℕ → Record → ℕ → Type 0
+HasRecord Standard message place r next = ReadsRecord message place r next
+HasRecord WrittenOut message place r next = ReadsPlainRecord message place r next × IsTypeToday r.rtype
 
 -- the question is the query's, its name up to ASCII case
 pub record IsQuestionOf (query : AxfrQuery) (q : Question) : Type 0 where
@@ -21,38 +40,47 @@ pub record IsQuestionOf (query : AxfrQuery) (q : Question) : Type 0 where
 
 -- The message has the query's question and the place is behind it, or has none and the place is behind the header. The
 -- first message has one.
-abbrev pub AsksAgain : AxfrQuery → Bool → List ℕ → ℕ → Type 0
-AsksAgain query first message place =
+abbrev pub AsksAgain : Form → AxfrQuery → Bool → List ℕ → ℕ → Type 0
+AsksAgain form query first message place =
     ((first ≡ false) × (question_count message ≡ 0) × (place ≡ 12))
-    ⊎ ((question_count message ≡ 1) × (q : Question) × ReadsQuestion message 12 q place × IsQuestionOf query q)
+    ⊎ ((question_count message ≡ 1) × (q : Question) × HasQuestion form message 12 q place × IsQuestionOf query q)
 
 -- the message spells the records one behind the other, and `next` is the place behind the last
-pub data SpellsRecords (message : List ℕ) : ℕ → List Record → ℕ → Type 0 where
-  none : {place : ℕ} → SpellsRecords message place [] place
-  one : {place next : ℕ} {r : Record} {records : List Record} (parts : Parts) (behind : ℕ) → IsRecord r → IsRead r parts
-      → Spells message place parts behind → SpellsRecords message behind records next → SpellsRecords message place (r ∷ records) next
+pub data SpellsRecords (form : Form) (message : List ℕ) : ℕ → List Record → ℕ → Type 0 where
+  none : {place : ℕ} → SpellsRecords form message place [] place
+  one : {place next : ℕ} {r : Record} {records : List Record} (behind : ℕ) → HasRecord form message place r behind
+      → SpellsRecords form message behind records next → SpellsRecords form message place (r ∷ records) next
 
--- An answer to the query that carries these records and nothing else. Bits that are not named are ignored.
-pub record IsAnswer (query : AxfrQuery) (first : Bool) (message : List ℕ) (records : List Record) : Type 0 where
+-- what a message with answers alone counts, and at most one question
+pub record CountsAnswers (message : List ℕ) : Type 0 where
+  pub questions : question_count message ≤ 1
+  pub authority : authority_count message ≡ 0
+  pub additional : additional_count message ≡ 0
+
+-- The header of an answer to the query. Bits that are not named are ignored.
+pub record HasAnswerHeader (query : AxfrQuery) (message : List ℕ) : Type 0 where
   pub long : 12 ≤ length message
   pub id : id_of message ≡ query.id
   pub response : is_response message ≡ true
   pub opcode : opcode_of message ≡ 0
   pub rcode : rcode_of message ≡ 0
-  pub authority : authority_count message ≡ 0
-  pub additional : additional_count message ≡ 0
+  pub counts : CountsAnswers message
+
+-- An answer to the query that carries these records and nothing else.
+pub record IsAnswer (form : Form) (query : AxfrQuery) (first : Bool) (message : List ℕ) (records : List Record) : Type 0 where
+  pub header : HasAnswerHeader query message
   pub place : ℕ
-  pub asked : AsksAgain query first message place
+  pub asked : AsksAgain form query first message place
   pub counted : answer_count message ≡ length records
-  pub spelled : SpellsRecords message place records (length message)
+  pub spelled : SpellsRecords form message place records (length message)
 
 -- each message is an answer with its group of records
-abbrev pub AreAnswers : AxfrQuery → Bool → List (List ℕ) → List (List Record) → Type 0
-AreAnswers query first [] [] = Unit {0}
-AreAnswers query first [] (group ∷ groups) = ⊥
-AreAnswers query first (message ∷ messages) [] = ⊥
-AreAnswers query first (message ∷ messages) (group ∷ groups) =
-    IsAnswer query first message group × AreAnswers query false messages groups
+abbrev pub AreAnswers : Form → AxfrQuery → Bool → List (List ℕ) → List (List Record) → Type 0
+AreAnswers form query first [] [] = Unit {0}
+AreAnswers form query first [] (group ∷ groups) = ⊥
+AreAnswers form query first (message ∷ messages) [] = ⊥
+AreAnswers form query first (message ∷ messages) (group ∷ groups) =
+    IsAnswer form query first message group × AreAnswers form query false messages groups
 
 -- A CAA record (257) can be spelled in text only where its tag, whose length is the second octet, is not empty.
 abbrev pub IsSpellable : Record → Type 0
@@ -89,12 +117,12 @@ ClosesTransfer (soa ∷ others) last = (last.rtype ≡ soa_type) × SameSoa soa 
 
 -- The stream is whole frames, each an answer to the query. Their records are these and the SOA again, which is the last
 -- record of the last message.
-pub record IsTransfer (query : AxfrQuery) (stream : List ℕ) (records : List Record) : Type 0 where
+pub record IsTransferIn (form : Form) (query : AxfrQuery) (stream : List ℕ) (records : List Record) : Type 0 where
   pub messages : List (List ℕ)
   pub each : AllByRecursion IsFramable messages
   pub whole : stream ≡ frames messages
   pub groups : List (List Record)
-  pub answers : AreAnswers query true messages groups
+  pub answers : AreAnswers form query true messages groups
   pub last : Record
   pub front : List (List Record)
   pub last_group : List Record
@@ -102,3 +130,7 @@ pub record IsTransfer (query : AxfrQuery) (stream : List ℕ) (records : List Re
   pub joins : joined front ++ last_group ≡ records
   pub transferred : IsTransferred query records
   pub closed : ClosesTransfer records last
+
+-- a transfer as the standard has it
+abbrev pub IsTransfer : AxfrQuery → List ℕ → List Record → Type 0
+IsTransfer query stream records = IsTransferIn Standard query stream records

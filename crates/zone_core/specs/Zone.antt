@@ -8,6 +8,9 @@ use Rattle.zone_core.specs.Record.{Record}
 abbrev pub soa_type : ℕ
 soa_type = 6
 
+abbrev pub a_type : ℕ
+a_type = 1
+
 abbrev pub axfr_type : ℕ
 axfr_type = 252
 

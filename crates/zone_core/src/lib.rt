@@ -4,9 +4,11 @@
 //! and how its records are cut into messages.
 #![tactic(auto)]
 
+mod header;
 pub mod laws;
 mod query;
 mod query_error;
+mod receive;
 mod record;
 mod send_error;
 mod sender;
@@ -17,6 +19,7 @@ mod zone_error;
 
 pub use query::{Query, check_query};
 pub use query_error::QueryError;
+pub use receive::{ReceiveError, Receiver};
 pub use send_error::SendError;
 pub use transfer::{Spelling, send};
 pub use zone::{Zone, ZoneRecord, ZoneRecords};

@@ -4,11 +4,13 @@ ghost use Rattle.dns_name.specs.ParsedName.{labels_of};
 ghost use Rattle.dns_message.specs.Header as header;
 ghost use Rattle.dns_message.specs.Question as spec;
 ghost use Rattle.dns_message.specs.Question.{ReadsQuestion};
-ghost use Rattle.zone_core.specs.Asked.{asked_by, question_by};
+ghost use Rattle.zone_core.specs.Asked.{asked_by, asked_of, question_by};
 ghost use Rattle.zone_core.specs.Query.{AsksOne, IsQuery, IsQueryFault};
 
+use crate::header::number_at;
 use crate::query_error::QueryError;
-use dns_name::{Class, ParseError, ParsedName, Parser, Rtype};
+use dns_name::{Class, Name, ParseError, ParsedName, Parser, Rtype, ToName};
+use std::alloc::{AllocError, Global};
 
 /// A query for the transfer of a zone (RFC 5936 2.1), as far as it counts.
 #[derive(Debug, Drop)]
@@ -55,6 +57,27 @@ impl<'a> Query<'a> {
     {
         self.class
     }
+
+    /// The query with its name copied out of the message.
+    pub(crate) fn to_owned_query(&self, alloc: Global) -> Result<OwnedQuery, AllocError>
+        ensures { IfOk result (λ query. asked_of query ≡ asked_by self.now) }
+    {
+        Ok(OwnedQuery {
+            id: self.id,
+            rd: self.rd,
+            name: self.name.to_vec(alloc)?,
+            class: self.class,
+        })
+    }
+}
+
+/// A query that holds its name itself.
+#[derive(Debug, Drop)]
+pub(crate) struct OwnedQuery {
+    pub(crate) id: u16,
+    pub(crate) rd: bool,
+    pub(crate) name: Name<Vec<u8>>,
+    pub(crate) class: Class,
 }
 
 /// Reads a query for a zone's transfer, and refuses other octets by the first rule that they break.
@@ -94,15 +117,6 @@ pub fn check_query(octets: &[u8]) -> Result<Query<'_>, QueryError>
         name: question.name,
         class: question.qclass,
     })
-}
-
-/// The number of two octets at a place.
-fn number_at(octets: &[u8], place: usize) -> u16
-    requires { place + 2 ≤ length octets.now }
-    ensures { result ≡ header.number_at octets.now place }
-{
-    let number = &octets[place..place + 2];
-    u16::from_be_bytes([number[0], number[1]])
 }
 
 /// Whether a message counts one question and no record.

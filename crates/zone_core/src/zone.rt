@@ -86,6 +86,14 @@ impl Zone {
         self.class
     }
 
+    /// The zone with these records, of which it is known that they are one.
+    pub(crate) fn of_records(records: Vec<Record>, class: Class) -> Zone
+        requires { AreRecordsOf class (records_of class records.items) }
+        ensures { result ≡ record { records = records_of class records.items; class = class } }
+    {
+        Zone { records, class }
+    }
+
     /// The records as the zone owns them.
     pub(crate) fn owned_records(&self) -> &[Record]
         ensures records { records_of self.now.class result.now ≡ self.now.records }

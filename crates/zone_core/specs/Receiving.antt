@@ -1,0 +1,163 @@
+-- What a stream is to who asked for a zone's transfer and hears it from its beginning (RFC 5936 2.2): a transfer, perhaps
+-- with octets behind it; only begun; or at fault, by the first rule that its first bad message breaks.
+use Rattle.std.specs.Prelude.{◌≡◌, ◌≢◌, ◌+◌, ◌<◌, ◌≤◌, ◌⊎◌, ℕ, Bool, true, false, Option, Some, None, List, [], ◌∷◌, ◌++◌, length, take, ⊤}
+use Rattle.std.specs.List.{AllByRecursion, push}
+use Rattle.dns_label.specs.Name.{low}
+use Rattle.dns_message.specs.Header.{is_response, opcode_of, rcode_of, answer_count, id_of}
+use Rattle.zone_core.specs.Record.{Record}
+use Rattle.zone_core.specs.Zone.{IsUnder, soa_type}
+use Rattle.zone_core.specs.Query.{AxfrQuery, IsQueryFault}
+use Rattle.zone_core.specs.Frames.{frame, frames, IsFramable, Splits}
+use Rattle.zone_core.specs.Cutting.{joined}
+use Rattle.zone_core.specs.Transfer.{WrittenOut, HasRecord, AsksAgain, SpellsRecords, CountsAnswers, HasAnswerHeader, AreAnswers, SameSoa, IsTransferred, ClosesTransfer, IsTransferIn}
+use Rattle.zone_core.specs.declared.receive.error.ReceiveError.{ReceiveError}
+use Rattle.zone_core.specs.declared.receive.error.ReceiveError.TheVariants as receive_error
+
+-- the records of a transfer so far, where no last SOA has come
+abbrev pub IsOpen : AxfrQuery → List Record → Type 0
+IsOpen query [] = ⊤
+IsOpen query (soa ∷ others) = IsTransferred query (soa ∷ others)
+
+-- all records of a transfer, the last SOA too
+pub record IsClosed (query : AxfrQuery) (records : List Record) : Type 0 where
+  pub front : List Record
+  pub last : Record
+  pub splits : records ≡ push front last
+  pub transferred : IsTransferred query front
+  pub closes : ClosesTransfer front last
+
+-- The stream is a transfer, of some records.
+abbrev pub IsWholeTransfer : AxfrQuery → List ℕ → Type 0
+IsWholeTransfer query stream = (records : List Record) × IsTransferIn WrittenOut query stream records
+
+-- The whole messages of the stream keep the rules of a transfer, and no last SOA has come.
+pub record IsBegun (query : AxfrQuery) (stream : List ℕ) : Type 0 where
+  pub messages : List (List ℕ)
+  pub rest : List ℕ
+  pub splits : Splits stream messages rest
+  pub groups : List (List Record)
+  pub answers : AreAnswers WrittenOut query true messages groups
+  pub still_open : IsOpen query (joined groups)
+
+-- the first record is the SOA of the query's name
+abbrev pub KeepsFirstRule : AxfrQuery → List Record → Record → Type 0
+KeepsFirstRule query [] r = (r.rtype ≡ soa_type) × (low r.owner ≡ low query.name)
+KeepsFirstRule query (soa ∷ others) r = ⊤
+
+-- a later SOA equals the first
+abbrev pub KeepsLastRule : List Record → Record → Type 0
+KeepsLastRule [] r = ⊤
+KeepsLastRule (soa ∷ others) r = r.rtype ≡ soa_type → SameSoa soa r
+
+-- Which rule the record at a place of the message breaks behind those of the transfer in front of it, the first in the
+-- order of the cases. Records are counted from 1.
+abbrev pub IsRecordFault : AxfrQuery → List Record → List ℕ → ℕ → ReceiveError → Type 0
+IsRecordFault query front message place (receive_error.Record n) =
+    (n ≡ length front + 1) × ((r : Record) (next : ℕ) → HasRecord WrittenOut message place r next → ⊥)
+IsRecordFault query front message place receive_error.FirstNotSoa =
+    (r : Record) × (next : ℕ) × HasRecord WrittenOut message place r next × (KeepsFirstRule query front r → ⊥)
+IsRecordFault query front message place (receive_error.Class n) =
+    (n ≡ length front + 1) × (r : Record) × (next : ℕ) × HasRecord WrittenOut message place r next
+    × KeepsFirstRule query front r × (r.class ≢ query.class)
+IsRecordFault query front message place (receive_error.OutOfZone n) =
+    (n ≡ length front + 1) × (r : Record) × (next : ℕ) × HasRecord WrittenOut message place r next
+    × KeepsFirstRule query front r × (r.class ≡ query.class) × (IsUnder query.name r.owner → ⊥)
+IsRecordFault query front message place (receive_error.SoaDiffers n) =
+    (n ≡ length front + 1) × (r : Record) × (next : ℕ) × HasRecord WrittenOut message place r next
+    × KeepsFirstRule query front r × (r.class ≡ query.class) × IsUnder query.name r.owner × (KeepsLastRule front r → ⊥)
+IsRecordFault query front message place (receive_error.AfterLast n) =
+    (n ≡ length front + 1) × (r : Record) × (next : ℕ) × HasRecord WrittenOut message place r next
+    × KeepsFirstRule query front r × (r.class ≡ query.class) × IsUnder query.name r.owner × KeepsLastRule front r
+    × IsClosed query front
+IsRecordFault query front message place error = ⊥
+
+-- The message, behind others with the records in front, keeps the rules up to a place: there its records of the group end.
+pub record KeepsRulesTo (query : AxfrQuery) (front : List Record) (first : Bool) (message : List ℕ) (group : List Record) (place : ℕ)
+    : Type 0 where
+  pub header : HasAnswerHeader query message
+  pub start : ℕ
+  pub asked : AsksAgain WrittenOut query first message start
+  pub spelled : SpellsRecords WrittenOut message start group place
+  pub lawful : IsOpen query (front ++ group) ⊎ IsClosed query (front ++ group)
+
+-- The first rule that the message breaks: the rules of the header and the question, then those of each record in order, and
+-- then that nothing is left.
+abbrev pub IsMessageFault : AxfrQuery → List Record → Bool → List ℕ → ReceiveError → Type 0
+IsMessageFault query front first message receive_error.Short = length message < 12
+IsMessageFault query front first message receive_error.Id = (12 ≤ length message) × (id_of message ≢ query.id)
+IsMessageFault query front first message receive_error.NotResponse =
+    (12 ≤ length message) × (id_of message ≡ query.id) × (is_response message ≡ false)
+IsMessageFault query front first message receive_error.Opcode =
+    (12 ≤ length message) × (id_of message ≡ query.id) × (is_response message ≡ true) × (opcode_of message ≢ 0)
+IsMessageFault query front first message (receive_error.Rcode rcode) =
+    (12 ≤ length message) × (id_of message ≡ query.id) × (is_response message ≡ true) × (opcode_of message ≡ 0)
+    × (rcode ≡ rcode_of message) × (rcode ≢ 0)
+IsMessageFault query front first message receive_error.Counts =
+    (12 ≤ length message) × (id_of message ≡ query.id) × (is_response message ≡ true) × (opcode_of message ≡ 0)
+    × (rcode_of message ≡ 0) × (CountsAnswers message → ⊥)
+IsMessageFault query front first message receive_error.Question =
+    HasAnswerHeader query message × ((place : ℕ) → AsksAgain WrittenOut query first message place → ⊥)
+IsMessageFault query front first message receive_error.Trailing =
+    (group : List Record) × (place : ℕ) × KeepsRulesTo query front first message group place
+    × (length group ≡ answer_count message) × (place ≢ length message)
+IsMessageFault query front first message error =
+    (group : List Record) × (place : ℕ) × KeepsRulesTo query front first message group place
+    × (length group < answer_count message) × IsRecordFault query (front ++ group) message place error
+
+abbrev pub is_first : List (List ℕ) → Bool
+is_first [] = true
+is_first (message ∷ messages) = false
+
+-- A message of the stream breaks the rule, those in front of it keep all rules, and no last SOA is among these.
+pub record HasBadMessage (query : AxfrQuery) (stream : List ℕ) (error : ReceiveError) : Type 0 where
+  pub messages : List (List ℕ)
+  pub each : AllByRecursion IsFramable messages
+  pub bad : List ℕ
+  pub fits : IsFramable bad
+  pub behind : List ℕ
+  pub whole : stream ≡ frames messages ++ (frame bad ++ behind)
+  pub groups : List (List Record)
+  pub answers : AreAnswers WrittenOut query true messages groups
+  pub still_open : IsOpen query (joined groups)
+  pub fault : IsMessageFault query (joined groups) (is_first messages) bad error
+
+-- Why the stream is refused. (Nothing is said of memory.)
+abbrev pub IsStreamFault : AxfrQuery → List ℕ → ReceiveError → Type 0
+IsStreamFault query stream (receive_error.Query fault) = ⊥
+IsStreamFault query stream receive_error.Unfinished = ⊥
+IsStreamFault query stream receive_error.OutOfMemory = ⊤
+IsStreamFault query stream error = HasBadMessage query stream error
+
+-- What a receiver is: the query, the octets that it took, and the refusal that it keeps.
+pub record Heard : Type 0 where
+  pub query : AxfrQuery
+  pub octets : List ℕ
+  pub kept : Option ReceiveError
+
+-- A piece is taken up to the n-th octet: up to the end of the transfer, or else all of it.
+pub record Takes (old : Heard) (piece : List ℕ) (new : Heard) (n : ℕ) : Type 0 where
+  pub free : old.kept ≡ None
+  pub query : new.query ≡ old.query
+  pub kept : new.kept ≡ None
+  pub within : n ≤ length piece
+  pub octets : new.octets ≡ old.octets ++ take n piece
+  pub stands : IsWholeTransfer old.query new.octets ⊎ (IsBegun old.query new.octets × (n ≡ length piece))
+
+-- A piece is refused: again, where a refusal is kept, and else by the rule that the stream breaks with it. The refusal is
+-- kept from then on.
+pub record Refuses (old : Heard) (piece : List ℕ) (new : Heard) (error : ReceiveError) : Type 0 where
+  pub query : new.query ≡ old.query
+  pub kept : new.kept ≡ Some error
+  pub why : (old.kept ≡ Some error) ⊎ ((old.kept ≡ None) × IsStreamFault old.query (old.octets ++ piece) error)
+
+-- Why there is no receiver: the query breaks a rule. (Nothing is said of memory.)
+abbrev pub IsAskFault : List ℕ → ReceiveError → Type 0
+IsAskFault message (receive_error.Query fault) = IsQueryFault message fault
+IsAskFault message receive_error.OutOfMemory = ⊤
+IsAskFault message error = ⊥
+
+-- Why there is no zone: the refusal that is kept, or the stream is only begun.
+abbrev pub IsNoZone : Heard → ReceiveError → Type 0
+IsNoZone heard error =
+    (heard.kept ≡ Some error)
+    ⊎ ((error ≡ receive_error.Unfinished) × (heard.kept ≡ None) × IsBegun heard.query heard.octets)

@@ -1,0 +1,14 @@
+//! A zone from the stream of its transfer.
+
+mod error;
+mod intake;
+mod message;
+mod receiver;
+mod record;
+mod rules;
+mod soa;
+#[cfg(test)]
+mod tests;
+
+pub use error::ReceiveError;
+pub use receiver::Receiver;

@@ -1,0 +1,148 @@
+//! The messages of a transfer, one by one.
+ghost use Rattle.std.specs.Prelude.{◌≡◌, ◌+◌, ◌↔◌, ◌⊎◌, ◌≤◌, ℕ, Bool, List, length, IsTrue, IfOk, IfErr, OnOk, IfSome, IfNone};
+ghost use Rattle.std.specs.List.{AllByRecursion};
+ghost use Rattle.dns_octets.specs.Parser.{octets_of, place_of};
+ghost use Rattle.dns_message.specs.Header.{answer_count};
+ghost use Rattle.zone_core.specs.Record as spec;
+ghost use Rattle.zone_core.specs.Asked.{asked_of};
+ghost use Rattle.zone_core.specs.Owned.{records_of};
+ghost use Rattle.zone_core.specs.Records.{IsRecordOf};
+ghost use Rattle.zone_core.specs.Transfer.{WrittenOut, AsksAgain, CountsAnswers, HasAnswerHeader};
+ghost use Rattle.zone_core.specs.Receiving.{IsOpen, IsMessageFault, IsRecordFault};
+ghost use Rattle.zone_core.specs.Intake.{IsFaultOr, StandsAt, TakesMessage, TakesRecord};
+
+use crate::header::number_at;
+use crate::query::OwnedQuery;
+use crate::receive::error::ReceiveError;
+use crate::receive::record::{RecordError, parse_record};
+use crate::receive::rules::{Placing, place_record};
+use crate::record::Record;
+use dns_name::{Class, Name, Parser, Rtype};
+use std::alloc::{AllocError, Global};
+
+/// Judges a message behind others with these records, and adds its own to them. True where it has the last SOA, which is
+/// not added.
+pub(crate) fn judge_message(
+    alloc: Global,
+    query: &OwnedQuery,
+    is_first: bool,
+    message: &[u8],
+    records: &mut Vec<Record>,
+) -> Result<bool, ReceiveError>
+    requires lawful { IsOpen (asked_of query.now) (records_of query.now.class records.old.items) }
+    requires known { AllByRecursion (IsRecordOf query.now.class) (records_of query.now.class records.old.items) }
+    ensures ok { IfOk result (TakesMessage (asked_of query.now) (records_of query.now.class records.old.items) is_first message.now
+        (records_of query.now.class records.new.items)) }
+    ensures known { OnOk result (AllByRecursion (IsRecordOf query.now.class) (records_of query.now.class records.new.items)) }
+    ensures err { IfErr result (IsFaultOr (IsMessageFault (asked_of query.now) (records_of query.now.class records.old.items) is_first message.now)) }
+{
+    check_header(query, message)?;
+    let Some(start) = behind_question(query, is_first, message) else {
+        return Err(ReceiveError::Question);
+    };
+    let mut parser = Parser::from_ref(message);
+    if parser.seek(start).is_err() {
+        unreachable!();
+    }
+    let mut closed = false;
+    for _ in 0..number_at(message, 6) {
+        closed = take_record(alloc, query, &mut parser, records, closed)?;
+    }
+    if parser.remaining() != 0 {
+        return Err(ReceiveError::Trailing);
+    }
+    Ok(closed)
+}
+
+/// Refuses a message whose header is not that of an answer to the query.
+fn check_header(query: &OwnedQuery, message: &[u8]) -> Result<(), ReceiveError>
+    ensures ok { OnOk result (HasAnswerHeader (asked_of query.now) message.now) }
+    ensures err { IfErr result (λ error. (front : List spec.Record) (first : Bool) → IsMessageFault (asked_of query.now) front first message.now error) }
+    ensures no_memory { IfErr result (λ error. (Fault : ReceiveError → Type 0) → Fault error → IsFaultOr Fault error) }
+{
+    if message.len() < 12 {
+        return Err(ReceiveError::Short);
+    }
+    if number_at(message, 0) != query.id {
+        return Err(ReceiveError::Id);
+    }
+    if message[2] < 128 {
+        return Err(ReceiveError::NotResponse);
+    }
+    if message[2] / 8 % 16 != 0 {
+        return Err(ReceiveError::Opcode);
+    }
+    let rcode = message[3] % 16;
+    if rcode != 0 {
+        return Err(ReceiveError::Rcode(rcode));
+    }
+    if !counts_answers(message) {
+        return Err(ReceiveError::Counts);
+    }
+    Ok(())
+}
+
+/// Whether a message counts at most one question, and no records but answers.
+fn counts_answers(message: &[u8]) -> bool
+    requires { 12 ≤ length message.now }
+    ensures { IsTrue result ↔ CountsAnswers message.now }
+{
+    number_at(message, 4) <= 1 && number_at(message, 8) == 0 && number_at(message, 10) == 0
+}
+
+/// The place behind the message's question, which has to be the query's; or behind the header, where there is none and
+/// the message is not the first.
+fn behind_question(query: &OwnedQuery, is_first: bool, message: &[u8]) -> Option<usize>
+    requires header { HasAnswerHeader (asked_of query.now) message.now }
+    ensures some { IfSome result (AsksAgain WrittenOut (asked_of query.now) is_first message.now) }
+    ensures within { IfSome result (λ place. place ≤ length message.now) }
+    ensures none { IfNone result ((place : ℕ) → AsksAgain WrittenOut (asked_of query.now) is_first message.now place → ⊥) }
+{
+    if number_at(message, 4) == 0 {
+        return if is_first { None } else { Some(12) };
+    }
+    let mut parser = Parser::from_ref(message);
+    parser.seek(12).ok()?;
+    let name = Name::parse(&mut parser).ok()?;
+    let qtype = Rtype::from_int(parser.parse_u16_be().ok()?);
+    let qclass = Class::from_int(parser.parse_u16_be().ok()?);
+    if qtype == Rtype::AXFR && qclass == query.class && name == query.name.for_ref() {
+        Some(parser.pos())
+    } else {
+        None
+    }
+}
+
+/// Reads the next record, holds it against the rules, and adds it to those in front of it. `closed` says whether the last
+/// SOA stands in front, and the answer whether it stands in front of the next one.
+fn take_record(
+    alloc: Global,
+    query: &OwnedQuery,
+    parser: &mut Parser<'_>,
+    records: &mut Vec<Record>,
+    closed: bool,
+) -> Result<bool, ReceiveError>
+    requires stands { (front : List spec.Record) × StandsAt (asked_of query.now) (records_of query.now.class records.old.items) closed front }
+    requires known { AllByRecursion (IsRecordOf query.now.class) (records_of query.now.class records.old.items) }
+    ensures ok { IfOk result (λ ends. (front : List spec.Record) → StandsAt (asked_of query.now) (records_of query.now.class records.old.items) closed front
+        → TakesRecord (asked_of query.now) (octets_of parser.old) (place_of parser.old) (place_of parser.new) (records_of query.now.class records.new.items) ends front) }
+    ensures same { OnOk result (octets_of parser.new ≡ octets_of parser.old) }
+    ensures known { OnOk result (AllByRecursion (IsRecordOf query.now.class) (records_of query.now.class records.new.items)) }
+    ensures err { IfErr result (IsFaultOr (λ error. (front : List spec.Record)
+        → StandsAt (asked_of query.now) (records_of query.now.class records.old.items) closed front
+        → IsRecordFault (asked_of query.now) front (octets_of parser.old) (place_of parser.old) error)) }
+{
+    let number = records.len() + usize::from(closed) + 1;
+    let (record, class) = match parse_record(alloc, parser) {
+        Ok(found) => found,
+        Err(RecordError::Malformed) => return Err(ReceiveError::Record(number)),
+        Err(RecordError::OutOfMemory) => return Err(ReceiveError::OutOfMemory),
+    };
+    match place_record(query, records.as_slice(), closed, &record, class, number)? {
+        Placing::Last => Ok(true),
+        Placing::Inner => {
+            records.push(record).map_err(AllocError::from)?;
+            Ok(false)
+        }
+    }
+}

@@ -1,0 +1,117 @@
+//! Who asks for a zone's transfer, and takes the stream of answers.
+ghost use Rattle.std.specs.Prelude.{◌≡◌, ◌↔◌, [], None, IsTrue, IfOk, IfErr, MatchResult};
+ghost use Rattle.zone_core.specs.Asked.{asked_of};
+ghost use Rattle.zone_core.specs.Query.{IsQuery};
+ghost use Rattle.zone_core.specs.Receiving.{IsAskFault, IsNoZone, IsWholeTransfer, Refuses, Takes};
+ghost use Rattle.zone_core.specs.Transfer.{WrittenOut, IsTransferIn};
+
+use crate::query::{OwnedQuery, check_query};
+use crate::receive::error::ReceiveError;
+use crate::receive::intake::Intake;
+use crate::zone::Zone;
+use std::alloc::Global;
+use std::marker::Model;
+
+/// How far a stream has come.
+#[derive(Clone, Copy, Debug)]
+enum Progress {
+    /// The last SOA has not come.
+    Begun,
+    /// The last SOA has come, and the zone's records are whole.
+    Done,
+    /// The stream was refused.
+    Refused(ReceiveError),
+}
+
+/// Who asks for a zone's transfer and takes the stream of answers, in pieces of any size (RFC 5936 2.2).
+///
+/// It holds all the octets that it took. A message is judged once, when it is whole.
+#[derive(Debug, Drop)]
+pub struct Receiver {
+    query: OwnedQuery,
+    intake: Intake,
+    progress: Progress,
+}
+
+impl Model for Receiver {
+    ghost use Rattle.zone_core.specs.Receiving.{Heard};
+    ghost use Rattle.zone_core.specs.Received.{IsAt, kept_in};
+
+    ghost Value = { Heard };
+
+    ghost view = { λ r. record { query = asked_of r.query; octets = r.intake.octets.items; kept = kept_in r.progress } };
+
+    ghost invariant = { λ r. IsAt r.progress r.intake (asked_of r.query) };
+}
+
+impl Receiver {
+    /// A receiver for the answers to a query, to which no octet has come.
+    ///
+    /// Refused where the query breaks a rule, by the first one, and where there is no memory for the query's name.
+    pub fn new(alloc: Global, query: &[u8]) -> Result<Receiver, ReceiveError>
+        ensures ok { IfOk result (λ receiver. IsQuery query.now receiver.query) }
+        ensures stands { IfOk result (λ receiver. (receiver.octets ≡ []) × (receiver.kept ≡ None)) }
+        ensures err { IfErr result (IsAskFault query.now) }
+    {
+        let query = match check_query(query) {
+            Ok(query) => query,
+            Err(fault) => return Err(ReceiveError::Query(fault)),
+        };
+        Ok(Receiver {
+            query: query.to_owned_query(alloc)?,
+            intake: Intake::new(alloc),
+            progress: Progress::Begun,
+        })
+    }
+
+    /// Takes the next piece of the stream, and answers how many octets of it were taken: all of them, or those up to the
+    /// end of the transfer; none once it has ended.
+    ///
+    /// Refused by the first rule that the first bad message breaks, and then this refusal is the answer from then on.
+    pub fn feed(&mut self, piece: &[u8]) -> Result<usize, ReceiveError>
+        ensures { MatchResult result (Takes self.old piece.now self.new) (Refuses self.old piece.now self.new) }
+    {
+        match self.progress {
+            Progress::Done => Ok(0),
+            Progress::Refused(error) => Err(error),
+            Progress::Begun => match self.intake.take(&self.query, piece) {
+                Ok(None) => Ok(piece.len()),
+                Ok(Some(count)) => {
+                    self.progress = Progress::Done;
+                    Ok(count)
+                }
+                Err(error) => {
+                    self.progress = Progress::Refused(error);
+                    Err(error)
+                }
+            },
+        }
+    }
+
+    /// Whether the transfer has come whole.
+    pub fn is_done(&self) -> bool
+        ensures { IsTrue result ↔ ((self.now.kept ≡ None) × IsWholeTransfer self.now.query self.now.octets) }
+    {
+        matches!(self.progress, Progress::Done)
+    }
+
+    /// The zone that came.
+    ///
+    /// Refused with the refusal that is kept, or else with `Unfinished` where the transfer has not come whole.
+    pub fn into_zone(self) -> Result<Zone, ReceiveError>
+        ensures ok { IfOk result (λ zone. (self.kept ≡ None) × IsTransferIn WrittenOut self.query self.octets zone.records) }
+        ensures class_is { IfOk result (λ zone. zone.class ≡ self.query.class) }
+        ensures err { IfErr result (IsNoZone self) }
+    {
+        let Receiver {
+            query,
+            intake,
+            progress,
+        } = self;
+        match progress {
+            Progress::Done => Ok(Zone::of_records(intake.into_records(), query.class)),
+            Progress::Begun => Err(ReceiveError::Unfinished),
+            Progress::Refused(error) => Err(error),
+        }
+    }
+}

@@ -1,0 +1,93 @@
+//! The rules that the records of a transfer keep, one behind the other.
+ghost use Rattle.std.specs.Prelude.{◌≡◌, ◌+◌, ◌↔◌, [], ℕ, List, false, length, IsTrue, IfOk, IfErr, OnOk};
+ghost use Rattle.std.specs.List.{AllByRecursion};
+ghost use Rattle.dns_label.specs.Name.{low};
+ghost use Rattle.zone_core.specs.Record as spec;
+ghost use Rattle.zone_core.specs.Asked.{asked_of};
+ghost use Rattle.zone_core.specs.Owned.{record_of, records_of};
+ghost use Rattle.zone_core.specs.Records.{IsRecordOf};
+ghost use Rattle.zone_core.specs.Transfer.{WrittenOut, HasRecord, SameSoa};
+ghost use Rattle.zone_core.specs.Receiving.{IsRecordFault, KeepsFirstRule};
+ghost use Rattle.zone_core.specs.Zone.{soa_type};
+ghost use Rattle.zone_core.specs.Intake.{IsPlacing, StandsAt};
+
+use crate::query::OwnedQuery;
+use crate::receive::error::ReceiveError;
+use crate::receive::soa::SoaData;
+use crate::record::Record;
+use dns_name::{Class, Rtype};
+
+/// What a record is in a transfer.
+#[derive(Clone, Copy, Debug, PartialEq, Eq)]
+pub(crate) enum Placing {
+    /// A record of the zone.
+    Inner,
+    /// The SOA again, which ends the transfer.
+    Last,
+}
+
+/// Holds a record of this class and number against the rules, behind these records and perhaps the last SOA.
+pub(crate) fn place_record(
+    query: &OwnedQuery,
+    front: &[Record],
+    closed: bool,
+    next: &Record,
+    class: Class,
+    number: usize,
+) -> Result<Placing, ReceiveError>
+    requires stands { (xs : List spec.Record) × StandsAt (asked_of query.now) (records_of query.now.class front.now) closed xs × (number ≡ length xs + 1) }
+    requires known { AllByRecursion (IsRecordOf query.now.class) (records_of query.now.class front.now) }
+    requires next { IsRecordOf class (record_of class next.now) }
+    ensures ok { IfOk result (IsPlacing (asked_of query.now) (records_of query.now.class front.now) (record_of class next.now)) }
+    ensures inside { OnOk result ((closed ≡ false) × (class ≡ query.now.class)) }
+    ensures err { IfErr result (λ error. (xs : List spec.Record) (message : List ℕ) (place end : ℕ)
+        → StandsAt (asked_of query.now) (records_of query.now.class front.now) closed xs → number ≡ length xs + 1
+        → HasRecord WrittenOut message place (record_of class next.now) end
+        → IsRecordFault (asked_of query.now) xs message place error) }
+{
+    let soa = front.first();
+    if soa.is_none() && !is_first_soa(query, next) {
+        return Err(ReceiveError::FirstNotSoa);
+    }
+    if class != query.class {
+        return Err(ReceiveError::Class(number));
+    }
+    if !next.owner.ends_with(&query.name) {
+        return Err(ReceiveError::OutOfZone(number));
+    }
+    let placing = match soa {
+        Some(soa) if next.rtype == Rtype::SOA => {
+            if !is_same_soa(soa, next) {
+                return Err(ReceiveError::SoaDiffers(number));
+            }
+            Placing::Last
+        }
+        _ => Placing::Inner,
+    };
+    if closed {
+        return Err(ReceiveError::AfterLast(number));
+    }
+    Ok(placing)
+}
+
+/// Whether a record is an SOA of the query's name.
+fn is_first_soa(query: &OwnedQuery, next: &Record) -> bool
+    ensures { (class : ℕ) → IsTrue result ↔ KeepsFirstRule (asked_of query.now) [] (record_of class next.now) }
+{
+    next.rtype == Rtype::SOA && next.owner == query.name
+}
+
+/// Whether two SOA records of one class are equal, names up to ASCII case.
+fn is_same_soa(soa: &Record, other: &Record) -> bool
+    requires first { (class : ℕ) × IsRecordOf class (record_of class soa.now) × (soa.now.rtype ≡ soa_type) }
+    requires second { (class : ℕ) × IsRecordOf class (record_of class other.now) × (other.now.rtype ≡ soa_type) }
+    ensures { (class : ℕ) → IsTrue result ↔ SameSoa (record_of class soa.now) (record_of class other.now) }
+{
+    let Some(data) = SoaData::from_slice(soa.data.as_slice()) else {
+        return false;
+    };
+    let Some(other_data) = SoaData::from_slice(other.data.as_slice()) else {
+        return false;
+    };
+    soa.owner == other.owner && soa.ttl == other.ttl && data.is_same(&other_data)
+}
