@@ -1,6 +1,6 @@
 //! Why a stream is no transfer.
 ghost use Rattle.std.specs.Prelude.{◌≡◌};
-ghost use Rattle.zone_core.specs.declared.receive_error.ReceiveError.TheVariants.{OutOfMemory};
+ghost use Rattle.zone_core.specs.declared.receive.error.ReceiveError.TheVariants.{OutOfMemory};
 
 use crate::query_error::QueryError;
 use std::alloc::AllocError;

@@ -1,5 +1,5 @@
 //! The octets of a stream that comes in, and the records of its messages.
-ghost use Rattle.std.specs.Prelude.{◌≡◌, ◌++◌, ◌≤◌, ◌<◌, ℕ, length, take, drop, IfOk, IfErr, OnOk, IfSome, IfNone, MatchOption};
+ghost use Rattle.std.specs.Prelude.{◌≡◌, ◌++◌, ◌≤◌, ◌<◌, [], ℕ, length, take, drop, IfOk, IfErr, OnOk, IfSome, IfNone, MatchOption};
 ghost use Rattle.zone_core.specs.Asked.{asked_of};
 ghost use Rattle.zone_core.specs.Frames.{IsPartial};
 ghost use Rattle.zone_core.specs.Receiving.{IsStreamFault};

@@ -36,6 +36,7 @@ pub struct Receiver {
 impl Model for Receiver {
     ghost use Rattle.zone_core.specs.Receiving.{Heard};
     ghost use Rattle.zone_core.specs.Received.{IsAt, kept_in};
+    ghost use Rattle.zone_core.specs.Asked.{asked_of};
 
     ghost Value = { Heard };
 

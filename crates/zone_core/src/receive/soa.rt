@@ -38,7 +38,9 @@ impl<'a> SoaData<'a> {
         ensures { IsTrue result ↔ ((low self.now.mname ≡ low other.now.mname) × (low self.now.rname ≡ low other.now.rname)
             × (self.now.numbers.now ≡ other.now.numbers.now)) }
     {
-        let same_names = self.mname == other.mname && self.rname == other.rname;
-        same_names && self.numbers == other.numbers
+        let same_mname = self.mname == other.mname;
+        let same_rname = self.rname == other.rname;
+        let same_numbers = self.numbers == other.numbers;
+        same_mname && same_rname && same_numbers
     }
 }
