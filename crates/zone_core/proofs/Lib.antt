@@ -1,4 +1,5 @@
 pub mod Splits
+pub mod Begun
 pub mod Cuttings
 pub mod Greedy
 pub mod Tried
