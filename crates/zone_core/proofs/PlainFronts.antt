@@ -1,43 +1,33 @@
 -- Numbers and questions that stand written out at a place.
-use Rattle.std.proofs.Common.{◌≡◌, ℕ, zero, suc, ◌+◌, ◌<◌, ◌≤◌, ◌^◌, List, [], ◌∷◌, ◌++◌, length, take, drop, get_or, refl, sym, ap, ◌∙◌, subst, arith, append_assoc, length-append, length-drop}
-use Rattle.std.specs.Int.{to_be_bytes, from_be_bytes, w16}
-use Rattle.std.proofs.lemmas.Nat.{be_bytes_2}
-use Rattle.std.proofs.lemmas.List.{take-append-drop, length-take-le, get_or-drop}
+use Rattle.std.proofs.Common.{◌≡◌, ℕ, ◌+◌, ◌<◌, ◌≤◌, ◌^◌, List, [], ◌∷◌, ◌++◌, length, take, drop, refl, sym, ap, ◌∙◌, subst, arith, append_assoc, length-append, length-drop}
+use Rattle.std.specs.Int.{to_be_bytes, w16}
+use Rattle.std.proofs.lemmas.List.{take-append-drop, length-take-le}
+use Rattle.dns_octets.specs.declared.parser.Parser.{Parser}
+use Rattle.dns_octets.specs.Parser.{GoesOn, octets_of, place_of, rest_of}
 use Rattle.dns_label.specs.Name.{IsName, wire}
 use Rattle.dns_label.proofs.Spelling.{drop_behind}
 use Rattle.dns_message.specs.Question.{Question, ReadsPlainQuestion, question_octets}
 use Rattle.zone_core.proofs.SoaOctets.{front_one}
 
--- octets, each below 256
-pub small_drop : (m : List ℕ) (place : ℕ) → ((i : ℕ) → get_or m i 0 < 256) → (i : ℕ) → get_or (drop place m) i 0 < 256
-small_drop m place small i = rw (get_or-drop place m i 0) (small (place + i))
-
-pub small_take : (count : ℕ) (m : List ℕ) → ((i : ℕ) → get_or m i 0 < 256) → (i : ℕ) → get_or (take count m) i 0 < 256
-small_take zero m small i = omega arith
-small_take (suc count) [] small i = omega arith
-small_take (suc count) (x ∷ m) small zero = small 0
-small_take (suc count) (x ∷ m) small (suc i) = small_take count m (λ j. small (suc j)) i
-
 -- a number of two octets, and what stands behind it
-pub number16_front : (m : List ℕ) (place n : ℕ) → place + 2 ≤ length m → ((i : ℕ) → get_or m i 0 < 256)
-    → n ≡ from_be_bytes w16 (take 2 (drop place m)) → drop place m ≡ to_be_bytes w16 n ++ drop (place + 2) m
-number16_front m place n within small is =
+pub number16_front : (m : List ℕ) (place n : ℕ) → place + 2 ≤ length m → to_be_bytes w16 n ≡ take 2 (drop place m)
+    → drop place m ≡ to_be_bytes w16 n ++ drop (place + 2) m
+number16_front m place n within is =
     let there : List ℕ = drop place m in
     let long : length (take 2 there) ≡ 2 = length-take-le 2 there (omega (arith, length-drop place m)) in
-    let mark : to_be_bytes w16 n ≡ take 2 there = be_bytes_2 (take 2 there) n long (small_take 2 there (small_drop m place small)) is in
     let whole : take 2 there ++ drop 2 there ≡ there = take-append-drop 2 there in
     let behind : drop (place + 2) m ≡ drop 2 there = drop_behind m place (place + 2) (take 2 there) (drop 2 there) (sym whole) (omega (arith, long)) in
-    sym whole ∙ ap (λ l. l ++ drop 2 there) (sym mark) ∙ ap (λ l. to_be_bytes w16 n ++ l) (sym behind)
+    sym whole ∙ ap (λ l. l ++ drop 2 there) (sym is) ∙ ap (λ l. to_be_bytes w16 n ++ l) (sym behind)
 
 -- a question that is written out
 pub question_front : (m : List ℕ) (place behind : ℕ) (q : Question) → IsName q.name → drop place m ≡ wire q.name ++ drop behind m
-    → behind ≡ place + length (wire q.name) → behind + 4 ≤ length m → ((i : ℕ) → get_or m i 0 < 256)
-    → q.qtype ≡ from_be_bytes w16 (take 2 (drop behind m)) → q.qclass ≡ from_be_bytes w16 (take 2 (drop (behind + 2) m))
+    → behind ≡ place + length (wire q.name) → behind + 4 ≤ length m
+    → to_be_bytes w16 q.qtype ≡ take 2 (drop behind m) → to_be_bytes w16 q.qclass ≡ take 2 (drop (behind + 2) m)
     → q.qtype < 2 ^ 16 → q.qclass < 2 ^ 16 → ReadsPlainQuestion m place q (behind + 4)
-question_front m place behind q is at there within small qtype qclass fits fits' =
+question_front m place behind q is at there within qtype qclass fits fits' =
     let rest : List ℕ = drop (behind + 2 + 2) m in
-    let first = number16_front m behind q.qtype (omega arith) small qtype in
-    let second = number16_front m (behind + 2) q.qclass (omega arith) small qclass in
+    let first = number16_front m behind q.qtype (omega arith) qtype in
+    let second = number16_front m (behind + 2) q.qclass (omega arith) qclass in
     let parts = append_assoc (wire q.name) (to_be_bytes w16 q.qtype) (to_be_bytes w16 q.qclass) in
     record {
       name = is;
@@ -52,11 +42,43 @@ question_front m place behind q is at there within small qtype qclass fits fits'
 
 -- where the octets end in the numbers behind the name there is none
 pub no_question : (m : List ℕ) (place behind : ℕ) (name : List (List ℕ)) → IsName name → drop place m ≡ wire name ++ drop behind m
-    → length m < behind + 4 → (q : Question) (next : ℕ) → ReadsPlainQuestion m place q next → 0 < length m → ⊥
-no_question m place behind name is at short q next reads some =
+    → length m < behind + 4 → (q : Question) (next : ℕ) → ReadsPlainQuestion m place q next → ⊥
+no_question m place behind name is at short q next reads =
     let numbers : List ℕ = to_be_bytes w16 q.qtype ++ to_be_bytes w16 q.qclass in
     let parts = append_assoc (wire q.name) (to_be_bytes w16 q.qtype) (to_be_bytes w16 q.qclass) in
     let there : drop place m ≡ wire q.name ++ (numbers ++ reads.rest) =
     reads.at ∙ ap (λ l. l ++ reads.rest) parts ∙ append_assoc (wire q.name) numbers reads.rest in
     let one = front_one name q.name (drop behind m) (numbers ++ reads.rest) is reads.name (sym at ∙ there) in
     omega (arith, ap length one.1, length-drop behind m, length-append numbers reads.rest)
+
+-- the octets in which two parsers stand
+same_octets : {old new : Parser} {count : ℕ} → GoesOn old new count → octets_of new ≡ octets_of old
+same_octets goes = ap (λ octets. octets.now) goes.octets
+
+-- a question that a parser read
+pub question_read : (old named between new : Parser) (q : Question) → IsName q.name → rest_of old ≡ wire q.name ++ rest_of named
+    → GoesOn old named (length (wire q.name)) → GoesOn named between 2 → GoesOn between new 2
+    → to_be_bytes w16 q.qtype ≡ take 2 (rest_of named) → to_be_bytes w16 q.qclass ≡ take 2 (rest_of between)
+    → place_of between + 2 ≤ length (octets_of between) → q.qtype < 2 ^ 16 → q.qclass < 2 ^ 16
+    → ReadsPlainQuestion (octets_of old) (place_of old) q (place_of new)
+question_read old named between new q is at first second third qtype qclass enough fits fits' =
+    let m : List ℕ = octets_of old in
+    let e : octets_of named ≡ m = same_octets first in
+    let e' : octets_of between ≡ m = same_octets second ∙ e in
+    let next : place_of between ≡ place_of named + 2 = second.place in
+    let type_at : to_be_bytes w16 q.qtype ≡ take 2 (drop (place_of named) m) = qtype ∙ ap (λ l. take 2 (drop (place_of named) l)) e in
+    let class_at : to_be_bytes w16 q.qclass ≡ take 2 (drop (place_of named + 2) m) =
+    qclass ∙ ap (λ l. take 2 (drop (place_of between) l)) e' ∙ ap (λ p. take 2 (drop p m)) next in
+    let P : ℕ → Type 0 = λ end. ReadsPlainQuestion m (place_of old) q end in
+    subst P (omega (arith, third.place, next))
+    (question_front m (place_of old) (place_of named) q is (at ∙ ap (λ l. wire q.name ++ drop (place_of named) l) e) first.place
+    (omega (arith, enough, next, ap length e')) type_at class_at fits fits')
+
+-- no question stands where the octets end early
+pub no_question_read : (old named : Parser) (name : List (List ℕ)) → IsName name → rest_of old ≡ wire name ++ rest_of named
+    → GoesOn old named (length (wire name)) → length (octets_of named) < place_of named + 4
+    → (q : Question) (next : ℕ) → ReadsPlainQuestion (octets_of old) (place_of old) q next → ⊥
+no_question_read old named name is at goes short =
+    let e : octets_of named ≡ octets_of old = same_octets goes in
+    no_question (octets_of old) (place_of old) (place_of named) name is (at ∙ ap (λ l. wire name ++ drop (place_of named) l) e)
+    (omega (arith, short, ap length e))
