@@ -25,7 +25,7 @@ impl Copy for Parser<'_> {}
 
 impl<'a> Parser<'a> {
     ghost use Rattle.dns_octets.specs.Parser.{GoesOn, octets_of, place_of, rest_of};
-    ghost use Rattle.std.specs.Int.{from_be_bytes, w16, w32};
+    ghost use Rattle.std.specs.Int.{from_be_bytes, to_be_bytes, w16, w32};
 
     /// A parser in front of the octets.
     pub fn from_ref(octets: &'a [u8]) -> Self
@@ -174,6 +174,7 @@ impl<'a> Parser<'a> {
     /// Reads a number of two octets, the high one first. Refused where fewer are left.
     pub fn parse_u16_be(&mut self) -> Result<u16, ShortInput>
         ensures ok { IfOk result (λ number. number ≡ from_be_bytes w16 (take 2 (rest_of self.old))) }
+        ensures back { IfOk result (λ number. to_be_bytes w16 number ≡ take 2 (rest_of self.old)) }
         ensures place { OnOk result (GoesOn self.old self.new 2) }
         ensures enough { IsOk result ↔ (place_of self.old + 2 ≤ length (octets_of self.old)) }
         ensures err { OnErr result (self.new ≡ self.old) }
@@ -185,6 +186,7 @@ impl<'a> Parser<'a> {
     /// Reads a number of four octets, the high one first. Refused where fewer are left.
     pub fn parse_u32_be(&mut self) -> Result<u32, ShortInput>
         ensures ok { IfOk result (λ number. number ≡ from_be_bytes w32 (take 4 (rest_of self.old))) }
+        ensures back { IfOk result (λ number. to_be_bytes w32 number ≡ take 4 (rest_of self.old)) }
         ensures place { OnOk result (GoesOn self.old self.new 4) }
         ensures enough { IsOk result ↔ (place_of self.old + 4 ≤ length (octets_of self.old)) }
         ensures err { OnErr result (self.new ≡ self.old) }

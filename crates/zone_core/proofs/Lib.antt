@@ -1,4 +1,6 @@
 pub mod Splits
+pub mod Begun
+pub mod PlainFronts
 pub mod Cuttings
 pub mod Greedy
 pub mod Tried

@@ -4,6 +4,7 @@ use Rattle.std.specs.List.{AllByRecursion, push}
 use Rattle.dns_octets.specs.declared.parser.Parser.{Parser}
 use Rattle.dns_octets.specs.Parser.{octets_of, place_of}
 use Rattle.dns_label.specs.Name.{IsName, wire, low}
+use Rattle.dns_message.specs.Question.{Question}
 use Rattle.zone_core.specs.Record as spec
 use Rattle.zone_core.specs.Query.{AxfrQuery}
 use Rattle.zone_core.specs.Frames.{frame, frames, IsFramable, IsPartial}
@@ -19,6 +20,7 @@ use Rattle.zone_core.specs.declared.receive.record.RecordError.{RecordError}
 use Rattle.zone_core.specs.declared.receive.record.RecordError.TheVariants as record_error
 use Rattle.zone_core.specs.declared.receive.rules.Placing.{Placing}
 use Rattle.zone_core.specs.declared.receive.rules.Placing.TheVariants as placing
+use Rattle.zone_core.specs.declared.receive.question.PlainQuestion.{PlainQuestion}
 use Rattle.zone_core.specs.declared.receive.soa.SoaData.{SoaData}
 use Rattle.zone_core.specs.declared.receive.intake.Intake.{Intake}
 
@@ -31,6 +33,10 @@ pub record IsSoaOf (octets : List ℕ) (mname rname : List (List ℕ)) (numbers 
 
 abbrev pub IsSoaData : List ℕ → SoaData → Type 0
 IsSoaData octets soa = IsSoaOf octets soa.mname soa.rname soa.numbers.now
+
+-- the question as the standard has it
+abbrev pub question_in : PlainQuestion → Question
+question_in q = record { name = q.name; qtype = q.qtype; qclass = q.qclass }
 
 -- what a refused record says of the place. Want of memory says nothing.
 abbrev pub OnMalformed : RecordError → Type 0 → Type 0
@@ -99,13 +105,19 @@ pub record IsEnded (intake : Intake) (query : AxfrQuery) : Type 0 where
   pub transfer : IsTransferIn WrittenOut query intake.octets.items (records_of query.class intake.records.items)
   pub known : AllByRecursion (IsRecordOf query.class) (records_of query.class intake.records.items)
 
--- A whole message stands behind the place that is judged, and ends there.
-pub record HasFrame (intake : Intake) (end : ℕ) : Type 0 where
+-- The stream begins with a whole frame, of so many octets.
+pub record BeginsWithFrame (stream : List ℕ) (len : ℕ) : Type 0 where
   pub message : List ℕ
   pub behind : List ℕ
   pub fits : IsFramable message
-  pub at : drop intake.judged intake.octets.items ≡ frame message ++ behind
-  pub ends : end ≡ intake.judged + length (frame message)
+  pub whole : stream ≡ frame message ++ behind
+  pub long : len ≡ length message + 2
+
+-- A whole frame stands behind the place that is judged, and ends there.
+pub record HasFrame (intake : Intake) (end : ℕ) : Type 0 where
+  pub len : ℕ
+  pub framed : BeginsWithFrame (drop intake.judged intake.octets.items) len
+  pub ends : end ≡ intake.judged + len
 
 -- the message that ends there ends the transfer
 pub record EndsTransfer (intake : Intake) (query : AxfrQuery) (end : ℕ) : Type 0 where

@@ -3,6 +3,7 @@
 mod error;
 mod intake;
 mod message;
+mod question;
 mod receiver;
 mod record;
 mod rules;

@@ -2,8 +2,10 @@
 ghost use Rattle.std.specs.Prelude.{◌≡◌, ◌++◌, ◌≤◌, ◌<◌, [], ℕ, length, take, drop, IfOk, IfErr, OnOk, IfSome, IfNone, MatchOption};
 ghost use Rattle.zone_core.specs.Asked.{asked_of};
 ghost use Rattle.zone_core.specs.Frames.{IsPartial};
+ghost use Rattle.zone_core.specs.Intake.{BeginsWithFrame};
 ghost use Rattle.zone_core.specs.Receiving.{IsStreamFault};
 
+use crate::header::number_at;
 use crate::query::OwnedQuery;
 use crate::receive::error::ReceiveError;
 use crate::receive::message::judge_message;
@@ -79,15 +81,8 @@ impl Intake {
         requires { self.now.judged ≤ length self.now.octets.items }
         ensures { MatchOption result (IsPartial (drop self.now.judged self.now.octets.items)) (HasFrame self.now) }
     {
-        let rest = &self.octets.as_slice()[self.judged..];
-        let [high, low, message @ ..] = rest else {
-            return None;
-        };
-        let len = usize::from(u16::from_be_bytes([*high, *low]));
-        if message.len() < len {
-            return None;
-        }
-        Some(self.judged + LENGTH_OCTETS + len)
+        let len = frame_len(&self.octets.as_slice()[self.judged..])?;
+        Some(self.judged + len)
     }
 
     /// Judges the message that ends there, and takes its records. True where it ends the transfer.
@@ -111,4 +106,18 @@ impl Intake {
         self.judged = end;
         Ok(ends)
     }
+}
+
+/// How many octets the first frame of a stream has, if it is whole (RFC 1035 4.2.2).
+fn frame_len(stream: &[u8]) -> Option<usize>
+    ensures { MatchOption result (IsPartial stream.now) (BeginsWithFrame stream.now) }
+{
+    if stream.len() < LENGTH_OCTETS {
+        return None;
+    }
+    let len = usize::from(number_at(stream, 0));
+    if stream.len() - LENGTH_OCTETS < len {
+        return None;
+    }
+    Some(LENGTH_OCTETS + len)
 }

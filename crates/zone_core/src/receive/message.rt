@@ -14,10 +14,11 @@ ghost use Rattle.zone_core.specs.Intake.{IsFaultOr, StandsAt, TakesMessage, Take
 use crate::header::number_at;
 use crate::query::OwnedQuery;
 use crate::receive::error::ReceiveError;
+use crate::receive::question::PlainQuestion;
 use crate::receive::record::{RecordError, parse_record};
 use crate::receive::rules::{Placing, place_record};
 use crate::record::Record;
-use dns_name::{Class, Name, Parser, Rtype};
+use dns_name::Parser;
 use std::alloc::{AllocError, Global};
 
 /// Judges a message behind others with these records, and adds its own to them. True where it has the last SOA, which is
@@ -103,10 +104,8 @@ fn behind_question(query: &OwnedQuery, is_first: bool, message: &[u8]) -> Option
     }
     let mut parser = Parser::from_ref(message);
     parser.seek(12).ok()?;
-    let name = Name::parse(&mut parser).ok()?;
-    let qtype = Rtype::from_int(parser.parse_u16_be().ok()?);
-    let qclass = Class::from_int(parser.parse_u16_be().ok()?);
-    if qtype == Rtype::AXFR && qclass == query.class && name == query.name.for_ref() {
+    let question = PlainQuestion::parse(&mut parser).ok()?;
+    if question.is_of(query) {
         Some(parser.pos())
     } else {
         None
