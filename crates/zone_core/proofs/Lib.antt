@@ -29,3 +29,4 @@ pub mod Placing
 pub mod Streams
 pub mod SendFaults
 pub mod SoaOctets
+pub mod ToldEqual
