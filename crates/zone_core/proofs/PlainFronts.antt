@@ -1,5 +1,5 @@
 -- Numbers and questions that stand written out at a place.
-use Rattle.std.proofs.Common.{◌≡◌, ℕ, ◌+◌, ◌<◌, ◌≤◌, ◌^◌, List, [], ◌∷◌, ◌++◌, length, take, drop, refl, sym, ap, ◌∙◌, subst, arith, append_assoc, length-append, length-drop}
+use Rattle.std.proofs.Common.{◌≡◌, ℕ, Bool, inl, inr, ◌+◌, ◌<◌, ◌≤◌, ◌^◌, List, [], ◌∷◌, ◌++◌, length, take, drop, refl, sym, ap, ◌∙◌, subst, arith, append_assoc, length-append, length-drop}
 use Rattle.std.specs.Int.{to_be_bytes, w16}
 use Rattle.std.proofs.lemmas.List.{take-append-drop, length-take-le}
 use Rattle.dns_octets.specs.declared.parser.Parser.{Parser}
@@ -7,6 +7,10 @@ use Rattle.dns_octets.specs.Parser.{GoesOn, octets_of, place_of, rest_of}
 use Rattle.dns_label.specs.Name.{IsName, wire}
 use Rattle.dns_label.proofs.Spelling.{drop_behind}
 use Rattle.dns_message.specs.Question.{Question, ReadsPlainQuestion, question_octets}
+use Rattle.dns_rdata.proofs.Fronts.{same_fronts, same_number16}
+use Rattle.dns_message.specs.Header.{question_count}
+use Rattle.zone_core.specs.Query.{AxfrQuery}
+use Rattle.zone_core.specs.Transfer.{WrittenOut, AsksAgain, HasAnswerHeader, IsQuestionOf}
 use Rattle.zone_core.proofs.SoaOctets.{front_one}
 
 -- a number of two octets, and what stands behind it
@@ -18,6 +22,11 @@ number16_front m place n within is =
     let whole : take 2 there ++ drop 2 there ≡ there = take-append-drop 2 there in
     let behind : drop (place + 2) m ≡ drop 2 there = drop_behind m place (place + 2) (take 2 there) (drop 2 there) (sym whole) (omega (arith, long)) in
     sym whole ∙ ap (λ l. l ++ drop 2 there) (sym is) ∙ ap (λ l. to_be_bytes w16 n ++ l) (sym behind)
+
+-- the parts of a question, from the left
+question_parts : (q : Question) (rest : List ℕ) → question_octets q ++ rest
+    ≡ wire q.name ++ (to_be_bytes w16 q.qtype ++ (to_be_bytes w16 q.qclass ++ rest))
+question_parts q rest = simp append_assoc
 
 -- a question that is written out
 pub question_front : (m : List ℕ) (place behind : ℕ) (q : Question) → IsName q.name → drop place m ≡ wire q.name ++ drop behind m
@@ -35,8 +44,8 @@ question_front m place behind q is at there within qtype qclass fits fits' =
       qclass = fits';
       rest = rest;
       at = at ∙ ap (λ l. wire q.name ++ l) (first ∙ ap (λ l. to_be_bytes w16 q.qtype ++ l) second)
-      ∙ ap (λ l. wire q.name ++ l) (sym (append_assoc (to_be_bytes w16 q.qtype) (to_be_bytes w16 q.qclass) rest))
-      ∙ sym (append_assoc (wire q.name) (to_be_bytes w16 q.qtype ++ to_be_bytes w16 q.qclass) rest) ∙ ap (λ l. l ++ rest) (sym parts);
+          ∙ ap (λ l. wire q.name ++ l) (sym (append_assoc (to_be_bytes w16 q.qtype) (to_be_bytes w16 q.qclass) rest))
+          ∙ sym (append_assoc (wire q.name) (to_be_bytes w16 q.qtype ++ to_be_bytes w16 q.qclass) rest) ∙ ap (λ l. l ++ rest) (sym parts);
       ends = omega (arith, ap length parts, length-append (wire q.name) (to_be_bytes w16 q.qtype ++ to_be_bytes w16 q.qclass));
     }
 
@@ -82,3 +91,41 @@ no_question_read old named name is at goes short =
     let e : octets_of named ≡ octets_of old = same_octets goes in
     no_question (octets_of old) (place_of old) (place_of named) name is (at ∙ ap (λ l. wire name ++ drop (place_of named) l) e)
     (omega (arith, short, ap length e))
+
+-- a question that is written out is one
+pub plain_question_one : {message : List ℕ} {place next next' : ℕ} {q other : Question} → ReadsPlainQuestion message place q next
+    → ReadsPlainQuestion message place other next' → q ≡ other
+plain_question_one {message} {place} {next} {next'} {q} {other} reads reads' =
+    let numbers : List ℕ = to_be_bytes w16 q.qtype ++ (to_be_bytes w16 q.qclass ++ reads.rest) in
+    let numbers' : List ℕ = to_be_bytes w16 other.qtype ++ (to_be_bytes w16 other.qclass ++ reads'.rest) in
+    let there : drop place message ≡ wire q.name ++ numbers = reads.at ∙ question_parts q reads.rest in
+    let there' : drop place message ≡ wire other.name ++ numbers' = reads'.at ∙ question_parts other reads'.rest in
+    let named = front_one q.name other.name numbers numbers' reads.name reads'.name (sym there ∙ there') in
+    let typed = same_fronts (to_be_bytes w16 q.qtype) (to_be_bytes w16 other.qtype) _ _ refl named.1 in
+    let classed = same_fronts (to_be_bytes w16 q.qclass) (to_be_bytes w16 other.qclass) _ _ refl typed.1 in
+    let qtype : q.qtype ≡ other.qtype = same_number16 q.qtype other.qtype reads.qtype reads'.qtype typed.0 in
+    let qclass : q.qclass ≡ other.qclass = same_number16 q.qclass other.qclass reads.qclass reads'.qclass classed.0 in
+    λ i. record { name = named.0 i; qtype = qtype i; qclass = qclass i }
+
+-- the question of a message
+pub asks_once : (query : AxfrQuery) (first : Bool) (message : List ℕ) (place : ℕ) (q : Question) → HasAnswerHeader query message
+    → (question_count message ≡ 0 → ⊥) → ReadsPlainQuestion message 12 q place → IsQuestionOf query q
+    → AsksAgain WrittenOut query first message place
+asks_once query first message place q header some reads is = inr (omega (arith, header.counts.questions, some), q, reads, is)
+
+pub asks_not : (query : AxfrQuery) (first : Bool) (message : List ℕ) → (question_count message ≡ 0 → ⊥)
+    → ((q : Question) (next : ℕ) → ReadsPlainQuestion message 12 q next → IsQuestionOf query q → ⊥)
+    → (place : ℕ) → AsksAgain WrittenOut query first message place → ⊥
+asks_not query first message some none place (inl bare) = some bare.1
+asks_not query first message some none place (inr asks) = none asks.1 place asks.2 asks.3
+
+pub asks_other : (query : AxfrQuery) (first : Bool) (message : List ℕ) (end : ℕ) (q : Question) → (question_count message ≡ 0 → ⊥)
+    → ReadsPlainQuestion message 12 q end → (IsQuestionOf query q → ⊥) → (place : ℕ) → AsksAgain WrittenOut query first message place → ⊥
+asks_other query first message end q some reads not_asked =
+    asks_not query first message some (λ other next reads' is. not_asked (subst (IsQuestionOf query) (sym (plain_question_one reads reads')) is))
+
+-- and it ends within the message
+pub question_within : {message : List ℕ} {place next : ℕ} {q : Question} → ReadsPlainQuestion message place q next → place ≤ length message
+    → next ≤ length message
+question_within {message} {place} {next} {q} reads within =
+    omega (arith, reads.ends, ap length reads.at, length-append (question_octets q) reads.rest, length-drop place message)

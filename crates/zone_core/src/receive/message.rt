@@ -1,5 +1,5 @@
 //! The messages of a transfer, one by one.
-ghost use Rattle.std.specs.Prelude.{◌≡◌, ◌≢◌, ◌+◌, ◌↔◌, ◌⊎◌, ◌≤◌, ℕ, Bool, List, length, IsTrue, IfOk, IfErr, OnOk, IfSome, IfNone};
+ghost use Rattle.std.specs.Prelude.{◌≡◌, ◌≢◌, ◌+◌, ◌++◌, ◌∷◌, [], ◌↔◌, ◌⊎◌, ◌≤◌, ℕ, Bool, List, length, IsTrue, IfOk, IfErr, OnOk, IfSome, IfNone};
 ghost use Rattle.std.specs.List.{AllByRecursion};
 ghost use Rattle.dns_octets.specs.Parser.{octets_of, place_of};
 ghost use Rattle.dns_message.specs.Header.{answer_count};
@@ -103,8 +103,12 @@ fn behind_question(query: &OwnedQuery, is_first: bool, message: &[u8]) -> Option
         return if is_first { None } else { Some(12) };
     }
     let mut parser = Parser::from_ref(message);
-    parser.seek(12).ok()?;
-    let question = PlainQuestion::parse(&mut parser).ok()?;
+    let Ok(()) = parser.seek(12) else {
+        return None;
+    };
+    let Ok(question) = PlainQuestion::parse(&mut parser) else {
+        return None;
+    };
     if question.is_of(query) {
         Some(parser.pos())
     } else {
@@ -140,8 +144,18 @@ fn take_record(
     match place_record(query, records.as_slice(), closed, &record, class, number)? {
         Placing::Last => Ok(true),
         Placing::Inner => {
-            records.push(record).map_err(AllocError::from)?;
+            hold(records, record)?;
             Ok(false)
         }
+    }
+}
+
+/// Adds a record to those that are held.
+fn hold(records: &mut Vec<Record>, next: Record) -> Result<(), AllocError>
+    ensures { OnOk result (records.new.items ≡ records.old.items ++ next ∷ []) }
+{
+    match records.push(next) {
+        Ok(()) => Ok(()),
+        Err(_) => Err(AllocError),
     }
 }
