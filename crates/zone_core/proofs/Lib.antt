@@ -1,6 +1,7 @@
 pub mod Splits
 pub mod Begun
 pub mod PlainFronts
+pub mod ReceivedZones
 pub mod TakenRecords
 pub mod Cuttings
 pub mod Greedy

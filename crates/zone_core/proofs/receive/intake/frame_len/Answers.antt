@@ -4,4 +4,5 @@ use Rattle.zone_core.proofs.receive.intake.frame_len.Goals as goal
 
 pub returns : goal.returns
 returns c =
-    begins_with_frame c.args.stream.now c.from-len.result (omega arith) c.type_inv.stream (c.from-len.ensures ∙ c.number_at.ensures) (omega arith) (omega arith)
+    begins_with_frame c.args.stream.now c.from-len.result (omega arith) (λ i. let fits = c.type_inv.stream i in omega (arith, fits))
+    (c.from-len.ensures ∙ c.number_at.ensures) (omega arith) (omega arith)
