@@ -21,6 +21,7 @@ pub mod LastRecord
 pub mod SentTransfers
 pub mod TriedTransfer
 pub mod OneTransfer
+pub mod WrittenForms
 pub mod Questions
 pub mod Patched
 pub mod Placing

@@ -20,7 +20,7 @@ use Rattle.zone_core.specs.Transfer.SpellsRecords.{none, one}
 use Rattle.zone_core.proofs.Plain.{size_is}
 
 -- a record takes at least eleven octets
-least_wire : (name : List (List ℕ)) → 1 ≤ length (wire name)
+pub least_wire : (name : List (List ℕ)) → 1 ≤ length (wire name)
 least_wire [] = omega arith
 least_wire (label ∷ name) = omega arith
 
@@ -28,7 +28,7 @@ six_lengths : (a b c d e f : List ℕ)
     → length (a ++ b ++ c ++ d ++ e ++ f) ≡ length a + length b + length c + length d + length e + length f
 six_lengths a b c d e f = simp length-append
 
-least_record : (r : Record) → 11 ≤ length (record_octets r)
+pub least_record : (r : Record) → 11 ≤ length (record_octets r)
 least_record r =
     omega (
       arith,
