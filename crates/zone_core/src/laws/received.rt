@@ -1,9 +1,12 @@
 //! What holds of a stream that is received.
 
-ghost use Rattle.std.specs.Prelude.{◌≡◌, ℕ, Bool, List};
+ghost use Rattle.std.specs.Prelude.{◌≡◌, ◌<◌, ◌^◌, ℕ, Bool, List};
+ghost use Rattle.std.specs.List.{AllByRecursion};
 ghost use Rattle.zone_core.specs.Record.{Record};
 ghost use Rattle.zone_core.specs.Query.{AxfrQuery};
-ghost use Rattle.zone_core.specs.Transfer.{Standard, WrittenOut, IsAnswer, IsTransfer, IsTransferIn};
+ghost use Rattle.zone_core.specs.Records.{AreRecordsOf, IsQueryFor};
+ghost use Rattle.zone_core.specs.Sent.{IsSent};
+ghost use Rattle.zone_core.specs.Transfer.{Standard, WrittenOut, IsTypeToday, IsAnswer, IsTransfer, IsTransferIn};
 
 /// A stream is a transfer of at most one list of records to a query, and each of its messages an answer with at most one.
 pub fn transfers_are_one()
@@ -22,4 +25,22 @@ pub fn written_out_is_standard()
         IsTransferIn WrittenOut query stream records → IsTransfer query stream records }
     ensures one { (query : AxfrQuery) (stream : List ℕ) (records others : List Record) →
         IsTransferIn WrittenOut query stream records → IsTransferIn WrittenOut query stream others → records ≡ others }
+{}
+
+/// What is sent for a zone whose records are of the types that are received today, SOA and A, is a transfer that is
+/// received, and of the very same records.
+pub fn sent_is_received()
+    ensures { (records : List Record) (class : ℕ) (query : AxfrQuery) (max : ℕ) (stream : List ℕ) →
+        max < 2 ^ 16 → AreRecordsOf class records → IsQueryFor records class query →
+        AllByRecursion (λ r. IsTypeToday r.rtype) records →
+        IsSent records query max stream → IsTransferIn WrittenOut query stream records }
+{}
+
+/// What is sent for a zone and received as a transfer is received as the zone's records, and what is sent for these is
+/// the very same stream again: the same messages, the SOA at the end too.
+pub fn received_is_sent_again()
+    ensures { (records others : List Record) (class : ℕ) (query : AxfrQuery) (max : ℕ) (stream : List ℕ) →
+        max < 2 ^ 16 → AreRecordsOf class records → IsQueryFor records class query →
+        IsSent records query max stream → IsTransferIn WrittenOut query stream others →
+        (records ≡ others) × IsSent others query max stream }
 {}
