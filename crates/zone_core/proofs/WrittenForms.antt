@@ -1,5 +1,5 @@
 -- What is written out is as the standard has it.
-use Rattle.std.proofs.Common.{◌≡◌, ℕ, ◌≤◌, Bool, true, false, List, [], ◌∷◌, ◌++◌, length, drop, refl, sym, ap, subst, arith, length-append, length-drop, inl, inr}
+use Rattle.std.proofs.Common.{◌≡◌, ℕ, ◌≤◌, Bool, true, false, List, [], ◌∷◌, ◌++◌, length, drop, sym, ap, subst, arith, length-append, length-drop, inl, inr}
 use Rattle.std.specs.Int.{to_be_bytes, w16}
 use Rattle.dns_label.specs.Name.{wire}
 use Rattle.dns_message.specs.Question.{Question, ReadsQuestion, ReadsPlainQuestion, question_octets}

@@ -1,12 +1,14 @@
 //! What holds of a stream that is received.
 
-ghost use Rattle.std.specs.Prelude.{◌≡◌, ◌<◌, ◌^◌, ℕ, Bool, List};
+ghost use Rattle.std.specs.Prelude.{◌≡◌, ◌<◌, ◌^◌, ◌++◌, ℕ, Bool, List};
 ghost use Rattle.std.specs.List.{AllByRecursion};
 ghost use Rattle.zone_core.specs.Record.{Record};
 ghost use Rattle.zone_core.specs.Query.{AxfrQuery};
 ghost use Rattle.zone_core.specs.Records.{AreRecordsOf, IsQueryFor};
+ghost use Rattle.zone_core.specs.Receiving.{IsBegun, HasBadMessage};
 ghost use Rattle.zone_core.specs.Sent.{IsSent};
 ghost use Rattle.zone_core.specs.Transfer.{Standard, WrittenOut, IsTypeToday, IsAnswer, IsTransfer, IsTransferIn};
+ghost use Rattle.zone_core.specs.declared.receive.error.ReceiveError.{ReceiveError};
 
 /// A stream is a transfer of at most one list of records to a query, and each of its messages an answer with at most one.
 pub fn transfers_are_one()
@@ -43,4 +45,20 @@ pub fn received_is_sent_again()
         max < 2 ^ 16 → AreRecordsOf class records → IsQueryFor records class query →
         IsSent records query max stream → IsTransferIn WrittenOut query stream others →
         (records ≡ others) × IsSent others query max stream }
+{}
+
+/// Of a stream at most one of three things holds: a beginning of it is a transfer, or it is at fault, or it is begun. It
+/// has one beginning that is a transfer, and one fault.
+pub fn at_most_one_of_three()
+    ensures transfer_or_fault { (query : AxfrQuery) (stream front rest : List ℕ) (records : List Record) (error : ReceiveError) →
+        stream ≡ front ++ rest → IsTransferIn WrittenOut query front records → HasBadMessage query stream error → ⊥ }
+    ensures transfer_or_begun { (query : AxfrQuery) (stream front rest : List ℕ) (records : List Record) →
+        stream ≡ front ++ rest → IsTransferIn WrittenOut query front records → IsBegun query stream → ⊥ }
+    ensures begun_or_fault { (query : AxfrQuery) (stream : List ℕ) (error : ReceiveError) →
+        IsBegun query stream → HasBadMessage query stream error → ⊥ }
+    ensures one_beginning { (query : AxfrQuery) (stream front rest other other_rest : List ℕ) (records others : List Record) →
+        stream ≡ front ++ rest → stream ≡ other ++ other_rest →
+        IsTransferIn WrittenOut query front records → IsTransferIn WrittenOut query other others → front ≡ other }
+    ensures one_fault { (query : AxfrQuery) (stream : List ℕ) (e d : ReceiveError) →
+        HasBadMessage query stream e → HasBadMessage query stream d → e ≡ d }
 {}
