@@ -14,7 +14,7 @@ same_message m n more rest small small' e =
     same_fronts m n more rest (same_number16 (length m) (length n) small small' lengths) cc
 
 -- a whole frame is no part of one
-whole_is_not_partial : (rest m more : List ℕ) → IsPartial rest → IsFramable m → rest ≡ frame m ++ more → ⊥
+pub whole_is_not_partial : (rest m more : List ℕ) → IsPartial rest → IsFramable m → rest ≡ frame m ++ more → ⊥
 whole_is_not_partial rest m more partial small e =
     let P : List ℕ → Type 0 = λ octets. IsPartial octets in
     let short : length (m ++ more) < from_be_bytes w16 (to_be_bytes w16 (length m)) = subst P e partial in

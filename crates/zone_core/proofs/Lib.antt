@@ -25,6 +25,14 @@ pub mod LastRecord
 pub mod SentTransfers
 pub mod TriedTransfer
 pub mod OneTransfer
+pub mod WrittenForms
+pub mod SpelledRecords
+pub mod FrontFrames
+pub mod AnswerGroups
+pub mod LawfulRecords
+pub mod MessageFaults
+pub mod OneMessageFault
+pub mod OneOfThree
 pub mod Questions
 pub mod Patched
 pub mod Placing

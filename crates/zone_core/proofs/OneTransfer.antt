@@ -8,7 +8,7 @@ use Rattle.dns_message.proofs.ReadRecords.{record_one}
 use Rattle.zone_core.specs.Record.{Record}
 use Rattle.zone_core.specs.Query.{AxfrQuery}
 use Rattle.zone_core.specs.Cutting.{joined}
-use Rattle.zone_core.specs.Transfer.{Standard, HasRecord, AsksAgain, SpellsRecords, IsAnswer, AreAnswers, IsTransfer}
+use Rattle.zone_core.specs.Transfer.{Form, Standard, HasRecord, AsksAgain, SpellsRecords, IsAnswer, AreAnswers, IsTransfer, IsTransferIn}
 use Rattle.zone_core.specs.Transfer.SpellsRecords.{none, one}
 use Rattle.zone_core.proofs.Framing.{whole_frames_one}
 
@@ -47,7 +47,7 @@ question_one : {message : List ℕ} {place next next' : ℕ} {q other : Question
 question_one reads reads' =
     let one = reads_one reads.name reads'.name in omega (arith, one.1, reads.ends, reads'.ends)
 
-asked_one : (query : AxfrQuery) (first : Bool) (message : List ℕ) (place place' : ℕ) → AsksAgain Standard query first message place
+pub asked_one : (query : AxfrQuery) (first : Bool) (message : List ℕ) (place place' : ℕ) → AsksAgain Standard query first message place
     → AsksAgain Standard query first message place' → place ≡ place'
 asked_one query first message place place' (inl bare) (inl bare') = bare.2 ∙ sym bare'.2
 asked_one query first message place place' (inl bare) (inr asks) = absurd (omega (arith, bare.1, asks.0))
@@ -63,7 +63,7 @@ answer_one query first message records others answer answer' =
     records_one message records others answer.place (length message) (length message) (sym answer.counted ∙ answer'.counted)
     answer.spelled (subst P (sym places) answer'.spelled)
 
-answers_one : (query : AxfrQuery) (first : Bool) (messages : List (List ℕ)) (groups others : List (List Record))
+pub answers_one : (query : AxfrQuery) (first : Bool) (messages : List (List ℕ)) (groups others : List (List Record))
     → AreAnswers Standard query first messages groups → AreAnswers Standard query first messages others → groups ≡ others
 answers_one query first [] [] [] answers answers' = refl
 answers_one query first [] [] (other ∷ others) answers answers' = absurd answers'
@@ -76,8 +76,8 @@ answers_one query first (message ∷ messages) (group ∷ groups) (other ∷ oth
     cc (same, rest)
 
 -- the groups of a transfer, joined
-transferred_and_last : (query : AxfrQuery) (stream : List ℕ) (records : List Record) (transfer : IsTransfer query stream records)
-    → joined transfer.groups ≡ records ++ transfer.last ∷ []
+pub transferred_and_last : {form : Form} (query : AxfrQuery) (stream : List ℕ) (records : List Record)
+    (transfer : IsTransferIn form query stream records) → joined transfer.groups ≡ records ++ transfer.last ∷ []
 transferred_and_last query stream records transfer =
     let last : List Record = transfer.last_group ++ transfer.last ∷ [] in
     ap joined transfer.splits ∙ flat_map-append (λ group. group) transfer.front (last ∷ [])

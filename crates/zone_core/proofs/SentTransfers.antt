@@ -9,9 +9,11 @@ use Rattle.zone_core.specs.Zone.{IsUnder, IsBehindSoa, soa_type}
 use Rattle.zone_core.specs.Query.{AxfrQuery}
 use Rattle.zone_core.specs.Records.{IsRecordOf, AreRecordsOf, IsQueryFor}
 use Rattle.zone_core.specs.Sent.{AsksFor, IsSent, message, size}
-use Rattle.zone_core.specs.Transfer.{IsInZoneOf, SameSoa, IsTransfer}
+use Rattle.zone_core.specs.Transfer.{Form, Standard, WrittenOut, IsTypeToday, IsInZoneOf, SameSoa, IsTransfer, IsTransferIn}
 use Rattle.zone_core.proofs.LastRecord.{all_append, all_joined, ends_with}
-use Rattle.zone_core.proofs.WrittenAnswers.{answers-written, framable-written}
+use Rattle.zone_core.proofs.WrittenAnswers.{Allows, all_allowed, answers-written, framable-written}
+use Rattle.zone_core.proofs.OneTransfer.{transfer_one}
+use Rattle.zone_core.proofs.WrittenForms.{written_transfer}
 
 -- an SOA is equal to itself
 same_soa : (soa : Record) → soa.rtype ≡ soa_type → IsData soa.rtype soa.rdata → SameSoa soa soa
@@ -53,15 +55,19 @@ all_small : (query : AxfrQuery) (max : ℕ) (groups : List (List Record)) → ma
 all_small query max [] fits small = tt
 all_small query max (group ∷ groups) fits small = (omega (arith, small.0), all_small query max groups fits small.1)
 
--- What is sent is a transfer of the very same records.
-pub sent_is_transfer : (records : List Record) (class : ℕ) (query : AxfrQuery) (max : ℕ) (stream : List ℕ) → max < 2 ^ 16
-    → AreRecordsOf class records → IsQueryFor records class query → IsSent records query max stream → IsTransfer query stream records
-sent_is_transfer [] class query max stream fits are asks sent = absurd are.zone
-sent_is_transfer (soa ∷ others) class query max stream fits are asks sent =
+-- What is sent is a transfer in each form that has room for its records, and of the very same records.
+pub sent_in_form : (form : Form) (records : List Record) (class : ℕ) (query : AxfrQuery) (max : ℕ) (stream : List ℕ) → max < 2 ^ 16
+    → AreRecordsOf class records → IsQueryFor records class query → AllByRecursion (Allows form) records
+    → IsSent records query max stream → IsTransferIn form query stream records
+sent_in_form form [] class query max stream fits are asks allowed sent = absurd are.zone
+sent_in_form form (soa ∷ others) class query max stream fits are asks allowed sent =
     let cut = sent.cut.fits in
     let each = all_append (IsRecordOf class) (soa ∷ others) (soa ∷ []) are.each (are.each.0, tt) in
+    let each_allowed = all_append (Allows form) (soa ∷ others) (soa ∷ []) allowed (allowed.0, tt) in
     let P : List Record → Type 0 = λ records. AllByRecursion (IsRecordOf class) records in
+    let Q : List Record → Type 0 = λ records. AllByRecursion (Allows form) records in
     let grouped = all_joined (IsRecordOf class) sent.groups (subst P (sym cut.cut.joins) each) in
+    let grouped_allowed = all_joined (Allows form) sent.groups (subst Q (sym cut.cut.joins) each_allowed) in
     let small = all_small query max sent.groups fits cut.small in
     let ends = ends_with sent.groups (soa ∷ others) soa cut.cut.nonempty cut.cut.joins in
     let rest = behind_soa query class soa others asks.asks are.each.1 are.zone.1 in
@@ -75,7 +81,7 @@ sent_is_transfer (soa ∷ others) class query max stream fits are asks sent =
       each = framable-written query sent.groups small;
       whole = sent.framed;
       groups = sent.groups;
-      answers = answers-written query true class (soa ∷ others) sent.groups asks grouped small;
+      answers = answers-written form query true class (soa ∷ others) sent.groups asks grouped grouped_allowed small;
       last = soa;
       front = ends.front;
       last_group = ends.last_group;
@@ -84,3 +90,25 @@ sent_is_transfer (soa ∷ others) class query max stream fits are asks sent =
       transferred = (are.zone.0, sym asks.asks.name, (first, rest.0), rest.1);
       closed = (are.zone.0, same_soa soa are.zone.0 are.each.0.data_is);
     }
+
+-- What is sent is a transfer as the standard has it.
+pub sent_is_transfer : (records : List Record) (class : ℕ) (query : AxfrQuery) (max : ℕ) (stream : List ℕ) → max < 2 ^ 16
+    → AreRecordsOf class records → IsQueryFor records class query → IsSent records query max stream → IsTransfer query stream records
+sent_is_transfer records class query max stream fits are asks sent =
+    sent_in_form Standard records class query max stream fits are asks (all_allowed records) sent
+
+-- Where its records are of the types that are received today, it is a transfer that is received.
+pub sent_is_received : (records : List Record) (class : ℕ) (query : AxfrQuery) (max : ℕ) (stream : List ℕ) → max < 2 ^ 16
+    → AreRecordsOf class records → IsQueryFor records class query → AllByRecursion (λ r. IsTypeToday r.rtype) records
+    → IsSent records query max stream → IsTransferIn WrittenOut query stream records
+sent_is_received = sent_in_form WrittenOut
+
+-- What is sent and then received as a transfer of records is what is sent for these.
+pub received_is_sent_again : (records others : List Record) (class : ℕ) (query : AxfrQuery) (max : ℕ) (stream : List ℕ) → max < 2 ^ 16
+    → AreRecordsOf class records → IsQueryFor records class query → IsSent records query max stream
+    → IsTransferIn WrittenOut query stream others → (records ≡ others) × IsSent others query max stream
+received_is_sent_again records others class query max stream fits are asks sent received =
+    let same = transfer_one query stream records others (sent_is_transfer records class query max stream fits are asks sent)
+    (written_transfer query stream others received) in
+    let P : List Record → Type 0 = λ records. IsSent records query max stream in
+    (same, subst P same sent)

@@ -12,6 +12,9 @@ pub use cutting::{
     full_cut_is_one, parts_fit_where_size_grows, plain_full_cut_is_fewest, sum_of_sizes_grows,
 };
 pub use framing::two_splits_are_one;
-pub use received::transfers_are_one;
+pub use received::{
+    at_most_one_of_three, received_is_sent_again, sent_is_received, transfers_are_one,
+    written_out_is_standard,
+};
 pub use sent::sent_is_a_transfer;
 pub use text::{one_zone_fault, text_has_one_reading, zone_text_breaks_no_rule};
