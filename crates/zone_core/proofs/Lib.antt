@@ -1,6 +1,8 @@
 pub mod Splits
 pub mod Begun
 pub mod PlainFronts
+pub mod Receivers
+pub mod Intakes
 pub mod ReceivedZones
 pub mod TakenRecords
 pub mod Cuttings
