@@ -30,3 +30,5 @@ pub mod Streams
 pub mod SendFaults
 pub mod SoaOctets
 pub mod ToldEqual
+pub mod SoaRows
+pub mod TypedData
