@@ -32,3 +32,4 @@ pub mod SoaOctets
 pub mod ToldEqual
 pub mod SoaRows
 pub mod TypedData
+pub mod PlainRecords
