@@ -42,3 +42,6 @@ pub mod Streams
 pub mod SendFaults
 pub mod SoaOctets
 pub mod ToldEqual
+pub mod SoaRows
+pub mod TypedData
+pub mod PlainRecords

@@ -1,0 +1,205 @@
+use Rattle.std.proofs.Common.{◌≡◌, ℕ, List, ◌++◌, ◌+◌, ◌<◌, ◌≤◌, ◌^◌, ap, ◌∙◌, sym, length, arith, refl, subst}
+use Rattle.std.specs.Prelude.{take, drop}
+use Rattle.std.specs.Int.{to_be_bytes, w16, w32}
+use Rattle.dns_label.specs.Name.{wire}
+use Rattle.dns_octets.specs.Parser.{octets_of, place_of, rest_of}
+use Rattle.dns_rdata.specs.Fields.{IsData}
+use Rattle.dns_message.specs.Record.{ReadsPlainRecord}
+use Rattle.zone_core.specs.Record as spec
+use Rattle.zone_core.specs.Transfer.{IsTypeToday}
+use Rattle.zone_core.proofs.PlainRecords.{malformed_exit, taken_off, left_few, behind_owner, parts_taken, record_parts, no_room, same_parts, no_data, typed_parts, not_typed, taken_long, read_record}
+use Rattle.zone_core.proofs.receive.record.parse_record.Goals as goal
+
+pub returns-in_err-parse_u16_be-clause-err : goal.returns-in_err-parse_u16_be-clause-err
+returns-in_err-parse_u16_be-clause-err c =
+    let name = c.in_ok-owner.ensures.ok in
+    let few = left_few c.parse.new.parser 2 c.in_err-parse_u16_be.ensures.enough.1 in
+    malformed_exit c.from_residual-in_err-parse_u16_be.result
+    (no_room (octets_of c.args.parser.now) (place_of c.args.parser.now) c.in_ok-owner.owner (rest_of c.parse.new.parser) name.0 name.1
+    (omega (arith, few)))
+
+pub returns-in_err-parse_u16_be-2-clause-err : goal.returns-in_err-parse_u16_be-2-clause-err
+returns-in_err-parse_u16_be-2-clause-err c =
+    let name = c.in_ok-owner.ensures.ok in
+    let first = taken_off c.parse.new.parser c.parse_u16_be.new.self 2 (to_be_bytes w16 c.in_ok-parse_u16_be.field-0)
+    c.in_ok-parse_u16_be.ensures.place c.in_ok-parse_u16_be.ensures.back in
+    let few = left_few c.parse_u16_be.new.self 2 c.in_err-parse_u16_be-2.ensures.enough.1 in
+    malformed_exit c.from_residual-in_err-parse_u16_be-2.result
+    (no_room (octets_of c.args.parser.now) (place_of c.args.parser.now) c.in_ok-owner.owner (rest_of c.parse.new.parser) name.0 name.1
+    (omega (arith, few, ap length first)))
+
+pub returns-in_err-parse_u32_be-clause-err : goal.returns-in_err-parse_u32_be-clause-err
+returns-in_err-parse_u32_be-clause-err c =
+    let name = c.in_ok-owner.ensures.ok in
+    let first = taken_off c.parse.new.parser c.parse_u16_be.new.self 2 (to_be_bytes w16 c.in_ok-parse_u16_be.field-0)
+    c.in_ok-parse_u16_be.ensures.place c.in_ok-parse_u16_be.ensures.back in
+    let second = taken_off c.parse_u16_be.new.self c.parse_u16_be-2.new.self 2 (to_be_bytes w16 c.in_ok-parse_u16_be-2.field-0)
+    c.in_ok-parse_u16_be-2.ensures.place c.in_ok-parse_u16_be-2.ensures.back in
+    let few = left_few c.parse_u16_be-2.new.self 4 c.in_err-parse_u32_be.ensures.enough.1 in
+    malformed_exit c.from_residual-in_err-parse_u32_be.result
+    (no_room (octets_of c.args.parser.now) (place_of c.args.parser.now) c.in_ok-owner.owner (rest_of c.parse.new.parser) name.0 name.1
+    (omega (arith, few, ap length first, ap length second)))
+
+pub returns-in_err-len-clause-err : goal.returns-in_err-len-clause-err
+returns-in_err-len-clause-err c =
+    let name = c.in_ok-owner.ensures.ok in
+    let first = taken_off c.parse.new.parser c.parse_u16_be.new.self 2 (to_be_bytes w16 c.in_ok-parse_u16_be.field-0)
+    c.in_ok-parse_u16_be.ensures.place c.in_ok-parse_u16_be.ensures.back in
+    let second = taken_off c.parse_u16_be.new.self c.parse_u16_be-2.new.self 2 (to_be_bytes w16 c.in_ok-parse_u16_be-2.field-0)
+    c.in_ok-parse_u16_be-2.ensures.place c.in_ok-parse_u16_be-2.ensures.back in
+    let third = taken_off c.parse_u16_be-2.new.self c.parse_u32_be.new.self 4 (to_be_bytes w32 c.in_ok-parse_u32_be.field-0)
+    c.in_ok-parse_u32_be.ensures.place c.in_ok-parse_u32_be.ensures.back in
+    let few = left_few c.parse_u32_be.new.self 2 c.in_err-len.ensures.enough.1 in
+    malformed_exit c.from_residual-in_err-len.result
+    (no_room (octets_of c.args.parser.now) (place_of c.args.parser.now) c.in_ok-owner.owner (rest_of c.parse.new.parser) name.0 name.1
+    (omega (arith, few, ap length first, ap length second, ap length third)))
+
+pub returns-in_err-data-clause-err : goal.returns-in_err-data-clause-err
+returns-in_err-data-clause-err c =
+    let name = c.in_ok-owner.ensures.ok in
+    let first = taken_off c.parse.new.parser c.parse_u16_be.new.self 2 (to_be_bytes w16 c.in_ok-parse_u16_be.field-0)
+    c.in_ok-parse_u16_be.ensures.place c.in_ok-parse_u16_be.ensures.back in
+    let second = taken_off c.parse_u16_be.new.self c.parse_u16_be-2.new.self 2 (to_be_bytes w16 c.in_ok-parse_u16_be-2.field-0)
+    c.in_ok-parse_u16_be-2.ensures.place c.in_ok-parse_u16_be-2.ensures.back in
+    let third = taken_off c.parse_u16_be-2.new.self c.parse_u32_be.new.self 4 (to_be_bytes w32 c.in_ok-parse_u32_be.field-0)
+    c.in_ok-parse_u32_be.ensures.place c.in_ok-parse_u32_be.ensures.back in
+    let fourth = taken_off c.parse_u32_be.new.self c.parse_u16_be-3.new.self 2 (to_be_bytes w16 c.in_ok-len.len)
+    c.in_ok-len.ensures.place c.in_ok-len.ensures.back in
+    let whole = parts_taken (rest_of c.args.parser.now) (rest_of c.parse.new.parser) (rest_of c.parse_u16_be.new.self)
+    (rest_of c.parse_u16_be-2.new.self) (rest_of c.parse_u32_be.new.self) (rest_of c.parse_u16_be-3.new.self) c.in_ok-owner.owner
+    c.in_ok-parse_u16_be.field-0 c.in_ok-parse_u16_be-2.field-0 c.in_ok-parse_u32_be.field-0 c.in_ok-len.len name.1 first second third
+    fourth in
+    let small : c.in_ok-parse_u16_be.field-0 < 2 ^ 16 = omega arith in
+    let small' : c.in_ok-len.len < 2 ^ 16 = omega arith in
+    let parts = λ (r : spec.Record) (next : ℕ) (reads : ReadsPlainRecord (octets_of c.args.parser.now) (place_of c.args.parser.now) r next).
+    same_parts (octets_of c.args.parser.now) (place_of c.args.parser.now) c.in_ok-owner.owner c.in_ok-parse_u16_be.field-0
+    c.in_ok-parse_u16_be-2.field-0 c.in_ok-parse_u32_be.field-0 c.in_ok-len.len (rest_of c.parse_u16_be-3.new.self) name.0 small small' whole
+    r next reads in
+    let few = left_few c.parse_u16_be-3.new.self c.from.result c.in_err-data.ensures.enough.1 in
+    let len_is : c.from.result ≡ c.in_ok-len.len = c.from.ensures in
+    malformed_exit c.from_residual-in_err-data.result
+    (λ (r : spec.Record) (next : ℕ) has. no_data r c.in_ok-parse_u16_be.field-0 c.in_ok-len.len (rest_of c.parse_u16_be-3.new.self)
+    (parts r next has.0) (omega (arith, few, len_is)))
+
+pub returns-then-not-is_data-clause-err : goal.returns-then-not-is_data-clause-err
+returns-then-not-is_data-clause-err c =
+    let name = c.in_ok-owner.ensures.ok in
+    let first = taken_off c.parse.new.parser c.parse_u16_be.new.self 2 (to_be_bytes w16 c.in_ok-parse_u16_be.field-0)
+    c.in_ok-parse_u16_be.ensures.place c.in_ok-parse_u16_be.ensures.back in
+    let second = taken_off c.parse_u16_be.new.self c.parse_u16_be-2.new.self 2 (to_be_bytes w16 c.in_ok-parse_u16_be-2.field-0)
+    c.in_ok-parse_u16_be-2.ensures.place c.in_ok-parse_u16_be-2.ensures.back in
+    let third = taken_off c.parse_u16_be-2.new.self c.parse_u32_be.new.self 4 (to_be_bytes w32 c.in_ok-parse_u32_be.field-0)
+    c.in_ok-parse_u32_be.ensures.place c.in_ok-parse_u32_be.ensures.back in
+    let fourth = taken_off c.parse_u32_be.new.self c.parse_u16_be-3.new.self 2 (to_be_bytes w16 c.in_ok-len.len)
+    c.in_ok-len.ensures.place c.in_ok-len.ensures.back in
+    let whole = parts_taken (rest_of c.args.parser.now) (rest_of c.parse.new.parser) (rest_of c.parse_u16_be.new.self)
+    (rest_of c.parse_u16_be-2.new.self) (rest_of c.parse_u32_be.new.self) (rest_of c.parse_u16_be-3.new.self) c.in_ok-owner.owner
+    c.in_ok-parse_u16_be.field-0 c.in_ok-parse_u16_be-2.field-0 c.in_ok-parse_u32_be.field-0 c.in_ok-len.len name.1 first second third
+    fourth in
+    let small : c.in_ok-parse_u16_be.field-0 < 2 ^ 16 = omega arith in
+    let small' : c.in_ok-len.len < 2 ^ 16 = omega arith in
+    let parts = λ (r : spec.Record) (next : ℕ) (reads : ReadsPlainRecord (octets_of c.args.parser.now) (place_of c.args.parser.now) r next).
+    same_parts (octets_of c.args.parser.now) (place_of c.args.parser.now) c.in_ok-owner.owner c.in_ok-parse_u16_be.field-0
+    c.in_ok-parse_u16_be-2.field-0 c.in_ok-parse_u32_be.field-0 c.in_ok-len.len (rest_of c.parse_u16_be-3.new.self) name.0 small small' whole
+    r next reads in
+    let taken : c.in_ok-data.data.now ≡ take c.in_ok-len.len (rest_of c.parse_u16_be-3.new.self) =
+    c.in_ok-data.ensures.ok ∙ ap (λ n. take n (rest_of c.parse_u16_be-3.new.self)) c.from.ensures in
+    λ r next has.
+    let typed = typed_parts r c.in_ok-parse_u16_be.field-0 c.in_ok-len.len (rest_of c.parse_u16_be-3.new.self) c.in_ok-data.data.now
+    (parts r next has.0) taken has.1 has.0.data_is in
+    not_typed c.in_ok-parse_u16_be.field-0 c.from_int-rtype.result c.in_ok-data.data.now c.is_data.result c.from_int-rtype.ensures
+    c.is_data.ensures.1 c.if-not-is_data.true typed
+
+pub returns-clause-ok : goal.returns-clause-ok
+returns-clause-ok c =
+    let name = c.in_ok-owner.ensures.ok in
+    let first = taken_off c.parse.new.parser c.parse_u16_be.new.self 2 (to_be_bytes w16 c.in_ok-parse_u16_be.field-0)
+    c.in_ok-parse_u16_be.ensures.place c.in_ok-parse_u16_be.ensures.back in
+    let second = taken_off c.parse_u16_be.new.self c.parse_u16_be-2.new.self 2 (to_be_bytes w16 c.in_ok-parse_u16_be-2.field-0)
+    c.in_ok-parse_u16_be-2.ensures.place c.in_ok-parse_u16_be-2.ensures.back in
+    let third = taken_off c.parse_u16_be-2.new.self c.parse_u32_be.new.self 4 (to_be_bytes w32 c.in_ok-parse_u32_be.field-0)
+    c.in_ok-parse_u32_be.ensures.place c.in_ok-parse_u32_be.ensures.back in
+    let fourth = taken_off c.parse_u32_be.new.self c.parse_u16_be-3.new.self 2 (to_be_bytes w16 c.in_ok-len.len)
+    c.in_ok-len.ensures.place c.in_ok-len.ensures.back in
+    let whole = parts_taken (rest_of c.args.parser.now) (rest_of c.parse.new.parser) (rest_of c.parse_u16_be.new.self)
+    (rest_of c.parse_u16_be-2.new.self) (rest_of c.parse_u32_be.new.self) (rest_of c.parse_u16_be-3.new.self) c.in_ok-owner.owner
+    c.in_ok-parse_u16_be.field-0 c.in_ok-parse_u16_be-2.field-0 c.in_ok-parse_u32_be.field-0 c.in_ok-len.len name.1 first second third
+    fourth in
+    let fifth = taken_off c.parse_u16_be-3.new.self c.parse_octets.new.self c.from.result c.in_ok-data.data.now c.in_ok-data.ensures.place
+    c.in_ok-data.ensures.ok in
+    let long = taken_long c.parse_u16_be-3.new.self c.from.result c.in_ok-data.data.now (c.in_ok-data.ensures.enough.0 refl)
+    c.in_ok-data.ensures.ok in
+    let typed = c.is_data.ensures.0 c.if-not-is_data.false in
+    let items : c.in_ok-from_slice.field-0.items ≡ c.in_ok-data.data.now = c.in_ok-from_slice.ensures.items in
+    let r : spec.Record = record {
+      owner = c.in_ok-to_vec.field-0;
+      rtype = c.from_int-rtype.result;
+      class = c.from_int-class.result;
+      ttl = c.from_secs-ttl.result;
+      rdata = c.in_ok-from_slice.field-0.items;
+    } in
+    let P : List ℕ → Type 0 = λ l. IsData c.from_int-rtype.result l in
+    let f1 : c.in_ok-parse_u16_be.field-0 < 2 ^ 16 = omega arith in
+    let f2 : c.in_ok-parse_u16_be-2.field-0 < 2 ^ 16 = omega arith in
+    let f3 : c.in_ok-parse_u32_be.field-0 < 2 ^ 32 = omega arith in
+    let f4 : c.in_ok-len.len < 2 ^ 16 = omega arith in
+    let q0 = c.in_ok-owner.ensures.place.place in
+    let q1 = c.in_ok-parse_u16_be.ensures.place.place in
+    let q2 = c.in_ok-parse_u16_be-2.ensures.place.place in
+    let q3 = c.in_ok-parse_u32_be.ensures.place.place in
+    let q4 = c.in_ok-len.ensures.place.place in
+    let q5 = c.in_ok-data.ensures.place.place in
+    let made = read_record (octets_of c.args.parser.now) (place_of c.args.parser.now) (place_of c.parse_octets.new.self) r
+    c.in_ok-owner.owner c.in_ok-parse_u16_be.field-0 c.in_ok-parse_u16_be-2.field-0 c.in_ok-parse_u32_be.field-0 c.in_ok-len.len
+    (rest_of c.parse_u16_be-3.new.self) (rest_of c.parse_octets.new.self) name.0 f1 f2 f3 f4 whole c.in_ok-to_vec.ensures
+    c.from_int-rtype.ensures c.from_int-class.ensures c.from_secs-ttl.ensures (ap length items ∙ long ∙ c.from.ensures)
+    (fifth ∙ ap (λ l. l ++ rest_of c.parse_octets.new.self) (sym items)) typed.0 (subst P (sym items) typed.1)
+    (omega (arith, q0, q1, q2, q3, q4, q5, c.from.ensures)) in
+    made.0
+
+pub returns-clause-known : goal.returns-clause-known
+returns-clause-known c =
+    let name = c.in_ok-owner.ensures.ok in
+    let first = taken_off c.parse.new.parser c.parse_u16_be.new.self 2 (to_be_bytes w16 c.in_ok-parse_u16_be.field-0)
+    c.in_ok-parse_u16_be.ensures.place c.in_ok-parse_u16_be.ensures.back in
+    let second = taken_off c.parse_u16_be.new.self c.parse_u16_be-2.new.self 2 (to_be_bytes w16 c.in_ok-parse_u16_be-2.field-0)
+    c.in_ok-parse_u16_be-2.ensures.place c.in_ok-parse_u16_be-2.ensures.back in
+    let third = taken_off c.parse_u16_be-2.new.self c.parse_u32_be.new.self 4 (to_be_bytes w32 c.in_ok-parse_u32_be.field-0)
+    c.in_ok-parse_u32_be.ensures.place c.in_ok-parse_u32_be.ensures.back in
+    let fourth = taken_off c.parse_u32_be.new.self c.parse_u16_be-3.new.self 2 (to_be_bytes w16 c.in_ok-len.len)
+    c.in_ok-len.ensures.place c.in_ok-len.ensures.back in
+    let whole = parts_taken (rest_of c.args.parser.now) (rest_of c.parse.new.parser) (rest_of c.parse_u16_be.new.self)
+    (rest_of c.parse_u16_be-2.new.self) (rest_of c.parse_u32_be.new.self) (rest_of c.parse_u16_be-3.new.self) c.in_ok-owner.owner
+    c.in_ok-parse_u16_be.field-0 c.in_ok-parse_u16_be-2.field-0 c.in_ok-parse_u32_be.field-0 c.in_ok-len.len name.1 first second third
+    fourth in
+    let fifth = taken_off c.parse_u16_be-3.new.self c.parse_octets.new.self c.from.result c.in_ok-data.data.now c.in_ok-data.ensures.place
+    c.in_ok-data.ensures.ok in
+    let long = taken_long c.parse_u16_be-3.new.self c.from.result c.in_ok-data.data.now (c.in_ok-data.ensures.enough.0 refl)
+    c.in_ok-data.ensures.ok in
+    let typed = c.is_data.ensures.0 c.if-not-is_data.false in
+    let items : c.in_ok-from_slice.field-0.items ≡ c.in_ok-data.data.now = c.in_ok-from_slice.ensures.items in
+    let r : spec.Record = record {
+      owner = c.in_ok-to_vec.field-0;
+      rtype = c.from_int-rtype.result;
+      class = c.from_int-class.result;
+      ttl = c.from_secs-ttl.result;
+      rdata = c.in_ok-from_slice.field-0.items;
+    } in
+    let P : List ℕ → Type 0 = λ l. IsData c.from_int-rtype.result l in
+    let f1 : c.in_ok-parse_u16_be.field-0 < 2 ^ 16 = omega arith in
+    let f2 : c.in_ok-parse_u16_be-2.field-0 < 2 ^ 16 = omega arith in
+    let f3 : c.in_ok-parse_u32_be.field-0 < 2 ^ 32 = omega arith in
+    let f4 : c.in_ok-len.len < 2 ^ 16 = omega arith in
+    let q0 = c.in_ok-owner.ensures.place.place in
+    let q1 = c.in_ok-parse_u16_be.ensures.place.place in
+    let q2 = c.in_ok-parse_u16_be-2.ensures.place.place in
+    let q3 = c.in_ok-parse_u32_be.ensures.place.place in
+    let q4 = c.in_ok-len.ensures.place.place in
+    let q5 = c.in_ok-data.ensures.place.place in
+    let made = read_record (octets_of c.args.parser.now) (place_of c.args.parser.now) (place_of c.parse_octets.new.self) r
+    c.in_ok-owner.owner c.in_ok-parse_u16_be.field-0 c.in_ok-parse_u16_be-2.field-0 c.in_ok-parse_u32_be.field-0 c.in_ok-len.len
+    (rest_of c.parse_u16_be-3.new.self) (rest_of c.parse_octets.new.self) name.0 f1 f2 f3 f4 whole c.in_ok-to_vec.ensures
+    c.from_int-rtype.ensures c.from_int-class.ensures c.from_secs-ttl.ensures (ap length items ∙ long ∙ c.from.ensures)
+    (fifth ∙ ap (λ l. l ++ rest_of c.parse_octets.new.self) (sym items)) typed.0 (subst P (sym items) typed.1)
+    (omega (arith, q0, q1, q2, q3, q4, q5, c.from.ensures)) in
+    made.1
