@@ -1,5 +1,5 @@
 //! The messages of a transfer, one by one.
-ghost use Rattle.std.specs.Prelude.{◌≡◌, ◌≢◌, ◌+◌, ◌++◌, ◌∷◌, [], ◌↔◌, ◌⊎◌, ◌≤◌, ℕ, Bool, List, length, IsTrue, IfOk, IfErr, OnOk, IfSome, IfNone};
+ghost use Rattle.std.specs.Prelude.{◌≡◌, ◌+◌, ◌++◌, ◌∷◌, [], ◌↔◌, ◌⊎◌, ◌≤◌, ℕ, Bool, List, length, IsTrue, IfOk, IfErr, OnOk, IfSome, IfNone};
 ghost use Rattle.std.specs.List.{AllByRecursion};
 ghost use Rattle.dns_octets.specs.Parser.{octets_of, place_of};
 ghost use Rattle.dns_message.specs.Header.{answer_count};
@@ -42,9 +42,9 @@ pub(crate) fn judge_message(
         return Err(ReceiveError::Question);
     };
     let mut parser = Parser::from_ref(message);
-    if parser.seek(start).is_err() {
+    let Ok(()) = parser.seek(start) else {
         unreachable!();
-    }
+    };
     let mut closed = false;
     for _ in 0..number_at(message, 6) {
         closed = take_record(alloc, query, &mut parser, records, closed)?;
@@ -59,7 +59,6 @@ pub(crate) fn judge_message(
 fn check_header(query: &OwnedQuery, message: &[u8]) -> Result<(), ReceiveError>
     ensures ok { OnOk result (HasAnswerHeader (asked_of query.now) message.now) }
     ensures err { IfErr result (λ error. (front : List spec.Record) (first : Bool) → IsMessageFault (asked_of query.now) front first message.now error) }
-    ensures memory { IfErr result (λ error. error ≢ ReceiveError.OutOfMemory) }
 {
     if message.len() < 12 {
         return Err(ReceiveError::Short);
