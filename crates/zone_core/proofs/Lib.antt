@@ -33,3 +33,4 @@ pub mod ToldEqual
 pub mod SoaRows
 pub mod TypedData
 pub mod PlainRecords
+pub mod SameSoas
