@@ -46,3 +46,4 @@ pub mod ToldEqual
 pub mod SoaRows
 pub mod TypedData
 pub mod PlainRecords
+pub mod SameSoas
