@@ -1,6 +1,7 @@
 pub mod Splits
 pub mod Begun
 pub mod PlainFronts
+pub mod Taking
 pub mod Judging
 pub mod TakenMessages
 pub mod Receivers
