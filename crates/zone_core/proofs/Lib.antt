@@ -34,3 +34,4 @@ pub mod SoaRows
 pub mod TypedData
 pub mod PlainRecords
 pub mod SameSoas
+pub mod RulesKept
