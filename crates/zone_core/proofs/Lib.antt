@@ -49,3 +49,4 @@ pub mod SoaRows
 pub mod TypedData
 pub mod PlainRecords
 pub mod SameSoas
+pub mod RulesKept
