@@ -11,5 +11,5 @@ invariant-loop-end l = record {
   place : (l.self.judged ≡ l.fn.self.judged) ⊎ (length l.fn.self.octets.items < l.self.judged);
 }
 
-pub decreases-loop-end : given.decreases-loop-end
+abbrev pub decreases-loop-end : given.decreases-loop-end
 decreases-loop-end l = length l.self.octets.items - l.self.judged
