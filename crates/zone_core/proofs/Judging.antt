@@ -72,7 +72,7 @@ next_judged intake query judged len end framed ends =
     record {
       each = all_append IsFramable judged.messages (m ∷ []) judged.each (framed.fits, tt);
       whole = judged.whole ∙ ap (λ l. front ++ l) (sym (rest_is judged) ∙ framed.whole) ∙ sym (append_assoc front (frame m) framed.behind)
-      ∙ ap (λ l. l ++ framed.behind) more;
+          ∙ ap (λ l. l ++ framed.behind) more;
       place = omega (arith, ends, judged.place, framed.long, ap length more, length-append front (frame m), length-append (to_be_bytes w16 (length m)) m);
     }
 

@@ -43,8 +43,15 @@ ends_past old piece octets place judged len end is within partial (inr behind) f
 pub ends_within : (octets : List ℕ) (judged len end : ℕ) → judged ≤ length octets → BeginsWithFrame (drop judged octets) len → end ≡ judged + len
     → end ≤ length octets
 ends_within octets judged len end within framed ends =
-    omega (arith, ends, framed.long, length-drop judged octets, ap length framed.whole, length-append (frame framed.message) framed.behind,
-    length-append (to_be_bytes w16 (length framed.message)) framed.message)
+    omega (
+      arith,
+      ends,
+      framed.long,
+      length-drop judged octets,
+      ap length framed.whole,
+      length-append (frame framed.message) framed.behind,
+      length-append (to_be_bytes w16 (length framed.message)) framed.message,
+    )
 
 -- the octets up to that place are a front of the piece behind those that were there
 pub taken_front : (old piece : List ℕ) (end : ℕ) → length old ≤ end → take end (old ++ piece) ≡ old ++ take (end - length old) piece

@@ -24,17 +24,26 @@ fn sent(alloc: Global, max: u16) -> Result<Vec<u8>, AllocError> {
 }
 
 /// What a receiver answers that is fed the stream in pieces of `len` octets, with an empty piece behind each: how many
-/// octets it took, and why it refused.
+/// octets it took, or why it refused.
 fn fed(receiver: &mut Receiver, stream: &[u8], len: usize) -> Result<usize, ReceiveError> {
-    let mut taken = 0;
-    let mut rest = stream;
-    while !rest.is_empty() {
-        let (piece, behind) = rest.split_at(if len < rest.len() { len } else { rest.len() });
-        taken += receiver.feed(piece)?;
-        taken += receiver.feed(&[])?;
-        rest = behind;
+    let mut taken: usize = 0;
+    for piece in stream.chunks(len.max(1)) {
+        taken = taken.saturating_add(receiver.feed(piece)?);
+        taken = taken.saturating_add(receiver.feed(&[])?);
     }
     Ok(taken)
+}
+
+/// The octets from one place to another, none where they are not there.
+fn part(octets: &[u8], from: usize, to: usize) -> &[u8] {
+    octets.get(from..to).unwrap_or_default()
+}
+
+/// Writes an octet at a place, if it is there.
+fn set(octets: &mut Vec<u8>, place: usize, octet: u8) {
+    if let Some(old) = octets.get_mut(place) {
+        *old = octet;
+    }
 }
 
 /// The octets that are sent for the zone that came.
@@ -81,7 +90,7 @@ fn has_no_zone_before_the_end(rt: HostRuntime) -> Result<(), Fail> {
     let alloc = rt.alloc();
     let stream = sent(alloc, 512)?;
     let mut receiver = Receiver::new(alloc, QUERY)?;
-    assert_eq!(rt; receiver.feed(&stream.as_slice()[..115]), Ok(115));
+    assert_eq!(rt; receiver.feed(part(stream.as_slice(), 0, 115)), Ok(115));
     assert_eq!(rt; receiver.is_done(), false);
     assert_eq!(rt; receiver.into_zone().err(), Some(ReceiveError::Unfinished));
     Ok(())
@@ -90,7 +99,7 @@ fn has_no_zone_before_the_end(rt: HostRuntime) -> Result<(), Fail> {
 /// The refusal of the stream with one octet changed, which is the answer from then on.
 fn refusal(alloc: Global, stream: &[u8], place: usize, octet: u8) -> Option<ReceiveError> {
     let mut changed = Vec::from_slice(alloc, stream).ok()?;
-    changed[place] = octet;
+    set(&mut changed, place, octet);
     let mut receiver = Receiver::new(alloc, QUERY).ok()?;
     let error = receiver.feed(changed.as_slice()).err()?;
     if receiver.feed(&[]) != Err(error) || receiver.is_done() {
@@ -162,14 +171,14 @@ fn refuses_a_record_behind_the_last_soa(rt: HostRuntime) -> Result<(), Fail> {
     let alloc = rt.alloc();
     let mut stream = sent(alloc, 512)?;
     stream.extend_from_slice(b"\x01a\x00\x00\x01\x00\x01\x00\x00\x00\x3c\x00\x04\x01\x02\x03\x04")?;
-    stream[1] = 131;
+    set(&mut stream, 1, 131);
     let stream = stream.as_slice();
     assert_eq!(rt;
         refusal(alloc, stream, 9, 4),
         Some(ReceiveError::AfterLast(4))
     );
     let mut other = Vec::from_slice(alloc, stream)?;
-    other[9] = 4;
+    set(&mut other, 9, 4);
     assert_eq!(rt;
         refusal(alloc, other.as_slice(), 117, b'b'),
         Some(ReceiveError::OutOfZone(4))
@@ -187,19 +196,19 @@ fn takes_a_later_message_without_its_question(rt: HostRuntime) -> Result<(), Fai
     let whole = sent(alloc, 58)?;
     let whole = whole.as_slice();
     // The second message has 36 octets, of which the question takes seven.
-    let mut stream = Vec::from_slice(alloc, &whole[..60])?;
+    let mut stream = Vec::from_slice(alloc, part(whole, 0, 60))?;
     stream.extend_from_slice(&[0, 29])?;
-    stream.extend_from_slice(&whole[62..74])?;
-    stream[67] = 0;
-    stream.extend_from_slice(&whole[81..])?;
+    stream.extend_from_slice(part(whole, 62, 74))?;
+    set(&mut stream, 67, 0);
+    stream.extend_from_slice(part(whole, 81, 158))?;
     let mut receiver = Receiver::new(alloc, QUERY)?;
     assert_eq!(rt; receiver.feed(stream.as_slice()), Ok(151));
     assert_eq!(rt; receiver.is_done(), true);
     // The first message has to have one.
     let mut first = Vec::from_slice(alloc, &[0, 51])?;
-    first.extend_from_slice(&whole[2..14])?;
-    first[7] = 0;
-    first.extend_from_slice(&whole[21..])?;
+    first.extend_from_slice(part(whole, 2, 14))?;
+    set(&mut first, 7, 0);
+    first.extend_from_slice(part(whole, 21, 158))?;
     let mut receiver = Receiver::new(alloc, QUERY)?;
     assert_eq!(rt;
         receiver.feed(first.as_slice()),

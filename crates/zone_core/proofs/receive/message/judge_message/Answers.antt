@@ -22,7 +22,7 @@ loop-init c =
     let front : List spec.Record = records_of c.args.query.now.class c.args.records.now.items in
     record {
       taken = taken_none (asked_of c.args.query.now) front c.args.is_first c.args.message.now c.in-Some.start c.seek.new.self
-      c.in_ok-check_header.ensures.ok c.in-Some.ensures.some same seeks.1 c.requires.lawful;
+          c.in_ok-check_header.ensures.ok c.in-Some.ensures.some same seeks.1 c.requires.lawful;
       known = c.requires.known;
     }
 
@@ -39,7 +39,7 @@ loop-preserved c =
     let front : List spec.Record = records_of c.args.query.now.class c.args.records.now.items in
     record {
       taken = taken_more (asked_of c.args.query.now) front c.args.is_first c.args.message.now c.loop.counter c.loop.parser c.take_record.new.parser
-      (records_of c.args.query.now.class c.loop.records.items) (records_of c.args.query.now.class c.take_record.new.records.items)
-      c.loop.closed c.in_ok-closed.closed c.loop.invariant.taken c.in_ok-closed.ensures.same c.in_ok-closed.ensures.ok;
+          (records_of c.args.query.now.class c.loop.records.items) (records_of c.args.query.now.class c.take_record.new.records.items)
+          c.loop.closed c.in_ok-closed.closed c.loop.invariant.taken c.in_ok-closed.ensures.same c.in_ok-closed.ensures.ok;
       known = c.in_ok-closed.ensures.known;
     }

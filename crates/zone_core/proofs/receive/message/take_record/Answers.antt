@@ -38,8 +38,12 @@ returns-in_err-place_record-clause-err c =
     → StandsAt (asked_of c.args.query.now) (records_of c.args.query.now.class c.args.records.now.items) c.args.closed front
     → IsRecordFault (asked_of c.args.query.now) front (octets_of c.args.parser.now) (place_of c.args.parser.now) error in
     rw (p.1, p.2) (fault_or Fault c.in_err-place_record.field-0.0 (λ front stands. why front (octets_of c.args.parser.now) (place_of c.args.parser.now)
-    (place_of c.parse_record.new.parser) stands (omega (arith, stands_counted c.from.result stands c.from.ensures, c.len.ensures,
-    records_length c.args.query.now.class c.args.records.now.items)) c.in-Ok.ensures.ok))
+    (place_of c.parse_record.new.parser) stands (omega (
+      arith,
+      stands_counted c.from.result stands c.from.ensures,
+      c.len.ensures,
+      records_length c.args.query.now.class c.args.records.now.items,
+    )) c.in-Ok.ensures.ok))
 
 pub returns-in-Last-clause-ok : goal.returns-in-Last-clause-ok
 returns-in-Last-clause-ok c =

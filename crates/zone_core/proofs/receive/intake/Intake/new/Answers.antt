@@ -11,19 +11,19 @@ returns-clause-waits c =
     let none = c.new.ensures.items in
     let no_records = c.new-2.ensures.items in
     λ query.
-      let P : List Record → Type 0 = λ records. AllByRecursion (IsRecordOf query.class) (records_of query.class records) in
-      record {
-        judged = record {
-          messages = [];
-          rest = [];
-          each = tt;
-          whole = none;
-          place = refl;
-          groups = [];
-          answers = tt;
-          joins = ap (records_of query.class) (sym no_records);
-          still_open = tt;
-          known = subst P (sym no_records) tt;
-        };
-        partial = subst IsPartial (sym none) tt;
-      }
+    let P : List Record → Type 0 = λ records. AllByRecursion (IsRecordOf query.class) (records_of query.class records) in
+    record {
+      judged = record {
+        messages = [];
+        rest = [];
+        each = tt;
+        whole = none;
+        place = refl;
+        groups = [];
+        answers = tt;
+        joins = ap (records_of query.class) (sym no_records);
+        still_open = tt;
+        known = subst P (sym no_records) tt;
+      };
+      partial = subst IsPartial (sym none) tt;
+    }

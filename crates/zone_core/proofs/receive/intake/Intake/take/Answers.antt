@@ -25,7 +25,7 @@ returns-then-branch-clause-ended c =
     let ends = at_true c.in_ok-judge.field-0 c.if-branch.true c.in_ok-judge.ensures.ends in (
       omega (arith, within, c.len-before.ensures, ap length kept.octets, length-append old c.args.piece.now),
       c.truncate.ensures.items ∙ ap (take c.in-Some.end) octets ∙ taken_front old c.args.piece.now c.in-Some.end (omega (arith, past))
-      ∙ ap (λ n. old ++ take n c.args.piece.now) (sym count),
+          ∙ ap (λ n. old ++ take n c.args.piece.now) (sym count),
       ended_here c.judge.new.self _ (asked_of c.args.query.now) c.in-Some.end ends c.truncate.ensures.items refl,
     )
 

@@ -9,6 +9,6 @@ returns-in_default c =
     let P : Heard → Type 0 = λ heard. (heard.kept ≡ None) × IsWholeTransfer heard.query heard.octets in (
       λ done. absurd cc,
       λ both.
-        let here = subst P (sym c.self.view_is) both in
-        absurd (not_done c.self.inside.progress c.self.inside.intake (asked_of c.self.inside.query) c.self.invariant c.in_default.not-Done here.0 here.1),
+          let here = subst P (sym c.self.view_is) both in
+          absurd (not_done c.self.inside.progress c.self.inside.intake (asked_of c.self.inside.query) c.self.invariant c.in_default.not-Done here.0 here.1),
     )
