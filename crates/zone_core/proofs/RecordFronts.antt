@@ -14,7 +14,7 @@ use Rattle.zone_core.specs.Record.{Record}
 use Rattle.zone_core.specs.Zone.{soa_type, a_type}
 use Rattle.zone_core.specs.Transfer.{WrittenOut, IsTypeToday, HasRecord}
 use Rattle.zone_core.proofs.Decided.{Decided, decided_both}
-use Rattle.zone_core.proofs.NameFronts.{AreOctets, NameFront, name_decided, wire_fronts, number16_front, number32_front, Front, front_of, octets_behind, octets_front}
+use Rattle.zone_core.proofs.NameFronts.{AreOctets, NameFront, Number16Front, Number32Front, name_decided, wire_fronts, number16_front, number32_front, Front, front_of, octets_behind, octets_front}
 use Rattle.zone_core.proofs.RowFronts.{data_decided}
 
 pub octets_from : (text : List ℕ) (n : ℕ) → AreOctets text → AreOctets (drop n text)
@@ -88,42 +88,44 @@ record Numbers (text : List ℕ) : Type 0 where
   count_small : count < 2 ^ 16
   at : text ≡ to_be_bytes w16 rtype ++ (to_be_bytes w16 class ++ (to_be_bytes w32 ttl ++ (to_be_bytes w16 count ++ rest)))
 
+room16 : (text : List ℕ) (front : Number16Front text) → length text ≡ 2 + length front.rest
+room16 text front = omega (arith, ap length front.at, length-append (to_be_bytes w16 front.n) front.rest)
+
+room32 : (text : List ℕ) (front : Number32Front text) → length text ≡ 4 + length front.rest
+room32 text front = omega (arith, ap length front.at, length-append (to_be_bytes w32 front.n) front.rest)
+
+numbers_made : (text : List ℕ) (one : Number16Front text) (two : Number16Front one.rest) (three : Number32Front two.rest)
+    → Number16Front three.rest → Numbers text
+numbers_made text one two three four = record {
+  rtype = one.n;
+  class = two.n;
+  ttl = three.n;
+  count = four.n;
+  rest = four.rest;
+  rtype_small = one.small;
+  class_small = two.small;
+  ttl_small = three.small;
+  count_small = four.small;
+  at = one.at ∙ ap (λ l. to_be_bytes w16 one.n ++ l) (two.at ∙ ap (λ l. to_be_bytes w16 two.n ++ l) (three.at
+      ∙ ap (λ l. to_be_bytes w32 three.n ++ l) four.at));
+}
+
+ttl_and_count : (text : List ℕ) (one : Number16Front text) (two : Number16Front one.rest) → AreOctets two.rest → 6 ≤ length two.rest
+    → Numbers text
+ttl_and_count text one two each enough =
+    let three = number32_front two.rest each (omega arith) in
+    numbers_made text one two three (number16_front three.rest
+    (octets_behind two.rest (to_be_bytes w32 three.n) three.rest three.at each) (omega (arith, room32 two.rest three)))
+
+class_and_more : (text : List ℕ) (one : Number16Front text) → AreOctets one.rest → 8 ≤ length one.rest → Numbers text
+class_and_more text one each enough =
+    let two = number16_front one.rest each (omega arith) in
+    ttl_and_count text one two (octets_behind one.rest (to_be_bytes w16 two.n) two.rest two.at each) (omega (arith, room16 one.rest two))
+
 numbers_of : (text : List ℕ) → AreOctets text → 10 ≤ length text → Numbers text
 numbers_of text each enough =
     let one = number16_front text each (omega arith) in
-    let each1 = octets_behind text (to_be_bytes w16 one.n) one.rest one.at each in
-    let two = number16_front one.rest each1 (omega (arith, ap length one.at, length-append (to_be_bytes w16 one.n) one.rest)) in
-    let each2 = octets_behind one.rest (to_be_bytes w16 two.n) two.rest two.at each1 in
-    let three = number32_front two.rest each2 (omega (
-      arith,
-      ap length one.at,
-      length-append (to_be_bytes w16 one.n) one.rest,
-      ap length two.at,
-      length-append (to_be_bytes w16 two.n) two.rest,
-    )) in
-    let each3 = octets_behind two.rest (to_be_bytes w32 three.n) three.rest three.at each2 in
-    let four = number16_front three.rest each3 (omega (
-      arith,
-      ap length one.at,
-      length-append (to_be_bytes w16 one.n) one.rest,
-      ap length two.at,
-      length-append (to_be_bytes w16 two.n) two.rest,
-      ap length three.at,
-      length-append (to_be_bytes w32 three.n) three.rest,
-    )) in
-    record {
-      rtype = one.n;
-      class = two.n;
-      ttl = three.n;
-      count = four.n;
-      rest = four.rest;
-      rtype_small = one.small;
-      class_small = two.small;
-      ttl_small = three.small;
-      count_small = four.small;
-      at = one.at ∙ ap (λ l. to_be_bytes w16 one.n ++ l) (two.at ∙ ap (λ l. to_be_bytes w16 two.n ++ l) (three.at
-          ∙ ap (λ l. to_be_bytes w32 three.n ++ l) four.at));
-    }
+    class_and_more text one (octets_behind text (to_be_bytes w16 one.n) one.rest one.at each) (omega (arith, room16 text one))
 
 behind_long : (r : Record) (rest : List ℕ) → 10 ≤ length (behind_owner r rest)
 behind_long r rest =
@@ -312,12 +314,9 @@ few_question message place name few some =
     (sym (behind_name q some.has.rest) ∙ sym some.has.at ∙ name.at) in
     omega (arith, ap length names.1, length-append (to_be_bytes w16 q.qtype) last, length-append (to_be_bytes w16 q.qclass) some.has.rest)
 
-question_yes : (message : List ℕ) (place : ℕ) (name : NameFront (drop place message)) → AreOctets name.rest → 4 ≤ length name.rest
-    → HasSomeQuestion message place
-question_yes message place name each enough =
-    let one = number16_front name.rest each (omega arith) in
-    let two = number16_front one.rest (octets_behind name.rest (to_be_bytes w16 one.n) one.rest one.at each)
-    (omega (arith, ap length one.at, length-append (to_be_bytes w16 one.n) one.rest)) in
+question_made : (message : List ℕ) (place : ℕ) (name : NameFront (drop place message)) (one : Number16Front name.rest)
+    → Number16Front one.rest → HasSomeQuestion message place
+question_made message place name one two =
     let q : Question = record { name = name.name; qtype = one.n; qclass = two.n } in
     record {
       q = q;
@@ -331,6 +330,13 @@ question_yes message place name each enough =
         ends = refl;
       };
     }
+
+question_yes : (message : List ℕ) (place : ℕ) (name : NameFront (drop place message)) → AreOctets name.rest → 4 ≤ length name.rest
+    → HasSomeQuestion message place
+question_yes message place name each enough =
+    let one = number16_front name.rest each (omega arith) in
+    question_made message place name one (number16_front one.rest
+    (octets_behind name.rest (to_be_bytes w16 one.n) one.rest one.at each) (omega (arith, room16 name.rest one)))
 
 question_by_name : (message : List ℕ) (place : ℕ) → AreOctets (drop place message) → Decided (NameFront (drop place message))
     → Decided (HasSomeQuestion message place)
