@@ -38,6 +38,13 @@ pub mod LawfulRecords
 pub mod MessageFaults
 pub mod OneMessageFault
 pub mod OneOfThree
+pub mod Decided
+pub mod NameFronts
+pub mod RowFronts
+pub mod RecordFronts
+pub mod DecidedRules
+pub mod JudgedMessages
+pub mod JudgedStreams
 pub mod Questions
 pub mod Patched
 pub mod Placing

@@ -13,8 +13,8 @@ pub use cutting::{
 };
 pub use framing::two_splits_are_one;
 pub use received::{
-    at_most_one_of_three, received_is_sent_again, sent_is_received, transfers_are_one,
-    written_out_is_standard,
+    at_most_one_of_three, one_of_three, received_is_sent_again, sent_is_received,
+    transfers_are_one, written_out_is_standard,
 };
 pub use sent::sent_is_a_transfer;
 pub use text::{one_zone_fault, text_has_one_reading, zone_text_breaks_no_rule};

@@ -1,6 +1,6 @@
 //! What holds of a stream that is received.
 
-ghost use Rattle.std.specs.Prelude.{◌≡◌, ◌<◌, ◌^◌, ◌++◌, ℕ, Bool, List};
+ghost use Rattle.std.specs.Prelude.{◌≡◌, ◌<◌, ◌^◌, ◌++◌, ◌⊎◌, ℕ, Bool, List};
 ghost use Rattle.std.specs.List.{AllByRecursion};
 ghost use Rattle.zone_core.specs.Record.{Record};
 ghost use Rattle.zone_core.specs.Query.{AxfrQuery};
@@ -61,4 +61,12 @@ pub fn at_most_one_of_three()
         IsTransferIn WrittenOut query front records → IsTransferIn WrittenOut query other others → front ≡ other }
     ensures one_fault { (query : AxfrQuery) (stream : List ℕ) (e d : ReceiveError) →
         HasBadMessage query stream e → HasBadMessage query stream d → e ≡ d }
+{}
+
+/// Of every stream of octets one of three things holds: a beginning of it is a transfer, or it is begun, or it is at
+/// fault.
+pub fn one_of_three()
+    ensures { (query : AxfrQuery) (stream : List ℕ) → AllByRecursion (λ octet. octet < 2 ^ 8) stream →
+        ((front rest : List ℕ) × (records : List Record) × (stream ≡ front ++ rest) × IsTransferIn WrittenOut query front records)
+        ⊎ (IsBegun query stream ⊎ ((error : ReceiveError) × HasBadMessage query stream error)) }
 {}
