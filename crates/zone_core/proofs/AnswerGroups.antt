@@ -1,5 +1,5 @@
 -- Answers with their groups of records: of a list of messages that goes on behind another, and of one message more.
-use Rattle.std.proofs.Common.{◌≡◌, ℕ, Bool, true, false, List, [], ◌∷◌, ◌++◌, refl, sym, ap, subst}
+use Rattle.std.proofs.Common.{◌≡◌, ℕ, Bool, true, false, List, [], ◌∷◌, ◌++◌, refl, sym, ap, ◌∙◌, subst, append-nil}
 use Rattle.std.proofs.lemmas.List.Concat.{flat_map-append}
 use Rattle.zone_core.specs.Record.{Record}
 use Rattle.zone_core.specs.Query.{AxfrQuery}
@@ -74,3 +74,6 @@ answers_push form query first (other ∷ messages) (others ∷ groups) message g
 pub joined_past : (before : List (List Record)) (group : List Record) (after : List (List Record))
     → joined (before ++ group ∷ after) ≡ joined before ++ (group ++ joined after)
 joined_past before group after = flat_map-append (λ g. g) before (group ∷ after)
+
+pub joined_push : (groups : List (List Record)) (group : List Record) → joined (groups ++ group ∷ []) ≡ joined groups ++ group
+joined_push groups group = joined_past groups group [] ∙ ap (λ l. joined groups ++ l) (append-nil group)

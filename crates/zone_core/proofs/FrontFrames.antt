@@ -1,6 +1,7 @@
 -- Two lists of messages in frames at the front of one stream: they are one, or the one goes on behind the other.
-use Rattle.std.proofs.Common.{◌≡◌, ℕ, List, [], ◌∷◌, ◌++◌, refl, sym, ◌∙◌, append_assoc}
+use Rattle.std.proofs.Common.{◌≡◌, ℕ, List, [], ◌∷◌, ◌++◌, refl, sym, ap, ◌∙◌, append_assoc, append-nil}
 use Rattle.std.specs.List.{AllByRecursion}
+use Rattle.std.proofs.lemmas.List.Concat.{flat_map-append}
 use Rattle.zone_core.specs.Frames.{frame, frames, IsFramable}
 use Rattle.zone_core.proofs.Framing.{same_message}
 
@@ -48,3 +49,11 @@ two_fronts (m ∷ messages) (n ∷ others) more rest each each' e =
       | more_frames s ↦ more_frames (record { next = s.next; behind = s.behind; front = cc (first.0, s.front); fits = s.fits; back = s.back })
       | fewer_frames s ↦ fewer_frames (record { next = s.next; behind = s.behind; front = cc (first.0, s.front); fits = s.fits; back = s.back })
     ]
+
+-- one message more in frames
+pub frames_push : (messages : List (List ℕ)) (message behind : List ℕ)
+    → frames messages ++ (frame message ++ behind) ≡ frames (messages ++ message ∷ []) ++ behind
+frames_push messages message behind =
+    sym (append_assoc (frames messages) (frame message) behind)
+    ∙ ap (λ l. (frames messages ++ l) ++ behind) (sym (append-nil (frame message)))
+    ∙ ap (λ l. l ++ behind) (sym (flat_map-append frame messages (message ∷ [])))

@@ -3,7 +3,6 @@ use Rattle.std.proofs.Common.{◌≡◌, ◌⊎◌, ℕ, ◌+◌, ◌<◌, ◌�
 use Rattle.std.specs.Int.{to_be_bytes, from_be_bytes, w16}
 use Rattle.std.specs.List.{AllByRecursion}
 use Rattle.std.proofs.lemmas.Bool.{cases_lt}
-use Rattle.std.proofs.lemmas.List.Concat.{flat_map-append}
 use Rattle.std.proofs.lemmas.Nat.{be_bytes_2}
 use Rattle.zone_core.specs.Record.{Record}
 use Rattle.zone_core.specs.Query.{AxfrQuery}
@@ -15,7 +14,8 @@ use Rattle.zone_core.specs.declared.receive.error.ReceiveError.{ReceiveError}
 use Rattle.zone_core.proofs.Splits.{two_splits}
 use Rattle.zone_core.proofs.Splits.Compared.{same, longer, shorter}
 use Rattle.zone_core.proofs.LastRecord.{all_append}
-use Rattle.zone_core.proofs.AnswerGroups.{answers_push, first_of_stream, joined_past}
+use Rattle.zone_core.proofs.AnswerGroups.{answers_push, first_of_stream, joined_push}
+use Rattle.zone_core.proofs.FrontFrames.{frames_push}
 use Rattle.zone_core.proofs.LawfulRecords.{closed_not_open}
 use Rattle.zone_core.proofs.NameFronts.{AreOctets, octet_at, front_of, octets_front, octets_behind}
 use Rattle.zone_core.proofs.DecidedRules.{HasData}
@@ -113,17 +113,6 @@ bad_next query stream messages groups rest heard next e fault = record {
   still_open = heard.still_open;
   fault = fault;
 }
-
--- one message more
-frames_push : (messages : List (List ℕ)) (message behind : List ℕ)
-    → frames messages ++ (frame message ++ behind) ≡ frames (messages ++ message ∷ []) ++ behind
-frames_push messages message behind =
-    sym (append_assoc (frames messages) (frame message) behind)
-    ∙ ap (λ l. (frames messages ++ l) ++ behind) (sym (append-nil (frame message)))
-    ∙ ap (λ l. l ++ behind) (sym (flat_map-append frame messages (message ∷ [])))
-
-pub joined_push : (groups : List (List Record)) (group : List Record) → joined (groups ++ group ∷ []) ≡ joined groups ++ group
-joined_push groups group = joined_past groups group [] ∙ ap (λ l. joined groups ++ l) (append-nil group)
 
 -- the front of the stream with the next message
 record Goes (query : AxfrQuery) (stream : List ℕ) (messages : List (List ℕ)) (groups : List (List Record)) (behind : List ℕ) : Type 0 where
