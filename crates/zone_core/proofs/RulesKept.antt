@@ -1,11 +1,10 @@
 -- Which rules of a transfer a record keeps behind those that are held.
-use Rattle.std.proofs.Common.{◌≡◌, ◌≢◌, ℕ, Bool, true, false, List, [], ◌∷◌, ◌++◌, Option, Some, None, map, nat_eq, refl, sym, ap, ◌∙◌, subst}
+use Rattle.std.proofs.Common.{◌≡◌, ◌≢◌, ℕ, Bool, true, false, List, [], ◌∷◌, Option, Some, None, nat_eq, refl, sym, ap, ◌∙◌, subst}
 use Rattle.std.specs.Prelude.{not}
 use Rattle.std.specs.Borrow.{Bor}
 use Rattle.std.specs.Option.{option_copied, is_some}
 use Rattle.std.specs.List.{AllByRecursion, slice_get, push}
 use Rattle.std.proofs.lemmas.Bool.{eqb-true, eq-eqb}
-use Rattle.dns_label.specs.Name.{low}
 use Rattle.zone_core.specs.Record as spec
 use Rattle.zone_core.specs.Zone.{IsUnder, soa_type}
 use Rattle.zone_core.specs.Query.{AxfrQuery}
@@ -144,7 +143,7 @@ placed_last query held soa others r placing held_is is transferred rtype same =
     subst Q (sym is) (subst P (sym held_is) (transferred, (rtype, same)))
 
 -- what a comparison of numbers says
-not_false : (b : Bool) → not b ≡ false → b ≡ true
+pub not_false : (b : Bool) → not b ≡ false → b ≡ true
 not_false true is = refl
 not_false false is = cc
 
@@ -176,6 +175,3 @@ pub told_no : (n m : ℕ) (result : Bool) → result ≡ nat_eq n m → result �
 told_no n m result told is same =
     let equal = eq-eqb n m same in
     let none : true ≡ false = sym equal ∙ sym told ∙ is in cc
-
-pub told_none : (none : Bool) → not none ≡ false → none ≡ true
-told_none none is = not_false none is

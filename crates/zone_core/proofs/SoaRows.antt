@@ -1,12 +1,12 @@
 -- Rows of the type SOA: two names and five numbers of four octets each; and the octets that are such data.
-use Rattle.std.proofs.Common.{◌≡◌, ℕ, ◌+◌, ◌*◌, ◌<◌, ◌≤◌, ◌^◌, zero, suc, List, [], ◌∷◌, ◌++◌, length, map, get_or, Some, None, refl, sym, ap, ◌∙◌, subst, arith, append_assoc, append-nil, length-append}
+use Rattle.std.proofs.Common.{◌≡◌, ℕ, ◌+◌, ◌*◌, ◌<◌, ◌^◌, zero, suc, List, [], ◌∷◌, ◌++◌, length, map, get_or, Some, None, refl, sym, ap, ◌∙◌, arith, length-append}
 use Rattle.std.specs.Int.{to_be_bytes, from_be_bytes, w32}
 use Rattle.std.specs.List.{AllByRecursion, flat_map}
 use Rattle.std.proofs.lemmas.Nat.{be_bytes_4}
 use Rattle.std.proofs.lemmas.List.{get_or-append-add}
 use Rattle.dns_label.specs.Name.{IsName, wire}
 use Rattle.dns_rdata.specs.Fields.{Kind, Field, IsField, IsRow, IsData, kind_of, kinds_of, field_octets, octets}
-use Rattle.dns_rdata.specs.Fields.Kind.{Ipv4, Compressible, Number32}
+use Rattle.dns_rdata.specs.Fields.Kind.{Compressible, Number32}
 use Rattle.dns_rdata.specs.Fields.Field.{number8, number16, number32, ipv4, ipv6, compressible, uncompressed, string, strings, tag, rest_text, rest16, rest64}
 use Rattle.dns_rdata.specs.Fields.IsData.{typed, opaque}
 use Rattle.zone_core.specs.Zone.{soa_type}

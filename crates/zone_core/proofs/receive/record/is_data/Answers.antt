@@ -1,4 +1,4 @@
-use Rattle.std.proofs.Common.{◌≡◌, ◌∙◌, sym}
+use Rattle.std.proofs.Common.{◌∙◌, sym}
 use Rattle.std.proofs.lemmas.Bool.{eqb-true}
 use Rattle.zone_core.proofs.TypedData.{address_told, soa_told}
 use Rattle.zone_core.proofs.receive.record.is_data.Goals as goal

@@ -1,13 +1,13 @@
-use Rattle.std.proofs.Common.{◌≡◌, ℕ, List, ◌++◌, ◌+◌, ◌<◌, ◌≤◌, ◌^◌, ap, ◌∙◌, sym, length, arith, refl, subst}
-use Rattle.std.specs.Prelude.{take, drop}
+use Rattle.std.proofs.Common.{◌≡◌, ℕ, List, ◌++◌, ◌<◌, ◌^◌, ap, ◌∙◌, sym, length, arith, refl, subst}
+use Rattle.std.specs.Prelude.{take}
 use Rattle.std.specs.Int.{to_be_bytes, w16, w32}
-use Rattle.dns_label.specs.Name.{wire}
 use Rattle.dns_octets.specs.Parser.{octets_of, place_of, rest_of}
 use Rattle.dns_rdata.specs.Fields.{IsData}
 use Rattle.dns_message.specs.Record.{ReadsPlainRecord}
 use Rattle.zone_core.specs.Record as spec
+use Rattle.zone_core.specs.Records.{IsRecordOf}
 use Rattle.zone_core.specs.Transfer.{IsTypeToday}
-use Rattle.zone_core.proofs.PlainRecords.{malformed_exit, taken_off, left_few, behind_owner, parts_taken, record_parts, no_room, same_parts, no_data, typed_parts, not_typed, taken_long, read_record}
+use Rattle.zone_core.proofs.PlainRecords.{malformed_exit, taken_off, left_few, parts_taken, no_room, same_parts, no_data, typed_parts, not_typed, taken_long, read_record}
 use Rattle.zone_core.proofs.receive.record.parse_record.Goals as goal
 
 pub returns-in_err-parse_u16_be-clause-err : goal.returns-in_err-parse_u16_be-clause-err
@@ -110,8 +110,21 @@ returns-then-not-is_data-clause-err c =
     not_typed c.in_ok-parse_u16_be.field-0 c.from_int-rtype.result c.in_ok-data.data.now c.is_data.result c.from_int-rtype.ensures
     c.is_data.ensures.1 c.if-not-is_data.true typed
 
-pub returns-clause-ok : goal.returns-clause-ok
-returns-clause-ok c =
+-- the record that is made
+abbrev record_at : goal.In_ok-from_slice → spec.Record
+record_at c = record {
+  owner = c.in_ok-to_vec.field-0;
+  rtype = c.from_int-rtype.result;
+  class = c.from_int-class.result;
+  ttl = c.from_secs-ttl.result;
+  rdata = c.in_ok-from_slice.field-0.items;
+}
+
+made : (c : goal.In_ok-from_slice)
+    → (ReadsPlainRecord (octets_of c.args.parser.now) (place_of c.args.parser.now) (record_at c) (place_of c.parse_octets.new.self)
+    × IsTypeToday (record_at c).rtype)
+    × IsRecordOf (record_at c).class (record_at c)
+made c =
     let name = c.in_ok-owner.ensures.ok in
     let first = taken_off c.parse.new.parser c.parse_u16_be.new.self 2 (to_be_bytes w16 c.in_ok-parse_u16_be.field-0)
     c.in_ok-parse_u16_be.ensures.place c.in_ok-parse_u16_be.ensures.back in
@@ -131,13 +144,7 @@ returns-clause-ok c =
     c.in_ok-data.ensures.ok in
     let typed = c.is_data.ensures.0 c.if-not-is_data.false in
     let items : c.in_ok-from_slice.field-0.items ≡ c.in_ok-data.data.now = c.in_ok-from_slice.ensures.items in
-    let r : spec.Record = record {
-      owner = c.in_ok-to_vec.field-0;
-      rtype = c.from_int-rtype.result;
-      class = c.from_int-class.result;
-      ttl = c.from_secs-ttl.result;
-      rdata = c.in_ok-from_slice.field-0.items;
-    } in
+    let r : spec.Record = record_at c in
     let P : List ℕ → Type 0 = λ l. IsData c.from_int-rtype.result l in
     let f1 : c.in_ok-parse_u16_be.field-0 < 2 ^ 16 = omega arith in
     let f2 : c.in_ok-parse_u16_be-2.field-0 < 2 ^ 16 = omega arith in
@@ -149,57 +156,15 @@ returns-clause-ok c =
     let q3 = c.in_ok-parse_u32_be.ensures.place.place in
     let q4 = c.in_ok-len.ensures.place.place in
     let q5 = c.in_ok-data.ensures.place.place in
-    let made = read_record (octets_of c.args.parser.now) (place_of c.args.parser.now) (place_of c.parse_octets.new.self) r
+    read_record (octets_of c.args.parser.now) (place_of c.args.parser.now) (place_of c.parse_octets.new.self) r
     c.in_ok-owner.owner c.in_ok-parse_u16_be.field-0 c.in_ok-parse_u16_be-2.field-0 c.in_ok-parse_u32_be.field-0 c.in_ok-len.len
     (rest_of c.parse_u16_be-3.new.self) (rest_of c.parse_octets.new.self) name.0 f1 f2 f3 f4 whole c.in_ok-to_vec.ensures
     c.from_int-rtype.ensures c.from_int-class.ensures c.from_secs-ttl.ensures (ap length items ∙ long ∙ c.from.ensures)
     (fifth ∙ ap (λ l. l ++ rest_of c.parse_octets.new.self) (sym items)) typed.0 (subst P (sym items) typed.1)
-    (omega (arith, q0, q1, q2, q3, q4, q5, c.from.ensures)) in
-    made.0
+    (omega (arith, q0, q1, q2, q3, q4, q5, c.from.ensures))
+
+pub returns-clause-ok : goal.returns-clause-ok
+returns-clause-ok c = (made c).0
 
 pub returns-clause-known : goal.returns-clause-known
-returns-clause-known c =
-    let name = c.in_ok-owner.ensures.ok in
-    let first = taken_off c.parse.new.parser c.parse_u16_be.new.self 2 (to_be_bytes w16 c.in_ok-parse_u16_be.field-0)
-    c.in_ok-parse_u16_be.ensures.place c.in_ok-parse_u16_be.ensures.back in
-    let second = taken_off c.parse_u16_be.new.self c.parse_u16_be-2.new.self 2 (to_be_bytes w16 c.in_ok-parse_u16_be-2.field-0)
-    c.in_ok-parse_u16_be-2.ensures.place c.in_ok-parse_u16_be-2.ensures.back in
-    let third = taken_off c.parse_u16_be-2.new.self c.parse_u32_be.new.self 4 (to_be_bytes w32 c.in_ok-parse_u32_be.field-0)
-    c.in_ok-parse_u32_be.ensures.place c.in_ok-parse_u32_be.ensures.back in
-    let fourth = taken_off c.parse_u32_be.new.self c.parse_u16_be-3.new.self 2 (to_be_bytes w16 c.in_ok-len.len)
-    c.in_ok-len.ensures.place c.in_ok-len.ensures.back in
-    let whole = parts_taken (rest_of c.args.parser.now) (rest_of c.parse.new.parser) (rest_of c.parse_u16_be.new.self)
-    (rest_of c.parse_u16_be-2.new.self) (rest_of c.parse_u32_be.new.self) (rest_of c.parse_u16_be-3.new.self) c.in_ok-owner.owner
-    c.in_ok-parse_u16_be.field-0 c.in_ok-parse_u16_be-2.field-0 c.in_ok-parse_u32_be.field-0 c.in_ok-len.len name.1 first second third
-    fourth in
-    let fifth = taken_off c.parse_u16_be-3.new.self c.parse_octets.new.self c.from.result c.in_ok-data.data.now c.in_ok-data.ensures.place
-    c.in_ok-data.ensures.ok in
-    let long = taken_long c.parse_u16_be-3.new.self c.from.result c.in_ok-data.data.now (c.in_ok-data.ensures.enough.0 refl)
-    c.in_ok-data.ensures.ok in
-    let typed = c.is_data.ensures.0 c.if-not-is_data.false in
-    let items : c.in_ok-from_slice.field-0.items ≡ c.in_ok-data.data.now = c.in_ok-from_slice.ensures.items in
-    let r : spec.Record = record {
-      owner = c.in_ok-to_vec.field-0;
-      rtype = c.from_int-rtype.result;
-      class = c.from_int-class.result;
-      ttl = c.from_secs-ttl.result;
-      rdata = c.in_ok-from_slice.field-0.items;
-    } in
-    let P : List ℕ → Type 0 = λ l. IsData c.from_int-rtype.result l in
-    let f1 : c.in_ok-parse_u16_be.field-0 < 2 ^ 16 = omega arith in
-    let f2 : c.in_ok-parse_u16_be-2.field-0 < 2 ^ 16 = omega arith in
-    let f3 : c.in_ok-parse_u32_be.field-0 < 2 ^ 32 = omega arith in
-    let f4 : c.in_ok-len.len < 2 ^ 16 = omega arith in
-    let q0 = c.in_ok-owner.ensures.place.place in
-    let q1 = c.in_ok-parse_u16_be.ensures.place.place in
-    let q2 = c.in_ok-parse_u16_be-2.ensures.place.place in
-    let q3 = c.in_ok-parse_u32_be.ensures.place.place in
-    let q4 = c.in_ok-len.ensures.place.place in
-    let q5 = c.in_ok-data.ensures.place.place in
-    let made = read_record (octets_of c.args.parser.now) (place_of c.args.parser.now) (place_of c.parse_octets.new.self) r
-    c.in_ok-owner.owner c.in_ok-parse_u16_be.field-0 c.in_ok-parse_u16_be-2.field-0 c.in_ok-parse_u32_be.field-0 c.in_ok-len.len
-    (rest_of c.parse_u16_be-3.new.self) (rest_of c.parse_octets.new.self) name.0 f1 f2 f3 f4 whole c.in_ok-to_vec.ensures
-    c.from_int-rtype.ensures c.from_int-class.ensures c.from_secs-ttl.ensures (ap length items ∙ long ∙ c.from.ensures)
-    (fifth ∙ ap (λ l. l ++ rest_of c.parse_octets.new.self) (sym items)) typed.0 (subst P (sym items) typed.1)
-    (omega (arith, q0, q1, q2, q3, q4, q5, c.from.ensures)) in
-    made.1
+returns-clause-known c = (made c).1

@@ -1,4 +1,4 @@
-use Rattle.std.proofs.Common.{◌≡◌, ◌∙◌, sym}
+use Rattle.std.proofs.Common.{◌∙◌, sym}
 use Rattle.std.proofs.lemmas.Bool.{eqb-true}
 use Rattle.zone_core.proofs.ToldEqual.{names_told}
 use Rattle.zone_core.proofs.receive.rules.is_first_soa.Goals as goal

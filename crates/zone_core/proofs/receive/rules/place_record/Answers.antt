@@ -1,14 +1,13 @@
-use Rattle.std.proofs.Common.{◌≡◌, ℕ, List, false, true, ◌∙◌, sym, refl, ap, subst, [], None, Some}
-use Rattle.std.proofs.lemmas.Bool.{eqb-true, eq-eqb}
+use Rattle.std.proofs.Common.{◌≡◌, ℕ, List, true, ◌∙◌, sym, ap, subst}
+use Rattle.std.proofs.lemmas.Bool.{eqb-true}
 use Rattle.zone_core.specs.Record as spec
 use Rattle.std.specs.Option.{is_some}
 use Rattle.zone_core.specs.Query.{AxfrQuery}
 use Rattle.zone_core.specs.Zone.{IsUnder}
 use Rattle.zone_core.specs.Asked.{asked_of}
 use Rattle.zone_core.specs.Owned.{record_of, records_of}
-use Rattle.zone_core.specs.Intake.{StandsAt}
 use Rattle.zone_core.specs.Receiving.{KeepsFirstRule}
-use Rattle.zone_core.proofs.RulesKept.{no_first, first_is, stands_empty, stands_behind, stands_transferred, kept_behind, kept_where_none, kept_where_some, kept_last, broken_last, stands_closed, closed_some, placed_first, placed_inner, placed_last, told_equal, told_other, told_no, told_none, in_own_class, same_in_class, known_first}
+use Rattle.zone_core.proofs.RulesKept.{no_first, first_is, stands_empty, stands_behind, stands_transferred, kept_behind, kept_where_none, kept_where_some, kept_last, broken_last, stands_closed, closed_some, placed_first, placed_inner, placed_last, told_equal, told_other, told_no, not_false, in_own_class, same_in_class, known_first}
 use Rattle.zone_core.proofs.receive.rules.place_record.Goals.{else-is_none-via-then-is_none+else-not-is_first_soa, else-is_none-via-else-is_none, in-Some+else-not-is_same_soa, in_default-2, in_default}
 use Rattle.zone_core.proofs.receive.rules.place_record.Goals as goal
 
@@ -187,7 +186,7 @@ returns-clause-ok c =
           (stands_transferred soa (records_of class there.0) c.requires.stands.1 others) other c.requires.next same under
       | in_default w ↦
           let empty = no_first c.args.front.now c.first-soa.result c.first-soa.ensures.value (ap is_some w.in_default.is) in
-          let none : c.is_none.result ≡ true = told_none c.is_none.result (sym c.is_none.ensures ∙ ap is_some w.in_default.is) in
+          let none : c.is_none.result ≡ true = not_false c.is_none.result (sym c.is_none.ensures ∙ ap is_some w.in_default.is) in
           elim c.else-is_none.branch [
             | else-is_none-via-then-is_none+else-not-is_first_soa v ↦
                 placed_first query held r c.args.class c.match-soa.placing (ap (records_of class) empty) w.placing-is

@@ -1,8 +1,7 @@
 use Rattle.std.proofs.Common.{◌≡◌, ℕ, List, ◌++◌, ap, sym, ◌∙◌}
 use Rattle.std.specs.Prelude.{drop}
 use Rattle.dns_label.specs.Name.{IsName, wire}
-use Rattle.dns_octets.specs.Parser.{octets_of, place_of, rest_of}
-use Rattle.zone_core.specs.Intake.{IsSoaOf}
+use Rattle.dns_octets.specs.Parser.{octets_of, rest_of}
 use Rattle.zone_core.proofs.SoaOctets.{no_second_name, no_numbers, read_of, unread_of}
 use Rattle.zone_core.proofs.receive.soa.SoaData.from_slice.Goals as goal
 

@@ -1,4 +1,4 @@
-use Rattle.std.proofs.Common.{◌≡◌, ◌∙◌}
+use Rattle.std.proofs.Common.{◌∙◌}
 use Rattle.zone_core.proofs.ToldEqual.{names_told, octets_told, second_false, not_both}
 use Rattle.zone_core.proofs.receive.soa.SoaData.is_same.Goals.{then-same_mname, else-same_mname}
 use Rattle.zone_core.proofs.receive.soa.SoaData.is_same.Goals as goal
