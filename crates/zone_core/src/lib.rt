@@ -1,10 +1,11 @@
-//! Zones: reading them from text, and sending them as the stream of a transfer.
+//! Zones: reading them from text, printing them as text, and sending them as the stream of a transfer.
 //!
 //! A part of `zonewire`, which hands all of it on. Its `specs/` say which text is a zone's, which stream is its transfer,
 //! and how its records are cut into messages.
 #![tactic(auto)]
 
 pub mod laws;
+mod print;
 mod query;
 mod query_error;
 mod record;
@@ -15,6 +16,7 @@ mod transfer;
 mod zone;
 mod zone_error;
 
+pub use print::DisplayKind;
 pub use query::{Query, check_query};
 pub use query_error::QueryError;
 pub use send_error::SendError;
