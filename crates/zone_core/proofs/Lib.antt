@@ -32,3 +32,6 @@ pub mod PrintedData
 pub mod PrintedRows
 pub mod PrintedLines
 pub mod PrintedZones
+pub mod PrintedSymbols
+pub mod PrintedWords
+pub mod PrintedTexts

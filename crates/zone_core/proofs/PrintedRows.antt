@@ -19,7 +19,7 @@ addressed : (field : Field) → Ipv4 ≡ kind_of field → (address : List ℕ) 
 addressed (ipv4 address) kind = (address, refl)
 addressed field kind = absurd cc
 
-same_kinds : (kinds others : List Kind) → ◌≡◌ {A = Option (List Kind)} (Some kinds) (Some others) → kinds ≡ others
+pub same_kinds : (kinds others : List Kind) → ◌≡◌ {A = Option (List Kind)} (Some kinds) (Some others) → kinds ≡ others
 same_kinds kinds others same = cc
 
 -- a row of one address
@@ -59,11 +59,22 @@ same_row : (data' : List ℕ) (row other : List Field) → row ≡ other → IsR
     → IsRow 6 other × (data' ≡ octets other)
 same_row data' row other same is octets_are = (subst (IsRow 6) same is, octets_are ∙ ap octets same)
 
-abbrev soa_kinds : List Kind
+-- a row of two names and five numbers
+pub record SoaShape (row : List Field) : Type 0 where
+  pub mname : List (List ℕ)
+  pub rname : List (List ℕ)
+  pub serial : ℕ
+  pub refresh : ℕ
+  pub retry : ℕ
+  pub expire : ℕ
+  pub minimum : ℕ
+  pub is : row ≡ soa_row mname rname serial refresh retry expire minimum
+
+abbrev pub soa_kinds : List Kind
 soa_kinds = Compressible ∷ Compressible ∷ Number32 ∷ Number32 ∷ Number32 ∷ Number32 ∷ Number32 ∷ []
 
-soa_of : (data' : List ℕ) (row : List Field) → soa_kinds ≡ map kind_of row → IsRow 6 row → data' ≡ octets row → IsSoa data'
-soa_of data' (f1 ∷ f2 ∷ f3 ∷ f4 ∷ f5 ∷ f6 ∷ f7 ∷ []) kinds is octets_are =
+pub soa_shape : (row : List Field) → soa_kinds ≡ map kind_of row → SoaShape row
+soa_shape (f1 ∷ f2 ∷ f3 ∷ f4 ∷ f5 ∷ f6 ∷ f7 ∷ []) kinds =
     let m = named f1 (cc) in
     let r = named f2 (cc) in
     let n1 = numbered f3 (cc) in
@@ -71,8 +82,6 @@ soa_of data' (f1 ∷ f2 ∷ f3 ∷ f4 ∷ f5 ∷ f6 ∷ f7 ∷ []) kinds is octe
     let n3 = numbered f5 (cc) in
     let n4 = numbered f6 (cc) in
     let n5 = numbered f7 (cc) in
-    let same : f1 ∷ f2 ∷ f3 ∷ f4 ∷ f5 ∷ f6 ∷ f7 ∷ [] ≡ soa_row m.0 r.0 n1.0 n2.0 n3.0 n4.0 n5.0 = cc (m.1, r.1, n1.1, n2.1, n3.1, n4.1, n5.1) in
-    let made = same_row data' _ (soa_row m.0 r.0 n1.0 n2.0 n3.0 n4.0 n5.0) same is octets_are in
     record {
       mname = m.0;
       rname = r.0;
@@ -81,20 +90,34 @@ soa_of data' (f1 ∷ f2 ∷ f3 ∷ f4 ∷ f5 ∷ f6 ∷ f7 ∷ []) kinds is octe
       retry = n3.0;
       expire = n4.0;
       minimum = n5.0;
+      is = cc (m.1, r.1, n1.1, n2.1, n3.1, n4.1, n5.1);
+    }
+soa_shape [] kinds = absurd cc
+soa_shape (f1 ∷ []) kinds = absurd cc
+soa_shape (f1 ∷ f2 ∷ []) kinds = absurd cc
+soa_shape (f1 ∷ f2 ∷ f3 ∷ []) kinds = absurd cc
+soa_shape (f1 ∷ f2 ∷ f3 ∷ f4 ∷ []) kinds = absurd cc
+soa_shape (f1 ∷ f2 ∷ f3 ∷ f4 ∷ f5 ∷ []) kinds = absurd cc
+soa_shape (f1 ∷ f2 ∷ f3 ∷ f4 ∷ f5 ∷ f6 ∷ []) kinds = absurd cc
+soa_shape (f1 ∷ f2 ∷ f3 ∷ f4 ∷ f5 ∷ f6 ∷ f7 ∷ f8 ∷ row) kinds = absurd cc
+
+soa_of : (data' : List ℕ) (row : List Field) → SoaShape row → IsRow 6 row → data' ≡ octets row → IsSoa data'
+soa_of data' row shape is octets_are =
+    let made = same_row data' row (soa_row shape.mname shape.rname shape.serial shape.refresh shape.retry shape.expire shape.minimum) shape.is is octets_are in
+    record {
+      mname = shape.mname;
+      rname = shape.rname;
+      serial = shape.serial;
+      refresh = shape.refresh;
+      retry = shape.retry;
+      expire = shape.expire;
+      minimum = shape.minimum;
       row_is = made.0;
       octets_are = made.1;
     }
-soa_of data' [] kinds is octets_are = absurd cc
-soa_of data' (f1 ∷ []) kinds is octets_are = absurd cc
-soa_of data' (f1 ∷ f2 ∷ []) kinds is octets_are = absurd cc
-soa_of data' (f1 ∷ f2 ∷ f3 ∷ []) kinds is octets_are = absurd cc
-soa_of data' (f1 ∷ f2 ∷ f3 ∷ f4 ∷ []) kinds is octets_are = absurd cc
-soa_of data' (f1 ∷ f2 ∷ f3 ∷ f4 ∷ f5 ∷ []) kinds is octets_are = absurd cc
-soa_of data' (f1 ∷ f2 ∷ f3 ∷ f4 ∷ f5 ∷ f6 ∷ []) kinds is octets_are = absurd cc
-soa_of data' (f1 ∷ f2 ∷ f3 ∷ f4 ∷ f5 ∷ f6 ∷ f7 ∷ f8 ∷ row) kinds is octets_are = absurd cc
 
 pub data_soa : (data' : List ℕ) → IsData 6 data' → IsSoa data'
-data_soa data' (typed row is octets_are) = soa_of data' row (same_kinds _ _ is.kinds) is octets_are
+data_soa data' (typed row is octets_are) = soa_of data' row (soa_shape row (same_kinds _ _ is.kinds)) is octets_are
 data_soa data' (opaque none short) = absurd cc
 
 -- what is known of the type of a record
