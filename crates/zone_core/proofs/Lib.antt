@@ -34,4 +34,6 @@ pub mod PrintedLines
 pub mod PrintedZones
 pub mod PrintedSymbols
 pub mod PrintedWords
+pub mod PrintedDocuments
 pub mod PrintedTexts
+pub mod PrintedOnce

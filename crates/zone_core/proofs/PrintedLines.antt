@@ -135,7 +135,7 @@ soa_line r old text new soa added =
           (printed_name soa.rname) (decimal soa.serial) (decimal soa.refresh) (decimal soa.retry) (decimal soa.expire) (decimal soa.minimum);
     }
 
-line_of : (r : Record) (old text new : List ℕ) → AddsData r.rtype r.rdata (behind_class r old) text → new ≡ text ++ 10 ∷ []
+pub line_of : (r : Record) (old text new : List ℕ) → AddsData r.rtype r.rdata (behind_class r old) text → new ≡ text ++ 10 ∷ []
     → IsLine r old new
 line_of r old text new (adds_address is row_is data_added) added =
     let P : ℕ → Type 0 = λ t. IsLine (record r { rtype = t }) old new in

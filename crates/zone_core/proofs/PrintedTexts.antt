@@ -9,12 +9,10 @@ use Rattle.dns_values.specs.Mnemonic.{class_read, class_written, type_written}
 use Rattle.dns_values.proofs.ReadsBack.{class_reads_back, type_reads_back}
 use Rattle.dns_text.specs.Document.{Piece, document_text}
 use Rattle.dns_text.specs.Document.Layout.{Simple}
-use Rattle.dns_text.specs.Document.Piece.{Token, Newline}
+use Rattle.dns_text.specs.Document.Piece.{Newline}
 use Rattle.dns_rdata.specs.Fields.{Field, IsRow, octets}
-use Rattle.dns_rdata.specs.Fields.Field.{ipv4, compressible, number32}
-use Rattle.dns_rdata.specs.Printed.{FieldText, RowTexts, comments_of, commented}
-use Rattle.dns_rdata.specs.Printed.FieldText.{number, address, name}
-use Rattle.dns_rdata.specs.Printed.RowTexts.{none as no_texts, more as more_texts}
+use Rattle.dns_rdata.specs.Fields.Field.{ipv4}
+use Rattle.dns_rdata.specs.Printed.{comments_of, commented}
 use Rattle.dns_message.specs.Printed.{IsDocument}
 use Rattle.dns_zonefile.specs.PlainRow.{AreSpaces, DataWords, IsWord, PlainRow, RecordWords, Words}
 use Rattle.dns_zonefile.specs.PlainRow.DataWords.{a as a_words, soa as soa_words}
@@ -30,7 +28,7 @@ use Rattle.zone_core.specs.ZoneText.{Entries, IsZoneText}
 use Rattle.zone_core.specs.ZoneText.Entries.{none as no_entry, entry}
 use Rattle.zone_core.proofs.LastRecord.{all_fronts}
 use Rattle.zone_core.proofs.PrintedLines.{a_written, soa_written, document_of}
-use Rattle.zone_core.proofs.PrintedRows.{address_row, same_kinds, soa_shape}
+use Rattle.zone_core.proofs.PrintedDocuments.{address_document, soa_document, soa_printed}
 use Rattle.zone_core.proofs.PrintedWords.{name_text, name_word, name_no_dollar, class_word, a_word, soa_word, address_word, number_text, number_word}
 
 -- words with one space between two of them, a line feed and a rest
@@ -55,60 +53,6 @@ row_words (word ∷ []) rest some each = last each.0 refl
 row_words (word ∷ (next ∷ others)) rest some each =
     more_words (32 ∷ []) (row_text (next ∷ others) rest) each.0 one_space
     (sym (append_assoc word (32 ∷ []) (row_text (next ∷ others) rest))) (row_words (next ∷ others) rest (omega arith) each.1)
-
--- the texts of a row's fields
-address_text : {address' text : List ℕ} → FieldText (ipv4 address') text → text ≡ ipv4_text address'
-address_text (address address') = refl
-
-number_printed : {n : ℕ} {text : List ℕ} → FieldText (number32 n) text → text ≡ decimal n
-number_printed (number n) = refl
-
-name_printed : {labels : List (List ℕ)} {text : List ℕ} → FieldText (compressible labels) text → text ≡ printed_name labels
-name_printed (name labels) = refl
-
-record FirstText (field : Field) (row : List Field) (texts : List (List ℕ)) : Type 0 where
-  text : List ℕ
-  others : List (List ℕ)
-  is : FieldText field text
-  are : RowTexts row others
-  whole : texts ≡ text ∷ others
-
-first_text : {field : Field} {row : List Field} {texts : List (List ℕ)} → RowTexts (field ∷ row) texts → FirstText field row texts
-first_text (more_texts {text = text} {texts = others} is are) = record { text = text; others = others; is = is; are = are; whole = refl }
-
-no_text : {texts : List (List ℕ)} → RowTexts [] texts → texts ≡ []
-no_text no_texts = refl
-
-address_texts : (address' : List ℕ) (texts : List (List ℕ)) → RowTexts (ipv4 address' ∷ []) texts → texts ≡ ipv4_text address' ∷ []
-address_texts address' texts are =
-    let first = first_text are in
-    let text = address_text first.is in
-    let others = no_text first.are in
-    first.whole ∙ cc
-
-abbrev pub soa_printed : List (List ℕ) → List (List ℕ) → ℕ → ℕ → ℕ → ℕ → ℕ → List (List ℕ)
-soa_printed m r n1 n2 n3 n4 n5 =
-    printed_name m ∷ printed_name r ∷ decimal n1 ∷ decimal n2 ∷ decimal n3 ∷ decimal n4 ∷ decimal n5 ∷ []
-
-soa_texts : (m r : List (List ℕ)) (n1 n2 n3 n4 n5 : ℕ) (texts : List (List ℕ)) → RowTexts (soa_row m r n1 n2 n3 n4 n5) texts
-    → texts ≡ soa_printed m r n1 n2 n3 n4 n5
-soa_texts m r n1 n2 n3 n4 n5 texts are =
-    let f1 = first_text are in
-    let f2 = first_text f1.are in
-    let f3 = first_text f2.are in
-    let f4 = first_text f3.are in
-    let f5 = first_text f4.are in
-    let f6 = first_text f5.are in
-    let f7 = first_text f6.are in
-    let t1 = name_printed f1.is in
-    let t2 = name_printed f2.is in
-    let t3 = number_printed f3.is in
-    let t4 = number_printed f4.is in
-    let t5 = number_printed f5.is in
-    let t6 = number_printed f6.is in
-    let t7 = number_printed f7.is in
-    let end' = no_text f7.are in
-    cc (f1.whole, f2.whole, f3.whole, f4.whole, f5.whole, f6.whole, f7.whole)
 
 -- the octets of data that is names and numbers
 wire_back : (labels : List (List ℕ)) → AreOctets (wire labels) → AllByRecursion AreOctets labels
@@ -175,25 +119,17 @@ reads_back class r texts document is known document_is =
 address_back : (class : ℕ) (r : Record) (document : List Piece) → IsRecordOf class (record r { rtype = 1 })
     → IsDocument (record r { rtype = 1 }) document → ReadsBack class (record r { rtype = 1 }) document
 address_back class r document is printed =
-    let d = printed.data_is in
-    let found = address_row d.row (same_kinds _ _ d.is_row.kinds) in
-    let address' = found.0 in
-    let row_is : IsRow 1 (ipv4 address' ∷ []) = subst (IsRow 1) found.1 d.is_row in
-    let texts_are : RowTexts (ipv4 address' ∷ []) d.texts = let P : List Field → Type 0 = λ row. RowTexts row d.texts in subst P found.1 d.texts_are in
-    let texts : d.texts ≡ ipv4_text address' ∷ [] = address_texts address' d.texts texts_are in
-    let octets_are : r.rdata ≡ octets (ipv4 address' ∷ []) = d.octets_are ∙ ap octets found.1 in
-    let words = address_word address' row_is.each.0 (subst AreOctets (octets_are ∙ append-nil address') is.data_octets) in
-    let known : Known class (record r { rtype = 1 }) (ipv4_text address' ∷ []) = record {
+    let d = address_document r document printed in
+    let words = address_word r.rdata d.row_is.each.0 is.data_octets in
+    let known : Known class (record r { rtype = 1 }) (ipv4_text r.rdata ∷ []) = record {
       type_is_word = subst IsWord (sym a_written) a_word;
       each = (words.0, tt);
       written = refl;
-      row = ipv4 address' ∷ [];
-      octets_are = octets_are;
+      row = ipv4 r.rdata ∷ [];
+      octets_are = sym (append-nil r.rdata);
       spelled = a_words words.1;
     } in
-    reads_back class (record r { rtype = 1 }) (ipv4_text address' ∷ []) document is known
-    (printed.is ∙ ap (λ l. Token (printed_name r.owner) ∷ Token (decimal r.ttl) ∷ Token (class_written r.class) ∷ Token (type_written 1) ∷ l) d.is
-    ∙ ap (λ l. document_of (printed_name r.owner) (decimal r.ttl) (class_written r.class) (type_written 1) (commented l (comments_of 1))) texts)
+    reads_back class (record r { rtype = 1 }) (ipv4_text r.rdata ∷ []) document is known d.is
 
 -- an SOA record
 soa_known : (class : ℕ) (r : Record) (m n : List (List ℕ)) (n1 n2 n3 n4 n5 : ℕ) → AreOctets r.rdata → IsRow 6 (soa_row m n n1 n2 n3 n4 n5)
@@ -235,19 +171,9 @@ soa_known class r m n n1 n2 n3 n4 n5 data_octets row_is octets_are =
 soa_back : (class : ℕ) (r : Record) (document : List Piece) → IsRecordOf class (record r { rtype = 6 })
     → IsDocument (record r { rtype = 6 }) document → ReadsBack class (record r { rtype = 6 }) document
 soa_back class r document is printed =
-    let d = printed.data_is in
-    let shape = soa_shape d.row (same_kinds _ _ d.is_row.kinds) in
-    let row : List Field = soa_row shape.mname shape.rname shape.serial shape.refresh shape.retry shape.expire shape.minimum in
-    let row_is : IsRow 6 row = subst (IsRow 6) {y = row} shape.is d.is_row in
-    let texts_are : RowTexts row d.texts = let P : List Field → Type 0 = λ fields. RowTexts fields d.texts in subst P {y = row} shape.is d.texts_are in
-    let printed_texts : List (List ℕ) = soa_printed shape.mname shape.rname shape.serial shape.refresh shape.retry shape.expire shape.minimum in
-    let texts : d.texts ≡ printed_texts =
-    soa_texts shape.mname shape.rname shape.serial shape.refresh shape.retry shape.expire shape.minimum d.texts texts_are in
-    let octets_are : r.rdata ≡ octets row = d.octets_are ∙ ap octets {y = row} shape.is in
-    reads_back class (record r { rtype = 6 }) printed_texts document is
-    (soa_known class r shape.mname shape.rname shape.serial shape.refresh shape.retry shape.expire shape.minimum is.data_octets row_is octets_are)
-    (printed.is ∙ ap (λ l. Token (printed_name r.owner) ∷ Token (decimal r.ttl) ∷ Token (class_written r.class) ∷ Token (type_written 6) ∷ l) d.is
-    ∙ ap (λ l. document_of (printed_name r.owner) (decimal r.ttl) (class_written r.class) (type_written 6) (commented l (comments_of 6))) texts)
+    let d = soa_document r document printed in
+    reads_back class (record r { rtype = 6 }) (soa_printed d.mname d.rname d.serial d.refresh d.retry d.expire d.minimum) document is
+    (soa_known class r d.mname d.rname d.serial d.refresh d.retry d.expire d.minimum is.data_octets d.row_is d.octets_are) d.is
 
 record_back : (class : ℕ) (r : Record) (document : List Piece) → IsRecordOf class r → IsDocument r document
     → (r.rtype ≡ 6) ⊎ (r.rtype ≡ 1) → ReadsBack class r document

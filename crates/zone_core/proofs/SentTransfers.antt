@@ -7,7 +7,7 @@ use Rattle.dns_rdata.specs.Fields.IsData.{typed, opaque}
 use Rattle.zone_core.specs.Record.{Record}
 use Rattle.zone_core.specs.Zone.{IsUnder, IsBehindSoa, soa_type}
 use Rattle.zone_core.specs.Query.{AxfrQuery}
-use Rattle.zone_core.specs.Records.{IsRecordOf, AreRecordsOf, IsQueryFor}
+use Rattle.zone_core.specs.Records.{AreRecordsOf, AreSendable, IsQueryFor, IsRecordOf, IsSendable}
 use Rattle.zone_core.specs.Sent.{AsksFor, IsSent, message, size}
 use Rattle.zone_core.specs.Transfer.{IsInZoneOf, SameSoa, IsTransfer}
 use Rattle.zone_core.proofs.LastRecord.{all_append, all_joined, ends_with}
@@ -36,7 +36,7 @@ under_query : (query : AxfrQuery) (apex name : List (List ℕ)) → low query.na
 under_query query apex name same under = (under.0, under.1 ∙ ap (λ l. under.0 ++ l) (sym same))
 
 behind_soa : (query : AxfrQuery) (class : ℕ) (soa : Record) (others : List Record) → AsksFor query soa.owner class
-    → AllByRecursion (IsRecordOf class) others → AllByRecursion (IsBehindSoa soa) others
+    → AllByRecursion (IsSendable class) others → AllByRecursion (IsBehindSoa soa) others
     → AllByRecursion (IsInZoneOf query) others × AllByRecursion (λ r. r.rtype ≢ soa_type) others
 behind_soa query class soa [] asks each behind = (tt, tt)
 behind_soa query class soa (r ∷ others) asks each behind =
@@ -54,14 +54,14 @@ all_small query max [] fits small = tt
 all_small query max (group ∷ groups) fits small = (omega (arith, small.0), all_small query max groups fits small.1)
 
 -- What is sent is a transfer of the very same records.
-pub sent_is_transfer : (records : List Record) (class : ℕ) (query : AxfrQuery) (max : ℕ) (stream : List ℕ) → max < 2 ^ 16
-    → AreRecordsOf class records → IsQueryFor records class query → IsSent records query max stream → IsTransfer query stream records
-sent_is_transfer [] class query max stream fits are asks sent = absurd are.zone
-sent_is_transfer (soa ∷ others) class query max stream fits are asks sent =
+pub sendable_is_transfer : (records : List Record) (class : ℕ) (query : AxfrQuery) (max : ℕ) (stream : List ℕ) → max < 2 ^ 16
+    → AreSendable class records → IsQueryFor records class query → IsSent records query max stream → IsTransfer query stream records
+sendable_is_transfer [] class query max stream fits are asks sent = absurd are.zone
+sendable_is_transfer (soa ∷ others) class query max stream fits are asks sent =
     let cut = sent.cut.fits in
-    let each = all_append (IsRecordOf class) (soa ∷ others) (soa ∷ []) are.each (are.each.0, tt) in
-    let P : List Record → Type 0 = λ records. AllByRecursion (IsRecordOf class) records in
-    let grouped = all_joined (IsRecordOf class) sent.groups (subst P (sym cut.cut.joins) each) in
+    let each = all_append (IsSendable class) (soa ∷ others) (soa ∷ []) are.each (are.each.0, tt) in
+    let P : List Record → Type 0 = λ records. AllByRecursion (IsSendable class) records in
+    let grouped = all_joined (IsSendable class) sent.groups (subst P (sym cut.cut.joins) each) in
     let small = all_small query max sent.groups fits cut.small in
     let ends = ends_with sent.groups (soa ∷ others) soa cut.cut.nonempty cut.cut.joins in
     let rest = behind_soa query class soa others asks.asks are.each.1 are.zone.1 in
@@ -84,3 +84,16 @@ sent_is_transfer (soa ∷ others) class query max stream fits are asks sent =
       transferred = (are.zone.0, sym asks.asks.name, (first, rest.0), rest.1);
       closed = (are.zone.0, same_soa soa are.zone.0 are.each.0.data_is);
     }
+
+-- so it is for a zone that was read
+each_sendable : (class : ℕ) (records : List Record) → AllByRecursion (IsRecordOf class) records → AllByRecursion (IsSendable class) records
+each_sendable class [] each = tt
+each_sendable class (r ∷ records) each = (
+  record { lawful = each.0.lawful; data_is = each.0.data_is; class_is = each.0.class_is; spellable = each.0.spellable },
+  each_sendable class records each.1,
+)
+
+pub sent_is_transfer : (records : List Record) (class : ℕ) (query : AxfrQuery) (max : ℕ) (stream : List ℕ) → max < 2 ^ 16
+    → AreRecordsOf class records → IsQueryFor records class query → IsSent records query max stream → IsTransfer query stream records
+sent_is_transfer records class query max stream fits are asks sent =
+    sendable_is_transfer records class query max stream fits (record { each = each_sendable class records are.each; zone = are.zone }) asks sent

@@ -13,7 +13,7 @@ use Rattle.dns_message.proofs.WrittenRecords.{record-written, question-written}
 use Rattle.zone_core.specs.Record.{Record}
 use Rattle.zone_core.specs.Query.{AxfrQuery, question_of}
 use Rattle.zone_core.specs.Frames.{IsFramable}
-use Rattle.zone_core.specs.Records.{IsRecordOf, IsQueryFor}
+use Rattle.zone_core.specs.Records.{IsSendable, IsQueryFor}
 use Rattle.zone_core.specs.Sent.{message, size}
 use Rattle.zone_core.specs.Transfer.{SpellsRecords, IsAnswer, AreAnswers}
 use Rattle.zone_core.specs.Transfer.SpellsRecords.{none, one}
@@ -44,7 +44,7 @@ records_are_few (r ∷ group) =
 
 -- records that are written out are read
 records-written : (class : ℕ) (octets : List ℕ) (place : ℕ) (group : List Record) (rest : List ℕ)
-    → drop place octets ≡ flat_map record_octets group ++ rest → place ≤ length octets → AllByRecursion (IsRecordOf class) group
+    → drop place octets ≡ flat_map record_octets group ++ rest → place ≤ length octets → AllByRecursion (IsSendable class) group
     → SpellsRecords octets place group (place + length (flat_map record_octets group))
 records-written class octets place [] rest at within each =
     let P : ℕ → Type 0 = λ next. SpellsRecords octets place [] next in subst P (omega arith) none
@@ -61,7 +61,7 @@ records-written class octets place (r ∷ group) rest at within each =
 
 -- the message of a group that isn't too large is an answer
 answer-written : (query : AxfrQuery) (first : Bool) (class : ℕ) (records group : List Record) → IsQueryFor records class query
-    → AllByRecursion (IsRecordOf class) group → size query group < 2 ^ 16 → IsAnswer query first (message query group) group
+    → AllByRecursion (IsSendable class) group → size query group < 2 ^ 16 → IsAnswer query first (message query group) group
 answer-written query first class records group asks each small =
     let question : List ℕ = question_octets (question_of query) in
     let carried : List ℕ = flat_map record_octets group in
@@ -89,7 +89,7 @@ answer-written query first class records group asks each small =
 
 -- messages of groups that aren't too large are answers
 pub answers-written : (query : AxfrQuery) (first : Bool) (class : ℕ) (records : List Record) (groups : List (List Record))
-    → IsQueryFor records class query → AllByRecursion (AllByRecursion (IsRecordOf class)) groups
+    → IsQueryFor records class query → AllByRecursion (AllByRecursion (IsSendable class)) groups
     → AllByRecursion (λ group. size query group < 2 ^ 16) groups → AreAnswers query first (map (message query) groups) groups
 answers-written query first class records [] asks each small = tt
 answers-written query first class records (group ∷ groups) asks each small = (

@@ -14,7 +14,19 @@ use Rattle.zone_core.specs.Sent.{AsksFor}
 abbrev pub AreOctets : List ℕ → Type 0
 AreOctets octets = AllByRecursion (λ octet. octet < 2 ^ 8) octets
 
--- A record of the class whose data is that of its type, and which text can spell. Today it is an SOA or an A record.
+-- A record of the class whose data is that of its type, and which text can spell.
+pub record IsSendable (class : ℕ) (r : Record) : Type 0 where
+  pub lawful : IsRecord r
+  pub data_is : IsData r.rtype r.rdata
+  pub class_is : r.class ≡ class
+  pub spellable : IsSpellable r
+
+-- A zone of the class, of records of any types.
+pub record AreSendable (class : ℕ) (records : List Record) : Type 0 where
+  pub each : AllByRecursion (IsSendable class) records
+  pub zone : IsZone records
+
+-- The same of a record that is made of octets, and of a type that is read today: an SOA or an A record.
 pub record IsRecordOf (class : ℕ) (r : Record) : Type 0 where
   pub lawful : IsRecord r
   pub data_is : IsData r.rtype r.rdata
@@ -24,7 +36,7 @@ pub record IsRecordOf (class : ℕ) (r : Record) : Type 0 where
   pub data_octets : AreOctets r.rdata
   pub today : (r.rtype ≡ soa_type) ⊎ (r.rtype ≡ 1)
 
--- The records are a zone of the class.
+-- The records are a zone of the class, as one is read.
 pub record AreRecordsOf (class : ℕ) (records : List Record) : Type 0 where
   pub each : AllByRecursion (IsRecordOf class) records
   pub zone : IsZone records

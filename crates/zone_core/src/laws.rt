@@ -13,7 +13,7 @@ pub use cutting::{
     full_cut_is_one, parts_fit_where_size_grows, plain_full_cut_is_fewest, sum_of_sizes_grows,
 };
 pub use framing::two_splits_are_one;
-pub use printed::printed_text_is_the_zones;
+pub use printed::{printed_text_is_the_zones, records_have_one_printed_text};
 pub use received::transfers_are_one;
 pub use sent::sent_is_a_transfer;
 pub use text::{one_zone_fault, text_has_one_reading, zone_text_breaks_no_rule};
