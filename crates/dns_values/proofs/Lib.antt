@@ -1,3 +1,3 @@
 pub mod Words
-mod ReadsBack
+pub mod ReadsBack
 pub mod Serials

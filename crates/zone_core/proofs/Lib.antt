@@ -19,6 +19,7 @@ pub mod NumberTexts
 pub mod RecordData
 pub mod EntryRows
 pub mod EntryLists
+pub mod ReadOctets
 pub mod ReadEntries
 pub mod ReadZones
 pub mod OneRecord
@@ -57,3 +58,13 @@ pub mod TypedData
 pub mod PlainRecords
 pub mod SameSoas
 pub mod RulesKept
+pub mod PrintedNames
+pub mod PrintedData
+pub mod PrintedRows
+pub mod PrintedLines
+pub mod PrintedZones
+pub mod PrintedSymbols
+pub mod PrintedWords
+pub mod PrintedDocuments
+pub mod PrintedTexts
+pub mod PrintedOnce

@@ -9,10 +9,7 @@ use Rattle.dns_label.specs.Name.{IsLabel, IsName, wire}
 use Rattle.dns_rdata.proofs.Fronts.{same_fronts}
 use Rattle.zone_core.proofs.Decided.{Decided}
 use Rattle.zone_core.proofs.LastRecord.{all_fronts}
-
--- octets
-abbrev pub AreOctets : List ℕ → Type 0
-AreOctets text = AllByRecursion (λ octet. octet < 2 ^ 8) text
+pub use Rattle.zone_core.specs.Records.{AreOctets}
 
 pub octet_at : (text : List ℕ) → AreOctets text → (i : ℕ) → get_or text i 0 < 256
 octet_at [] each i = omega arith
@@ -206,3 +203,8 @@ name_by_labels text (inr none) =
 
 pub name_decided : (text : List ℕ) → Decided (NameFront text)
 name_decided text = name_by_labels text (labels_decided (length text) text (omega arith))
+
+-- octets by their places
+pub octets_by_place : (text : List ℕ) → ((i : ℕ) → get_or text i 0 < 256) → AreOctets text
+octets_by_place [] small = tt
+octets_by_place (x ∷ text) small = (small 0, octets_by_place text (λ i. small (suc i)))

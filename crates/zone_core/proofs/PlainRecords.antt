@@ -2,6 +2,7 @@
 use Rattle.std.proofs.Common.{◌≡◌, ℕ, ◌+◌, ◌<◌, ◌≤◌, ◌^◌, List, ◌++◌, length, take, drop, Result, Ok, Err, refl, sym, ap, ◌∙◌, subst, arith, append_assoc, length-append, length-drop, Bool, false, true, IsTrue, inl, inr}
 use Rattle.std.specs.Result.{IfErr}
 use Rattle.std.specs.Int.{to_be_bytes, w16, w32}
+use Rattle.std.specs.List.{AllByRecursion}
 use Rattle.std.proofs.Math.Seq.{take-append_seam}
 use Rattle.std.proofs.lemmas.List.{take-append-drop, drop-drop, length-take-le}
 use Rattle.dns_label.specs.Name.{IsName, wire}
@@ -11,13 +12,15 @@ use Rattle.dns_rdata.specs.Fields.{IsData}
 use Rattle.dns_rdata.proofs.Fronts.{same_fronts, same_number16}
 use Rattle.dns_message.specs.Record.{ReadsPlainRecord, record_octets}
 use Rattle.zone_core.specs.Record.{Record}
-use Rattle.zone_core.specs.Records.{IsRecordOf}
+use Rattle.zone_core.specs.Records.{AreOctets, IsRecordOf}
 use Rattle.zone_core.specs.Transfer.{IsTypeToday}
 use Rattle.zone_core.specs.Intake.{OnMalformed}
 use Rattle.zone_core.specs.declared.receive.record.RecordError.{RecordError}
 use Rattle.zone_core.specs.declared.receive.record.RecordError.TheVariants.{Malformed, OutOfMemory}
 use Rattle.zone_core.proofs.SoaOctets.{front_one}
 use Rattle.zone_core.proofs.Questions.{too_few}
+use Rattle.zone_core.proofs.NameFronts.{octets_behind, octets_front}
+use Rattle.zone_core.proofs.PrintedTexts.{wire_back}
 
 -- what a refusal has to say, where it is known
 pub malformed_exit : {T P : Type 0} (result : Result T RecordError) → P → IfErr result (λ error. OnMalformed error P)
@@ -153,18 +156,25 @@ plain_record message place next r rest is_name rtype class ttl rdata data_is at 
 
 -- and it is one of its class
 pub known_record : (class : ℕ) (r : Record) → IsName r.owner → r.rtype < 2 ^ 16 → r.class < 2 ^ 16 → r.ttl < 2 ^ 32
-    → length r.rdata < 2 ^ 16 → IsTypeToday r.rtype → IsData r.rtype r.rdata → r.class ≡ class → IsRecordOf class r
-known_record class r is_name rtype class_fits ttl rdata (inl soa) data_is class_is = record {
+    → length r.rdata < 2 ^ 16 → IsTypeToday r.rtype → IsData r.rtype r.rdata → r.class ≡ class → AllByRecursion AreOctets r.owner
+    → AreOctets r.rdata → IsRecordOf class r
+known_record class r is_name rtype class_fits ttl rdata (inl soa) data_is class_is owner_octets data_octets = record {
   lawful = record { owner = is_name; rtype = rtype; class = class_fits; ttl = ttl; rdata = rdata };
   data_is = data_is;
   class_is = class_is;
   spellable = λ other. absurd (omega (arith, soa, other));
+  owner_octets = owner_octets;
+  data_octets = data_octets;
+  today = inl soa;
 }
-known_record class r is_name rtype class_fits ttl rdata (inr address) data_is class_is = record {
+known_record class r is_name rtype class_fits ttl rdata (inr address) data_is class_is owner_octets data_octets = record {
   lawful = record { owner = is_name; rtype = rtype; class = class_fits; ttl = ttl; rdata = rdata };
   data_is = data_is;
   class_is = class_is;
   spellable = λ other. absurd (omega (arith, address, other));
+  owner_octets = owner_octets;
+  data_octets = data_octets;
+  today = inr address;
 }
 
 -- both, for what was read part by part
@@ -172,10 +182,10 @@ pub read_record : (message : List ℕ) (place next : ℕ) (r : Record) (owner : 
     (behind rest : List ℕ) → IsName owner → rtype < 2 ^ 16 → class < 2 ^ 16 → ttl < 2 ^ 32 → len < 2 ^ 16
     → drop place message ≡ wire owner ++ behind_owner rtype class ttl len behind → r.owner ≡ owner → r.rtype ≡ rtype → r.class ≡ class
     → r.ttl ≡ ttl → length r.rdata ≡ len → behind ≡ r.rdata ++ rest → IsTypeToday r.rtype → IsData r.rtype r.rdata
-    → next ≡ place + (length (wire owner) + (10 + len))
+    → next ≡ place + (length (wire owner) + (10 + len)) → AreOctets (drop place message)
     → (ReadsPlainRecord message place r next × IsTypeToday r.rtype) × IsRecordOf r.class r
 read_record message place next r owner rtype class ttl len behind rest is_name f1 f2 f3 f4 at owner_is rtype_is class_is ttl_is len_is
-    data_at today data_is ends =
+    data_at today data_is ends all =
     let name : IsName r.owner = subst (λ (n : List (List ℕ)). IsName n) (sym owner_is) is_name in
     let g1 : r.rtype < 2 ^ 16 = omega arith in
     let g2 : r.class < 2 ^ 16 = omega arith in
@@ -190,4 +200,10 @@ read_record message place next r owner rtype class ttl len behind rest is_name f
     ∙ ap (λ l. wire r.owner ++ behind_owner r.rtype r.class r.ttl (length r.rdata) l) data_at in
     let reads = plain_record message place next r rest name g1 g2 g3 g4 data_is whole
     (omega (arith, ends, ap (λ n. length (wire n)) owner_is, len_is)) in
-    ((reads, today), known_record r.class r name g1 g2 g3 g4 today data_is refl)
+    let behind' : List ℕ = behind_owner r.rtype r.class r.ttl (length r.rdata) (r.rdata ++ rest) in
+    let numbers : List ℕ = to_be_bytes w16 r.rtype ++ to_be_bytes w16 r.class ++ to_be_bytes w32 r.ttl ++ to_be_bytes w16 (length r.rdata) in
+    let parts : behind' ≡ numbers ++ (r.rdata ++ rest) = simp append_assoc in
+    let owner_octets = wire_back r.owner (octets_front (drop place message) (wire r.owner) behind' whole all) in
+    let more = octets_behind (drop place message) (wire r.owner) behind' whole all in
+    let data_octets = octets_front (r.rdata ++ rest) r.rdata rest refl (octets_behind behind' numbers (r.rdata ++ rest) parts more) in
+    ((reads, today), known_record r.class r name g1 g2 g3 g4 today data_is refl owner_octets data_octets)

@@ -7,7 +7,7 @@ use Rattle.dns_rdata.specs.Fields.IsData.{typed, opaque}
 use Rattle.zone_core.specs.Record.{Record}
 use Rattle.zone_core.specs.Zone.{IsUnder, IsBehindSoa, soa_type}
 use Rattle.zone_core.specs.Query.{AxfrQuery}
-use Rattle.zone_core.specs.Records.{IsRecordOf, AreRecordsOf, IsQueryFor}
+use Rattle.zone_core.specs.Records.{AreRecordsOf, AreSendable, IsQueryFor, IsRecordOf, IsSendable}
 use Rattle.zone_core.specs.Sent.{AsksFor, IsSent, message, size}
 use Rattle.zone_core.specs.Transfer.{Form, Standard, WrittenOut, IsTypeToday, IsInZoneOf, SameSoa, IsTransfer, IsTransferIn}
 use Rattle.zone_core.proofs.LastRecord.{all_append, all_joined, ends_with}
@@ -38,7 +38,7 @@ under_query : (query : AxfrQuery) (apex name : List (List ℕ)) → low query.na
 under_query query apex name same under = (under.0, under.1 ∙ ap (λ l. under.0 ++ l) (sym same))
 
 behind_soa : (query : AxfrQuery) (class : ℕ) (soa : Record) (others : List Record) → AsksFor query soa.owner class
-    → AllByRecursion (IsRecordOf class) others → AllByRecursion (IsBehindSoa soa) others
+    → AllByRecursion (IsSendable class) others → AllByRecursion (IsBehindSoa soa) others
     → AllByRecursion (IsInZoneOf query) others × AllByRecursion (λ r. r.rtype ≢ soa_type) others
 behind_soa query class soa [] asks each behind = (tt, tt)
 behind_soa query class soa (r ∷ others) asks each behind =
@@ -57,16 +57,16 @@ all_small query max (group ∷ groups) fits small = (omega (arith, small.0), all
 
 -- What is sent is a transfer in each form that has room for its records, and of the very same records.
 pub sent_in_form : (form : Form) (records : List Record) (class : ℕ) (query : AxfrQuery) (max : ℕ) (stream : List ℕ) → max < 2 ^ 16
-    → AreRecordsOf class records → IsQueryFor records class query → AllByRecursion (Allows form) records
+    → AreSendable class records → IsQueryFor records class query → AllByRecursion (Allows form) records
     → IsSent records query max stream → IsTransferIn form query stream records
 sent_in_form form [] class query max stream fits are asks allowed sent = absurd are.zone
 sent_in_form form (soa ∷ others) class query max stream fits are asks allowed sent =
     let cut = sent.cut.fits in
-    let each = all_append (IsRecordOf class) (soa ∷ others) (soa ∷ []) are.each (are.each.0, tt) in
+    let each = all_append (IsSendable class) (soa ∷ others) (soa ∷ []) are.each (are.each.0, tt) in
     let each_allowed = all_append (Allows form) (soa ∷ others) (soa ∷ []) allowed (allowed.0, tt) in
-    let P : List Record → Type 0 = λ records. AllByRecursion (IsRecordOf class) records in
+    let P : List Record → Type 0 = λ records. AllByRecursion (IsSendable class) records in
     let Q : List Record → Type 0 = λ records. AllByRecursion (Allows form) records in
-    let grouped = all_joined (IsRecordOf class) sent.groups (subst P (sym cut.cut.joins) each) in
+    let grouped = all_joined (IsSendable class) sent.groups (subst P (sym cut.cut.joins) each) in
     let grouped_allowed = all_joined (Allows form) sent.groups (subst Q (sym cut.cut.joins) each_allowed) in
     let small = all_small query max sent.groups fits cut.small in
     let ends = ends_with sent.groups (soa ∷ others) soa cut.cut.nonempty cut.cut.joins in
@@ -92,23 +92,36 @@ sent_in_form form (soa ∷ others) class query max stream fits are asks allowed 
     }
 
 -- What is sent is a transfer as the standard has it.
+pub sendable_is_transfer : (records : List Record) (class : ℕ) (query : AxfrQuery) (max : ℕ) (stream : List ℕ) → max < 2 ^ 16
+    → AreSendable class records → IsQueryFor records class query → IsSent records query max stream → IsTransfer query stream records
+sendable_is_transfer records class query max stream fits are asks sent =
+    sent_in_form Standard records class query max stream fits are asks (all_allowed records) sent
+
+-- so it is for a zone that was read
+each_sendable : (class : ℕ) (records : List Record) → AllByRecursion (IsRecordOf class) records → AllByRecursion (IsSendable class) records
+each_sendable class [] each = tt
+each_sendable class (r ∷ records) each = (
+  record { lawful = each.0.lawful; data_is = each.0.data_is; class_is = each.0.class_is; spellable = each.0.spellable },
+  each_sendable class records each.1,
+)
+
 pub sent_is_transfer : (records : List Record) (class : ℕ) (query : AxfrQuery) (max : ℕ) (stream : List ℕ) → max < 2 ^ 16
     → AreRecordsOf class records → IsQueryFor records class query → IsSent records query max stream → IsTransfer query stream records
 sent_is_transfer records class query max stream fits are asks sent =
-    sent_in_form Standard records class query max stream fits are asks (all_allowed records) sent
+    sendable_is_transfer records class query max stream fits (record { each = each_sendable class records are.each; zone = are.zone }) asks sent
 
 -- Where its records are of the types that are received today, it is a transfer that is received.
 pub sent_is_received : (records : List Record) (class : ℕ) (query : AxfrQuery) (max : ℕ) (stream : List ℕ) → max < 2 ^ 16
-    → AreRecordsOf class records → IsQueryFor records class query → AllByRecursion (λ r. IsTypeToday r.rtype) records
+    → AreSendable class records → IsQueryFor records class query → AllByRecursion (λ r. IsTypeToday r.rtype) records
     → IsSent records query max stream → IsTransferIn WrittenOut query stream records
 sent_is_received = sent_in_form WrittenOut
 
 -- What is sent and then received as a transfer of records is what is sent for these.
 pub received_is_sent_again : (records others : List Record) (class : ℕ) (query : AxfrQuery) (max : ℕ) (stream : List ℕ) → max < 2 ^ 16
-    → AreRecordsOf class records → IsQueryFor records class query → IsSent records query max stream
+    → AreSendable class records → IsQueryFor records class query → IsSent records query max stream
     → IsTransferIn WrittenOut query stream others → (records ≡ others) × IsSent others query max stream
 received_is_sent_again records others class query max stream fits are asks sent received =
-    let same = transfer_one query stream records others (sent_is_transfer records class query max stream fits are asks sent)
+    let same = transfer_one query stream records others (sendable_is_transfer records class query max stream fits are asks sent)
     (written_transfer query stream others received) in
     let P : List Record → Type 0 = λ records. IsSent records query max stream in
     (same, subst P same sent)

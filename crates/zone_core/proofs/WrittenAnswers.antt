@@ -13,7 +13,7 @@ use Rattle.dns_message.proofs.WrittenRecords.{record-written, question-written}
 use Rattle.zone_core.specs.Record.{Record}
 use Rattle.zone_core.specs.Query.{AxfrQuery, question_of}
 use Rattle.zone_core.specs.Frames.{IsFramable}
-use Rattle.zone_core.specs.Records.{IsRecordOf, IsQueryFor}
+use Rattle.zone_core.specs.Records.{IsSendable, IsQueryFor}
 use Rattle.zone_core.specs.Sent.{message, size}
 use Rattle.zone_core.specs.Transfer.{Form, Standard, WrittenOut, IsTypeToday, HasQuestion, HasRecord, SpellsRecords, IsAnswer, AreAnswers}
 use Rattle.zone_core.specs.Transfer.SpellsRecords.{none, one}
@@ -53,7 +53,7 @@ all_allowed (r ∷ records) = (tt, all_allowed records)
 
 -- a record that is written out is read, and so is a question
 has-record : (form : Form) (class : ℕ) (octets : List ℕ) (place : ℕ) (r : Record) (rest : List ℕ)
-    → drop place octets ≡ record_octets r ++ rest → place ≤ length octets → IsRecordOf class r → Allows form r
+    → drop place octets ≡ record_octets r ++ rest → place ≤ length octets → IsSendable class r → Allows form r
     → HasRecord form octets place r (place + length (record_octets r))
 has-record Standard class octets place r rest at within is allowed = record-written octets place r rest at within is.lawful is.data_is
 has-record WrittenOut class octets place r rest at within is allowed =
@@ -68,7 +68,7 @@ has-question WrittenOut octets place q rest at within name small small' =
 
 -- records that are written out are read
 records-written : (form : Form) (class : ℕ) (octets : List ℕ) (place : ℕ) (group : List Record) (rest : List ℕ)
-    → drop place octets ≡ flat_map record_octets group ++ rest → place ≤ length octets → AllByRecursion (IsRecordOf class) group
+    → drop place octets ≡ flat_map record_octets group ++ rest → place ≤ length octets → AllByRecursion (IsSendable class) group
     → AllByRecursion (Allows form) group
     → SpellsRecords form octets place group (place + length (flat_map record_octets group))
 records-written form class octets place [] rest at within each allowed =
@@ -86,7 +86,7 @@ records-written form class octets place (r ∷ group) rest at within each allowe
 
 -- the message of a group that isn't too large is an answer
 answer-written : (form : Form) (query : AxfrQuery) (first : Bool) (class : ℕ) (records group : List Record) → IsQueryFor records class query
-    → AllByRecursion (IsRecordOf class) group → AllByRecursion (Allows form) group → size query group < 2 ^ 16
+    → AllByRecursion (IsSendable class) group → AllByRecursion (Allows form) group → size query group < 2 ^ 16
     → IsAnswer form query first (message query group) group
 answer-written form query first class records group asks each allowed small =
     let question : List ℕ = question_octets (question_of query) in
@@ -116,7 +116,7 @@ answer-written form query first class records group asks each allowed small =
 
 -- messages of groups that aren't too large are answers
 pub answers-written : (form : Form) (query : AxfrQuery) (first : Bool) (class : ℕ) (records : List Record) (groups : List (List Record))
-    → IsQueryFor records class query → AllByRecursion (AllByRecursion (IsRecordOf class)) groups
+    → IsQueryFor records class query → AllByRecursion (AllByRecursion (IsSendable class)) groups
     → AllByRecursion (AllByRecursion (Allows form)) groups
     → AllByRecursion (λ group. size query group < 2 ^ 16) groups → AreAnswers form query first (map (message query) groups) groups
 answers-written form query first class records [] asks each allowed small = tt

@@ -8,17 +8,35 @@ use Rattle.zone_core.specs.Record.{Record}
 use Rattle.zone_core.specs.Zone.{IsZone}
 use Rattle.zone_core.specs.Query.{AxfrQuery}
 use Rattle.zone_core.specs.View.{apex_of}
-use Rattle.zone_core.specs.Transfer.{IsSpellable}
+use Rattle.zone_core.specs.Transfer.{IsSpellable, IsTypeToday}
 use Rattle.zone_core.specs.Sent.{AsksFor}
 
+abbrev pub AreOctets : List ℕ → Type 0
+AreOctets octets = AllByRecursion (λ octet. octet < 2 ^ 8) octets
+
 -- A record of the class whose data is that of its type, and which text can spell.
-pub record IsRecordOf (class : ℕ) (r : Record) : Type 0 where
+pub record IsSendable (class : ℕ) (r : Record) : Type 0 where
   pub lawful : IsRecord r
   pub data_is : IsData r.rtype r.rdata
   pub class_is : r.class ≡ class
   pub spellable : IsSpellable r
 
--- The records are a zone of the class.
+-- A zone of the class, of records of any types.
+pub record AreSendable (class : ℕ) (records : List Record) : Type 0 where
+  pub each : AllByRecursion (IsSendable class) records
+  pub zone : IsZone records
+
+-- The same of a record that is made of octets, and of a type that is read today: an SOA or an A record.
+pub record IsRecordOf (class : ℕ) (r : Record) : Type 0 where
+  pub lawful : IsRecord r
+  pub data_is : IsData r.rtype r.rdata
+  pub class_is : r.class ≡ class
+  pub spellable : IsSpellable r
+  pub owner_octets : AllByRecursion AreOctets r.owner
+  pub data_octets : AreOctets r.rdata
+  pub today : IsTypeToday r.rtype
+
+-- The records are a zone of the class, as one is read.
 pub record AreRecordsOf (class : ℕ) (records : List Record) : Type 0 where
   pub each : AllByRecursion (IsRecordOf class) records
   pub zone : IsZone records

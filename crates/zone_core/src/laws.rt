@@ -3,6 +3,7 @@
 
 mod cutting;
 mod framing;
+mod printed;
 mod received;
 mod sent;
 mod text;
@@ -12,6 +13,7 @@ pub use cutting::{
     full_cut_is_one, parts_fit_where_size_grows, plain_full_cut_is_fewest, sum_of_sizes_grows,
 };
 pub use framing::two_splits_are_one;
+pub use printed::{printed_text_is_the_zones, records_have_one_printed_text};
 pub use received::{
     at_most_one_of_three, one_of_three, received_is_sent_again, sent_is_received,
     transfers_are_one, written_out_is_standard,

@@ -4,7 +4,7 @@ ghost use Rattle.std.specs.Prelude.{◌≡◌, ◌<◌, ◌^◌, ◌++◌, ◌�
 ghost use Rattle.std.specs.List.{AllByRecursion};
 ghost use Rattle.zone_core.specs.Record.{Record};
 ghost use Rattle.zone_core.specs.Query.{AxfrQuery};
-ghost use Rattle.zone_core.specs.Records.{AreRecordsOf, IsQueryFor};
+ghost use Rattle.zone_core.specs.Records.{AreSendable, IsQueryFor};
 ghost use Rattle.zone_core.specs.Receiving.{IsBegun, HasBadMessage};
 ghost use Rattle.zone_core.specs.Sent.{IsSent};
 ghost use Rattle.zone_core.specs.Transfer.{Standard, WrittenOut, IsTypeToday, IsAnswer, IsTransfer, IsTransferIn};
@@ -33,7 +33,7 @@ pub fn written_out_is_standard()
 /// received, and of the very same records.
 pub fn sent_is_received()
     ensures { (records : List Record) (class : ℕ) (query : AxfrQuery) (max : ℕ) (stream : List ℕ) →
-        max < 2 ^ 16 → AreRecordsOf class records → IsQueryFor records class query →
+        max < 2 ^ 16 → AreSendable class records → IsQueryFor records class query →
         AllByRecursion (λ r. IsTypeToday r.rtype) records →
         IsSent records query max stream → IsTransferIn WrittenOut query stream records }
 {}
@@ -42,7 +42,7 @@ pub fn sent_is_received()
 /// the very same stream again: the same messages, the SOA at the end too.
 pub fn received_is_sent_again()
     ensures { (records others : List Record) (class : ℕ) (query : AxfrQuery) (max : ℕ) (stream : List ℕ) →
-        max < 2 ^ 16 → AreRecordsOf class records → IsQueryFor records class query →
+        max < 2 ^ 16 → AreSendable class records → IsQueryFor records class query →
         IsSent records query max stream → IsTransferIn WrittenOut query stream others →
         (records ≡ others) × IsSent others query max stream }
 {}

@@ -3,7 +3,7 @@
 ghost use Rattle.std.specs.Prelude.{ℕ, ◌<◌, ◌^◌, List};
 ghost use Rattle.zone_core.specs.Record.{Record};
 ghost use Rattle.zone_core.specs.Query.{AxfrQuery};
-ghost use Rattle.zone_core.specs.Records.{AreRecordsOf, IsQueryFor};
+ghost use Rattle.zone_core.specs.Records.{AreSendable, IsQueryFor};
 ghost use Rattle.zone_core.specs.Sent.{IsSent};
 ghost use Rattle.zone_core.specs.Transfer.{IsTransfer};
 
@@ -11,6 +11,6 @@ ghost use Rattle.zone_core.specs.Transfer.{IsTransfer};
 /// octets are those of the zone, names included. No message has more octets than its length in front can say.
 pub fn sent_is_a_transfer()
     ensures { (records : List Record) (class : ℕ) (query : AxfrQuery) (max : ℕ) (stream : List ℕ) →
-        max < 2 ^ 16 → AreRecordsOf class records → IsQueryFor records class query →
+        max < 2 ^ 16 → AreSendable class records → IsQueryFor records class query →
         IsSent records query max stream → IsTransfer query stream records }
 {}

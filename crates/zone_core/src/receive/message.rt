@@ -6,7 +6,7 @@ ghost use Rattle.dns_message.specs.Header.{answer_count};
 ghost use Rattle.zone_core.specs.Record as spec;
 ghost use Rattle.zone_core.specs.Asked.{asked_of};
 ghost use Rattle.zone_core.specs.Owned.{records_of};
-ghost use Rattle.zone_core.specs.Records.{IsRecordOf};
+ghost use Rattle.zone_core.specs.Records.{AreOctets, IsRecordOf};
 ghost use Rattle.zone_core.specs.Transfer.{WrittenOut, AsksAgain, CountsAnswers, HasAnswerHeader};
 ghost use Rattle.zone_core.specs.Receiving.{IsOpen, IsMessageFault, IsRecordFault};
 ghost use Rattle.zone_core.specs.Intake.{IsFaultOr, StandsAt, TakesMessage, TakesRecord};
@@ -124,6 +124,7 @@ fn take_record(
     records: &mut Vec<Record>,
     closed: bool,
 ) -> Result<bool, ReceiveError>
+    requires octets { AreOctets (octets_of parser.old) }
     requires stands { (front : List spec.Record) × StandsAt (asked_of query.now) (records_of query.now.class records.old.items) closed front }
     requires known { AllByRecursion (IsRecordOf query.now.class) (records_of query.now.class records.old.items) }
     ensures ok { IfOk result (λ ends. (front : List spec.Record) → StandsAt (asked_of query.now) (records_of query.now.class records.old.items) closed front

@@ -4,7 +4,7 @@ ghost use Rattle.dns_octets.specs.Parser.{octets_of, place_of};
 ghost use Rattle.dns_rdata.specs.Fields.{IsData};
 ghost use Rattle.zone_core.specs.Record as spec;
 ghost use Rattle.zone_core.specs.Owned.{record_of};
-ghost use Rattle.zone_core.specs.Records.{IsRecordOf};
+ghost use Rattle.zone_core.specs.Records.{AreOctets, IsRecordOf};
 ghost use Rattle.zone_core.specs.Transfer.{WrittenOut, HasRecord, IsTypeToday};
 ghost use Rattle.zone_core.specs.Intake.{OnMalformed};
 ghost use Rattle.zone_core.specs.declared.receive.record.RecordError.TheVariants as record_error;
@@ -52,6 +52,7 @@ pub(crate) fn parse_record(
     alloc: Global,
     parser: &mut Parser<'_>,
 ) -> Result<(Record, Class), RecordError>
+    requires { AreOctets (octets_of parser.old) }
     ensures ok { IfOk result (λ found. HasRecord WrittenOut (octets_of parser.old) (place_of parser.old) (record_of found.1 found.0) (place_of parser.new)) }
     ensures known { IfOk result (λ found. IsRecordOf found.1 (record_of found.1 found.0)) }
     ensures same { IfOk result (λ found. octets_of parser.new ≡ octets_of parser.old) }

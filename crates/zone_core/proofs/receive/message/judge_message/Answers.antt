@@ -5,6 +5,8 @@ use Rattle.zone_core.specs.Record as spec
 use Rattle.zone_core.specs.Asked.{asked_of}
 use Rattle.zone_core.specs.Owned.{records_of}
 use Rattle.zone_core.specs.Receiving.{IsMessageFault}
+use Rattle.zone_core.specs.Records.{AreOctets}
+use Rattle.zone_core.proofs.NameFronts.{octets_by_place}
 use Rattle.zone_core.proofs.TakenRecords.{fault_or}
 use Rattle.zone_core.proofs.TakenMessages.{taken_none, taken_more, taken_fault}
 use Rattle.zone_core.proofs.receive.message.judge_message.Goals as goal
@@ -14,6 +16,10 @@ returns-in_err-check_header-clause-err c =
     let p = err_from_is_err_and c.from_residual.result c.from_residual.ensures.1 in
     let front : List spec.Record = records_of c.args.query.now.class c.args.records.now.items in
     rw (p.1, p.2) (fault_or (IsMessageFault (asked_of c.args.query.now) front c.args.is_first c.args.message.now) _ (c.in_err-check_header.ensures.err front c.args.is_first))
+
+pub take_record-requires-clause-octets : goal.take_record-requires-clause-octets
+take_record-requires-clause-octets c =
+    subst AreOctets (sym c.loop.invariant.taken.octets) (octets_by_place c.args.message.now (λ i. let fits = c.type_inv.message i in omega (arith, fits)))
 
 pub loop-init : goal.loop-init
 loop-init c =

@@ -8,6 +8,7 @@ use Rattle.zone_core.specs.Record as spec
 use Rattle.zone_core.specs.Records.{IsRecordOf}
 use Rattle.zone_core.specs.Transfer.{IsTypeToday}
 use Rattle.zone_core.proofs.PlainRecords.{malformed_exit, taken_off, left_few, parts_taken, no_room, same_parts, no_data, typed_parts, not_typed, taken_long, read_record}
+use Rattle.zone_core.proofs.RecordFronts.{octets_from}
 use Rattle.zone_core.proofs.receive.record.parse_record.Goals as goal
 
 pub returns-in_err-parse_u16_be-clause-err : goal.returns-in_err-parse_u16_be-clause-err
@@ -161,7 +162,7 @@ made c =
     (rest_of c.parse_u16_be-3.new.self) (rest_of c.parse_octets.new.self) name.0 f1 f2 f3 f4 whole c.in_ok-to_vec.ensures
     c.from_int-rtype.ensures c.from_int-class.ensures c.from_secs-ttl.ensures (ap length items ∙ long ∙ c.from.ensures)
     (fifth ∙ ap (λ l. l ++ rest_of c.parse_octets.new.self) (sym items)) typed.0 (subst P (sym items) typed.1)
-    (omega (arith, q0, q1, q2, q3, q4, q5, c.from.ensures))
+    (omega (arith, q0, q1, q2, q3, q4, q5, c.from.ensures)) (octets_from (octets_of c.args.parser.now) (place_of c.args.parser.now) c.requires)
 
 pub returns-clause-ok : goal.returns-clause-ok
 returns-clause-ok c = (made c).0
