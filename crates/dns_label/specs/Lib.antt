@@ -5,3 +5,4 @@ pub mod Label
 pub mod Split
 pub mod Symbol
 pub mod NameText
+pub mod Printed

@@ -1,2 +1,4 @@
 pub mod Tokens
 pub mod Numbers
+pub mod Document
+pub mod Tried

@@ -10,6 +10,7 @@ pub mod NumberTexts
 pub mod RecordData
 pub mod EntryRows
 pub mod EntryLists
+pub mod ReadOctets
 pub mod ReadEntries
 pub mod ReadZones
 pub mod OneRecord
@@ -26,3 +27,8 @@ pub mod Patched
 pub mod Placing
 pub mod Streams
 pub mod SendFaults
+pub mod PrintedNames
+pub mod PrintedData
+pub mod PrintedRows
+pub mod PrintedLines
+pub mod PrintedZones

@@ -1,26 +1,27 @@
 -- What the entries of a text are.
-use Rattle.std.proofs.Common.{◌≡◌, ◌≢◌, ℕ, ◌+◌, ◌<◌, ◌≤◌, ◌^◌, Bool, true, false, List, [], ◌∷◌, ◌++◌, length, map, refl, sym, ◌∙◌, ap, subst, arith, append_assoc, append-nil, length-append}
-use Rattle.std.specs.Prelude.{Option, Some, None, ⊤, ◌==◌, if◌then◌else◌, replicate}
+use Rattle.std.proofs.Common.{◌≡◌, ◌⊎◌, inl, inr, ℕ, ◌<◌, ◌≤◌, ◌^◌, Bool, true, false, List, [], ◌∷◌, ◌++◌, length, refl, sym, ap, subst, arith, append-nil, length-append}
+use Rattle.std.specs.Prelude.{Option, ◌==◌, if◌then◌else◌}
 use Rattle.std.specs.Int.{to_be_bytes, w32}
-use Rattle.std.specs.List.{AllByRecursion}
+use Rattle.std.specs.List.{AllByRecursion, flat_map}
 use Rattle.dns_label.specs.Name.{IsName, wire}
 use Rattle.dns_label.specs.NameText.{IsAbsoluteText}
 use Rattle.dns_label.specs.NameText.IsAbsoluteText.{root, labels}
-use Rattle.dns_text.specs.Tokens.{Next, Row, Token, IsRun, from_feed, IsEmptyRow}
+use Rattle.dns_text.specs.Tokens.{Next, Token, from_feed, IsEmptyRow}
 use Rattle.dns_text.specs.Tokens.Next.{ended, goes, comment, quoted, unquoted}
-use Rattle.dns_text.specs.Tokens.Row.{end, token}
-use Rattle.dns_text.specs.Numbers.{IsNumberText}
-use Rattle.dns_rdata.specs.Fields.{Field, ipv4, compressible, number32, octets, IsRow, IsData, kinds_of}
+use Rattle.dns_text.specs.Tokens.Row.{end}
+use Rattle.dns_rdata.specs.Fields.{Field, ipv4, compressible, number32, octets, IsRow}
 use Rattle.dns_rdata.specs.Fields.IsData.{typed}
-use Rattle.dns_message.specs.Record.{IsRecord}
-use Rattle.dns_zonefile.specs.PlainRow.{PlainRow, Words, DataWords, RecordWords, IsWord}
+use Rattle.dns_zonefile.specs.PlainRow.{Words, RecordWords}
 use Rattle.dns_zonefile.specs.PlainRow.Words.{last, more}
 use Rattle.dns_zonefile.specs.PlainRow.DataWords.{a, soa}
 use Rattle.dns_zonefile.specs.PlainRow.RecordWords.{words}
 use Rattle.zone_core.specs.Record.{Record}
-use Rattle.zone_core.specs.Records.{IsRecordOf}
+use Rattle.zone_core.specs.Records.{AreOctets, IsRecordOf}
+use Rattle.zone_core.specs.Zone.{soa_type}
 use Rattle.zone_core.specs.ZoneText.{Entries}
 use Rattle.zone_core.specs.ZoneText.Entries.{none, empty, entry}
+use Rattle.zone_core.proofs.LastRecord.{all_append}
+use Rattle.zone_core.proofs.ReadOctets.{absolute_octets, wire_octets, address_octets, numbers_octets}
 
 -- entries behind entries
 pub entries-append : {class : ℕ} {text rest end' : List ℕ} {first second : List Record} → Entries class text first rest
@@ -88,26 +89,38 @@ soa-row m r n1 n2 n3 n4 n5 m_is r_is f1 f2 f3 f4 f5 = record {
       omega (arith, length-append (wire m) (wire r ++ numbers), length-append (wire r) numbers, m_is.short, r_is.short);
 }
 
--- a row of a type that is no CAA makes a record of the class
+-- a row of a type that is read today makes a record of the class
 pub row-lawful : (class rtype seconds : ℕ) (name : List (List ℕ)) (row : List Field) → IsRow rtype row → IsName name → seconds < 2 ^ 32
-    → class < 2 ^ 16 → rtype < 257
+    → class < 2 ^ 16 → (rtype ≡ soa_type) ⊎ (rtype ≡ 1) → rtype < 257 → AllByRecursion AreOctets name → AreOctets (octets row)
     → IsRecordOf class (record { owner = name; rtype = rtype; class = class; ttl = seconds; rdata = octets row })
-row-lawful class rtype seconds name row is name_is ttl_fits fits below = record {
+row-lawful class rtype seconds name row is name_is ttl_fits fits today below name_octets row_octets = record {
   lawful = record { owner = name_is; rtype = omega arith; class = fits; ttl = ttl_fits; rdata = is.short };
   data_is = typed row is refl;
   class_is = refl;
   spellable = λ e. absurd (omega arith);
+  owner_octets = name_octets;
+  data_octets = row_octets;
+  today = today;
 }
 
 -- the records that words spell are records of the class
 pub record-lawful : {class : ℕ} {each : List (List ℕ)} {r : Record} → RecordWords class each r → class < 2 ^ 16 → IsRecordOf class r
 record-lawful {class} (words {name = name} {seconds = seconds} {row = row} owner ttl class_is type_is (a {address = address} dotted)) fits =
     let four : length address ≡ 4 = ap (length {A = ℕ}) dotted.value in
-    row-lawful class 1 seconds name row (address-row address four) (absolute-is-name owner) ttl.fits fits (omega arith)
+    row-lawful class 1 seconds name row (address-row address four) (absolute-is-name owner) ttl.fits fits (inr refl) (omega arith)
+    (absolute_octets owner) (subst AreOctets (sym (append-nil address)) (address_octets dotted))
 record-lawful {class} (words {name = name} {seconds = seconds} {row = row} owner ttl class_is type_is
     (soa {m = m} {r = r} {n1 = n1} {n2 = n2} {n3 = n3} {n4 = n4} {n5 = n5} m_is r_is f1 f2 f3 f4 f5)) fits =
-    row-lawful class 6 seconds name row (soa-row m r n1 n2 n3 n4 n5 (absolute-is-name m_is) (absolute-is-name r_is) f1.fits f2.fits f3.fits f4.fits f5.fits)
-    (absolute-is-name owner) ttl.fits fits (omega arith)
+    let m_name = absolute-is-name m_is in
+    let r_name = absolute-is-name r_is in
+    let numbers : List ℕ = n1 ∷ n2 ∷ n3 ∷ n4 ∷ n5 ∷ [] in
+    let numbers_wire = flat_map (to_be_bytes w32) numbers in
+    let P : ℕ → Type 0 = λ octet. octet < 2 ^ 8 in
+    row-lawful class 6 seconds name row (soa-row m r n1 n2 n3 n4 n5 m_name r_name f1.fits f2.fits f3.fits f4.fits f5.fits)
+    (absolute-is-name owner) ttl.fits fits (inl refl) (omega arith) (absolute_octets owner)
+    (all_append P (wire m) (wire r ++ numbers_wire) (wire_octets m m_name.labels (absolute_octets m_is))
+    (all_append P (wire r) numbers_wire (wire_octets r r_name.labels (absolute_octets r_is))
+    (numbers_octets numbers (f1.fits, (f2.fits, (f3.fits, (f4.fits, (f5.fits, tt))))))))
 
 -- an entry is a record of the class
 pub entry-lawful : {class : ℕ} {text rest : List ℕ} {r : Record} → Entries class text (r ∷ []) rest → class < 2 ^ 16 → IsRecordOf class r

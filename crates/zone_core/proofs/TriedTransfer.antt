@@ -1,5 +1,5 @@
 -- The premises of what is sent, tried on a zone of two records: they hold, so its stream is a transfer.
-use Rattle.std.proofs.Common.{ℕ, List, [], ◌∷◌, refl, arith}
+use Rattle.std.proofs.Common.{ℕ, List, [], ◌∷◌, inl, inr, refl, arith, rules}
 use Rattle.dns_label.specs.Name.{IsName}
 use Rattle.dns_rdata.specs.Fields.{Field}
 use Rattle.dns_rdata.specs.Fields.Field.{compressible, number32, ipv4}
@@ -26,6 +26,9 @@ are_records = record {
       data_is = typed soa_row (record { kinds = refl; each = (one_label 98, (one_label 99, (omega arith, (omega arith, (omega arith, (omega arith, (omega arith, tt))))))); short = omega arith }) refl;
       class_is = refl;
       spellable = λ is. absurd (omega (arith, is));
+      owner_octets = ((omega arith, tt), tt);
+      data_octets = search rules;
+      today = inl refl;
     },
     (
       record {
@@ -33,6 +36,9 @@ are_records = record {
         data_is = typed (ipv4 (1 ∷ 2 ∷ 3 ∷ 4 ∷ []) ∷ []) (record { kinds = refl; each = (refl, tt); short = omega arith }) refl;
         class_is = refl;
         spellable = λ is. absurd (omega (arith, is));
+        owner_octets = ((omega arith, tt), tt);
+        data_octets = (omega arith, (omega arith, (omega arith, (omega arith, tt))));
+        today = inr refl;
       },
       tt,
     ),

@@ -18,4 +18,6 @@ pub mod View
 pub mod Records
 pub mod Rules
 pub mod Reading
+pub mod Printed
+pub mod Printing
 pub mod Tried

@@ -1,4 +1,4 @@
-//! Zones: reading them from text, and sending them as the stream of a transfer.
+//! Zones: reading them from text, printing them as text, and sending them as the stream of a transfer.
 //!
 //! A part of `zonewire`, which hands all of it on. Its `specs/` say which text is a zone's, which stream is its transfer,
 //! and how its records are cut into messages.
@@ -6,6 +6,7 @@
 
 mod header;
 pub mod laws;
+mod print;
 mod query;
 mod query_error;
 mod receive;
@@ -17,6 +18,7 @@ mod transfer;
 mod zone;
 mod zone_error;
 
+pub use print::DisplayKind;
 pub use query::{Query, check_query};
 pub use query_error::QueryError;
 pub use receive::{ReceiveError, Receiver};

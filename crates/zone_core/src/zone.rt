@@ -2,6 +2,7 @@
 ghost use Rattle.std.specs.Prelude.{◌≡◌, ◌≢◌, ◌<◌, ◌^◌, ◌++◌, ◌∷◌, [], ◌+◌, ℕ, map, IfOk, IfErr, OnOk, IfSome, IfNone};
 ghost use Rattle.zone_core.specs.Entry.{EndsBehindRows};
 ghost use Rattle.zone_core.specs.Owned.{record_of, records_of};
+ghost use Rattle.zone_core.specs.Printed.{IsPrinted, layout_of};
 ghost use Rattle.zone_core.specs.Reading.{IsWhole, StopsReading};
 ghost use Rattle.zone_core.specs.Records.{AreRecordsOf};
 ghost use Rattle.zone_core.specs.Rules.{BreaksRule};
@@ -9,11 +10,12 @@ ghost use Rattle.zone_core.specs.View.{apex_of};
 ghost use Rattle.zone_core.specs.Zone.{IsZoneFront, any_class};
 ghost use Rattle.zone_core.specs.ZoneText.{Entries, IsZoneFault, IsZoneText};
 
+use crate::print::{DisplayKind, print_records};
 use crate::record::Record;
 use crate::text::entry::{EntryError, next_record};
 use crate::zone_error::ZoneError;
 use dns_name::{Class, Name, Rtype, Ttl};
-use std::alloc::Global;
+use std::alloc::{AllocError, Global};
 use std::marker::Model;
 
 /// A zone: one SOA record, and then the others of its class, all at or under the SOA's owner (RFC 1035 5.2).
@@ -84,6 +86,16 @@ impl Zone {
         ensures { result ≡ self.now.class }
     {
         self.class
+    }
+
+    /// The text of the zone's records, in their order and each on lines of its own, with their TTL and their class
+    /// (RFC 1035 5.1).
+    pub fn print(&self, alloc: Global, kind: DisplayKind) -> Result<Vec<u8>, AllocError>
+        ensures { IfOk result (λ text. IsPrinted (layout_of kind) self.now.records text.items) }
+    {
+        match kind {
+            DisplayKind::Simple => print_records(alloc, self.owned_records(), self.class),
+        }
     }
 
     /// The zone with these records, of which it is known that they are one.

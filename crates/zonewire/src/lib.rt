@@ -18,8 +18,8 @@ pub use sink::{Sink, SinkError, StdSink};
 pub use source::{Source, SourceError, StdSource};
 pub use words::{WordsFault, job};
 pub use zone_core::{
-    Query, QueryError, SendError, Spelling, Zone, ZoneError, ZoneRecord, ZoneRecords, check_query,
-    laws, send,
+    DisplayKind, Query, QueryError, SendError, Spelling, Zone, ZoneError, ZoneRecord, ZoneRecords,
+    check_query, laws, send,
 };
 
 #[cfg(test)]
