@@ -43,7 +43,7 @@ internet = 1
 abbrev pub class_in : List Row → Option ℕ
 class_in rows = option_map_or class_read (first_of (codes "class") rows) (Some internet)
 
--- the text of an option that has to be given
+-- the option is given, with this text
 abbrev pub HasText : Text → List Row → Text → Type 0
 HasText option rows text = first_of option rows ≡ Some text
 
@@ -62,8 +62,8 @@ IsJobOf (name, rows) (Receive class id apex layout) =
     × (id ≡ number_or 0 (codes "id") rows)
     × HasName (codes "apex") rows apex × (layout ≡ Simple)
 
--- Why the matches of a subcommand name no job: memory was wanting, or the first of its values is wrong that is no number or
--- word of a list. Names are read before the class.
+-- Why the matches of a subcommand name no job: memory was wanting, or of its values that are any text to the command one is
+-- wrong. The name is read before the class.
 abbrev pub IsValueFault : Text × List Row → WordsFault → Type 0
 IsValueFault (name, rows) (Line e) = ⊥
 IsValueFault (name, rows) BadName = (name ≡ codes "receive")
@@ -72,22 +72,22 @@ IsValueFault (name, rows) BadClass = (name ≡ codes "receive")
     × ((labels : List (List ℕ)) × HasName (codes "apex") rows labels) × (class_in rows ≡ None)
 IsValueFault (name, rows) OutOfMemory = ⊤
 
--- the command takes the words, and this holds of the subcommand that they name, and of its matches
-abbrev pub Names : App → List Text → (Text × List Row → Type 0) → Type 0
-Names a words Holds = (fault_of a words ≡ [])
+-- the command takes the words, and this holds of the subcommand that they name and its matches
+abbrev pub TakesAs : App → List Text → (Text × List Row → Type 0) → Type 0
+TakesAs a words Holds = (fault_of a words ≡ [])
     × ((met : Text × List Row) × (subcommand_of a words ≡ Some met) × Holds met)
 
 -- the command takes the words, and the subcommand that they name is the job
 abbrev pub IsNamedJob : App → List Text → Job → Type 0
-IsNamedJob a words job = Names a words (λ met. IsJobOf met job)
+IsNamedJob a words job = TakesAs a words (λ met. IsJobOf met job)
 
 -- memory was wanting; or the command refuses the words, by its own rule; or it takes them, and a value of the subcommand that
 -- they name is wrong
 abbrev pub IsRefusal : App → List Text → WordsFault → Type 0
 IsRefusal a words (Line e) = HasKind (fault_of a words) e
     × (takes a words ≡ true → kind_of e ≡ kind.OutOfMemory)
-IsRefusal a words BadName = Names a words (λ met. IsValueFault met BadName)
-IsRefusal a words BadClass = Names a words (λ met. IsValueFault met BadClass)
+IsRefusal a words BadName = TakesAs a words (λ met. IsValueFault met BadName)
+IsRefusal a words BadClass = TakesAs a words (λ met. IsValueFault met BadClass)
 IsRefusal a words OutOfMemory = ⊤
 
 -- what the words give under the command

@@ -1,11 +1,10 @@
 //! The program's command line.
-ghost use Rattle.std.specs.Prelude.{◌≡◌, IfOk, MatchResult, Some, codes, map, option_map, true, false, is_some};
+ghost use Rattle.std.specs.Prelude.{◌≡◌, IfOk, MatchResult, codes, map, true, false, is_some};
 ghost use Rattle.clap.specs.Words.{app_of, first_of, found_of, rows_of, rule_of, App};
 ghost use Rattle.clap.specs.declared.builder.command.Command.TheViews.{out-Command as fields_of};
-ghost use Rattle.dns_name.specs.Text.{IsFault};
 ghost use Rattle.zonewire.specs.Command.{IsReceive, IsSend, IsZonewire, choice_option, number_option, text_option};
 ghost use Rattle.zonewire.specs.Words.{HasNumber, IsJobOf, IsValueFault, Reads, class_in, number_or};
-ghost use Rattle.zonewire.specs.declared.words.WordsFault.TheVariants.{BadClass, Line, OutOfMemory};
+ghost use Rattle.zonewire.specs.declared.words.WordsFault.TheVariants.{Line, OutOfMemory};
 ghost use Rattle.zonewire.specs.Fault.{of_name};
 
 use crate::jobs::Job;
