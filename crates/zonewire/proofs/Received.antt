@@ -1,12 +1,12 @@
 -- What is received of an input that is fed whole.
-use Rattle.std.proofs.Common.{◌≡◌, ◌∙◌, ℕ, List, [], ◌++◌, refl, sym, ap, subst, take, drop, length, append-nil, take-append-drop, inl, inr, Some, None, arith, ◌⊎◌}
+use Rattle.std.proofs.Common.{◌≡◌, ◌∙◌, ℕ, List, [], ◌++◌, sym, ap, subst, take, drop, length, append-nil, take-append-drop, inl, inr, Some, None, arith, ◌⊎◌}
 use Rattle.std.proofs.lemmas.List.{take_all}
 use Rattle.zone_core.specs.Record.{Record}
-use Rattle.zone_core.specs.Query.{AxfrQuery, IsQuery}
+use Rattle.zone_core.specs.Query.{IsQuery}
 use Rattle.zone_core.specs.Transfer.{WrittenOut, IsTransferIn}
 use Rattle.zone_core.specs.Receiving.{Heard, IsBegun, IsNoZone, IsWholeTransfer, Takes}
 use Rattle.zone_core.specs.declared.receive.error.ReceiveError.{ReceiveError}
-use Rattle.zone_core.specs.declared.receive.error.ReceiveError.TheVariants.{Query, Unfinished, OutOfMemory}
+use Rattle.zone_core.specs.declared.receive.error.ReceiveError.TheVariants.{OutOfMemory}
 use Rattle.zone_core.proofs.OneOfThree.{transfer_not_begun}
 use Rattle.zonewire.specs.Fault.{of_receive}
 use Rattle.zonewire.specs.Output.{IsNotReceived, IsReceived, IsReceiveJobFault, asking_for}

@@ -12,7 +12,7 @@ use Rattle.zonewire.specs.declared.source.ReadAllError.TheVariants as read_all_e
 use Rattle.zonewire.specs.declared.words.WordsFault.{WordsFault}
 use Rattle.zonewire.specs.declared.words.WordsFault.TheVariants as words_fault
 use Rattle.zonewire.specs.declared.fault.Fault.{Fault}
-use Rattle.zonewire.specs.declared.fault.Fault.TheVariants.{Read, Write, Zone, Send, Receive, OutOfMemory}
+use Rattle.zonewire.specs.declared.fault.Fault.TheVariants.{Read, Zone, Send, Receive, OutOfMemory}
 
 abbrev pub of_read : ReadAllError → Fault
 of_read read_all_error.Read = Read

@@ -1,4 +1,4 @@
-use Rattle.std.proofs.Common.{◌∙◌, List, Some, refl, sym, ap, subst, codes}
+use Rattle.std.proofs.Common.{◌∙◌, refl, sym, ap, subst, codes}
 use Rattle.std.specs.Prelude.{Err, MatchResult}
 use Rattle.std.proofs.lemmas.Result.{err_from_is_err_and}
 use Rattle.clap.specs.Words.{found_of, rows_of}
