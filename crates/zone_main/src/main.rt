@@ -1,4 +1,4 @@
-//! The program `zonewire`: zone files to the streams of their transfers.
+//! The program `zonewire`: zone files to the streams of their transfers, and back.
 #![tactic(auto)]
 
 use std::alloc::AllocError;

@@ -3,4 +3,6 @@ mod Uses
 mod Rows
 mod Named
 mod Numbers
+mod Texts
 pub mod Outputs
+mod Received

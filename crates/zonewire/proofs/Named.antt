@@ -1,5 +1,5 @@
--- Words that the command takes name the subcommand `send` with options whose values passed.
-use Rattle.std.proofs.Common.{◌≡◌, ◌∙◌, Bool, cond, true, false, refl, sym, ap, ap₂, subst, List, [], ◌∷◌, Option, Some, None, is_some, codes}
+-- Words that the command takes name one of its subcommands, with options whose values passed.
+use Rattle.std.proofs.Common.{◌≡◌, ◌∙◌, Bool, cond, true, false, refl, sym, ap, ap₂, subst, List, [], ◌∷◌, Option, Some, None, is_some, codes, not, ◌||◌, ◌⊎◌, inl, inr}
 use Rattle.std.specs.Option.{option_map, option_map_or}
 use Rattle.std.specs.Prelude.{Box, IfSome, pos}
 use Rattle.std.specs.Box.{box_value}
@@ -13,30 +13,29 @@ use Rattle.clap.specs.ValueTests.{accepts}
 use Rattle.clap.specs.Facts.{parser_of_value}
 use Rattle.clap.specs.declared.builder.value_parser.Reading.TheVariants.{WithoutMinus}
 use Rattle.clap.proofs.ValueTestLemmas.{accepts-Accepts}
-use Rattle.clap.specs.Walk.{Names, Row, Rule, Text, answers_to, nothing_held, one_of, reading_by, walk}
+use Rattle.std.specs.Str.{bytes_eq}
+use Rattle.clap.specs.Walk.{Names, Row, Rule, Text, answers_to, arg_by_id, first_of, nothing_held, one_of, reading_by, walk}
+use Rattle.clap.specs.Takes.{is_given}
 use Rattle.clap.specs.Simple.{App, HasMatchesOf, Shape, argument_words, built, entered, filled, is_simple, label_of, names_of, new_shape, rows_at, subcommand_of, subcommand_rows, subcommand_rows_of}
-use Rattle.clap.specs.Faults.{entered_fault, fault_of, is_simple_and_free, level_fault}
+use Rattle.clap.specs.Faults.{entered_fault, fault_of, is_simple_and_free, level_fault, use_fault}
 use Rattle.clap.specs.Kinds.{Kinds}
 use Rattle.clap.specs.declared.builder.value_parser.ValueParser.TheVariants as vp
 use Rattle.clap.specs.declared.error.kind.ErrorKind.TheVariants as kind
-use Rattle.zonewire.specs.Command.{Choices, IsZonewire, always, choice_option, number_option, zonewire}
+use Rattle.zonewire.specs.Command.{Choices, IsZonewire, always, choice_option, number_option, text_option, zonewire}
 use Rattle.zonewire.specs.Words.{HasNumber}
 use Rattle.zonewire.proofs.Uses.{level_clear, level_keeps}
-use Rattle.zonewire.proofs.Rows.{Each, HasPassed, IsPassed, Keeps, defaults_nothing, each_found, given_passed, set_keeps, some_is}
+use Rattle.zonewire.proofs.Rows.{Each, HasPassed, IsPassed, Keeps, defaults_nothing, each_found, given_passed, given_text, set_keeps, some_is}
 
 abbrev first : List Shape → Shape
 first [] = new_shape []
 first (s ∷ more) = s
 
--- the command and its subcommand, as built
-abbrev top : Choices → Shape
-top spellings = (built (zonewire spellings)).top
-
-abbrev pub sends : Choices → Shape
-sends spellings = first (built (zonewire spellings)).subs
+abbrev second : List Shape → Shape
+second [] = new_shape []
+second (s ∷ more) = first more
 
 -- the options, as built
-abbrev id_rule : Rule
+abbrev pub id_rule : Rule
 id_rule = filled (number_option (codes "id"))
 
 abbrev max_rule : Rule
@@ -45,64 +44,127 @@ max_rule = filled (number_option (codes "max"))
 abbrev spelling_rule : Choices → Rule
 spelling_rule spellings = filled (always (choice_option (codes "spelling") spellings))
 
-send_keeps : (spellings : Choices) → Each (Keeps (sends spellings).rules) (sends spellings).rules
-send_keeps spellings = (
-  set_keeps (sends spellings).rules id_rule (record { action = refl; least = refl; most = refl; own = refl }),
-  (
-    set_keeps (sends spellings).rules max_rule (record { action = refl; least = refl; most = refl; own = refl }),
-    (
-      set_keeps (sends spellings).rules (spelling_rule spellings) (record { action = refl; least = refl; most = refl; own = refl }),
-      ((λ values rows clear all. all), tt),
-    ),
-  ),
-)
+abbrev apex_rule : Rule
+apex_rule = filled (always (text_option (codes "apex")))
 
--- the matches of `send`, at words that it takes
-send_rows : (spellings : Choices) (words : List Text) → level_fault (sends spellings) [] nothing_held words false [] ≡ []
-    → Each (IsPassed (sends spellings).rules) (rows_at (sends spellings) words).1
-send_rows spellings words clear =
-    let s = sends spellings in
+abbrev class_rule : Rule
+class_rule = filled (text_option (codes "class"))
+
+abbrev layout_rule : Choices → Rule
+layout_rule layouts = filled (choice_option (codes "layout") layouts)
+
+-- the rows of a level that takes the words, where it has no defaults
+level_rows : (s : Shape) (words : List Text) → s.args_override_self ≡ false → Each (Keeps s.rules) s.rules → Each (λ a. a.defaults ≡ []) s.rules
+    → level_fault s [] nothing_held words false [] ≡ [] → Each (IsPassed s.rules) (rows_at s words).1
+level_rows s words once keeps bare clear =
     let kept = level_keeps s (Each (IsPassed s.rules))
-    (λ p a is values rows used all. (each_found (Keeps s.rules) p s.rules a (send_keeps spellings) is).0 values rows used all)
+    (λ p a is values rows used all. (each_found (Keeps s.rules) p s.rules a keeps is).0 values rows (sym (ap (λ again. use_fault again a values rows) once) ∙ used) all)
     [] nothing_held words false [] tt clear in
-    subst (Each (IsPassed s.rules)) (sym (defaults_nothing s.rules _ (refl, (refl, (refl, (refl, tt)))))) kept
+    subst (Each (IsPassed s.rules)) (sym (defaults_nothing s.rules _ bare)) kept
 
--- a level that needs a subcommand fails without one
-needed : (spellings : Choices) (names : Names) (words : List Text) (below : Kinds) → level_fault (top spellings) names nothing_held words false below ≡ [] → ⊥
-needed spellings names words below clear = missing (level_clear (top spellings) names nothing_held words false below clear).1
-  where
-    missing : kind.MissingSubcommand ∷ [] ≡ [] → ⊥
-    missing e = cc
+-- an option that has to be given and is not refused was given
+needs : (given : Bool) → cond (not given || false) (kind.MissingRequiredArgument ∷ []) [] ≡ [] → given ≡ true
+needs true clear = refl
+needs false clear = cc
 
 -- what words that are not refused name
-abbrev pub IsNamed : Choices → Option (Text × List Row) → Type 0
-IsNamed spellings met = (rows : List Row) × (met ≡ Some (codes "send", rows)) × Each (IsPassed (sends spellings).rules) rows
+abbrev IsSendMet : List Rule → Option (Text × List Row) → Type 0
+IsSendMet rules met = (rows : List Row) × (met ≡ Some (codes "send", rows)) × Each (IsPassed rules) rows
 
-abbrev met_by : Choices → Bool → List Text → Option (Text × List Row)
-met_by spellings hit words = option_map (λ s. rows_at s words) (cond hit (Some (sends spellings)) None)
+abbrev IsReceiveMet : List Rule → Option (Text × List Row) → Type 0
+IsReceiveMet rules met = (rows : List Row) × (met ≡ Some (codes "receive", rows)) × Each (IsPassed rules) rows
+    × (is_some (first_of (codes "apex") rows) ≡ true)
 
-abbrev fault_by : Choices → Bool → List Text → Kinds
-fault_by spellings hit words = option_map_or (λ s. level_fault s [] nothing_held words false []) (cond hit (Some (sends spellings)) None) []
+module _ (spellings layouts : Choices) where
+  -- the command and its subcommands, as built
+  abbrev whole : App
+  whole = built (zonewire spellings layouts)
 
-named_by : (spellings : Choices) (names : Names) (words : List Text) (hit : Bool) (behind : List Text)
-    → level_fault (top spellings) names nothing_held words (is_some (met_by spellings hit behind)) (fault_by spellings hit behind) ≡ []
-    → IsNamed spellings (met_by spellings hit behind)
-named_by spellings names words false behind clear = absurd (needed spellings names words [] clear)
-named_by spellings names words true behind clear =
-    let under = (level_clear (top spellings) names nothing_held words true (fault_by spellings true behind) clear).0 in
-    ((rows_at (sends spellings) behind).1, refl, send_rows spellings behind under)
+  abbrev pub sends : Shape
+  sends = first whole.subs
 
-named_at : (spellings : Choices) (names : Names) (words : List Text) (stop : Option (Text × List Text))
-    → level_fault (top spellings) names nothing_held words (is_some (entered (built (zonewire spellings)) stop)) (entered_fault (built (zonewire spellings)) stop) ≡ []
-    → IsNamed spellings (entered (built (zonewire spellings)) stop)
-named_at spellings names words None clear = absurd (needed spellings names words [] clear)
-named_at spellings names words (Some p) clear = named_by spellings names words (answers_to p.0 (label_of (sends spellings))) p.1 clear
+  abbrev pub receives : Shape
+  receives = second whole.subs
 
-pub named : (spellings : Choices) (words : List Text) → fault_of (zonewire spellings) words ≡ [] → IsNamed spellings (subcommand_of (zonewire spellings) words)
-named spellings words clear =
-    let b = built (zonewire spellings) in
-    let given = argument_words (zonewire spellings) words in
-    named_at spellings (names_of b) given (walk b.top.rules (names_of b) nothing_held given).stopped clear
+  send_keeps : Each (Keeps sends.rules) sends.rules
+  send_keeps = (
+    set_keeps sends.rules id_rule (record { action = refl; least = refl; most = refl; own = refl }),
+    (
+      set_keeps sends.rules max_rule (record { action = refl; least = refl; most = refl; own = refl }),
+      (
+        set_keeps sends.rules (spelling_rule spellings) (record { action = refl; least = refl; most = refl; own = refl }),
+        ((λ values rows clear all. all), tt),
+      ),
+    ),
+  )
+
+  receive_keeps : Each (Keeps receives.rules) receives.rules
+  receive_keeps = (
+    set_keeps receives.rules apex_rule (record { action = refl; least = refl; most = refl; own = refl }),
+    (
+      set_keeps receives.rules id_rule (record { action = refl; least = refl; most = refl; own = refl }),
+      (
+        set_keeps receives.rules class_rule (record { action = refl; least = refl; most = refl; own = refl }),
+        (
+          set_keeps receives.rules (layout_rule layouts) (record { action = refl; least = refl; most = refl; own = refl }),
+          ((λ values rows clear all. all), tt),
+        ),
+      ),
+    ),
+  )
+
+  -- a level that needs a subcommand fails without one
+  needed : (names : Names) (words : List Text) (below : Kinds) → level_fault whole.top names nothing_held words false below ≡ [] → ⊥
+  needed names words below clear = missing (level_clear whole.top names nothing_held words false below clear).1
+    where
+      missing : kind.MissingSubcommand ∷ [] ≡ [] → ⊥
+      missing e = cc
+
+  abbrev IsNamed : Option (Text × List Row) → Type 0
+  IsNamed met = IsSendMet sends.rules met ⊎ IsReceiveMet receives.rules met
+
+  send_named : (words : List Text) → level_fault sends [] nothing_held words false [] ≡ [] → IsSendMet sends.rules (Some (rows_at sends words))
+  send_named words clear = ((rows_at sends words).1, refl, level_rows sends words refl send_keeps (refl, (refl, (refl, (refl, tt)))) clear)
+
+  receive_named : (words : List Text) → level_fault receives [] nothing_held words false [] ≡ []
+      → IsReceiveMet receives.rules (Some (rows_at receives words))
+  receive_named words clear =
+      let rows = (rows_at receives words).1 in
+      let all = level_rows receives words refl receive_keeps (refl, (refl, (refl, (refl, (refl, tt))))) clear in
+      let given = needs (is_given (codes "apex") rows) (level_clear receives [] nothing_held words false [] clear).1 in
+      (rows, refl, all, given_text receives.rules (codes "apex") rows all given)
+
+  -- the subcommand, by whether its name was met
+  abbrev entered_by : Bool → Bool → Option Shape
+  entered_by is_send is_receive = cond is_send (Some sends) (cond is_receive (Some receives) None)
+
+  abbrev met_by : Bool → Bool → List Text → Option (Text × List Row)
+  met_by is_send is_receive words = option_map (λ s. rows_at s words) (entered_by is_send is_receive)
+
+  abbrev fault_by : Bool → Bool → List Text → Kinds
+  fault_by is_send is_receive words =
+      option_map_or (λ s. level_fault s [] nothing_held words false []) (entered_by is_send is_receive) []
+
+  named_by : (names : Names) (words : List Text) (is_send is_receive : Bool) (behind : List Text)
+      → level_fault whole.top names nothing_held words (is_some (met_by is_send is_receive behind)) (fault_by is_send is_receive behind) ≡ []
+      → IsNamed (met_by is_send is_receive behind)
+  named_by names words true is_receive behind clear =
+      inl (send_named behind (level_clear whole.top names nothing_held words true (fault_by true is_receive behind) clear).0)
+  named_by names words false true behind clear =
+      inr (receive_named behind (level_clear whole.top names nothing_held words true (fault_by false true behind) clear).0)
+  named_by names words false false behind clear = absurd (needed names words [] clear)
+
+  named_at : (names : Names) (words : List Text) (stop : Option (Text × List Text))
+      → level_fault whole.top names nothing_held words (is_some (entered whole stop)) (entered_fault whole stop) ≡ []
+      → IsNamed (entered whole stop)
+  named_at names words None clear = absurd (needed names words [] clear)
+  named_at names words (Some p) clear =
+      named_by names words (answers_to p.0 (label_of sends)) (answers_to p.0 (label_of receives)) p.1 clear
+
+  named : (words : List Text) → fault_of (zonewire spellings layouts) words ≡ [] → IsNamed (subcommand_of (zonewire spellings layouts) words)
+  named words clear =
+      let given = argument_words (zonewire spellings layouts) words in
+      named_at (names_of whole) given (walk whole.top.rules (names_of whole) nothing_held given).stopped clear
 
 -- ---- the numbers
 
@@ -119,18 +181,16 @@ number_of_passed a how case parser (Some t) (w, is, accepted) = (
   accepts-Accepts false (vp.Signed (pos 0) (pos 65535)) w (sym (ap₂ (λ b p. accepts b p w) case parser) ∙ accepted),
 )
 
-pub id_number : (spellings : Choices) (rows : List Row) → Each (IsPassed (sends spellings).rules) rows → HasNumber (codes "id") rows
-id_number spellings rows all =
-    number_of_passed id_rule refl refl refl (one_of (codes "id") rows) (given_passed (sends spellings).rules (codes "id") id_rule rows refl all)
-
-pub max_number : (spellings : Choices) (rows : List Row) → Each (IsPassed (sends spellings).rules) rows → HasNumber (codes "max") rows
-max_number spellings rows all =
-    number_of_passed max_rule refl refl refl (one_of (codes "max") rows) (given_passed (sends spellings).rules (codes "max") max_rule rows refl all)
+-- the number of an option that stands by its name among the options
+number_passed : (rules : List Rule) (name : Text) (a : Rule) (rows : List Row) → arg_by_id rules name ≡ Some a → reading_by a ≡ WithoutMinus
+    → a.ignore_case ≡ false → parser_of_value a.parser ≡ vp.Signed (pos 0) (pos 65535) → Each (IsPassed rules) rows → HasNumber name rows
+number_passed rules name a rows own how case parser all =
+    number_of_passed a how case parser (one_of name rows) (given_passed rules name a rows own all)
 
 -- ---- what a parse says of it
 
 pub simple_and_free : (a : App) → IsZonewire a → is_simple_and_free a ≡ true
-simple_and_free a (spellings, spelled, is) = ap is_simple_and_free is
+simple_and_free a (spellings, layouts, spelled, laid, is) = ap is_simple_and_free is
 
 -- the subcommand that the parse met is `send`
 pub record IsSent (a : App) (words : List Text) (m : ArgMatches) : Type 0 where
@@ -140,29 +200,71 @@ pub record IsSent (a : App) (words : List Text) (m : ArgMatches) : Type 0 where
   pub id : HasNumber (codes "id") rows
   pub max : HasNumber (codes "max") rows
 
-pub sent : (a : App) → IsZonewire a → (words : List Text) (m : ArgMatches) → (is_simple_and_free a ≡ true → fault_of a words ≡ []) → HasMatchesOf a words m → IsSent a words m
-sent a (spellings, spelled, is) words m kinds matches =
-    let clear : fault_of (zonewire spellings) words ≡ [] = ap (λ b. fault_of b words) (sym is) ∙ kinds (ap is_simple_and_free is) in
-    let (rows, found, all) = named spellings words clear in
-    let names : subcommand_of a words ≡ Some (codes "send", rows) = ap (λ b. subcommand_of b words) is ∙ found in
-    record {
-      rows = rows;
-      met = (matches (ap is_simple is)).1 ∙ names;
-      names = names;
-      id = id_number spellings rows all;
-      max = max_number spellings rows all;
-    }
+-- the subcommand that the parse met is `receive`
+pub record IsReceived (a : App) (words : List Text) (m : ArgMatches) : Type 0 where
+  pub rows : List Row
+  pub met : subcommand_rows_of m ≡ Some (codes "receive", rows)
+  pub names : subcommand_of a words ≡ Some (codes "receive", rows)
+  pub id : HasNumber (codes "id") rows
+  pub apex : is_some (first_of (codes "apex") rows) ≡ true
 
+abbrev pub IsMet : App → List Text → ArgMatches → Type 0
+IsMet a words m = IsSent a words m ⊎ IsReceived a words m
+
+met_as : (spellings layouts : Choices) (words : List Text) (m : ArgMatches)
+    → subcommand_rows_of m ≡ subcommand_of (zonewire spellings layouts) words
+    → IsNamed spellings layouts (subcommand_of (zonewire spellings layouts) words) → IsMet (zonewire spellings layouts) words m
+met_as spellings layouts words m is (inl (rows, found, all)) = inl (record {
+  rows = rows;
+  met = is ∙ found;
+  names = found;
+  id = number_passed (sends spellings layouts).rules (codes "id") id_rule rows refl refl refl refl all;
+  max = number_passed (sends spellings layouts).rules (codes "max") max_rule rows refl refl refl refl all;
+})
+met_as spellings layouts words m is (inr (rows, found, all, apex)) = inr (record {
+  rows = rows;
+  met = is ∙ found;
+  names = found;
+  id = number_passed (receives spellings layouts).rules (codes "id") id_rule rows refl refl refl refl all;
+  apex = apex;
+})
+
+pub met_one : (a : App) → IsZonewire a → (words : List Text) (m : ArgMatches) → (is_simple_and_free a ≡ true → fault_of a words ≡ [])
+    → HasMatchesOf a words m → IsMet a words m
+met_one a (spellings, layouts, spelled, laid, is) words m kinds matches =
+    subst (λ (b : App). IsMet b words m) (sym is) (met_as spellings layouts words m ((matches (ap is_simple is)).1 ∙ ap (λ b. subcommand_of b words) is)
+    (named spellings layouts words (ap (λ b. fault_of b words) (sym is) ∙ kinds (ap is_simple_and_free is))))
+
+-- its name
 name_of_met : {Z : Type 0} (o : Option (Box SubCommand Z)) (met : Text × List Row) → subcommand_rows o ≡ Some met
     → option_map (λ b. (out-SubCommand (box_value b)).name.now) o ≡ Some met.0
 name_of_met None met is = cc
 name_of_met (Some b) met is = ap (option_map (λ (q : Text × List Row). q.0)) is
 
--- its name
-pub sent_name : (a : App) (words : List Text) (m : ArgMatches) → IsSent a words m → subcommand_name_of m ≡ Some (codes "send")
-sent_name a words m s = name_of_met (out-ArgMatches m).subcommand (codes "send", s.rows) s.met
+same_name : (m : ArgMatches) (met : Text × List Row) (name : Text) → subcommand_rows_of m ≡ Some met → Some name ≡ subcommand_name_of m → name ≡ met.0
+same_name m met name is named = some_is name met.0 (named ∙ name_of_met (out-ArgMatches m).subcommand met is)
+
+other_name : codes "send" ≡ codes "receive" → ⊥
+other_name e =
+    let bad : true ≡ false = ap (bytes_eq (codes "send")) e in cc
+
+-- the subcommand, where its name is this one
+pub sent_by : (a : App) (words : List Text) (m : ArgMatches) → IsMet a words m → (name : Text) → Some name ≡ subcommand_name_of m
+    → name ≡ codes "send" → IsSent a words m
+sent_by a words m (inl s) name named is = s
+sent_by a words m (inr s) name named is = absurd (other_name (sym is ∙ same_name m (codes "receive", s.rows) name s.met named))
+
+pub received_by : (a : App) (words : List Text) (m : ArgMatches) → IsMet a words m → (name : Text) → Some name ≡ subcommand_name_of m
+    → name ≡ codes "receive" → IsReceived a words m
+received_by a words m (inl s) name named is = absurd (other_name (sym (same_name m (codes "send", s.rows) name s.met named) ∙ is))
+received_by a words m (inr s) name named is = s
+
+pub one_by : (a : App) (words : List Text) (m : ArgMatches) → IsMet a words m → (name : Text) → Some name ≡ subcommand_name_of m
+    → (name ≡ codes "send" → ⊥) → (name ≡ codes "receive" → ⊥) → ⊥
+one_by a words m (inl s) name named not-send not-receive = not-send (same_name m (codes "send", s.rows) name s.met named)
+one_by a words m (inr s) name named not-send not-receive = not-receive (same_name m (codes "receive", s.rows) name s.met named)
 
 -- the rows of the matches that a caller got for it
-pub sent_rows : (a : App) (words : List Text) (m : ArgMatches) (s : IsSent a words m) (rows : List Row)
-    → Some rows ≡ option_map (λ p. p.1) (subcommand_rows_of m) → rows ≡ s.rows
-sent_rows a words m s rows is = some_is rows s.rows (is ∙ ap (option_map (λ (q : Text × List Row). q.1)) s.met)
+pub met_rows : (m : ArgMatches) (met : Text × List Row) → subcommand_rows_of m ≡ Some met → (rows : List Row)
+    → Some rows ≡ option_map (λ p. p.1) (subcommand_rows_of m) → rows ≡ met.1
+met_rows m met is rows given = some_is rows met.1 (given ∙ ap (option_map (λ (q : Text × List Row). q.1)) is)

@@ -1,5 +1,5 @@
 -- What a job makes of a zone.
-use Rattle.std.proofs.Common.{◌≡◌, ℕ, List, sym, subst}
+use Rattle.std.proofs.Common.{◌≡◌, ℕ, List, subst}
 use Rattle.std.specs.Prelude.{Option}
 use Rattle.zone_core.specs.Record.{Record}
 use Rattle.zone_core.specs.View.{apex_of}

@@ -1,16 +1,17 @@
 -- What the matches of words that are not refused hold: each value passed the parser of its option.
-use Rattle.std.proofs.Common.{◌≡◌, ◌∙◌, ℕ, Bool, cond, true, false, refl, sym, ap, ap₂, subst, arith, List, [], ◌∷◌, ◌++◌, ◌&&◌, ◌||◌, ◌==◌, length, Option, Some, None}
+use Rattle.std.proofs.Common.{◌≡◌, ◌∙◌, ℕ, Bool, cond, true, false, refl, sym, ap, ap₂, subst, arith, List, [], ◌∷◌, ◌++◌, ◌&&◌, ◌||◌, ◌==◌, length, Option, Some, None, is_some}
 use Rattle.std.specs.List.{find, fold}
-use Rattle.std.specs.Option.{unwrap_or}
-use Rattle.std.specs.Prelude.{IfSome, option_and_then}
+use Rattle.std.specs.Option.{option_map_or, unwrap_or}
+use Rattle.std.specs.Prelude.{IfSome, option_and_then, slice_get}
 use Rattle.std.specs.Str.{bytes_eq}
 use Rattle.std.proofs.lemmas.Bool.{eqb-true}
 use Rattle.std.proofs.lemmas.Slice.Eq.{bytes_eq-Decides}
 use Rattle.clap.specs.Values.{read_as}
 use Rattle.clap.specs.ValueTests.{accepts}
-use Rattle.clap.specs.Facts.{parser_of_value, unwrap_or_range}
+use Rattle.clap.specs.Facts.{explicit_source, parser_of_value, unwrap_or_range}
 use Rattle.clap.specs.Kinds.{range_kinds, value_kinds}
-use Rattle.clap.specs.Walk.{Row, Rule, Text, action_of, arg_by_id, default_rows, has_row, most_values, one_of, reading_by, row_text, used, used_as, values_or_missing, with_default, with_values, without}
+use Rattle.clap.specs.Takes.{is_given}
+use Rattle.clap.specs.Walk.{Row, Rule, Text, action_of, arg_by_id, default_rows, first_of, has_row, most_values, one_of, reading_by, row_text, used, used_as, values_or_missing, with_default, with_values, without}
 use Rattle.clap.specs.Faults.{action_fault, set_fault, use_fault}
 use Rattle.clap.specs.declared.builder.action.ArgAction.TheVariants.{Set}
 use Rattle.clap.specs.declared.builder.value_parser.Reading.{Reading}
@@ -46,7 +47,8 @@ abbrev pub HasPassed : Rule → Text → Type 0
 HasPassed a t = (w : Text) × (t ≡ read_as (reading_by a) w) × (accepts a.ignore_case (parser_of_value a.parser) w ≡ true)
 
 abbrev pub IsPassed : List Rule → Row → Type 0
-IsPassed c r = (a : Rule) → arg_by_id c r.id ≡ Some a → (t : Text) → row_text r ≡ Some t → HasPassed a t
+IsPassed c r = (is_some (slice_get r.values 0) ≡ true)
+    × ((a : Rule) → arg_by_id c r.id ≡ Some a → (t : Text) → row_text r ≡ Some t → HasPassed a t)
 
 absent_head : (a b : Bool) → (a || b) ≡ false → (a ≡ false) × (b ≡ false)
 absent_head true b e = cc
@@ -105,7 +107,7 @@ set_used a v rows clear =
 row_added : (c : List Rule) (a : Rule) (v : Text) (rows : List Row) → arg_by_id c a.id ≡ Some a → accepts a.ignore_case (parser_of_value a.parser) v ≡ true
     → Each (IsPassed c) rows → Each (IsPassed c) (rows ++ new_row a.id (reading_by a) (v ∷ []) ∷ [])
 row_added c a v rows own accepted all = each_more (IsPassed c) rows (new_row a.id (reading_by a) (v ∷ [])) all
-    (λ b is t text. subst (λ (d : Rule). HasPassed d t) (some_is a b (sym own ∙ is)) (v, sym (some_is (read_as (reading_by a) v) t text), accepted))
+    (refl, λ b is t text. subst (λ (d : Rule). HasPassed d t) (some_is a b (sym own ∙ is)) (v, sym (some_is (read_as (reading_by a) v) t text), accepted))
 
 -- the option takes one value, and stands by its name among the options
 pub record IsSetOnce (c : List Rule) (a : Rule) : Type 0 where
@@ -155,10 +157,19 @@ given_passed c name a rows own all = go (find (λ r. bytes_eq r.id name) rows) r
   where
     text : (r : Row) → IsPassed c r → r.id ≡ name → (o : Option Text) → row_text r ≡ o → IfSome o (HasPassed a)
     text r passed named None is = tt
-    text r passed named (Some t) is = passed a (ap (arg_by_id c) named ∙ own) t is
+    text r passed named (Some t) is = passed.1 a (ap (arg_by_id c) named ∙ own) t is
 
     go : (o : Option Row) → find (λ r. bytes_eq r.id name) rows ≡ o → IfSome (option_and_then row_text o) (HasPassed a)
     go None is = tt
     go (Some r) is =
         let found = each_found (IsPassed c) (λ (q : Row). bytes_eq q.id name) rows r all is in
         text r found.0 ((bytes_eq-Decides r.id name).0 found.1) (row_text r) refl
+
+-- an option that was given has a text
+pub given_text : (c : List Rule) (name : Text) (rows : List Row) → Each (IsPassed c) rows → is_given name rows ≡ true → is_some (first_of name rows) ≡ true
+given_text c name rows all given = go (find (λ r. bytes_eq r.id name) rows) refl given
+  where
+    go : (o : Option Row) → find (λ r. bytes_eq r.id name) rows ≡ o → option_map_or (λ r. explicit_source r.source) o false ≡ true
+        → is_some (option_and_then (λ r. slice_get r.values 0) o) ≡ true
+    go None is given = cc
+    go (Some r) is given = (each_found (IsPassed c) (λ (q : Row). bytes_eq q.id name) rows r all is).0.0

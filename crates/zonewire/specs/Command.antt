@@ -5,7 +5,7 @@ use Rattle.clap.specs.Walk.{Rule, Text, texts}
 use Rattle.clap.specs.Simple.{App, new_app, new_rule, on_top, with_rule, with_subcommand}
 use Rattle.clap.specs.declared.builder.value_parser.ValueParser.TheVariants.{Names, Signed}
 
--- a list of the words that an option takes; the first field says where it lies in memory
+-- A list of the words that an option takes. Its fields say where it and the words lie in memory.
 abbrev pub Choices : Type 0
 Choices = Bor (List (Bor Text))
 
@@ -18,6 +18,10 @@ number_option name =
 abbrev pub choice_option : Text → Choices → Rule
 choice_option name choices = record (new_rule name) { long = Some name; parser = Some (Names choices) }
 
+-- `--name` with any text
+abbrev pub text_option : Text → Rule
+text_option name = record (new_rule name) { long = Some name }
+
 -- an option that has to be given
 abbrev pub always : Rule → Rule
 always option = record option { required = true }
@@ -28,21 +32,42 @@ send_app spellings = with_rule
     (with_rule (new_app (codes "send")) (number_option (codes "id"))) (number_option (codes "max")))
     (always (choice_option (codes "spelling") spellings))
 
+abbrev pub receive_app : Choices → App
+receive_app layouts = with_rule
+    (with_rule
+    (with_rule
+    (with_rule (new_app (codes "receive")) (always (text_option (codes "apex")))) (number_option (codes "id")))
+    (text_option (codes "class")))
+    (choice_option (codes "layout") layouts)
+
+-- the list has these words
+abbrev pub IsChoices : List Text → Choices → Type 0
+IsChoices words choices = texts choices.now ≡ words
+
 -- the spellings that there are
 abbrev pub IsSpellings : Choices → Type 0
-IsSpellings spellings = texts spellings.now ≡ codes "plain" ∷ []
+IsSpellings spellings = IsChoices (codes "plain" ∷ []) spellings
+
+-- the layouts that there are
+abbrev pub IsLayouts : Choices → Type 0
+IsLayouts layouts = IsChoices (codes "simple" ∷ []) layouts
 
 abbrev pub IsSend : App → Type 0
 IsSend a = (spellings : Choices) × IsSpellings spellings × (a ≡ send_app spellings)
+
+abbrev pub IsReceive : App → Type 0
+IsReceive a = (layouts : Choices) × IsLayouts layouts × (a ≡ receive_app layouts)
 
 -- one of the subcommands has to be named, and there is none for help
 abbrev pub program : App
 program = on_top (λ s. record s { subcommand_required = true; disable_help_subcommand = true })
     (new_app (codes "zonewire"))
 
-abbrev pub zonewire : Choices → App
-zonewire spellings = with_subcommand program (send_app spellings).top
+abbrev pub zonewire : Choices → Choices → App
+zonewire spellings layouts =
+    with_subcommand (with_subcommand program (send_app spellings).top) (receive_app layouts).top
 
 -- the command of the program, wherever the lists of its options' words lie
 abbrev pub IsZonewire : App → Type 0
-IsZonewire a = (spellings : Choices) × IsSpellings spellings × (a ≡ zonewire spellings)
+IsZonewire a = (spellings : Choices) × (layouts : Choices) × IsSpellings spellings × IsLayouts layouts
+    × (a ≡ zonewire spellings layouts)

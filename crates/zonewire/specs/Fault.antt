@@ -3,10 +3,16 @@ use Rattle.zone_core.specs.declared.zone_error.ZoneError.{ZoneError}
 use Rattle.zone_core.specs.declared.zone_error.ZoneError.TheVariants as zone_error
 use Rattle.zone_core.specs.declared.send_error.SendError.{SendError}
 use Rattle.zone_core.specs.declared.send_error.SendError.TheVariants as send_error
+use Rattle.zone_core.specs.declared.receive.error.ReceiveError.{ReceiveError}
+use Rattle.zone_core.specs.declared.receive.error.ReceiveError.TheVariants as receive_error
+use Rattle.dns_name.specs.declared.text.FromStrError.{FromStrError}
+use Rattle.dns_name.specs.declared.text.FromStrError.TheVariants as from_str_error
 use Rattle.zonewire.specs.declared.source.ReadAllError.{ReadAllError}
 use Rattle.zonewire.specs.declared.source.ReadAllError.TheVariants as read_all_error
+use Rattle.zonewire.specs.declared.words.WordsFault.{WordsFault}
+use Rattle.zonewire.specs.declared.words.WordsFault.TheVariants as words_fault
 use Rattle.zonewire.specs.declared.fault.Fault.{Fault}
-use Rattle.zonewire.specs.declared.fault.Fault.TheVariants.{Read, Write, Zone, Send, OutOfMemory}
+use Rattle.zonewire.specs.declared.fault.Fault.TheVariants.{Read, Zone, Send, Receive, OutOfMemory}
 
 abbrev pub of_read : ReadAllError → Fault
 of_read read_all_error.Read = Read
@@ -19,3 +25,12 @@ of_zone error = Zone error
 abbrev pub of_send : SendError → Fault
 of_send send_error.OutOfMemory = OutOfMemory
 of_send error = Send error
+
+abbrev pub of_receive : ReceiveError → Fault
+of_receive receive_error.OutOfMemory = OutOfMemory
+of_receive error = Receive error
+
+-- the same for a word of the command line that is read as a name
+abbrev pub of_name : FromStrError → WordsFault
+of_name (from_str_error.Presentation error) = words_fault.BadName
+of_name from_str_error.ShortBuf = words_fault.OutOfMemory

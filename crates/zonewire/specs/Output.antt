@@ -1,5 +1,5 @@
 -- What a job makes of its input.
-use Rattle.std.specs.Prelude.{ℕ, List, [], ◌∷◌, ◌++◌, false, Option, unwrap_or}
+use Rattle.std.specs.Prelude.{◌≡◌, ℕ, List, [], ◌∷◌, ◌++◌, false, Option, Some, unwrap_or, ⊤}
 use Rattle.std.specs.Int.{to_be_bytes, w16}
 use Rattle.dns_message.specs.Question.{question_octets}
 use Rattle.zone_core.specs.Record.{Record}
@@ -7,6 +7,12 @@ use Rattle.zone_core.specs.View.{apex_of}
 use Rattle.zone_core.specs.Query.{AxfrQuery, IsQuery, question_of}
 use Rattle.zone_core.specs.ZoneText.{IsZoneText, IsZoneFault}
 use Rattle.zone_core.specs.Sent.{IsSent, IsSendFault, AsksFor}
+use Rattle.zone_core.specs.Transfer.{WrittenOut, IsTransferIn}
+use Rattle.zone_core.specs.Receiving.{IsAskFault, IsBegun, IsStreamFault}
+use Rattle.zone_core.specs.Printed.{IsPrinted, layout_of}
+use Rattle.zone_core.specs.declared.print.DisplayKind.{DisplayKind}
+use Rattle.zone_core.specs.declared.receive.error.ReceiveError.{ReceiveError}
+use Rattle.zone_core.specs.declared.receive.error.ReceiveError.TheVariants as receive_error
 use Rattle.zone_core.specs.declared.zone_error.ZoneError.TheVariants as zone_error
 use Rattle.zone_core.specs.declared.send_error.SendError.{SendError}
 use Rattle.zone_core.specs.declared.send_error.SendError.TheVariants as send_error
@@ -48,12 +54,48 @@ IsSendJobFault class id apex max input (fault.Zone error) = IsZoneFault input cl
 IsSendJobFault class id apex max input (fault.Send send_error.OutOfMemory) = ⊥
 IsSendJobFault class id apex max input (fault.Send error) = IsNotSent class id apex max input error
 IsSendJobFault class id apex max input fault.OutOfMemory = Unit {0}
+IsSendJobFault class id apex max input (fault.Receive error) = ⊥
 IsSendJobFault class id apex max input fault.Read = ⊥
 IsSendJobFault class id apex max input fault.Write = ⊥
+
+-- The octets are a query, and the input begins with a transfer of these records for it. Whatever is behind that is ignored.
+pub record IsReceived (asking input : List ℕ) (records : List Record) : Type 0 where
+  pub query : AxfrQuery
+  pub asked : IsQuery asking query
+  pub stream : List ℕ
+  pub behind : List ℕ
+  pub begins : input ≡ stream ++ behind
+  pub transfer : IsTransferIn WrittenOut query stream records
+
+-- The octets are no query; or for the query that they are the input is only begun, or breaks this rule first.
+abbrev pub IsNotReceived : List ℕ → List ℕ → ReceiveError → Type 0
+IsNotReceived asking input (receive_error.Query fault) = IsAskFault asking (receive_error.Query fault)
+IsNotReceived asking input receive_error.Unfinished = (query : AxfrQuery) × IsQuery asking query × IsBegun query input
+IsNotReceived asking input receive_error.OutOfMemory = ⊤
+IsNotReceived asking input error = (query : AxfrQuery) × IsQuery asking query × IsStreamFault query input error
+
+-- the octets of a job's query for the zone of this name
+abbrev pub asking_for : ℕ → ℕ → List (List ℕ) → List ℕ
+asking_for class id apex = query_octets (query_of id class (Some apex) [])
+
+-- The input begins with a transfer for the job's query, and the output is the text of the records that it transfers.
+pub record IsReceiveOutput (class id : ℕ) (apex : List (List ℕ)) (layout : DisplayKind) (input output : List ℕ) : Type 0 where
+  pub records : List Record
+  pub received : IsReceived (asking_for class id apex) input records
+  pub text : IsPrinted (layout_of layout) records output
+
+-- why nothing is made of the input, as for a job that sends
+abbrev pub IsReceiveJobFault : ℕ → ℕ → List (List ℕ) → List ℕ → Fault → Type 0
+IsReceiveJobFault class id apex input (fault.Receive receive_error.OutOfMemory) = ⊥
+IsReceiveJobFault class id apex input (fault.Receive error) = IsNotReceived (asking_for class id apex) input error
+IsReceiveJobFault class id apex input fault.OutOfMemory = Unit {0}
+IsReceiveJobFault class id apex input error = ⊥
 
 -- what a job makes of its input
 abbrev pub IsOutput : Job → List ℕ → List ℕ → Type 0
 IsOutput (job.Send origin class id apex max spelling) input output = IsSendOutput class id apex max input output
+IsOutput (job.Receive class id apex layout) input output = IsReceiveOutput class id apex layout input output
 
 abbrev pub IsJobFault : Job → List ℕ → Fault → Type 0
 IsJobFault (job.Send origin class id apex max spelling) input error = IsSendJobFault class id apex max input error
+IsJobFault (job.Receive class id apex layout) input error = IsReceiveJobFault class id apex input error

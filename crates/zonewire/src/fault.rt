@@ -1,13 +1,13 @@
 //! Why a run of the program failed.
 ghost use Rattle.std.specs.Prelude.{◌≡◌};
-ghost use Rattle.zonewire.specs.Fault.{of_read, of_send, of_zone};
+ghost use Rattle.zonewire.specs.Fault.{of_read, of_receive, of_send, of_zone};
 ghost use Rattle.zonewire.specs.declared.fault.Fault.TheVariants as fault;
 
 use crate::sink::SinkError;
 use crate::source::ReadAllError;
 use std::alloc::AllocError;
 use thiserror::Error;
-use zone_core::{SendError, ZoneError};
+use zone_core::{ReceiveError, SendError, ZoneError};
 
 /// Why a run failed. What memory was wanting for is not told apart.
 #[derive(Clone, Copy, Debug, PartialEq, Eq, Error)]
@@ -24,6 +24,9 @@ pub enum Fault {
     /// The zone is not sent.
     #[error("{0}")]
     Send(SendError),
+    /// The input is no zone's transfer.
+    #[error("{0}")]
+    Receive(ReceiveError),
     /// A growth was refused.
     #[error("out of memory")]
     OutOfMemory,
@@ -74,6 +77,17 @@ impl From<SendError> for Fault {
         match error {
             SendError::OutOfMemory => Fault::OutOfMemory,
             error => Fault::Send(error),
+        }
+    }
+}
+
+impl From<ReceiveError> for Fault {
+    ghost from_gives = { λ error fault. fault ≡ of_receive error };
+
+    fn from(error: ReceiveError) -> Fault {
+        match error {
+            ReceiveError::OutOfMemory => Fault::OutOfMemory,
+            error => Fault::Receive(error),
         }
     }
 }

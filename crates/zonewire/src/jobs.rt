@@ -1,7 +1,7 @@
 //! What the program is asked to do.
 
 use dns_name::{Class, Name};
-use zone_core::Spelling;
+use zone_core::{DisplayKind, Spelling};
 
 /// One run of the program.
 #[derive(Debug, Drop)]
@@ -20,5 +20,16 @@ pub enum Job {
         max: u16,
         /// How names are written in the messages.
         spelling: Spelling,
+    },
+    /// The messages of a zone transfer (RFC 5936) come in, and the text of the zone goes out.
+    Receive {
+        /// The zone's class.
+        class: Class,
+        /// The id of the query and its answers.
+        id: u16,
+        /// The zone's name.
+        apex: Name<Vec<u8>>,
+        /// How the text is laid out.
+        layout: DisplayKind,
     },
 }

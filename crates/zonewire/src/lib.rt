@@ -18,8 +18,8 @@ pub use sink::{Sink, SinkError, StdSink};
 pub use source::{Source, SourceError, StdSource};
 pub use words::{WordsFault, job};
 pub use zone_core::{
-    DisplayKind, Query, QueryError, SendError, Spelling, Zone, ZoneError, ZoneRecord, ZoneRecords,
-    check_query, laws, send,
+    DisplayKind, Query, QueryError, ReceiveError, Receiver, SendError, Spelling, Zone, ZoneError,
+    ZoneRecord, ZoneRecords, check_query, laws, send,
 };
 
 #[cfg(test)]

@@ -2,7 +2,7 @@
 ghost use Rattle.std.specs.Prelude.{◌≡◌, ◌≢◌, ℕ, List, false, IfOk, IfErr, IfSome, OnOk};
 ghost use Rattle.zone_core.specs.ZoneText.{IsZoneFault, IsZoneText};
 ghost use Rattle.std.specs.Io.KnownBytes.{Appends, IsAtEnd};
-ghost use Rattle.zonewire.specs.Output.{IsOutput, IsJobFault, IsSendOutput, IsSendJobFault, query_octets, query_of};
+ghost use Rattle.zonewire.specs.Output.{IsOutput, IsJobFault, IsNotReceived, IsReceived, IsReceiveJobFault, IsReceiveOutput, IsSendOutput, IsSendJobFault, query_octets, query_of};
 ghost use Rattle.zonewire.specs.declared.fault.Fault.TheVariants as fault;
 
 use crate::fault::Fault;
@@ -11,7 +11,7 @@ use crate::sink::{Sink, write_all};
 use crate::source::{Source, read_all};
 use dns_name::{Class, Name, Rtype};
 use std::alloc::{AllocError, Global};
-use zone_core::{Spelling, Zone, ZoneError, send};
+use zone_core::{DisplayKind, ReceiveError, Receiver, Spelling, Zone, ZoneError, send};
 
 /// Reads all the input, and writes what the job makes of it.
 ///
@@ -56,6 +56,12 @@ fn output(alloc: Global, input: &[u8], job: &Job) -> Result<Vec<u8>, Fault>
             let zone = read_zone(alloc, input, origin, *class)?;
             send_zone(alloc, &zone, *id, apex, *max, *spelling)
         }
+        Job::Receive {
+            class,
+            id,
+            apex,
+            layout,
+        } => receive_text(alloc, input, *class, *id, apex, *layout),
     }
 }
 
@@ -98,6 +104,34 @@ fn read_zone(
         }
         None => Zone::read(alloc, input, None, class),
     }
+}
+
+/// The text of the zone of the transfer that the input begins with, for the query that the job makes.
+fn receive_text(
+    alloc: Global,
+    input: &[u8],
+    class: Class,
+    id: u16,
+    apex: &Name<Vec<u8>>,
+    layout: DisplayKind,
+) -> Result<Vec<u8>, Fault>
+    ensures ok { IfOk result (λ output. IsReceiveOutput class id apex.now layout input.now output.items) }
+    ensures err { IfErr result (IsReceiveJobFault class id apex.now input.now) }
+{
+    let query = axfr_query(alloc, id, &apex.for_ref(), class)?;
+    let zone = receive_zone(alloc, input, query.as_slice())?;
+    let text = zone.print(alloc, layout)?;
+    Ok(text)
+}
+
+/// The zone of the transfer that the input begins with, for the query.
+fn receive_zone(alloc: Global, input: &[u8], query: &[u8]) -> Result<Zone, ReceiveError>
+    ensures ok { IfOk result (λ zone. IsReceived query.now input.now zone.records) }
+    ensures err { IfErr result (IsNotReceived query.now input.now) }
+{
+    let mut receiver = Receiver::new(alloc, query)?;
+    receiver.feed(input)?;
+    receiver.into_zone()
 }
 
 /// The query for the zone's transfer, by the name that the job gives or else by the zone's own.

@@ -1,125 +1,14 @@
 //! What the contracts don't say: texts, and each call at concrete types.
 
+mod received;
 mod rows;
+mod words;
 
-use crate::jobs::Job;
 use crate::sink::{Sink, SinkError, StdSink, write_all};
 use crate::source::{ReadAllError, Source, SourceError, StdSource, read_all};
 use crate::words::{WordsFault, job};
-use dns_name::Class;
-use std::alloc::{AllocError, Global};
+use std::alloc::AllocError;
 use std::io::{self, ErrorKind, Read, Write};
-use std::process::Abort;
-use zone_core::Spelling;
-
-fn check_send(rt: &impl Abort, job: Job, id: u16, max: u16) {
-    let Job::Send {
-        origin,
-        class,
-        id: job_id,
-        apex,
-        max: job_max,
-        spelling,
-    } = job;
-    assert!(rt; origin.is_none());
-    assert!(rt; class == Class::IN);
-    assert_eq!(rt; job_id, id);
-    assert!(rt; apex.is_none());
-    assert_eq!(rt; job_max, max);
-    assert!(rt; spelling == Spelling::Plain);
-}
-
-fn is_line(alloc: Global, words: &[&str]) -> bool {
-    matches!(job(alloc, words), Err(WordsFault::Line(_)))
-}
-
-#[test]
-fn send_with_each_option(rt: HostRuntime) {
-    let words = [
-        "zonewire",
-        "send",
-        "--id",
-        "4660",
-        "--max",
-        "512",
-        "--spelling",
-        "plain",
-    ];
-    let job = job(rt.alloc(), words.as_slice()).expect(&rt, "a job");
-    check_send(&rt, job, 4660, 512);
-}
-
-#[test]
-fn send_with_defaults(rt: HostRuntime) {
-    let words = ["zonewire", "send", "--spelling=plain"];
-    let job = job(rt.alloc(), words.as_slice()).expect(&rt, "a job");
-    check_send(&rt, job, 0, 65535);
-}
-
-#[test]
-fn ends_of_the_ranges(rt: HostRuntime) {
-    let words = [
-        "zonewire",
-        "send",
-        "--max",
-        "0",
-        "--spelling",
-        "plain",
-        "--id",
-        "65535",
-    ];
-    let job = job(rt.alloc(), words.as_slice()).expect(&rt, "a job");
-    check_send(&rt, job, 65535, 0);
-}
-
-#[test]
-fn values_that_are_refused(rt: HostRuntime) {
-    let alloc = rt.alloc();
-    let max = ["zonewire", "send", "--spelling", "plain", "--max", "70000"];
-    assert!(rt; is_line(alloc, max.as_slice()));
-    let id = ["zonewire", "send", "--spelling", "plain", "--id", "x"];
-    assert!(rt; is_line(alloc, id.as_slice()));
-    let negative = ["zonewire", "send", "--spelling", "plain", "--id=-1"];
-    assert!(rt; is_line(alloc, negative.as_slice()));
-    let spelling = ["zonewire", "send", "--spelling", "tree"];
-    assert!(rt; is_line(alloc, spelling.as_slice()));
-    let missing = ["zonewire", "send", "--spelling", "plain", "--max"];
-    assert!(rt; is_line(alloc, missing.as_slice()));
-    let twice = [
-        "zonewire",
-        "send",
-        "--spelling",
-        "plain",
-        "--id",
-        "1",
-        "--id",
-        "1",
-    ];
-    assert!(rt; is_line(alloc, twice.as_slice()));
-}
-
-#[test]
-fn lines_that_are_refused(rt: HostRuntime) {
-    let alloc = rt.alloc();
-    assert!(rt; is_line(alloc, ["zonewire", "send"].as_slice()));
-    let class = ["zonewire", "send", "--spelling", "plain", "--class", "IN"];
-    assert!(rt; is_line(alloc, class.as_slice()));
-    let apex = ["zonewire", "send", "--spelling", "plain", "--apex", "a."];
-    assert!(rt; is_line(alloc, apex.as_slice()));
-    let word = ["zonewire", "send", "--spelling", "plain", "file"];
-    assert!(rt; is_line(alloc, word.as_slice()));
-    assert!(rt; is_line(alloc, ["zonewire", "check"].as_slice()));
-    assert!(rt; is_line(alloc, ["zonewire"].as_slice()));
-    assert!(rt; is_line(alloc, [].as_slice()));
-}
-
-#[test]
-fn calls_for_help(rt: HostRuntime) {
-    let alloc = rt.alloc();
-    assert!(rt; is_line(alloc, ["zonewire", "--help"].as_slice()));
-    assert!(rt; is_line(alloc, ["zonewire", "help"].as_slice()));
-    assert!(rt; is_line(alloc, ["zonewire", "send", "-h"].as_slice()));
-}
 
 #[test]
 fn texts_of_faults(rt: HostRuntime) -> Result<(), AllocError> {

@@ -8,20 +8,22 @@ use dns_name::Class;
 use std::alloc::{AllocError, Global};
 use std::test::Fail;
 
-const ZONE: &[u8] = b"a. 60 IN SOA b. c. 1 2 3 4 5\na. 60 IN A 1.2.3.4\n";
+pub(super) const ZONE: &[u8] = b"a. 60 IN SOA b. c. 1 2 3 4 5\na. 60 IN A 1.2.3.4\n";
 
 /// The query `a. IN AXFR` of id 0x1234.
-const QUERY: &[u8] = b"\x12\x34\x00\x00\x00\x01\x00\x00\x00\x00\x00\x00\x01a\x00\x00\xfc\x00\x01";
+pub(super) const QUERY: &[u8] =
+    b"\x12\x34\x00\x00\x00\x01\x00\x00\x00\x00\x00\x00\x01a\x00\x00\xfc\x00\x01";
 
 const QUESTION: &[u8] = b"\x01a\x00\x00\xfc\x00\x01";
 
-const SOA: &[u8] =
+pub(super) const SOA: &[u8] =
     b"\x01a\x00\x00\x06\x00\x01\x00\x00\x00\x3c\x00\x1a\x01b\x00\x01c\x00\x00\x00\x00\x01\x00\x00\x00\x02\x00\x00\x00\x03\x00\x00\x00\x04\x00\x00\x00\x05";
 
-const ADDRESS: &[u8] = b"\x01a\x00\x00\x01\x00\x01\x00\x00\x00\x3c\x00\x04\x01\x02\x03\x04";
+pub(super) const ADDRESS: &[u8] =
+    b"\x01a\x00\x00\x01\x00\x01\x00\x00\x00\x3c\x00\x04\x01\x02\x03\x04";
 
 /// A frame: the length, the header of an answer to the query with so many records, the question, and the records.
-fn append_frame(
+pub(super) fn append_frame(
     stream: &mut Vec<u8>,
     length: u8,
     answers: u8,
@@ -36,7 +38,12 @@ fn append_frame(
     Ok(())
 }
 
-fn sent(alloc: Global, text: &[u8], query: &[u8], max: u16) -> Result<Vec<u8>, SendError> {
+pub(super) fn sent(
+    alloc: Global,
+    text: &[u8],
+    query: &[u8],
+    max: u16,
+) -> Result<Vec<u8>, SendError> {
     let zone = match Zone::read(alloc, text, None, Class::IN) {
         Ok(zone) => zone,
         Err(_) => return Err(SendError::OutOfMemory),

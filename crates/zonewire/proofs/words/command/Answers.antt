@@ -10,4 +10,13 @@ returns c =
     let top : app_of c.disable_help_subcommand.result ≡ program = ap app_of_fields c.disable_help_subcommand.ensures
     ∙ ap (on_top (λ s. record s { disable_help_subcommand = true })) (ap app_of_fields c.subcommand_required.ensures
     ∙ ap (on_top (λ s. record s { subcommand_required = true })) (ap app_of_fields c.about.ensures ∙ c.new.ensures.app)) in
-    IfOk-weaker c.subcommand.result _ _ (λ m h. (c.in_ok-send.ensures.0.0, c.in_ok-send.ensures.0.1, h.shape c.in_ok-send.ensures.1 ∙ ap₂ with_subcommand top (ap (λ (a : App). a.top) c.in_ok-send.ensures.0.2))) c.subcommand.ensures
+    let send = c.in_ok-send.ensures in
+    let receive = c.in_ok-receive.ensures in
+    let sends = c.in_ok-subcommand.ensures.shape send.1 ∙ ap₂ with_subcommand top (ap (λ (a : App). a.top) send.0.2) in
+    IfOk-weaker c.subcommand-2.result _ _ (λ m h. (
+      send.0.0,
+      receive.0.0,
+      send.0.1,
+      receive.0.1,
+      h.shape receive.1 ∙ ap₂ with_subcommand sends (ap (λ (a : App). a.top) receive.0.2),
+    )) c.subcommand-2.ensures

@@ -1,0 +1,29 @@
+-- What is read of an option that is a text.
+use Rattle.std.proofs.Common.{◌≡◌, ◌∙◌, List, Option, Some, None, Bor, refl, true, is_some, ap, sym, codes}
+use Rattle.std.specs.Prelude.{option_map}
+use Rattle.clap.specs.Walk.{Row, Text, first_of, rows_of}
+use Rattle.clap.specs.Matches.{first_value}
+use Rattle.clap.specs.declared.parser.matches.Found.{Found}
+use Rattle.clap.proofs.WalkLemmas.{first_value-rows}
+use Rattle.dns_label.specs.NameText.{IsNameText}
+use Rattle.dns_name.specs.Text.{IsRefused}
+use Rattle.dns_name.specs.declared.text.FromStrError.{FromStrError}
+use Rattle.dns_name.specs.declared.text.FromStrError.TheVariants.{Presentation, ShortBuf}
+use Rattle.zonewire.specs.Fault.{of_name}
+use Rattle.zonewire.specs.Words.{IsValueFault}
+
+-- `get_str` gives the text that the rows have for an option
+pub text_read : (f : Found) (option : Text) (got o : Option (Bor Text)) → option_map (λ s. s.now) got ≡ first_value f option → got ≡ o
+    → first_of option (rows_of f) ≡ option_map (λ s. s.now) o
+text_read f option got o is was = sym (first_value-rows f option) ∙ sym is ∙ ap (option_map (λ (s : Bor Text). s.now)) was
+
+-- a text is there where it has to be
+pub text_there : (option : Text) (rows : List Row) → first_of option rows ≡ None → is_some (first_of option rows) ≡ true → ⊥
+text_there option rows none there =
+    let bad = sym (ap is_some none) ∙ there in cc
+
+-- why a name was not read
+pub name_fault : (rows : List Row) (text : Text) (error : FromStrError) → first_of (codes "apex") rows ≡ Some text → IsRefused IsNameText text error
+    → IsValueFault (codes "receive", rows) (of_name error)
+name_fault rows text (Presentation error) has refused = (refl, (text, has, refused))
+name_fault rows text ShortBuf has refused = tt
