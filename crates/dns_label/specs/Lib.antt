@@ -5,3 +5,6 @@ pub mod Label
 pub mod Split
 pub mod Symbol
 pub mod NameText
+pub mod Taken
+pub mod ReadSymbol
+pub mod Symbols

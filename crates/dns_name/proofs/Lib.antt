@@ -9,3 +9,6 @@ pub mod Items
 pub mod Parts
 pub mod Drafts
 pub mod Texts
+mod Readings
+mod CharTexts
+mod Refusals

@@ -1,7 +1,7 @@
 use Rattle.std.proofs.Common.{◌-◌, arith, length-set}
 use Rattle.dns_name.proofs.Wire.{length-labels_wire_more}
 use Rattle.dns_name.proofs.Drafts.{draft-end, draft-len, labels_more}
-use Rattle.dns_name.proofs.text.Spelling.end_label.Goals as goal
+use Rattle.dns_name.proofs.text.draft.Spelling.end_label.Goals as goal
 
 pub returns-clause-ok : goal.returns-clause-ok
 returns-clause-ok c = λ done begun holds.
