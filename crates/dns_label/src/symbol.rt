@@ -1,9 +1,11 @@
 //! The symbols in which text writes octets.
-ghost use Rattle.std.specs.Prelude.{◌≡◌, ◌+◌, ◌<◌, ◌⊎◌, ◌++◌, ◌∷◌, ◌↔◌, List, ℕ, Some, IsTrue, IsOk, IfSome, IfNone, IfOk, OnErr};
+ghost use Rattle.std.specs.Prelude.{◌≡◌, ◌+◌, ◌≤◌, ◌<◌, ◌⊎◌, ◌++◌, ◌∷◌, ◌↔◌, List, ℕ, Some, IsTrue, IsOk, IfSome, IfNone, IfOk, OnErr};
 ghost use Rattle.std.specs.Iterator.{MakesProgress, Yields};
 ghost use Rattle.dns_label.specs.Symbol.{IsPrintable, IsNoDigit, IsSymbol, spelled, octet, three_digits};
 ghost use Rattle.dns_label.specs.ReadSymbol.{BeginsWithSymbol, BeginsWithDigit};
 ghost use Rattle.dns_label.specs.Taken.{RulesOut};
+
+mod show;
 
 use thiserror::Error;
 
@@ -39,6 +41,7 @@ pub enum Symbol {
 
 impl Symbol {
     ghost use Rattle.dns_label.specs.ReadSymbol.{ReadsSymbol};
+    ghost use Rattle.dns_label.specs.Digit.{IsCharacter, IsDigitTo};
 
     /// The next symbol of the characters, of which no more are taken; None where there is no character left.
     ///
@@ -74,6 +77,47 @@ impl Symbol {
             Symbol::Char(_) | Symbol::SimpleEscape(_) => Err(BadSymbol),
             Symbol::DecimalEscape(octet) => Ok(octet),
         }
+    }
+
+    /// The octet that the symbol stands for, where that is printable.
+    ///
+    /// Refused where no text has this symbol, and where the octet lies outside 0x20 to 0x7E.
+    pub fn into_ascii(self) -> Result<u8, BadSymbol>
+        ensures octet { IfOk result (λ value. value ≡ octet self) }
+        ensures printable { IsOk result ↔ (IsSymbol self × IsPrintable (octet self)) }
+    {
+        match self.into_octet()? {
+            octet @ b' '..=b'~' => Ok(octet),
+            _ => Err(BadSymbol),
+        }
+    }
+
+    /// The character that the symbol is, plain or escaped.
+    ///
+    /// Refused where no text has this symbol, and at a number, which is no character.
+    pub fn into_char(self) -> Result<char, BadSymbol>
+        ensures char { IfOk result (λ value. value ≡ octet self) }
+        ensures symbol { IsOk result ↔ (IsSymbol self × IsCharacter self) }
+    {
+        match self {
+            Symbol::DecimalEscape(_) => Err(BadSymbol),
+            Symbol::Char(_) | Symbol::SimpleEscape(_) => Ok(char::from(self.into_octet()?)),
+        }
+    }
+
+    /// The value of a plain character as a digit to this base, letters of either case going on behind the 9.
+    ///
+    /// Refused where it is no such digit.
+    pub fn into_digit(self, base: u32) -> Result<u32, BadSymbol>
+        requires least { 2 ≤ base }
+        requires most { base ≤ 36 }
+        ensures value { IfOk result (λ value. IsDigitTo base self value) }
+        ensures err { OnErr result ((value : ℕ) → IsDigitTo base self value → ⊥) }
+    {
+        let Symbol::Char(c) = self else {
+            return Err(BadSymbol);
+        };
+        c.to_digit(base).ok_or(BadSymbol)
     }
 
     /// The symbol at the front of the text, and the text behind it. None where no symbol stands there: at the end, at
