@@ -12,3 +12,6 @@ pub mod Texts
 mod Readings
 mod CharTexts
 mod Refusals
+mod Builds
+mod Pushes
+mod PushNames

@@ -18,3 +18,5 @@ pub use Rattle.dns_label.specs.Symbols
 pub use Rattle.dns_label.specs.Composed
 pub use Rattle.dns_label.specs.Shown
 pub use Rattle.dns_label.specs.Digit
+pub mod Built
+pub mod DigitLabels

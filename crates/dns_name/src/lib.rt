@@ -4,6 +4,7 @@
 //! values of records) and `dns_label` (labels and symbols), and it hands all of them on.
 #![tactic(auto)]
 
+mod builder;
 mod copies;
 mod label_iter;
 mod name;
@@ -17,13 +18,14 @@ mod text;
 mod to_name;
 mod walk;
 
+pub use builder::{NameBuilder, PushError, PushNameError};
 pub use dns_label::{
     BadSymbol, Label, LabelTypeError, LongLabelError, SplitLabelError, Symbol, SymbolCharsError,
     Symbols,
 };
 pub use dns_octets::{
     AppendError, EmptyBuilder, FormError, FromBuilder, Octets, OctetsBuilder, ParseError, Parser,
-    ShortInput,
+    ShortInput, WriteOctets,
 };
 pub use dns_values::{Class, Rtype, Ttl};
 pub use label_iter::{LabelIter, ToLabelIter};
