@@ -95,7 +95,7 @@ stands_ended octets head built stands =
     }
 
 -- a label more
-wire_more : (octets : List ℕ) (labels : List (List ℕ)) (label : List ℕ) → octets ≡ labels_wire labels
+pub wire_more : (octets : List ℕ) (labels : List (List ℕ)) (label : List ℕ) → octets ≡ labels_wire labels
     → octets ++ label_wire label ≡ labels_wire (labels ++ label ∷ [])
 wire_more octets labels label is =
     ap (λ o. o ++ label_wire label) is ∙ ap (λ l. labels_wire labels ++ (length label ∷ l)) (sym (append-nil label))

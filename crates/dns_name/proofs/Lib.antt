@@ -15,3 +15,4 @@ mod Refusals
 mod Builds
 mod Pushes
 mod PushNames
+mod Reverses

@@ -20,3 +20,4 @@ pub use Rattle.dns_label.specs.Shown
 pub use Rattle.dns_label.specs.Digit
 pub mod Built
 pub mod DigitLabels
+pub mod Reverse

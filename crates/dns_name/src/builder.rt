@@ -7,7 +7,7 @@ ghost use Rattle.dns_name.specs.declared.builder.error.PushError.TheVariants.{Lo
 ghost use Rattle.dns_octets.specs.Builder.{IsPast, IsWithin};
 ghost use Rattle.dns_octets.specs.declared.error.AppendError.TheVariants.{ShortBuf, BadLength};
 
-mod digits;
+pub(crate) mod digits;
 mod error;
 mod finish;
 #[cfg(test)]

@@ -10,6 +10,7 @@ mod label_iter;
 mod name;
 mod parsed;
 mod parsed_iter;
+mod reverse;
 mod root;
 mod suffix;
 #[cfg(test)]

@@ -1,10 +1,11 @@
 //! Labels that are numbers.
-ghost use Rattle.std.specs.Prelude.{◌≡◌, ◌<◌, ◌%◌, ◌↔◌, ◌∷◌, [], Err, OnOk, OnErr};
+ghost use Rattle.std.specs.Prelude.{◌≡◌, ◌<◌, ◌≤◌, ◌%◌, ◌↔◌, ◌∷◌, [], length, Err, OnOk, OnErr};
 ghost use Rattle.dns_name.specs.Built.{with_label, built_len};
 ghost use Rattle.dns_name.specs.DigitLabels.{decimal_digits, hex_digit};
 ghost use Rattle.dns_name.specs.declared.builder.error.PushError.TheVariants.{LongLabel, LongName};
 
 use super::{NameBuilder, PushError};
+use arrayvec::ArrayVec;
 use dns_octets::OctetsBuilder;
 
 impl<B: OctetsBuilder> NameBuilder<B> {
@@ -18,14 +19,7 @@ impl<B: OctetsBuilder> NameBuilder<B> {
         ensures long_name { (result ≡ Err LongName) ↔ (254 < built_len (with_label self.old (decimal_digits value))) }
         ensures long_label { result ≡ Err LongLabel → ⊥ }
     {
-        let hundreds = b'0' + value / 100;
-        let tens = b'0' + value / 10 % 10;
-        let ones = b'0' + value % 10;
-        match value {
-            0..=9 => self.append_label(&[ones]),
-            10..=99 => self.append_label(&[tens, ones]),
-            _ => self.append_label(&[hundreds, tens, ones]),
-        }
+        self.append_label(decimal_label(value).as_slice())
     }
 
     /// Ends the open label, if one is open, and puts a label behind it: the hexadecimal digit of the number's low four
@@ -39,10 +33,32 @@ impl<B: OctetsBuilder> NameBuilder<B> {
         ensures long_name { (result ≡ Err LongName) ↔ (254 < built_len (with_label self.old (hex_digit (nibble % 16) ∷ []))) }
         ensures long_label { result ≡ Err LongLabel → ⊥ }
     {
-        let digit = match nibble % 16 {
-            value @ 0..=9 => b'0' + value,
-            value => b'a' - 10 + value,
-        };
-        self.append_label(&[digit])
+        self.append_label(&[hex_label(nibble)])
+    }
+}
+
+/// The decimal digits of a number.
+pub(crate) fn decimal_label(value: u8) -> ArrayVec<u8, 3>
+    ensures digits { result.items ≡ decimal_digits value }
+    ensures few { length result.items ≤ 3 }
+{
+    let mut digits = ArrayVec::new();
+    if value >= 100 {
+        digits.push(b'0' + value / 100);
+    }
+    if value >= 10 {
+        digits.push(b'0' + value / 10 % 10);
+    }
+    digits.push(b'0' + value % 10);
+    digits
+}
+
+/// The hexadecimal digit of a number's low four bits, in lower case.
+pub(crate) fn hex_label(value: u8) -> u8
+    ensures { result ≡ hex_digit (value % 16) }
+{
+    match value % 16 {
+        digit @ 0..=9 => b'0' + digit,
+        digit => b'a' - 10 + digit,
     }
 }
