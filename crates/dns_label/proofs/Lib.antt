@@ -1,1 +1,4 @@
 pub mod Spelling
+pub mod Taken
+pub mod SymbolFronts
+pub mod SymbolRuns

@@ -6,3 +6,9 @@ pub mod Split
 pub mod Symbol
 pub mod NameText
 pub mod Printed
+pub mod Taken
+pub mod ReadSymbol
+pub mod Symbols
+pub mod Composed
+pub mod Shown
+pub mod Digit

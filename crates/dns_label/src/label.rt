@@ -1,6 +1,10 @@
 //! Labels, and how one is split off the front of octets.
-ghost use Rattle.std.specs.Prelude.{◌≡◌, ◌+◌, ◌-◌, ◌*◌, ◌≤◌, ◌↔◌, [], length, IsTrue, IsOk, IfOk, IfErr};
+ghost use Rattle.std.specs.Prelude.{◌≡◌, ◌+◌, ◌-◌, ◌*◌, ◌≤◌, ◌↔◌, [], ◌∷◌, length, IsTrue, IsOk, IfOk, IfErr};
 ghost use Rattle.dns_label.specs.declared.label.SplitLabelError.TheVariants.{BadType};
+
+mod compose;
+mod order;
+mod print;
 
 use std::alloc::AllocError;
 use thiserror::Error;
@@ -62,6 +66,20 @@ impl<'a> Label<'a> {
     ghost use Rattle.dns_label.specs.Label.{octets_of};
     ghost use Rattle.dns_label.specs.Split.{NoLabel, StartsWithLabel};
 
+    /// The root's label, which has no octets.
+    pub fn root() -> Label<'static>
+        ensures { octets_of result ≡ [] }
+    {
+        Label { octets: &[] }
+    }
+
+    /// The label `*` (RFC 4592 2.1.1).
+    pub fn wildcard() -> Label<'static>
+        ensures { octets_of result ≡ 42 ∷ [] }
+    {
+        Label { octets: b"*" }
+    }
+
     /// The label of these octets. Refused past 63 of them.
     pub fn from_slice(octets: &'a [u8]) -> Result<Self, LongLabelError>
         ensures ok { IfOk result (λ label. octets_of label ≡ octets.now) }
@@ -115,6 +133,20 @@ impl<'a> Label<'a> {
         self.octets.len()
     }
 
+    /// Whether the label has no octets.
+    pub fn is_empty(&self) -> bool
+        ensures { IsTrue result ↔ (octets_of self.now ≡ []) }
+    {
+        self.is_root()
+    }
+
+    /// Whether this is the label `*` (RFC 4592 2.1.1).
+    pub fn is_wildcard(&self) -> bool
+        ensures { IsTrue result ↔ (octets_of self.now ≡ 42 ∷ []) }
+    {
+        matches!(self.octets, [b'*'])
+    }
+
     /// Whether this is the root's label, which has no octets.
     pub fn is_root(&self) -> bool
         ensures { IsTrue result ↔ (octets_of self.now ≡ []) }
@@ -134,6 +166,8 @@ fn pointer_place(first: u8, second: u8) -> u16
 #[cfg(test)]
 mod tests {
     use super::*;
+    use std::cmp::Ordering;
+    use std::hash::{FoldHasher, Hash, Hasher};
     use std::test::Fail;
 
     #[test]
@@ -170,6 +204,41 @@ mod tests {
         assert_eq!(rt; split_error(b""), short);
         assert_eq!(rt; split_error(b"\x03ww"), short);
         assert_eq!(rt; split_error(b"\xc0"), short);
+    }
+
+    #[test]
+    fn labels_are_compared_up_to_case(rt: HostRuntime) -> Result<(), Fail> {
+        let upper = Label::from_slice(b"Www")?;
+        let lower = Label::from_slice(b"wwW")?;
+        let short = Label::from_slice(b"x")?;
+        assert!(rt; upper == lower);
+        assert!(rt; upper < short);
+        assert!(rt; matches!(upper.cmp(&lower), Ordering::Equal));
+        assert!(rt; matches!(upper.composed_cmp(&lower), Ordering::Less));
+        assert!(rt; matches!(upper.lowercase_composed_cmp(&lower), Ordering::Equal));
+        assert!(rt; matches!(upper.lowercase_composed_cmp(&short), Ordering::Greater));
+        let mut first = FoldHasher::default();
+        upper.hash(&mut first);
+        let mut second = FoldHasher::default();
+        lower.hash(&mut second);
+        assert_eq!(rt; first.finish(), second.finish());
+        Ok(())
+    }
+
+    #[test]
+    fn labels_are_composed_and_printed(rt: HostRuntime) -> Result<(), Fail> {
+        let label = Label::from_slice(b"A.b c\x07")?;
+        let mut octets = Vec::new(rt.alloc());
+        label.compose(&mut octets)?;
+        label.compose_canonical(&mut octets)?;
+        assert_eq!(rt; octets.as_slice(), b"\x06A.b c\x07\x06a.b c\x07".as_slice());
+        assert_eq!(rt; label.compose_len(), 7);
+        let text = format!(in rt.alloc(); "{label}")?;
+        assert_eq!(rt; text.as_str(), "A\\.b\\ c\\007");
+        assert!(rt; Label::root().is_empty());
+        assert!(rt; Label::wildcard().is_wildcard());
+        assert!(rt; !label.is_wildcard());
+        Ok(())
     }
 
     fn split_error(octets: &[u8]) -> Result<(), SplitLabelError> {

@@ -6,6 +6,8 @@
 
 mod label;
 mod symbol;
+mod symbols;
 
 pub use label::{Label, LabelTypeError, LongLabelError, SplitLabelError};
-pub use symbol::Symbol;
+pub use symbol::{BadSymbol, Symbol, SymbolCharsError};
+pub use symbols::Symbols;

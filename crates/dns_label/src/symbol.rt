@@ -1,6 +1,32 @@
 //! The symbols in which text writes octets.
-ghost use Rattle.std.specs.Prelude.{◌≡◌, ◌+◌, ◌<◌, ◌⊎◌, ◌++◌, ◌∷◌, List, ℕ, IfSome, IfNone};
-ghost use Rattle.dns_label.specs.Symbol.{IsSymbol, spelled, three_digits};
+ghost use Rattle.std.specs.Prelude.{◌≡◌, ◌+◌, ◌≤◌, ◌<◌, ◌⊎◌, ◌++◌, ◌∷◌, ◌↔◌, List, ℕ, Some, IsTrue, IsOk, IfSome, IfNone, IfOk, OnErr};
+ghost use Rattle.std.specs.Iterator.{MakesProgress, Yields};
+ghost use Rattle.dns_label.specs.Symbol.{IsPrintable, IsNoDigit, IsSymbol, spelled, octet, three_digits};
+ghost use Rattle.dns_label.specs.ReadSymbol.{BeginsWithSymbol, BeginsWithDigit};
+ghost use Rattle.dns_label.specs.Taken.{RulesOut};
+
+mod show;
+
+use thiserror::Error;
+
+/// Why characters are no symbols.
+#[derive(Clone, Copy, Debug, PartialEq, Eq, Error)]
+pub enum SymbolCharsError {
+    /// A character outside 0x20 to 0x7E.
+    #[error("non-printable character")]
+    BadChar,
+    /// A backslash before a character outside 0x20 to 0x7E, or before digits that are not three or give more than 255.
+    #[error("illegal escape sequence")]
+    BadEscape,
+    /// The characters end behind a backslash, or in the digits behind it.
+    #[error("unexpected end of input")]
+    ShortInput,
+}
+
+/// The symbol is none of a text, so that it stands for no octet.
+#[derive(Clone, Copy, Debug, PartialEq, Eq, Error)]
+#[error("bad symbol")]
+pub struct BadSymbol;
 
 /// A symbol of text, which stands for one octet (RFC 1035 5.1).
 #[derive(Clone, Copy, Debug, PartialEq, Eq)]
@@ -14,6 +40,86 @@ pub enum Symbol {
 }
 
 impl Symbol {
+    ghost use Rattle.dns_label.specs.ReadSymbol.{ReadsSymbol};
+    ghost use Rattle.dns_label.specs.Digit.{IsCharacter, IsDigitTo};
+
+    /// The next symbol of the characters, of which no more are taken; None where there is no character left.
+    ///
+    /// Refused where a character outside 0x20 to 0x7E comes, and at a backslash before one, before digits that are not
+    /// three or give more than 255, and at the end.
+    pub fn from_chars<C: Iterator<Item = char>>(
+        chars: &mut C,
+    ) -> Result<Option<Symbol>, SymbolCharsError>
+        requires { C.can_next chars.old }
+        ensures symbol { ReadsSymbol C.next_gives chars.old result chars.new }
+        ensures progress { IfOk result (λ found. MakesProgress C.can_next C.remaining chars.old found chars.new) }
+    {
+        match chars.next() {
+            None => Ok(None),
+            Some('\\') => Ok(Some(read_escape(chars)?)),
+            Some(first @ ' '..='~') => Ok(Some(Symbol::Char(first))),
+            Some(_) => Err(SymbolCharsError::BadChar),
+        }
+    }
+
+    /// The octet that the symbol stands for.
+    ///
+    /// Refused where no text has this symbol: a character outside 0x20 to 0x7E, escaped or not, a plain backslash, and a
+    /// digit that is escaped by itself.
+    pub fn into_octet(self) -> Result<u8, BadSymbol>
+        ensures octet { IfOk result (λ value. value ≡ octet self) }
+        ensures symbol { IsOk result ↔ IsSymbol self }
+    {
+        match self {
+            Symbol::Char('\\') => Err(BadSymbol),
+            Symbol::Char(c @ ' '..='~') => Ok(c as u8),
+            Symbol::SimpleEscape(c) if is_escapable(c) => Ok(c),
+            Symbol::Char(_) | Symbol::SimpleEscape(_) => Err(BadSymbol),
+            Symbol::DecimalEscape(octet) => Ok(octet),
+        }
+    }
+
+    /// The octet that the symbol stands for, where that is printable.
+    ///
+    /// Refused where no text has this symbol, and where the octet lies outside 0x20 to 0x7E.
+    pub fn into_ascii(self) -> Result<u8, BadSymbol>
+        ensures octet { IfOk result (λ value. value ≡ octet self) }
+        ensures printable { IsOk result ↔ (IsSymbol self × IsPrintable (octet self)) }
+    {
+        match self.into_octet()? {
+            octet @ b' '..=b'~' => Ok(octet),
+            _ => Err(BadSymbol),
+        }
+    }
+
+    /// The character that the symbol is, plain or escaped.
+    ///
+    /// Refused where no text has this symbol, and at a number, which is no character.
+    pub fn into_char(self) -> Result<char, BadSymbol>
+        ensures char { IfOk result (λ value. value ≡ octet self) }
+        ensures symbol { IsOk result ↔ (IsSymbol self × IsCharacter self) }
+    {
+        match self {
+            Symbol::DecimalEscape(_) => Err(BadSymbol),
+            Symbol::Char(_) | Symbol::SimpleEscape(_) => Ok(char::from(self.into_octet()?)),
+        }
+    }
+
+    /// The value of a plain character as a digit to this base, letters of either case going on behind the 9.
+    ///
+    /// Refused where it is no such digit.
+    pub fn into_digit(self, base: u32) -> Result<u32, BadSymbol>
+        requires least { 2 ≤ base }
+        requires most { base ≤ 36 }
+        ensures value { IfOk result (λ value. IsDigitTo base self value) }
+        ensures err { OnErr result ((value : ℕ) → IsDigitTo base self value → ⊥) }
+    {
+        let Symbol::Char(c) = self else {
+            return Err(BadSymbol);
+        };
+        c.to_digit(base).ok_or(BadSymbol)
+    }
+
     /// The symbol at the front of the text, and the text behind it. None where no symbol stands there: at the end, at
     /// an octet outside 0x20 to 0x7E, at a backslash before one, and at a backslash before digits that are not three
     /// or give more than 255.
@@ -27,6 +133,52 @@ impl Symbol {
             b' '..=b'~' => Some((Symbol::Char(char::from(first)), behind)),
             _ => None,
         }
+    }
+}
+
+/// Whether a backslash may stand before the octet: a printable character that is no digit.
+fn is_escapable(octet: u8) -> bool
+    ensures { IsTrue result ↔ (IsPrintable octet × IsNoDigit octet) }
+{
+    matches!(octet, b' '..=b'/' | b':'..=b'~')
+}
+
+/// The symbol of which the backslash has been read off the characters.
+fn read_escape<C: Iterator<Item = char>>(chars: &mut C) -> Result<Symbol, SymbolCharsError>
+    requires { C.can_next chars.old }
+    ensures found { IfOk result (λ symbol. IsSymbol symbol × ((behind : List ℕ) × (spelled symbol ≡ 92 ∷ behind) × Yields C.next_gives chars.old behind chars.new)) }
+    ensures err { OnErr result (RulesOut C.next_gives chars.old (λ text. BeginsWithSymbol (92 ∷ text))) }
+    ensures progress { IfOk result (λ symbol. MakesProgress C.can_next C.remaining chars.old (Some symbol) chars.new) }
+{
+    let Some(first) = chars.next() else {
+        return Err(SymbolCharsError::ShortInput);
+    };
+    match first {
+        '0'..='9' => {
+            let hundreds = first as u16 - 48;
+            let tens = read_digit(chars)?;
+            let ones = read_digit(chars)?;
+            match u8::try_from(100 * hundreds + 10 * tens + ones) {
+                Ok(number) => Ok(Symbol::DecimalEscape(number)),
+                Err(_) => Err(SymbolCharsError::BadEscape),
+            }
+        }
+        ' '..='~' => Ok(Symbol::SimpleEscape(first as u8)),
+        _ => Err(SymbolCharsError::BadEscape),
+    }
+}
+
+/// The value of the next character, a decimal digit.
+fn read_digit<C: Iterator<Item = char>>(chars: &mut C) -> Result<u16, SymbolCharsError>
+    requires { C.can_next chars.old }
+    ensures found { IfOk result (λ value. (value < 10) × C.next_gives chars.old (Some (48 + value)) chars.new) }
+    ensures err { OnErr result (RulesOut C.next_gives chars.old BeginsWithDigit) }
+    ensures progress { IfOk result (λ value. MakesProgress C.can_next C.remaining chars.old (Some value) chars.new) }
+{
+    match chars.next() {
+        Some(digit @ '0'..='9') => Ok(digit as u16 - 48),
+        Some(_) => Err(SymbolCharsError::BadEscape),
+        None => Err(SymbolCharsError::ShortInput),
     }
 }
 
@@ -73,6 +225,7 @@ fn digit(octet: u8) -> Option<u8>
 #[cfg(test)]
 mod tests {
     use super::*;
+    use std::test::Fail;
 
     #[test]
     fn symbols_stand_for_octets(rt: HostRuntime) {
@@ -94,6 +247,43 @@ mod tests {
         ] {
             assert_eq!(rt; front(text), None);
         }
+    }
+
+    #[test]
+    fn symbols_are_read_off_characters(rt: HostRuntime) -> Result<(), Fail> {
+        let mut chars = "a\\;\\1129\\".chars();
+        assert_eq!(rt; Symbol::from_chars(&mut chars)?, Some(Symbol::Char('a')));
+        assert_eq!(rt;
+            Symbol::from_chars(&mut chars)?,
+            Some(Symbol::SimpleEscape(b';'))
+        );
+        assert_eq!(rt;
+            Symbol::from_chars(&mut chars)?,
+            Some(Symbol::DecimalEscape(112))
+        );
+        assert_eq!(rt; Symbol::from_chars(&mut chars)?, Some(Symbol::Char('9')));
+        assert_eq!(rt;
+            Symbol::from_chars(&mut chars),
+            Err(SymbolCharsError::ShortInput)
+        );
+        assert_eq!(rt; Symbol::from_chars(&mut chars)?, None);
+        assert_eq!(rt; no_symbol("\u{e9}"), Some(SymbolCharsError::BadChar));
+        assert_eq!(rt; no_symbol("\\256"), Some(SymbolCharsError::BadEscape));
+        assert_eq!(rt; no_symbol("\\25"), Some(SymbolCharsError::ShortInput));
+        Ok(())
+    }
+
+    fn no_symbol(text: &str) -> Option<SymbolCharsError> {
+        Symbol::from_chars(&mut text.chars()).err()
+    }
+
+    #[test]
+    fn symbols_of_a_text_stand_for_octets(rt: HostRuntime) {
+        assert_eq!(rt; Symbol::Char('a').into_octet(), Ok(b'a'));
+        assert_eq!(rt; Symbol::SimpleEscape(b'.').into_octet(), Ok(b'.'));
+        assert_eq!(rt; Symbol::DecimalEscape(200).into_octet(), Ok(200));
+        assert_eq!(rt; Symbol::Char('\\').into_octet(), Err(BadSymbol));
+        assert_eq!(rt; Symbol::SimpleEscape(b'1').into_octet(), Err(BadSymbol));
     }
 
     /// The symbol in front, and how many octets are behind it.

@@ -3,7 +3,7 @@ use Rattle.std.proofs.Common.{◌≡◌, ℕ, zero, suc, ◌+◌, ◌<◌, ◌�
 use Rattle.std.specs.List.{AllByRecursion}
 use Rattle.dns_label.specs.Name.{IsLabel, IsName, wire, labels_wire}
 use Rattle.dns_name.specs.Draft.{Holds}
-use Rattle.dns_name.specs.declared.text.Spelling.{Spelling}
+use Rattle.dns_name.specs.declared.text.draft.Spelling.{Spelling}
 use Rattle.dns_name.proofs.Case.{wire_one}
 use Rattle.dns_name.proofs.Wire.{labels_wire-append, wire_is}
 

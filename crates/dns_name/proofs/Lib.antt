@@ -9,3 +9,10 @@ pub mod Items
 pub mod Parts
 pub mod Drafts
 pub mod Texts
+mod Readings
+mod CharTexts
+mod Refusals
+mod Builds
+mod Pushes
+mod PushNames
+mod Reverses

@@ -1,5 +1,6 @@
 -- The parts of a text between its dots, as its symbols are read one by one.
-use Rattle.std.proofs.Common.{◌≡◌, ℕ, ◌+◌, ◌/◌, ◌%◌, ◌<◌, ◌≤◌, ◌⊎◌, Bool, true, false, List, [], ◌∷◌, ◌++◌, length, refl, sym, ◌∙◌, ap, subst, arith, append_assoc, append-nil, length-append, inl, inr}
+use Rattle.std.proofs.Common.{◌≡◌, ℕ, ◌+◌, ◌/◌, ◌%◌, ◌<◌, ◌≤◌, ◌⊎◌, Bool, true, false, List, [], ◌∷◌, ◌++◌, length, refl, sym, ◌∙◌, ap, subst, arith, append_assoc, append-nil, length-append, inl, inr, rules}
+use borrow.Author.Tests.{tests}
 use Rattle.std.specs.List.{AllByRecursion, flat_map}
 use Rattle.dns_label.specs.declared.symbol.Symbol.{Symbol}
 use Rattle.dns_label.specs.declared.symbol.Symbol.TheVariants.{Char, SimpleEscape, DecimalEscape}
@@ -79,123 +80,150 @@ spelled_some (Char c) rest none = cc
 spelled_some (SimpleEscape c) rest none = cc
 spelled_some (DecimalEscape n) rest none = cc
 
--- what is left of the symbols of a text
-pub record Left (rest : List ℕ) (done : List (List ℕ)) (begun : List ℕ) (parts : List (List ℕ)) : Type 0 where
-  pub symbols : List Symbol
-  pub each : AllByRecursion IsSymbol symbols
-  pub written : rest ≡ flat_map spelled symbols
-  pub is : parts ≡ done ++ joined begun (parts_of symbols)
+-- the first symbol is no dot, if there is one
+abbrev pub StartsPlain : List Symbol → Type 0
+StartsPlain [] = Unit {0}
+StartsPlain (symbol ∷ symbols) = is_dot symbol ≡ false
 
--- the parts of the text are the finished labels, and the open one joined with the parts of the rest
-pub record Reading (text rest : List ℕ) (done : List (List ℕ)) (begun : List ℕ) : Type 0 where
-  pub on : (parts : List (List ℕ)) → Left rest done begun parts → HasParts text parts
-  pub back : (parts : List (List ℕ)) → HasParts text parts → Left rest done begun parts
+-- these symbols were taken: the parts are the finished labels, and the open one joined with the parts of what follows
+pub record Reading (taken : List Symbol) (done : List (List ℕ)) (begun : List ℕ) : Type 0 where
+  pub each : AllByRecursion IsSymbol taken
+  pub plain : StartsPlain taken
+  pub parts : (rest : List Symbol) → parts_of (taken ++ rest) ≡ done ++ joined begun (parts_of rest)
 
 joined_none : (parts : List (List ℕ)) → Some_part parts → joined [] parts ≡ parts
 joined_none [] some = let e = some.is in cc
 joined_none (part ∷ parts) some = refl
 
-pub reading_here : (text : List ℕ) → Reading text text [] []
-reading_here text = record {
-  on = λ parts left. record {
-    symbols = left.symbols;
-    each = left.each;
-    written = left.written;
-    between = sym (joined_none (parts_of left.symbols) (some_part left.symbols)) ∙ sym left.is;
-  };
-  back = λ parts has. record {
-    symbols = has.symbols;
-    each = has.each;
-    written = has.written;
-    is = sym has.between ∙ sym (joined_none (parts_of has.symbols) (some_part has.symbols));
-  };
+pub reading_here : Reading [] [] []
+reading_here = record {
+  each = tt;
+  plain = tt;
+  parts = λ rest. sym (joined_none (parts_of rest) (some_part rest));
 }
 
--- behind a symbol
-pub left_on : {rest behind : List ℕ} {done more : List (List ℕ)} {begun begins : List ℕ} {parts : List (List ℕ)} (symbol : Symbol)
-    → IsSymbol symbol → rest ≡ spelled symbol ++ behind
-    → ((symbols : List Symbol) → done ++ joined begun (parts_of (symbol ∷ symbols)) ≡ more ++ joined begins (parts_of symbols))
-    → Left behind more begins parts → Left rest done begun parts
-left_on symbol is_symbol is same left = record {
-  symbols = symbol ∷ left.symbols;
-  each = (is_symbol, left.each);
-  written = is ∙ ap (λ l. spelled symbol ++ l) left.written;
-  is = left.is ∙ sym (same left.symbols);
+pub each_append : (front back : List Symbol) → AllByRecursion IsSymbol front → AllByRecursion IsSymbol back → AllByRecursion IsSymbol (front ++ back)
+each_append [] back each all = all
+each_append (symbol ∷ front) back each all = (each.0, each_append front back each.1 all)
+
+pub each_last : (front : List Symbol) (symbol : Symbol) (rest : List Symbol) → AllByRecursion IsSymbol ((front ++ symbol ∷ []) ++ rest) → IsSymbol symbol
+each_last [] symbol rest each = each.0
+each_last (first ∷ front) symbol rest each = each_last front symbol rest each.1
+
+plain_more : (taken : List Symbol) (symbol : Symbol) → StartsPlain taken → (taken ≡ [] → is_dot symbol ≡ false) → StartsPlain (taken ++ symbol ∷ [])
+plain_more [] symbol plain last = last refl
+plain_more (first ∷ taken) symbol plain last = plain
+
+-- behind a dot
+pub reading-dot : (taken : List Symbol) (done : List (List ℕ)) (begun : List ℕ) (symbol : Symbol) → Reading taken done begun
+    → IsSymbol symbol → is_dot symbol ≡ true → (taken ≡ [] → ⊥) → Reading (taken ++ symbol ∷ []) (done ++ begun ∷ []) []
+reading-dot taken done begun symbol reading is_symbol dot some = record {
+  each = each_append taken (symbol ∷ []) reading.each (is_symbol, tt);
+  plain = plain_more taken symbol reading.plain (λ none. absurd (some none));
+  parts = λ rest. ap parts_of (append_assoc taken (symbol ∷ []) rest) ∙ reading.parts (symbol ∷ rest) ∙ joined_dot done begun symbol rest dot;
 }
 
-pub record Split (rest behind : List ℕ) (symbol : Symbol) (symbols : List Symbol) : Type 0 where
+-- behind a symbol that stands for an octet
+pub reading-octet : (taken : List Symbol) (done : List (List ℕ)) (begun : List ℕ) (symbol : Symbol) → Reading taken done begun
+    → IsSymbol symbol → is_dot symbol ≡ false → Reading (taken ++ symbol ∷ []) done (begun ++ octet symbol ∷ [])
+reading-octet taken done begun symbol reading is_symbol plain = record {
+  each = each_append taken (symbol ∷ []) reading.each (is_symbol, tt);
+  plain = plain_more taken symbol reading.plain (λ none. plain);
+  parts = λ rest. ap parts_of (append_assoc taken (symbol ∷ []) rest) ∙ reading.parts (symbol ∷ rest) ∙ joined_octet done begun symbol rest plain;
+}
+
+-- nothing was taken where no label is finished, and none begun
+two_parts : (dot : Bool) (c : ℕ) (parts : List (List ℕ)) (symbol : Symbol) (symbols : List Symbol) → is_dot symbol ≡ dot
+    → octet symbol ≡ c → parts_of symbols ≡ parts → Some_part parts → parts_of (symbol ∷ symbols) ≡ [] ∷ [] → ⊥
+two_parts true c parts symbol symbols dot is has some one =
+    let e : [] ∷ parts ≡ [] ∷ [] = sym (let f : parts_of (symbol ∷ symbols) ≡ [] ∷ parts = rw (dot, has) refl in f) ∙ one in
+    let g : parts ≡ [] = cc in
+    let h = some.is in cc
+two_parts false c [] symbol symbols dot is has some one = let h = some.is in cc
+two_parts false c (part ∷ parts) symbol symbols dot is has some one =
+    let e : (c ∷ part) ∷ parts ≡ [] ∷ [] = sym (let f : parts_of (symbol ∷ symbols) ≡ (c ∷ part) ∷ parts = rw (dot, is, has) refl in f) ∙ one in cc
+
+pub none_taken : (taken : List Symbol) → Reading taken [] [] → taken ≡ []
+none_taken [] reading = refl
+none_taken (symbol ∷ taken) reading =
+    let some = some_part (taken ++ []) in
+    absurd (two_parts (is_dot symbol) (octet symbol) (parts_of (taken ++ [])) symbol (taken ++ []) refl refl refl some (reading.parts []))
+
+pub some_taken : (taken : List Symbol) (done : List (List ℕ)) (begun : List ℕ) → Reading taken done begun
+    → 0 < length (labels_wire done) + length begun → taken ≡ [] → ⊥
+some_taken taken [] [] reading some none = omega arith
+some_taken taken [] (c ∷ begun) reading some none =
+    let P : List Symbol → Type 0 = λ t. parts_of (t ++ []) ≡ ((c ∷ begun) ++ []) ∷ [] in
+    let e : [] ∷ [] ≡ (c ∷ (begun ++ [])) ∷ [] = subst P none (reading.parts []) in cc
+some_taken taken (label ∷ done) begun reading some none =
+    let P : List Symbol → Type 0 = λ t. parts_of (t ++ []) ≡ label ∷ (done ++ joined begun ([] ∷ [])) in
+    let e : [] ∷ [] ≡ label ∷ (done ++ joined begun ([] ∷ [])) = subst P none (reading.parts []) in
+    let f : done ++ joined begun ([] ∷ []) ≡ [] = cc in
+    omega (arith, ap (length {A = List ℕ}) f, length-append done (joined begun ([] ∷ [])))
+
+-- a text that begins with the text of symbols has them as its first
+pub record Split (taken symbols : List Symbol) (rest : List ℕ) : Type 0 where
   pub more : List Symbol
-  pub is : symbols ≡ symbol ∷ more
+  pub is : symbols ≡ taken ++ more
   pub each : AllByRecursion IsSymbol more
-  pub written : behind ≡ flat_map spelled more
+  pub written : rest ≡ flat_map spelled more
 
-split_symbols : (rest behind : List ℕ) (symbol : Symbol) (symbols : List Symbol) → IsSymbol symbol → rest ≡ spelled symbol ++ behind
-    → AllByRecursion IsSymbol symbols → rest ≡ flat_map spelled symbols → Split rest behind symbol symbols
-split_symbols rest behind symbol [] is_symbol is each written = absurd (spelled_some symbol behind (sym is ∙ written))
-split_symbols rest behind symbol (other ∷ symbols) is_symbol is each written =
-    let one = symbol_one symbol other behind (flat_map spelled symbols) is_symbol each.0 (sym is ∙ written) in
-    record { more = symbols; is = ap (λ s. s ∷ symbols) (sym one.0); each = each.1; written = one.1 }
-
-pub left_back : {rest behind : List ℕ} {done more : List (List ℕ)} {begun begins : List ℕ} {parts : List (List ℕ)} (symbol : Symbol)
-    → IsSymbol symbol → rest ≡ spelled symbol ++ behind
-    → ((symbols : List Symbol) → done ++ joined begun (parts_of (symbol ∷ symbols)) ≡ more ++ joined begins (parts_of symbols))
-    → Left rest done begun parts → Left behind more begins parts
-left_back {rest} {behind} {done} {begun = begun} symbol is_symbol is same left =
-    let split = split_symbols rest behind symbol left.symbols is_symbol is left.each left.written in
+pub split_symbols : (taken symbols : List Symbol) (rest : List ℕ) → AllByRecursion IsSymbol taken → AllByRecursion IsSymbol symbols
+    → flat_map spelled taken ++ rest ≡ flat_map spelled symbols → Split taken symbols rest
+split_symbols [] symbols rest each all is = record { more = symbols; is = refl; each = all; written = is }
+split_symbols (symbol ∷ taken) [] rest each all is =
+    absurd (spelled_some symbol (flat_map spelled taken ++ rest) (sym (append_assoc (spelled symbol) (flat_map spelled taken) rest) ∙ is))
+split_symbols (symbol ∷ taken) (other ∷ symbols) rest each all is =
+    let one = symbol_one symbol other (flat_map spelled taken ++ rest) (flat_map spelled symbols) each.0 all.0
+    (sym (append_assoc (spelled symbol) (flat_map spelled taken) rest) ∙ is) in
+    let split = split_symbols taken symbols rest each.1 all.1 one.1 in
     record {
-      symbols = split.more;
+      more = split.more;
+      is = ap (λ s. s ∷ symbols) (sym one.0) ∙ ap (λ l. symbol ∷ l) split.is;
       each = split.each;
       written = split.written;
-      is = left.is ∙ ap (λ (s : List Symbol). done ++ joined begun (parts_of s)) split.is ∙ same split.more;
     }
 
-pub reading-dot : (text rest behind : List ℕ) (done : List (List ℕ)) (begun : List ℕ) (symbol : Symbol) → Reading text rest done begun
-    → IsSymbol symbol → rest ≡ spelled symbol ++ behind → is_dot symbol ≡ true → Reading text behind (done ++ begun ∷ []) []
-reading-dot text rest behind done begun symbol reading is_symbol is dot = record {
-  on = λ parts left. reading.on parts (left_on symbol is_symbol is (λ symbols. joined_dot done begun symbol symbols dot) left);
-  back = λ parts has. left_back symbol is_symbol is (λ symbols. joined_dot done begun symbol symbols dot) (reading.back parts has);
-}
+pub no_more : (more : List Symbol) → [] ≡ flat_map spelled more → more ≡ []
+no_more [] written = refl
+no_more (symbol ∷ more) written = absurd (spelled_some symbol (flat_map spelled more) (sym written))
 
-pub reading-octet : (text rest behind : List ℕ) (done : List (List ℕ)) (begun : List ℕ) (symbol : Symbol) → Reading text rest done begun
-    → IsSymbol symbol → rest ≡ spelled symbol ++ behind → is_dot symbol ≡ false
-    → Reading text behind done (begun ++ octet symbol ∷ [])
-reading-octet text rest behind done begun symbol reading is_symbol is plain = record {
-  on = λ parts left. reading.on parts (left_on symbol is_symbol is (λ symbols. joined_octet done begun symbol symbols plain) left);
-  back = λ parts has. left_back symbol is_symbol is (λ symbols. joined_octet done begun symbol symbols plain) (reading.back parts has);
-}
+-- a text has one list of symbols, and so one list of parts
+pub parts_one : (taken : List Symbol) → AllByRecursion IsSymbol taken → (parts : List (List ℕ)) → HasParts (flat_map spelled taken) parts
+    → parts ≡ parts_of taken
+parts_one taken each parts has =
+    let split = split_symbols taken has.symbols [] each has.each (append-nil (flat_map spelled taken) ∙ has.written) in
+    let none = no_more split.more split.written in
+    sym has.between ∙ ap parts_of (split.is ∙ ap (λ (m : List Symbol). taken ++ m) none ∙ append-nil taken)
 
--- at the end of the text
-pub reading-has : (text rest : List ℕ) (done : List (List ℕ)) (begun : List ℕ) → Reading text rest done begun → rest ≡ []
-    → HasParts text (done ++ begun ∷ [])
-reading-has text rest done begun reading none =
-    reading.on (done ++ begun ∷ []) (record {
-      symbols = [];
-      each = tt;
-      written = none;
-      is = ap (λ t. done ++ t ∷ []) (sym (append-nil begun));
-    })
+pub has_parts : (taken : List Symbol) → AllByRecursion IsSymbol taken → HasParts (flat_map spelled taken) (parts_of taken)
+has_parts taken each = record { symbols = taken; each = each; written = refl; between = refl }
 
-only_end : (rest : List ℕ) (symbols : List Symbol) → rest ≡ [] → rest ≡ flat_map spelled symbols → symbols ≡ []
-only_end rest [] none written = refl
-only_end rest (symbol ∷ symbols) none written = absurd (spelled_some symbol (flat_map spelled symbols) (sym written ∙ none))
+-- at the end of the symbols
+pub parts_end : (taken : List Symbol) (done : List (List ℕ)) (begun : List ℕ) → Reading taken done begun → parts_of taken ≡ done ++ begun ∷ []
+parts_end taken done begun reading =
+    ap parts_of (sym (append-nil taken)) ∙ reading.parts [] ∙ ap (λ t. done ++ t ∷ []) (append-nil begun)
 
-pub reading-only : (text rest : List ℕ) (done : List (List ℕ)) (begun : List ℕ) → Reading text rest done begun → rest ≡ []
-    → (parts : List (List ℕ)) → HasParts text parts → parts ≡ done ++ begun ∷ []
-reading-only text rest done begun reading none parts has =
-    let left = reading.back parts has in
-    left.is ∙ ap (λ (s : List Symbol). done ++ joined begun (parts_of s)) (only_end rest left.symbols none left.written)
-    ∙ ap (λ t. done ++ t ∷ []) (append-nil begun)
+plain_symbol : (symbol : Symbol) (rest : List ℕ) → is_dot symbol ≡ false → spelled symbol ++ rest ≡ 46 ∷ [] → ⊥
+plain_symbol (Char c) rest plain is =
+    let e : c ≡ 46 = cc in
+    let P : ℕ → Type 0 = λ n. is_dot (Char n) ≡ false in
+    let f : true ≡ false = subst P e plain in cc
+plain_symbol (SimpleEscape c) rest plain is = let e : ◌≡◌ {A = ℕ} 92 46 = cc in absurd (omega arith)
+plain_symbol (DecimalEscape n) rest plain is = let e : ◌≡◌ {A = ℕ} 92 46 = cc in absurd (omega arith)
 
--- where no symbol stands
-pub reading-none : (text rest : List ℕ) (done : List (List ℕ)) (begun : List ℕ) → Reading text rest done begun → (rest ≡ [] → ⊥)
-    → ((symbol : Symbol) (behind : List ℕ) → IsSymbol symbol → rest ≡ spelled symbol ++ behind → ⊥)
-    → (parts : List (List ℕ)) → HasParts text parts → ⊥
-reading-none text rest done begun reading some none parts has =
-    let left = reading.back parts has in no_symbols left.symbols left.each left.written
-  where
-    no_symbols : (symbols : List Symbol) → AllByRecursion IsSymbol symbols → rest ≡ flat_map spelled symbols → ⊥
-    no_symbols [] each written = some written
-    no_symbols (symbol ∷ symbols) each written = none symbol (flat_map spelled symbols) each.0 written
+-- the text is no dot alone
+pub no_dot : (taken rest : List Symbol) → StartsPlain taken → (taken ≡ [] → rest ≡ []) → flat_map spelled (taken ++ rest) ≡ 46 ∷ [] → ⊥
+no_dot [] rest plain none is =
+    let e = none refl in
+    let P : List Symbol → Type 0 = λ r. flat_map spelled r ≡ 46 ∷ [] in
+    let f : ◌≡◌ {A = List ℕ} [] (46 ∷ []) = subst P e is in cc
+no_dot (symbol ∷ taken) rest plain none is = plain_symbol symbol (flat_map spelled (taken ++ rest)) plain is
+
+pub dot_text : (symbol : Symbol) → is_dot symbol ≡ true → spelled symbol ≡ 46 ∷ []
+dot_text (Char c) dot = let e : c ≡ 46 = search (rules, tests) in ap (λ n. n ∷ []) e
+dot_text (SimpleEscape c) dot = let no : false ≡ true = dot in cc
+dot_text (DecimalEscape n) dot = let no : false ≡ true = dot in cc
 
 -- a part with an octet is a label of the name
 pub record Among (done : List (List ℕ)) (part : List ℕ) (name : List (List ℕ)) : Type 0 where
@@ -263,15 +291,14 @@ empty_listed done part parts name listed = by_case listed.listed
     by_case (inr is) = empty_dotted done part parts name listed.is_name.labels is
 
 -- an octet more than a label or a name has
-pub octet_over : (text behind : List ℕ) (done : List (List ℕ)) (begun : List ℕ) (len start c : ℕ)
-    → Reading text behind done (begun ++ c ∷ []) → start ≡ length (labels_wire done) → len ≡ start + 1 + length begun
-    → (len ≡ start + 64) ⊎ (253 < len) → (parts name : List (List ℕ)) → HasParts text parts → IsListed parts name → ⊥
-octet_over text behind done begun len start c reading at long over parts name has listed =
-    let left = reading.back parts has in
-    let some = some_part left.symbols in
+pub octet_over : (taken rest : List Symbol) (done : List (List ℕ)) (begun : List ℕ) (len start c : ℕ)
+    → Reading taken done (begun ++ c ∷ []) → start ≡ length (labels_wire done) → len ≡ start + 1 + length begun
+    → (len ≡ start + 64) ⊎ (253 < len) → (name : List (List ℕ)) → IsListed (parts_of (taken ++ rest)) name → ⊥
+octet_over taken rest done begun len start c reading at long over name listed =
+    let some = some_part rest in
     let part = (begun ++ c ∷ []) ++ some.part in
-    let is : parts ≡ done ++ part ∷ some.more =
-    left.is ∙ ap (λ (p : List (List ℕ)). done ++ joined (begun ++ c ∷ []) p) some.is in
+    let is : parts_of (taken ++ rest) ≡ done ++ part ∷ some.more =
+    reading.parts rest ∙ ap (λ (p : List (List ℕ)). done ++ joined (begun ++ c ∷ []) p) some.is in
     let P : List (List ℕ) → Type 0 = λ p. IsListed p name in
     let size : length part ≡ length begun + 1 + length some.part =
     length-append (begun ++ c ∷ []) some.part ∙ ap (λ (n : ℕ). n + length some.part) (length-append begun (c ∷ [])) in
@@ -279,14 +306,21 @@ octet_over text behind done begun len start c reading at long over parts name ha
     omega (arith, short.0, short.1)
 
 -- a dot behind an empty label
-pub dot_empty : (text behind : List ℕ) (done : List (List ℕ)) (begun : List ℕ) → Reading text behind (done ++ begun ∷ []) []
-    → length begun ≡ 0 → (parts name : List (List ℕ)) → HasParts text parts → IsListed parts name → ⊥
-dot_empty text behind done (octet ∷ begun) reading none parts name has listed = omega arith
-dot_empty text behind done [] reading none parts name has listed =
-    let left = reading.back parts has in
-    let some = some_part left.symbols in
-    let is : parts ≡ done ++ [] ∷ some.part ∷ some.more =
-    left.is ∙ ap (λ (p : List (List ℕ)). (done ++ [] ∷ []) ++ joined [] p) some.is
+pub dot_empty : (taken rest : List Symbol) (done : List (List ℕ)) (begun : List ℕ) → Reading taken (done ++ begun ∷ []) []
+    → length begun ≡ 0 → (name : List (List ℕ)) → IsListed (parts_of (taken ++ rest)) name → ⊥
+dot_empty taken rest done (octet ∷ begun) reading none name listed = omega arith
+dot_empty taken rest done [] reading none name listed =
+    let some = some_part rest in
+    let is : parts_of (taken ++ rest) ≡ done ++ [] ∷ some.part ∷ some.more =
+    reading.parts rest ∙ ap (λ (p : List (List ℕ)). (done ++ [] ∷ []) ++ joined [] p) some.is
     ∙ append_assoc done ([] ∷ []) (some.part ∷ some.more) in
     let P : List (List ℕ) → Type 0 = λ p. IsListed p name in
     empty_listed done some.part some.more name (subst P is listed)
+
+-- a symbol behind a dot at the start
+pub dot_more : (dot symbol : Symbol) (rest : List Symbol) → is_dot dot ≡ true → (name : List (List ℕ)) → IsListed (parts_of (dot ∷ symbol ∷ rest)) name → ⊥
+dot_more dot symbol rest is_dot name listed =
+    let some = some_part (symbol ∷ rest) in
+    let is : parts_of (dot ∷ symbol ∷ rest) ≡ [] ∷ some.part ∷ some.more = rw (is_dot, some.is) refl in
+    let P : List (List ℕ) → Type 0 = λ p. IsListed p name in
+    empty_listed [] some.part some.more name (subst P is listed)

@@ -1,17 +1,20 @@
 -- What a text that has been read spells.
 use Rattle.std.proofs.Common.{◌≡◌, ℕ, ◌+◌, ◌<◌, List, [], ◌∷◌, ◌++◌, length, refl, sym, ◌∙◌, ap, subst, arith, length-append}
 use Rattle.std.specs.Prelude.{Result, Ok, Err, IfOk, IfErr, ◌↔◌}
-use Rattle.std.specs.List.{AllByRecursion}
+use Rattle.std.specs.List.{AllByRecursion, flat_map}
+use Rattle.dns_label.specs.declared.symbol.Symbol.{Symbol}
+use Rattle.dns_label.specs.Symbol.{spelled}
 use Rattle.dns_label.specs.Name.{IsLabel, IsName}
-use Rattle.dns_label.specs.NameText.{HasParts, IsNameText, IsAbsoluteText}
+use Rattle.dns_label.specs.NameText.{HasParts, IsNameText, IsAbsoluteText, parts_of}
 use Rattle.dns_label.specs.NameText.IsAbsoluteText.{root, labels}
 use Rattle.dns_label.specs.NameText.IsNameText.{absolute, relative}
 use Rattle.dns_name.specs.Draft.{Holds, IsListed, IsReadAs}
-use Rattle.dns_name.specs.Text.{IsRefused, IsFault}
-use Rattle.dns_name.specs.declared.text.Spelling.{Spelling}
+use Rattle.dns_name.specs.Text.{SpellName, IsRefused, IsFault}
+use Rattle.dns_name.specs.declared.text.draft.Spelling.{Spelling}
 use Rattle.dns_name.specs.declared.text.FromStrError.{FromStrError}
 use Rattle.dns_name.specs.declared.text.FromStrError.TheVariants.{Presentation, ShortBuf}
 use Rattle.dns_name.proofs.Wire.{last_same}
+use Rattle.dns_name.proofs.Parts.{Reading, parts_one, parts_end, has_parts}
 use Rattle.dns_name.proofs.Drafts.{draft-name, draft-some, draft-none, draft-wire, holds_one, draft-len}
 use Rattle.std.proofs.Common.{inl, inr}
 
@@ -145,3 +148,27 @@ pub whole-result : (Spells : List ℕ → List (List ℕ) → Type 0) (text : Li
     → IfOk result (λ name. IsName name × Holds spelling name [] × (0 < length name)) → IfOk result (λ name. Spells text name)
 whole-result Spells text spelling (Ok name) whole made = whole-ok Spells text spelling name whole made.0 made.1 made.2
 whole-result Spells text spelling (Err error) whole made = tt
+
+-- symbols that were taken to the end are a text with these parts
+pub read_as : (taken : List Symbol) (spelling : Spelling) (done : List (List ℕ)) (begun : List ℕ) → Reading taken done begun
+    → Holds spelling done begun → IsReadAs (flat_map spelled taken) spelling
+read_as taken spelling done begun reading holds =
+    let P : List (List ℕ) → Type 0 = λ p. HasParts (flat_map spelled taken) p in
+    let end = parts_end taken done begun reading in
+    record {
+      done = done;
+      begun = begun;
+      holds = holds;
+      has = subst P end (has_parts taken reading.each);
+      only = λ parts has. parts_one taken reading.each parts has ∙ end;
+    }
+
+-- symbols with no name's parts spell none
+pub spell_none : (symbols : List Symbol) (name : List (List ℕ)) → (flat_map spelled symbols ≡ 46 ∷ [] → ⊥)
+    → ((name : List (List ℕ)) → IsListed (parts_of symbols) name → ⊥) → SpellName symbols name → ⊥
+spell_none symbols name no_dot none spells =
+    no_text (flat_map spelled symbols) no_dot
+    (λ parts name has listed.
+    let P : List (List ℕ) → Type 0 = λ p. IsListed p name in
+    none name (subst P (parts_one symbols spells.each parts has) listed))
+    name spells.text

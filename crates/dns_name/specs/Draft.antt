@@ -1,9 +1,9 @@
 -- A name while its text is read.
-use Rattle.std.specs.Prelude.{◌≡◌, ◌⊎◌, ℕ, List, [], ◌∷◌, ◌++◌, length, take}
+use Rattle.std.specs.Prelude.{◌≡◌, ◌⊎◌, ℕ, Option, Some, None, List, [], ◌∷◌, ◌++◌, length, take}
 use Rattle.std.specs.List.{AllByRecursion}
 use Rattle.dns_label.specs.Name.{IsLabel, IsName, labels_wire}
 use Rattle.dns_label.specs.NameText.{HasParts}
-use Rattle.dns_name.specs.declared.text.Spelling.{Spelling}
+use Rattle.dns_name.specs.declared.text.draft.Spelling.{Spelling}
 
 -- it has these finished labels, and these octets in the open one
 pub record Holds (spelling : Spelling) (done : List (List ℕ)) (begun : List ℕ) : Type 0 where
@@ -23,3 +23,8 @@ pub record IsReadAs (text : List ℕ) (spelling : Spelling) : Type 0 where
   pub holds : Holds spelling done begun
   pub has : HasParts text (done ++ begun ∷ [])
   pub only : (parts : List (List ℕ)) → HasParts text parts → parts ≡ done ++ begun ∷ []
+
+-- the text has been read: it is the root's, or another one with these parts
+abbrev pub IsReadBy : List ℕ → Option Spelling → Type 0
+IsReadBy text None = text ≡ 46 ∷ []
+IsReadBy text (Some spelling) = (text ≡ 46 ∷ [] → ⊥) × IsReadAs text spelling

@@ -12,3 +12,12 @@ pub use Rattle.dns_label.specs.Label
 pub use Rattle.dns_label.specs.Split
 pub use Rattle.dns_label.specs.Symbol
 pub use Rattle.dns_label.specs.NameText
+pub use Rattle.dns_label.specs.Taken
+pub use Rattle.dns_label.specs.ReadSymbol
+pub use Rattle.dns_label.specs.Symbols
+pub use Rattle.dns_label.specs.Composed
+pub use Rattle.dns_label.specs.Shown
+pub use Rattle.dns_label.specs.Digit
+pub mod Built
+pub mod DigitLabels
+pub mod Reverse

@@ -4,10 +4,14 @@
 //! values of records) and `dns_label` (labels and symbols), and it hands all of them on.
 #![tactic(auto)]
 
+mod builder;
+mod copies;
 mod label_iter;
 mod name;
 mod parsed;
 mod parsed_iter;
+mod reverse;
+mod root;
 mod suffix;
 #[cfg(test)]
 mod tests;
@@ -15,8 +19,15 @@ mod text;
 mod to_name;
 mod walk;
 
-pub use dns_label::{Label, LabelTypeError, LongLabelError, SplitLabelError, Symbol};
-pub use dns_octets::{FormError, Octets, ParseError, Parser, ShortInput};
+pub use builder::{NameBuilder, PushError, PushNameError};
+pub use dns_label::{
+    BadSymbol, Label, LabelTypeError, LongLabelError, SplitLabelError, Symbol, SymbolCharsError,
+    Symbols,
+};
+pub use dns_octets::{
+    AppendError, EmptyBuilder, FormError, FromBuilder, Octets, OctetsBuilder, ParseError, Parser,
+    ShortInput, WriteOctets,
+};
 pub use dns_values::{Class, Rtype, Ttl};
 pub use label_iter::{LabelIter, ToLabelIter};
 pub use name::{Name, NameError, NameIter};

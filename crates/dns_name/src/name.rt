@@ -182,11 +182,11 @@ fn next_255<'a>(parser: &Parser<'a>) -> &'a [u8]
     }
 }
 
-impl Name<Vec<u8>> {
+impl<Octs: Octets> Name<Octs> {
     /// The name that the octets are, of which this is known.
-    pub(crate) fn of_wire(octets: Vec<u8>) -> Self
-        requires { IsWritten octets.items }
-        ensures { octets.items ≡ wire result }
+    pub(crate) fn of_wire(octets: Octs) -> Self
+        requires { IsWritten (Octs.list octets) }
+        ensures { Octs.list octets ≡ wire result }
     {
         Name { octets }
     }

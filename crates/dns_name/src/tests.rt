@@ -1,8 +1,9 @@
 //! Names by outside examples (RFC 1035 4.1.4, 5.1; RFC 4343).
 use crate::{
-    FromStrError, Name, NameError, ParseError, ParsedName, Parser, PresentationError, ToLabelIter,
-    ToName,
+    AppendError, FromStrError, Name, NameError, ParseError, ParsedName, Parser, PresentationError,
+    Symbol, ToLabelIter, ToName,
 };
+use arrayvec::ArrayVec;
 use std::alloc::{AllocError, Global};
 use std::test::Fail;
 
@@ -141,6 +142,48 @@ fn texts_spell_names(rt: HostRuntime) -> Result<(), Fail> {
     assert!(rt; spelled(rt.alloc(), "@", b"\x01@\x00")?);
     let name = Name::absolute_from_text(rt.alloc(), b"a.")?;
     assert_eq!(rt; name.as_slice(), b"\x01a\x00".as_slice());
+    Ok(())
+}
+
+#[test]
+fn characters_and_symbols_spell_names(rt: HostRuntime) -> Result<(), Fail> {
+    let name: Name<Vec<u8>> = Name::from_chars(rt.alloc(), "foo\\112".chars())?;
+    assert_eq!(rt; name.as_slice(), b"\x04foop\x00".as_slice());
+    let foreign = Name::<Vec<u8>>::from_chars(rt.alloc(), "a\u{e9}.".chars());
+    assert_eq!(rt;
+        foreign.err(),
+        Some(FromStrError::Presentation(PresentationError::BadSymbol))
+    );
+    let small: Name<ArrayVec<u8, 3>> = Name::from_str(rt.alloc(), "a.")?;
+    assert_eq!(rt; small.as_slice(), b"\x01a\x00".as_slice());
+    let long = Name::<ArrayVec<u8, 3>>::from_chars(rt.alloc(), "ab".chars());
+    assert_eq!(rt; long.err(), Some(FromStrError::ShortBuf));
+    let symbols = [
+        Symbol::Char('a'),
+        Symbol::SimpleEscape(b'.'),
+        Symbol::Char('.'),
+    ];
+    let name: Name<Vec<u8>> = Name::from_symbols(rt.alloc(), symbols.iter().copied())?;
+    assert_eq!(rt; name.as_slice(), b"\x02a.\x00".as_slice());
+    let bare = [Symbol::Char('\\')];
+    let refused = Name::<Vec<u8>>::from_symbols(rt.alloc(), bare.iter().copied());
+    assert_eq!(rt;
+        refused.err(),
+        Some(FromStrError::Presentation(PresentationError::BadSymbol))
+    );
+    Ok(())
+}
+
+#[test]
+fn the_root_is_one_octet(rt: HostRuntime) -> Result<(), Fail> {
+    assert!(rt; Name::root_ref().is_root());
+    assert!(rt; Name::root_slice().is_root());
+    assert!(rt; Name::root_vec(rt.alloc())?.is_root());
+    assert!(rt; Name::<ArrayVec<u8, 1>>::root(rt.alloc())?.is_root());
+    assert_eq!(rt;
+        Name::<ArrayVec<u8, 0>>::root(rt.alloc()).err(),
+        Some(AppendError::ShortBuf)
+    );
     Ok(())
 }
 

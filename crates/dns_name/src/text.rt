@@ -1,13 +1,19 @@
 //! Text to names (RFC 1035 5.1).
-ghost use Rattle.std.specs.Prelude.{◌≡◌, ◌+◌, ◌≤◌, ◌<◌, ◌⊎◌, ◌↔◌, List, ℕ, [], ◌∷◌, ◌++◌, length, true, false, IsTrue, IfOk, IfErr, OnOk, OnErr, IfSome, IfNone};
-ghost use Rattle.dns_label.specs.Name.{IsName};
-ghost use Rattle.dns_label.specs.Symbol.{IsSymbol, octet};
-ghost use Rattle.dns_label.specs.NameText.{HasParts, IsNameText, IsAbsoluteText, is_dot};
+ghost use Rattle.std.specs.Prelude.{◌≡◌, List, ℕ, IfOk, IfErr};
+ghost use Rattle.std.specs.Iterator.{IsFinite, Drains};
+ghost use Rattle.dns_label.specs.declared.symbol.Symbol.{Symbol};
+ghost use Rattle.dns_label.specs.NameText.{IsNameText, IsAbsoluteText};
 ghost use Rattle.dns_name.specs.declared.text.FromStrError.TheVariants.{Presentation, ShortBuf};
 
+mod draft;
+mod octet_chars;
+
 use crate::Name;
-use dns_label::Symbol;
-use std::alloc::{AllocError, Global};
+use dns_label::{BadSymbol, Symbol, SymbolCharsError};
+use dns_octets::{AppendError, EmptyBuilder, FromBuilder};
+use draft::Spelling;
+use octet_chars::OctetChars;
+use std::alloc::Global;
 use thiserror::Error;
 
 /// Why a text spells no name.
@@ -49,179 +55,117 @@ impl From<PresentationError> for FromStrError {
     }
 }
 
-impl From<AllocError> for FromStrError {
+impl From<AppendError> for FromStrError {
     ghost from_gives = { λ _ error. error ≡ ShortBuf };
 
-    fn from(_: AllocError) -> FromStrError {
+    fn from(_: AppendError) -> FromStrError {
         FromStrError::ShortBuf
+    }
+}
+
+impl From<SymbolCharsError> for PresentationError {
+    fn from(_: SymbolCharsError) -> PresentationError {
+        PresentationError::BadSymbol
+    }
+}
+
+impl From<BadSymbol> for PresentationError {
+    fn from(_: BadSymbol) -> PresentationError {
+        PresentationError::BadSymbol
+    }
+}
+
+impl<Octs: FromBuilder> Name<Octs>
+where
+    Octs::Builder: EmptyBuilder + Drop,
+{
+    ghost use Rattle.dns_name.specs.Text.{IsRefused, IsRefusedBy, SpellName};
+    ghost use Rattle.dns_name.specs.Draft.{IsReadBy};
+
+    /// The name that characters spell, its last dot there or not (RFC 1035 5.1). There is no origin, so that `@` is a label.
+    ///
+    /// Refused where they spell no name, maybe before all of them are taken; and with `ShortBuf` where they spell one, and
+    /// there is no memory or no room for it.
+    pub fn from_chars<C: Iterator<Item = char> + Drop>(
+        alloc: Global,
+        chars: C,
+    ) -> Result<Self, FromStrError>
+        requires can { C.can_next chars }
+        requires ends { IsFinite (C.remaining chars) }
+        ensures ok { IfOk result (λ name. (text : List ℕ) × Drains C.next_gives chars text × IsNameText text name) }
+        ensures err { IfErr result (IsRefusedBy C.next_gives chars IsNameText) }
+    {
+        Name::of_read(alloc, Spelling::read_chars(chars)?)
+    }
+
+    /// The name that symbols spell, the last dot there or not, as their text does.
+    ///
+    /// Refused where they spell no name or one of them is no symbol of a text, maybe before all of them are taken; and with
+    /// `ShortBuf` where they spell one, and there is no memory or no room for it.
+    pub fn from_symbols<S: Iterator<Item = Symbol> + Drop>(
+        alloc: Global,
+        mut symbols: S,
+    ) -> Result<Self, FromStrError>
+        requires can { S.can_next symbols }
+        requires ends { IsFinite (S.remaining symbols) }
+        ensures ok { IfOk result (λ name. (list : List Symbol) × Drains S.next_gives symbols list × SpellName list name) }
+        ensures err { IfErr result (IsRefusedBy S.next_gives symbols SpellName) }
+    {
+        Name::of_read(alloc, Spelling::read(&mut symbols)?)
+    }
+
+    /// The name that a text spells, its last dot there or not.
+    ///
+    /// Refused where the text spells no name; and with `ShortBuf` where it spells one, and there is no memory or no room
+    /// for it.
+    pub fn from_str(alloc: Global, text: &str) -> Result<Self, FromStrError>
+        ensures ok { IfOk result (λ name. IsNameText text.now name) }
+        ensures err { IfErr result (IsRefused IsNameText text.now) }
+    {
+        Name::from_chars(alloc, OctetChars(text.as_bytes()))
+    }
+
+    /// The name that was read, the last label of which may be open.
+    fn of_read(alloc: Global, read: Option<Spelling>) -> Result<Self, FromStrError>
+        requires { (text : List ℕ) × IsReadBy text read }
+        ensures ok { IfOk result (λ name. (text : List ℕ) → IsReadBy text read → IsNameText text name) }
+        ensures err { IfErr result (λ error. (text : List ℕ) → IsReadBy text read → IsRefused IsNameText text error) }
+    {
+        let Some(mut spelling) = read else {
+            return Ok(Name::root(alloc)?);
+        };
+        if spelling.has_open_label() {
+            spelling.end_label()?;
+        }
+        spelling.finish(alloc)
     }
 }
 
 impl Name<Vec<u8>> {
     ghost use Rattle.dns_name.specs.Text.{IsRefused};
 
-    /// The name that a text spells, its last dot there or not.
-    ///
-    /// Refused where the text spells no name, and where there is no memory for the name.
+    /// The name that a text spells, its last dot there or not, as `from_str` has it.
     pub fn vec_from_str(alloc: Global, text: &str) -> Result<Self, FromStrError>
         ensures ok { IfOk result (λ name. IsNameText text.now name) }
         ensures err { IfErr result (IsRefused IsNameText text.now) }
     {
-        Name::from_text(alloc, text.as_bytes())
-    }
-
-    /// The name that octets of text spell, the last dot there or not.
-    fn from_text(alloc: Global, text: &[u8]) -> Result<Self, FromStrError>
-        ensures ok { IfOk result (λ name. IsNameText text.now name) }
-        ensures err { IfErr result (IsRefused IsNameText text.now) }
-    {
-        if is_dot_alone(text) {
-            return Ok(root(alloc)?);
-        }
-        let mut spelling = Spelling::read(text)?;
-        if spelling.has_open_label() {
-            spelling.end_label()?;
-        }
-        spelling.finish(alloc)
+        Name::from_str(alloc, text)
     }
 
     /// The name that octets of text spell, in which the last dot has to be there.
     ///
-    /// Refused where the text spells no name with its last dot, and where there is no memory for the name.
+    /// Refused where the text spells no name with its last dot; and with `ShortBuf` where it spells one, and there is no
+    /// memory for it.
     pub fn absolute_from_text(alloc: Global, text: &[u8]) -> Result<Self, FromStrError>
         ensures ok { IfOk result (λ name. IsAbsoluteText text.now name) }
         ensures err { IfErr result (IsRefused IsAbsoluteText text.now) }
     {
-        if is_dot_alone(text) {
-            return Ok(root(alloc)?);
-        }
-        let spelling = Spelling::read(text)?;
+        let Some(spelling) = Spelling::read_chars(OctetChars(text))? else {
+            return Ok(Name::root(alloc)?);
+        };
         if spelling.has_open_label() {
             return Err(FromStrError::Presentation(PresentationError::RelativeName));
         }
         spelling.finish(alloc)
     }
-}
-
-/// A name while its text is read: finished labels, and the open one, whose length is written when it ends.
-#[derive(Drop)]
-struct Spelling {
-    octets: [u8; 255],
-    /// How many octets there are.
-    len: usize,
-    /// Where the length of the open label goes.
-    start: usize,
-    ghost whole: { length octets ≡ 255 },
-    ghost room: { start < len },
-    ghost few: { len ≤ 255 },
-    ghost short: { len ≤ start + 64 },
-    ghost full: { 254 < len → len ≡ start + 1 },
-}
-
-impl Spelling {
-    ghost use Rattle.dns_name.specs.Draft.{Holds, IsListed, IsReadAs};
-    ghost use Rattle.dns_name.specs.Text.{IsFault};
-
-    /// What the text spells, the last label still open.
-    fn read(text: &[u8]) -> Result<Spelling, PresentationError>
-        ensures ok { IfOk result (IsReadAs text.now) }
-        ensures err { OnErr result ((parts name : List (List ℕ)) → HasParts text.now parts → IsListed parts name → ⊥) }
-    {
-        let mut spelling = Spelling {
-            octets: [0; 255],
-            len: 1,
-            start: 0,
-        };
-        let mut rest = text;
-        while !rest.is_empty() {
-            let Some((symbol, behind)) = Symbol::split_from(rest) else {
-                return Err(PresentationError::BadSymbol);
-            };
-            match octet_of(symbol) {
-                Some(octet) => spelling.push(octet)?,
-                None => spelling.end_label()?,
-            }
-            rest = behind;
-        }
-        Ok(spelling)
-    }
-
-    /// Whether the open label has an octet.
-    fn has_open_label(&self) -> bool
-        ensures { IsTrue result ↔ (self.now.start + 1 < self.now.len) }
-    {
-        self.len - self.start > 1
-    }
-
-    /// Puts an octet to the open label. Refused past 63 of them, and where no room for the root would be left.
-    fn push(&mut self, octet: u8) -> Result<(), PresentationError>
-        ensures ok { OnOk result ((done : List (List ℕ)) (begun : List ℕ) → Holds self.old done begun → Holds self.new done (begun ++ octet ∷ [])) }
-        ensures err { OnErr result ((self.old.len ≡ self.old.start + 64) ⊎ (253 < self.old.len)) }
-    {
-        if self.len - self.start > 63 {
-            return Err(PresentationError::LongLabel);
-        }
-        if self.len > 253 {
-            return Err(PresentationError::LongName);
-        }
-        self.octets[self.len] = octet;
-        self.len += 1;
-        Ok(())
-    }
-
-    /// Ends the open label, and begins the next. Refused where it is empty.
-    fn end_label(&mut self) -> Result<(), PresentationError>
-        ensures ok { OnOk result ((done : List (List ℕ)) (begun : List ℕ) → Holds self.old done begun → Holds self.new (done ++ begun ∷ []) []) }
-        ensures err { OnErr result (self.old.len ≡ self.old.start + 1) }
-    {
-        let count = self.len - self.start - 1;
-        if count == 0 {
-            return Err(PresentationError::EmptyLabel);
-        }
-        self.octets[self.start] = count as u8;
-        self.octets[self.len] = 0;
-        self.start = self.len;
-        self.len += 1;
-        Ok(())
-    }
-
-    /// The name of the finished labels, of which there has to be one.
-    fn finish(self, alloc: Global) -> Result<Name<Vec<u8>>, FromStrError>
-        requires { (done : List (List ℕ)) × Holds self done [] }
-        ensures ok { IfOk result (λ name. IsName name × Holds self name [] × (0 < length name)) }
-        ensures err { IfErr result (λ error. IsFault error ↔ (self.len ≡ 1)) }
-    {
-        if self.len == 1 {
-            return Err(FromStrError::Presentation(PresentationError::EmptyLabel));
-        }
-        let octets = Vec::from_slice(alloc, &self.octets[..self.len])?;
-        Ok(Name::of_wire(octets))
-    }
-}
-
-/// The octet of a symbol, or None at a plain dot.
-fn octet_of(symbol: Symbol) -> Option<u8>
-    requires { IsSymbol symbol }
-    ensures octet { IfSome result (λ value. (value ≡ octet symbol) × (is_dot symbol ≡ false)) }
-    ensures dot { IfNone result (is_dot symbol ≡ true) }
-{
-    match symbol {
-        Symbol::Char('.') => None,
-        Symbol::Char(c) => u8::try_from(c).ok(),
-        Symbol::SimpleEscape(octet) | Symbol::DecimalEscape(octet) => Some(octet),
-    }
-}
-
-/// Whether the text is the root's.
-fn is_dot_alone(text: &[u8]) -> bool
-    ensures { IsTrue result ↔ (text.now ≡ 46 ∷ []) }
-{
-    matches!(text, [b'.'])
-}
-
-/// The root.
-fn root(alloc: Global) -> Result<Name<Vec<u8>>, AllocError>
-    ensures { IfOk result (λ name. name ≡ []) }
-{
-    Ok(Name::of_wire(Vec::from_slice(alloc, &[0])?))
 }

@@ -1,5 +1,5 @@
 //! What octets are appended to.
-ghost use Rattle.std.specs.Prelude.{◌≡◌, ◌++◌, List, ℕ, [], Option, Ok, Err, Result, take, length, IfOk, OnOk, OnErr};
+ghost use Rattle.std.specs.Prelude.{◌≡◌, ◌<◌, ◌++◌, List, ℕ, [], Option, Ok, Err, Result, take, length, slice_set, IfOk, OnOk, OnErr};
 ghost use Rattle.dns_octets.specs.Builder.{Known, before, GrowsTo, IsWithin, IsPast};
 ghost use Rattle.dns_octets.specs.declared.error.AppendError.{AppendError};
 ghost use Rattle.dns_octets.specs.declared.error.AppendError.TheVariants.{ShortBuf, BadLength};
@@ -83,6 +83,17 @@ pub trait Truncate: OctetsBuilder {
     fn truncate(&mut self, len: usize)
         ensures octets { Self.list self.new ≡ take len (Self.list self.old) }
         ensures known { Self.known self.new ≡ before len (Self.known self.old) }
+        ensures same_bound { Self.bound self.new ≡ Self.bound self.old }
+        ensures stays { Self.stays self.old self.new };
+}
+
+/// A target whose octets can be changed where they stand.
+pub trait WriteOctets: OctetsBuilder {
+    /// Puts an octet in the place of another one.
+    fn set_octet(&mut self, place: usize, octet: u8)
+        requires { place < length (Self.list self.old) }
+        ensures octets { Self.list self.new ≡ slice_set (Self.list self.old) place octet }
+        ensures known { Self.known self.new ≡ Self.known self.old }
         ensures same_bound { Self.bound self.new ≡ Self.bound self.old }
         ensures stays { Self.stays self.old self.new };
 }

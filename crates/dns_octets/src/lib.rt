@@ -13,6 +13,7 @@ mod parser;
 
 pub use builder::{
     EmptyBuilder, FreezeBuilder, FromBuilder, OctetsBuilder, OctetsFrom, Remembers, Truncate,
+    WriteOctets,
 };
 pub use compose::Compose;
 pub use error::{AppendError, FormError, ParseError, ShortInput};

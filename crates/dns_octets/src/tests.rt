@@ -2,7 +2,7 @@
 //! concrete types.
 use crate::{
     AppendError, Compose, EmptyBuilder, FormError, FreezeBuilder, FromBuilder, Octets,
-    OctetsBuilder, OctetsFrom, Parse, ParseError, Parser, ShortInput, Truncate,
+    OctetsBuilder, OctetsFrom, Parse, ParseError, Parser, ShortInput, Truncate, WriteOctets,
 };
 use arrayvec::ArrayVec;
 use std::alloc::Global;
@@ -271,5 +271,24 @@ fn append_errors_print(rt: HostRuntime) -> Result<(), Fail> {
         AppendError::BadLength.to_string(rt.alloc())?.as_str(),
         "bad length"
     );
+    Ok(())
+}
+
+fn write_second<B: WriteOctets>(builder: &mut B) -> Result<(), AppendError> {
+    builder.append_slice(b"abc")?;
+    if builder.octets().len() > 1 {
+        builder.set_octet(1, b'x');
+    }
+    Ok(())
+}
+
+#[test]
+fn octets_are_written_in_place(rt: HostRuntime) -> Result<(), Fail> {
+    let mut octets = Vec::new(rt.alloc());
+    write_second(&mut octets)?;
+    assert_eq!(rt; octets.as_slice(), b"axc".as_slice());
+    let mut fixed = ArrayVec::<u8, 3>::new();
+    write_second(&mut &mut fixed)?;
+    assert_eq!(rt; fixed.as_slice(), b"axc".as_slice());
     Ok(())
 }

@@ -5,6 +5,7 @@ ghost use Rattle.dns_octets.specs.declared.error.AppendError.TheVariants.{ShortB
 
 use super::{
     EmptyBuilder, FreezeBuilder, FromBuilder, OctetsBuilder, OctetsFrom, Remembers, Truncate,
+    WriteOctets,
 };
 use crate::error::AppendError;
 use crate::octets::Octets;
@@ -70,6 +71,12 @@ impl<const N: usize> FromBuilder for ArrayVec<u8, N> {
 impl<const N: usize> Truncate for ArrayVec<u8, N> {
     fn truncate(&mut self, len: usize) {
         self.truncate(len);
+    }
+}
+
+impl<const N: usize> WriteOctets for ArrayVec<u8, N> {
+    fn set_octet(&mut self, place: usize, octet: u8) {
+        self.as_mut_slice()[place] = octet;
     }
 }
 

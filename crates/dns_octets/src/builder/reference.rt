@@ -2,7 +2,7 @@
 ghost use Rattle.std.specs.Prelude.{◌≡◌, refl};
 ghost use Rattle.std.proofs.Common.{◌∙◌};
 
-use super::{OctetsBuilder, Remembers, Truncate};
+use super::{OctetsBuilder, Remembers, Truncate, WriteOctets};
 use crate::error::AppendError;
 
 impl<T: Remembers> Remembers for &mut T {
@@ -26,5 +26,11 @@ impl<T: OctetsBuilder> OctetsBuilder for &mut T {
 impl<T: Truncate> Truncate for &mut T {
     fn truncate(&mut self, len: usize) {
         (**self).truncate(len);
+    }
+}
+
+impl<T: WriteOctets> WriteOctets for &mut T {
+    fn set_octet(&mut self, place: usize, octet: u8) {
+        (**self).set_octet(place, octet);
     }
 }

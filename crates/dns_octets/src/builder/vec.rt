@@ -4,6 +4,7 @@ ghost use Rattle.dns_octets.specs.declared.error.AppendError.TheVariants.{ShortB
 
 use super::{
     EmptyBuilder, FreezeBuilder, FromBuilder, OctetsBuilder, OctetsFrom, Remembers, Truncate,
+    WriteOctets,
 };
 use crate::error::AppendError;
 use crate::octets::Octets;
@@ -57,6 +58,12 @@ impl FromBuilder for Vec<u8> {
 impl Truncate for Vec<u8> {
     fn truncate(&mut self, len: usize) {
         self.truncate(len);
+    }
+}
+
+impl WriteOctets for Vec<u8> {
+    fn set_octet(&mut self, place: usize, octet: u8) {
+        self.as_mut_slice()[place] = octet;
     }
 }
 

@@ -1,45 +1,70 @@
-use Rattle.std.proofs.Common.{[], refl}
+use Rattle.std.proofs.Common.{◌≡◌, List, ℕ, [], refl, subst}
+use Rattle.std.specs.Prelude.{Option}
 use Rattle.std.proofs.lemmas.Result.{err_from_is_err_and}
 use Rattle.dns_label.specs.NameText.IsAbsoluteText.{root}
-use Rattle.dns_name.proofs.Texts.{no_absolute, whole-absolute, open_label, whole-result, whole-err, begun_some, begun_none}
+use Rattle.dns_label.specs.NameText.IsNameText.{absolute}
+use Rattle.dns_label.proofs.Taken.{first_drains, first_rules}
+use Rattle.dns_name.specs.declared.text.draft.Spelling.{Spelling}
+use Rattle.dns_name.specs.declared.text.octet_chars.OctetChars.{OctetChars}
+use Rattle.dns_name.specs.Draft.{IsReadBy}
+use Rattle.dns_name.proofs.Texts.{whole-absolute, open_label, whole-result, whole-err, begun_some, begun_none}
 use Rattle.dns_name.proofs.text.Name+Vec+u8.absolute_from_text.Goals as goal
 
-pub returns-in_err-root-clause-err : goal.returns-in_err-root-clause-err
-returns-in_err-root-clause-err c =
-    let p = err_from_is_err_and c.from_residual.result c.from_residual.ensures.1 in
-    rw (p.1, p.2) ([], root (c.if-is_dot_alone.ensures.0 refl))
-
-pub returns-then-is_dot_alone-clause-ok : goal.returns-then-is_dot_alone-clause-ok
-returns-then-is_dot_alone-clause-ok c = rw c.in_ok-root.ensures (root (c.if-is_dot_alone.ensures.0 refl))
+read_by : (text : List ℕ) (read of : Option Spelling) (taken : List ℕ) → taken ≡ text → read ≡ of → IsReadBy taken read → IsReadBy text of
+read_by text read of taken is same given =
+    let P : List ℕ → Type 0 = λ t. IsReadBy t read in
+    let Q : Option Spelling → Type 0 = λ r. IsReadBy text r in
+    subst Q same (subst P is given)
 
 pub returns-in_err-spelling-clause-err : goal.returns-in_err-spelling-clause-err
 returns-in_err-spelling-clause-err c =
-    let p = err_from_is_err_and c.from_residual-in_err-spelling.result c.from_residual-in_err-spelling.ensures.1 in
-    rw (p.1, p.2) (no_absolute c.args.text.now (λ is. let bad = c.if-is_dot_alone.ensures.1 is in cc) c.in_err-spelling.ensures.err)
+    let p = err_from_is_err_and c.from_residual.result c.from_residual.ensures.1 in
+    rw (p.1, p.2)
+    (λ name is. first_rules (λ (chars : OctetChars). chars.0.now) _ c.in_err-spelling.ensures.err (name, absolute is))
+
+pub returns-in_err-root-clause-err : goal.returns-in_err-root-clause-err
+returns-in_err-root-clause-err c =
+    let read = c.in_ok-spelling.ensures.ok in
+    let taken = first_drains (λ (chars : OctetChars). chars.0.now) read.0 _ read.1 in
+    let p = err_from_is_err_and c.from_residual-in_err-root.result c.from_residual-in_err-root.ensures.1 in
+    rw (p.1, p.2) ([], root (read_by c.args.text.now _ _ read.0 taken c.in_default.is read.2))
+
+pub returns-in_default-clause-ok : goal.returns-in_default-clause-ok
+returns-in_default-clause-ok c =
+    let read = c.in_ok-spelling.ensures.ok in
+    let taken = first_drains (λ (chars : OctetChars). chars.0.now) read.0 _ read.1 in
+    rw c.in_ok-root.ensures.root (root (read_by c.args.text.now _ _ read.0 taken c.in_default.is read.2))
 
 pub returns-then-has_open_label-clause-err : goal.returns-then-has_open_label-clause-err
 returns-then-has_open_label-clause-err c =
     let read = c.in_ok-spelling.ensures.ok in
-    open_label c.args.text.now c.in_ok-spelling.spelling (λ is. let bad = c.if-is_dot_alone.ensures.1 is in cc) read
-    (begun_some _ _ read (c.if-has_open_label.ensures.0 refl))
+    let taken = first_drains (λ (chars : OctetChars). chars.0.now) read.0 _ read.1 in
+    let given = read_by c.args.text.now _ _ read.0 taken c.in-Some.is read.2 in
+    open_label c.args.text.now c.in-Some.spelling given.0 given.1 (begun_some _ _ given.1 (c.if-has_open_label.ensures.0 refl))
 
 pub finish-requires : goal.finish-requires
 finish-requires c =
     let read = c.in_ok-spelling.ensures.ok in
-    let whole = whole-absolute c.args.text.now c.in_ok-spelling.spelling (λ is. let bad = c.if-is_dot_alone.ensures.1 is in cc) read
-    (begun_none _ _ read (λ more. let bad = c.if-has_open_label.ensures.1 more in cc)) in
+    let taken = first_drains (λ (chars : OctetChars). chars.0.now) read.0 _ read.1 in
+    let given = read_by c.args.text.now _ _ read.0 taken c.in-Some.is read.2 in
+    let whole = whole-absolute c.args.text.now c.in-Some.spelling given.0 given.1
+    (begun_none _ _ given.1 (λ more. let bad = c.if-has_open_label.ensures.1 more in cc)) in
     (whole.done, whole.holds)
 
 pub returns-clause-ok : goal.returns-clause-ok
 returns-clause-ok c =
     let read = c.in_ok-spelling.ensures.ok in
-    let whole = whole-absolute c.args.text.now c.in_ok-spelling.spelling (λ is. let bad = c.if-is_dot_alone.ensures.1 is in cc) read
-    (begun_none _ _ read (λ more. let bad = c.if-has_open_label.ensures.1 more in cc)) in
+    let taken = first_drains (λ (chars : OctetChars). chars.0.now) read.0 _ read.1 in
+    let given = read_by c.args.text.now _ _ read.0 taken c.in-Some.is read.2 in
+    let whole = whole-absolute c.args.text.now c.in-Some.spelling given.0 given.1
+    (begun_none _ _ given.1 (λ more. let bad = c.if-has_open_label.ensures.1 more in cc)) in
     whole-result _ _ _ c.finish.result whole c.finish.ensures.ok
 
 pub returns-clause-err : goal.returns-clause-err
 returns-clause-err c =
     let read = c.in_ok-spelling.ensures.ok in
-    let whole = whole-absolute c.args.text.now c.in_ok-spelling.spelling (λ is. let bad = c.if-is_dot_alone.ensures.1 is in cc) read
-    (begun_none _ _ read (λ more. let bad = c.if-has_open_label.ensures.1 more in cc)) in
+    let taken = first_drains (λ (chars : OctetChars). chars.0.now) read.0 _ read.1 in
+    let given = read_by c.args.text.now _ _ read.0 taken c.in-Some.is read.2 in
+    let whole = whole-absolute c.args.text.now c.in-Some.spelling given.0 given.1
+    (begun_none _ _ given.1 (λ more. let bad = c.if-has_open_label.ensures.1 more in cc)) in
     whole-err _ _ _ c.finish.result whole c.finish.ensures.err

@@ -1,0 +1,40 @@
+-- How symbols are written, and the symbols that octets are written as.
+use Rattle.std.specs.Prelude.{◌≡◌, ◌==◌, ◌&&◌, ◌||◌, ℕ, Bool, false, List, ◌∷◌, nat_lt, encode_utf8, ⊤, if◌then◌else◌}
+use Rattle.dns_label.specs.declared.symbol.Symbol.{Symbol}
+use Rattle.dns_label.specs.declared.symbol.Symbol.TheVariants.{Char, SimpleEscape, DecimalEscape}
+use Rattle.dns_label.specs.Symbol.{three_digits}
+
+-- the text of a symbol in UTF-8; of a text's symbol it is `spelled`
+abbrev pub shown : Symbol → List ℕ
+shown (Char c) = encode_utf8 c
+shown (SimpleEscape c) = 92 ∷ encode_utf8 c
+shown (DecimalEscape n) = 92 ∷ three_digits n
+
+-- from the space to the tilde
+abbrev pub is_printable : ℕ → Bool
+is_printable octet = nat_lt 31 octet && nat_lt octet 127
+
+-- an octet by itself, or by its number where it is not printable
+abbrev pub bare_symbol : ℕ → Symbol
+bare_symbol octet = if is_printable octet then Char octet else DecimalEscape octet
+
+-- In a word a space, `"`, `(`, `)`, `;` and a backslash are escaped.
+abbrev pub word_symbol : ℕ → Symbol
+word_symbol octet =
+    if (octet == 32) || ((octet == 34) || ((octet == 40) || ((octet == 41) || ((octet == 59) || (octet == 92)))))
+    then SimpleEscape octet else bare_symbol octet
+
+-- Between quotes `"` and a backslash are.
+abbrev pub quoted_symbol : ℕ → Symbol
+quoted_symbol octet = if (octet == 34) || (octet == 92) then SimpleEscape octet else bare_symbol octet
+
+-- In plain text a backslash is.
+abbrev pub plain_symbol : ℕ → Symbol
+plain_symbol octet = if octet == 92 then SimpleEscape octet else bare_symbol octet
+
+-- white space, `"`, `(`, `)` and `;` are of a word only where they are escaped
+abbrev pub IsWordSymbol : Symbol → Type 0
+IsWordSymbol (Char c) =
+    ((c == 32) || ((c == 9) || ((c == 13) || ((c == 10) || ((c == 34) || ((c == 40) || ((c == 41) || (c == 59)))))))) ≡ false
+IsWordSymbol (SimpleEscape c) = ⊤
+IsWordSymbol (DecimalEscape n) = ⊤

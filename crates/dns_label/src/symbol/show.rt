@@ -1,0 +1,146 @@
+//! How octets are written as symbols, and symbols as text.
+ghost use Rattle.std.specs.Prelude.{◌≡◌, ◌↔◌, Some, IsTrue};
+ghost use Rattle.dns_label.specs.Shown.{shown, bare_symbol, word_symbol, quoted_symbol, plain_symbol, IsWordSymbol};
+ghost use Rattle.dns_label.specs.Printed.{printed_symbol};
+
+use super::Symbol;
+use std::fmt;
+
+impl Symbol {
+    /// How an octet is written in a word of text: a space, `"`, `(`, `)`, `;` and a backslash behind a backslash, octets
+    /// outside 0x20 to 0x7E by three digits, and the others by themselves.
+    pub fn from_octet(octet: u8) -> Self
+        ensures { result ≡ word_symbol octet }
+    {
+        match octet {
+            b' ' | b'"' | b'(' | b')' | b';' | b'\\' => Symbol::SimpleEscape(octet),
+            _ => bare(octet),
+        }
+    }
+
+    /// How an octet is written between quotes: `"` and a backslash behind a backslash, octets outside 0x20 to 0x7E by
+    /// three digits, and the others by themselves.
+    pub fn quoted_from_octet(octet: u8) -> Self
+        ensures { result ≡ quoted_symbol octet }
+    {
+        match octet {
+            b'"' | b'\\' => Symbol::SimpleEscape(octet),
+            _ => bare(octet),
+        }
+    }
+
+    /// How an octet is written in plain text: a backslash behind a backslash, octets outside 0x20 to 0x7E by three
+    /// digits, and the others by themselves.
+    pub fn display_from_octet(octet: u8) -> Self
+        ensures { result ≡ plain_symbol octet }
+    {
+        match octet {
+            b'\\' => Symbol::SimpleEscape(octet),
+            _ => bare(octet),
+        }
+    }
+
+    /// How an octet of a label is written: a space, `"`, `$`, `(`, `)`, a dot, `;` and a backslash behind a backslash,
+    /// octets outside 0x20 to 0x7E by three digits, and the others by themselves.
+    pub(crate) fn label_from_octet(octet: u8) -> Self
+        ensures { result ≡ printed_symbol octet }
+    {
+        match octet {
+            b' ' | b'"' | b'$' | b'(' | b')' | b'.' | b';' | b'\\' => Symbol::SimpleEscape(octet),
+            _ => bare(octet),
+        }
+    }
+
+    /// Whether a word may have the symbol: white space, `"`, `(`, `)` and `;` stand in one only escaped.
+    pub fn is_word_char(self) -> bool
+        ensures { IsTrue result ↔ IsWordSymbol self }
+    {
+        match self {
+            Symbol::Char(c) => !matches!(c, ' ' | '\t' | '\r' | '\n' | '"' | '(' | ')' | ';'),
+            Symbol::SimpleEscape(_) | Symbol::DecimalEscape(_) => true,
+        }
+    }
+}
+
+/// An octet by itself, or by its number where it is not printable.
+fn bare(octet: u8) -> Symbol
+    ensures { result ≡ bare_symbol octet }
+{
+    match octet {
+        b' '..=b'~' => Symbol::Char(char::from(octet)),
+        _ => Symbol::DecimalEscape(octet),
+    }
+}
+
+impl fmt::Display for Symbol {
+    ghost output = { λ symbol. Some (shown symbol) };
+
+    fn fmt<W: fmt::Write>(&self, f: &mut fmt::Formatter<W>) -> fmt::Result {
+        match *self {
+            Symbol::Char(c) => write!(f, "{c}"),
+            Symbol::SimpleEscape(octet) => {
+                let c = char::from(octet);
+                write!(f, "\\{c}")
+            }
+            Symbol::DecimalEscape(octet) => {
+                let hundreds = char::from(b'0' + octet / 100);
+                let tens = char::from(b'0' + octet / 10 % 10);
+                let ones = char::from(b'0' + octet % 10);
+                write!(f, "\\{hundreds}{tens}{ones}")
+            }
+        }
+    }
+}
+
+#[cfg(test)]
+mod tests {
+    use super::*;
+    use crate::BadSymbol;
+    use std::alloc::{AllocError, Global};
+    use std::test::Fail;
+
+    fn text(alloc: Global, symbols: &[Symbol]) -> Result<String, AllocError> {
+        let mut text = String::new(alloc);
+        for symbol in symbols {
+            write!(text, "{symbol}")?;
+        }
+        Ok(text)
+    }
+
+    #[test]
+    fn octets_are_written_as_symbols(rt: HostRuntime) -> Result<(), Fail> {
+        let word = [
+            Symbol::from_octet(b'f'),
+            Symbol::from_octet(b';'),
+            Symbol::from_octet(b' '),
+            Symbol::from_octet(7),
+        ];
+        assert_eq!(rt; text(rt.alloc(), &word)?.as_str(), "f\\;\\ \\007");
+        let quoted = [
+            Symbol::quoted_from_octet(b';'),
+            Symbol::quoted_from_octet(b'"'),
+            Symbol::quoted_from_octet(200),
+        ];
+        assert_eq!(rt; text(rt.alloc(), &quoted)?.as_str(), ";\\\"\\200");
+        let plain = [
+            Symbol::display_from_octet(b'"'),
+            Symbol::display_from_octet(b'\\'),
+            Symbol::display_from_octet(127),
+        ];
+        assert_eq!(rt; text(rt.alloc(), &plain)?.as_str(), "\"\\\\\\127");
+        Ok(())
+    }
+
+    #[test]
+    fn symbols_are_octets_characters_and_digits(rt: HostRuntime) {
+        assert!(rt; Symbol::SimpleEscape(b';').is_word_char());
+        assert!(rt; !Symbol::Char(';').is_word_char());
+        assert!(rt; Symbol::Char('.').is_word_char());
+        assert_eq!(rt; Symbol::DecimalEscape(112).into_ascii(), Ok(b'p'));
+        assert_eq!(rt; Symbol::DecimalEscape(200).into_ascii(), Err(BadSymbol));
+        assert_eq!(rt; Symbol::SimpleEscape(b';').into_char(), Ok(';'));
+        assert_eq!(rt; Symbol::DecimalEscape(112).into_char(), Err(BadSymbol));
+        assert_eq!(rt; Symbol::Char('f').into_digit(16), Ok(15));
+        assert_eq!(rt; Symbol::Char('f').into_digit(10), Err(BadSymbol));
+    }
+}

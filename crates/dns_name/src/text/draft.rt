@@ -1,0 +1,157 @@
+//! A name while its text is read.
+ghost use Rattle.std.specs.Prelude.{◌≡◌, ◌+◌, ◌≤◌, ◌<◌, ◌⊎◌, ◌↔◌, List, ℕ, [], ◌∷◌, ◌++◌, length, true, false, Some, None, IsTrue, IfOk, IfErr, OnOk, OnErr, IfSome, IfNone};
+ghost use Rattle.std.specs.Iterator.{IsFinite, YieldsThen, Drains};
+ghost use Rattle.std.specs.List.{AllByRecursion, flat_map};
+ghost use Rattle.dns_label.specs.declared.symbol.Symbol.{Symbol};
+ghost use Rattle.dns_label.specs.Name.{IsName};
+ghost use Rattle.dns_label.specs.Symbol.{IsSymbol, spelled};
+ghost use Rattle.dns_label.specs.Taken.{RulesOut};
+ghost use Rattle.dns_label.specs.NameText.{IsNameText, is_dot as separates};
+ghost use Rattle.dns_name.specs.Text.{SpellName, IsFault};
+
+use super::{FromStrError, PresentationError};
+use crate::Name;
+use crate::copies::octets_from;
+use dns_label::{Symbol, Symbols};
+use dns_octets::{EmptyBuilder, FromBuilder};
+use std::alloc::Global;
+
+/// A name while its text is read: finished labels, and the open one, whose length is written when it ends.
+#[derive(Drop)]
+pub(super) struct Spelling {
+    octets: [u8; 255],
+    /// How many octets there are.
+    len: usize,
+    /// Where the length of the open label goes.
+    start: usize,
+    ghost whole: { length octets ≡ 255 },
+    ghost room: { start < len },
+    ghost few: { len ≤ 255 },
+    ghost short: { len ≤ start + 64 },
+    ghost full: { 254 < len → len ≡ start + 1 },
+}
+
+impl Spelling {
+    ghost use Rattle.dns_name.specs.Draft.{Holds, IsReadBy};
+
+    /// What characters spell, the last label still open; None where they are the root's dot alone.
+    ///
+    /// Refused where they spell no name, and maybe before all of them are taken.
+    pub(super) fn read_chars<C: Iterator<Item = char> + Drop>(
+        chars: C,
+    ) -> Result<Option<Spelling>, PresentationError>
+        requires can { C.can_next chars }
+        requires ends { IsFinite (C.remaining chars) }
+        ensures ok { IfOk result (λ read. (text : List ℕ) × Drains C.next_gives chars text × IsReadBy text read) }
+        ensures err { OnErr result (RulesOut C.next_gives chars (λ text. (name : List (List ℕ)) × IsNameText text name)) }
+    {
+        let mut symbols = Symbols::new(chars);
+        let read = Spelling::read(&mut symbols)?;
+        symbols.ok()?;
+        Ok(read)
+    }
+
+    /// What symbols spell, the last label still open; None where they are the root's dot alone.
+    ///
+    /// Refused where they spell no name, and maybe before all of them are taken.
+    pub(super) fn read<S: Iterator<Item = Symbol>>(
+        symbols: &mut S,
+    ) -> Result<Option<Spelling>, PresentationError>
+        requires can { S.can_next symbols.old }
+        requires ends { IsFinite (S.remaining symbols.old) }
+        ensures ok { IfOk result (λ read. (list : List Symbol) × YieldsThen S.next_gives symbols.old list None symbols.new × AllByRecursion IsSymbol list × IsReadBy (flat_map spelled list) read) }
+        ensures err { OnErr result (RulesOut S.next_gives symbols.old (λ list. (name : List (List ℕ)) × SpellName list name)) }
+    {
+        let mut spelling = Spelling {
+            octets: [0; 255],
+            len: 1,
+            start: 0,
+        };
+        'symbols: while let Some(symbol) = symbols.next() {
+            let octet = symbol.into_octet()?;
+            if !is_dot(symbol) {
+                spelling.push(octet)?;
+            } else if spelling.len == 1 {
+                return root_alone(symbols);
+            } else {
+                spelling.end_label()?;
+            }
+        }
+        Ok(Some(spelling))
+    }
+
+    /// Whether the open label has an octet.
+    pub(super) fn has_open_label(&self) -> bool
+        ensures { IsTrue result ↔ (self.now.start + 1 < self.now.len) }
+    {
+        self.len - self.start > 1
+    }
+
+    /// Puts an octet to the open label. Refused past 63 of them, and where no room for the root would be left.
+    fn push(&mut self, octet: u8) -> Result<(), PresentationError>
+        ensures ok { OnOk result ((done : List (List ℕ)) (begun : List ℕ) → Holds self.old done begun → Holds self.new done (begun ++ octet ∷ [])) }
+        ensures err { OnErr result ((self.old.len ≡ self.old.start + 64) ⊎ (253 < self.old.len)) }
+    {
+        if self.len - self.start > 63 {
+            return Err(PresentationError::LongLabel);
+        }
+        if self.len > 253 {
+            return Err(PresentationError::LongName);
+        }
+        self.octets[self.len] = octet;
+        self.len += 1;
+        Ok(())
+    }
+
+    /// Ends the open label, and begins the next. Refused where it is empty.
+    pub(super) fn end_label(&mut self) -> Result<(), PresentationError>
+        ensures ok { OnOk result ((done : List (List ℕ)) (begun : List ℕ) → Holds self.old done begun → Holds self.new (done ++ begun ∷ []) []) }
+        ensures err { OnErr result (self.old.len ≡ self.old.start + 1) }
+    {
+        let count = self.len - self.start - 1;
+        if count == 0 {
+            return Err(PresentationError::EmptyLabel);
+        }
+        self.octets[self.start] = count as u8;
+        self.octets[self.len] = 0;
+        self.start = self.len;
+        self.len += 1;
+        Ok(())
+    }
+
+    /// The name of the finished labels, of which there has to be one.
+    pub(super) fn finish<Octs: FromBuilder>(self, alloc: Global) -> Result<Name<Octs>, FromStrError>
+    where
+        Octs::Builder: EmptyBuilder + Drop,
+        requires { (done : List (List ℕ)) × Holds self done [] }
+        ensures ok { IfOk result (λ name. IsName name × Holds self name [] × (0 < length name)) }
+        ensures err { IfErr result (λ error. IsFault error ↔ (self.len ≡ 1)) }
+    {
+        if self.len == 1 {
+            return Err(FromStrError::Presentation(PresentationError::EmptyLabel));
+        }
+        let octets = octets_from(alloc, &self.octets[..self.len])?;
+        Ok(Name::of_wire(octets))
+    }
+}
+
+/// What a dot at the start spells: the root, if no symbol comes behind it, and else nothing.
+fn root_alone<S: Iterator<Item = Symbol>>(
+    symbols: &mut S,
+) -> Result<Option<Spelling>, PresentationError>
+    requires { S.can_next symbols.old }
+    ensures root { IfOk result (λ read. (read ≡ None) × S.next_gives symbols.old None symbols.new) }
+    ensures err { OnErr result ((symbol : Symbol) × S.next_gives symbols.old (Some symbol) symbols.new) }
+{
+    match symbols.next() {
+        None => Ok(None),
+        Some(_) => Err(PresentationError::EmptyLabel),
+    }
+}
+
+/// Whether the symbol separates labels.
+fn is_dot(symbol: Symbol) -> bool
+    ensures { result ≡ separates symbol }
+{
+    matches!(symbol, Symbol::Char('.'))
+}
