@@ -9,3 +9,6 @@ pub mod Items
 pub mod Parts
 pub mod Drafts
 pub mod Texts
+pub mod Skipping
+pub mod Written
+pub mod Suffixes

@@ -1,7 +1,9 @@
 pub mod Flat
 pub mod Parsed
 pub mod ParsedName
+pub mod Skip
 pub mod Suffix
+pub mod Suffixes
 pub mod Text
 pub mod Draft
 pub use Rattle.dns_octets.specs.Parser

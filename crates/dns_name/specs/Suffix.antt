@@ -1,7 +1,12 @@
 -- The ends of names.
-use Rattle.std.specs.Prelude.{◌≡◌, ◌++◌, ℕ, List}
+use Rattle.std.specs.Prelude.{◌≡◌, ◌++◌, ℕ, List, [], ◌∷◌}
 
 -- the list ends with the other
 pub record EndsWith (whole end : List (List ℕ)) : Type 0 where
   pub front : List (List ℕ)
   pub whole_is : whole ≡ front ++ end
+
+-- the list, the list without its first label, and so on down to the empty one
+abbrev pub suffixes : List (List ℕ) → List (List (List ℕ))
+suffixes [] = [] ∷ []
+suffixes (label ∷ parent) = (label ∷ parent) ∷ suffixes parent

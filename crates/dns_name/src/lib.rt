@@ -8,6 +8,7 @@ mod label_iter;
 mod name;
 mod parsed;
 mod parsed_iter;
+mod skip;
 mod suffix;
 #[cfg(test)]
 mod tests;
@@ -20,7 +21,7 @@ pub use dns_octets::{FormError, Octets, ParseError, Parser, ShortInput};
 pub use dns_values::{Class, Rtype, Ttl};
 pub use label_iter::{LabelIter, ToLabelIter};
 pub use name::{Name, NameError, NameIter};
-pub use parsed::ParsedName;
+pub use parsed::{ParsedName, ParsedSuffixIter};
 pub use parsed_iter::ParsedNameIter;
 pub use text::{FromStrError, PresentationError};
 pub use to_name::ToName;

@@ -5,11 +5,15 @@ ghost use Rattle.dns_label.specs.Spelled.{Reads};
 ghost use Rattle.dns_label.specs.Labels.{labels_at};
 ghost use Rattle.dns_name.specs.Parsed.{IsReadAt};
 
+mod parts;
+mod suffixes;
+
 use crate::walk::walk_name;
 use crate::{Name, ParsedNameIter, ToLabelIter, ToName};
 use dns_label::Label;
 use dns_octets::{Octets, ParseError, Parser};
 use std::alloc::{AllocError, Global};
+pub use suffixes::ParsedSuffixIter;
 
 /// An absolute name at a place of a message, where pointers may stand for the ends of names (RFC 1035 4.1.4).
 ///

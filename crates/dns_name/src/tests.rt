@@ -1,4 +1,6 @@
 //! Names by outside examples (RFC 1035 4.1.4, 5.1; RFC 4343).
+mod parsed;
+
 use crate::{
     FromStrError, Name, NameError, ParseError, ParsedName, Parser, PresentationError, ToLabelIter,
     ToName,
