@@ -12,3 +12,7 @@ pub mod Texts
 pub mod Skipping
 pub mod Written
 pub mod Suffixes
+pub mod Standing
+pub mod Orders
+pub mod LowNames
+pub mod Intervals

@@ -1,6 +1,10 @@
 pub mod Flat
+pub mod FlatWire
+pub mod Order
+pub mod OrderLaws
 pub mod Parsed
 pub mod ParsedName
+pub mod Rrsig
 pub mod Skip
 pub mod Suffix
 pub mod Suffixes

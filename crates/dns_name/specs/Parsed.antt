@@ -22,3 +22,8 @@ IsLeft message (Some place) = ∥ IsReadAt message place ∥₁
 abbrev pub IsWrittenAt : List ℕ → ℕ → Type 0
 IsWrittenAt message place =
     take (length (wire (labels_at message place))) (drop place message) ≡ wire (labels_at message place)
+
+-- the labels from this one on are those that are left at the place
+pub record StandsAt (message : List ℕ) (labels : List (List ℕ)) (index : ℕ) (place : Option ℕ) : Type 0 where
+  pub left : IsLeft message place
+  pub is : drop index labels ≡ labels_left message place

@@ -4,17 +4,19 @@
 //! values of records) and `dns_label` (labels and symbols), and it hands all of them on.
 #![tactic(auto)]
 
+mod compare;
 mod label_iter;
+pub mod laws;
 mod name;
 mod parsed;
 mod parsed_iter;
 mod skip;
-mod suffix;
 #[cfg(test)]
 mod tests;
 mod text;
 mod to_name;
 mod walk;
+mod wire_form;
 
 pub use dns_label::{Label, LabelTypeError, LongLabelError, SplitLabelError, Symbol};
 pub use dns_octets::{FormError, Octets, ParseError, Parser, ShortInput};

@@ -1,16 +1,18 @@
 //! Parts of names in messages.
-ghost use Rattle.std.specs.Prelude.{◌≡◌, ◌∷◌, List, ℕ, [], Some, false, length, slice_get, IsTrue, IfOk, IfSome, IfNone, OnOk, OnErr};
+ghost use Rattle.std.specs.Prelude.{◌≡◌, ◌∷◌, List, ℕ, [], Some, false, length, slice_get, IsTrue, ◌↔◌, IfOk, IfSome, IfNone, OnOk, OnErr};
 ghost use Rattle.dns_label.specs.Label.{octets_of as label_octets};
-ghost use Rattle.dns_label.specs.Name.{with_root, wire};
+ghost use Rattle.dns_label.specs.Name.{with_root, wire, low};
 ghost use Rattle.dns_label.specs.Labels.{labels_at};
 ghost use Rattle.dns_label.specs.Spelled.{Reads};
 ghost use Rattle.dns_name.specs.Parsed.{IsReadAt, IsWrittenAt};
+ghost use Rattle.dns_name.specs.Suffix.{EndsWith, StartsWith};
 
 use super::ParsedName;
-use crate::Name;
+use crate::compare::{ends_with, starts_with};
 use crate::parsed_iter::split_label;
 use crate::skip::skip_name;
 use crate::walk::label_at;
+use crate::{Name, ToLabelIter, ToName};
 use dns_label::{Label, SplitLabelError};
 use dns_octets::{Octets, ParseError, Parser};
 
@@ -100,6 +102,20 @@ impl<Octs: Octets> ParsedName<Octs> {
         ensures { Some (label_octets result) ≡ slice_get (with_root (labels_in Octs.list self.now)) (length (labels_in Octs.list self.now)) }
     {
         root_label()
+    }
+
+    /// Whether the labels begin with those of the other name, up to ASCII case (RFC 4343).
+    pub fn starts_with<N: ToLabelIter>(&self, start: &N) -> bool
+        ensures { IsTrue result ↔ StartsWith (low (with_root (labels_in Octs.list self.now))) (low (N.labels start.now)) }
+    {
+        starts_with(self, start)
+    }
+
+    /// Whether the name ends with another one, up to ASCII case (RFC 4343).
+    pub fn ends_with<N: ToName>(&self, base: &N) -> bool
+        ensures { IsTrue result ↔ EndsWith (low (labels_in Octs.list self.now)) (low (N.name base.now)) }
+    {
+        ends_with(self, base)
     }
 
     /// Takes the first label off, so that the name becomes its parent. Answers None at the root, which stays.

@@ -4,7 +4,7 @@ use crate::{Name, ParsedName, Parser};
 use std::test::Fail;
 
 /// The name www.example.com of `WWW`.
-fn www() -> Result<ParsedName<&'static [u8]>, Fail> {
+pub fn www() -> Result<ParsedName<&'static [u8]>, Fail> {
     let mut parser = Parser::from_ref(WWW);
     parser.seek(15)?;
     Ok(ParsedName::parse_ref(&mut parser)?)
