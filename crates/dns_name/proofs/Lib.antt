@@ -16,3 +16,7 @@ pub mod Standing
 pub mod Orders
 pub mod LowNames
 pub mod Intervals
+pub mod FlatForms
+pub mod RelativeForms
+pub mod PartForms
+pub mod NameParts

@@ -8,8 +8,10 @@ mod compare;
 mod label_iter;
 pub mod laws;
 mod name;
+mod name_iter;
 mod parsed;
 mod parsed_iter;
+mod relative;
 mod skip;
 #[cfg(test)]
 mod tests;
@@ -22,8 +24,10 @@ pub use dns_label::{Label, LabelTypeError, LongLabelError, SplitLabelError, Symb
 pub use dns_octets::{FormError, Octets, ParseError, Parser, ShortInput};
 pub use dns_values::{Class, Rtype, Ttl};
 pub use label_iter::{LabelIter, ToLabelIter};
-pub use name::{Name, NameError, NameIter};
+pub use name::{Name, NameError};
+pub use name_iter::NameIter;
 pub use parsed::{ParsedName, ParsedSuffixIter};
 pub use parsed_iter::ParsedNameIter;
+pub use relative::{RelativeName, RelativeNameError, StripSuffixError};
 pub use text::{FromStrError, PresentationError};
 pub use to_name::ToName;

@@ -13,10 +13,11 @@ ghost use Rattle.dns_octets.specs.Parser.{GoesOn, rest_of};
 
 mod makes;
 mod order;
+mod parts;
 
 use crate::compare::ends_with;
 use crate::parsed_iter::split_label;
-use crate::{ParsedNameIter, ToLabelIter, ToName};
+use crate::{NameIter, ToLabelIter, ToName};
 use dns_label::{Label, LabelTypeError, SplitLabelError};
 use dns_octets::{Octets, ParseError, Parser};
 pub(crate) use makes::copied_name;
@@ -134,7 +135,7 @@ impl<Octs: Octets> Name<Octs> {
         ensures labels { result ≡ with_root self.now }
         ensures few { length result ≤ 128 }
     {
-        NameIter(ParsedNameIter::at(self.as_slice(), 0))
+        NameIter::at(self.as_slice())
     }
 
     /// Whether the name ends with another one, up to ASCII case (RFC 4343).
@@ -213,7 +214,7 @@ impl<Octs: Octets> ToLabelIter for Name<Octs> {
     ghost stands = { λ name index place. StandsAt (wire name) (with_root name) index place };
 
     fn label(&self, index: usize) -> Option<Label<'_>> {
-        self.iter().0.label(index)
+        self.iter().label(index)
     }
 
     fn compose_len(&self) -> u16 {
@@ -243,31 +244,6 @@ impl<Octs: Octets> ToName for Name<Octs> {
         Ok(Name {
             octets: Vec::from_slice(alloc, self.as_slice())?,
         })
-    }
-}
-
-/// The labels of a name, from the left, the root's last.
-#[derive(Debug, Drop)]
-pub struct NameIter<'a>(ParsedNameIter<'a>);
-
-impl<'a> Model for NameIter<'a> {
-    ghost Value = { List (List ℕ) };
-
-    ghost view = { λ it. it.0 };
-}
-
-impl<'a> Iterator for NameIter<'a> {
-    ghost use Rattle.std.specs.Iterator.{YieldsFirstBy, item_count};
-    ghost use Rattle.dns_label.specs.Label.{octets_of};
-
-    type Item = Label<'a>;
-
-    ghost next_gives = { YieldsFirstBy octets_of (λ labels. labels) };
-
-    ghost remaining = { item_count (λ labels. labels) };
-
-    fn next(&mut self) -> Option<Label<'a>> {
-        self.0.next()
     }
 }
 
