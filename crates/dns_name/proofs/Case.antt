@@ -135,3 +135,10 @@ rooted_back name base ends = record {
   whole_is = low_rooted name ∙ ap (λ l. l ++ [] ∷ []) ends.whole_is ∙ append_assoc ends.front (low base) ([] ∷ [])
       ∙ ap (λ l. ends.front ++ l) (sym (low_rooted base));
 }
+
+-- the root's label is the same in all names
+pub low_with_root : (name other : List (List ℕ)) → low name ≡ low other → low (with_root name) ≡ low (with_root other)
+low_with_root name other same = low_rooted name ∙ ap (λ l. l ++ [] ∷ []) same ∙ sym (low_rooted other)
+
+pub low_without_root : (name other : List (List ℕ)) → low (with_root name) ≡ low (with_root other) → low name ≡ low other
+low_without_root name other same = (last_same (low name) (low other) [] [] (sym (low_rooted name) ∙ same ∙ low_rooted other)).0

@@ -16,3 +16,14 @@ mod Builds
 mod Pushes
 mod PushNames
 mod Reverses
+pub mod Skipping
+pub mod Written
+pub mod Suffixes
+pub mod Standing
+pub mod Orders
+pub mod LowNames
+pub mod Intervals
+pub mod FlatForms
+pub mod RelativeForms
+pub mod PartForms
+pub mod NameParts

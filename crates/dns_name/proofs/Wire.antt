@@ -69,3 +69,9 @@ last_same (label ∷ a) (first ∷ b) x y same =
     let f : a ++ x ∷ [] ≡ b ++ y ∷ [] = cc in
     let both = last_same a b x y f in
     (ap (λ l. l ∷ a) e ∙ ap (λ n. first ∷ n) both.0, both.1)
+
+-- with a label in front, a name has that label's octets more
+pub wire_more : {name parent : List (List ℕ)} {text : List ℕ} → name ≡ text ∷ parent
+    → length (wire name) ≡ 1 + length text + length (wire parent)
+wire_more {parent = parent} {text = text} is =
+    omega (arith, ap (λ (n : List (List ℕ)). length (wire n)) is, length-append text (wire parent))

@@ -1,7 +1,16 @@
 pub mod Flat
+pub mod FlatLabels
+pub mod FlatWire
+pub mod Order
+pub mod OrderLaws
 pub mod Parsed
+pub mod Parts
 pub mod ParsedName
+pub mod Relative
+pub mod Rrsig
+pub mod Skip
 pub mod Suffix
+pub mod Suffixes
 pub mod Text
 pub mod Draft
 pub use Rattle.dns_octets.specs.Parser

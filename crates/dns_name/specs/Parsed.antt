@@ -1,6 +1,6 @@
 -- Names in messages.
-use Rattle.std.specs.Prelude.{ℕ, List, [], Option, Some, None}
-use Rattle.dns_label.specs.Name.{with_root}
+use Rattle.std.specs.Prelude.{◌≡◌, ℕ, List, [], Option, Some, None, length, take, drop}
+use Rattle.dns_label.specs.Name.{with_root, wire}
 use Rattle.dns_label.specs.Spelled.{Reads}
 use Rattle.dns_label.specs.Labels.{labels_at}
 
@@ -17,3 +17,13 @@ labels_left message (Some place) = with_root (labels_at message place)
 abbrev pub IsLeft : List ℕ → Option ℕ → Type 0
 IsLeft message None = Unit {0}
 IsLeft message (Some place) = ∥ IsReadAt message place ∥₁
+
+-- the name that is read at the place stands there in its wire form: no pointer is in it
+abbrev pub IsWrittenAt : List ℕ → ℕ → Type 0
+IsWrittenAt message place =
+    take (length (wire (labels_at message place))) (drop place message) ≡ wire (labels_at message place)
+
+-- the labels from this one on are those that are left at the place
+pub record StandsAt (message : List ℕ) (labels : List (List ℕ)) (index : ℕ) (place : Option ℕ) : Type 0 where
+  pub left : IsLeft message place
+  pub is : drop index labels ≡ labels_left message place

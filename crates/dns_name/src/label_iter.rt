@@ -1,14 +1,19 @@
 //! What all names have in common: their labels, one after another.
-ghost use Rattle.std.specs.Prelude.{◌≡◌, ◌≤◌, List, ℕ, length, drop, option_map, slice_get};
+ghost use Rattle.std.specs.Prelude.{◌≡◌, ◌≤◌, ◌+◌, List, ℕ, Option, length, drop, option_map, slice_get, IfSome, IsTrue, ◌↔◌};
 ghost use Rattle.dns_label.specs.Label.{octets_of};
-ghost use Rattle.dns_label.specs.Name.{labels_wire};
+ghost use Rattle.dns_label.specs.Name.{labels_wire, low};
+ghost use Rattle.dns_name.specs.Suffix.{EndsWith, StartsWith};
 
+use crate::compare::{ends_with, starts_with};
 use dns_label::Label;
 use std::marker::Model;
 
 /// A name that gives its labels. Of an absolute name the last one is the root's, which is empty.
 pub trait ToLabelIter {
     ghost labels: { Self → List (List ℕ) };
+
+    /// Whether the label with this number stands at this place.
+    ghost stands: { Self → ℕ → Option ℕ → Type 0 };
 
     /// The label with this number, counted from 0 and from the left, or None behind the last one.
     fn label(&self, index: usize) -> Option<Label<'_>>
@@ -19,14 +24,46 @@ pub trait ToLabelIter {
     fn compose_len(&self) -> u16
         ensures { result ≡ length (labels_wire (labels self.now)) };
 
+    /// Where the first label stands, in the name's own numbering of places.
+    fn first_place(&self) -> Option<usize>
+        ensures stands { stands self.now 0 result }
+        ensures few { length (labels self.now) ≤ 128 }
+        ensures short { length (labels_wire (labels self.now)) ≤ 255 };
+
+    /// The label with this number, which stands at this place, and the place of the next. None behind the last one.
+    ///
+    /// Labels taken one after another so take no more time than the name has octets and pointers.
+    fn label_at(&self, index: usize, place: Option<usize>) -> Option<(Label<'_>, Option<usize>)>
+        requires { stands self.now index place }
+        ensures label { option_map (λ found. octets_of found.0) result ≡ slice_get (labels self.now) index }
+        ensures next { IfSome result (λ found. stands self.now (index + 1) found.1) }
+        ensures few { length (labels self.now) ≤ 128 };
+
     /// The labels from the left.
     final fn iter_labels(&self) -> LabelIter<'_, Self>
-        ensures { result ≡ labels self.now }
+        ensures labels { result ≡ labels self.now }
+        ensures few { length result ≤ 128 }
+        ensures short { length (labels_wire result) ≤ 255 }
     {
         LabelIter {
             name: self,
             index: 0,
+            place: self.first_place(),
         }
+    }
+
+    /// Whether the labels begin with those of the other name, up to ASCII case (RFC 4343).
+    final fn starts_with<N: ToLabelIter>(&self, start: &N) -> bool
+        ensures { IsTrue result ↔ StartsWith (low (labels self.now)) (low (N.labels start.now)) }
+    {
+        starts_with(self, start)
+    }
+
+    /// Whether the labels end with those of the other name, up to ASCII case (RFC 4343).
+    final fn ends_with<N: ToLabelIter>(&self, end: &N) -> bool
+        ensures { IsTrue result ↔ EndsWith (low (labels self.now)) (low (N.labels end.now)) }
+    {
+        ends_with(self, end)
     }
 }
 
@@ -34,13 +71,17 @@ pub trait ToLabelIter {
 #[derive(Drop)]
 pub struct LabelIter<'a, N: ToLabelIter> {
     name: &'a N,
+    /// The number of the next label, and where it stands.
     index: usize,
+    place: Option<usize>,
 }
 
 impl<'a, N: ToLabelIter> Model for LabelIter<'a, N> {
     ghost Value = { List (List ℕ) };
 
     ghost view = { λ it. drop it.index (N.labels it.name.now) };
+
+    ghost invariant = { λ it. N.stands it.name.now it.index it.place };
 }
 
 impl<'a, N: ToLabelIter> Iterator for LabelIter<'a, N> {
@@ -53,8 +94,9 @@ impl<'a, N: ToLabelIter> Iterator for LabelIter<'a, N> {
     ghost remaining = { item_count (λ labels. labels) };
 
     fn next(&mut self) -> Option<Label<'a>> {
-        let label = self.name.label(self.index)?;
+        let (label, place) = self.name.label_at(self.index, self.place)?;
         self.index += 1;
+        self.place = place;
         Some(label)
     }
 }

@@ -5,19 +5,24 @@
 #![tactic(auto)]
 
 mod builder;
+mod compare;
 mod copies;
 mod label_iter;
+pub mod laws;
 mod name;
+mod name_iter;
 mod parsed;
 mod parsed_iter;
+mod relative;
 mod reverse;
 mod root;
-mod suffix;
+mod skip;
 #[cfg(test)]
 mod tests;
 mod text;
 mod to_name;
 mod walk;
+mod wire_form;
 
 pub use builder::{NameBuilder, PushError, PushNameError};
 pub use dns_label::{
@@ -30,8 +35,10 @@ pub use dns_octets::{
 };
 pub use dns_values::{Class, Rtype, Ttl};
 pub use label_iter::{LabelIter, ToLabelIter};
-pub use name::{Name, NameError, NameIter};
-pub use parsed::ParsedName;
+pub use name::{Name, NameError};
+pub use name_iter::NameIter;
+pub use parsed::{ParsedName, ParsedSuffixIter};
 pub use parsed_iter::ParsedNameIter;
+pub use relative::{RelativeName, RelativeNameError, StripSuffixError};
 pub use text::{FromStrError, PresentationError};
 pub use to_name::ToName;

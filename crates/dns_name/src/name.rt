@@ -8,12 +8,19 @@ ghost use Rattle.dns_label.specs.Name.{IsName, wire, with_root, low};
 ghost use Rattle.dns_name.specs.Flat.{IsWritten, StartsWithName};
 ghost use Rattle.dns_name.specs.Suffix.{EndsWith};
 ghost use Rattle.dns_label.specs.Labels.{labels_at};
+ghost use Rattle.dns_name.specs.Parsed.{StandsAt};
 ghost use Rattle.dns_octets.specs.Parser.{GoesOn, rest_of};
 
-use crate::suffix::ends_with;
-use crate::{ParsedNameIter, ToLabelIter, ToName};
+mod makes;
+mod order;
+mod parts;
+
+use crate::compare::ends_with;
+use crate::parsed_iter::split_label;
+use crate::{NameIter, ToLabelIter, ToName};
 use dns_label::{Label, LabelTypeError, SplitLabelError};
 use dns_octets::{Octets, ParseError, Parser};
+pub(crate) use makes::copied_name;
 use std::alloc::{AllocError, Global};
 use std::marker::Model;
 use thiserror::Error;
@@ -128,19 +135,14 @@ impl<Octs: Octets> Name<Octs> {
         ensures labels { result ≡ with_root self.now }
         ensures few { length result ≤ 128 }
     {
-        NameIter(ParsedNameIter::at(self.as_slice(), 0))
+        NameIter::at(self.as_slice())
     }
 
     /// Whether the name ends with another one, up to ASCII case (RFC 4343).
-    pub fn ends_with<Other: Octets>(&self, base: &Name<Other>) -> bool
-        ensures { IsTrue result ↔ EndsWith (low self.now) (low base.now) }
+    pub fn ends_with<N: ToName>(&self, base: &N) -> bool
+        ensures { IsTrue result ↔ EndsWith (low self.now) (low (N.name base.now)) }
     {
-        ends_with(
-            self.iter().0,
-            self.label_count(),
-            base.iter().0,
-            base.label_count(),
-        )
+        ends_with(self, base)
     }
 }
 
@@ -209,12 +211,23 @@ impl<Octs: Octets> Eq for Name<Octs> {
 impl<Octs: Octets> ToLabelIter for Name<Octs> {
     ghost labels = { with_root };
 
+    ghost stands = { λ name index place. StandsAt (wire name) (with_root name) index place };
+
     fn label(&self, index: usize) -> Option<Label<'_>> {
-        self.iter().0.label(index)
+        self.iter().label(index)
     }
 
     fn compose_len(&self) -> u16 {
         self.len() as u16
+    }
+
+    fn first_place(&self) -> Option<usize> {
+        let _octets = self.as_slice();
+        Some(0)
+    }
+
+    fn label_at(&self, _index: usize, place: Option<usize>) -> Option<(Label<'_>, Option<usize>)> {
+        Some(split_label(self.as_slice(), place?))
     }
 }
 
@@ -223,35 +236,14 @@ impl<Octs: Octets> ToName for Name<Octs> {
 
     ghost is_absolute = { λ _. refl };
 
+    fn as_flat_slice(&self) -> Option<&[u8]> {
+        Some(self.as_slice())
+    }
+
     fn to_vec(&self, alloc: Global) -> Result<Name<Vec<u8>>, AllocError> {
         Ok(Name {
             octets: Vec::from_slice(alloc, self.as_slice())?,
         })
-    }
-}
-
-/// The labels of a name, from the left, the root's last.
-#[derive(Debug, Drop)]
-pub struct NameIter<'a>(ParsedNameIter<'a>);
-
-impl<'a> Model for NameIter<'a> {
-    ghost Value = { List (List ℕ) };
-
-    ghost view = { λ it. it.0 };
-}
-
-impl<'a> Iterator for NameIter<'a> {
-    ghost use Rattle.std.specs.Iterator.{YieldsFirstBy, item_count};
-    ghost use Rattle.dns_label.specs.Label.{octets_of};
-
-    type Item = Label<'a>;
-
-    ghost next_gives = { YieldsFirstBy octets_of (λ labels. labels) };
-
-    ghost remaining = { item_count (λ labels. labels) };
-
-    fn next(&mut self) -> Option<Label<'a>> {
-        self.0.next()
     }
 }
 

@@ -3,13 +3,19 @@ ghost use Rattle.std.specs.Prelude.{◌≡◌, ◌≤◌, ◌↔◌, List, ℕ, 
 ghost use Rattle.dns_label.specs.Name.{wire, with_root};
 ghost use Rattle.dns_label.specs.Spelled.{Reads};
 ghost use Rattle.dns_label.specs.Labels.{labels_at};
-ghost use Rattle.dns_name.specs.Parsed.{IsReadAt};
+ghost use Rattle.dns_name.specs.Parsed.{IsReadAt, StandsAt};
 
+mod order;
+mod parts;
+mod suffixes;
+
+use crate::parsed_iter::split_label;
 use crate::walk::walk_name;
 use crate::{Name, ParsedNameIter, ToLabelIter, ToName};
 use dns_label::Label;
 use dns_octets::{Octets, ParseError, Parser};
 use std::alloc::{AllocError, Global};
+pub use suffixes::ParsedSuffixIter;
 
 /// An absolute name at a place of a message, where pointers may stand for the ends of names (RFC 1035 4.1.4).
 ///
@@ -89,12 +95,22 @@ impl<Octs: Octets> ToLabelIter for ParsedName<Octs> {
 
     ghost labels = { λ name. with_root (labels_in Octs.list name) };
 
+    ghost stands = { λ name index place. StandsAt (Octs.list name.octets) (with_root (labels_in Octs.list name)) index place };
+
     fn label(&self, index: usize) -> Option<Label<'_>> {
         self.iter().label(index)
     }
 
     fn compose_len(&self) -> u16 {
         self.len
+    }
+
+    fn first_place(&self) -> Option<usize> {
+        Some(self.start)
+    }
+
+    fn label_at(&self, _index: usize, place: Option<usize>) -> Option<(Label<'_>, Option<usize>)> {
+        Some(split_label(self.octets.octets(), place?))
     }
 }
 
@@ -104,6 +120,14 @@ impl<Octs: Octets> ToName for ParsedName<Octs> {
     ghost name = { λ name. labels_in Octs.list name };
 
     ghost is_absolute = { λ _. refl };
+
+    fn as_flat_slice(&self) -> Option<&[u8]> {
+        if self.is_compressed() {
+            return None;
+        }
+        let rest = &self.octets.octets()[self.start..];
+        Some(&rest[..usize::from(self.len)])
+    }
 
     fn to_vec(&self, alloc: Global) -> Result<Name<Vec<u8>>, AllocError> {
         let mut octets = Vec::with_capacity(alloc, usize::from(self.len))?;

@@ -62,7 +62,7 @@ impl<'a> Iterator for ParsedNameIter<'a> {
 }
 
 /// The label at the place, pointers followed, and where the next one stands: None behind the root's.
-fn split_label(octets: &[u8], start: usize) -> (Label<'_>, Option<usize>)
+pub(crate) fn split_label(octets: &[u8], start: usize) -> (Label<'_>, Option<usize>)
     requires { ∥ IsReadAt octets.now start ∥₁ }
     ensures left { IsLeft octets.now result.1 }
     ensures labels { with_root (labels_at octets.now start) ≡ octets_of result.0 ∷ labels_left octets.now result.1 }

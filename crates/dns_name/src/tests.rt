@@ -1,4 +1,8 @@
 //! Names by outside examples (RFC 1035 4.1.4, 5.1; RFC 4343).
+mod compare;
+mod parsed;
+mod parts;
+
 use crate::{
     AppendError, FromStrError, Name, NameError, ParseError, ParsedName, Parser, PresentationError,
     Symbol, ToLabelIter, ToName,

@@ -1,0 +1,11 @@
+use Rattle.std.proofs.Common.{arith}
+use Rattle.dns_name.proofs.Readable.{read-name}
+use Rattle.dns_name.proofs.Standing.{short_wire}
+use Rattle.dns_name.proofs.Wire.{few_labels}
+use Rattle.dns_name.proofs.parsed.ParsedNameToLabelIter.first_place.Goals as goal
+
+pub returns-clause-few : goal.returns-clause-few
+returns-clause-few g c = few_labels _ (read-name _ _ c.args.self.now.reads)
+
+pub returns-clause-short : goal.returns-clause-short
+returns-clause-short g c = short_wire _ (read-name _ _ c.args.self.now.reads)

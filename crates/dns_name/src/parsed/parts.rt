@@ -1,0 +1,208 @@
+//! Parts of names in messages.
+ghost use Rattle.std.specs.Prelude.{◌≡◌, ◌∷◌, List, ℕ, [], Some, false, length, slice_get, IsTrue, ◌↔◌, IfOk, IfSome, IfNone, OnOk, OnErr};
+ghost use Rattle.dns_label.specs.Label.{octets_of as label_octets};
+ghost use Rattle.dns_label.specs.Name.{with_root, wire, low};
+ghost use Rattle.dns_label.specs.Labels.{labels_at};
+ghost use Rattle.dns_label.specs.Spelled.{Reads};
+ghost use Rattle.dns_name.specs.Parsed.{IsReadAt, IsWrittenAt};
+ghost use Rattle.dns_name.specs.Suffix.{EndsWith, StartsWith};
+
+use super::ParsedName;
+use crate::compare::{ends_with, starts_with};
+use crate::parsed_iter::split_label;
+use crate::skip::skip_name;
+use crate::walk::label_at;
+use crate::{Name, ToLabelIter, ToName};
+use dns_label::{Label, SplitLabelError};
+use dns_octets::{Octets, ParseError, Parser};
+
+impl<'a> ParsedName<&'a [u8]> {
+    ghost use Rattle.dns_octets.specs.Parser.{octets_of, place_of};
+    ghost use Rattle.dns_name.specs.ParsedName.{labels_of};
+    ghost use Rattle.dns_name.specs.Skip.{Skips};
+
+    /// Reads the name at the parser's place, over the octets that the parser borrows, as `parse` does.
+    pub fn parse_ref(parser: &mut Parser<'a>) -> Result<Self, ParseError>
+        ensures ok { IfOk result (λ name. Reads (octets_of parser.old) (place_of parser.old) (labels_of name) (place_of parser.new)) }
+        ensures err { OnErr result ((name : List (List ℕ)) (next : ℕ) → Reads (octets_of parser.old) (place_of parser.old) name next → ⊥) }
+        ensures same { octets_of parser.new ≡ octets_of parser.old }
+        ensures stays { OnErr result (parser.new ≡ parser.old) }
+    {
+        ParsedName::parse(parser)
+    }
+
+    /// Leaves the parser behind the name at its place, and follows no pointer.
+    ///
+    /// It stops where `parse` does if a name is read there. Refused where there stand no labels of at most 254 octets
+    /// with the root or a pointer behind them, and the parser then stays where it is.
+    pub fn skip(parser: &mut Parser<'_>) -> Result<(), ParseError>
+        ensures ok { OnOk result (Skips (octets_of parser.old) 254 (place_of parser.old) (place_of parser.new)) }
+        ensures err { OnErr result ((next : ℕ) → Skips (octets_of parser.old) 254 (place_of parser.old) next → ⊥) }
+        ensures same { octets_of parser.new ≡ octets_of parser.old }
+        ensures stays { OnErr result (parser.new ≡ parser.old) }
+    {
+        let next = skip_name(parser.as_slice(), parser.pos())?;
+        parser.seek(next)?;
+        Ok(())
+    }
+
+    /// Takes the first label off, so that the name becomes its parent, and gives that label. Answers None at the root,
+    /// which stays.
+    pub fn split_first(&mut self) -> Option<Label<'a>>
+        ensures some { IfSome result (λ label. labels_of self.old ≡ label_octets label ∷ labels_of self.new) }
+        ensures none { IfNone result ((labels_of self.old ≡ []) × (self.new ≡ self.old)) }
+    {
+        let Some(first) = split_first(self.octets, self.start, self.len) else {
+            return None;
+        };
+        self.start = first.next;
+        self.len = first.len;
+        Some(first.label)
+    }
+
+    /// The same name, over the octets that this one borrows.
+    pub fn deref_octets(&self) -> ParsedName<&'a [u8]>
+        ensures { result ≡ self.now }
+    {
+        *self
+    }
+}
+
+impl<Octs: Octets> ParsedName<Octs> {
+    ghost use Rattle.dns_name.specs.ParsedName.{labels_of, labels_in, IsWrittenOut};
+
+    /// Whether the name is not written out at its place: there is a pointer in front of its root.
+    pub fn is_compressed(&self) -> bool
+        ensures out { result ≡ false → IsWrittenOut Octs.list self.now }
+        ensures compressed { IsTrue result → IsWrittenOut Octs.list self.now → ⊥ }
+    {
+        has_pointer(self.octets.octets(), self.start)
+    }
+
+    /// The same name over borrowed octets.
+    pub fn ref_octets(&self) -> ParsedName<&[u8]>
+        ensures { labels_of result ≡ labels_in Octs.list self.now }
+    {
+        ParsedName {
+            octets: self.octets.octets(),
+            start: self.start,
+            len: self.len,
+        }
+    }
+
+    /// The first label, which is the root's where there is no other.
+    pub fn first(&self) -> Label<'_>
+        ensures { Some (label_octets result) ≡ slice_get (with_root (labels_in Octs.list self.now)) 0 }
+    {
+        split_label(self.octets.octets(), self.start).0
+    }
+
+    /// The last label, which is the root's.
+    pub fn last(&self) -> Label<'_>
+        ensures { Some (label_octets result) ≡ slice_get (with_root (labels_in Octs.list self.now)) (length (labels_in Octs.list self.now)) }
+    {
+        root_label()
+    }
+
+    /// Whether the labels begin with those of the other name, up to ASCII case (RFC 4343).
+    pub fn starts_with<N: ToLabelIter>(&self, start: &N) -> bool
+        ensures { IsTrue result ↔ StartsWith (low (with_root (labels_in Octs.list self.now))) (low (N.labels start.now)) }
+    {
+        starts_with(self, start)
+    }
+
+    /// Whether the name ends with another one, up to ASCII case (RFC 4343).
+    pub fn ends_with<N: ToName>(&self, base: &N) -> bool
+        ensures { IsTrue result ↔ EndsWith (low (labels_in Octs.list self.now)) (low (N.name base.now)) }
+    {
+        ends_with(self, base)
+    }
+
+    /// Takes the first label off, so that the name becomes its parent. Answers None at the root, which stays.
+    pub fn parent(&mut self) -> Option<()>
+        ensures some { IfSome result (λ _. (label : List ℕ) × (labels_in Octs.list self.old ≡ label ∷ labels_in Octs.list self.new)) }
+        ensures none { IfNone result ((labels_in Octs.list self.old ≡ []) × (labels_in Octs.list self.new ≡ [])) }
+    {
+        let Some(first) = split_first(self.octets.octets(), self.start, self.len) else {
+            return None;
+        };
+        self.start = first.next;
+        self.len = first.len;
+        Some(())
+    }
+}
+
+/// The root's label.
+fn root_label<'a>() -> Label<'a>
+    ensures { label_octets result ≡ [] }
+{
+    match Label::from_slice(&[]) {
+        Ok(label) => label,
+        Err(_) => unreachable!(),
+    }
+}
+
+/// Whether there is a pointer in the name that is read at the place.
+fn has_pointer(octets: &[u8], start: usize) -> bool
+    requires { ∥ IsReadAt octets.now start ∥₁ }
+    ensures out { result ≡ false → IsWrittenAt octets.now start }
+    ensures compressed { IsTrue result → IsWrittenAt octets.now start → ⊥ }
+{
+    let mut place = start;
+    loop {
+        match label_at(octets, place) {
+            Ok((label, _)) => {
+                if label.is_root() {
+                    return false;
+                }
+                place += label.len() + 1;
+            }
+            Err(SplitLabelError::Pointer(_)) => return true,
+            Err(SplitLabelError::BadType(_)) => unreachable!(),
+            Err(SplitLabelError::ShortInput) => unreachable!(),
+        }
+    }
+}
+
+/// The first label of a name, and the name behind it.
+#[derive(Drop)]
+struct First<'a> {
+    label: Label<'a>,
+    /// Where the name behind the label begins.
+    next: usize,
+    /// How many octets that name has on the wire, the root's counted.
+    len: u16,
+}
+
+/// Splits the first label off the name that is read at the place and has so many octets. Answers None at the root.
+fn split_first(octets: &[u8], start: usize, len: u16) -> Option<First<'_>>
+    requires read { ∥ IsReadAt octets.now start ∥₁ }
+    requires counted { len ≡ length (wire (labels_at octets.now start)) }
+    ensures some { IfSome result (λ first. labels_at octets.now start ≡ label_octets first.label ∷ labels_at octets.now first.next) }
+    ensures read { IfSome result (λ first. ∥ IsReadAt octets.now first.next ∥₁) }
+    ensures counted { IfSome result (λ first. first.len ≡ length (wire (labels_at octets.now first.next))) }
+    ensures none { IfNone result (labels_at octets.now start ≡ []) }
+{
+    let (label, next) = split_label(octets, start);
+    let next = next?;
+    Some(First {
+        label,
+        next,
+        len: len - (label.len() as u16 + 1),
+    })
+}
+
+impl<Octs: Octets> From<Name<Octs>> for ParsedName<Octs> {
+    ghost use Rattle.dns_name.specs.ParsedName.{labels_in};
+
+    ghost from_gives = { λ name parsed. labels_in Octs.list parsed ≡ name };
+
+    fn from(name: Name<Octs>) -> Self {
+        let len = name.len() as u16;
+        ParsedName {
+            octets: name.into_octets(),
+            start: 0,
+            len,
+        }
+    }
+}
