@@ -16,8 +16,11 @@ mod to_name;
 mod walk;
 
 pub use dns_label::{Label, LabelTypeError, LongLabelError, SplitLabelError, Symbol};
-pub use dns_octets::{FormError, Octets, ParseError, Parser, ShortInput};
-pub use dns_values::{Class, Rtype, Ttl};
+pub use dns_octets::{
+    AppendError, Compose, EmptyBuilder, FormError, FreezeBuilder, FromBuilder, Octets,
+    OctetsBuilder, OctetsFrom, Parse, ParseError, Parser, Remembers, ShortInput, Truncate,
+};
+pub use dns_values::{CanonicalOrd, Class, Rtype, Serial, Ttl};
 pub use label_iter::{LabelIter, ToLabelIter};
 pub use name::{Name, NameError, NameIter};
 pub use parsed::ParsedName;

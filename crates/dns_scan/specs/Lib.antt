@@ -1,0 +1,4 @@
+pub mod CharStr
+pub mod CharStrBuilder
+pub mod StringText
+pub mod Refused
