@@ -3,15 +3,26 @@
 //! A part of `dns_text`.
 #![tactic(auto)]
 
+mod base;
+pub mod base16;
+pub mod base32;
+pub mod base64;
+mod bits;
 mod char_str;
 mod char_str_builder;
 mod char_str_iter;
+mod decode_error;
+mod decoding;
+mod encoded;
 pub mod laws;
 mod string_text;
 #[cfg(test)]
 mod tests;
+mod values;
 
 pub use char_str::{CharStr, CharStrError};
 pub use char_str_builder::CharStrBuilder;
 pub use char_str_iter::CharStrIter;
+pub use decode_error::DecodeError;
+pub use encoded::DisplayEncoded;
 pub use string_text::{DisplayQuoted, DisplayUnquoted, FromStrError, PresentationError};
