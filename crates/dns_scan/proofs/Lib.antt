@@ -7,3 +7,6 @@ pub mod Groups
 pub mod Numbers
 pub mod Decoded
 pub mod Encodings
+pub mod Tokens
+pub mod Numerals
+pub mod Entries

@@ -6,3 +6,6 @@ pub mod Bits
 pub mod Base
 pub mod Decoding
 pub mod Encodings
+pub mod Token
+pub mod Scans
+pub mod StrError

@@ -156,7 +156,7 @@ impl Taken {
 }
 
 /// The octet that a symbol stands for.
-fn octet_of(symbol: Symbol) -> u8
+pub(crate) fn octet_of(symbol: Symbol) -> u8
     requires { IsSymbol symbol }
     ensures { result ≡ octet symbol }
 {
