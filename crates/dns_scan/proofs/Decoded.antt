@@ -1,5 +1,5 @@
 -- What a decoder has taken of a text, and what can go on from there.
-use Rattle.std.proofs.Common.{◌≡◌, ℕ, ◌+◌, ◌*◌, ◌<◌, ◌≤◌, zero, suc, List, [], ◌∷◌, ◌++◌, length, map, replicate, refl, sym, ◌∙◌, ap, subst, arith, append_assoc, append-nil, length-append, inl, inr}
+use Rattle.std.proofs.Common.{◌≡◌, ℕ, ◌+◌, ◌*◌, ◌<◌, ◌≤◌, zero, suc, false, List, [], ◌∷◌, ◌++◌, length, map, replicate, refl, sym, ◌∙◌, ap, subst, arith, append_assoc, append-nil, length-append, inl, inr}
 use Rattle.std.specs.Prelude.{None, ◌⊎◌}
 use Rattle.std.specs.List.{AllByRecursion}
 use Rattle.std.proofs.Math.Nat.{suc-mul}
@@ -11,6 +11,7 @@ use Rattle.dns_scan.specs.StringText.{IsOctet}
 use Rattle.dns_scan.specs.Base.{width, size, digit, IsCharacter, Groups, Decodes}
 use Rattle.dns_scan.specs.declared.decode_error.DecodeError.{DecodeError}
 use Rattle.dns_scan.specs.declared.decode_error.DecodeError.TheVariants.{IllegalChar, TrailingInput, ShortInput, ShortBuf}
+use Rattle.dns_scan.specs.ScanError.{is_want_of_room}
 use Rattle.dns_scan.specs.Decoding.{Progress, HasRead, IsWhole, MayBePadded, NoneGoesOn, NoneIs, WhyRefused, WhyNoText}
 use Rattle.dns_scan.proofs.BitLists.{length-bits}
 
@@ -295,3 +296,11 @@ refused_text base progress read rest text c TrailingInput taken whole why = λ o
     why.1 read rest octets taken (subst (λ l. Decodes base l octets) (sym whole) decodes)
 refused_text base progress read rest text c ShortInput taken whole why = absurd why
 refused_text base progress read rest text c ShortBuf taken whole why = tt
+
+-- a text that is refused for itself is none
+pub refused_for_itself : (base : Base) (text : List ℕ) (error : DecodeError) → WhyNoText base text error → is_want_of_room error ≡ false
+    → NoneIs base text
+refused_for_itself base text (IllegalChar c) why itself = why.2
+refused_for_itself base text TrailingInput why itself = why
+refused_for_itself base text ShortInput why itself = why
+refused_for_itself base text ShortBuf why itself = cc

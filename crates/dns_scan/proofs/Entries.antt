@@ -1,6 +1,6 @@
 -- The pieces of an entry's tokens, as they are taken one by one.
 use Rattle.std.proofs.Common.{◌≡◌, ℕ, List, [], ◌∷◌, ◌++◌, refl, sym, ◌∙◌, ap, subst, append_assoc, append-nil}
-use Rattle.dns_scan.specs.Token.{Token, IsEnding, IsEntry}
+use Rattle.dns_scan.specs.Token.{Token, IsEnding, IsEntry, IsWord}
 
 -- what was taken goes on to the whole by what is left, and an entry before has one left
 pub record Entering (IsPiece : List ℕ → Token → Type 0) (before left : List Token) (taken : List ℕ) : Type 0 where
@@ -53,3 +53,15 @@ entering_none IsPiece before left next token taken entering is none whole entry 
     let at = entering.back whole entry in
     let Q : List Token → Type 0 = λ t. IsEntry IsPiece t at.0 in
     let split = subst Q is at.1 in none split.0 split.2
+
+-- where nothing is left
+pub nothing_left : (before left : List Token) → left ≡ [] → IsEnding left before
+nothing_left before left none = record { taken = before; is = sym (ap (λ l. before ++ l) none ∙ append-nil before) }
+
+-- words have one text
+pub words_one : (tokens : List Token) (text other : List ℕ) → IsEntry IsWord tokens text → IsEntry IsWord tokens other → text ≡ other
+words_one [] text other is also = is ∙ sym also
+words_one (token ∷ tokens) text other is also =
+    let first : is.0 ≡ also.0 = ap (λ (t : Token). t.text) (sym is.2.0 ∙ also.2.0) in
+    let others = words_one tokens is.1 also.1 is.3 also.3 in
+    is.4 ∙ ap (λ l. l ++ is.1) first ∙ ap (λ l. also.0 ++ l) others ∙ sym also.4

@@ -9,3 +9,4 @@ pub mod Encodings
 pub mod Token
 pub mod Scans
 pub mod StrError
+pub mod ScanError

@@ -1,14 +1,15 @@
 //! Base 64 with padding to fours of characters (RFC 4648 4). Bits that are left over are ignored.
-ghost use Rattle.std.specs.Prelude.{◌≡◌, ◌∷◌, ◌++◌, List, ℕ, [], None, Some, Err, IfOk, IfErr, OnOk, string_bytes};
+ghost use Rattle.std.specs.Prelude.{◌≡◌, ◌∷◌, ◌++◌, List, ℕ, [], None, Some, Err, false, IfOk, IfErr, OnOk, OnErr, string_bytes};
 ghost use Rattle.std.specs.Str.{chars};
 ghost use Rattle.dns_scan.specs.Encodings.{encoded_64, Decodes64, WhyNoText64, HasRead64, WhyRefused64, NoneIs64};
 ghost use Rattle.dns_scan.specs.Decoding.{Progress};
+ghost use Rattle.dns_scan.specs.Token.{IsEntry, IsWord, IsEnding, SameNames};
 ghost use Rattle.dns_scan.specs.declared.decode_error.DecodeError.{DecodeError};
 ghost use Rattle.dns_scan.specs.declared.decode_error.DecodeError.TheVariants.{ShortInput};
 
 use crate::base::Base;
 use crate::decoding::{self, Decoding};
-use crate::{DecodeError, DisplayEncoded};
+use crate::{DecodeError, DisplayEncoded, Scanner, scan_decoded};
 use dns_name::{EmptyBuilder, FreezeBuilder, FromBuilder, Octets, OctetsBuilder};
 use std::alloc::{AllocError, Global};
 use std::marker::Model;
@@ -41,6 +42,20 @@ pub fn encode_string(alloc: Global, octets: &[u8]) -> Result<String, AllocError>
     display(octets).to_string(alloc)
 }
 
+/// The octets of all words that are left in an entry, joined to one text, which may be empty.
+///
+/// Refused as by `decode`, and where a token is no word; the tokens left are then an ending of those left before.
+pub fn scan_entry<S: Scanner>(scanner: &mut S) -> Result<S::Octets, S::Error>
+    ensures ok { IfOk result (λ octets. (text : List ℕ) × IsEntry IsWord (S.tokens scanner.old) text
+        × Decodes64 (chars text) (⟦<S::Octets as Octets>⟧.list octets) × (S.tokens scanner.new ≡ [])) }
+    ensures err { IfErr result (λ error. S.Error.is_short error ≡ false → (text octets : List ℕ) → IsEntry IsWord (S.tokens scanner.old) text
+        → Decodes64 (chars text) octets → ⊥) }
+    ensures left { OnErr result (IsEnding (S.tokens scanner.new) (S.tokens scanner.old)) }
+    ensures names { SameNames (S.names scanner.old) (S.names scanner.new) }
+{
+    scan_decoded::scan_entry(scanner, Base::SixtyFour)
+}
+
 /// A decoder that is given a text character by character.
 ///
 /// A contract sees the octets that are whole, the bits that wait for others, the pads, and the error that every call answers.
@@ -63,7 +78,17 @@ impl<Builder: OctetsBuilder> Decoder<Builder> {
         ensures { HasRead64 result [] }
     {
         Decoder {
-            decoding: Decoding::new(alloc),
+            decoding: Decoding::over(Builder::empty(alloc)),
+        }
+    }
+
+    /// In front of a text. The octets go to the builder, which has none yet.
+    pub fn from_builder(builder: Builder) -> Self
+        requires { Builder.list builder ≡ [] }
+        ensures { HasRead64 result [] }
+    {
+        Decoder {
+            decoding: Decoding::over(builder),
         }
     }
 

@@ -41,14 +41,13 @@ impl<Builder: OctetsBuilder> Model for Decoding<Builder> {
 }
 
 impl<Builder: OctetsBuilder> Decoding<Builder> {
-    /// In front of a text.
-    pub(crate) fn new(alloc: Global) -> Self
-    where
-        Builder: EmptyBuilder,
+    /// In front of a text. The octets go to the builder, which has none yet.
+    pub(crate) fn over(builder: Builder) -> Self
+        requires { Builder.list builder ≡ [] }
         ensures { (base : Base) → HasRead base result [] }
     {
         Decoding {
-            builder: Builder::empty(alloc),
+            builder,
             waiting: Bits::none(),
             pads: 0,
             error: None,
@@ -170,6 +169,23 @@ fn is_whole(base: Base, pads: u32, bits: u32) -> bool
     }
 }
 
+/// The octets of a text, put into the builder, which has none yet.
+pub(crate) fn decode_into<Builder: OctetsBuilder + Drop>(
+    builder: Builder,
+    base: Base,
+    text: &str,
+) -> Result<Builder, DecodeError>
+    requires { Builder.list builder ≡ [] }
+    ensures ok { IfOk result (λ builder. Decodes base (chars text.now) (Builder.list builder)) }
+    ensures why { IfErr result (WhyNoText base (chars text.now)) }
+{
+    let mut decoding = Decoding::over(builder);
+    for character in text.chars() {
+        decoding.push(base, character)?;
+    }
+    decoding.finish(base)
+}
+
 /// The octets of a text.
 pub(crate) fn decode<Octs: FromBuilder>(
     alloc: Global,
@@ -181,9 +197,6 @@ where
     ensures ok { IfOk result (λ octets. Decodes base (chars text.now) (Octs.list octets)) }
     ensures why { IfErr result (WhyNoText base (chars text.now)) }
 {
-    let mut decoding: Decoding<Octs::Builder> = Decoding::new(alloc);
-    for character in text.chars() {
-        decoding.push(base, character)?;
-    }
-    Ok(Octs::from_builder(decoding.finish(base)?))
+    let builder = decode_into(Octs::Builder::empty(alloc), base, text)?;
+    Ok(Octs::from_builder(builder))
 }

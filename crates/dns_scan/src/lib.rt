@@ -17,6 +17,7 @@ mod encoded;
 mod iter_scanner;
 pub mod laws;
 mod scan;
+mod scan_decoded;
 mod scan_numbers;
 mod scan_values;
 mod scanner;

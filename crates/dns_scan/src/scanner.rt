@@ -14,7 +14,7 @@ use dns_name::{EmptyBuilder, FreezeBuilder, FromBuilder, Octets, ToName};
 pub trait Scanner {
     type Octets: FromBuilder;
 
-    type OctetsBuilder: EmptyBuilder + FreezeBuilder<Octets = Self::Octets>;
+    type OctetsBuilder: EmptyBuilder + FreezeBuilder<Octets = Self::Octets> + Drop;
 
     type Name: ToName;
 

@@ -1,5 +1,5 @@
 //! Scanners: tokens in and values out (RFC 1035 5.1), and error texts.
-use crate::{IterScanner, Scan, Scanner, ScannerError, StrError};
+use crate::{IterScanner, Scan, Scanner, ScannerError, StrError, base16, base32, base64};
 use dns_name::{Class, Name, OctetsBuilder, Rtype, Serial, Ttl};
 use std::alloc::Global;
 use std::test::Fail;
@@ -107,6 +107,44 @@ fn the_rest_of_an_entry(rt: HostRuntime) -> Result<(), Fail> {
         Some(StrError::Custom("invalid word"))
     );
     assert!(rt; scanner.continues());
+    Ok(())
+}
+
+#[test]
+fn the_rest_of_an_entry_is_decoded(rt: HostRuntime) -> Result<(), Fail> {
+    let mut scanner = over(rt.alloc(), "666F 6 F62")?;
+    assert_eq!(rt;
+        base16::scan_entry(&mut scanner)?.as_slice(),
+        b"foob".as_slice()
+    );
+    assert!(rt; base16::scan_entry(&mut scanner)?.is_empty());
+    let mut scanner = over(rt.alloc(), "CPN MUOG")?;
+    assert_eq!(rt;
+        base32::scan_entry(&mut scanner)?.as_slice(),
+        b"foob".as_slice()
+    );
+    let mut scanner = over(rt.alloc(), "Zm9vYg =")?;
+    let short = StrError::Custom("incomplete input");
+    assert_eq!(rt; base64::scan_entry(&mut scanner).err(), Some(short));
+    let mut scanner = over(rt.alloc(), "Zm9vYg = =")?;
+    assert_eq!(rt;
+        base64::scan_entry(&mut scanner)?.as_slice(),
+        b"foob".as_slice()
+    );
+    Ok(())
+}
+
+#[test]
+fn decoders_over_a_scanners_builder(rt: HostRuntime) -> Result<(), Fail> {
+    let mut scanner = over(rt.alloc(), "")?;
+    let mut decoder_16 = base16::Decoder::from_builder(scanner.octets_builder()?);
+    decoder_16.push('6')?;
+    decoder_16.push('F')?;
+    assert_eq!(rt; decoder_16.finalize()?.as_slice(), b"o".as_slice());
+    let decoder_32 = base32::Decoder::from_builder(scanner.octets_builder()?);
+    assert!(rt; decoder_32.finalize()?.is_empty());
+    let decoder_64 = base64::Decoder::from_builder(scanner.octets_builder()?);
+    assert!(rt; decoder_64.finalize()?.is_empty());
     Ok(())
 }
 
