@@ -1,9 +1,10 @@
 //! Character strings (RFC 1035 3.3).
-ghost use Rattle.std.specs.Prelude.{◌≡◌, ◌+◌, ◌≤◌, ◌↔◌, List, ℕ, [], ◌∷◌, ◌++◌, length, take, IsTrue, IsOk, IfOk, OnOk, OnErr, nat_eq, false, Some};
+ghost use Rattle.std.specs.Prelude.{◌≡◌, ◌+◌, ◌≤◌, ◌↔◌, List, ℕ, [], ◌∷◌, ◌++◌, length, take, fold, IsTrue, IsOk, IfOk, OnOk, OnErr, nat_eq, false, Some};
 ghost use Rattle.std.specs.Ordering.{on, as_partial_cmp, nat_cmp};
 ghost use Rattle.std.specs.Cmp.{partial_order_from_own_ties};
 ghost use Rattle.std.specs.Cmp.Lexicographic.{pointwise, slice_cmp};
-ghost use Rattle.std.specs.Cmp.Rules.{comparing};
+ghost use Rattle.std.specs.Cmp.Rules.{comparing, hashing};
+ghost use Rattle.std.specs.Hash as fed;
 ghost use Rattle.std.proofs.Common.{rules};
 ghost use Rattle.dns_scan.specs.CharStr.{string_wire, StartsWithString, lower};
 ghost use Rattle.dns_octets.specs.Parser.{GoesOn, rest_of};
@@ -11,10 +12,11 @@ ghost use Rattle.dns_octets.specs.Parser.{GoesOn, rest_of};
 use crate::CharStrIter;
 use dns_name::{
     AppendError, CanonicalOrd, Compose, EmptyBuilder, FromBuilder, Octets, OctetsBuilder,
-    ParseError, Parser,
+    OctetsFrom, ParseError, Parser,
 };
 use std::alloc::Global;
 use std::cmp::Ordering;
+use std::hash::{Hash, Hasher};
 use std::marker::Model;
 use thiserror::Error;
 
@@ -221,6 +223,27 @@ impl<Octs: Octets> Ord for CharStr<Octs> {
     }
 }
 
+/// Equal strings have equal hashes: ASCII letters are hashed in lower case.
+impl<Octs: Octets> Hash for CharStr<Octs> {
+    ghost hash_input = { λ string. fed.slice fed.u8 (lower string) };
+
+    ghost respects_eq = { Prim.search (hashing, rules) };
+
+    fn hash<H: Hasher>(&self, state: &mut H) {
+        hash_lower(self.as_slice(), state);
+    }
+}
+
+/// Hashes octets as if ASCII letters were in lower case.
+fn hash_lower<H: Hasher>(octets: &[u8], state: &mut H)
+    ensures { state.new ≡ fold H.write state.old (fed.slice fed.u8 (lower octets.now)) }
+{
+    state.write_usize(octets.len());
+    for octet in octets {
+        state.write_u8(octet.to_ascii_lowercase());
+    }
+}
+
 /// Compares octets as if ASCII letters were in lower case.
 fn compare_lower(octets: &[u8], others: &[u8]) -> Ordering
     ensures { result ≡ slice_cmp nat_cmp (lower octets.now) (lower others.now) }
@@ -253,5 +276,19 @@ impl<Octs: Octets> CanonicalOrd for CharStr<Octs> {
         self.len()
             .cmp(&other.len())
             .then(self.as_slice().cmp(other.as_slice()))
+    }
+}
+
+/// The same string over other octets.
+impl<Source: Octets + Drop, Octs: FromBuilder> OctetsFrom<CharStr<Source>> for CharStr<Octs>
+where
+    Octs::Builder: EmptyBuilder + Drop,
+{
+    ghost octets_from_gives = { λ source result. IfOk result (λ string. string ≡ source) };
+
+    fn try_octets_from(alloc: Global, source: CharStr<Source>) -> Result<Self, AppendError> {
+        let mut builder = Octs::Builder::empty(alloc);
+        builder.append_slice(source.as_slice())?;
+        Ok(CharStr::of_short(Octs::from_builder(builder)))
     }
 }

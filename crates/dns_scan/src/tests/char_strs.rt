@@ -1,8 +1,9 @@
 //! Character strings: outside examples (RFC 1035 3.3 and 5.1), error texts, generic calls at concrete types.
 use crate::{CharStr, CharStrBuilder, CharStrError, FromStrError, PresentationError};
-use dns_name::{AppendError, CanonicalOrd, Compose, OctetsBuilder, Parser};
+use dns_name::{AppendError, CanonicalOrd, Compose, OctetsBuilder, OctetsFrom, Parser};
 use std::alloc::Global;
 use std::cmp::Ordering;
+use std::hash::{DefaultHasher, Hash, Hasher};
 use std::test::Fail;
 
 fn shown(alloc: Global, octets: &[u8]) -> Result<String, Fail> {
@@ -137,5 +138,26 @@ fn errors_show_what_is_wrong(rt: HostRuntime) -> Result<(), Fail> {
         text.as_str(),
         "long character string, short buffer, bad symbol, long character string"
     );
+    Ok(())
+}
+
+fn hashed(octets: &[u8]) -> Result<u64, CharStrError> {
+    let mut state = DefaultHasher::new();
+    CharStr::from_slice(octets)?.hash(&mut state);
+    Ok(state.finish())
+}
+
+#[test]
+fn equal_strings_have_one_hash(rt: HostRuntime) -> Result<(), Fail> {
+    assert_eq!(rt; hashed(b"aBc")?, hashed(b"AbC")?);
+    assert!(rt; hashed(b"aBc")? != hashed(b"abd")?);
+    Ok(())
+}
+
+#[test]
+fn strings_of_other_octets(rt: HostRuntime) -> Result<(), Fail> {
+    let string = CharStr::from_slice(b"aBc")?;
+    let owned: CharStr<Vec<u8>> = CharStr::try_octets_from(rt.alloc(), string)?;
+    assert_eq!(rt; owned.as_slice(), b"aBc".as_slice());
     Ok(())
 }
