@@ -30,10 +30,11 @@ pub use dns_label::{
     Symbols,
 };
 pub use dns_octets::{
-    AppendError, EmptyBuilder, FormError, FromBuilder, Octets, OctetsBuilder, ParseError, Parser,
-    ShortInput, WriteOctets,
+    AppendError, Compose, EmptyBuilder, FormError, FreezeBuilder, FromBuilder, Octets,
+    OctetsBuilder, OctetsFrom, Parse, ParseError, Parser, Remembers, ShortInput, Truncate,
+    WriteOctets,
 };
-pub use dns_values::{Class, Rtype, Ttl};
+pub use dns_values::{CanonicalOrd, Class, Rtype, Serial, Ttl};
 pub use label_iter::{LabelIter, ToLabelIter};
 pub use name::{Name, NameError};
 pub use name_iter::NameIter;

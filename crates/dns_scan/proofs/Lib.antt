@@ -1,0 +1,12 @@
+pub mod Parsed
+pub mod Texts
+pub mod TextsBack
+pub mod BitLists
+pub mod BitSteps
+pub mod Groups
+pub mod Numbers
+pub mod Decoded
+pub mod Encodings
+pub mod Tokens
+pub mod Numerals
+pub mod Entries

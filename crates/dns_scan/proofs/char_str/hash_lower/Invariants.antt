@@ -1,0 +1,7 @@
+use Rattle.std.proofs.Common.{◌≡◌, take, fold, flat_map}
+use Rattle.std.specs.Hash as fed
+use Rattle.dns_scan.specs.CharStr.{lower}
+use Rattle.dns_scan.proofs.char_str.hash_lower.Given as goal
+
+abbrev pub invariant-loop-octet : goal.invariant-loop-octet
+invariant-loop-octet g l = l.state ≡ fold g.H.Hasher.write l.initial.state (flat_map fed.u8 (lower (take l.octet-index l.octets)))

@@ -1,0 +1,65 @@
+-- A text while it is decoded.
+use Rattle.std.specs.Prelude.{◌≡◌, ◌*◌, ◌<◌, ◌≤◌, ◌⊎◌, ⊤, ℕ, List, ◌∷◌, ◌++◌, length, map, replicate, Option, None}
+use Rattle.std.specs.List.{AllByRecursion}
+use Rattle.dns_scan.specs.declared.base.Base.{Base}
+use Rattle.dns_scan.specs.declared.base.Base.TheVariants.{Sixteen, ThirtyTwoHex, SixtyFour}
+use Rattle.dns_scan.specs.declared.decode_error.DecodeError.{DecodeError}
+use Rattle.dns_scan.specs.declared.decode_error.DecodeError.TheVariants.{IllegalChar, TrailingInput, ShortInput, ShortBuf}
+use Rattle.dns_scan.specs.Bits.{all_bits}
+use Rattle.dns_scan.specs.StringText.{IsOctet}
+use Rattle.dns_scan.specs.Base.{width, digit, IsCharacter, Decodes}
+
+-- how far a decoder has come: the whole octets, the bits that wait for others, the pads, and the error that it keeps
+pub record Progress : Type 0 where
+  pub octets : List ℕ
+  pub waiting : List ℕ
+  pub pads : ℕ
+  pub error : Option DecodeError
+
+-- Pads stand only in base 64, behind bits that are too few for another character, and no more than there may be: one for
+-- two bits.
+abbrev pub MayBePadded : Base → ℕ → ℕ → Type 0
+MayBePadded base pads bits = (pads ≡ 0) ⊎ ((base ≡ SixtyFour) × (bits < 6) × (2 * pads ≤ bits))
+
+-- the decoder has taken this text and no error has come
+pub record HasRead (base : Base) (progress : Progress) (text : List ℕ) : Type 0 where
+  pub sound : progress.error ≡ None
+  pub characters : List ℕ
+  pub written : text ≡ characters ++ replicate progress.pads 61
+  pub each : AllByRecursion (IsCharacter base) characters
+  pub are_octets : AllByRecursion IsOctet progress.octets
+  pub cut : all_bits (width base) (map (digit base) characters) ≡ all_bits 8 progress.octets ++ progress.waiting
+  pub little : length progress.waiting < 8
+  pub padded : MayBePadded base progress.pads (length progress.waiting)
+
+-- the bits that wait are too few for another character, and in base 64 there is a pad for every two
+abbrev pub IsWhole : Base → ℕ → ℕ → Type 0
+IsWhole Sixteen pads bits = bits < 4
+IsWhole ThirtyTwoHex pads bits = bits < 5
+IsWhole SixtyFour pads bits = (bits < 6) × (2 * pads ≡ bits)
+
+-- Why a character is refused behind what was taken: no text that goes on with it is one of octets, unless there was no room
+-- or no memory.
+abbrev pub NoneGoesOn : Base → Progress → ℕ → Type 0
+NoneGoesOn base progress c =
+    (text more octets : List ℕ) → HasRead base progress text → Decodes base (text ++ c ∷ more) octets → ⊥
+
+abbrev pub WhyRefused : Base → Progress → ℕ → DecodeError → Type 0
+WhyRefused base progress c (IllegalChar other) = (other ≡ c) × (IsCharacter base c → ⊥) × NoneGoesOn base progress c
+WhyRefused base progress c TrailingInput = (0 < progress.pads) × NoneGoesOn base progress c
+WhyRefused base progress c ShortInput = ⊥
+WhyRefused base progress c ShortBuf = ⊤
+
+-- why a text is refused as a whole
+abbrev pub NoneIs : Base → List ℕ → Type 0
+NoneIs base text = (octets : List ℕ) → Decodes base text octets → ⊥
+
+-- the character is one of the text
+abbrev pub Stands : List ℕ → ℕ → Type 0
+Stands text c = (front : List ℕ) × (behind : List ℕ) × (text ≡ front ++ c ∷ behind)
+
+abbrev pub WhyNoText : Base → List ℕ → DecodeError → Type 0
+WhyNoText base text (IllegalChar c) = Stands text c × (IsCharacter base c → ⊥) × NoneIs base text
+WhyNoText base text TrailingInput = NoneIs base text
+WhyNoText base text ShortInput = NoneIs base text
+WhyNoText base text ShortBuf = ⊤

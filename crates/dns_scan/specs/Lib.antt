@@ -1,0 +1,12 @@
+pub mod CharStr
+pub mod CharStrBuilder
+pub mod StringText
+pub mod Refused
+pub mod Bits
+pub mod Base
+pub mod Decoding
+pub mod Encodings
+pub mod Token
+pub mod Scans
+pub mod StrError
+pub mod ScanError

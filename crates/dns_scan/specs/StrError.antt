@@ -1,0 +1,10 @@
+-- Which of a scanner's errors is want of room or memory.
+use Rattle.std.specs.Prelude.{Bool, true, false}
+use Rattle.dns_scan.specs.declared.scanner_error.StrError.{StrError}
+use Rattle.dns_scan.specs.declared.scanner_error.StrError.TheVariants.{Custom, EndOfEntry, ShortBuf, TrailingTokens}
+
+abbrev pub is_short : StrError → Bool
+is_short (Custom message) = false
+is_short EndOfEntry = false
+is_short ShortBuf = true
+is_short TrailingTokens = false

@@ -1,0 +1,59 @@
+-- Tokens of a text that is scanned (RFC 1035 5.1).
+use Rattle.std.specs.Prelude.{◌≡◌, ◌↔◌, ◌==◌, ◌&&◌, ℕ, Bool, true, false, not, nat_le, List, [], ◌∷◌, ◌++◌}
+use Rattle.std.specs.List.{list_all}
+use Rattle.dns_scan.specs.CharStr.{string_wire}
+use Rattle.dns_scan.specs.StringText.{Spells, IsStringText}
+
+-- a token: whether it is quoted, and its text as it is written, without the quotes
+pub record Token : Type 0 where
+  pub quoted : Bool
+  pub text : List ℕ
+
+-- an unquoted token
+abbrev pub unquoted : List ℕ → Token
+unquoted text = record { quoted = false; text = text }
+
+-- the tokens left are an ending of those before
+pub record IsEnding (left before : List Token) : Type 0 where
+  pub taken : List Token
+  pub is : before ≡ taken ++ left
+
+-- the first of the tokens has a property, and the others are left
+pub record Takes (Fits : Token → Type 0) (before left : List Token) : Type 0 where
+  pub token : Token
+  pub is : before ≡ token ∷ left
+  pub fits : Fits token
+
+-- the token spells octets, each by a symbol
+abbrev pub SpellsOctets : List ℕ → Token → Type 0
+SpellsOctets octets token = Spells token.text octets
+
+-- the token spells a character string
+abbrev pub SpellsString : List ℕ → Token → Type 0
+SpellsString string token = IsStringText token.text string
+
+-- a printable character other than the backslash
+abbrev pub is_plain : ℕ → Bool
+is_plain c = nat_le 32 c && nat_le c 126 && not (c == 92)
+
+-- the token is a word: unquoted, and without a backslash
+abbrev pub IsWord : List ℕ → Token → Type 0
+IsWord text token = (token ≡ unquoted text) × (list_all is_plain text ≡ true)
+
+-- what marks data of an unknown type: the unquoted `\#` (RFC 3597 5)
+abbrev pub marker : Token
+marker = unquoted (92 ∷ 35 ∷ [])
+
+-- each of the tokens has a piece, and the pieces one behind the other are the whole
+abbrev pub IsEntry : (List ℕ → Token → Type 0) → List Token → List ℕ → Type 0
+IsEntry IsPiece [] whole = whole ≡ []
+IsEntry IsPiece (token ∷ tokens) whole =
+    (piece : List ℕ) × (more : List ℕ) × IsPiece piece token × IsEntry IsPiece tokens more × (whole ≡ piece ++ more)
+
+-- the token's string as it is on the wire
+abbrev pub IsStringOnWire : List ℕ → Token → Type 0
+IsStringOnWire wire token = (string : List ℕ) × SpellsString string token × (wire ≡ string_wire string)
+
+-- two places at which a text spells the same names
+abbrev pub SameNames : (List ℕ → List (List ℕ) → Type 0) → (List ℕ → List (List ℕ) → Type 0) → Type 0
+SameNames old new = (text : List ℕ) (name : List (List ℕ)) → old text name ↔ new text name

@@ -1,0 +1,117 @@
+//! Base 64 with padding to fours of characters (RFC 4648 4). Bits that are left over are ignored.
+ghost use Rattle.std.specs.Prelude.{◌≡◌, ◌∷◌, ◌++◌, List, ℕ, [], None, Some, Err, false, IfOk, IfErr, OnOk, OnErr, string_bytes};
+ghost use Rattle.std.specs.Str.{chars};
+ghost use Rattle.dns_scan.specs.Encodings.{encoded_64, Decodes64, WhyNoText64, HasRead64, WhyRefused64, NoneIs64};
+ghost use Rattle.dns_scan.specs.Decoding.{Progress};
+ghost use Rattle.dns_scan.specs.Token.{IsEntry, IsWord, IsEnding, SameNames};
+ghost use Rattle.dns_scan.specs.declared.decode_error.DecodeError.{DecodeError};
+ghost use Rattle.dns_scan.specs.declared.decode_error.DecodeError.TheVariants.{ShortInput};
+
+use crate::base::Base;
+use crate::decoding::{self, Decoding};
+use crate::{DecodeError, DisplayEncoded, Scanner, scan_decoded};
+use dns_name::{EmptyBuilder, FreezeBuilder, FromBuilder, Octets, OctetsBuilder};
+use std::alloc::{AllocError, Global};
+use std::marker::Model;
+
+/// The octets of a text.
+///
+/// Refused by the first character that is not of the alphabet, by what stands behind the padding, where the text ends within
+/// a group of characters or before its padding, and
+/// where there is no room or no memory for the octets.
+pub fn decode<Octs: FromBuilder>(alloc: Global, text: &str) -> Result<Octs, DecodeError>
+where
+    Octs::Builder: EmptyBuilder + Drop,
+    ensures ok { IfOk result (λ octets. Decodes64 (chars text.now) (Octs.list octets)) }
+    ensures err { IfErr result (WhyNoText64 (chars text.now)) }
+{
+    decoding::decode(alloc, Base::SixtyFour, text)
+}
+
+/// What shows the octets, with padding.
+pub fn display(octets: &[u8]) -> DisplayEncoded<'_>
+    ensures { result ≡ encoded_64 octets.now }
+{
+    DisplayEncoded::of(Base::SixtyFour, octets)
+}
+
+/// The text of the octets, with padding.
+pub fn encode_string(alloc: Global, octets: &[u8]) -> Result<String, AllocError>
+    ensures { IfOk result (λ text. string_bytes text ≡ encoded_64 octets.now) }
+{
+    display(octets).to_string(alloc)
+}
+
+/// The octets of all words that are left in an entry, joined to one text, which may be empty.
+///
+/// Refused as by `decode`, and where a token is no word; the tokens left are then an ending of those left before.
+pub fn scan_entry<S: Scanner>(scanner: &mut S) -> Result<S::Octets, S::Error>
+    ensures ok { IfOk result (λ octets. (text : List ℕ) × IsEntry IsWord (S.tokens scanner.old) text
+        × Decodes64 (chars text) (⟦<S::Octets as Octets>⟧.list octets) × (S.tokens scanner.new ≡ [])) }
+    ensures err { IfErr result (λ error. S.Error.is_short error ≡ false → (text octets : List ℕ) → IsEntry IsWord (S.tokens scanner.old) text
+        → Decodes64 (chars text) octets → ⊥) }
+    ensures left { OnErr result (IsEnding (S.tokens scanner.new) (S.tokens scanner.old)) }
+    ensures names { SameNames (S.names scanner.old) (S.names scanner.new) }
+{
+    scan_decoded::scan_entry(scanner, Base::SixtyFour)
+}
+
+/// A decoder that is given a text character by character.
+///
+/// A contract sees the octets that are whole, the bits that wait for others, the pads, and the error that every call answers.
+#[derive(Debug, Drop)]
+pub struct Decoder<Builder: OctetsBuilder> {
+    decoding: Decoding<Builder>,
+}
+
+impl<Builder: OctetsBuilder> Model for Decoder<Builder> {
+    ghost Value = { Progress };
+
+    ghost view = { λ decoder. decoder.decoding };
+}
+
+impl<Builder: OctetsBuilder> Decoder<Builder> {
+    /// In front of a text. What the octets go to grows on this allocator, if it grows at all.
+    pub fn new(alloc: Global) -> Self
+    where
+        Builder: EmptyBuilder,
+        ensures { HasRead64 result [] }
+    {
+        Decoder {
+            decoding: Decoding::over(Builder::empty(alloc)),
+        }
+    }
+
+    /// In front of a text. The octets go to the builder, which has none yet.
+    pub fn from_builder(builder: Builder) -> Self
+        requires { Builder.list builder ≡ [] }
+        ensures { HasRead64 result [] }
+    {
+        Decoder {
+            decoding: Decoding::over(builder),
+        }
+    }
+
+    /// Takes the next character. Refused as by `decode`; after an error each call answers it again.
+    pub fn push(&mut self, character: char) -> Result<(), DecodeError>
+        ensures ok { OnOk result ((text : List ℕ) → HasRead64 self.old text → HasRead64 self.new (text ++ character ∷ [])) }
+        ensures why { IfErr result (λ error. self.old.error ≡ None → WhyRefused64 self.old character error) }
+        ensures kept { IfErr result (λ error. self.new.error ≡ Some error) }
+        ensures again { (error : DecodeError) → self.old.error ≡ Some error → (result ≡ Err error) × (self.new ≡ self.old) }
+    {
+        self.decoding.push(Base::SixtyFour, character)
+    }
+
+    /// The octets of the text that was given. Refused where it ends within a group of characters or before its padding, and with the error that
+    /// is kept, if any.
+    pub fn finalize(self) -> Result<Builder::Octets, DecodeError>
+    where
+        Builder: FreezeBuilder + Drop,
+        ensures ok { IfOk result (λ octets. (text : List ℕ) → HasRead64 self text → Decodes64 text (⟦<Builder::Octets as Octets>⟧.list octets)) }
+        ensures short { IfErr result (λ error. self.error ≡ None → (error ≡ ShortInput) × ((text : List ℕ) → HasRead64 self text → NoneIs64 text)) }
+        ensures again { (error : DecodeError) → self.error ≡ Some error → result ≡ Err error }
+    {
+        let Decoder { decoding } = self;
+        Ok(decoding.finish(Base::SixtyFour)?.freeze())
+    }
+}

@@ -1,0 +1,40 @@
+//! Character strings, encodings and scanners of presentation text (RFC 1035 3.3 and 5.1, RFC 4648).
+//!
+//! A part of `dns_text`.
+#![tactic(auto)]
+
+mod base;
+pub mod base16;
+pub mod base32;
+pub mod base64;
+mod bits;
+mod char_str;
+mod char_str_builder;
+mod char_str_iter;
+mod decode_error;
+mod decoding;
+mod encoded;
+mod iter_scanner;
+pub mod laws;
+mod scan;
+mod scan_decoded;
+mod scan_numbers;
+mod scan_values;
+mod scanner;
+mod scanner_error;
+mod spelled;
+mod string_text;
+#[cfg(test)]
+mod tests;
+mod values;
+
+pub use char_str::{CharStr, CharStrError};
+pub use char_str_builder::CharStrBuilder;
+pub use char_str_iter::CharStrIter;
+pub use decode_error::DecodeError;
+pub use encoded::DisplayEncoded;
+pub use iter_scanner::IterScanner;
+pub use scan::Scan;
+pub use scanner::Scanner;
+pub use scanner_error::{ScannerError, StrError};
+pub use string_text::{DisplayQuoted, DisplayUnquoted, FromStrError, PresentationError};

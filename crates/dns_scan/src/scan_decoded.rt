@@ -1,0 +1,40 @@
+//! The rest of an entry in an encoding of RFC 4648.
+ghost use Rattle.std.specs.Prelude.{◌≡◌, List, ℕ, [], false, true, IfOk, IfErr, OnErr};
+ghost use Rattle.std.specs.Str.{chars};
+ghost use Rattle.dns_scan.specs.Base.{Decodes};
+ghost use Rattle.dns_scan.specs.ScanError.{is_want_of_room};
+ghost use Rattle.dns_scan.specs.Token.{IsEntry, IsWord, IsEnding, SameNames};
+
+use crate::base::Base;
+use crate::decoding::decode_into;
+use crate::{DecodeError, Scanner, ScannerError};
+use dns_name::{FreezeBuilder, Octets};
+
+/// The octets of all words that are left in an entry, joined to one text.
+pub(crate) fn scan_entry<S: Scanner>(scanner: &mut S, base: Base) -> Result<S::Octets, S::Error>
+    ensures ok { IfOk result (λ octets. (text : List ℕ) × IsEntry IsWord (S.tokens scanner.old) text
+        × Decodes base (chars text) (⟦<S::Octets as Octets>⟧.list octets) × (S.tokens scanner.new ≡ [])) }
+    ensures err { IfErr result (λ error. S.Error.is_short error ≡ false → (text octets : List ℕ) → IsEntry IsWord (S.tokens scanner.old) text
+        → Decodes base (chars text) octets → ⊥) }
+    ensures left { OnErr result (IsEnding (S.tokens scanner.new) (S.tokens scanner.old)) }
+    ensures names { SameNames (S.names scanner.old) (S.names scanner.new) }
+{
+    let text = scanner.scan_ascii_entry()?;
+    let builder = scanner.octets_builder()?;
+    match decode_into(builder, base, text.as_str()) {
+        Ok(builder) => Ok(builder.freeze()),
+        Err(error) => Err(scan_error(error)),
+    }
+}
+
+/// The scanner's error for one of decoding.
+fn scan_error<Error: ScannerError>(error: DecodeError) -> Error
+    ensures { Error.is_short result ≡ is_want_of_room error }
+{
+    match error {
+        DecodeError::ShortBuf => Error::short_buf(),
+        DecodeError::IllegalChar(_) => Error::custom("illegal character"),
+        DecodeError::TrailingInput => Error::custom("trailing input"),
+        DecodeError::ShortInput => Error::custom("incomplete input"),
+    }
+}

@@ -1,0 +1,106 @@
+//! Scanning the tokens of an entry of a zone file (RFC 1035 5.1).
+ghost use Rattle.std.specs.Prelude.{◌≡◌, ◌≢◌, ◌↔◌, List, ℕ, Bool, [], ◌∷◌, false, true, Some, None, IsUtf8, string_bytes, IsTrue, IfOk, IfErr, OnErr};
+ghost use Rattle.std.specs.Fn.{FnOnceReturnsAt};
+ghost use Rattle.dns_scan.specs.Token.{Token, IsEnding, Takes, SpellsOctets, SpellsString, IsEntry, IsStringOnWire, IsWord, SameNames, unquoted, marker};
+
+use crate::{CharStr, ScannerError};
+use dns_name::{EmptyBuilder, FreezeBuilder, FromBuilder, Octets, ToName};
+
+/// What gives the tokens of an entry, one after another.
+///
+/// `tokens` are those that are left, and `names` says which name a text spells here. Each call that scans takes the tokens
+/// of its value. Refused with an error other than `short_buf` only where there is no such value in front, and the tokens
+/// left are then an ending of those left before.
+pub trait Scanner {
+    type Octets: FromBuilder;
+
+    type OctetsBuilder: EmptyBuilder + FreezeBuilder<Octets = Self::Octets> + Drop;
+
+    type Name: ToName;
+
+    type Error: ScannerError;
+
+    ghost tokens: { Self → List Token };
+
+    ghost names: { Self → List ℕ → List (List ℕ) → Type 0 };
+
+    ghost spaced: { Self → Bool };
+
+    /// Whether white space stands in front of the next token.
+    fn has_space(&self) -> bool
+        ensures { result ≡ spaced self.now };
+
+    /// Whether there are tokens left.
+    fn continues(&mut self) -> bool
+        ensures some { IsTrue result ↔ (tokens self.old ≢ []) }
+        ensures stays { tokens self.new ≡ tokens self.old }
+        ensures names { SameNames (names self.old) (names self.new) };
+
+    /// The octets that a token spells.
+    fn scan_octets(&mut self) -> Result<Self::Octets, Self::Error>
+        ensures ok { IfOk result (λ octets. Takes (SpellsOctets (⟦<Self::Octets as Octets>⟧.list octets)) (tokens self.old) (tokens self.new)) }
+        ensures err { IfErr result (λ error. Self.Error.is_short error ≡ false → (octets : List ℕ) (left : List Token) → Takes (SpellsOctets octets) (tokens self.old) left → ⊥) }
+        ensures left { OnErr result (IsEnding (tokens self.new) (tokens self.old)) }
+        ensures names { SameNames (names self.old) (names self.new) };
+
+    /// The string that a token spells.
+    fn scan_charstr(&mut self) -> Result<CharStr<Self::Octets>, Self::Error>
+        ensures ok { IfOk result (λ string. Takes (SpellsString string) (tokens self.old) (tokens self.new)) }
+        ensures err { IfErr result (λ error. Self.Error.is_short error ≡ false → (string : List ℕ) (left : List Token) → Takes (SpellsString string) (tokens self.old) left → ⊥) }
+        ensures left { OnErr result (IsEnding (tokens self.new) (tokens self.old)) }
+        ensures names { SameNames (names self.old) (names self.new) };
+
+    /// Whether the next token is the marker of data of an unknown type, which is then taken.
+    fn scan_opt_unknown_marker(&mut self) -> Result<bool, Self::Error>
+        ensures marked { IfOk result (λ marked. IsTrue marked → tokens self.old ≡ marker ∷ tokens self.new) }
+        ensures other { IfOk result (λ marked. (IsTrue marked → ⊥) → (tokens self.new ≡ tokens self.old) × ((left : List Token) → tokens self.old ≡ marker ∷ left → ⊥)) }
+        ensures left { OnErr result (IsEnding (tokens self.new) (tokens self.old)) }
+        ensures names { SameNames (names self.old) (names self.new) };
+
+    /// Hands the text of a word to the closure, and answers what it makes of it. A word is an unquoted token without a
+    /// backslash. Refused where the closure makes nothing of it.
+    fn scan_ascii_str<F, T>(&mut self, op: F) -> Result<T, Self::Error>
+    where
+        F: FnOnce(&str) -> Option<T>,
+        requires { F.IsAlwaysCallable op }
+        ensures ok { IfOk result (λ value. (text : List ℕ) × Takes (IsWord text) (tokens self.old) (tokens self.new) × FnOnceReturnsAt F.FnOnce op text (Some value)) }
+        ensures err { IfErr result (λ error. Self.Error.is_short error ≡ false → (text : List ℕ) (left : List Token) → Takes (IsWord text) (tokens self.old) left
+            → FnOnceReturnsAt F.FnOnce op text None) }
+        ensures left { OnErr result (IsEnding (tokens self.new) (tokens self.old)) }
+        ensures names { SameNames (names self.old) (names self.new) };
+
+    /// The name that an unquoted token spells.
+    fn scan_name(&mut self) -> Result<Self::Name, Self::Error>
+        ensures ok { IfOk result (λ name. (text : List ℕ) × (tokens self.old ≡ unquoted text ∷ tokens self.new) × names self.old text (⟦<Self::Name as ToName>⟧.name name)) }
+        ensures err { IfErr result (λ error. Self.Error.is_short error ≡ false → (text : List ℕ) (left : List Token) (name : List (List ℕ)) → tokens self.old ≡ unquoted text ∷ left → names self.old text name → ⊥) }
+        ensures left { OnErr result (IsEnding (tokens self.new) (tokens self.old)) }
+        ensures names { SameNames (names self.old) (names self.new) };
+
+    /// The text that a token spells. Refused where its octets are no UTF-8 too.
+    fn scan_string(&mut self) -> Result<String, Self::Error>
+        ensures ok { IfOk result (λ text. Takes (SpellsOctets (string_bytes text)) (tokens self.old) (tokens self.new)) }
+        ensures err { IfErr result (λ error. Self.Error.is_short error ≡ false → (text : List ℕ) (left : List Token) → IsUtf8 text → Takes (SpellsOctets text) (tokens self.old) left → ⊥) }
+        ensures left { OnErr result (IsEnding (tokens self.new) (tokens self.old)) }
+        ensures names { SameNames (names self.old) (names self.new) };
+
+    /// All strings that are left, one behind the other, each behind its length octet (RFC 1035 3.3).
+    fn scan_charstr_entry(&mut self) -> Result<Self::Octets, Self::Error>
+        ensures ok { IfOk result (λ octets. IsEntry IsStringOnWire (tokens self.old) (⟦<Self::Octets as Octets>⟧.list octets) × (tokens self.new ≡ [])) }
+        ensures err { IfErr result (λ error. Self.Error.is_short error ≡ false → (octets : List ℕ) → IsEntry IsStringOnWire (tokens self.old) octets → ⊥) }
+        ensures left { OnErr result (IsEnding (tokens self.new) (tokens self.old)) }
+        ensures names { SameNames (names self.old) (names self.new) };
+
+    /// The texts of all words that are left, joined, which none may be.
+    fn scan_ascii_entry(&mut self) -> Result<String, Self::Error>
+        ensures ok { IfOk result (λ text. IsEntry IsWord (tokens self.old) (string_bytes text) × (tokens self.new ≡ [])) }
+        ensures err { IfErr result (λ error. Self.Error.is_short error ≡ false → (text : List ℕ) → IsEntry IsWord (tokens self.old) text → ⊥) }
+        ensures left { OnErr result (IsEnding (tokens self.new) (tokens self.old)) }
+        ensures names { SameNames (names self.old) (names self.new) };
+
+    /// What octets can be appended to, with none yet. The tokens stay.
+    fn octets_builder(&mut self) -> Result<Self::OctetsBuilder, Self::Error>
+        ensures ok { IfOk result (λ builder. ⟦<Self::OctetsBuilder as Octets>⟧.list builder ≡ []) }
+        ensures err { IfErr result (λ error. Self.Error.is_short error ≡ true) }
+        ensures stays { tokens self.new ≡ tokens self.old }
+        ensures names { SameNames (names self.old) (names self.new) };
+}
