@@ -9,3 +9,8 @@ pub mod Items
 pub mod Parts
 pub mod Drafts
 pub mod Texts
+pub mod Known
+pub mod Spelled
+pub mod Soundness
+pub mod Growth
+pub mod Appending

@@ -4,6 +4,10 @@ pub mod ParsedName
 pub mod Suffix
 pub mod Text
 pub mod Draft
+pub mod Spelling
+pub mod Remembered
+pub mod Parts
+pub mod Tried
 pub use Rattle.dns_octets.specs.Parser
 pub use Rattle.dns_label.specs.Name
 pub use Rattle.dns_label.specs.Spelled

@@ -4,6 +4,7 @@
 //! values of records) and `dns_label` (labels and symbols), and it hands all of them on.
 #![tactic(auto)]
 
+mod composer;
 mod label_iter;
 mod name;
 mod parsed;
@@ -15,8 +16,12 @@ mod text;
 mod to_name;
 mod walk;
 
+pub use composer::Composer;
 pub use dns_label::{Label, LabelTypeError, LongLabelError, SplitLabelError, Symbol};
-pub use dns_octets::{FormError, Octets, ParseError, Parser, ShortInput};
+pub use dns_octets::{
+    AppendError, Compose, EmptyBuilder, FormError, FreezeBuilder, FromBuilder, Octets,
+    OctetsBuilder, OctetsFrom, Parse, ParseError, Parser, Remembers, ShortInput, Truncate,
+};
 pub use dns_values::{Class, Rtype, Ttl};
 pub use label_iter::{LabelIter, ToLabelIter};
 pub use name::{Name, NameError, NameIter};
