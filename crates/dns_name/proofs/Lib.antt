@@ -14,3 +14,4 @@ pub mod Spelled
 pub mod Soundness
 pub mod Growth
 pub mod Appending
+pub mod OneSuffixLemmas

@@ -34,7 +34,7 @@ spells-kept {place = place} kept (label {behind = behind} text is) =
 spells-kept kept (pointer target is before same) = pointer target (kept target is (omega arith)) before same
 
 -- more octets behind
-text-append : {octets : List ℕ} {place : ℕ} {text : List ℕ} (tail : List ℕ) → HasText octets place text → HasText (octets ++ tail) place text
+pub text-append : {octets : List ℕ} {place : ℕ} {text : List ℕ} (tail : List ℕ) → HasText octets place text → HasText (octets ++ tail) place text
 text-append tail there = record {
   front = there.front;
   back = there.back ++ tail;
@@ -59,7 +59,7 @@ IsSound-append tail sound = record {
 }
 
 -- the octets cut behind the text
-text-take : {octets : List ℕ} {place : ℕ} {text : List ℕ} (len : ℕ) → place + length text ≤ len → HasText octets place text
+pub text-take : {octets : List ℕ} {place : ℕ} {text : List ℕ} (len : ℕ) → place + length text ≤ len → HasText octets place text
     → HasText (take len octets) place text
 text-take {text = text} len within there =
     let front : List ℕ = there.front in
@@ -153,7 +153,7 @@ IsSound-name {s} {known} {octets} name sound = record {
         (added_each s known (length known) (length octets) stop name (sound-within sound) standing both.0) both.1
 
 -- octets are written over others, where no suffix is spelled
-text-patch : {octets : List ℕ} {place : ℕ} {text : List ℕ} (begin : ℕ) (over : List ℕ) → begin + length over ≤ length octets
+pub text-patch : {octets : List ℕ} {place : ℕ} {text : List ℕ} (begin : ℕ) (over : List ℕ) → begin + length over ≤ length octets
     → (place + length text ≤ begin) ⊎ (begin + length over ≤ place) → HasText octets place text → HasText (patched octets begin over) place text
 text-patch begin over within (inl front) there = text-append _ (text-take begin front there)
 text-patch {octets} {text = text} begin over within (inr behind) there =

@@ -7,6 +7,7 @@ pub mod Draft
 pub mod Spelling
 pub mod Remembered
 pub mod Parts
+pub mod OneSuffix
 pub mod Tried
 pub use Rattle.dns_octets.specs.Parser
 pub use Rattle.dns_label.specs.Name

@@ -1,6 +1,9 @@
 //! Targets at concrete types, through their bound.
+mod one_suffix;
+
 use crate::{AppendError, Composer, Name, Octets, OctetsBuilder, Truncate};
 use arrayvec::ArrayVec;
+use one_suffix::OneSuffix;
 use std::test::Fail;
 
 /// `a.b.`
@@ -55,4 +58,36 @@ fn a_refused_name_leaves_nothing(rt: HostRuntime) -> Result<(), Fail> {
     assert_eq!(rt; compose_twice(&mut short), Err(AppendError::ShortBuf));
     assert_eq!(rt; short.octets(), b"\x00\x00\x01a\x01b\x00".as_slice());
     Ok(())
+}
+
+#[test]
+fn a_remembered_name_becomes_a_pointer(rt: HostRuntime) -> Result<(), Fail> {
+    let mut target = OneSuffix::new(rt.alloc());
+    assert_eq!(rt; compose_twice(&mut target)?, true);
+    assert_eq!(rt;
+        target.octets(),
+        b"\x00\x00\x01a\x01b\x00\xc0\x02".as_slice()
+    );
+    target.truncate(7);
+    assert_eq!(rt; compose_name(&mut target, b"\x01b\x00"), Ok(()));
+    assert_eq!(rt; compose_name(&mut target, NAME), Ok(()));
+    assert_eq!(rt;
+        target.octets(),
+        b"\x00\x00\x01a\x01b\x00\x01b\x00\xc0\x02".as_slice()
+    );
+    target.truncate(6);
+    assert_eq!(rt; compose_name(&mut target, b"\x01b\x00"), Ok(()));
+    assert_eq!(rt; compose_name(&mut target, b"\x01b\x00"), Ok(()));
+    assert_eq!(rt;
+        target.octets(),
+        b"\x00\x00\x01a\x01b\x01b\x00\xc0\x06".as_slice()
+    );
+    Ok(())
+}
+
+fn compose_name<Target: Composer>(target: &mut Target, octets: &[u8]) -> Result<(), AppendError> {
+    match Name::from_slice(octets) {
+        Ok(name) => target.append_compressed_name(&name),
+        Err(_) => Err(AppendError::BadLength),
+    }
 }
