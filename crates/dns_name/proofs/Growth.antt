@@ -1,5 +1,5 @@
 -- How a target grows, and how it is cut back to what it was.
-use Rattle.std.proofs.Common.{◌≡◌, ◌≤◌, ◌<◌, ◌+◌, ℕ, Option, Some, None, List, ◌++◌, length, take, refl, ◌∙◌, ap, arith, length-append, append_assoc}
+use Rattle.std.proofs.Common.{subst, ◌≡◌, ◌≤◌, ◌<◌, ◌+◌, ℕ, Option, Some, None, List, ◌++◌, length, take, refl, ◌∙◌, ap, arith, length-append, append_assoc}
 use Rattle.std.proofs.lemmas.List.{append-nil, take_at}
 use Rattle.std.proofs.lemmas.List.Elements.{All-append, All-weaker}
 use Rattle.dns_octets.specs.Builder.{Standing, Known, StandsBetween, GrowsTo, IsPast, before}
@@ -79,9 +79,20 @@ before_grown {old} {new} {known = known} within grown =
         let is = each_known (StandsBetween (length old) (length new)) grown.added grown.between standing known in
         omega (arith, is.begins, is.spelled)
 
+pub octets_back : {old new : List ℕ} {known more : Known} (len : ℕ) (back : List ℕ) → GrowsTo old known new more → len ≡ length old
+    → back ≡ take len new → back ≡ old
+octets_back {new = new} len back grown here is = is ∙ ap (λ n. take n new) here ∙ take_grown grown
+
+pub known_back : {old new : List ℕ} {known more : Known} (len : ℕ) (back : Known) → StopsBefore (length old) known → GrowsTo old known new more
+    → len ≡ length old → back ≡ before len more → back ≡ known
+known_back {more = more} len back within grown here is = is ∙ ap (λ n. before n more) here ∙ before_grown within grown
+
 -- a bound that less is past is one that more is past
 pub IsPast-more : (bound : Option ℕ) (less more : ℕ) → less ≤ more → IsPast bound less → IsPast bound more
 IsPast-more None less more long past = past
 IsPast-more (Some bound) less more long past = omega arith
+
+pub IsPast-from : (bound other : Option ℕ) (less more : ℕ) → other ≡ bound → less ≤ more → IsPast other less → IsPast bound more
+IsPast-from bound other less more same long past = IsPast-more bound less more long (subst (λ b. IsPast b less) same past)
 
 pub ruleset growth_rules = (GrowsTo-append, GrowsTo-same)

@@ -14,4 +14,5 @@ pub mod Spelled
 pub mod Soundness
 pub mod Growth
 pub mod Appending
+pub mod Written
 pub mod OneSuffixLemmas

@@ -7,6 +7,8 @@ pub mod Draft
 pub mod Spelling
 pub mod Remembered
 pub mod Parts
+pub mod RecordData
+pub mod Unknown
 pub mod OneSuffix
 pub mod Tried
 pub use Rattle.dns_octets.specs.Parser

@@ -6,14 +6,17 @@
 
 mod composer;
 mod label_iter;
+mod long_record_data;
 mod name;
 mod parsed;
 mod parsed_iter;
+mod record_data;
 mod suffix;
 #[cfg(test)]
 mod tests;
 mod text;
 mod to_name;
+mod unknown;
 mod walk;
 
 pub use composer::Composer;
@@ -22,10 +25,13 @@ pub use dns_octets::{
     AppendError, Compose, EmptyBuilder, FormError, FreezeBuilder, FromBuilder, Octets,
     OctetsBuilder, OctetsFrom, Parse, ParseError, Parser, Remembers, ShortInput, Truncate,
 };
-pub use dns_values::{Class, Rtype, Ttl};
+pub use dns_values::{CanonicalOrd, Class, Rtype, Ttl};
 pub use label_iter::{LabelIter, ToLabelIter};
+pub use long_record_data::LongRecordData;
 pub use name::{Name, NameError, NameIter};
 pub use parsed::ParsedName;
 pub use parsed_iter::ParsedNameIter;
+pub use record_data::{ComposeRecordData, ParseAnyRecordData, ParseRecordData, RecordData};
 pub use text::{FromStrError, PresentationError};
 pub use to_name::ToName;
+pub use unknown::UnknownRecordData;
