@@ -15,4 +15,5 @@ pub mod Soundness
 pub mod Growth
 pub mod Appending
 pub mod Written
+pub mod HexText
 pub mod OneSuffixLemmas

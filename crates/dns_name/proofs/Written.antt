@@ -7,7 +7,7 @@ use Rattle.dns_octets.specs.Builder.{Standing, Known, StandsBetween, GrowsTo}
 use Rattle.dns_name.specs.Spelling.{Spelling, name_text}
 use Rattle.dns_name.specs.Remembered.{IsKnown, is_free, patched}
 use Rattle.dns_name.specs.Parts.{Page, Parts, with_octets, with_name, with_count, write}
-use Rattle.dns_name.specs.Parts.Parts.{End, Octets, Name, Counted}
+use Rattle.dns_name.specs.Parts.Parts.{End, Octets, Named, Counted}
 use Rattle.dns_name.specs.RecordData.{page_of, IsComposedLength}
 use Rattle.dns_name.proofs.Known.{known-append_cases, each_known, free_from}
 use Rattle.dns_name.proofs.Spelled.{StopsBefore}
@@ -32,7 +32,7 @@ unfolding write
 write-long s page End = omega arith
 write-long s page (Octets more parts) =
     let on = write-long s (with_octets page more) parts in omega (arith, length-append page.octets more)
-write-long s page (Name name parts) =
+write-long s page (Named name parts) =
     let on = write-long s (with_name s page name) parts in
     omega (arith, length-append page.octets (name_text s page.known (length page.octets) name))
 write-long s page (Counted inner parts) =

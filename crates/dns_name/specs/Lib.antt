@@ -9,6 +9,7 @@ pub mod Remembered
 pub mod Parts
 pub mod RecordData
 pub mod Unknown
+pub mod UnknownText
 pub mod OneSuffix
 pub mod Tried
 pub use Rattle.dns_octets.specs.Parser

@@ -2,7 +2,6 @@
 use Rattle.std.specs.Prelude.{◌+◌, ◌-◌, ℕ, List, [], ◌∷◌, ◌++◌, length}
 use Rattle.std.specs.Int.{to_be_bytes, w16}
 use Rattle.dns_octets.specs.Builder.{Known}
-use Rattle.dns_label.specs.Name.{wire}
 use Rattle.dns_name.specs.Spelling.{Spelling, name_text, known_after}
 use Rattle.dns_name.specs.Remembered.{patched}
 
@@ -15,7 +14,7 @@ pub record Page : Type 0 where
 pub data Parts : Type 0 where
   End : Parts
   Octets : List ℕ → Parts → Parts
-  Name : List (List ℕ) → Parts → Parts
+  Named : List (List ℕ) → Parts → Parts
   Counted : Parts → Parts → Parts
 
 abbrev pub with_octets : Page → List ℕ → Page
@@ -38,14 +37,6 @@ with_count place page = record {
 unfoldable pub write : Spelling → Page → Parts → Page
 write s page End = page
 write s page (Octets more parts) = write s (with_octets page more) parts
-write s page (Name name parts) = write s (with_name s page name) parts
+write s page (Named name parts) = write s (with_name s page name) parts
 write s page (Counted inner parts) =
     write s (with_count (length page.octets) (write s (with_octets page (0 ∷ 0 ∷ [])) inner)) parts
-
--- the octets of the parts with each name in full
-unfoldable pub plain_octets : Parts → List ℕ
-plain_octets End = []
-plain_octets (Octets more parts) = more ++ plain_octets parts
-plain_octets (Name name parts) = wire name ++ plain_octets parts
-plain_octets (Counted inner parts) =
-    to_be_bytes w16 (length (plain_octets inner)) ++ (plain_octets inner ++ plain_octets parts)

@@ -3,7 +3,7 @@ use Rattle.std.specs.Prelude.{◌≡◌, ◌+◌, ℕ, zero, suc, true, false, S
 use Rattle.dns_octets.specs.Builder.{before}
 use Rattle.dns_name.specs.Spelling.{Spelling, plain, text_from, added_from, name_text, known_after}
 use Rattle.dns_name.specs.Parts.{Page, write, with_name}
-use Rattle.dns_name.specs.Parts.Parts.{End, Name, Octets, Counted}
+use Rattle.dns_name.specs.Parts.Parts.{End, Named, Octets, Counted}
 
 -- at most 24 suffixes, the same up to case
 abbrev pub table : Spelling
@@ -86,7 +86,7 @@ two_cases_are = (refl, refl, refl, refl)
 -- data of two octets and a name behind its length, which counts a pointer where one is written
 abbrev pub counted : Spelling → List ℕ
 counted s =
-    (write s empty (Name ((97 ∷ []) ∷ []) (Counted (Octets (0 ∷ 10 ∷ []) (Name ((97 ∷ []) ∷ []) End)) (Octets (7 ∷ []) End)))).octets
+    (write s empty (Named ((97 ∷ []) ∷ []) (Counted (Octets (0 ∷ 10 ∷ []) (Named ((97 ∷ []) ∷ []) End)) (Octets (7 ∷ []) End)))).octets
 
 pub counted_is : (counted plain ≡ 1 ∷ 97 ∷ 0 ∷ 0 ∷ 5 ∷ 0 ∷ 10 ∷ 1 ∷ 97 ∷ 0 ∷ 7 ∷ [])
     × (counted exact ≡ 1 ∷ 97 ∷ 0 ∷ 0 ∷ 4 ∷ 0 ∷ 10 ∷ 192 ∷ 0 ∷ 7 ∷ [])

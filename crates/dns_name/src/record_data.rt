@@ -9,6 +9,7 @@ ghost use Rattle.dns_name.specs.Parts.Parts.{End, Counted};
 ghost use Rattle.dns_name.specs.RecordData.{page_of, counted_length, IsComposedLength, IsAtEnd};
 
 mod counted;
+mod reference;
 
 use crate::Composer;
 use counted::{append_canonical_counted, append_counted};
@@ -109,11 +110,11 @@ pub trait ComposeRecordData: RecordData {
         ensures same_bound { Target.bound target.new ≡ Target.bound target.old }
         ensures stays { Target.stays target.old target.new }
     {
-        let len = target.octets().len();
+        let before = target.octets().len();
         match append_canonical_counted(self, target) {
             Ok(()) => Ok(()),
             Err(error) => {
-                target.truncate(len);
+                target.truncate(before);
                 Err(error)
             }
         }

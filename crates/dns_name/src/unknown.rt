@@ -1,5 +1,6 @@
 //! Data of a record of any type, as its octets (RFC 3597 3).
-ghost use Rattle.std.specs.Prelude.{◌≡◌, ◌≤◌, ◌++◌, ◌↔◌, true, length, Some, None, IsOk, IfOk};
+ghost use Rattle.std.specs.Prelude.{◌≡◌, ◌≤◌, ◌++◌, ◌↔◌, true, length, Some, None, Err, IsOk, IfOk, IfErr};
+ghost use Rattle.dns_octets.specs.declared.error.AppendError.TheVariants.{ShortBuf, BadLength};
 ghost use Rattle.std.proofs.Common.{rules};
 ghost use Rattle.std.specs.Cmp.{partial_order_from_own_ties};
 ghost use Rattle.std.specs.Cmp.Rules.{comparing, hashing};
@@ -8,11 +9,15 @@ ghost use Rattle.std.specs.Ordering.{as_partial_cmp};
 ghost use Rattle.dns_name.specs.Parts.Parts.{End, Octets};
 ghost use Rattle.dns_name.specs.Unknown.{UnknownData, unknown_eq, unknown_cmp, IsUnknownAt};
 
+mod show;
+
 use crate::{
     ComposeRecordData, Composer, LongRecordData, ParseAnyRecordData, ParseRecordData, RecordData,
 };
-use dns_octets::{AppendError, Octets, ParseError, Parser};
+use arrayvec::ArrayVec;
+use dns_octets::{AppendError, Octets, OctetsFrom, ParseError, Parser};
 use dns_values::{CanonicalOrd, Rtype};
+use std::alloc::Global;
 use std::cmp::Ordering;
 use std::hash::{Hash, Hasher};
 use std::marker::Model;
@@ -116,6 +121,37 @@ impl<'a> ParseRecordData<'a> for UnknownRecordData<&'a [u8]> {
     }
 }
 
+/// The same data in a vector. Refused where a growth was refused.
+impl<S: Octets + Drop> OctetsFrom<UnknownRecordData<S>> for UnknownRecordData<Vec<u8>> {
+    ghost octets_from_gives = { λ source result. IfOk result (λ rdata. rdata ≡ source)
+        × (result ≡ Err ShortBuf → ⊥)
+        × (result ≡ Err BadLength → ⊥) };
+
+    fn try_octets_from(alloc: Global, source: UnknownRecordData<S>) -> Result<Self, AppendError> {
+        let octets = Vec::try_octets_from(alloc, source.octets.octets())?;
+        Ok(UnknownRecordData {
+            rtype: source.rtype,
+            octets,
+        })
+    }
+}
+
+/// The same data in an array. Refused where it has no room.
+impl<S: Octets + Drop, const N: usize> OctetsFrom<UnknownRecordData<S>>
+    for UnknownRecordData<ArrayVec<u8, N>> {
+    ghost octets_from_gives = { λ source result. IfOk result (λ rdata. rdata ≡ source)
+        × (IsOk result ↔ (length source.octets ≤ N))
+        × IfErr result (λ error. error ≡ ShortBuf) };
+
+    fn try_octets_from(alloc: Global, source: UnknownRecordData<S>) -> Result<Self, AppendError> {
+        let octets = ArrayVec::try_octets_from(alloc, source.octets.octets())?;
+        Ok(UnknownRecordData {
+            rtype: source.rtype,
+            octets,
+        })
+    }
+}
+
 impl<Octs: Octets> PartialEq for UnknownRecordData<Octs> {
     ghost eq = { unknown_eq };
 
@@ -180,8 +216,6 @@ impl<Octs: Octets> Hash for UnknownRecordData<Octs> {
 #[cfg(test)]
 mod tests {
     use super::*;
-    use arrayvec::ArrayVec;
-    use std::alloc::Global;
     use std::hash::DefaultHasher;
     use std::test::Fail;
 
@@ -245,6 +279,34 @@ mod tests {
         assert!(rt; parsed::<UnknownRecordData<&[u8]>>(Rtype::from_int(10), all, 0).is_none());
         let found = parsed::<UnknownRecordData<&[u8]>>(Rtype::from_int(10), all, 1);
         assert!(rt; matches!(found, Some((rdata, 65_536)) if rdata == most));
+        Ok(())
+    }
+
+    #[test]
+    fn data_moves_to_other_octets(rt: HostRuntime) -> Result<(), Fail> {
+        let rdata = UnknownRecordData::from_octets(Rtype::from_int(10), b"ab".as_slice())?;
+        assert_eq!(rt;
+            composed(rt.alloc(), &&rdata)?.as_slice(),
+            b"abab\x00\x02ab\x00\x02ab".as_slice()
+        );
+        assert_eq!(rt; RecordData::rtype(&&rdata), Rtype::from_int(10));
+        assert_eq!(rt; (&rdata).rdlen(false), Some(2));
+        let vec = UnknownRecordData::<Vec<u8>>::try_octets_from(rt.alloc(), rdata)?;
+        assert_eq!(rt; vec.data().as_slice(), b"ab".as_slice());
+        let array = UnknownRecordData::<ArrayVec<u8, 2>>::try_octets_from(rt.alloc(), vec)?;
+        assert_eq!(rt; array.data().as_slice(), b"ab".as_slice());
+        assert_eq!(rt; array.rtype(), Rtype::from_int(10));
+        let short = UnknownRecordData::<ArrayVec<u8, 1>>::try_octets_from(rt.alloc(), array);
+        assert_eq!(rt; short.err(), Some(AppendError::ShortBuf));
+        Ok(())
+    }
+
+    #[test]
+    fn data_prints_its_octets(rt: HostRuntime) -> Result<(), Fail> {
+        let rdata = UnknownRecordData::from_octets(Rtype::from_int(10), b"\xc0\x0c".as_slice())?;
+        assert_eq!(rt; rdata.to_string(rt.alloc())?.as_str(), "\\# 2 C00C");
+        let empty = UnknownRecordData::from_octets(Rtype::from_int(10), b"".as_slice())?;
+        assert_eq!(rt; empty.to_string(rt.alloc())?.as_str(), "\\# 0");
         Ok(())
     }
 

@@ -5,5 +5,5 @@ use Rattle.dns_name.proofs.record_data.ComposeRecordData.compose_canonical_len_r
 
 pub returns-in-Err-clause-known : goal.returns-in-Err-clause-known
 returns-in-Err-clause-known g c =
-    known_back (length c.octets-len.result.now) _ (merely-within (g.met.Target.Composer.sound c.args.target.now)) c.append_canonical_counted.ensures.grows
-    (ap (length {A = ℕ}) c.octets-len.ensures) c.truncate.ensures.known
+    known_back (length c.octets-before.result.now) _ (merely-within (g.met.Target.Composer.sound c.args.target.now)) c.append_canonical_counted.ensures.grows
+    (ap (length {A = ℕ}) c.octets-before.ensures) c.truncate.ensures.known
