@@ -1,7 +1,6 @@
 -- Octets in base 16, one after another.
 use Rattle.std.proofs.Common.{◌≡◌, ◌<◌, ◌+◌, ◌/◌, ◌%◌, ℕ, true, false, List, [], ◌∷◌, ◌++◌, length, take, get_or, sym, ◌∙◌, ap}
 use Rattle.std.specs.Prelude.{◌^◌, ◌-◌}
-use Rattle.std.specs.List.{flat_map}
 use Rattle.std.specs.Fmt.{digits, digit_glyph, padded_integral, format_spec}
 use Rattle.std.proofs.lemmas.Fmt.{hex_byte}
 use Rattle.std.proofs.lemmas.List.{take_more, flat_map_more}

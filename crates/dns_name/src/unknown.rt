@@ -240,9 +240,18 @@ mod tests {
         if parser.advance(place).is_err() {
             return None;
         }
-        match Data::parse_rdata(rtype, &mut parser) {
-            Ok(Some(rdata)) => Some((rdata, parser.pos())),
-            _ => None,
+        let rdata: Option<Data> = match ParseRecordData::parse_rdata(rtype, &mut parser) {
+            Ok(found) => found,
+            Err(_) => None,
+        };
+        Some((rdata?, parser.pos()))
+    }
+
+    fn parsed_as_any<'a, Data: ParseAnyRecordData<'a>>(octets: &'a [u8]) -> Option<Data> {
+        let mut parser = Parser::from_ref(octets);
+        match ParseAnyRecordData::parse_any_rdata(Rtype::from_int(10), &mut parser) {
+            Ok(rdata) => Some(rdata),
+            Err(_) => None,
         }
     }
 
@@ -277,6 +286,8 @@ mod tests {
         let most = UnknownRecordData::from_octets(Rtype::from_int(10), &all[1..])?;
         assert_eq!(rt; composed(rt.alloc(), &most)?.len(), 262_144);
         assert!(rt; parsed::<UnknownRecordData<&[u8]>>(Rtype::from_int(10), all, 0).is_none());
+        assert!(rt; parsed_as_any::<UnknownRecordData<&[u8]>>(all).is_none());
+        assert!(rt; matches!(parsed_as_any(&all[1..]), Some(rdata) if most == rdata));
         let found = parsed::<UnknownRecordData<&[u8]>>(Rtype::from_int(10), all, 1);
         assert!(rt; matches!(found, Some((rdata, 65_536)) if rdata == most));
         Ok(())
