@@ -246,7 +246,7 @@ module _ {octets : List ℕ} {between : Option (ℕ × ℕ)} (at : ℕ × ℕ) (
   at_ends = merely-within (subst (λ b. ∥ IsSound one_suffix (remembered octets b) octets ∥₁) is sound) _ first
 
   at_long : 1 < length (slice_range octets at.0 at.1)
-  at_long = stands_at le_prop (λ stands. stands.labelled)
+  at_long = stands_at le_prop (λ stands. stands.longer)
 
   -- where a name has been appended, the remembered one is repeated if it is that name
   repeated : (new : List ℕ) (place : ℕ) (name : List (List ℕ)) → new ≡ octets ++ wire name → place ≡ length octets

@@ -6,7 +6,7 @@ use Rattle.std.proofs.Math.Seq.{take-append-add}
 use mathlib.Core.Logic.{∥∥₁_elim}
 use Rattle.dns_octets.specs.Builder.{Standing, Known, IsWithin, before}
 use Rattle.dns_name.specs.Spelling.{Spelling, added_from, name_text, if_near, known_after}
-use Rattle.dns_name.specs.Remembered.{IsKnown, SpellsSuffix, HasText, StandsIn, IsSound, is_free, patched}
+use Rattle.dns_name.specs.Remembered.{IsKnown, SpellsSuffix, SpellsLabelled, HasText, StandsIn, IsSound, is_free, patched}
 use Rattle.dns_name.specs.Remembered.SpellsSuffix.{root, label, pointer}
 use Rattle.dns_name.proofs.Known.{known-append_left, known-append_cases, known_before, before_known, length-before, free_cases}
 use Rattle.dns_name.proofs.Spelled.{StopsBefore, IsAdded, added_each, added_few, if_near-known, length-if_near}
@@ -33,6 +33,20 @@ spells-kept {place = place} kept (label {behind = behind} text is) =
     label text (spells-kept (λ target known within. kept target known (omega (arith, length-append text behind, within))) is)
 spells-kept kept (pointer target is before same) = pointer target (kept target is (omega arith)) before same
 
+-- so does one that begins with a label
+labelled-kept : {s : Spelling} {known more : Known} {place : ℕ} {text suffix : List ℕ}
+    → ((target : Standing) → IsKnown target known → target.stop ≤ place + length text → IsKnown target more)
+    → SpellsLabelled s known place text suffix → SpellsLabelled s more place text suffix
+labelled-kept {place = place} kept is = record {
+  label = is.label;
+  behind = is.behind;
+  parent = is.parent;
+  text_is = is.text_is;
+  suffix_is = is.suffix_is;
+  spelled = spells-kept (λ target known within. kept target known
+      (omega (arith, ap (length {A = ℕ}) is.text_is, length-append is.label is.behind))) is.spelled;
+}
+
 -- more octets behind
 pub text-append : {octets : List ℕ} {place : ℕ} {text : List ℕ} (tail : List ℕ) → HasText octets place text → HasText (octets ++ tail) place text
 text-append tail there = record {
@@ -54,7 +68,7 @@ IsSound-append tail sound = record {
         there = text-append tail stands.there;
         stops = stands.stops;
         near = stands.near;
-        labelled = stands.labelled;
+        longer = stands.longer;
       };
 }
 
@@ -90,11 +104,11 @@ IsSound-before {s} {known} len sound = record {
       let ends = was.1 in
       record {
         text = stands.text;
-        spelled = spells-kept (λ target there within. before_known len known target there (omega arith)) stands.spelled;
+        spelled = labelled-kept (λ target there within. before_known len known target there (omega arith)) stands.spelled;
         there = text-take len (omega arith) stands.there;
         stops = stands.stops;
         near = stands.near;
-        labelled = stands.labelled;
+        longer = stands.longer;
       };
 }
 
@@ -106,7 +120,7 @@ added_stands : (s : Spelling) (known : Known) (octets : List ℕ) (name : List (
 unfolding known_after
 added_stands s known octets name standing is near = record {
   text = is.behind;
-  spelled = spells-kept (λ target there within. known-append_left _ there) is.spelled;
+  spelled = labelled-kept (λ target there within. known-append_left _ there) is.spelled;
   there = record {
     front = octets ++ is.front;
     back = [];
@@ -116,7 +130,7 @@ added_stands s known octets name standing is near = record {
   };
   stops = omega (arith, ap (length {A = ℕ}) is.whole, length-append is.front is.behind, is.begins, is.stops);
   near = near;
-  labelled = is.labelled;
+  longer = is.longer;
 }
 
 pub IsSound-name : {s : Spelling} {known : Known} {octets : List ℕ} (name : List (List ℕ)) → IsSound s known octets
@@ -141,11 +155,11 @@ IsSound-name {s} {known} {octets} name sound = record {
         let stands = sound.each standing is in
         record {
           text = stands.text;
-          spelled = spells-kept (λ target there within. known-append_left _ there) stands.spelled;
+          spelled = labelled-kept (λ target there within. known-append_left _ there) stands.spelled;
           there = text-append _ stands.there;
           stops = stands.stops;
           near = stands.near;
-          labelled = stands.labelled;
+          longer = stands.longer;
         }
     cases standing (inr is) =
         let both = if_near-known added standing is in
@@ -190,7 +204,7 @@ IsSound-patch {s} {known} {octets} begin over within free sound = record {
         there = text-patch begin over within (ends standing (length stands.text) stands.stops (free_cases begin (begin + length over) known free standing is)) stands.there;
         stops = stands.stops;
         near = stands.near;
-        labelled = stands.labelled;
+        longer = stands.longer;
       };
 }
   where

@@ -6,7 +6,7 @@ use Rattle.std.proofs.lemmas.Bool.{ltb-true, and_parts}
 use Rattle.dns_octets.specs.Builder.{Standing, Known, IsWithin}
 use Rattle.dns_label.specs.Name.{wire}
 use Rattle.dns_name.specs.Spelling.{Spelling, plain, compresses, has_room, is_near, place_in, stands, text_by, text_from, added_by, added_from, name_text, if_near, known_after}
-use Rattle.dns_name.specs.Remembered.{IsKnown, SpellsSuffix}
+use Rattle.dns_name.specs.Remembered.{IsKnown, SpellsSuffix, SpellsLabelled}
 use Rattle.dns_name.specs.Remembered.IsKnown.{first, later}
 use Rattle.dns_name.specs.Remembered.SpellsSuffix.{root, label, pointer}
 use Rattle.dns_name.proofs.Known.{found_in}
@@ -78,9 +78,9 @@ pub record IsAdded (s : Spelling) (known : Known) (place : ℕ) (text : List ℕ
   pub whole : text ≡ front ++ behind
   pub begins : place + length front ≡ standing.place
   pub stops : standing.stop ≡ stop
-  pub spelled : SpellsSuffix s known standing.place behind standing.suffix
+  pub spelled : SpellsLabelled s known standing.place behind standing.suffix
   pub some : 0 < length behind
-  pub labelled : 1 < length standing.suffix
+  pub longer : 1 < length standing.suffix
 
 wire_long : (text : List ℕ) (name : List (List ℕ)) → 1 < length (wire (text ∷ name))
 wire_long text [] = omega (arith, length-append text (0 ∷ []))
@@ -96,34 +96,34 @@ added_behind s known place stop text behind standing is = record {
   stops = is.stops;
   spelled = is.spelled;
   some = is.some;
-  labelled = is.labelled;
+  longer = is.longer;
 }
 
-added_first : (s : Spelling) (known : Known) (place stop : ℕ) (text : List ℕ) (name : List (List ℕ)) (spelling : List ℕ)
-    → SpellsSuffix s known place spelling (wire (text ∷ name)) → 0 < length spelling
-    → IsAdded s known place spelling stop (record { suffix = wire (text ∷ name); place = place; stop = stop })
-added_first s known place stop text name spelling is some = record {
+added_first : (s : Spelling) (known : Known) (place stop : ℕ) (text : List ℕ) (name : List (List ℕ)) (behind : List ℕ)
+    → SpellsSuffix s known (place + 1 + length text) behind (wire name)
+    → IsAdded s known place (length text ∷ text ++ behind) stop (record { suffix = wire (text ∷ name); place = place; stop = stop })
+added_first s known place stop text name behind is = record {
   front = [];
-  behind = spelling;
+  behind = length text ∷ text ++ behind;
   whole = refl;
   begins = omega arith;
   stops = refl;
-  spelled = is;
-  some = some;
-  labelled = wire_long text name;
+  spelled = record { label = text; behind = behind; parent = wire name; text_is = refl; suffix_is = refl; spelled = is };
+  some = omega arith;
+  longer = wire_long text name;
 }
 
 module _ (s : Spelling) (known : Known) (place stop : ℕ) (text : List ℕ) (name : List (List ℕ)) (behind : List ℕ) where
   added_case : (standing : Standing) {added : Known}
-      → SpellsSuffix s known place (length text ∷ text ++ behind) (wire (text ∷ name))
+      → SpellsSuffix s known (place + 1 + length text) behind (wire name)
       → (IsKnown standing added → IsAdded s known (place + 1 + length text) behind stop standing)
       → IsKnown standing (record { suffix = wire (text ∷ name); place = place; stop = stop } ∷ added)
       → IsAdded s known place (length text ∷ text ++ behind) stop standing
-  added_case _ is on first = added_first s known place stop text name (length text ∷ text ++ behind) is (omega arith)
+  added_case _ is on first = added_first s known place stop text name behind is
   added_case standing is on (later there) = added_behind s known place stop text behind standing (on there)
 
   added_with : (standing : Standing) (added : Known) (found : Option ℕ) (there : Bool)
-      → SpellsSuffix s known place (text_by found there (wire (text ∷ name)) (length text ∷ text ++ behind)) (wire (text ∷ name))
+      → SpellsSuffix s known (place + 1 + length text) behind (wire name)
       → (IsKnown standing added → IsAdded s known (place + 1 + length text) behind stop standing)
       → IsKnown standing (added_by found there (record { suffix = wire (text ∷ name); place = place; stop = stop }) added)
       → IsAdded s known place (text_by found there (wire (text ∷ name)) (length text ∷ text ++ behind)) stop standing
@@ -140,7 +140,7 @@ added_each s known count place stop (text ∷ name) before standing is =
     added_with s known place stop text name (text_from s known (count + 1) (place + 1 + length text) name) standing
     (added_from s known (count + 1) (place + 1 + length text) stop name)
     (place_in s known (wire (text ∷ name))) (stands s count place)
-    (spelled_text s known count place (text ∷ name) before)
+    (spelled_text s known (count + 1) (place + 1 + length text) name (λ other there. let e = before other there in omega arith))
     (added_each s known (count + 1) (place + 1 + length text) stop name (λ other there. let e = before other there in omega arith) standing)
     is
 

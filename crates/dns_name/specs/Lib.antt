@@ -12,6 +12,7 @@ pub mod Unknown
 pub mod UnknownText
 pub mod OneSuffix
 pub mod Tried
+pub use Rattle.dns_octets.specs.Builder
 pub use Rattle.dns_octets.specs.Parser
 pub use Rattle.dns_label.specs.Name
 pub use Rattle.dns_label.specs.Spelled

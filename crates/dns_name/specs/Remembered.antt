@@ -23,6 +23,15 @@ pub data SpellsSuffix (s : Spelling) (known : Known) : ℕ → List ℕ → List
       → is_same s target.suffix suffix ≡ true
       → SpellsSuffix s known place (pointer_to target.place) suffix
 
+-- A text spells a suffix that is not the root, and begins with its first label, not with a pointer.
+pub record SpellsLabelled (s : Spelling) (known : Known) (place : ℕ) (text suffix : List ℕ) : Type 0 where
+  pub label : List ℕ
+  pub behind : List ℕ
+  pub parent : List ℕ
+  pub text_is : text ≡ length label ∷ label ++ behind
+  pub suffix_is : suffix ≡ length label ∷ label ++ parent
+  pub spelled : SpellsSuffix s known (place + 1 + length label) behind parent
+
 -- the octets have the text at the place
 pub record HasText (octets : List ℕ) (place : ℕ) (text : List ℕ) : Type 0 where
   pub front : List ℕ
@@ -33,11 +42,11 @@ pub record HasText (octets : List ℕ) (place : ℕ) (text : List ℕ) : Type 0 
 -- a suffix other than the root stands in the octets, where a pointer reaches it
 pub record StandsIn (s : Spelling) (known : Known) (octets : List ℕ) (standing : Standing) : Type 0 where
   pub text : List ℕ
-  pub spelled : SpellsSuffix s known standing.place text standing.suffix
+  pub spelled : SpellsLabelled s known standing.place text standing.suffix
   pub there : HasText octets standing.place text
   pub stops : standing.place + length text ≡ standing.stop
   pub near : standing.place < 16384
-  pub labelled : 1 < length standing.suffix
+  pub longer : 1 < length standing.suffix
 
 -- no more are remembered than may be, and each stands in the octets
 pub record IsSound (s : Spelling) (known : Known) (octets : List ℕ) : Type 0 where

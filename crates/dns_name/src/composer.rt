@@ -26,12 +26,17 @@ pub trait Composer: OctetsBuilder + Truncate {
     /// one, or all labels and the root. Refused with `ShortBuf` only where the target would then hold more octets than
     /// it may, and with `OutOfMemory` where a growth was refused.
     fn append_compressed_name<N: ToName>(&mut self, name: &N) -> Result<(), AppendError>
-        ensures ok { OnOk result (Self.list self.new ≡ Self.list self.old ++ name_text spelling (Self.known self.old) (length (Self.list self.old)) (N.name name.now)) }
-        ensures known { OnOk result (Self.known self.new ≡ known_after spelling (Self.known self.old) (length (Self.list self.old)) (N.name name.now)) }
-        ensures err { OnErr result ((Self.list self.new ≡ Self.list self.old) × (Self.known self.new ≡ Self.known self.old)) }
-        ensures grows { GrowsTo (Self.list self.old) (Self.known self.old) (Self.list self.new) (Self.known self.new) }
+        ensures ok { OnOk result (Self.list self.new ≡ Self.list self.old
+            ++ name_text spelling (Self.known self.old) (length (Self.list self.old)) (N.name name.now)) }
+        ensures known { OnOk result (Self.known self.new
+            ≡ known_after spelling (Self.known self.old) (length (Self.list self.old)) (N.name name.now)) }
+        ensures err { OnErr result ((Self.list self.new ≡ Self.list self.old)
+            × (Self.known self.new ≡ Self.known self.old)) }
+        ensures grows { GrowsTo (Self.list self.old) (Self.known self.old) (Self.list self.new)
+            (Self.known self.new) }
         ensures short { result ≡ Err ShortBuf → IsPast (Self.bound self.old)
-            (length (Self.list self.old ++ name_text spelling (Self.known self.old) (length (Self.list self.old)) (N.name name.now))) }
+            (length (Self.list self.old
+            ++ name_text spelling (Self.known self.old) (length (Self.list self.old)) (N.name name.now))) }
         ensures fits { OnOk result (IsWithin (Self.bound self.old) (length (Self.list self.new))) }
         ensures not_bad { result ≡ Err BadLength → ⊥ }
         ensures same_bound { Self.bound self.new ≡ Self.bound self.old }

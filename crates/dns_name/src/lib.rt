@@ -25,7 +25,10 @@ pub use dns_octets::{
     AppendError, Compose, EmptyBuilder, FormError, FreezeBuilder, FromBuilder, Octets,
     OctetsBuilder, OctetsFrom, Parse, ParseError, Parser, Remembers, ShortInput, Truncate,
 };
-pub use dns_values::{CanonicalOrd, Class, Rtype, Ttl};
+pub use dns_values::{
+    CanonicalOrd, Class, ClassFromStrError, IllegalSignatureTime, Opcode, OptRcode, OptionCode,
+    Rcode, Rtype, RtypeFromStrError, Serial, Ttl,
+};
 pub use label_iter::{LabelIter, ToLabelIter};
 pub use long_record_data::LongRecordData;
 pub use name::{Name, NameError, NameIter};

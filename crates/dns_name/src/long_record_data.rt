@@ -15,7 +15,9 @@ const TEXT: &str = "record data too long";
 impl LongRecordData {
     /// The text of the error.
     pub fn as_str(self) -> &'static str
-        ensures { result.now ≡ 114 ∷ 101 ∷ 99 ∷ 111 ∷ 114 ∷ 100 ∷ 32 ∷ 100 ∷ 97 ∷ 116 ∷ 97 ∷ 32 ∷ 116 ∷ 111 ∷ 111 ∷ 32 ∷ 108 ∷ 111 ∷ 110 ∷ 103 ∷ [] }
+        ensures { result.now
+            ≡ 114 ∷ 101 ∷ 99 ∷ 111 ∷ 114 ∷ 100 ∷ 32 ∷ 100 ∷ 97 ∷ 116 ∷ 97 ∷ 32 ∷ 116 ∷ 111 ∷ 111 ∷ 32 ∷ 108
+            ∷ 111 ∷ 110 ∷ 103 ∷ [] }
     {
         TEXT
     }

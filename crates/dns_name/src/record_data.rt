@@ -44,10 +44,13 @@ pub trait ComposeRecordData: RecordData {
     fn compose_rdata<Target: Composer>(&self, target: &mut Target) -> Result<(), AppendError>
         ensures ok { OnOk result (page_of (Target.list target.new) (Target.known target.new)
             ≡ write Target.spelling (page_of (Target.list target.old) (Target.known target.old)) (parts self.now)) }
-        ensures err { OnErr result ((Target.list target.new ≡ Target.list target.old) × (Target.known target.new ≡ Target.known target.old)) }
-        ensures grows { GrowsTo (Target.list target.old) (Target.known target.old) (Target.list target.new) (Target.known target.new) }
+        ensures err { OnErr result ((Target.list target.new ≡ Target.list target.old)
+            × (Target.known target.new ≡ Target.known target.old)) }
+        ensures grows { GrowsTo (Target.list target.old) (Target.known target.old) (Target.list target.new)
+            (Target.known target.new) }
         ensures short { result ≡ Err ShortBuf → IsPast (Target.bound target.old)
-            (length (write Target.spelling (page_of (Target.list target.old) (Target.known target.old)) (parts self.now)).octets) }
+            (length (write Target.spelling (page_of (Target.list target.old) (Target.known target.old))
+            (parts self.now)).octets) }
         ensures not_bad { result ≡ Err BadLength → ⊥ }
         ensures same_bound { Target.bound target.new ≡ Target.bound target.old }
         ensures stays { Target.stays target.old target.new };
@@ -60,26 +63,33 @@ pub trait ComposeRecordData: RecordData {
         ensures ok { OnOk result (Target.list target.new ≡ Target.list target.old ++ canonical_octets self.now) }
         ensures err { OnErr result (Target.list target.new ≡ Target.list target.old) }
         ensures known { Target.known target.new ≡ Target.known target.old }
-        ensures short { result ≡ Err ShortBuf → IsPast (Target.bound target.old) (length (Target.list target.old ++ canonical_octets self.now)) }
+        ensures short { result ≡ Err ShortBuf
+            → IsPast (Target.bound target.old) (length (Target.list target.old ++ canonical_octets self.now)) }
         ensures not_bad { result ≡ Err BadLength → ⊥ }
         ensures same_bound { Target.bound target.new ≡ Target.bound target.old }
         ensures stays { Target.stays target.old target.new };
 
     /// Appends the data behind two octets that count it, all or nothing. Refused as `compose_rdata` is, and with
-    /// `BadLength` exactly where more than 65,535 octets would have to be counted.
+    /// `BadLength` only where more than 65,535 octets would have to be counted.
     final fn compose_len_rdata<Target: Composer>(
         &self,
         target: &mut Target,
     ) -> Result<(), AppendError>
         ensures ok { OnOk result (page_of (Target.list target.new) (Target.known target.new)
-            ≡ write Target.spelling (page_of (Target.list target.old) (Target.known target.old)) (Counted (parts self.now) End)) }
-        ensures counts { OnOk result (counted_length Target.spelling (page_of (Target.list target.old) (Target.known target.old)) (parts self.now) ≤ 65535) }
-        ensures err { OnErr result ((Target.list target.new ≡ Target.list target.old) × (Target.known target.new ≡ Target.known target.old)) }
-        ensures grows { GrowsTo (Target.list target.old) (Target.known target.old) (Target.list target.new) (Target.known target.new) }
+            ≡ write Target.spelling (page_of (Target.list target.old) (Target.known target.old))
+            (Counted (parts self.now) End)) }
+        ensures counts { OnOk result (counted_length Target.spelling (page_of (Target.list target.old)
+            (Target.known target.old)) (parts self.now) ≤ 65535) }
+        ensures err { OnErr result ((Target.list target.new ≡ Target.list target.old)
+            × (Target.known target.new ≡ Target.known target.old)) }
+        ensures grows { GrowsTo (Target.list target.old) (Target.known target.old) (Target.list target.new)
+            (Target.known target.new) }
         ensures short { result ≡ Err ShortBuf → IsPast (Target.bound target.old)
-            (length (write Target.spelling (page_of (Target.list target.old) (Target.known target.old)) (Counted (parts self.now) End)).octets) }
+            (length (write Target.spelling (page_of (Target.list target.old) (Target.known target.old))
+            (Counted (parts self.now) End)).octets) }
         ensures bad { result ≡ Err BadLength
-            → 65535 < counted_length Target.spelling (page_of (Target.list target.old) (Target.known target.old)) (parts self.now) }
+            → 65535 < counted_length Target.spelling (page_of (Target.list target.old)
+            (Target.known target.old)) (parts self.now) }
         ensures same_bound { Target.bound target.new ≡ Target.bound target.old }
         ensures stays { Target.stays target.old target.new }
     {
@@ -100,7 +110,8 @@ pub trait ComposeRecordData: RecordData {
         target: &mut Target,
     ) -> Result<(), AppendError>
         ensures ok { OnOk result (Target.list target.new
-            ≡ Target.list target.old ++ (to_be_bytes w16 (length (canonical_octets self.now)) ++ canonical_octets self.now)) }
+            ≡ Target.list target.old ++ (to_be_bytes w16 (length (canonical_octets self.now))
+            ++ canonical_octets self.now)) }
         ensures counts { OnOk result (length (canonical_octets self.now) ≤ 65535) }
         ensures err { OnErr result (Target.list target.new ≡ Target.list target.old) }
         ensures known { Target.known target.new ≡ Target.known target.old }
@@ -134,12 +145,14 @@ pub trait ParseRecordData<'a>: RecordData + Sized {
     /// stays where it is. Refused where what is left is no data of the type; the parser then stays there too.
     fn parse_rdata(rtype: Rtype, parser: &mut Parser<'a>) -> Result<Option<Self>, ParseError>
         ensures taken { IfOk result (λ found. is_some found ≡ takes rtype) }
-        ensures ok { IfOk result (λ found. IfSome found (λ rdata. reads (octets_of parser.old) (place_of parser.old) rtype rdata)) }
+        ensures ok { IfOk result (λ found. IfSome found (λ rdata. reads (octets_of parser.old)
+            (place_of parser.old) rtype rdata)) }
         ensures of_type { IfOk result (λ found. IfSome found (λ rdata. Self.rtype rdata ≡ rtype)) }
         ensures end { IfOk result (λ found. OnSome found (IsAtEnd parser.old parser.new)) }
         ensures none { IfOk result (λ found. takes rtype ≡ false → parser.new ≡ parser.old) }
         ensures refused { OnErr result (takes rtype ≡ true) }
-        ensures no_data { OnErr result ((rdata : Self) → reads (octets_of parser.old) (place_of parser.old) rtype rdata → ⊥) }
+        ensures no_data { OnErr result ((rdata : Self)
+            → reads (octets_of parser.old) (place_of parser.old) rtype rdata → ⊥) }
         ensures err { OnErr result (parser.new ≡ parser.old) };
 }
 
@@ -153,6 +166,7 @@ pub trait ParseAnyRecordData<'a>: RecordData + Sized {
         ensures ok { IfOk result (λ rdata. reads_any (octets_of parser.old) (place_of parser.old) rtype rdata) }
         ensures of_type { IfOk result (λ rdata. Self.rtype rdata ≡ rtype) }
         ensures end { OnOk result (IsAtEnd parser.old parser.new) }
-        ensures no_data { OnErr result ((rdata : Self) → reads_any (octets_of parser.old) (place_of parser.old) rtype rdata → ⊥) }
+        ensures no_data { OnErr result ((rdata : Self)
+            → reads_any (octets_of parser.old) (place_of parser.old) rtype rdata → ⊥) }
         ensures err { OnErr result (parser.new ≡ parser.old) };
 }

@@ -17,7 +17,8 @@ pub fn append_in_full<T: Truncate, N: ToName>(target: &mut T, name: &N) -> Resul
     ensures err { OnErr result (T.list target.new ≡ T.list target.old) }
     ensures known { T.known target.new ≡ [] }
     ensures grows { GrowsTo (T.list target.old) [] (T.list target.new) [] }
-    ensures short { result ≡ Err ShortBuf → IsPast (T.bound target.old) (length (T.list target.old ++ wire (N.name name.now))) }
+    ensures short { result ≡ Err ShortBuf → IsPast (T.bound target.old) (length (T.list target.old
+        ++ wire (N.name name.now))) }
     ensures fits { OnOk result (IsWithin (T.bound target.old) (length (T.list target.new))) }
     ensures not_bad { result ≡ Err BadLength → ⊥ }
     ensures same_bound { T.bound target.new ≡ T.bound target.old }
@@ -38,7 +39,8 @@ fn append_labels<T: OctetsBuilder, N: ToName>(target: &mut T, name: &N) -> Resul
     ensures ok { OnOk result (T.list target.new ≡ T.list target.old ++ wire (N.name name.now)) }
     ensures known { T.known target.new ≡ T.known target.old }
     ensures grows { GrowsTo (T.list target.old) (T.known target.old) (T.list target.new) (T.known target.new) }
-    ensures short { result ≡ Err ShortBuf → IsPast (T.bound target.old) (length (T.list target.old ++ wire (N.name name.now))) }
+    ensures short { result ≡ Err ShortBuf → IsPast (T.bound target.old) (length (T.list target.old
+        ++ wire (N.name name.now))) }
     ensures fits { OnOk result (IsWithin (T.bound target.old) (length (T.list target.new))) }
     ensures not_bad { result ≡ Err BadLength → ⊥ }
     ensures same_bound { T.bound target.new ≡ T.bound target.old }
@@ -52,10 +54,12 @@ fn append_labels<T: OctetsBuilder, N: ToName>(target: &mut T, name: &N) -> Resul
 
 /// Appends the label behind its length, or its length alone where there is room for that alone.
 fn append_label<T: OctetsBuilder>(target: &mut T, label: &Label<'_>) -> Result<(), AppendError>
-    ensures ok { OnOk result (T.list target.new ≡ T.list target.old ++ length (octets_of label.now) ∷ octets_of label.now) }
+    ensures ok { OnOk result (T.list target.new ≡ T.list target.old
+        ++ length (octets_of label.now) ∷ octets_of label.now) }
     ensures known { T.known target.new ≡ T.known target.old }
     ensures grows { GrowsTo (T.list target.old) (T.known target.old) (T.list target.new) (T.known target.new) }
-    ensures short { result ≡ Err ShortBuf → IsPast (T.bound target.old) (length (T.list target.old ++ length (octets_of label.now) ∷ octets_of label.now)) }
+    ensures short { result ≡ Err ShortBuf → IsPast (T.bound target.old) (length (T.list target.old
+        ++ length (octets_of label.now) ∷ octets_of label.now)) }
     ensures fits { OnOk result (IsWithin (T.bound target.old) (length (T.list target.new))) }
     ensures not_bad { result ≡ Err BadLength → ⊥ }
     ensures same_bound { T.bound target.new ≡ T.bound target.old }

@@ -18,13 +18,18 @@ pub fn append_counted<Data: ComposeRecordData, Target: Composer>(
     target: &mut Target,
 ) -> Result<(), AppendError>
     ensures ok { OnOk result (page_of (Target.list target.new) (Target.known target.new)
-        ≡ write Target.spelling (page_of (Target.list target.old) (Target.known target.old)) (Counted (Data.parts rdata.now) End)) }
-    ensures counts { OnOk result (counted_length Target.spelling (page_of (Target.list target.old) (Target.known target.old)) (Data.parts rdata.now) ≤ 65535) }
-    ensures grows { GrowsTo (Target.list target.old) (Target.known target.old) (Target.list target.new) (Target.known target.new) }
+        ≡ write Target.spelling (page_of (Target.list target.old) (Target.known target.old))
+        (Counted (Data.parts rdata.now) End)) }
+    ensures counts { OnOk result (counted_length Target.spelling (page_of (Target.list target.old)
+        (Target.known target.old)) (Data.parts rdata.now) ≤ 65535) }
+    ensures grows { GrowsTo (Target.list target.old) (Target.known target.old) (Target.list target.new)
+        (Target.known target.new) }
     ensures short { result ≡ Err ShortBuf → IsPast (Target.bound target.old)
-        (length (write Target.spelling (page_of (Target.list target.old) (Target.known target.old)) (Counted (Data.parts rdata.now) End)).octets) }
+        (length (write Target.spelling (page_of (Target.list target.old) (Target.known target.old))
+        (Counted (Data.parts rdata.now) End)).octets) }
     ensures bad { result ≡ Err BadLength
-        → 65535 < counted_length Target.spelling (page_of (Target.list target.old) (Target.known target.old)) (Data.parts rdata.now) }
+        → 65535 < counted_length Target.spelling (page_of (Target.list target.old)
+        (Target.known target.old)) (Data.parts rdata.now) }
     ensures same_bound { Target.bound target.new ≡ Target.bound target.old }
     ensures stays { Target.stays target.old target.new }
 {
@@ -41,10 +46,12 @@ pub fn append_canonical_counted<Data: ComposeRecordData, Target: Composer>(
     target: &mut Target,
 ) -> Result<(), AppendError>
     ensures ok { OnOk result (Target.list target.new
-        ≡ Target.list target.old ++ (to_be_bytes w16 (length (Data.canonical_octets rdata.now)) ++ Data.canonical_octets rdata.now)) }
+        ≡ Target.list target.old ++ (to_be_bytes w16 (length (Data.canonical_octets rdata.now))
+        ++ Data.canonical_octets rdata.now)) }
     ensures counts { OnOk result (length (Data.canonical_octets rdata.now) ≤ 65535) }
     ensures known { Target.known target.new ≡ Target.known target.old }
-    ensures grows { GrowsTo (Target.list target.old) (Target.known target.old) (Target.list target.new) (Target.known target.new) }
+    ensures grows { GrowsTo (Target.list target.old) (Target.known target.old) (Target.list target.new)
+        (Target.known target.new) }
     ensures short { result ≡ Err ShortBuf → IsPast (Target.bound target.old)
         (length (Target.list target.old) + 2 + length (Data.canonical_octets rdata.now)) }
     ensures bad { result ≡ Err BadLength → 65535 < length (Data.canonical_octets rdata.now) }
@@ -62,7 +69,8 @@ pub fn append_canonical_counted<Data: ComposeRecordData, Target: Composer>(
 fn count_behind<Target: Composer>(target: &mut Target, place: usize) -> Result<(), AppendError>
     requires within { place + 2 ≤ length (Target.list target.old) }
     requires free { is_free place (place + 2) (Target.known target.old) ≡ true }
-    ensures ok { OnOk result (Target.list target.new ≡ (with_count place (page_of (Target.list target.old) (Target.known target.old))).octets) }
+    ensures ok { OnOk result (Target.list target.new
+        ≡ (with_count place (page_of (Target.list target.old) (Target.known target.old))).octets) }
     ensures err { OnErr result (Target.list target.new ≡ Target.list target.old) }
     ensures known { Target.known target.new ≡ Target.known target.old }
     ensures counts { IsOk result ↔ (length (Target.list target.old) - (place + 2) ≤ 65535) }

@@ -98,8 +98,12 @@ fn append_name<N: ToName>(
     name: &N,
 ) -> Result<Option<(usize, usize)>, AppendError>
     requires { ∥ IsSound one_suffix (remembered octets.old.items between) octets.old.items ∥₁ }
-    ensures ok { IfOk result (λ after. octets.new.items ≡ octets.old.items ++ name_text one_suffix (remembered octets.old.items between) (length octets.old.items) (N.name name.now)) }
-    ensures known { IfOk result (λ after. remembered octets.new.items after ≡ known_after one_suffix (remembered octets.old.items between) (length octets.old.items) (N.name name.now)) }
+    ensures ok { IfOk result (λ after. octets.new.items ≡ octets.old.items
+        ++ name_text one_suffix (remembered octets.old.items between) (length octets.old.items)
+        (N.name name.now)) }
+    ensures known { IfOk result (λ after. remembered octets.new.items after
+        ≡ known_after one_suffix (remembered octets.old.items between) (length octets.old.items)
+        (N.name name.now)) }
     ensures err { OnErr result (octets.new.items ≡ octets.old.items) }
     ensures grows { GrowsTo octets.old.items [] octets.new.items [] }
     ensures short { result ≡ Err ShortBuf → ⊥ }
