@@ -27,3 +27,11 @@ pub mod FlatForms
 pub mod RelativeForms
 pub mod PartForms
 pub mod NameParts
+pub mod Known
+pub mod Spelled
+pub mod Soundness
+pub mod Growth
+pub mod Appending
+pub mod HexText
+pub mod OneSuffixLemmas
+pub mod WrittenParts

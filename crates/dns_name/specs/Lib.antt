@@ -13,6 +13,14 @@ pub mod Suffix
 pub mod Suffixes
 pub mod Text
 pub mod Draft
+pub mod Spelling
+pub mod Remembered
+pub mod RecordData
+pub mod Unknown
+pub mod UnknownText
+pub mod OneSuffix
+pub mod Tried
+pub use Rattle.dns_octets.specs.Builder
 pub use Rattle.dns_octets.specs.Parser
 pub use Rattle.dns_label.specs.Name
 pub use Rattle.dns_label.specs.Spelled
@@ -30,3 +38,4 @@ pub use Rattle.dns_label.specs.Digit
 pub mod Built
 pub mod DigitLabels
 pub mod Reverse
+pub mod WrittenParts

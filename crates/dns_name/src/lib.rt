@@ -6,13 +6,16 @@
 
 mod builder;
 mod compare;
+mod composer;
 mod copies;
 mod label_iter;
 pub mod laws;
+mod long_record_data;
 mod name;
 mod name_iter;
 mod parsed;
 mod parsed_iter;
+mod record_data;
 mod relative;
 mod reverse;
 mod root;
@@ -21,10 +24,12 @@ mod skip;
 mod tests;
 mod text;
 mod to_name;
+mod unknown;
 mod walk;
 mod wire_form;
 
 pub use builder::{NameBuilder, PushError, PushNameError};
+pub use composer::Composer;
 pub use dns_label::{
     BadSymbol, Label, LabelTypeError, LongLabelError, SplitLabelError, Symbol, SymbolCharsError,
     Symbols,
@@ -34,12 +39,18 @@ pub use dns_octets::{
     OctetsBuilder, OctetsFrom, Parse, ParseError, Parser, Remembers, ShortInput, Truncate,
     WriteOctets,
 };
-pub use dns_values::{CanonicalOrd, Class, Rtype, Serial, Ttl};
+pub use dns_values::{
+    CanonicalOrd, Class, ClassFromStrError, IllegalSignatureTime, Opcode, OptRcode, OptionCode,
+    Rcode, Rtype, RtypeFromStrError, Serial, Ttl,
+};
 pub use label_iter::{LabelIter, ToLabelIter};
+pub use long_record_data::LongRecordData;
 pub use name::{Name, NameError};
 pub use name_iter::NameIter;
 pub use parsed::{ParsedName, ParsedSuffixIter};
 pub use parsed_iter::ParsedNameIter;
+pub use record_data::{ComposeRecordData, ParseAnyRecordData, ParseRecordData, RecordData};
 pub use relative::{RelativeName, RelativeNameError, StripSuffixError};
 pub use text::{FromStrError, PresentationError};
 pub use to_name::ToName;
+pub use unknown::UnknownRecordData;

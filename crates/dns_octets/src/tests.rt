@@ -88,6 +88,31 @@ fn octets_of_targets(rt: HostRuntime) -> Result<(), Fail> {
     Ok(())
 }
 
+/// The octets appended to an empty target, which are then taken out of it.
+fn collected<Octs: FromBuilder>(alloc: Global, octets: &[u8]) -> Result<Octs, AppendError>
+where
+    Octs::Builder: EmptyBuilder + Drop,
+{
+    let mut builder: Octs::Builder = EmptyBuilder::empty(alloc);
+    builder.append_slice(octets)?;
+    Ok(FromBuilder::from_builder(builder))
+}
+
+#[test]
+fn octets_are_collected(rt: HostRuntime) -> Result<(), Fail> {
+    let vec: Vec<u8> = collected(rt.alloc(), &[1, 2, 3])?;
+    assert_eq!(rt; vec.as_slice(), [1u8, 2, 3].as_slice());
+    let array: ArrayVec<u8, 3> = collected(rt.alloc(), &[1, 2, 3])?;
+    assert_eq!(rt; array.as_slice(), [1u8, 2, 3].as_slice());
+    let short: Result<ArrayVec<u8, 2>, AppendError> = collected(rt.alloc(), &[1, 2, 3]);
+    assert_eq!(rt; short.err(), Some(AppendError::ShortBuf));
+    let room: Result<ArrayVec<u8, 2>, AppendError> = EmptyBuilder::with_capacity(rt.alloc(), 3);
+    assert_eq!(rt; room.err(), Some(AppendError::ShortBuf));
+    let same: Vec<u8> = OctetsFrom::try_octets_from(rt.alloc(), array.as_slice())?;
+    assert_eq!(rt; same.as_slice(), [1u8, 2, 3].as_slice());
+    Ok(())
+}
+
 #[test]
 fn octets_from_octets(rt: HostRuntime) -> Result<(), Fail> {
     let octets = [1u8, 2, 3];
@@ -209,6 +234,26 @@ fn parses_octets_and_addresses(rt: HostRuntime) {
         Some(Ipv6Addr::new(0xFFFE, 1, 0x203, 0x405, 0, 0, 0, 1))
     );
     assert_eq!(rt; parsed::<u64>(&octets[9..]), None);
+}
+
+#[test]
+fn reads_one_after_another(rt: HostRuntime) {
+    let octets = [1u8, 2, 3, 4, 5, 6, 7, 8, 9];
+    let mut parser = Parser::from_ref(&octets);
+    assert_eq!(rt; parser.peek(2), Ok([1u8, 2].as_slice()));
+    assert_eq!(rt; parser.peek(10), Err(ShortInput));
+    assert_eq!(rt; parser.parse_u8(), Ok(1));
+    assert_eq!(rt; parser.parse_u16_be(), Ok(0x0203));
+    assert_eq!(rt; parser.parse_u32_be(), Ok(0x04050607));
+    assert_eq!(rt; parser.parse_u32_be(), Err(ShortInput));
+    assert_eq!(rt; parser.pos(), 7);
+    assert_eq!(rt; parser.parse_octets(2), Ok([8u8, 9].as_slice()));
+    assert_eq!(rt; parser.parse_octets(1), Err(ShortInput));
+    assert_eq!(rt; parser.parse_u8(), Err(ShortInput));
+    assert_eq!(rt; parser.seek(8), Ok(()));
+    assert_eq!(rt; parser.parse_u16_be(), Err(ShortInput));
+    assert_eq!(rt; Parse::parse(&mut parser), Ok(9u8));
+    assert_eq!(rt; parser.remaining(), 0);
 }
 
 #[test]

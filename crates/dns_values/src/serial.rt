@@ -179,6 +179,12 @@ mod tests {
             Ordering::Greater
         );
         assert!(rt; Serial(1).canonical_lt(&Serial(4_294_967_295)));
+        assert!(rt; Serial(1).canonical_le(&Serial(1)));
+        assert!(rt; !Serial(2).canonical_le(&Serial(1)));
+        assert!(rt; Serial(2).canonical_gt(&Serial(1)));
+        assert!(rt; !Serial(1).canonical_gt(&Serial(1)));
+        assert!(rt; Serial(1).canonical_ge(&Serial(1)));
+        assert!(rt; !Serial(1).canonical_ge(&Serial(2)));
     }
 
     #[test]

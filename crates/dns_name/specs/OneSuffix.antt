@@ -1,0 +1,22 @@
+-- A spelling that the tests try: one suffix is remembered, octet for octet.
+use Rattle.std.specs.Prelude.{ℕ, false, Option, Some, None, List, [], ◌∷◌, ◌&&◌, ◌-◌, slice_range, nat_le, nat_lt, if◌then◌else◌}
+use Rattle.dns_octets.specs.Builder.{Known}
+use Rattle.dns_name.specs.Spelling.{Spelling}
+
+abbrev pub one_suffix : Spelling
+one_suffix = record { folds = false; most = Some 1; far = false }
+
+-- what is remembered, if anything: the name that stands in full between two places
+abbrev pub remembered : List ℕ → Option (ℕ × ℕ) → Known
+remembered octets None = []
+remembered octets (Some between) =
+    record { suffix = slice_range octets between.0 between.1; place = between.0; stop = between.1 } ∷ []
+
+-- what stands in the octets when they are cut to a length
+abbrev pub within : ℕ → Option (ℕ × ℕ) → Option (ℕ × ℕ)
+within len None = None
+within len (Some between) = if nat_le between.1 len then Some between else None
+
+-- a name between two places, unless it is the root or no pointer reaches it
+abbrev pub standing_at : ℕ → ℕ → Option (ℕ × ℕ)
+standing_at place stop = if (nat_lt place 16384 && nat_lt 1 (stop - place)) then Some (place, stop) else None

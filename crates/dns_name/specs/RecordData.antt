@@ -1,0 +1,24 @@
+-- What record data is written as (RFC 1035 3.2.1), and how long it is.
+use Rattle.std.specs.Prelude.{◌≡◌, ◌+◌, ◌-◌, ℕ, Bool, false, List, [], ◌∷◌, length}
+use Rattle.dns_octets.specs.Builder.{Known}
+use Rattle.dns_octets.specs.Parser.{octets_of, place_of}
+use Rattle.dns_octets.specs.declared.parser.Parser.{Parser}
+use Rattle.dns_name.specs.Spelling.{Spelling, compresses}
+use Rattle.dns_name.specs.WrittenParts.{Page, Parts, with_octets, write}
+
+abbrev pub page_of : List ℕ → Known → Page
+page_of octets known = record { octets = octets; known = known }
+
+-- the parts take so many octets on every page; or, without pointers, on every one where names are written in full
+pub record IsComposedLength (compress : Bool) (parts : Parts) (len : ℕ) : Type 0 where
+  pub composed : (s : Spelling) (page : Page) → (compress ≡ false → (compresses s ≡ false) × (page.known ≡ []))
+      → length (write s page parts).octets ≡ length page.octets + len
+
+-- how many octets the parts take behind their length
+abbrev pub counted_length : Spelling → Page → Parts → ℕ
+counted_length s page parts = length (write s (with_octets page (0 ∷ 0 ∷ [])) parts).octets - (length page.octets + 2)
+
+-- the parser stands behind the last of the same octets
+pub record IsAtEnd (old new : Parser) : Type 0 where
+  pub octets : octets_of new ≡ octets_of old
+  pub place : place_of new ≡ length (octets_of old)

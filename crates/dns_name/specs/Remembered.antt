@@ -1,0 +1,71 @@
+-- What is remembered is there: each suffix is spelled where it is said to stand.
+use Rattle.std.specs.Prelude.{◌≡◌, ◌≤◌, ◌<◌, ◌+◌, ℕ, Bool, true, Option, Some, None, if◌then◌else◌, List, [], ◌∷◌, ◌++◌, length, take, drop, nat_le}
+use Rattle.std.specs.List.{list_all}
+use Rattle.std.proofs.Common.{arith}
+use Rattle.dns_octets.specs.Builder.{Standing, Known, IsWithin}
+use Rattle.dns_name.specs.Spelling.{Spelling, is_same, pointer_to}
+
+-- it is one of those that are remembered
+pub data IsKnown (standing : Standing) : Known → Type 0 where
+  first : {known : Known} → IsKnown standing (standing ∷ known)
+  later : {other : Standing} {known : Known} → IsKnown standing known → IsKnown standing (other ∷ known)
+
+-- A text at a place spells a suffix: its labels one by one up to the root, or up to a pointer to a remembered suffix that
+-- is the same as what is left, and that stops in front of the pointer.
+pub data SpellsSuffix (s : Spelling) (known : Known) : ℕ → List ℕ → List ℕ → Type 0 where
+  root : {place : ℕ} → SpellsSuffix s known place (0 ∷ []) (0 ∷ [])
+  label : {place : ℕ} {behind parent : List ℕ} (text : List ℕ)
+      → SpellsSuffix s known (place + 1 + length text) behind parent
+      → SpellsSuffix s known place (length text ∷ text ++ behind) (length text ∷ text ++ parent)
+  pointer : {place : ℕ} {suffix : List ℕ} (target : Standing)
+      → IsKnown target known
+      → target.stop ≤ place
+      → is_same s target.suffix suffix ≡ true
+      → SpellsSuffix s known place (pointer_to target.place) suffix
+
+-- A text spells a suffix that is not the root, and begins with its first label, not with a pointer.
+pub record SpellsLabelled (s : Spelling) (known : Known) (place : ℕ) (text suffix : List ℕ) : Type 0 where
+  pub label : List ℕ
+  pub behind : List ℕ
+  pub parent : List ℕ
+  pub text_is : text ≡ length label ∷ label ++ behind
+  pub suffix_is : suffix ≡ length label ∷ label ++ parent
+  pub spelled : SpellsSuffix s known (place + 1 + length label) behind parent
+
+-- the octets have the text at the place
+pub record HasText (octets : List ℕ) (place : ℕ) (text : List ℕ) : Type 0 where
+  pub front : List ℕ
+  pub back : List ℕ
+  pub whole : octets ≡ front ++ (text ++ back)
+  pub begins : length front ≡ place
+
+-- a suffix other than the root stands in the octets, where a pointer reaches it
+pub record StandsIn (s : Spelling) (known : Known) (octets : List ℕ) (standing : Standing) : Type 0 where
+  pub text : List ℕ
+  pub spelled : SpellsLabelled s known standing.place text standing.suffix
+  pub there : HasText octets standing.place text
+  pub stops : standing.place + length text ≡ standing.stop
+  pub near : standing.place < 16384
+  pub longer : 1 < length standing.suffix
+
+-- no more are remembered than may be, and each stands in the octets
+pub record IsSound (s : Spelling) (known : Known) (octets : List ℕ) : Type 0 where
+  pub few : IsWithin s.most (length known)
+  pub each : (standing : Standing) → IsKnown standing known → StandsIn s known octets standing
+
+-- so it is of a target that remembers nothing
+pub sound_none : (s : Spelling) (octets : List ℕ) → IsSound s [] octets
+sound_none s octets = record { few = none s.most; each = λ standing is. elim is [ ] }
+  where
+    none : (most : Option ℕ) → IsWithin most 0
+    none None = tt
+    none (Some most) = Prim.omega arith
+
+-- no remembered suffix is spelled between the two places
+abbrev pub is_free : ℕ → ℕ → Known → Bool
+is_free begin end known =
+    list_all (λ standing. if nat_le standing.stop begin then true else nat_le end standing.place) known
+
+-- the octets with others written over them from a place on
+abbrev pub patched : List ℕ → ℕ → List ℕ → List ℕ
+patched octets place over = take place octets ++ (over ++ drop (place + length over) octets)

@@ -1,0 +1,98 @@
+//! How long the data of a record may be.
+ghost use Rattle.std.specs.Prelude.{◌≡◌, ◌≤◌, ◌+◌, ◌↔◌, ◌∷◌, [], sum, IsOk, ◌≢◌};
+ghost use Rattle.dns_octets.specs.declared.error.ParseError.TheVariants.{ShortInput};
+
+use dns_octets::ParseError;
+use thiserror::Error;
+
+/// The data of a record is longer than the 65,535 octets that its length can count (RFC 1035 3.2.1).
+#[derive(Clone, Copy, Debug, PartialEq, Eq, Error)]
+#[error("record data too long")]
+pub struct LongRecordData;
+
+const TEXT: &str = "record data too long";
+
+impl LongRecordData {
+    /// The text of the error.
+    pub fn as_str(self) -> &'static str
+        ensures { result.now
+            ≡ 114 ∷ 101 ∷ 99 ∷ 111 ∷ 114 ∷ 100 ∷ 32 ∷ 100 ∷ 97 ∷ 116 ∷ 97 ∷ 32 ∷ 116 ∷ 111 ∷ 111 ∷ 32 ∷ 108
+            ∷ 111 ∷ 110 ∷ 103 ∷ [] }
+    {
+        TEXT
+    }
+
+    /// Refuses a length past 65,535.
+    pub fn check_len(len: usize) -> Result<(), LongRecordData>
+        ensures { IsOk result ↔ (len ≤ 65535) }
+    {
+        if len > 65535 {
+            Err(LongRecordData)
+        } else {
+            Ok(())
+        }
+    }
+
+    /// Refuses a length that goes past 65,535 with the further octets.
+    pub fn check_append_len(len: usize, extra_len: usize) -> Result<(), LongRecordData>
+        ensures { IsOk result ↔ (len + extra_len ≤ 65535) }
+    {
+        LongRecordData::check_len(len)?;
+        LongRecordData::check_len(extra_len)?;
+        LongRecordData::check_len(len + extra_len)
+    }
+
+    /// Refuses lengths that go past 65,535 together.
+    pub fn check_multi_len<const N: usize>(lens: &[usize; N]) -> Result<(), LongRecordData>
+        ensures { IsOk result ↔ (sum lens.now ≤ 65535) }
+    {
+        let mut total = 0;
+        for len in lens.iter() {
+            LongRecordData::check_append_len(total, *len)?;
+            total += *len;
+        }
+        Ok(())
+    }
+}
+
+impl From<LongRecordData> for ParseError {
+    ghost from_gives = { λ _ error. error ≢ ShortInput };
+
+    fn from(error: LongRecordData) -> ParseError {
+        ParseError::form_error(error.as_str())
+    }
+}
+
+#[cfg(test)]
+mod tests {
+    use super::*;
+    use std::test::Fail;
+
+    #[test]
+    fn data_has_at_most_65535_octets(rt: HostRuntime) -> Result<(), Fail> {
+        assert_eq!(rt; LongRecordData::check_len(65_535), Ok(()));
+        assert_eq!(rt; LongRecordData::check_len(65_536), Err(LongRecordData));
+        assert_eq!(rt; LongRecordData::check_append_len(65_530, 5), Ok(()));
+        assert_eq!(rt;
+            LongRecordData::check_append_len(usize::MAX, usize::MAX),
+            Err(LongRecordData)
+        );
+        assert_eq!(rt; LongRecordData::check_multi_len(&[65_533, 1, 1]), Ok(()));
+        assert_eq!(rt;
+            LongRecordData::check_multi_len(&[65_533, 1, 2]),
+            Err(LongRecordData)
+        );
+        assert_eq!(rt; LongRecordData.as_str(), "record data too long");
+        assert_eq!(rt;
+            LongRecordData.to_string(rt.alloc())?.as_str(),
+            "record data too long"
+        );
+        assert_eq!(rt;
+            ParseError::from(LongRecordData)
+                .to_string(rt.alloc())?
+                .as_str(),
+            "record data too long"
+        );
+        Ok(())
+    }
+}

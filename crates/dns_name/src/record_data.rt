@@ -1,0 +1,172 @@
+//! The data of records (RFC 1035 3.2.1): what all types of it have in common.
+ghost use Rattle.std.specs.Prelude.{◌≡◌, ◌≤◌, ◌<◌, ◌+◌, ◌++◌, ℕ, Bool, true, false, List, Err, length, is_some, IfOk, IfSome, OnSome, OnOk, OnErr};
+ghost use Rattle.std.specs.Int.{to_be_bytes, w16};
+ghost use Rattle.dns_octets.specs.Builder.{GrowsTo, IsWithin, IsPast};
+ghost use Rattle.dns_octets.specs.Parser.{octets_of, place_of};
+ghost use Rattle.dns_octets.specs.declared.error.AppendError.TheVariants.{ShortBuf, BadLength};
+ghost use Rattle.dns_name.specs.WrittenParts.{Parts, write};
+ghost use Rattle.dns_name.specs.WrittenParts.Parts.{End, Counted};
+ghost use Rattle.dns_name.specs.RecordData.{page_of, counted_length, IsComposedLength, IsAtEnd};
+
+mod counted;
+mod reference;
+
+use crate::Composer;
+use counted::{append_canonical_counted, append_counted};
+use dns_octets::{AppendError, ParseError, Parser};
+use dns_values::Rtype;
+
+/// Data of a record, which has a type.
+pub trait RecordData {
+    ghost rtype: { Self → ℕ };
+
+    /// The type of the data.
+    fn rtype(&self) -> Rtype
+        ensures { result ≡ rtype self.now };
+}
+
+/// Data that is written into messages.
+///
+/// `parts` are its octets, and the names that may be written with pointers (RFC 3597 4); `canonical_octets` is its
+/// canonical form, with every name in full and in lower case (RFC 4034 6.2).
+pub trait ComposeRecordData: RecordData {
+    ghost parts: { Self → Parts };
+
+    ghost canonical_octets: { Self → List ℕ };
+
+    /// How many octets the data has in a message, or None where that is not known before it is written. `compress` says
+    /// that the target may write names with pointers.
+    fn rdlen(&self, compress: bool) -> Option<u16>
+        ensures { IfSome result (λ len. IsComposedLength compress (parts self.now) len) };
+
+    /// Appends the data, all or nothing. Refused with `ShortBuf` only where the target would then hold more octets than
+    /// it may, and with `OutOfMemory` where a growth was refused.
+    fn compose_rdata<Target: Composer>(&self, target: &mut Target) -> Result<(), AppendError>
+        ensures ok { OnOk result (page_of (Target.list target.new) (Target.known target.new)
+            ≡ write Target.spelling (page_of (Target.list target.old) (Target.known target.old)) (parts self.now)) }
+        ensures err { OnErr result ((Target.list target.new ≡ Target.list target.old)
+            × (Target.known target.new ≡ Target.known target.old)) }
+        ensures grows { GrowsTo (Target.list target.old) (Target.known target.old) (Target.list target.new)
+            (Target.known target.new) }
+        ensures short { result ≡ Err ShortBuf → IsPast (Target.bound target.old)
+            (length (write Target.spelling (page_of (Target.list target.old) (Target.known target.old))
+            (parts self.now)).octets) }
+        ensures not_bad { result ≡ Err BadLength → ⊥ }
+        ensures same_bound { Target.bound target.new ≡ Target.bound target.old }
+        ensures stays { Target.stays target.old target.new };
+
+    /// Appends the canonical form of the data, all or nothing, refused as `compose_rdata` is.
+    fn compose_canonical_rdata<Target: Composer>(
+        &self,
+        target: &mut Target,
+    ) -> Result<(), AppendError>
+        ensures ok { OnOk result (Target.list target.new ≡ Target.list target.old ++ canonical_octets self.now) }
+        ensures err { OnErr result (Target.list target.new ≡ Target.list target.old) }
+        ensures known { Target.known target.new ≡ Target.known target.old }
+        ensures short { result ≡ Err ShortBuf
+            → IsPast (Target.bound target.old) (length (Target.list target.old ++ canonical_octets self.now)) }
+        ensures not_bad { result ≡ Err BadLength → ⊥ }
+        ensures same_bound { Target.bound target.new ≡ Target.bound target.old }
+        ensures stays { Target.stays target.old target.new };
+
+    /// Appends the data behind two octets that count it, all or nothing. Refused as `compose_rdata` is, and with
+    /// `BadLength` only where more than 65,535 octets would have to be counted.
+    final fn compose_len_rdata<Target: Composer>(
+        &self,
+        target: &mut Target,
+    ) -> Result<(), AppendError>
+        ensures ok { OnOk result (page_of (Target.list target.new) (Target.known target.new)
+            ≡ write Target.spelling (page_of (Target.list target.old) (Target.known target.old))
+            (Counted (parts self.now) End)) }
+        ensures counts { OnOk result (counted_length Target.spelling (page_of (Target.list target.old)
+            (Target.known target.old)) (parts self.now) ≤ 65535) }
+        ensures err { OnErr result ((Target.list target.new ≡ Target.list target.old)
+            × (Target.known target.new ≡ Target.known target.old)) }
+        ensures grows { GrowsTo (Target.list target.old) (Target.known target.old) (Target.list target.new)
+            (Target.known target.new) }
+        ensures short { result ≡ Err ShortBuf → IsPast (Target.bound target.old)
+            (length (write Target.spelling (page_of (Target.list target.old) (Target.known target.old))
+            (Counted (parts self.now) End)).octets) }
+        ensures bad { result ≡ Err BadLength
+            → 65535 < counted_length Target.spelling (page_of (Target.list target.old)
+            (Target.known target.old)) (parts self.now) }
+        ensures same_bound { Target.bound target.new ≡ Target.bound target.old }
+        ensures stays { Target.stays target.old target.new }
+    {
+        let len = target.octets().len();
+        match append_counted(self, target) {
+            Ok(()) => Ok(()),
+            Err(error) => {
+                target.truncate(len);
+                Err(error)
+            }
+        }
+    }
+
+    /// Appends the canonical form of the data behind two octets that count it, all or nothing, refused as
+    /// `compose_len_rdata` is.
+    final fn compose_canonical_len_rdata<Target: Composer>(
+        &self,
+        target: &mut Target,
+    ) -> Result<(), AppendError>
+        ensures ok { OnOk result (Target.list target.new
+            ≡ Target.list target.old ++ (to_be_bytes w16 (length (canonical_octets self.now))
+            ++ canonical_octets self.now)) }
+        ensures counts { OnOk result (length (canonical_octets self.now) ≤ 65535) }
+        ensures err { OnErr result (Target.list target.new ≡ Target.list target.old) }
+        ensures known { Target.known target.new ≡ Target.known target.old }
+        ensures short { result ≡ Err ShortBuf → IsPast (Target.bound target.old)
+            (length (Target.list target.old) + 2 + length (canonical_octets self.now)) }
+        ensures bad { result ≡ Err BadLength → 65535 < length (canonical_octets self.now) }
+        ensures same_bound { Target.bound target.new ≡ Target.bound target.old }
+        ensures stays { Target.stays target.old target.new }
+    {
+        let before = target.octets().len();
+        match append_canonical_counted(self, target) {
+            Ok(()) => Ok(()),
+            Err(error) => {
+                target.truncate(before);
+                Err(error)
+            }
+        }
+    }
+}
+
+/// Data of some types that is read from a message.
+///
+/// `takes` says which types, and `reads` relates the octets of a message, the place where the data begins, and its type
+/// to the data that ends with these octets.
+pub trait ParseRecordData<'a>: RecordData + Sized {
+    ghost takes: { ℕ → Bool };
+
+    ghost reads: { List ℕ → ℕ → ℕ → Self → Type 0 };
+
+    /// Reads the data of a type up to the end of the parser, or answers None where it takes no such type; the parser then
+    /// stays where it is. Refused where what is left is no data of the type; the parser then stays there too.
+    fn parse_rdata(rtype: Rtype, parser: &mut Parser<'a>) -> Result<Option<Self>, ParseError>
+        ensures taken { IfOk result (λ found. is_some found ≡ takes rtype) }
+        ensures ok { IfOk result (λ found. IfSome found (λ rdata. reads (octets_of parser.old)
+            (place_of parser.old) rtype rdata)) }
+        ensures of_type { IfOk result (λ found. IfSome found (λ rdata. Self.rtype rdata ≡ rtype)) }
+        ensures end { IfOk result (λ found. OnSome found (IsAtEnd parser.old parser.new)) }
+        ensures none { IfOk result (λ found. takes rtype ≡ false → parser.new ≡ parser.old) }
+        ensures refused { OnErr result (takes rtype ≡ true) }
+        ensures no_data { OnErr result ((rdata : Self)
+            → reads (octets_of parser.old) (place_of parser.old) rtype rdata → ⊥) }
+        ensures err { OnErr result (parser.new ≡ parser.old) };
+}
+
+/// Data of any type that is read from a message; `reads_any` is as `ParseRecordData`'s `reads`.
+pub trait ParseAnyRecordData<'a>: RecordData + Sized {
+    ghost reads_any: { List ℕ → ℕ → ℕ → Self → Type 0 };
+
+    /// Reads the data of a type up to the end of the parser. Refused where what is left is no data of the type; the
+    /// parser then stays where it is.
+    fn parse_any_rdata(rtype: Rtype, parser: &mut Parser<'a>) -> Result<Self, ParseError>
+        ensures ok { IfOk result (λ rdata. reads_any (octets_of parser.old) (place_of parser.old) rtype rdata) }
+        ensures of_type { IfOk result (λ rdata. Self.rtype rdata ≡ rtype) }
+        ensures end { OnOk result (IsAtEnd parser.old parser.new) }
+        ensures no_data { OnErr result ((rdata : Self)
+            → reads_any (octets_of parser.old) (place_of parser.old) rtype rdata → ⊥) }
+        ensures err { OnErr result (parser.new ≡ parser.old) };
+}

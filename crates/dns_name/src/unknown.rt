@@ -1,0 +1,348 @@
+//! Data of a record of any type, as its octets (RFC 3597 3).
+ghost use Rattle.std.specs.Prelude.{◌≡◌, ◌≤◌, ◌++◌, ◌↔◌, true, length, Some, None, Err, IsOk, IfOk, IfErr};
+ghost use Rattle.dns_octets.specs.declared.error.AppendError.TheVariants.{ShortBuf, BadLength};
+ghost use Rattle.std.proofs.Common.{rules};
+ghost use Rattle.std.specs.Cmp.{partial_order_from_own_ties};
+ghost use Rattle.std.specs.Cmp.Rules.{comparing, hashing};
+ghost use Rattle.std.specs.Hash as fed;
+ghost use Rattle.std.specs.Ordering.{as_partial_cmp};
+ghost use Rattle.dns_name.specs.WrittenParts.Parts.{End, Octets};
+ghost use Rattle.dns_name.specs.Unknown.{UnknownData, unknown_eq, unknown_cmp, IsUnknownAt};
+
+mod show;
+
+use crate::{
+    ComposeRecordData, Composer, LongRecordData, ParseAnyRecordData, ParseRecordData, RecordData,
+};
+use arrayvec::ArrayVec;
+use dns_octets::{AppendError, Octets, OctetsFrom, ParseError, Parser};
+use dns_values::{CanonicalOrd, Rtype};
+use std::alloc::Global;
+use std::cmp::Ordering;
+use std::hash::{Hash, Hasher};
+use std::marker::Model;
+
+/// Data of a type, as at most 65,535 octets, whatever they mean.
+///
+/// A contract sees it as the number of its type and its octets.
+#[derive(Debug, Drop)]
+pub struct UnknownRecordData<Octs: Octets> {
+    rtype: Rtype,
+    octets: Octs,
+}
+
+impl<Octs: Octets> Model for UnknownRecordData<Octs> {
+    ghost Value = { UnknownData };
+
+    ghost view = { λ rdata. record { number = rdata.rtype; octets = Octs.list rdata.octets } };
+
+    ghost invariant = { λ rdata. length (Octs.list rdata.octets) ≤ 65535 };
+}
+
+impl<Octs: Octets> UnknownRecordData<Octs> {
+    /// The octets as data of the type. Refused past 65,535 of them.
+    pub fn from_octets(rtype: Rtype, octets: Octs) -> Result<Self, LongRecordData>
+    where
+        Octs: Drop,
+        ensures ok { IfOk result (λ rdata. rdata ≡ record { number = rtype; octets = Octs.list octets }) }
+        ensures short { IsOk result ↔ (length (Octs.list octets) ≤ 65535) }
+    {
+        LongRecordData::check_len(octets.octets().len())?;
+        Ok(UnknownRecordData { rtype, octets })
+    }
+
+    /// The type.
+    pub fn rtype(&self) -> Rtype
+        ensures { result ≡ self.now.number }
+    {
+        let UnknownRecordData { rtype, .. } = self;
+        *rtype
+    }
+
+    /// What holds the octets.
+    pub fn data(&self) -> &Octs
+        ensures octets { Octs.list result.now ≡ self.now.octets }
+        ensures short { length self.now.octets ≤ 65535 }
+    {
+        &self.octets
+    }
+}
+
+impl<Octs: Octets> RecordData for UnknownRecordData<Octs> {
+    ghost rtype = { λ rdata. rdata.number };
+
+    fn rtype(&self) -> Rtype {
+        UnknownRecordData::rtype(self)
+    }
+}
+
+/// Writes the octets as they are; this is their canonical form too.
+impl<Octs: Octets> ComposeRecordData for UnknownRecordData<Octs> {
+    ghost parts = { λ rdata. Octets rdata.octets End };
+
+    ghost canonical_octets = { λ rdata. rdata.octets };
+
+    fn rdlen(&self, _compress: bool) -> Option<u16> {
+        Some(self.octets.octets().len() as u16)
+    }
+
+    fn compose_rdata<Target: Composer>(&self, target: &mut Target) -> Result<(), AppendError> {
+        target.append_slice(self.octets.octets())
+    }
+
+    fn compose_canonical_rdata<Target: Composer>(
+        &self,
+        target: &mut Target,
+    ) -> Result<(), AppendError> {
+        let octets = self.octets.octets();
+        target.append_slice(octets)
+    }
+}
+
+/// Takes all that is left in the parser, of any type. Refused past 65,535 octets.
+impl<'a> ParseAnyRecordData<'a> for UnknownRecordData<&'a [u8]> {
+    ghost reads_any = { IsUnknownAt };
+
+    fn parse_any_rdata(rtype: Rtype, parser: &mut Parser<'a>) -> Result<Self, ParseError> {
+        let rdata = UnknownRecordData::from_octets(rtype, parser.peek_all())?;
+        parser.advance_to_end();
+        Ok(rdata)
+    }
+}
+
+/// Takes every type.
+impl<'a> ParseRecordData<'a> for UnknownRecordData<&'a [u8]> {
+    ghost takes = { λ _. true };
+
+    ghost reads = { IsUnknownAt };
+
+    fn parse_rdata(rtype: Rtype, parser: &mut Parser<'a>) -> Result<Option<Self>, ParseError> {
+        Ok(Some(UnknownRecordData::parse_any_rdata(rtype, parser)?))
+    }
+}
+
+/// The same data in a vector. Refused where a growth was refused.
+impl<S: Octets + Drop> OctetsFrom<UnknownRecordData<S>> for UnknownRecordData<Vec<u8>> {
+    ghost octets_from_gives = { λ source result. IfOk result (λ rdata. rdata ≡ source)
+        × (result ≡ Err ShortBuf → ⊥)
+        × (result ≡ Err BadLength → ⊥) };
+
+    fn try_octets_from(alloc: Global, source: UnknownRecordData<S>) -> Result<Self, AppendError> {
+        let octets = Vec::try_octets_from(alloc, source.octets.octets())?;
+        Ok(UnknownRecordData {
+            rtype: source.rtype,
+            octets,
+        })
+    }
+}
+
+/// The same data in an array. Refused where it has no room.
+impl<S: Octets + Drop, const N: usize> OctetsFrom<UnknownRecordData<S>>
+    for UnknownRecordData<ArrayVec<u8, N>> {
+    ghost octets_from_gives = { λ source result. IfOk result (λ rdata. rdata ≡ source)
+        × (IsOk result ↔ (length source.octets ≤ N))
+        × IfErr result (λ error. error ≡ ShortBuf) };
+
+    fn try_octets_from(alloc: Global, source: UnknownRecordData<S>) -> Result<Self, AppendError> {
+        let octets = ArrayVec::try_octets_from(alloc, source.octets.octets())?;
+        Ok(UnknownRecordData {
+            rtype: source.rtype,
+            octets,
+        })
+    }
+}
+
+impl<Octs: Octets> PartialEq for UnknownRecordData<Octs> {
+    ghost eq = { unknown_eq };
+
+    ghost laws = { Prim.search (comparing, rules) };
+
+    fn eq(&self, other: &Self) -> bool {
+        self.rtype == other.rtype && self.octets.octets() == other.octets.octets()
+    }
+}
+
+impl<Octs: Octets> Eq for UnknownRecordData<Octs> {
+    ghost laws = { Prim.search (comparing, rules) };
+}
+
+/// By the number of the type, and then by the octets.
+impl<Octs: Octets> Ord for UnknownRecordData<Octs> {
+    ghost cmp = { unknown_cmp };
+
+    ghost total = { Prim.search (comparing, rules) };
+
+    ghost matches_partial_cmp = { Prim.search (comparing, rules) };
+
+    ghost matches_eq = { Prim.search (comparing, rules) };
+
+    fn cmp(&self, other: &Self) -> Ordering {
+        self.rtype
+            .cmp(&other.rtype)
+            .then(self.octets.octets().cmp(other.octets.octets()))
+    }
+}
+
+impl<Octs: Octets> PartialOrd for UnknownRecordData<Octs> {
+    ghost partial_cmp = { as_partial_cmp unknown_cmp };
+
+    ghost laws = { partial_order_from_own_ties (Prim.search (comparing, rules)) (Prim.search (comparing, rules)) };
+
+    fn partial_cmp(&self, other: &Self) -> Option<Ordering> {
+        Some(self.cmp(other))
+    }
+}
+
+/// The same order.
+impl<Octs: Octets> CanonicalOrd for UnknownRecordData<Octs> {
+    ghost canonical = { unknown_cmp };
+
+    fn canonical_cmp(&self, other: &Self) -> Ordering {
+        self.cmp(other)
+    }
+}
+
+impl<Octs: Octets> Hash for UnknownRecordData<Octs> {
+    ghost hash_input = { λ rdata. fed.u16 rdata.number ++ fed.slice fed.u8 rdata.octets };
+
+    ghost respects_eq = { Prim.search (hashing, rules) };
+
+    fn hash<H: Hasher>(&self, state: &mut H) {
+        self.rtype.to_int().hash(state);
+        self.octets.octets().hash(state);
+    }
+}
+
+#[cfg(test)]
+mod tests {
+    use super::*;
+    use std::hash::DefaultHasher;
+    use std::test::Fail;
+
+    fn composed<Data: ComposeRecordData>(
+        alloc: Global,
+        rdata: &Data,
+    ) -> Result<Vec<u8>, AppendError> {
+        let mut target = Vec::new(alloc);
+        rdata.compose_rdata(&mut target)?;
+        rdata.compose_canonical_rdata(&mut target)?;
+        rdata.compose_len_rdata(&mut target)?;
+        rdata.compose_canonical_len_rdata(&mut target)?;
+        Ok(target)
+    }
+
+    fn parsed<'a, Data: ParseRecordData<'a>>(
+        rtype: Rtype,
+        octets: &'a [u8],
+        place: usize,
+    ) -> Option<(Data, usize)> {
+        let mut parser = Parser::from_ref(octets);
+        if parser.advance(place).is_err() {
+            return None;
+        }
+        let rdata: Option<Data> = match ParseRecordData::parse_rdata(rtype, &mut parser) {
+            Ok(found) => found,
+            Err(_) => None,
+        };
+        Some((rdata?, parser.pos()))
+    }
+
+    fn parsed_as_any<'a, Data: ParseAnyRecordData<'a>>(octets: &'a [u8]) -> Option<Data> {
+        let mut parser = Parser::from_ref(octets);
+        match ParseAnyRecordData::parse_any_rdata(Rtype::from_int(10), &mut parser) {
+            Ok(rdata) => Some(rdata),
+            Err(_) => None,
+        }
+    }
+
+    #[test]
+    fn data_is_composed_as_it_is(rt: HostRuntime) -> Result<(), Fail> {
+        let rdata = UnknownRecordData::from_octets(Rtype::from_int(65280), b"\xc0\x0c".as_slice())?;
+        assert_eq!(rt;
+            composed(rt.alloc(), &rdata)?.as_slice(),
+            b"\xc0\x0c\xc0\x0c\x00\x02\xc0\x0c\x00\x02\xc0\x0c".as_slice()
+        );
+        assert_eq!(rt; rdata.rdlen(true), Some(2));
+        assert_eq!(rt; rdata.rtype(), Rtype::from_int(65280));
+        assert_eq!(rt; *rdata.data(), b"\xc0\x0c".as_slice());
+        let mut short = ArrayVec::<u8, 3>::new();
+        assert_eq!(rt;
+            rdata.compose_len_rdata(&mut short),
+            Err(AppendError::ShortBuf)
+        );
+        assert_eq!(rt;
+            rdata.compose_canonical_len_rdata(&mut short),
+            Err(AppendError::ShortBuf)
+        );
+        assert_eq!(rt; short.len(), 0);
+        Ok(())
+    }
+
+    #[test]
+    fn data_of_65535_octets_is_taken(rt: HostRuntime) -> Result<(), Fail> {
+        let octets = vec![in rt.alloc(); 7u8; 65_536]?;
+        let all = octets.as_slice();
+        assert!(rt; UnknownRecordData::from_octets(Rtype::from_int(10), all).is_err());
+        let most = UnknownRecordData::from_octets(Rtype::from_int(10), &all[1..])?;
+        assert_eq!(rt; composed(rt.alloc(), &most)?.len(), 262_144);
+        assert!(rt; parsed::<UnknownRecordData<&[u8]>>(Rtype::from_int(10), all, 0).is_none());
+        assert!(rt; parsed_as_any::<UnknownRecordData<&[u8]>>(all).is_none());
+        assert!(rt; matches!(parsed_as_any(&all[1..]), Some(rdata) if most == rdata));
+        let found = parsed::<UnknownRecordData<&[u8]>>(Rtype::from_int(10), all, 1);
+        assert!(rt; matches!(found, Some((rdata, 65_536)) if rdata == most));
+        Ok(())
+    }
+
+    #[test]
+    fn data_moves_to_other_octets(rt: HostRuntime) -> Result<(), Fail> {
+        let rdata = UnknownRecordData::from_octets(Rtype::from_int(10), b"ab".as_slice())?;
+        assert_eq!(rt;
+            composed(rt.alloc(), &&rdata)?.as_slice(),
+            b"abab\x00\x02ab\x00\x02ab".as_slice()
+        );
+        assert_eq!(rt; RecordData::rtype(&&rdata), Rtype::from_int(10));
+        assert_eq!(rt; (&rdata).rdlen(false), Some(2));
+        let vec = UnknownRecordData::<Vec<u8>>::try_octets_from(rt.alloc(), rdata)?;
+        assert_eq!(rt; vec.data().as_slice(), b"ab".as_slice());
+        let array = UnknownRecordData::<ArrayVec<u8, 2>>::try_octets_from(rt.alloc(), vec)?;
+        assert_eq!(rt; array.data().as_slice(), b"ab".as_slice());
+        assert_eq!(rt; array.rtype(), Rtype::from_int(10));
+        let short = UnknownRecordData::<ArrayVec<u8, 1>>::try_octets_from(rt.alloc(), array);
+        assert_eq!(rt; short.err(), Some(AppendError::ShortBuf));
+        Ok(())
+    }
+
+    #[test]
+    fn data_prints_its_octets(rt: HostRuntime) -> Result<(), Fail> {
+        let rdata = UnknownRecordData::from_octets(Rtype::from_int(10), b"\xc0\x0c".as_slice())?;
+        assert_eq!(rt; rdata.to_string(rt.alloc())?.as_str(), "\\# 2 C00C");
+        let empty = UnknownRecordData::from_octets(Rtype::from_int(10), b"".as_slice())?;
+        assert_eq!(rt; empty.to_string(rt.alloc())?.as_str(), "\\# 0");
+        Ok(())
+    }
+
+    fn hashed<T: Hash>(value: &T) -> u64 {
+        let mut state = DefaultHasher::new();
+        value.hash(&mut state);
+        state.finish()
+    }
+
+    #[test]
+    fn data_is_ordered_by_type_and_octets(rt: HostRuntime) -> Result<(), Fail> {
+        let one = UnknownRecordData::from_octets(Rtype::from_int(9), b"b".as_slice())?;
+        let longer = UnknownRecordData::from_octets(Rtype::from_int(10), b"ab".as_slice())?;
+        let shorter = UnknownRecordData::from_octets(Rtype::from_int(10), b"a".as_slice())?;
+        let same = UnknownRecordData::from_octets(Rtype::from_int(10), b"a".as_slice())?;
+        assert_eq!(rt; one.cmp(&longer), Ordering::Less);
+        assert_eq!(rt; longer.canonical_cmp(&shorter), Ordering::Greater);
+        assert!(rt; shorter.canonical_lt(&longer));
+        assert!(rt; shorter.canonical_le(&same));
+        assert!(rt; longer.canonical_gt(&one));
+        assert!(rt; same.canonical_ge(&shorter));
+        assert_eq!(rt; same.partial_cmp(&shorter), Some(Ordering::Equal));
+        assert!(rt; same == shorter);
+        assert!(rt; longer != shorter);
+        assert_eq!(rt; hashed(&same), hashed(&shorter));
+        Ok(())
+    }
+}
