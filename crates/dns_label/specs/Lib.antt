@@ -6,3 +6,4 @@ pub mod Split
 pub mod Symbol
 pub mod NameText
 pub mod Printed
+pub mod Tried
