@@ -12,3 +12,4 @@ pub mod Symbols
 pub mod Composed
 pub mod Shown
 pub mod Digit
+pub mod Tried

@@ -1,5 +1,5 @@
 //! Records as the text of a zone, each with all its parts on one line (RFC 1035 5.1).
-ghost use Rattle.std.specs.Prelude.{◌≡◌, ◌++◌, ◌∷◌, [], ℕ, List, IfOk, OnOk};
+ghost use Rattle.std.specs.Prelude.{IfOk};
 ghost use Rattle.std.specs.List.{AllByRecursion};
 ghost use Rattle.dns_text.specs.Document.Layout.{Simple as simple_layout};
 ghost use Rattle.zone_core.specs.Owned.{records_of};
