@@ -16,3 +16,4 @@ mod Builds
 mod Pushes
 mod PushNames
 mod Reverses
+mod Putting

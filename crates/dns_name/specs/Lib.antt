@@ -21,3 +21,5 @@ pub use Rattle.dns_label.specs.Digit
 pub mod Built
 pub mod DigitLabels
 pub mod Reverse
+pub mod BuiltText
+pub mod TextErrors
