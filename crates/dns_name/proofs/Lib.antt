@@ -35,3 +35,4 @@ pub mod Appending
 pub mod HexText
 pub mod OneSuffixLemmas
 pub mod WrittenParts
+mod Putting

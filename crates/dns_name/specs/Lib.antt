@@ -39,3 +39,5 @@ pub mod Built
 pub mod DigitLabels
 pub mod Reverse
 pub mod WrittenParts
+pub mod BuiltText
+pub mod TextErrors

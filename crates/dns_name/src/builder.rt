@@ -12,6 +12,7 @@ mod error;
 mod finish;
 #[cfg(test)]
 mod tests;
+mod text;
 
 use dns_label::Label;
 use dns_octets::{AppendError, EmptyBuilder, OctetsBuilder, WriteOctets};

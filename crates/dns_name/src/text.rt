@@ -2,13 +2,14 @@
 ghost use Rattle.std.specs.Prelude.{◌≡◌, List, ℕ, IfOk, IfErr};
 ghost use Rattle.std.specs.Iterator.{IsFinite, Drains};
 ghost use Rattle.dns_label.specs.declared.symbol.Symbol.{Symbol};
-ghost use Rattle.dns_label.specs.NameText.{IsNameText, IsAbsoluteText};
+ghost use Rattle.dns_label.specs.NameText.{IsNameText, IsAbsoluteText, is_dot as separates};
+ghost use Rattle.dns_name.specs.TextErrors.{text_error};
 ghost use Rattle.dns_name.specs.declared.text.FromStrError.TheVariants.{Presentation, ShortBuf};
 
 mod draft;
 mod octet_chars;
 
-use crate::Name;
+use crate::{Name, PushError};
 use dns_label::{BadSymbol, Symbol, SymbolCharsError};
 use dns_octets::{AppendError, EmptyBuilder, FromBuilder};
 use draft::Spelling;
@@ -60,6 +61,18 @@ impl From<AppendError> for FromStrError {
 
     fn from(_: AppendError) -> FromStrError {
         FromStrError::ShortBuf
+    }
+}
+
+impl From<PushError> for FromStrError {
+    ghost from_gives = { λ reason error. error ≡ text_error reason };
+
+    fn from(reason: PushError) -> FromStrError {
+        match reason {
+            PushError::LongLabel => FromStrError::Presentation(PresentationError::LongLabel),
+            PushError::LongName => FromStrError::Presentation(PresentationError::LongName),
+            PushError::ShortBuf => FromStrError::ShortBuf,
+        }
     }
 }
 
@@ -168,4 +181,11 @@ impl Name<Vec<u8>> {
         }
         spelling.finish(alloc)
     }
+}
+
+/// Whether the symbol separates labels.
+pub(crate) fn is_dot(symbol: Symbol) -> bool
+    ensures { result ≡ separates symbol }
+{
+    matches!(symbol, Symbol::Char('.'))
 }

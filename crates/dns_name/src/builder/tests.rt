@@ -1,5 +1,8 @@
 //! Names that are built, by outside examples (RFC 1035 2.3.4).
-use crate::{AppendError, Name, NameBuilder, PushError, PushNameError};
+use crate::{
+    AppendError, FromStrError, Name, NameBuilder, PresentationError, PushError, PushNameError,
+    Symbol,
+};
 use arrayvec::ArrayVec;
 use std::alloc::Global;
 use std::test::Fail;
@@ -85,5 +88,30 @@ fn fixed_octets_have_no_more_room(rt: HostRuntime) -> Result<(), Fail> {
     assert!(rt; name.into_name()?.is_root());
     let text = format!(in rt.alloc(); "{}, {}", PushError::LongLabel, PushNameError::LongName)?;
     assert_eq!(rt; text.as_str(), "long label, long domain name");
+    Ok(())
+}
+
+#[test]
+fn text_is_put_behind_labels(rt: HostRuntime) -> Result<(), Fail> {
+    let mut name = NameBuilder::new_vec(rt.alloc());
+    name.append_chars("a\\.b.c".chars())?;
+    let symbols = [
+        Symbol::Char('d'),
+        Symbol::Char('.'),
+        Symbol::DecimalEscape(7),
+    ];
+    name.append_symbols(symbols.iter().copied())?;
+    assert_eq!(rt; name.as_slice(), b"\x03a.b\x02cd\x01\x07".as_slice());
+    assert!(rt; name.in_label());
+    let empty = FromStrError::Presentation(PresentationError::EmptyLabel);
+    assert_eq!(rt; name.append_chars("..".chars()), Err(empty));
+    let bad = FromStrError::Presentation(PresentationError::BadSymbol);
+    assert_eq!(rt; name.append_chars("x\u{e9}".chars()), Err(bad));
+    assert_eq!(rt; name.as_slice(), b"\x03a.b\x02cd\x01\x07\x01x".as_slice());
+    let mut small = NameBuilder::<ArrayVec<u8, 2>>::new(rt.alloc());
+    assert_eq!(rt;
+        small.append_chars("ab".chars()),
+        Err(FromStrError::ShortBuf)
+    );
     Ok(())
 }

@@ -6,10 +6,10 @@ ghost use Rattle.dns_label.specs.declared.symbol.Symbol.{Symbol};
 ghost use Rattle.dns_label.specs.Name.{IsName};
 ghost use Rattle.dns_label.specs.Symbol.{IsSymbol, spelled};
 ghost use Rattle.dns_label.specs.Taken.{RulesOut};
-ghost use Rattle.dns_label.specs.NameText.{IsNameText, is_dot as separates};
+ghost use Rattle.dns_label.specs.NameText.{IsNameText};
 ghost use Rattle.dns_name.specs.Text.{SpellName, IsFault};
 
-use super::{FromStrError, PresentationError};
+use super::{FromStrError, PresentationError, is_dot};
 use crate::Name;
 use crate::copies::octets_from;
 use dns_label::{Symbol, Symbols};
@@ -147,11 +147,4 @@ fn root_alone<S: Iterator<Item = Symbol>>(
         None => Ok(None),
         Some(_) => Err(PresentationError::EmptyLabel),
     }
-}
-
-/// Whether the symbol separates labels.
-fn is_dot(symbol: Symbol) -> bool
-    ensures { result ≡ separates symbol }
-{
-    matches!(symbol, Symbol::Char('.'))
 }
