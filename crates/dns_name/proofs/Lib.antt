@@ -20,3 +20,5 @@ pub mod FlatForms
 pub mod RelativeForms
 pub mod PartForms
 pub mod NameParts
+pub mod Chains
+pub mod Constants

@@ -87,6 +87,10 @@ pub first_of : {octets text behind : List ℕ} (name : List (List ℕ)) → octe
 first_of {octets} {text} {behind} name is found are some =
     first_by name text behind (flat_labels behind) (sym (flat_rooted name is) ∙ found) are.whole some
 
+pub parent_name : {text behind : List ℕ} {name : List (List ℕ)} → IsName name → (first : First name text behind) → IsName first.parent
+parent_name {text} is_name first =
+    let P : List (List ℕ) → Type 0 = λ n. IsName n in name_behind text first.parent (subst P first.name_is is_name)
+
 pub first_parent : {text behind : List ℕ} {name : List (List ℕ)} → IsName name → First name text behind → IsWritten behind
 first_parent {text} {behind} is_name first =
     let P : List (List ℕ) → Type 0 = λ n. IsName n in

@@ -1,5 +1,9 @@
+pub mod Chain
+pub mod ChainLaws
+pub mod ChainParts
 pub mod Flat
 pub mod FlatLabels
+pub mod FlatSuffixes
 pub mod FlatWire
 pub mod Order
 pub mod OrderLaws
