@@ -1,5 +1,5 @@
 -- The names that are written in the code.
-use Rattle.std.proofs.Common.{◌≡◌, ℕ, List, [], ◌∷◌, refl, arith}
+use Rattle.std.proofs.Common.{[], ◌∷◌, arith}
 use Rattle.dns_label.specs.Name.{IsName}
 
 pub no_labels_name : IsName []

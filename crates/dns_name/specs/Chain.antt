@@ -1,5 +1,5 @@
 -- Names of two parts.
-use Rattle.std.specs.Prelude.{◌≡◌, ◌-◌, ◌<◌, ◌≤◌, ◌⊎◌, ℕ, List, [], ◌∷◌, ◌++◌, Option}
+use Rattle.std.specs.Prelude.{◌≡◌, ◌-◌, ◌<◌, ◌≤◌, ◌⊎◌, ℕ, List, [], ◌∷◌, Option}
 use Rattle.dns_label.specs.Name.{IsName, with_root}
 
 -- the labels in front of the root's

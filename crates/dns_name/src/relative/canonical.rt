@@ -19,6 +19,7 @@ impl<const N: usize> RelativeName<ArrayVec<u8, N>> {
     pub fn make_canonical(&mut self)
         ensures { self.new ≡ low self.old }
     {
-        self.octets.as_mut_slice().make_ascii_lowercase();
+        let octets = self.octets.as_mut_slice();
+        octets.make_ascii_lowercase();
     }
 }

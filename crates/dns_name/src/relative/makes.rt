@@ -68,7 +68,7 @@ impl RelativeName<&'static [u8]> {
     pub fn empty_slice() -> Self
         ensures { result ≡ [] }
     {
-        RelativeName::empty_ref()
+        Self::empty_ref()
     }
 
     /// The name of the label that is the asterisk alone (RFC 4592 2.1.1).
@@ -82,7 +82,7 @@ impl RelativeName<&'static [u8]> {
     pub fn wildcard_slice() -> Self
         ensures { result ≡ (42 ∷ []) ∷ [] }
     {
-        RelativeName::wildcard_ref()
+        Self::wildcard_ref()
     }
 }
 

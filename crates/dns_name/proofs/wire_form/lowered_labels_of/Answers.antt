@@ -1,4 +1,4 @@
-use Rattle.std.proofs.Common.{◌≡◌, ◌∙◌, ap, map, length, ℕ, List}
+use Rattle.std.proofs.Common.{◌≡◌, ◌∙◌, ap, map, length, ℕ}
 use Rattle.std.specs.Char.{to_ascii_lowercase}
 use Rattle.std.proofs.lemmas.List.{length-map}
 use Rattle.dns_label.specs.Name.{labels_wire, low}

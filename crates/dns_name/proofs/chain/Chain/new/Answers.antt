@@ -1,5 +1,4 @@
-use Rattle.std.proofs.Common.{◌≡◌, ◌+◌, ◌≤◌, List, ℕ, length, arith, rules, length-append}
-use Rattle.dns_label.specs.Name.{labels_wire}
+use Rattle.std.proofs.Common.{◌+◌, ◌≤◌, arith, rules, length-append}
 use Rattle.dns_name.proofs.Chains.{chain_are, are_few, are_short, length-labels_wire-append}
 use Rattle.dns_name.proofs.Wire.{length-wire_is}
 use Rattle.dns_name.proofs.chain.Chain.new.Goals as goal

@@ -1,4 +1,4 @@
-use Rattle.std.proofs.Common.{inl, inr, ap, sym, refl}
+use Rattle.std.proofs.Common.{inr, ap, sym, refl}
 use Rattle.std.proofs.lemmas.Grind.{merely}
 use Rattle.dns_label.specs.Name.{wire, with_root}
 use Rattle.dns_name.proofs.Flat.{flat-reads, flat-labels}

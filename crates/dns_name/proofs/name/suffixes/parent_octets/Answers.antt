@@ -1,5 +1,4 @@
-use Rattle.std.proofs.Common.{◌≡◌, ◌∷◌, [], refl, sym, ◌∙◌, ap, List, ℕ, subst}
-use Rattle.dns_label.specs.Name.{IsName}
+use Rattle.std.proofs.Common.{◌∷◌, refl, sym, ◌∙◌, ap}
 use Rattle.dns_label.specs.Labels.{labels_at}
 use Rattle.dns_name.specs.Suffix.{suffixes}
 use Rattle.dns_name.proofs.Flat.{flat-labels}

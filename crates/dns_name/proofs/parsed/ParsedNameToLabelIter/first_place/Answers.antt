@@ -1,4 +1,4 @@
-use Rattle.std.proofs.Common.{inl, inr, refl, arith}
+use Rattle.std.proofs.Common.{inr, refl}
 use Rattle.std.proofs.lemmas.Grind.{merely}
 use Rattle.dns_name.proofs.Readable.{read-name}
 use Rattle.dns_name.proofs.Standing.{short_wire}

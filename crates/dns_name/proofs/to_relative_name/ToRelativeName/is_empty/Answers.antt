@@ -1,4 +1,4 @@
-use Rattle.std.proofs.Common.{◌≡◌, List, ℕ, length, ap, arith, rules, [], ◌∙◌, sym}
+use Rattle.std.proofs.Common.{◌≡◌, List, ℕ, length, ap, rules, ◌∙◌, sym}
 use borrow.Author.Tests.{tests}
 use Rattle.dns_name.proofs.Orders.{no_labels}
 use Rattle.dns_name.proofs.to_relative_name.ToRelativeName.is_empty.Goals as goal

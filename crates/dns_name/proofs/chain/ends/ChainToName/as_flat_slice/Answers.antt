@@ -1,4 +1,4 @@
-use Rattle.std.proofs.Common.{◌≡◌, ◌∙◌, List, ℕ, length, ap, arith}
+use Rattle.std.proofs.Common.{◌∙◌, ℕ, length, ap, arith}
 use Rattle.dns_label.specs.Name.{labels_wire}
 use Rattle.dns_name.proofs.Chains.{joined_name}
 use Rattle.dns_name.proofs.Wire.{labels_wire-with_root}

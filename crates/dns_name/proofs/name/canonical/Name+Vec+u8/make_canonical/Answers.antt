@@ -1,4 +1,4 @@
-use Rattle.std.proofs.Common.{◌∙◌, ◌++◌, ◌∷◌, [], ap, map, length, ℕ, List, refl, arith}
+use Rattle.std.proofs.Common.{◌∙◌, ap, map, length, ℕ, arith}
 use Rattle.std.specs.Char.{to_ascii_lowercase}
 use Rattle.dns_label.specs.Name.{low}
 use Rattle.dns_label.specs.Labels.{labels_at}

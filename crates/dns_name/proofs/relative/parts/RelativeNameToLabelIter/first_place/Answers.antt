@@ -1,4 +1,4 @@
-use Rattle.std.proofs.Common.{inl, inr, refl, arith, [], ◌∷◌, length-append}
+use Rattle.std.proofs.Common.{inl, refl, arith, [], ◌∷◌, length-append}
 use Rattle.std.proofs.lemmas.Grind.{merely}
 use Rattle.dns_name.proofs.Wire.{few_labels, length-wire_is}
 use Rattle.dns_name.proofs.relative.parts.RelativeNameToLabelIter.first_place.Goals as goal
