@@ -22,3 +22,4 @@ pub mod PartForms
 pub mod NameParts
 pub mod Chains
 pub mod Constants
+pub mod HeadCounts

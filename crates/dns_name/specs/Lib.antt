@@ -5,6 +5,7 @@ pub mod Flat
 pub mod FlatLabels
 pub mod FlatSuffixes
 pub mod FlatWire
+pub mod HeadCount
 pub mod Order
 pub mod OrderLaws
 pub mod Parsed
