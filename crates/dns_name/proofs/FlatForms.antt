@@ -1,6 +1,5 @@
 -- Labels that lie one behind the other, and parts of them.
-use Rattle.std.proofs.Common.{◌≡◌, ℕ, ◌+◌, ◌-◌, ◌<◌, ◌≤◌, zero, suc, List, [], ◌∷◌, ◌++◌, length, take, drop, refl, sym, ◌∙◌, ap, subst, arith, append_assoc, append-nil, length-append, length-take, length-drop}
-use Rattle.std.specs.Prelude.{slice_range}
+use Rattle.std.proofs.Common.{◌≡◌, ℕ, ◌≤◌, zero, suc, List, [], ◌∷◌, ◌++◌, length, take, drop, refl, sym, ◌∙◌, ap, subst, arith, append_assoc, length-append}
 use Rattle.std.proofs.Math.Seq.{take-append_seam, drop-append_seam}
 use Rattle.std.specs.List.{AllByRecursion}
 use Rattle.dns_label.specs.Name.{IsLabel, IsName, wire, labels_wire, with_root}
@@ -9,7 +8,7 @@ use Rattle.dns_label.specs.Split.{StartsWithLabel, NoLabel}
 use Rattle.dns_label.specs.declared.label.SplitLabelError.{SplitLabelError}
 use Rattle.dns_name.specs.Flat.{IsWritten}
 use Rattle.dns_name.specs.FlatLabels.{labels_within, flat_labels, IsShort, AreLabels}
-use Rattle.dns_name.specs.Parts.{IsLabelStart, IsFront, IsBack, IsBetween}
+use Rattle.dns_name.specs.Parts.{IsLabelStart}
 use Rattle.dns_name.proofs.Flat.{same_front, no_label_no_front, flat-written, flat-labels}
 use Rattle.dns_name.proofs.Wire.{labels_wire-append, wire_is, length-wire_is}
 

@@ -36,3 +36,6 @@ pub mod HexText
 pub mod OneSuffixLemmas
 pub mod WrittenParts
 mod Putting
+pub mod Chains
+pub mod Constants
+pub mod HeadCounts

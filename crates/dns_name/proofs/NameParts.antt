@@ -1,13 +1,12 @@
 -- Parts of absolute names in octets.
-use Rattle.std.proofs.Common.{◌≡◌, ℕ, ◌+◌, ◌<◌, ◌≤◌, List, [], ◌∷◌, ◌++◌, length, take, drop, refl, sym, ◌∙◌, ap, subst, arith, append-nil, length-append}
-use Rattle.std.specs.List.{AllByRecursion}
-use Rattle.dns_label.specs.Name.{IsLabel, IsName, wire, labels_wire, with_root}
+use Rattle.std.proofs.Common.{◌≡◌, ℕ, ◌+◌, ◌≤◌, List, [], ◌∷◌, ◌++◌, length, take, drop, refl, sym, ◌∙◌, ap, subst, arith, append-nil, length-append}
+use Rattle.dns_label.specs.Name.{IsName, wire, labels_wire, with_root}
 use Rattle.dns_name.specs.Flat.{IsWritten}
 use Rattle.dns_name.specs.FlatLabels.{AreLabels, flat_labels}
 use Rattle.dns_name.specs.Parts.{IsLabelStart, IsBack}
 use Rattle.dns_name.proofs.Case.{wire_one}
 use Rattle.dns_name.proofs.Flat.{flat-written}
-use Rattle.dns_name.proofs.FlatForms.{are_labels, flat_is, flat_labels-wire, short_with_root, relative-written, labels_wire_one, drop_front, take_front, start_within, name_part}
+use Rattle.dns_name.proofs.FlatForms.{are_labels, flat_is, short_with_root, relative-written, labels_wire_one, drop_front, take_front, start_within, name_part}
 use Rattle.dns_name.proofs.Readable.{name_behind}
 use Rattle.dns_name.proofs.Wire.{length-wire_is, wire_is, labels_wire-with_root}
 
@@ -86,6 +85,10 @@ pub first_of : {octets text behind : List ℕ} (name : List (List ℕ)) → octe
     → AreLabels behind → (text ≡ [] → ⊥) → First name text behind
 first_of {octets} {text} {behind} name is found are some =
     first_by name text behind (flat_labels behind) (sym (flat_rooted name is) ∙ found) are.whole some
+
+pub parent_name : {text behind : List ℕ} {name : List (List ℕ)} → IsName name → (first : First name text behind) → IsName first.parent
+parent_name {text} is_name first =
+    let P : List (List ℕ) → Type 0 = λ n. IsName n in name_behind text first.parent (subst P first.name_is is_name)
 
 pub first_parent : {text behind : List ℕ} {name : List (List ℕ)} → IsName name → First name text behind → IsWritten behind
 first_parent {text} {behind} is_name first =

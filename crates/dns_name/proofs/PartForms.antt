@@ -1,24 +1,22 @@
 -- Parts of names in octets.
-use Rattle.std.proofs.Common.{◌≡◌, ℕ, ◌+◌, ◌-◌, ◌<◌, ◌≤◌, zero, suc, List, [], ◌∷◌, ◌++◌, length, take, drop, map, refl, sym, ◌∙◌, ap, subst, arith, append_assoc, append-nil, length-append, length-drop}
+use Rattle.std.proofs.Common.{◌≡◌, ℕ, ◌+◌, ◌-◌, ◌<◌, ◌≤◌, zero, suc, List, [], ◌∷◌, ◌++◌, length, take, drop, map, refl, sym, ◌∙◌, ap, subst, arith, append-nil, length-append, length-drop}
 use Rattle.std.specs.Char.{to_ascii_lowercase}
-use Rattle.std.proofs.lemmas.List.{length-map, map-append, take-append-drop}
+use Rattle.std.proofs.lemmas.List.{length-map, take-append-drop}
 use Rattle.std.proofs.Math.Seq.{drop-append_seam}
-use mathlib.Core.Logic.{∥∥₁_elim, ∥∥₁_map}
-use Rattle.dns_label.specs.Name.{IsName, wire, labels_wire, low}
-use Rattle.dns_label.specs.Split.{StartsWithLabel}
+use Rattle.dns_label.specs.Name.{IsName, labels_wire, low}
 use Rattle.dns_name.specs.Flat.{IsWritten}
 use Rattle.dns_name.specs.FlatLabels.{flat_labels}
 use Rattle.dns_name.specs.Parts.{IsLabelStart, IsFront, IsBack, IsBetween}
 use Rattle.dns_name.specs.Suffix.{EndsWith}
 use Rattle.std.specs.List.{AllByRecursion}
-use Rattle.std.specs.Prelude.{Option, Some, None}
+use Rattle.std.specs.Prelude.{Option, Some}
 use Rattle.dns_label.proofs.Spelling.{drop_behind}
 use Rattle.dns_name.specs.Relative.{StandsIn}
 use Rattle.dns_name.specs.FlatLabels.{AreLabels, IsShort}
 use Rattle.dns_name.proofs.Readable.{name_behind}
 use Rattle.dns_name.proofs.Standing.{front_rest}
-use Rattle.dns_name.proofs.FlatForms.{are_labels, flat_is, short_labels, relative-written, labels_wire_one, drop_front, take_front, start_within, name_part, between_starts, parted, Parted, wire-append}
-use Rattle.dns_name.proofs.Wire.{labels_wire-append, length-wire_is, wire_is}
+use Rattle.dns_name.proofs.FlatForms.{are_labels, flat_is, short_labels, relative-written, labels_wire_one, drop_front, take_front, start_within, name_part, parted}
+use Rattle.dns_name.proofs.Wire.{labels_wire-append}
 
 no_last : {octets : List ℕ} (labels : List (List ℕ)) → octets ≡ labels_wire labels → octets ≡ labels_wire labels ++ []
 no_last labels is = is ∙ sym (append-nil (labels_wire labels))

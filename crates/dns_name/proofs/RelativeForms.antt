@@ -1,7 +1,6 @@
 -- Octets of relative names, read label by label.
-use Rattle.std.proofs.Common.{◌≡◌, ℕ, ◌+◌, ◌<◌, ◌≤◌, List, [], ◌∷◌, ◌++◌, length, refl, sym, ◌∙◌, ap, subst, arith, append_assoc, append-nil, length-append}
-use Rattle.std.specs.List.{AllByRecursion}
-use Rattle.dns_label.specs.Name.{IsLabel, IsName, wire, labels_wire}
+use Rattle.std.proofs.Common.{◌≡◌, ℕ, ◌≤◌, List, [], ◌∷◌, ◌++◌, length, refl, sym, ◌∙◌, ap, subst, arith, append_assoc, append-nil, length-append}
+use Rattle.dns_label.specs.Name.{IsName, wire, labels_wire}
 use Rattle.dns_label.specs.Split.{StartsWithLabel, NoLabel}
 use Rattle.dns_label.specs.declared.label.SplitLabelError.{SplitLabelError}
 use Rattle.dns_name.specs.Flat.{IsWritten, StartsWithName}

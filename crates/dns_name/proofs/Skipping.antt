@@ -1,6 +1,6 @@
 -- Passing a name without following its pointers.
-use Rattle.std.proofs.Common.{◌≡◌, ℕ, ◌+◌, ◌-◌, ◌*◌, ◌<◌, ◌≤◌, suc, List, [], ◌∷◌, ◌++◌, length, drop, refl, sym, ◌∙◌, ap, subst, arith, length-append, length-drop}
-use Rattle.dns_label.specs.Name.{IsName, IsLabel, wire}
+use Rattle.std.proofs.Common.{◌≡◌, ℕ, ◌+◌, ◌-◌, ◌*◌, ◌<◌, ◌≤◌, List, [], ◌∷◌, ◌++◌, length, drop, refl, sym, ◌∙◌, ap, subst, arith, length-append, length-drop}
+use Rattle.dns_label.specs.Name.{wire}
 use Rattle.dns_label.specs.Spelled.{Spells, Reads}
 use Rattle.dns_label.specs.Spelled.Spells.{root as spells_root, label as spells_label, pointer as spells_pointer}
 use Rattle.dns_label.specs.Split.{StartsWithLabel, StartsWithPointer, NoLabel}

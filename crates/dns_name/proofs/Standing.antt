@@ -1,11 +1,10 @@
 -- Labels that stand at a place.
-use Rattle.std.proofs.Common.{◌≡◌, ℕ, ◌+◌, ◌≤◌, zero, suc, List, [], ◌∷◌, length, drop, refl, sym, ◌∙◌, ap, subst, arith}
+use Rattle.std.proofs.Common.{◌≡◌, ℕ, ◌+◌, ◌≤◌, zero, suc, List, [], ◌∷◌, length, drop, refl, ◌∙◌, ap, subst, arith}
 use Rattle.std.specs.Prelude.{Option, Some, None, slice_get}
-use Rattle.dns_label.specs.Name.{IsName, wire, labels_wire, with_root}
+use Rattle.dns_label.specs.Name.{IsName, labels_wire, with_root}
 use Rattle.dns_label.specs.Labels.{labels_at}
-use Rattle.dns_name.specs.Parsed.{IsReadAt, IsLeft, labels_left, StandsAt}
+use Rattle.dns_name.specs.Parsed.{IsLeft, labels_left, StandsAt}
 use Rattle.dns_name.proofs.Wire.{labels_wire-with_root}
-use Rattle.dns_name.proofs.Readable.{read-name}
 
 -- the item in front of what is left, and what is left behind it
 pub front_item : {A : Type 0} (items : List A) (index : ℕ) (item : A) (rest : List A) → drop index items ≡ item ∷ rest

@@ -1,5 +1,5 @@
 -- The suffixes of a list of labels.
-use Rattle.std.proofs.Common.{◌≡◌, ℕ, ◌+◌, suc, List, [], ◌∷◌, length, refl, ap, ◌∙◌, arith}
+use Rattle.std.proofs.Common.{◌≡◌, ℕ, ◌+◌, List, [], ◌∷◌, length, refl, ap, arith}
 use Rattle.dns_name.specs.Suffix.{suffixes}
 
 -- as many as there are labels, and the empty one

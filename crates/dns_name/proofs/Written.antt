@@ -1,7 +1,7 @@
 -- Names that stand in their wire form in a message, and names with pointers.
-use Rattle.std.proofs.Common.{◌≡◌, ℕ, ◌+◌, ◌<◌, ◌≤◌, suc, List, [], ◌∷◌, ◌++◌, length, take, drop, length-append, refl, sym, ◌∙◌, ap, subst, arith}
+use Rattle.std.proofs.Common.{◌≡◌, ℕ, ◌+◌, ◌≤◌, suc, List, [], ◌∷◌, ◌++◌, length, take, drop, length-append, refl, sym, ◌∙◌, ap, subst, arith}
 use Rattle.dns_label.proofs.Spelling.{drop_behind}
-use Rattle.dns_label.specs.Name.{IsLabel, IsName, wire}
+use Rattle.dns_label.specs.Name.{IsName, wire}
 use Rattle.dns_label.specs.Labels.{labels_at}
 use Rattle.dns_label.specs.Split.{StartsWithLabel, StartsWithPointer}
 use Rattle.dns_name.specs.Parsed.{IsReadAt, IsWrittenAt}

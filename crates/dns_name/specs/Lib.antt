@@ -1,6 +1,11 @@
+pub mod Chain
+pub mod ChainLaws
+pub mod ChainParts
 pub mod Flat
 pub mod FlatLabels
+pub mod FlatSuffixes
 pub mod FlatWire
+pub mod HeadCount
 pub mod Order
 pub mod OrderLaws
 pub mod Parsed

@@ -6,7 +6,7 @@ use Rattle.std.specs.Cmp.{IsTotalOrder, IsEquivalence, on_total, on_equiv, nat_e
 use Rattle.std.specs.Cmp.Lexicographic.{pointwise, slice_cmp, lists_total, lists_equiv, lists_ties, nat_list_cmp_total, texts_ties}
 use Rattle.std.specs.Ordering.{is_eq, nat_cmp, on}
 use lib.Pointwise.{pointwise_decides, bytes_decides}
-use Rattle.dns_label.specs.Name.{low, wire}
+use Rattle.dns_label.specs.Name.{low, wire, labels_wire}
 use Rattle.dns_name.specs.Order.{labels_order}
 
 pub labels_total : IsTotalOrder labels_order
@@ -35,3 +35,7 @@ labels_alike x y same = ap (λ (n : List (List ℕ)). wire n ∷ []) ((decides (
 
 pub labels_equivalence : IsEquivalence (on low (pointwise (pointwise nat_eq)))
 labels_equivalence = on_equiv low (lists_equiv (lists_equiv nat_eq_equiv))
+
+-- relative names that are the same up to ASCII case have the same octets in lower case
+pub relative_alike : (x y : List (List ℕ)) → IsTrue (pointwise (pointwise nat_eq) (low x) (low y)) → labels_wire (low x) ∷ [] ≡ labels_wire (low y) ∷ []
+relative_alike x y same = ap (λ (n : List (List ℕ)). labels_wire n ∷ []) ((decides (low x) (low y)).0 same)

@@ -2,6 +2,7 @@
 ghost use Rattle.std.specs.Prelude.{◌≡◌, ◌≤◌, ◌+◌, List, ℕ, Option, length, drop, option_map, slice_get, IfSome, IsTrue, ◌↔◌};
 ghost use Rattle.dns_label.specs.Label.{octets_of};
 ghost use Rattle.dns_label.specs.Name.{labels_wire, low};
+ghost use Rattle.dns_name.specs.Chain.{AreOfName};
 ghost use Rattle.dns_name.specs.Suffix.{EndsWith, StartsWith};
 
 use crate::compare::{ends_with, starts_with};
@@ -27,6 +28,7 @@ pub trait ToLabelIter {
     /// Where the first label stands, in the name's own numbering of places.
     fn first_place(&self) -> Option<usize>
         ensures stands { stands self.now 0 result }
+        ensures are { ∥ AreOfName (labels self.now) ∥₁ }
         ensures few { length (labels self.now) ≤ 128 }
         ensures short { length (labels_wire (labels self.now)) ≤ 255 };
 
@@ -44,6 +46,7 @@ pub trait ToLabelIter {
         ensures labels { result ≡ labels self.now }
         ensures few { length result ≤ 128 }
         ensures short { length (labels_wire result) ≤ 255 }
+        ensures are { ∥ AreOfName result ∥₁ }
     {
         LabelIter {
             name: self,

@@ -5,9 +5,11 @@
 #![tactic(auto)]
 
 mod builder;
+mod chain;
 mod compare;
 mod composer;
 mod copies;
+mod flatten;
 mod label_iter;
 pub mod laws;
 mod long_record_data;
@@ -24,11 +26,13 @@ mod skip;
 mod tests;
 mod text;
 mod to_name;
+mod to_relative_name;
 mod unknown;
 mod walk;
 mod wire_form;
 
 pub use builder::{NameBuilder, PushError, PushNameError};
+pub use chain::{Chain, LongChainError};
 pub use composer::Composer;
 pub use dns_label::{
     BadSymbol, Label, LabelTypeError, LongLabelError, SplitLabelError, Symbol, SymbolCharsError,
@@ -43,9 +47,10 @@ pub use dns_values::{
     CanonicalOrd, Class, ClassFromStrError, IllegalSignatureTime, Opcode, OptRcode, OptionCode,
     Rcode, Rtype, RtypeFromStrError, Serial, Ttl,
 };
+pub use flatten::FlattenInto;
 pub use label_iter::{LabelIter, ToLabelIter};
 pub use long_record_data::LongRecordData;
-pub use name::{Name, NameError};
+pub use name::{Name, NameError, SuffixIter};
 pub use name_iter::NameIter;
 pub use parsed::{ParsedName, ParsedSuffixIter};
 pub use parsed_iter::ParsedNameIter;
@@ -53,4 +58,5 @@ pub use record_data::{ComposeRecordData, ParseAnyRecordData, ParseRecordData, Re
 pub use relative::{RelativeName, RelativeNameError, StripSuffixError};
 pub use text::{FromStrError, PresentationError};
 pub use to_name::ToName;
+pub use to_relative_name::ToRelativeName;
 pub use unknown::UnknownRecordData;

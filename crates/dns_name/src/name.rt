@@ -11,9 +11,11 @@ ghost use Rattle.dns_label.specs.Labels.{labels_at};
 ghost use Rattle.dns_name.specs.Parsed.{StandsAt};
 ghost use Rattle.dns_octets.specs.Parser.{GoesOn, rest_of};
 
+mod canonical;
 mod makes;
 mod order;
 mod parts;
+mod suffixes;
 
 use crate::compare::ends_with;
 use crate::parsed_iter::split_label;
@@ -23,6 +25,7 @@ use dns_octets::{Octets, ParseError, Parser};
 pub(crate) use makes::copied_name;
 use std::alloc::{AllocError, Global};
 use std::marker::Model;
+pub use suffixes::SuffixIter;
 use thiserror::Error;
 
 /// Why octets are no name.

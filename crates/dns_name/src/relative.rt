@@ -4,11 +4,15 @@ ghost use Rattle.dns_label.specs.Name.{IsName, labels_wire};
 ghost use Rattle.dns_label.specs.Labels.{labels_at};
 ghost use Rattle.dns_name.specs.Flat.{IsWritten};
 
+mod canonical;
+mod makes;
+mod order;
 mod parts;
 
 use crate::NameIter;
 use dns_label::{Label, LabelTypeError, SplitLabelError};
 use dns_octets::Octets;
+pub(crate) use makes::copied_relative;
 pub use parts::StripSuffixError;
 use std::marker::Model;
 use thiserror::Error;

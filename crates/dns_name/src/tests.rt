@@ -1,4 +1,5 @@
 //! Names by outside examples (RFC 1035 4.1.4, 5.1; RFC 4343).
+mod chains;
 mod compare;
 mod parsed;
 mod parts;

@@ -4,7 +4,7 @@ ghost use Rattle.std.specs.Char.{to_ascii_lowercase};
 ghost use Rattle.dns_label.specs.Name.{IsName, labels_wire, wire, low};
 ghost use Rattle.dns_name.specs.FlatWire.{octets_in};
 
-use crate::{ToLabelIter, ToName};
+use crate::{ToLabelIter, ToName, ToRelativeName};
 use arrayvec::ArrayVec;
 
 /// The octets of an absolute name: lent where they lie so already, and else written out.
@@ -60,5 +60,28 @@ pub fn flat_octets<N: ToLabelIter>(name: &N) -> ArrayVec<u8, 255>
             unreachable!();
         }
     }
+    octets
+}
+
+/// The octets of the relative name.
+pub fn labels_of<N: ToRelativeName>(name: &N) -> FlatWire<'_>
+    ensures octets { octets_in result ≡ labels_wire (N.labels name.now) }
+    ensures name { IsName (N.labels name.now) }
+{
+    match name.as_flat_slice() {
+        Some(octets) => FlatWire::Lent(octets),
+        None => FlatWire::Written(flat_octets(name)),
+    }
+}
+
+/// The octets of the relative name in lower case.
+pub fn lowered_labels_of<N: ToRelativeName>(name: &N) -> ArrayVec<u8, 255>
+    ensures octets { result.items ≡ labels_wire (low (N.labels name.now)) }
+    ensures name { IsName (low (N.labels name.now)) }
+    ensures long { length result.items ≡ length (labels_wire (N.labels name.now)) }
+{
+    let _flat = name.as_flat_slice();
+    let mut octets = flat_octets(name);
+    octets.as_mut_slice().make_ascii_lowercase();
     octets
 }

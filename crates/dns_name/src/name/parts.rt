@@ -67,7 +67,7 @@ impl<Octs: Octets> Name<Octs> {
         requires in_order { start ≤ end }
         ensures { IsBetween self.now start end result }
     {
-        self.for_relative().between(start, end)
+        self.slice(start, end)
     }
 
     /// The name from the place `start` on.

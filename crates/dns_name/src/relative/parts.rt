@@ -114,7 +114,7 @@ impl<Octs: Octets> RelativeName<Octs> {
         requires in_order { start ≤ end }
         ensures { IsBetween self.now start end result }
     {
-        self.for_ref().between(start, end)
+        self.slice(start, end)
     }
 
     /// The labels in front of the place, and those from there on.

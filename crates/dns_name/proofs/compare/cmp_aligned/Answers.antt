@@ -1,4 +1,4 @@
-use Rattle.std.proofs.Common.{◌≡◌, List, ℕ, length, sym, ◌∙◌, arith, ap, ap₂}
+use Rattle.std.proofs.Common.{◌≡◌, List, ℕ, length, ◌∙◌, arith, ap, ap₂}
 use Rattle.std.specs.Ordering.{ordering_then}
 use Rattle.dns_name.specs.Order.{label_order}
 use Rattle.dns_name.proofs.Orders.{order_more}

@@ -1,4 +1,4 @@
-use Rattle.std.proofs.Common.{◌≡◌, ◌-◌, List, ℕ, length, drop, sym, ◌∙◌, arith, ap, ap₂}
+use Rattle.std.proofs.Common.{◌≡◌, ◌-◌, List, ℕ, length, drop, ◌∙◌, arith, ap₂}
 use Rattle.std.specs.Ordering.{nat_cmp}
 use Rattle.dns_name.proofs.Orders.{order_aligned, aligned}
 use Rattle.dns_name.proofs.compare.cmp_labels.Goals as goal

@@ -1,4 +1,4 @@
-use Rattle.std.proofs.Common.{◌≡◌, ◌≤◌, length, sym, ◌∙◌, arith, ap, ℕ}
+use Rattle.std.proofs.Common.{◌≡◌, length, sym, ◌∙◌, arith}
 use Rattle.dns_name.proofs.Orders.{order_end, count_end}
 use Rattle.dns_name.proofs.compare.cmp_octets.Goals as goal
 

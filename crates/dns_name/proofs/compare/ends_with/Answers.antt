@@ -1,4 +1,4 @@
-use Rattle.std.proofs.Common.{◌≡◌, ◌+◌, ◌<◌, ◌≤◌, List, ℕ, length, drop, sym, ◌∙◌, arith, ap}
+use Rattle.std.proofs.Common.{◌≡◌, ◌+◌, ◌≤◌, length, drop, sym, ◌∙◌, arith, ap}
 use Rattle.dns_label.specs.Name.{low}
 use Rattle.dns_name.proofs.Case.{ends_on, ends_back, ends_short}
 use Rattle.dns_name.proofs.compare.ends_with.Goals as goal

@@ -1,4 +1,4 @@
-use Rattle.std.proofs.Common.{◌≡◌, List, ℕ, [], refl, sym, subst, ap}
+use Rattle.std.proofs.Common.{List, ℕ, refl, sym, subst}
 use Rattle.dns_label.specs.Name.{low}
 use Rattle.dns_name.specs.Suffix.{StartsWith}
 use Rattle.dns_name.proofs.compare.starts_with.Goals as goal

@@ -1,4 +1,4 @@
-use Rattle.std.proofs.Common.{◌≡◌, ◌++◌, ◌∷◌, [], length, rules, arith, ℕ, refl, ap}
+use Rattle.std.proofs.Common.{◌≡◌, length, rules, arith, ℕ, refl, ap}
 use borrow.Author.Tests.{tests}
 use Rattle.dns_name.proofs.Flat.{leads_here}
 use Rattle.dns_name.proofs.RelativeForms.{leads_on, leads_end, leads_root, leads_none}

@@ -1,6 +1,6 @@
-use Rattle.std.proofs.Common.{◌≡◌, ◌+◌, [], ap, arith, length, ℕ, refl}
+use Rattle.std.proofs.Common.{◌≡◌, ◌+◌, [], arith, refl}
 use Rattle.dns_name.proofs.Flat.{some_octets}
-use Rattle.dns_name.proofs.Heads.{to_pointer, label-within, short-no_pointer, bad_type-no_pointer}
+use Rattle.dns_name.proofs.Heads.{to_pointer, label-within}
 use Rattle.dns_name.proofs.Skipping.{skips-root, skips-pointer, skips-label, skips-behind, skips-bad_type, skips-short, pointer-within}
 use Rattle.dns_name.proofs.skip.skip_name.Goals as goal
 

@@ -1,5 +1,5 @@
 use Rattle.std.proofs.Common.{arith, length, ℕ, ap}
-use Rattle.dns_name.proofs.NameParts.{rootless_written, rootless_is, some_octet}
+use Rattle.dns_name.proofs.NameParts.{rootless_written, rootless_is}
 use Rattle.dns_name.proofs.Wire.{length-wire_is}
 use Rattle.dns_name.proofs.name.Name.into_relative.Goals as goal
 

@@ -1,5 +1,5 @@
-use Rattle.std.proofs.Common.{◌≡◌, ◌∙◌, sym, [], ◌∷◌, List, ℕ}
-use Rattle.dns_label.specs.Name.{labels_wire, with_root}
+use Rattle.std.proofs.Common.{◌≡◌, ◌∙◌, sym}
+use Rattle.dns_label.specs.Name.{with_root}
 use Rattle.dns_name.proofs.FlatForms.{are_labels, flat_is, short_with_root}
 use Rattle.dns_name.proofs.Wire.{few_labels, labels_wire-with_root}
 use Rattle.dns_name.proofs.name.Name.iter.Goals as goal

@@ -1,4 +1,4 @@
-use Rattle.std.proofs.Common.{ap, sym, refl}
+use Rattle.std.proofs.Common.{inr, ap, sym, refl}
 use Rattle.std.proofs.lemmas.Grind.{merely}
 use Rattle.dns_label.specs.Name.{wire, with_root}
 use Rattle.dns_name.proofs.Flat.{flat-reads, flat-labels}
@@ -20,3 +20,6 @@ returns-clause-few g c = few_labels _ c.as_slice-octets.ensures.name
 
 pub returns-clause-short : goal.returns-clause-short
 returns-clause-short g c = short_wire _ c.as_slice-octets.ensures.name
+
+pub returns-clause-are : goal.returns-clause-are
+returns-clause-are g c = merely (record { name = _; is_name = c.as_slice-octets.ensures.name; listed = inr refl })

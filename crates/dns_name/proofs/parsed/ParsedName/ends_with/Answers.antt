@@ -1,4 +1,4 @@
-use Rattle.std.proofs.Common.{◌∙◌, sym, subst, List, ℕ}
+use Rattle.std.proofs.Common.{sym, subst, List, ℕ}
 use Rattle.dns_label.specs.Name.{low, with_root}
 use Rattle.dns_name.specs.ParsedName.{labels_in}
 use Rattle.dns_name.specs.Suffix.{EndsWith}

@@ -1,4 +1,4 @@
-use Rattle.std.proofs.Common.{◌≡◌, ◌+◌, List, ℕ, length, ap, ◌∙◌, arith, [], ◌∷◌, length-append}
+use Rattle.std.proofs.Common.{List, ℕ, length, ap, arith, [], ◌∷◌, length-append}
 use Rattle.dns_name.proofs.Readable.{read-few}
 use Rattle.dns_name.proofs.Suffixes.{length-suffixes}
 use Rattle.dns_label.specs.Labels.{labels_at}

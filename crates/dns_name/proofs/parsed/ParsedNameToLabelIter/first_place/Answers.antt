@@ -1,4 +1,5 @@
-use Rattle.std.proofs.Common.{arith}
+use Rattle.std.proofs.Common.{inr, refl}
+use Rattle.std.proofs.lemmas.Grind.{merely}
 use Rattle.dns_name.proofs.Readable.{read-name}
 use Rattle.dns_name.proofs.Standing.{short_wire}
 use Rattle.dns_name.proofs.Wire.{few_labels}
@@ -9,3 +10,6 @@ returns-clause-few g c = few_labels _ (read-name _ _ c.args.self.now.reads)
 
 pub returns-clause-short : goal.returns-clause-short
 returns-clause-short g c = short_wire _ (read-name _ _ c.args.self.now.reads)
+
+pub returns-clause-are : goal.returns-clause-are
+returns-clause-are g c = merely (record { name = _; is_name = (read-name _ _ c.args.self.now.reads); listed = inr refl })

@@ -1,7 +1,4 @@
-use Rattle.std.proofs.Common.{◌≡◌, ◌≤◌, ◌-◌, length, take, drop, ℕ, List, ap, arith, rules, length-take, length-drop, false, refl}
-use Rattle.dns_label.specs.Name.{wire}
-use Rattle.dns_label.specs.Labels.{labels_at}
-use Rattle.dns_name.specs.Parsed.{IsWrittenAt}
+use Rattle.std.proofs.Common.{◌≤◌, length, ℕ, ap, arith, rules}
 use Rattle.dns_name.proofs.Readable.{read-name, read-within}
 use Rattle.dns_name.proofs.parsed.ParsedNameToName.as_flat_slice.Goals as goal
 

@@ -1,6 +1,6 @@
-use Rattle.std.proofs.Common.{◌≡◌, ◌+◌, [], ap, arith, length, ℕ, refl}
+use Rattle.std.proofs.Common.{◌≡◌, ◌+◌, [], arith, refl}
 use Rattle.dns_name.proofs.Flat.{some_octets}
-use Rattle.dns_name.proofs.Heads.{to_pointer, label-within, bad_type-spells_none, short-spells_none}
+use Rattle.dns_name.proofs.Heads.{to_pointer, bad_type-spells_none, short-spells_none}
 use Rattle.dns_name.proofs.Readable.{label-labels, label-read, root-labels, none_from_merely, read-within}
 use Rattle.dns_name.proofs.Written.{written-label, written-behind, written-root, pointer-written}
 use Rattle.dns_name.proofs.parsed.parts.has_pointer.Goals as goal

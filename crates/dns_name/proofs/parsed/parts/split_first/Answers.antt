@@ -1,5 +1,4 @@
-use Rattle.std.proofs.Common.{◌≡◌, ◌∷◌, List, ℕ, length, ap, arith, length-append, ◌∙◌}
-use Rattle.dns_label.specs.Name.{wire}
+use Rattle.std.proofs.Common.{◌≡◌, ◌∷◌, ap, arith, ◌∙◌}
 use Rattle.dns_label.specs.Labels.{labels_at}
 use Rattle.dns_name.specs.Parsed.{labels_left}
 use Rattle.dns_name.proofs.Wire.{last_same, wire_more}

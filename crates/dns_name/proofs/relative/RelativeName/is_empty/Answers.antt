@@ -1,4 +1,4 @@
-use Rattle.std.proofs.Common.{◌≡◌, ◌∙◌, ap, sym, length, ℕ, List, rules, [], arith}
+use Rattle.std.proofs.Common.{◌≡◌, ◌∙◌, ap, length, ℕ, List, rules, arith}
 use borrow.Author.Tests.{tests}
 use Rattle.dns_label.specs.Name.{labels_wire}
 use Rattle.dns_name.proofs.FlatForms.{length-labels_wire}

@@ -1,4 +1,4 @@
-use Rattle.std.proofs.Common.{◌≡◌, List, ℕ, subst, sym}
+use Rattle.std.proofs.Common.{List, ℕ, subst}
 use Rattle.std.specs.Prelude.{IsTrue, ◌↔◌}
 use Rattle.dns_name.specs.Parts.{IsLabelStart}
 use Rattle.dns_name.proofs.FlatForms.{are_labels, flat_is, short_labels}

@@ -1,4 +1,4 @@
-use Rattle.std.proofs.Common.{◌≡◌, ◌∙◌, ap, length, ℕ, List, arith, [], ◌∷◌, length-append}
+use Rattle.std.proofs.Common.{◌∙◌, ap, length, ℕ, List, arith, [], ◌∷◌, length-append}
 use Rattle.dns_name.proofs.FlatForms.{are_labels, flat_is, short_labels}
 use Rattle.dns_name.proofs.Wire.{few_labels}
 use Rattle.dns_name.proofs.relative.RelativeName.iter.Goals as goal

@@ -1,5 +1,4 @@
-use Rattle.std.proofs.Common.{◌≡◌, ◌+◌, List, ℕ, length, arith, refl}
-use Rattle.dns_label.specs.Name.{labels_wire}
+use Rattle.std.proofs.Common.{arith, refl}
 use Rattle.dns_name.proofs.PartForms.{stripped, strip_start, strip_within, strip_rest}
 use Rattle.dns_name.proofs.relative.RelativeName.strip_suffix.Goals as goal
 

@@ -1,4 +1,4 @@
-use Rattle.std.proofs.Common.{◌≡◌, List, ℕ, ap, ◌∙◌, subst}
+use Rattle.std.proofs.Common.{List, ℕ, ap, ◌∙◌, subst}
 use Rattle.dns_label.specs.Name.{IsName, labels_wire}
 use Rattle.dns_name.proofs.FlatForms.{relative-octets}
 use Rattle.dns_name.proofs.PartForms.{front_written, front_is, is_front}

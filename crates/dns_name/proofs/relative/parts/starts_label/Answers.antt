@@ -1,4 +1,4 @@
-use Rattle.std.proofs.Common.{◌≡◌, ◌+◌, ◌≤◌, length, arith, ap, ℕ, refl}
+use Rattle.std.proofs.Common.{◌≡◌, ◌+◌, ◌≤◌, length, arith, refl}
 use Rattle.dns_name.proofs.PartForms.{start_on, start_back, start_none, start_at}
 use Rattle.dns_name.proofs.relative.parts.starts_label.Goals as goal
 

@@ -1,6 +1,6 @@
-use Rattle.std.proofs.Common.{◌≡◌, sym, ◌∙◌, ap, map, List, ℕ}
+use Rattle.std.proofs.Common.{sym, ◌∙◌, ap, map}
 use Rattle.std.specs.Char.{to_ascii_lowercase}
-use Rattle.dns_label.specs.Name.{low, with_root}
+use Rattle.dns_label.specs.Name.{low}
 use Rattle.dns_name.proofs.LowNames.{low_octets, low_same}
 use Rattle.dns_name.proofs.Case.{low_with_root, low_without_root}
 use Rattle.dns_name.proofs.to_name.ToName.name_eq.Goals as goal

@@ -1,4 +1,4 @@
-use Rattle.std.proofs.Common.{◌≡◌, ◌∙◌, ap, length, ℕ, subst}
+use Rattle.std.proofs.Common.{◌∙◌, ap, length, ℕ, subst}
 use Rattle.dns_octets.specs.Builder.{IsPast}
 use Rattle.dns_name.proofs.Flat.{flat-written}
 use Rattle.dns_name.proofs.LowNames.{made_same}

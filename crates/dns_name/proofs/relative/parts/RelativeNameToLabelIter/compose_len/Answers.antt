@@ -1,4 +1,4 @@
-use Rattle.std.proofs.Common.{◌<◌, ◌^◌, arith, rules}
+use Rattle.std.proofs.Common.{◌<◌, arith, rules}
 use Rattle.dns_name.proofs.Wire.{length-wire_is}
 use Rattle.dns_name.proofs.relative.parts.RelativeNameToLabelIter.compose_len.Goals as goal
 

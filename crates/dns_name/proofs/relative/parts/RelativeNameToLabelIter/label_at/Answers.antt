@@ -1,5 +1,4 @@
-use Rattle.std.proofs.Common.{◌≡◌, ◌+◌, ◌≤◌, arith, [], ◌∷◌, length, length-append, sym, ◌∙◌, ap, drop, List, ℕ}
-use Rattle.dns_label.specs.Name.{labels_wire}
+use Rattle.std.proofs.Common.{◌+◌, arith, [], ◌∷◌, length, length-append, sym, ◌∙◌, ap, drop, ℕ}
 use Rattle.dns_name.specs.FlatLabels.{flat_labels}
 use Rattle.dns_name.proofs.PartForms.{rest_of, rest_next}
 use Rattle.dns_name.proofs.Standing.{front_item, no_item}

@@ -1,0 +1,25 @@
+use Rattle.std.proofs.Common.{◌≡◌, ◌∙◌, ◌++◌, sym, ap, List, ℕ}
+use Rattle.dns_label.specs.Name.{labels_wire, wire, with_root}
+use Rattle.dns_name.specs.ChainLaws.{rooted_behind}
+use Rattle.dns_name.proofs.Case.{wire_one}
+use Rattle.dns_name.proofs.Flat.{flat-written}
+use Rattle.dns_name.proofs.Wire.{labels_wire-with_root}
+use Rattle.dns_name.proofs.chain.ends.ChainToName.to_vec.Goals as goal
+
+-- the octets of the labels are the name's
+labels_are : (front : List (List ℕ)) {labels : List (List ℕ)} (name : List (List ℕ)) → labels ≡ with_root name → labels_wire (front ++ labels) ≡ wire (front ++ name)
+labels_are front name is = ap labels_wire (rooted_behind front name is) ∙ labels_wire-with_root (front ++ name)
+
+pub of_wire-requires : goal.of_wire-requires
+of_wire-requires g c =
+    let left = g.L.ToLabelIter.labels c.args.self.now.left in
+    let right = g.R.ToName.name c.args.self.now.right in
+    flat-written _ (left ++ right) c.as_flat_slice-flat.ensures.name
+    (c.in_ok-octets.ensures.items ∙ c.as_slice.ensures.value ∙ c.flat_octets.ensures ∙ labels_are left right (g.met.R.ToName.is_absolute c.args.self.now.right))
+
+pub returns : goal.returns
+returns g c =
+    let left = g.L.ToLabelIter.labels c.args.self.now.left in
+    let right = g.R.ToName.name c.args.self.now.right in
+    wire_one _ (left ++ right)
+    (sym c.of_wire.ensures ∙ c.in_ok-octets.ensures.items ∙ c.as_slice.ensures.value ∙ c.flat_octets.ensures ∙ labels_are left right (g.met.R.ToName.is_absolute c.args.self.now.right))
