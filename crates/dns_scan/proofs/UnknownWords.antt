@@ -1,5 +1,5 @@
 -- The number of octets in front of data of an unknown type.
-use Rattle.std.proofs.Common.{◌≡◌, ℕ, List, [], ◌∷◌, ◌++◌, refl, sym, ◌∙◌, ap, subst, append_assoc}
+use Rattle.std.proofs.Common.{◌≡◌, ℕ, List, [], ◌∷◌, ◌++◌, sym, ◌∙◌, ap, append_assoc}
 use Rattle.std.specs.Prelude.{Option, Some}
 use Rattle.dns_scan.specs.Scans.{ScansWord}
 use Rattle.dns_scan.specs.Token.{Token, IsEnding}
