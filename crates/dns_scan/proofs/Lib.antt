@@ -10,3 +10,4 @@ pub mod Encodings
 pub mod Tokens
 pub mod Numerals
 pub mod Entries
+pub mod UnknownWords

@@ -10,3 +10,4 @@ pub mod Token
 pub mod Scans
 pub mod StrError
 pub mod ScanError
+pub mod UnknownData

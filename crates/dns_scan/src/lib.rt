@@ -26,6 +26,7 @@ mod spelled;
 mod string_text;
 #[cfg(test)]
 mod tests;
+mod unknown_data;
 mod values;
 
 pub use char_str::{CharStr, CharStrError};
@@ -38,3 +39,4 @@ pub use scan::Scan;
 pub use scanner::Scanner;
 pub use scanner_error::{ScannerError, StrError};
 pub use string_text::{DisplayQuoted, DisplayUnquoted, FromStrError, PresentationError};
+pub use unknown_data::scan_unknown_octets;

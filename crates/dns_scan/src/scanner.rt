@@ -12,7 +12,7 @@ use dns_name::{EmptyBuilder, FreezeBuilder, FromBuilder, Octets, ToName};
 /// of its value. Refused with an error other than `short_buf` only where there is no such value in front, and the tokens
 /// left are then an ending of those left before.
 pub trait Scanner {
-    type Octets: FromBuilder;
+    type Octets: FromBuilder + Drop;
 
     type OctetsBuilder: EmptyBuilder + FreezeBuilder<Octets = Self::Octets> + Drop;
 

@@ -2,3 +2,16 @@ pub mod Tokens
 pub mod Numbers
 pub mod Document
 pub mod Tried
+pub use Rattle.dns_scan.specs.CharStr
+pub use Rattle.dns_scan.specs.CharStrBuilder
+pub use Rattle.dns_scan.specs.StringText
+pub use Rattle.dns_scan.specs.Refused
+pub use Rattle.dns_scan.specs.Bits
+pub use Rattle.dns_scan.specs.Base
+pub use Rattle.dns_scan.specs.Decoding
+pub use Rattle.dns_scan.specs.Encodings
+pub use Rattle.dns_scan.specs.Token
+pub use Rattle.dns_scan.specs.Scans
+pub use Rattle.dns_scan.specs.StrError
+pub use Rattle.dns_scan.specs.ScanError
+pub use Rattle.dns_scan.specs.UnknownData

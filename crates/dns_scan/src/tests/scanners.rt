@@ -1,5 +1,7 @@
 //! Scanners: tokens in and values out (RFC 1035 5.1), and error texts.
-use crate::{IterScanner, Scan, Scanner, ScannerError, StrError, base16, base32, base64};
+use crate::{
+    IterScanner, Scan, Scanner, ScannerError, StrError, base16, base32, base64, scan_unknown_octets,
+};
 use dns_name::{Class, Name, OctetsBuilder, Rtype, Serial, Ttl};
 use std::alloc::Global;
 use std::test::Fail;
@@ -130,6 +132,29 @@ fn the_rest_of_an_entry_is_decoded(rt: HostRuntime) -> Result<(), Fail> {
     assert_eq!(rt;
         base64::scan_entry(&mut scanner)?.as_slice(),
         b"foob".as_slice()
+    );
+    Ok(())
+}
+
+fn unknown_octets(alloc: Global, words: &str) -> Result<Vec<u8>, StrError> {
+    let mut scanner = over(alloc, words)?;
+    scan_unknown_octets(&mut scanner)
+}
+
+/// RFC 3597 5.
+#[test]
+fn data_of_unknown_types(rt: HostRuntime) -> Result<(), Fail> {
+    let number = Some(StrError::Custom("another number of octets"));
+    assert_eq!(rt;
+        unknown_octets(rt.alloc(), "4 0A00 0001")?.as_slice(),
+        b"\x0a\x00\x00\x01".as_slice()
+    );
+    assert!(rt; unknown_octets(rt.alloc(), "0")?.is_empty());
+    assert_eq!(rt; unknown_octets(rt.alloc(), "3 0A000001").err(), number);
+    assert_eq!(rt; unknown_octets(rt.alloc(), "5 0A000001").err(), number);
+    assert_eq!(rt;
+        unknown_octets(rt.alloc(), "").err(),
+        Some(StrError::EndOfEntry)
     );
     Ok(())
 }
