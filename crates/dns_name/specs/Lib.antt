@@ -43,6 +43,6 @@ pub use Rattle.dns_label.specs.Digit
 pub mod Built
 pub mod DigitLabels
 pub mod Reverse
-pub mod WrittenParts
+pub mod Page
 pub mod BuiltText
 pub mod TextErrors
