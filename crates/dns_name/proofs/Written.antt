@@ -6,8 +6,8 @@ use Rattle.std.specs.Prelude.{slice_index_or, Result, Ok, Err, OnOk}
 use Rattle.dns_octets.specs.Builder.{Standing, Known, StandsBetween, GrowsTo}
 use Rattle.dns_name.specs.Spelling.{Spelling, name_text}
 use Rattle.dns_name.specs.Remembered.{IsKnown, is_free, patched}
-use Rattle.dns_name.specs.Parts.{Page, Parts, with_octets, with_name, with_count, write}
-use Rattle.dns_name.specs.Parts.Parts.{End, Octets, Named, Counted}
+use Rattle.dns_name.specs.Page.{Page, Parts, with_octets, with_name, with_count, write}
+use Rattle.dns_name.specs.Page.Parts.{End, Octets, Named, Counted}
 use Rattle.dns_name.specs.RecordData.{page_of, IsComposedLength}
 use Rattle.dns_name.proofs.Known.{known-append_cases, each_known, free_from}
 use Rattle.dns_name.proofs.Spelled.{StopsBefore}

@@ -6,7 +6,7 @@ pub mod Text
 pub mod Draft
 pub mod Spelling
 pub mod Remembered
-pub mod Parts
+pub mod Page
 pub mod RecordData
 pub mod Unknown
 pub mod UnknownText

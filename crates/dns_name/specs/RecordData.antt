@@ -4,7 +4,7 @@ use Rattle.dns_octets.specs.Builder.{Known}
 use Rattle.dns_octets.specs.Parser.{octets_of, place_of}
 use Rattle.dns_octets.specs.declared.parser.Parser.{Parser}
 use Rattle.dns_name.specs.Spelling.{Spelling, compresses}
-use Rattle.dns_name.specs.Parts.{Page, Parts, with_octets, write}
+use Rattle.dns_name.specs.Page.{Page, Parts, with_octets, write}
 
 abbrev pub page_of : List ℕ → Known → Page
 page_of octets known = record { octets = octets; known = known }

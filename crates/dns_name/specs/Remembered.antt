@@ -1,7 +1,7 @@
 -- What is remembered is there: each suffix is spelled where it is said to stand.
 use Rattle.std.specs.Prelude.{◌≡◌, ◌≤◌, ◌<◌, ◌+◌, ℕ, Bool, true, Option, Some, None, if◌then◌else◌, List, [], ◌∷◌, ◌++◌, length, take, drop, nat_le}
 use Rattle.std.specs.List.{list_all}
-use Rattle.std.proofs.Common.{arith}
+use Rattle.std.proofs.Common.{zero-le}
 use Rattle.dns_octets.specs.Builder.{Standing, Known, IsWithin}
 use Rattle.dns_name.specs.Spelling.{Spelling, is_same, pointer_to}
 
@@ -59,7 +59,7 @@ sound_none s octets = record { few = none s.most; each = λ standing is. elim is
   where
     none : (most : Option ℕ) → IsWithin most 0
     none None = tt
-    none (Some most) = Prim.omega arith
+    none (Some most) = zero-le
 
 -- no remembered suffix is spelled between the two places
 abbrev pub is_free : ℕ → ℕ → Known → Bool

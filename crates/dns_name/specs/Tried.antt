@@ -2,8 +2,8 @@
 use Rattle.std.specs.Prelude.{◌≡◌, ◌+◌, ℕ, zero, suc, true, false, Some, None, List, [], ◌∷◌, ◌++◌, length, take, drop, refl}
 use Rattle.dns_octets.specs.Builder.{before}
 use Rattle.dns_name.specs.Spelling.{Spelling, plain, text_from, added_from, name_text, known_after}
-use Rattle.dns_name.specs.Parts.{Page, write, with_name}
-use Rattle.dns_name.specs.Parts.Parts.{End, Named, Octets, Counted}
+use Rattle.dns_name.specs.Page.{Page, write, with_name}
+use Rattle.dns_name.specs.Page.Parts.{End, Named, Octets, Counted}
 
 -- at most 24 suffixes, the same up to case
 abbrev pub table : Spelling

@@ -4,8 +4,8 @@ ghost use Rattle.std.specs.Int.{to_be_bytes, w16};
 ghost use Rattle.dns_octets.specs.Builder.{GrowsTo, IsWithin, IsPast};
 ghost use Rattle.dns_octets.specs.Parser.{octets_of, place_of};
 ghost use Rattle.dns_octets.specs.declared.error.AppendError.TheVariants.{ShortBuf, BadLength};
-ghost use Rattle.dns_name.specs.Parts.{Parts, write};
-ghost use Rattle.dns_name.specs.Parts.Parts.{End, Counted};
+ghost use Rattle.dns_name.specs.Page.{Parts, write};
+ghost use Rattle.dns_name.specs.Page.Parts.{End, Counted};
 ghost use Rattle.dns_name.specs.RecordData.{page_of, counted_length, IsComposedLength, IsAtEnd};
 
 mod counted;

@@ -6,7 +6,7 @@ ghost use Rattle.std.specs.Cmp.{partial_order_from_own_ties};
 ghost use Rattle.std.specs.Cmp.Rules.{comparing, hashing};
 ghost use Rattle.std.specs.Hash as fed;
 ghost use Rattle.std.specs.Ordering.{as_partial_cmp};
-ghost use Rattle.dns_name.specs.Parts.Parts.{End, Octets};
+ghost use Rattle.dns_name.specs.Page.Parts.{End, Octets};
 ghost use Rattle.dns_name.specs.Unknown.{UnknownData, unknown_eq, unknown_cmp, IsUnknownAt};
 
 mod show;

@@ -3,8 +3,8 @@ ghost use Rattle.std.specs.Prelude.{◌≡◌, ◌≤◌, ◌<◌, ◌+◌, ◌-
 ghost use Rattle.std.specs.Int.{to_be_bytes, w16};
 ghost use Rattle.dns_octets.specs.Builder.{GrowsTo, IsPast};
 ghost use Rattle.dns_octets.specs.declared.error.AppendError.TheVariants.{ShortBuf, BadLength};
-ghost use Rattle.dns_name.specs.Parts.{with_count, write};
-ghost use Rattle.dns_name.specs.Parts.Parts.{End, Counted};
+ghost use Rattle.dns_name.specs.Page.{with_count, write};
+ghost use Rattle.dns_name.specs.Page.Parts.{End, Counted};
 ghost use Rattle.dns_name.specs.Remembered.{is_free};
 ghost use Rattle.dns_name.specs.RecordData.{page_of, counted_length};
 

@@ -1,7 +1,7 @@
 use Rattle.std.proofs.Common.{◌≡◌, ◌+◌, ℕ, length, ◌∷◌, [], ◌∙◌, sym, ap, rules, arith, length-append}
 use Rattle.std.specs.Prelude.{Err}
 use Rattle.dns_octets.specs.declared.error.AppendError.TheVariants.{ShortBuf}
-use Rattle.dns_name.specs.Parts.{Page, with_octets, with_count, write}
+use Rattle.dns_name.specs.Page.{Page, with_octets, with_count, write}
 use Rattle.dns_name.specs.RecordData.{page_of}
 use Rattle.dns_name.proofs.Soundness.{merely-within}
 use Rattle.dns_name.proofs.Growth.{GrowsTo-trans, IsPast-more, IsPast-from}
