@@ -6,7 +6,7 @@ use Rattle.dns_name.proofs.composer.in_full.append_labels.Goals as goal
 pub loop-label-init : goal.loop-label-init
 loop-label-init g c = (
   appends_none _ _ _ _ _
-      (c.into_iter-label-iterator.ensures.into_iter_gives ∙ c.iter_labels-label-items.ensures ∙ g.met.N.ToName.is_absolute c.args.name.now),
+      (c.into_iter-label-iterator.ensures.into_iter_gives ∙ c.iter_labels-label-items.ensures.labels ∙ g.met.N.ToName.is_absolute c.args.name.now),
   g.met.T.OctetsBuilder.stays_here c.args.target.now,
 )
 
