@@ -1,11 +1,12 @@
 //! Character strings (RFC 1035 3.3).
-ghost use Rattle.std.specs.Prelude.{◌≡◌, ◌+◌, ◌≤◌, ◌↔◌, List, ℕ, [], ◌∷◌, ◌++◌, length, take, fold, IsTrue, IsOk, IfOk, OnOk, OnErr, nat_eq, false, Some};
+ghost use Rattle.std.specs.Prelude.{◌≡◌, ◌+◌, ◌≤◌, ◌↔◌, List, ℕ, [], length, take, fold, IsTrue, IsOk, IfOk, OnOk, OnErr, nat_eq, Some, Err};
 ghost use Rattle.std.specs.Ordering.{on, as_partial_cmp, nat_cmp};
-ghost use Rattle.std.specs.Cmp.{partial_order_from_own_ties};
 ghost use Rattle.std.specs.Cmp.Lexicographic.{pointwise, slice_cmp};
 ghost use Rattle.std.specs.Cmp.Rules.{comparing, hashing};
 ghost use Rattle.std.specs.Hash as fed;
 ghost use Rattle.std.proofs.Common.{rules};
+ghost use Rattle.dns_octets.specs.Builder.{IsPast};
+ghost use Rattle.dns_octets.specs.declared.error.AppendError.TheVariants.{ShortBuf, BadLength};
 ghost use Rattle.dns_scan.specs.CharStr.{string_wire, StartsWithString, lower};
 ghost use Rattle.dns_octets.specs.Parser.{GoesOn, rest_of};
 
@@ -279,12 +280,15 @@ impl<Octs: Octets> CanonicalOrd for CharStr<Octs> {
     }
 }
 
-/// The same string over other octets.
+/// The same string over other octets. Refused with `ShortBuf` only where these may not hold it, and with `OutOfMemory` where
+/// the memory was refused.
 impl<Source: Octets + Drop, Octs: FromBuilder> OctetsFrom<CharStr<Source>> for CharStr<Octs>
 where
     Octs::Builder: EmptyBuilder + Drop,
 {
-    ghost octets_from_gives = { λ source result. IfOk result (λ string. string ≡ source) };
+    ghost octets_from_gives = { λ source result. IfOk result (λ string. string ≡ source)
+        × (result ≡ Err ShortBuf → IsPast Octs.Builder.limit (length source))
+        × (result ≡ Err BadLength → ⊥) };
 
     fn try_octets_from(alloc: Global, source: CharStr<Source>) -> Result<Self, AppendError> {
         let mut builder = Octs::Builder::empty(alloc);

@@ -1,5 +1,5 @@
 //! Building character strings.
-ghost use Rattle.std.specs.Prelude.{◌≡◌, ◌≤◌, ◌<◌, ◌↔◌, List, ℕ, [], length, Err, IsTrue, IsOk, IfOk, OnOk};
+ghost use Rattle.std.specs.Prelude.{◌≡◌, ◌≤◌, ◌<◌, ◌↔◌, [], length, Err, IsTrue, IsOk, IfOk, OnOk};
 ghost use Rattle.dns_octets.specs.Builder.{IsWithin, IsPast};
 ghost use Rattle.dns_scan.specs.CharStr.{at_most_255};
 ghost use Rattle.dns_octets.specs.declared.error.AppendError.TheVariants.{ShortBuf, BadLength};

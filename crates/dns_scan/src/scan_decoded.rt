@@ -1,5 +1,5 @@
 //! The rest of an entry in an encoding of RFC 4648.
-ghost use Rattle.std.specs.Prelude.{◌≡◌, List, ℕ, [], false, true, IfOk, IfErr, OnErr};
+ghost use Rattle.std.specs.Prelude.{◌≡◌, List, ℕ, [], false, IfOk, IfErr, OnErr};
 ghost use Rattle.std.specs.Str.{chars};
 ghost use Rattle.dns_scan.specs.Base.{Decodes};
 ghost use Rattle.dns_scan.specs.ScanError.{is_want_of_room};
