@@ -4,7 +4,7 @@ use crate::receive::{ReceiveError, Receiver};
 use crate::transfer::{Spelling, send};
 use crate::zone::Zone;
 use dns_name::Class;
-use std::alloc::{AllocError, Global};
+use std::alloc::Global;
 use std::test::Fail;
 
 const ZONE: &[u8] = b"a. 60 IN SOA b. c. 1 2 3 4 5\na. 60 IN A 1.2.3.4\n";
@@ -13,14 +13,9 @@ const ZONE: &[u8] = b"a. 60 IN SOA b. c. 1 2 3 4 5\na. 60 IN A 1.2.3.4\n";
 const QUERY: &[u8] = b"\x12\x34\x00\x00\x00\x01\x00\x00\x00\x00\x00\x00\x01a\x00\x00\xfc\x00\x01";
 
 /// The stream of the zone's transfer in messages of at most so many octets.
-fn sent(alloc: Global, max: u16) -> Result<Vec<u8>, AllocError> {
-    let Ok(zone) = Zone::read(alloc, ZONE, None, Class::IN) else {
-        return Err(AllocError);
-    };
-    let Ok(stream) = send(alloc, &zone, QUERY, max, Spelling::Plain) else {
-        return Err(AllocError);
-    };
-    Ok(stream)
+fn sent(alloc: Global, max: u16) -> Option<Vec<u8>> {
+    let zone = Zone::read(alloc, ZONE, None, Class::IN).ok()?;
+    send(alloc, &zone, QUERY, max, Spelling::Plain).ok()
 }
 
 /// What a receiver answers that is fed the stream in pieces of `len` octets, with an empty piece behind each: how many
@@ -55,7 +50,7 @@ fn again(alloc: Global, zone: &Zone, max: u16) -> Option<Vec<u8>> {
 fn takes_a_stream_in_pieces_of_any_size(rt: HostRuntime) -> Result<(), Fail> {
     let alloc = rt.alloc();
     for max in [58, 512] {
-        let stream = sent(alloc, max)?;
+        let stream = sent(alloc, max).expect(&rt, "a stream");
         for len in [1, 2, 3, 59, 60, 61, 1000] {
             let mut receiver = Receiver::new(alloc, QUERY)?;
             assert_eq!(rt; receiver.is_done(), false);
@@ -77,7 +72,7 @@ fn takes_a_stream_in_pieces_of_any_size(rt: HostRuntime) -> Result<(), Fail> {
 #[test]
 fn takes_no_octet_behind_the_transfer(rt: HostRuntime) -> Result<(), Fail> {
     let alloc = rt.alloc();
-    let mut stream = sent(alloc, 512)?;
+    let mut stream = sent(alloc, 512).expect(&rt, "a stream");
     stream.push(255)?;
     let mut receiver = Receiver::new(alloc, QUERY)?;
     assert_eq!(rt; receiver.feed(stream.as_slice()), Ok(116));
@@ -88,7 +83,7 @@ fn takes_no_octet_behind_the_transfer(rt: HostRuntime) -> Result<(), Fail> {
 #[test]
 fn has_no_zone_before_the_end(rt: HostRuntime) -> Result<(), Fail> {
     let alloc = rt.alloc();
-    let stream = sent(alloc, 512)?;
+    let stream = sent(alloc, 512).expect(&rt, "a stream");
     let mut receiver = Receiver::new(alloc, QUERY)?;
     assert_eq!(rt; receiver.feed(part(stream.as_slice(), 0, 115)), Ok(115));
     assert_eq!(rt; receiver.is_done(), false);
@@ -114,7 +109,7 @@ fn refusal(alloc: Global, stream: &[u8], place: usize, octet: u8) -> Option<Rece
 #[test]
 fn refuses_by_the_first_rule(rt: HostRuntime) -> Result<(), Fail> {
     let alloc = rt.alloc();
-    let stream = sent(alloc, 512)?;
+    let stream = sent(alloc, 512).expect(&rt, "a stream");
     let stream = stream.as_slice();
     assert_eq!(rt; refusal(alloc, stream, 1, 11), Some(ReceiveError::Short));
     assert_eq!(rt; refusal(alloc, stream, 2, 0), Some(ReceiveError::Id));
@@ -169,7 +164,7 @@ fn refuses_by_the_first_rule(rt: HostRuntime) -> Result<(), Fail> {
 #[test]
 fn refuses_a_record_behind_the_last_soa(rt: HostRuntime) -> Result<(), Fail> {
     let alloc = rt.alloc();
-    let mut stream = sent(alloc, 512)?;
+    let mut stream = sent(alloc, 512).expect(&rt, "a stream");
     stream.extend_from_slice(b"\x01a\x00\x00\x01\x00\x01\x00\x00\x00\x3c\x00\x04\x01\x02\x03\x04")?;
     set(&mut stream, 1, 131);
     let stream = stream.as_slice();
@@ -193,7 +188,7 @@ fn refuses_a_record_behind_the_last_soa(rt: HostRuntime) -> Result<(), Fail> {
 #[test]
 fn takes_a_later_message_without_its_question(rt: HostRuntime) -> Result<(), Fail> {
     let alloc = rt.alloc();
-    let whole = sent(alloc, 58)?;
+    let whole = sent(alloc, 58).expect(&rt, "a stream");
     let whole = whole.as_slice();
     // The second message has 36 octets, of which the question takes seven.
     let mut stream = Vec::from_slice(alloc, part(whole, 0, 60))?;
