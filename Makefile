@@ -12,4 +12,8 @@ test:
 build:
 	@mkdir -p build && cd $(ZONE) && rt run -- $$(cat args) < stdin > /dev/null && cp out/zone_main ../../build/zonewire
 
-.PHONY: run test build
+# Processor time and memory of the proved program, beside other zone readers that are installed (an idle machine, please).
+bench: build
+	@python3 bench/measure.py build/zonewire
+
+.PHONY: run test build bench

@@ -2,3 +2,6 @@ pub mod Spelling
 pub mod Taken
 pub mod SymbolFronts
 pub mod SymbolRuns
+pub mod SymbolTexts
+pub mod LabelTexts
+pub mod Seeing

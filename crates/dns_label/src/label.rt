@@ -1,11 +1,17 @@
 //! Labels, and how one is split off the front of octets.
-ghost use Rattle.std.specs.Prelude.{◌≡◌, ◌+◌, ◌-◌, ◌*◌, ◌≤◌, ◌↔◌, [], ◌∷◌, length, IsTrue, IsOk, IfOk, IfErr};
+ghost use Rattle.std.specs.Prelude.{◌≡◌, ◌+◌, ◌-◌, ◌*◌, ◌≤◌, ◌↔◌, [], ◌∷◌, length, IsTrue, IsOk, IfOk, IfErr, ⊤};
 ghost use Rattle.dns_label.specs.declared.label.SplitLabelError.TheVariants.{BadType};
 
 mod compose;
+mod lent;
 mod order;
+mod owned;
 mod print;
+mod slice_labels;
 
+pub use lent::LabelMut;
+pub use owned::{LabelFromStrError, OwnedLabel, OwnedLabelMut};
+pub use slice_labels::SliceLabelsIter;
 use std::alloc::AllocError;
 use thiserror::Error;
 
@@ -55,6 +61,12 @@ pub struct Label<'a> {
 }
 
 impl Clone for Label<'_> {
+    ghost use Rattle.dns_label.specs.Label.{octets_of};
+
+    ghost is_clone = { λ label copy. octets_of copy ≡ octets_of label };
+
+    ghost is_infallible = { λ _. ⊤ };
+
     fn clone(&self) -> Result<Self, AllocError> {
         Ok(*self)
     }

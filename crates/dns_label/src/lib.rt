@@ -8,6 +8,9 @@ mod label;
 mod symbol;
 mod symbols;
 
-pub use label::{Label, LabelTypeError, LongLabelError, SplitLabelError};
+pub use label::{
+    Label, LabelFromStrError, LabelMut, LabelTypeError, LongLabelError, OwnedLabel, OwnedLabelMut,
+    SliceLabelsIter, SplitLabelError,
+};
 pub use symbol::{BadSymbol, Symbol, SymbolCharsError};
 pub use symbols::Symbols;

@@ -1,5 +1,5 @@
 //! The symbols that characters spell, one after another.
-ghost use Rattle.std.specs.Prelude.{◌≡◌, Ok, Err, MatchResult};
+ghost use Rattle.std.specs.Prelude.{◌≡◌, Ok, Err, IsOk, IfOk, IfErr, MatchResult};
 ghost use Rattle.std.specs.Result.{ForOk};
 
 use crate::{Symbol, SymbolCharsError};
@@ -14,6 +14,7 @@ pub struct Symbols<C> {
 
 impl<C: Iterator<Item = char> + Drop> Symbols<C> {
     ghost use Rattle.dns_label.specs.Symbols.{chars_of};
+    ghost use Rattle.dns_label.specs.UsedSymbols.{MayUse, Uses, StopsUsing};
 
     /// The symbols of these characters.
     pub fn new(chars: C) -> Self
@@ -28,6 +29,24 @@ impl<C: Iterator<Item = char> + Drop> Symbols<C> {
     {
         self.chars?;
         Ok(())
+    }
+
+    /// What a closure makes of the symbols of these characters.
+    ///
+    /// Refused where the closure refuses, by its error, and where the symbols ended with an error before or while it
+    /// took them, by that error.
+    pub fn with<R: Drop, E: From<SymbolCharsError>, F: FnOnce(&mut Self) -> Result<R, E>>(
+        chars: C,
+        make: F,
+    ) -> Result<R, E>
+        requires { MayUse F.FnOnce make chars }
+        ensures ok { IfOk result (λ value. (end : Symbols C) × Uses F.FnOnce make chars (Ok value) end × IsOk (chars_of end)) }
+        ensures err { IfErr result (λ error. (end : Symbols C) × StopsUsing F.FnOnce make chars E.from_gives error end) }
+    {
+        let mut symbols = Symbols::new(chars);
+        let made = make(&mut symbols)?;
+        symbols.ok()?;
+        Ok(made)
     }
 }
 
@@ -71,5 +90,20 @@ mod tests {
         assert_eq!(rt; symbols.next(), None);
         assert_eq!(rt; symbols.next(), None);
         assert_eq!(rt; symbols.ok(), Err(SymbolCharsError::BadChar));
+    }
+
+    #[test]
+    fn a_closure_takes_the_symbols(rt: HostRuntime) {
+        assert_eq!(rt; first("a\u{e9}"), Ok(Some(Symbol::Char('a'))));
+        assert_eq!(rt; first("\u{e9}"), Err(SymbolCharsError::BadChar));
+        let refused: Result<Symbol, SymbolCharsError> = Symbols::with(
+            "a".chars(),
+            |_| Err(SymbolCharsError::ShortInput),
+        );
+        assert_eq!(rt; refused, Err(SymbolCharsError::ShortInput));
+    }
+
+    fn first(text: &str) -> Result<Option<Symbol>, SymbolCharsError> {
+        Symbols::with(text.chars(), |symbols| Ok(symbols.next()))
     }
 }

@@ -2,9 +2,10 @@
 use Rattle.std.proofs.Common.{◌≡◌, ℕ, ◌+◌, ◌<◌, ◌^◌, List, ◌++◌, length, take, drop, refl}
 use Rattle.std.specs.Int.{to_be_bytes, w16}
 use Rattle.dns_label.specs.Spelled.{Reads}
-use Rattle.dns_message.specs.Item.{Parts, Spells}
-use Rattle.dns_message.specs.Item.Parts.{End, Octets, Named, Counted}
-use Rattle.dns_message.specs.Item.Spells.{nothing, octets, named, counted}
+use Rattle.dns_name.specs.SpelledParts.{Spells}
+use Rattle.dns_name.specs.Page.{Parts}
+use Rattle.dns_name.specs.Page.Parts.{End, Octets, Named, Counted}
+use Rattle.dns_name.specs.SpelledParts.Spells.{nothing, octets, named, counted}
 
 -- octets that stand at a place, with parts behind them
 pub record BeginsWith (message : List ℕ) (place : ℕ) (text : List ℕ) (parts : Parts) (next : ℕ) : Type 0 where

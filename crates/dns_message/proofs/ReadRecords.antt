@@ -5,8 +5,9 @@ use Rattle.dns_label.proofs.Spelling.{reads_one}
 use Rattle.dns_rdata.specs.Fields.{kind_of, kinds_of}
 use Rattle.dns_rdata.proofs.Fronts.{same_fronts, same_number16, same_number32}
 use Rattle.dns_rdata.proofs.Delimited.{kinds_delimited}
-use Rattle.dns_message.specs.Item.{Parts, Spells}
-use Rattle.dns_message.specs.Item.Parts.{End, Octets, Counted}
+use Rattle.dns_name.specs.SpelledParts.{Spells}
+use Rattle.dns_name.specs.Page.{Parts}
+use Rattle.dns_name.specs.Page.Parts.{End, Octets, Counted}
 use Rattle.dns_message.specs.Record.{Record, IsRecord, IsRead, read_parts, record_parts}
 use Rattle.dns_message.specs.Record.IsRead.{typed, opaque}
 use Rattle.dns_message.proofs.Opened.{opened}

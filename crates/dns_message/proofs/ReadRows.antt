@@ -8,7 +8,7 @@ use Rattle.dns_rdata.specs.Fields.{Field, IsField, kind_of, field_octets, octets
 use Rattle.dns_rdata.specs.Fields.Field.{number8, number16, number32, ipv4, ipv6, compressible, uncompressed, string, strings, tag, rest_text, rest16, rest64}
 use Rattle.dns_rdata.proofs.Fronts.{same_fronts}
 use Rattle.dns_rdata.proofs.Delimited.{is_name_kind, Delimits, AreDelimited, field_one}
-use Rattle.dns_message.specs.Item.{Spells}
+use Rattle.dns_name.specs.SpelledParts.{Spells}
 use Rattle.dns_message.specs.Record.{read_parts}
 use Rattle.dns_message.proofs.Opened.{BeginsWith, BeginsNamed, opened}
 

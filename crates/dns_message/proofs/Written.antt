@@ -6,9 +6,11 @@ use Rattle.std.proofs.lemmas.List.{drop-take, take_at}
 use Rattle.dns_label.specs.Name.{IsName, wire}
 use Rattle.dns_label.specs.Spelled.{Reads}
 use Rattle.dns_label.proofs.Spelling.{drop_behind, spelled-written}
-use Rattle.dns_message.specs.Item.{Parts, Spells, plain}
-use Rattle.dns_message.specs.Item.Parts.{End, Octets, Named, Counted}
-use Rattle.dns_message.specs.Item.Spells.{nothing, octets, named, counted}
+use Rattle.dns_name.specs.SpelledParts.{Spells}
+use Rattle.dns_message.specs.Item.{plain}
+use Rattle.dns_name.specs.Page.{Parts}
+use Rattle.dns_name.specs.Page.Parts.{End, Octets, Named, Counted}
+use Rattle.dns_name.specs.SpelledParts.Spells.{nothing, octets, named, counted}
 
 -- parts that can be written: their names are names, and two octets can say each of their counts
 abbrev pub AreWritable : Parts → Type 0

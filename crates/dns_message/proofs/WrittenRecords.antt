@@ -8,8 +8,10 @@ use Rattle.dns_label.proofs.Spelling.{drop_behind}
 use Rattle.dns_rdata.specs.Fields.{Field, IsField, IsData, field_octets, octets}
 use Rattle.dns_rdata.specs.Fields.Field.{number8, number16, number32, ipv4, ipv6, compressible, uncompressed, string, strings, tag, rest_text, rest16, rest64}
 use Rattle.dns_rdata.specs.Fields.IsData.{typed as typed_data, opaque as opaque_data}
-use Rattle.dns_message.specs.Item.{Parts, Spells, plain}
-use Rattle.dns_message.specs.Item.Parts.{End, Octets}
+use Rattle.dns_name.specs.SpelledParts.{Spells}
+use Rattle.dns_message.specs.Item.{plain}
+use Rattle.dns_name.specs.Page.{Parts}
+use Rattle.dns_name.specs.Page.Parts.{End, Octets}
 use Rattle.dns_message.specs.Question.{Question, ReadsQuestion, question_octets}
 use Rattle.dns_message.specs.Record.{Record, IsRecord, IsRead, ReadsRecord, read_parts, record_parts, record_octets}
 use Rattle.dns_message.specs.Record.IsRead.{typed, opaque}

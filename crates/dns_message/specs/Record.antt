@@ -3,7 +3,10 @@ use Rattle.std.specs.Prelude.{◌≡◌, ◌+◌, ◌<◌, ◌^◌, ℕ, List, [
 use Rattle.std.specs.Int.{to_be_bytes, w16, w32}
 use Rattle.dns_label.specs.Name.{IsName, wire}
 use Rattle.dns_rdata.specs.Fields.{Field, number8, number16, number32, ipv4, ipv6, compressible, uncompressed, string, strings, tag, rest_text, rest16, rest64, field_octets, octets, IsRow, IsData, kinds_of}
-use Rattle.dns_message.specs.Item.{Parts, End, Octets, Named, Counted, Spells}
+use Rattle.dns_name.specs.SpelledParts.{Spells}
+pub use Rattle.dns_rdata.specs.Reading.{read_parts}
+use Rattle.dns_name.specs.Page.{Parts}
+use Rattle.dns_name.specs.Page.Parts.{End, Octets, Named, Counted}
 
 -- a record: its owner's labels without the root's, and its data as uncompressed octets
 pub record Record : Type 0 where
@@ -20,19 +23,6 @@ pub record IsRecord (r : Record) : Type 0 where
   pub class : r.class < 2 ^ 16
   pub ttl : r.ttl < 2 ^ 32
   pub rdata : length r.rdata < 2 ^ 16
-
--- data as a reader takes it: every name may have a pointer (RFC 3597 4 asks readers for that)
-abbrev pub read_parts : List Field → Parts
-read_parts [] = End
-read_parts (compressible name ∷ row) = Named name (read_parts row)
-read_parts (uncompressed name ∷ row) = Named name (read_parts row)
-read_parts (field ∷ row) = Octets (field_octets field) (read_parts row)
-
--- data as a writer gives it: only a compressible name may have a pointer (RFC 3597 4)
-abbrev pub written_parts : List Field → Parts
-written_parts [] = End
-written_parts (compressible name ∷ row) = Named name (written_parts row)
-written_parts (field ∷ row) = Octets (field_octets field) (written_parts row)
 
 -- the parts of a record around those of its data
 abbrev pub record_parts : Record → Parts → Parts

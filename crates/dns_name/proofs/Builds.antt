@@ -4,12 +4,12 @@ use Rattle.std.specs.Prelude.{Option, Some, None}
 use Rattle.std.specs.List.{AllByRecursion}
 use Rattle.std.proofs.Math.Seq.{take-append_seam, drop-append_seam}
 use Rattle.std.proofs.lemmas.List.{drop-drop}
-use Rattle.dns_label.specs.Name.{IsLabel, IsName, wire, labels_wire, with_root}
+use Rattle.dns_label.specs.Name.{IsLabel, IsName, wire, labels_wire}
 use Rattle.dns_label.specs.Labels.{labels_from, labels_at}
 use Rattle.dns_label.specs.Composed.{label_wire}
 use Rattle.dns_label.proofs.Spelling.{head_in-label, drop_behind}
 use Rattle.dns_name.specs.Built.{Built, StandsFor, built_of, labels_built, built_len, with_label, ended}
-use Rattle.dns_name.proofs.Wire.{labels_wire-append, length-labels_wire_more, labels_wire-with_root, wire_is, length-wire-append}
+use Rattle.dns_name.proofs.Wire.{labels_wire-append, length-labels_wire_more, wire_is}
 use Rattle.dns_name.proofs.Drafts.{set_seam, labels_more}
 
 -- labels that stand one behind the other to the end are found
@@ -179,21 +179,3 @@ stands_name octets whole head built stands is =
 pub each_append : (front back : List (List ℕ)) → AllByRecursion IsLabel front → AllByRecursion IsLabel back → AllByRecursion IsLabel (front ++ back)
 each_append [] back each all = all
 each_append (label ∷ front) back each all = (each.0, each_append front back each.1 all)
-
--- the labels of another name behind them
-pub stands_origin : (octets whole : List ℕ) (head : Option ℕ) (built : Built) (origin : List (List ℕ)) → StandsFor octets head built
-    → IsName origin → whole ≡ octets ++ labels_wire (with_root origin) → length whole ≤ 255
-    → IsName (labels_built built ++ origin) × (whole ≡ wire (labels_built built ++ origin))
-stands_origin octets whole head built origin stands is_name is few =
-    let all : whole ≡ wire (labels_built built ++ origin) =
-    is ∙ ap (λ o. o ++ labels_wire (with_root origin)) stands.whole ∙ ap (λ o. labels_wire (labels_built built) ++ o) (labels_wire-with_root origin)
-    ∙ ap (λ o. labels_wire (labels_built built) ++ o) (wire_is origin)
-    ∙ sym (append_assoc (labels_wire (labels_built built)) (labels_wire origin) (0 ∷ []))
-    ∙ ap (λ o. o ++ 0 ∷ []) (sym (labels_wire-append (labels_built built) origin))
-    ∙ sym (wire_is (labels_built built ++ origin)) in
-    (record { labels = each_append (labels_built built) origin stands.each is_name.labels; short = omega (arith, ap (length {A = ℕ}) all) }, all)
-
-pub origin_len : (octets : List ℕ) (head : Option ℕ) (built : Built) (origin : List (List ℕ)) (labels : List (List ℕ)) → StandsFor octets head built
-    → labels ≡ with_root origin → built_len built + length (labels_wire labels) ≡ length (wire (labels_built built ++ origin))
-origin_len octets head built origin labels stands is =
-    omega (arith, length-wire-append (labels_built built) origin, ap (λ (l : List (List ℕ)). length (labels_wire l)) is, ap (length {A = ℕ}) (labels_wire-with_root origin))

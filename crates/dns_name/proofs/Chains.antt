@@ -96,7 +96,7 @@ joined_name front name is_name is_other few = record {
   short = omega (arith, ap (length {A = ℕ}) (wire-append front name), length-append (labels_wire front) (wire name));
 }
 
-never_rooted : (name : List (List ℕ)) → AllByRecursion IsLabel (with_root name) → ⊥
+pub never_rooted : (name : List (List ℕ)) → AllByRecursion IsLabel (with_root name) → ⊥
 never_rooted [] each = omega (arith, each.0.some)
 never_rooted (text ∷ name) each = never_rooted name each.1
 

@@ -1,5 +1,5 @@
 -- What characters spell, by their symbols.
-use Rattle.std.proofs.Common.{◌≡◌, ℕ, ◌≤◌, Bool, true, false, List, [], ◌∷◌, ◌++◌, refl, sym, ◌∙◌, ap, subst, inl, inr, arith}
+use Rattle.std.proofs.Common.{◌≡◌, ℕ, ◌≤◌, Bool, true, false, List, [], ◌∷◌, ◌++◌, refl, sym, ◌∙◌, ap, subst, inl, inr, arith, append_assoc}
 use Rattle.std.specs.Prelude.{Option, None, Result, Ok, Err, MatchResult}
 use Rattle.std.specs.List.{AllByRecursion, flat_map}
 use Rattle.std.specs.Iterator.{Yields, YieldsThen}
@@ -14,10 +14,11 @@ use Rattle.dns_label.specs.Taken.{RulesOut}
 use Rattle.dns_label.specs.NameText.{IsNameText}
 use Rattle.dns_label.specs.NameText.IsAbsoluteText.{root, labels}
 use Rattle.dns_label.specs.NameText.IsNameText.{absolute, relative}
+use Rattle.dns_label.proofs.SymbolTexts.{goes_on_in}
 use Rattle.dns_label.proofs.Taken.{rules_behind, rules_weaker}
 use Rattle.dns_label.proofs.SymbolRuns.{Giving, symbols_yield, symbols_drain, symbols_stop, StopsAt}
-use Rattle.dns_name.specs.Text.{SpellName}
-use Rattle.dns_name.proofs.Parts.{split_symbols, each_append, no_more}
+use Rattle.dns_name.specs.Draft.{IsReadable, AreReadable}
+use Rattle.dns_name.proofs.Parts.{split_symbols, each_append, no_more, spelled_some}
 
 -- a name's text is of symbols
 record OfSymbols (text : List ℕ) : Type 0 where
@@ -33,16 +34,18 @@ of_symbols text name (absolute (labels some has is_name)) = record { symbols = h
 of_symbols text name (relative is is_name) =
     record { symbols = is.parts.symbols; each = is.parts.each; written = is.parts.written }
 
--- a name's text that begins with the text of symbols goes on with symbols
-record More (taken : List Symbol) (rest : List ℕ) (name : List (List ℕ)) : Type 0 where
+-- a readable text that begins with the text of symbols goes on with symbols
+record More (taken : List Symbol) (rest : List ℕ) : Type 0 where
   pub more : List Symbol
   pub each : AllByRecursion IsSymbol more
   pub written : rest ≡ flat_map spelled more
-  pub spells : SpellName (taken ++ more) name
+  pub readable : AreReadable (taken ++ more)
 
-more_of : (taken : List Symbol) (rest : List ℕ) (name : List (List ℕ)) → AllByRecursion IsSymbol taken
-    → IsNameText (flat_map spelled taken ++ rest) name → More taken rest name
-more_of taken rest name each is =
+more_of : (taken : List Symbol) (rest : List ℕ) → AllByRecursion IsSymbol taken → IsReadable (flat_map spelled taken ++ rest) → More taken rest
+more_of [] rest each (inl none) = record { more = []; each = tt; written = none; readable = inl refl }
+more_of (symbol ∷ taken) rest each (inl none) =
+    absurd (spelled_some symbol (flat_map spelled taken ++ rest) (sym (append_assoc (spelled symbol) (flat_map spelled taken) rest) ∙ none))
+more_of taken rest each (inr (name, is)) =
     let of = of_symbols (flat_map spelled taken ++ rest) name is in
     let split = split_symbols taken of.symbols rest each of.each of.written in
     let P : List ℕ → Type 0 = λ t. IsNameText t name in
@@ -50,43 +53,38 @@ more_of taken rest name each is =
       more = split.more;
       each = split.each;
       written = split.written;
-      spells = record {
-        each = each_append taken split.more each split.each;
-        text = subst P (of.written ∙ ap (flat_map spelled) split.is) is;
-      };
+      readable = inr (
+        name,
+        record {
+          each = each_append taken split.more each split.each;
+          text = subst P (of.written ∙ ap (flat_map spelled) split.is) is;
+        },
+      );
     }
 
-goes_on : (rest : List ℕ) (more : List Symbol) → AllByRecursion IsSymbol more → rest ≡ flat_map spelled more → GoesOnInSymbols rest
-goes_on rest [] each written = inl written
-goes_on rest (symbol ∷ more) each written =
-    inr (record { symbol = symbol; rest = flat_map spelled more; is_symbol = each.0; written = written })
-
 module _ {C : Type 0} (steps : C → Option ℕ → C → Type 0) where
-  abbrev IsText : List ℕ → Type 0
-  IsText text = (name : List (List ℕ)) × IsNameText text name
-
   -- the characters stop where no symbol begins
-  pub chars_stop : (start : C) (symbols : List Symbol) → StopsAt steps start symbols → RulesOut steps start IsText
+  pub chars_stop : (start : C) (symbols : List Symbol) → StopsAt steps start symbols → RulesOut steps start IsReadable
   chars_stop start symbols stops =
-      rules_behind {P = IsText} start stops.here (flat_map spelled symbols) stops.gave
-      (rules_weaker {P = λ (rest : List ℕ). IsText (flat_map spelled symbols ++ rest)} stops.here
-      (λ rest is. let m = more_of symbols rest is.0 stops.each is.1 in goes_on rest m.more m.each m.written) stops.out)
+      rules_behind {P = IsReadable} start stops.here (flat_map spelled symbols) stops.gave
+      (rules_weaker {P = λ (rest : List ℕ). IsReadable (flat_map spelled symbols ++ rest)} stops.here
+      (λ rest is. let m = more_of symbols rest stops.each is in goes_on_in rest m.more m.each m.written) stops.out)
 
   -- the symbols of the characters spell no name
   chars_open : (old here : Symbols C) (start : C) (taken : List Symbol) → chars_of old ≡ Ok start → Yields (Giving steps) old taken here
-      → ((rest : List Symbol) (name : List (List ℕ)) → SpellName (taken ++ rest) name → ⊥) → RulesOut steps start IsText
+      → ((rest : List Symbol) → AreReadable (taken ++ rest) → ⊥) → RulesOut steps start IsReadable
   chars_open old here start taken is gave none =
       let behind = symbols_yield steps taken old here start is gave in
       record {
         taken = flat_map spelled taken;
         ended = false;
         gave = (behind.here, behind.gave, λ never. let no : false ≡ true = never in cc);
-        none = λ rest ends spells. let m = more_of taken rest spells.0 behind.each spells.1 in none m.more spells.0 m.spells;
+        none = λ rest ends is. let m = more_of taken rest behind.each is in none m.more m.readable;
       }
 
   chars_ended : (old new : Symbols C) (start : C) (taken : List Symbol) (left : Result C SymbolCharsError) → chars_of new ≡ left
       → chars_of old ≡ Ok start → YieldsThen (Giving steps) old taken None new
-      → ((name : List (List ℕ)) → SpellName (taken ++ []) name → ⊥) → RulesOut steps start IsText
+      → (AreReadable (taken ++ []) → ⊥) → RulesOut steps start IsReadable
   chars_ended old new start taken (Err error) are is gave none =
       chars_stop start taken (symbols_stop steps taken old new start error is are gave)
   chars_ended old new start taken (Ok end) are is gave none =
@@ -96,26 +94,26 @@ module _ {C : Type 0} (steps : C → Option ℕ → C → Type 0) where
         taken = flat_map spelled taken;
         ended = true;
         gave = (drained.1.0, drained.1.1, λ all. (drained.0, drained.1.2));
-        none = λ rest ends spells.
-            let m = more_of taken rest spells.0 behind.each spells.1 in
-            let P : List Symbol → Type 0 = λ s. SpellName (taken ++ s) spells.0 in
-            none spells.0 (subst P (no_more m.more (sym (ends refl) ∙ m.written)) m.spells);
+        none = λ rest ends is.
+            let m = more_of taken rest behind.each is in
+            let P : List Symbol → Type 0 = λ s. AreReadable (taken ++ s) in
+            none (subst P (no_more m.more (sym (ends refl) ∙ m.written)) m.readable);
       }
 
   pub chars_none : (old : Symbols C) (start : C) → chars_of old ≡ Ok start
-      → RulesOut (Giving steps) old (λ list. (name : List (List ℕ)) × SpellName list name) → RulesOut steps start IsText
+      → RulesOut (Giving steps) old AreReadable → RulesOut steps start IsReadable
   chars_none old start is out = by_end out.ended out.gave out.none
     where
       by_end : (ended : Bool) → (here : Symbols C) × Yields (Giving steps) old out.taken here × (ended ≡ true → (new : Symbols C) × Giving steps here None new)
-          → ((rest : List Symbol) → (ended ≡ true → rest ≡ []) → (name : List (List ℕ)) × SpellName (out.taken ++ rest) name → ⊥)
-          → RulesOut steps start IsText
+          → ((rest : List Symbol) → (ended ≡ true → rest ≡ []) → AreReadable (out.taken ++ rest) → ⊥)
+          → RulesOut steps start IsReadable
       by_end false gave none =
           chars_open old gave.0 start out.taken is gave.1
-          (λ rest name spells. none rest (λ never. let no : false ≡ true = never in cc) (name, spells))
+          (λ rest. none rest (λ never. let no : false ≡ true = never in cc))
       by_end true gave none =
           let end = gave.2 refl in
           chars_ended old end.0 start out.taken (chars_of end.0) refl is (gave.0, gave.1, end.1)
-          (λ name spells. none [] (λ all. refl) (name, spells))
+          (none [] (λ all. refl))
 
   -- whether the symbols ended well
   pub ended_well : (left : Result C SymbolCharsError) (result : Result (Unit {0}) SymbolCharsError)

@@ -13,6 +13,8 @@ mod Readings
 mod CharTexts
 mod Refusals
 mod Builds
+mod BuiltNames
+mod LastLabels
 mod Pushes
 mod PushNames
 mod Reverses
@@ -39,3 +41,9 @@ mod Putting
 pub mod Chains
 pub mod Constants
 pub mod HeadCounts
+mod PrintedNames
+pub mod PrintedSymbols
+pub mod PrintedTexts
+pub mod OneName
+mod RelativeTexts
+mod RelativeRefusals

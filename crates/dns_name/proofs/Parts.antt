@@ -7,6 +7,7 @@ use Rattle.dns_label.specs.declared.symbol.Symbol.TheVariants.{Char, SimpleEscap
 use Rattle.dns_label.specs.Symbol.{IsSymbol, spelled, octet}
 use Rattle.dns_label.specs.NameText.{HasParts, parts_of, is_dot, onto}
 use Rattle.dns_label.specs.Name.{IsLabel, IsName, wire, labels_wire}
+pub use Rattle.dns_label.proofs.SymbolTexts.{symbol_one, spelled_some, each_append, Split, split_symbols, no_more}
 use Rattle.dns_name.specs.Draft.{IsListed}
 use Rattle.dns_name.proofs.Wire.{length-wire-append, length-wire_is}
 
@@ -48,38 +49,6 @@ joined_octet done begun symbol symbols plain =
     let some = some_part symbols in
     rw (plain, some.is) (ap (λ t. done ++ t ∷ some.more) (sym (append_assoc begun (octet symbol ∷ []) some.part)))
 
-three_one : (n m : ℕ) → n / 100 ≡ m / 100 → n / 10 % 10 ≡ m / 10 % 10 → n % 10 ≡ m % 10 → n ≡ m
-three_one n m hundreds tens ones = omega arith
-
--- a text begins with one symbol
-pub symbol_one : (symbol other : Symbol) (rest behind : List ℕ) → IsSymbol symbol → IsSymbol other
-    → spelled symbol ++ rest ≡ spelled other ++ behind → (symbol ≡ other) × (rest ≡ behind)
-symbol_one (Char c) (Char d) rest behind is are same =
-    let e : c ≡ d = cc in let f : rest ≡ behind = cc in (ap Char e, f)
-symbol_one (Char c) (SimpleEscape d) rest behind is are same = let e : c ≡ 92 = cc in absurd (is.1 e)
-symbol_one (Char c) (DecimalEscape d) rest behind is are same = let e : c ≡ 92 = cc in absurd (is.1 e)
-symbol_one (SimpleEscape c) (Char d) rest behind is are same = let e : d ≡ 92 = cc in absurd (are.1 e)
-symbol_one (SimpleEscape c) (SimpleEscape d) rest behind is are same =
-    let e : c ≡ d = cc in let f : rest ≡ behind = cc in (ap SimpleEscape e, f)
-symbol_one (SimpleEscape c) (DecimalEscape d) rest behind is are same =
-    let e : c ≡ 48 + d / 100 = cc in
-    let no = is.1 in absurd (omega arith)
-symbol_one (DecimalEscape c) (Char d) rest behind is are same = let e : d ≡ 92 = cc in absurd (are.1 e)
-symbol_one (DecimalEscape c) (SimpleEscape d) rest behind is are same =
-    let e : d ≡ 48 + c / 100 = cc in
-    let no = are.1 in absurd (omega arith)
-symbol_one (DecimalEscape c) (DecimalEscape d) rest behind is are same =
-    let h : 48 + c / 100 ≡ 48 + d / 100 = cc in
-    let t : 48 + c / 10 % 10 ≡ 48 + d / 10 % 10 = cc in
-    let o : 48 + c % 10 ≡ 48 + d % 10 = cc in
-    let f : rest ≡ behind = cc in
-    (ap DecimalEscape (three_one c d (omega arith) (omega arith) (omega arith)), f)
-
-pub spelled_some : (symbol : Symbol) (rest : List ℕ) → spelled symbol ++ rest ≡ [] → ⊥
-spelled_some (Char c) rest none = cc
-spelled_some (SimpleEscape c) rest none = cc
-spelled_some (DecimalEscape n) rest none = cc
-
 -- the first symbol is no dot, if there is one
 abbrev pub StartsPlain : List Symbol → Type 0
 StartsPlain [] = Unit {0}
@@ -91,7 +60,7 @@ pub record Reading (taken : List Symbol) (done : List (List ℕ)) (begun : List 
   pub plain : StartsPlain taken
   pub parts : (rest : List Symbol) → parts_of (taken ++ rest) ≡ done ++ joined begun (parts_of rest)
 
-joined_none : (parts : List (List ℕ)) → Some_part parts → joined [] parts ≡ parts
+pub joined_none : (parts : List (List ℕ)) → Some_part parts → joined [] parts ≡ parts
 joined_none [] some = let e = some.is in cc
 joined_none (part ∷ parts) some = refl
 
@@ -101,10 +70,6 @@ reading_here = record {
   plain = tt;
   parts = λ rest. sym (joined_none (parts_of rest) (some_part rest));
 }
-
-pub each_append : (front back : List Symbol) → AllByRecursion IsSymbol front → AllByRecursion IsSymbol back → AllByRecursion IsSymbol (front ++ back)
-each_append [] back each all = all
-each_append (symbol ∷ front) back each all = (each.0, each_append front back each.1 all)
 
 pub each_last : (front : List Symbol) (symbol : Symbol) (rest : List Symbol) → AllByRecursion IsSymbol ((front ++ symbol ∷ []) ++ rest) → IsSymbol symbol
 each_last [] symbol rest each = each.0
@@ -133,7 +98,7 @@ reading-octet taken done begun symbol reading is_symbol plain = record {
 }
 
 -- nothing was taken where no label is finished, and none begun
-two_parts : (dot : Bool) (c : ℕ) (parts : List (List ℕ)) (symbol : Symbol) (symbols : List Symbol) → is_dot symbol ≡ dot
+pub two_parts : (dot : Bool) (c : ℕ) (parts : List (List ℕ)) (symbol : Symbol) (symbols : List Symbol) → is_dot symbol ≡ dot
     → octet symbol ≡ c → parts_of symbols ≡ parts → Some_part parts → parts_of (symbol ∷ symbols) ≡ [] ∷ [] → ⊥
 two_parts true c parts symbol symbols dot is has some one =
     let e : [] ∷ parts ≡ [] ∷ [] = sym (let f : parts_of (symbol ∷ symbols) ≡ [] ∷ parts = rw (dot, has) refl in f) ∙ one in
@@ -160,33 +125,6 @@ some_taken taken (label ∷ done) begun reading some none =
     let e : [] ∷ [] ≡ label ∷ (done ++ joined begun ([] ∷ [])) = subst P none (reading.parts []) in
     let f : done ++ joined begun ([] ∷ []) ≡ [] = cc in
     omega (arith, ap (length {A = List ℕ}) f, length-append done (joined begun ([] ∷ [])))
-
--- a text that begins with the text of symbols has them as its first
-pub record Split (taken symbols : List Symbol) (rest : List ℕ) : Type 0 where
-  pub more : List Symbol
-  pub is : symbols ≡ taken ++ more
-  pub each : AllByRecursion IsSymbol more
-  pub written : rest ≡ flat_map spelled more
-
-pub split_symbols : (taken symbols : List Symbol) (rest : List ℕ) → AllByRecursion IsSymbol taken → AllByRecursion IsSymbol symbols
-    → flat_map spelled taken ++ rest ≡ flat_map spelled symbols → Split taken symbols rest
-split_symbols [] symbols rest each all is = record { more = symbols; is = refl; each = all; written = is }
-split_symbols (symbol ∷ taken) [] rest each all is =
-    absurd (spelled_some symbol (flat_map spelled taken ++ rest) (sym (append_assoc (spelled symbol) (flat_map spelled taken) rest) ∙ is))
-split_symbols (symbol ∷ taken) (other ∷ symbols) rest each all is =
-    let one = symbol_one symbol other (flat_map spelled taken ++ rest) (flat_map spelled symbols) each.0 all.0
-    (sym (append_assoc (spelled symbol) (flat_map spelled taken) rest) ∙ is) in
-    let split = split_symbols taken symbols rest each.1 all.1 one.1 in
-    record {
-      more = split.more;
-      is = ap (λ s. s ∷ symbols) (sym one.0) ∙ ap (λ l. symbol ∷ l) split.is;
-      each = split.each;
-      written = split.written;
-    }
-
-pub no_more : (more : List Symbol) → [] ≡ flat_map spelled more → more ≡ []
-no_more [] written = refl
-no_more (symbol ∷ more) written = absurd (spelled_some symbol (flat_map spelled more) (sym written))
 
 -- a text has one list of symbols, and so one list of parts
 pub parts_one : (taken : List Symbol) → AllByRecursion IsSymbol taken → (parts : List (List ℕ)) → HasParts (flat_map spelled taken) parts

@@ -13,6 +13,6 @@ short_is_not_long {T} result is are = none (sym is ∙ are)
     none : (let P : Result T PushNameError = Err ShortBuf in P) ≡ Err LongName → ⊥
     none same = cc
 
-pub no_long : {T : Type 0} (result : Result T PushNameError) (size : ℕ) → (result ≡ Err LongName → ⊥) → size ≤ 255
-    → (result ≡ Err LongName → 255 < size) × (255 < size → result ≡ Err LongName)
-no_long result size none few = (λ is. absurd (none is), λ over. absurd (omega arith))
+pub no_long : {T : Type 0} (result : Result T PushNameError) (most size : ℕ) → (result ≡ Err LongName → ⊥) → size ≤ most
+    → (result ≡ Err LongName → most < size) × (most < size → result ≡ Err LongName)
+no_long result most size none few = (λ is. absurd (none is), λ over. absurd (omega arith))

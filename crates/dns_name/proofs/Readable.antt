@@ -130,7 +130,7 @@ parsed_ok {octets} {whole} {place} {pos} {next} {end} same here there reads =
     let S : List (List ℕ) → Type 0 = λ n. Reads octets place n next in
     subst P same (subst Q here (subst R (sym there) (subst S (sym (labels_at-reads reads)) reads)))
 
-labels_from_merely : (name : List (List ℕ)) → ∥ AllByRecursion IsLabel name ∥₁ → AllByRecursion IsLabel name
+pub labels_from_merely : (name : List (List ℕ)) → ∥ AllByRecursion IsLabel name ∥₁ → AllByRecursion IsLabel name
 labels_from_merely [] there = tt
 labels_from_merely (text ∷ name) there =
     let some : length text ≤ 0 → ⊥ = λ none. none_from_merely there (λ each. omega (arith, each.0.some)) in

@@ -1,5 +1,5 @@
 -- Symbols that were taken, and what they may spell.
-use Rattle.std.proofs.Common.{◌≡◌, ℕ, ◌+◌, ◌<◌, ◌⊎◌, true, false, List, [], ◌∷◌, ◌++◌, length, refl, sym, ◌∙◌, ap, subst, arith, append_assoc, append-nil}
+use Rattle.std.proofs.Common.{◌≡◌, ℕ, ◌+◌, ◌<◌, ◌⊎◌, true, false, List, [], ◌∷◌, ◌++◌, length, refl, sym, ◌∙◌, ap, subst, inl, inr, arith, append_assoc, append-nil}
 use Rattle.std.specs.List.{AllByRecursion, flat_map}
 use Rattle.dns_label.specs.declared.symbol.Symbol.{Symbol}
 use Rattle.dns_label.specs.Symbol.{IsSymbol, spelled, octet}
@@ -11,7 +11,7 @@ use Rattle.std.specs.Iterator.{Yields, YieldsThen}
 use Rattle.dns_label.specs.Taken.{RulesOut}
 use Rattle.dns_label.proofs.Taken.{rules_behind, rules_step, rules_item}
 use Rattle.dns_name.specs.declared.text.PresentationError.{PresentationError}
-use Rattle.dns_name.specs.Draft.{Holds, IsListed, IsReadAs, IsReadBy}
+use Rattle.dns_name.specs.Draft.{Holds, IsListed, IsReadAs, IsReadBy, AreReadable}
 use Rattle.dns_name.specs.Text.{SpellName}
 use Rattle.dns_name.proofs.Drafts.{draft-len}
 use Rattle.dns_name.proofs.Parts.{Reading, reading-dot, reading-octet, each_last, octet_over, dot_empty, dot_more, dot_text, no_dot, spelled_some, none_taken, some_taken}
@@ -35,6 +35,16 @@ bad_symbol taken rest symbol name none spells =
     let P : List Symbol → Type 0 = λ s. AllByRecursion IsSymbol s in
     none (each_last taken symbol rest (subst P (shifted taken symbol rest) spells.each))
 
+some_last : (taken : List Symbol) (symbol : Symbol) (rest : List Symbol) → taken ++ symbol ∷ rest ≡ [] → ⊥
+some_last [] symbol rest is = cc
+some_last (first ∷ taken) symbol rest is = cc
+
+-- symbols, of which there is one, are readable only where they spell a name
+pub some_readable : (taken : List Symbol) (symbol : Symbol) (rest : List Symbol)
+    → ((name : List (List ℕ)) → SpellName (taken ++ symbol ∷ rest) name → ⊥) → AreReadable (taken ++ symbol ∷ rest) → ⊥
+some_readable taken symbol rest none (inl is) = some_last taken symbol rest is
+some_readable taken symbol rest none (inr is) = none is.0 is.1
+
 read_none : (taken rest : List Symbol) (done : List (List ℕ)) (begun : List ℕ) (symbol : Symbol) (name : List (List ℕ))
     → Reading (taken ++ symbol ∷ []) done begun
     → ((name : List (List ℕ)) → IsListed (parts_of ((taken ++ symbol ∷ []) ++ rest)) name → ⊥)
@@ -42,12 +52,8 @@ read_none : (taken rest : List Symbol) (done : List (List ℕ)) (begun : List �
 read_none taken rest done begun symbol name reading none spells =
     let P : List Symbol → Type 0 = λ s. SpellName s name in
     spell_none ((taken ++ symbol ∷ []) ++ rest) name
-    (no_dot (taken ++ symbol ∷ []) rest reading.plain (λ is. absurd (some_last taken is)))
+    (no_dot (taken ++ symbol ∷ []) rest reading.plain (λ is. absurd (some_last taken symbol [] is)))
     none (subst P (shifted taken symbol rest) spells)
-  where
-    some_last : (taken : List Symbol) → taken ++ symbol ∷ [] ≡ [] → ⊥
-    some_last [] is = cc
-    some_last (first ∷ taken) is = cc
 
 -- an octet more than a label or a name has
 pub over_none : (spelling : Spelling) (taken rest : List Symbol) (done : List (List ℕ)) (begun : List ℕ) (symbol : Symbol) (name : List (List ℕ))
@@ -138,11 +144,11 @@ module _ {S : Type 0} (steps : S → Option Symbol → S → Type 0) where
   pub root_refused : (start here behind end : S) (taken : List Symbol) (dot : Symbol) (result : Result (Option Spelling) PresentationError)
       → taken ≡ [] → is_dot dot ≡ true → Yields steps start taken here → steps here (Some dot) behind
       → OnErr result ((symbol : Symbol) × steps behind (Some symbol) end)
-      → OnErr result (RulesOut steps start (λ list. (name : List (List ℕ)) × SpellName list name))
+      → OnErr result (RulesOut steps start AreReadable)
   root_refused start here behind end taken dot (Ok read) none first gave step told = tt
   root_refused start here behind end taken dot (Err error) none first gave step told =
-      let Q : List Symbol → Type 0 = λ list. (name : List (List ℕ)) × SpellName list name in
+      let Q : List Symbol → Type 0 = λ list. AreReadable list in
       rules_behind {P = Q} start here taken gave
       (rules_step {P = λ (rest : List Symbol). Q (taken ++ rest)} here behind dot step
       (rules_item {P = λ (rest : List Symbol). Q (taken ++ dot ∷ rest)} behind end told.0 told.1
-      (λ rest spells. root_none taken rest dot told.0 spells.0 none first spells.1)))
+      (λ rest is. some_readable taken dot (told.0 ∷ rest) (λ name. root_none taken rest dot told.0 name none first) is)))

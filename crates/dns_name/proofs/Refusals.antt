@@ -47,8 +47,8 @@ module _ {S A T : Type 0} (left : S → List A) (Spells : List A → List (List 
       let P : List A → Type 0 = λ l. (name : List (List ℕ)) × Spells l name in
       subst P (first_drains left refused.0 start refused.1) refused.2
 
-pub first_spelled : {S A : Type 0} (left : S → List A) (Spells : List A → List (List ℕ) → Type 0) (start : S)
-    (result : Result (List (List ℕ)) FromStrError)
+pub first_spelled : {S A E : Type 0} (left : S → List A) (Spells : List A → List (List ℕ) → Type 0) (start : S)
+    (result : Result (List (List ℕ)) E)
     → IfOk result (λ name. (items : List A) × Drains (YieldsFirst left) start items × Spells items name)
     → IfOk result (λ name. Spells (left start) name)
 first_spelled {A = A} left Spells start (Ok name) told =

@@ -1,16 +1,17 @@
 -- What is written one part after another, and behind a length.
-use Rattle.std.proofs.Common.{◌≡◌, ◌≤◌, ◌<◌, ◌+◌, ◌-◌, ℕ, Bool, true, List, [], ◌∷◌, ◌++◌, length, take, drop, refl, sym, ◌∙◌, ap, subst, arith, inl, inr, length-append, length-take, length-drop, append_assoc, ◌⊎◌}
+use Rattle.std.proofs.Common.{◌≡◌, ◌≤◌, ◌<◌, ◌+◌, ◌-◌, ℕ, Bool, true, false, List, [], ◌∷◌, ◌++◌, length, take, drop, refl, sym, ◌∙◌, ap, subst, arith, inl, inr, length-append, length-take, length-drop, append_assoc, ◌⊎◌}
 use Rattle.std.specs.Int.{to_be_bytes, w16}
 use Rattle.std.proofs.Math.Seq.{take-append-add, drop-append-add}
 use Rattle.std.specs.Prelude.{slice_index_or, Result, Ok, Err, OnOk}
 use Rattle.dns_octets.specs.Builder.{Standing, Known, StandsBetween, GrowsTo}
-use Rattle.dns_name.specs.Spelling.{Spelling, name_text}
+use Rattle.dns_name.specs.Spelling.{Spelling, name_text, known_after}
 use Rattle.dns_name.specs.Remembered.{IsKnown, is_free, patched}
+use Rattle.dns_label.specs.Name.{wire}
 use Rattle.dns_name.specs.Page.{Page, Parts, with_octets, with_name, with_count, write}
 use Rattle.dns_name.specs.Page.Parts.{End, Octets, Named, Counted}
 use Rattle.dns_name.specs.RecordData.{page_of, IsComposedLength}
 use Rattle.dns_name.proofs.Known.{known-append_cases, each_known, free_from}
-use Rattle.dns_name.proofs.Spelled.{StopsBefore}
+use Rattle.dns_name.proofs.Spelled.{StopsBefore, name_text-none}
 
 pub page_same : {a b : List ℕ} {k l : Known} → a ≡ b → k ≡ l → page_of a k ≡ page_of b l
 page_same octets known = λ i. record { octets = octets i; known = known i }
@@ -126,3 +127,27 @@ pub page_on : {T E : Type 0} (result : Result T E) (a b : List ℕ) (known : Kno
     → OnOk result (page_of a known ≡ page_of b known)
 page_on (Ok value) a b known same = page_same same refl
 page_on (Err error) a b known same = tt
+
+pub page_both : {T E : Type 0} (result : Result T E) (a b : List ℕ) (known more : Known) → OnOk result (a ≡ b) → OnOk result (known ≡ more)
+    → OnOk result (page_of a known ≡ page_of b more)
+page_both (Ok value) a b known more same too = page_same same too
+page_both (Err error) a b known more same too = tt
+
+-- a name alone
+pub write-named : (s : Spelling) (octets : List ℕ) (known : Known) (name : List (List ℕ))
+    → write s (page_of octets known) (Named name End)
+    ≡ page_of (octets ++ name_text s known (length octets) name) (known_after s known (length octets) name)
+unfolding write
+write-named s octets known name = refl
+
+pub name_composed : (compress : Bool) (name : List (List ℕ)) (len : ℕ) → compress ≡ false → len ≡ length (wire name)
+    → IsComposedLength compress (Named name End) len
+unfolding write
+name_composed compress name len full is = record {
+  composed = λ s page plain.
+      let told = plain full in
+      let place = length page.octets in
+      let text : name_text s page.known place name ≡ wire name =
+      ap (λ (k : Known). name_text s k place name) told.1 ∙ name_text-none s place name told.0 in
+      omega (arith, length-append page.octets (name_text s page.known place name), ap (length {A = ℕ}) text);
+}

@@ -40,6 +40,14 @@ abbrev pub with_label : Built → List ℕ → Built
 with_label built [] = ended built
 with_label built (octet ∷ octets) = record { finished = labels_built built ++ (octet ∷ octets) ∷ []; begun = None }
 
+-- whole labels alone
+abbrev pub labels_ended : List (List ℕ) → Built
+labels_ended labels = record { finished = labels; begun = None }
+
+-- whole labels behind them
+abbrev pub with_labels : Built → List (List ℕ) → Built
+with_labels built labels = labels_ended (labels_built built ++ labels)
+
 -- These octets hold what is built, of which the open label's length stands at a place.
 pub record StandsFor (octets : List ℕ) (head : Option ℕ) (built : Built) : Type 0 where
   pub each : AllByRecursion IsLabel (labels_built built)

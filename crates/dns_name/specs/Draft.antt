@@ -1,8 +1,10 @@
 -- A name while its text is read.
 use Rattle.std.specs.Prelude.{◌≡◌, ◌⊎◌, ℕ, Option, Some, None, List, [], ◌∷◌, ◌++◌, length, take}
 use Rattle.std.specs.List.{AllByRecursion}
+use Rattle.dns_label.specs.declared.symbol.Symbol.{Symbol}
 use Rattle.dns_label.specs.Name.{IsLabel, IsName, labels_wire}
-use Rattle.dns_label.specs.NameText.{HasParts}
+use Rattle.dns_label.specs.NameText.{HasParts, IsNameText}
+use Rattle.dns_name.specs.Text.{SpellName}
 use Rattle.dns_name.specs.declared.text.draft.Spelling.{Spelling}
 
 -- it has these finished labels, and these octets in the open one
@@ -28,3 +30,11 @@ pub record IsReadAs (text : List ℕ) (spelling : Spelling) : Type 0 where
 abbrev pub IsReadBy : List ℕ → Option Spelling → Type 0
 IsReadBy text None = text ≡ 46 ∷ []
 IsReadBy text (Some spelling) = (text ≡ 46 ∷ [] → ⊥) × IsReadAs text spelling
+
+-- a name's text, or no text at all
+abbrev pub IsReadable : List ℕ → Type 0
+IsReadable text = (text ≡ []) ⊎ ((name : List (List ℕ)) × IsNameText text name)
+
+-- the same of symbols
+abbrev pub AreReadable : List Symbol → Type 0
+AreReadable symbols = (symbols ≡ []) ⊎ ((name : List (List ℕ)) × SpellName symbols name)

@@ -44,5 +44,8 @@ pub mod Built
 pub mod DigitLabels
 pub mod Reverse
 pub mod Page
+pub mod SpelledParts
 pub mod BuiltText
 pub mod TextErrors
+pub mod PrintedLabels
+pub mod RelativeText

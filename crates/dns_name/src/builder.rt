@@ -1,8 +1,8 @@
 //! Names that are built label by label (RFC 1035 3.1).
-ghost use Rattle.std.specs.Prelude.{◌≡◌, ◌+◌, ◌<◌, ◌≤◌, ◌↔◌, ◌++◌, ◌∷◌, [], length, Ok, Err, Some, None, IsTrue, IsSome, IfOk, OnOk, OnErr};
-ghost use Rattle.dns_label.specs.Name.{labels_wire};
+ghost use Rattle.std.specs.Prelude.{◌≡◌, ◌+◌, ◌<◌, ◌≤◌, ◌↔◌, ◌++◌, ◌∷◌, List, ℕ, [], length, Ok, Err, Some, None, IsTrue, IsSome, IfOk, OnOk, OnErr};
+ghost use Rattle.dns_label.specs.Name.{IsName, labels_wire};
 ghost use Rattle.dns_label.specs.Composed.{label_wire};
-ghost use Rattle.dns_name.specs.Built.{Built, StandsFor, built_of, nothing_built, labels_built, built_len, open_len, with_octets, with_label, ended};
+ghost use Rattle.dns_name.specs.Built.{Built, StandsFor, built_of, nothing_built, labels_built, labels_ended, built_len, open_len, with_octets, with_label, ended};
 ghost use Rattle.dns_name.specs.declared.builder.error.PushError.TheVariants.{LongLabel, LongName};
 ghost use Rattle.dns_octets.specs.Builder.{IsPast, IsWithin};
 ghost use Rattle.dns_octets.specs.declared.error.AppendError.TheVariants.{ShortBuf, BadLength};
@@ -10,10 +10,13 @@ ghost use Rattle.dns_octets.specs.declared.error.AppendError.TheVariants.{ShortB
 pub(crate) mod digits;
 mod error;
 mod finish;
+mod names;
 #[cfg(test)]
 mod tests;
 mod text;
 
+use crate::RelativeNameError;
+use crate::relative::check;
 use dns_label::Label;
 use dns_octets::{AppendError, EmptyBuilder, OctetsBuilder, WriteOctets};
 pub use error::{PushError, PushNameError};
@@ -50,12 +53,13 @@ impl<B: EmptyBuilder> NameBuilder<B> {
         }
     }
 
-    /// Nothing yet, with room for so many octets. Refused with `ShortBuf` only where there can't be so many, and with
-    /// `OutOfMemory` where the memory was refused.
+    /// Nothing yet, with room for so many octets. Refused where there can't be so many, which `ShortBuf` alone says, and
+    /// with `OutOfMemory` where the memory was refused.
     pub fn with_capacity(alloc: Global, capacity: usize) -> Result<Self, AppendError>
     where
         B: Drop,
         ensures ok { IfOk result (λ name. name ≡ nothing_built) }
+        ensures fits { OnOk result (IsWithin B.limit capacity) }
         ensures short { result ≡ Err ShortBuf → IsPast B.limit capacity }
         ensures not_bad { result ≡ Err BadLength → ⊥ }
     {
@@ -85,6 +89,21 @@ impl NameBuilder<Vec<u8>> {
 }
 
 impl<B: OctetsBuilder> NameBuilder<B> {
+    /// Goes on behind the octets of a builder, which are finished labels. Refused where they are no relative name,
+    /// uncompressed and whole.
+    pub fn from_builder(builder: B) -> Result<Self, RelativeNameError>
+    where
+        B: Drop,
+        ensures ok { IfOk result (λ name. IsName name.finished × (name ≡ labels_ended name.finished) × (B.list builder ≡ labels_wire name.finished)) }
+        ensures err { OnErr result ((name : List (List ℕ)) → IsName name → B.list builder ≡ labels_wire name → ⊥) }
+    {
+        check(builder.octets())?;
+        Ok(NameBuilder {
+            builder,
+            head: None,
+        })
+    }
+
     /// The labels so far, each behind its length, the open one too.
     pub fn as_slice(&self) -> &[u8]
         ensures labels { result.now ≡ labels_wire (labels_built self.now) }

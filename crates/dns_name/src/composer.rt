@@ -9,7 +9,7 @@ mod array_vec;
 mod in_full;
 mod reference;
 #[cfg(test)]
-mod tests;
+pub(crate) mod tests;
 mod vec;
 
 use crate::ToName;

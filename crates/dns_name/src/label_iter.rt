@@ -1,5 +1,5 @@
 //! What all names have in common: their labels, one after another.
-ghost use Rattle.std.specs.Prelude.{◌≡◌, ◌≤◌, ◌+◌, List, ℕ, Option, length, drop, option_map, slice_get, IfSome, IsTrue, ◌↔◌};
+ghost use Rattle.std.specs.Prelude.{◌≡◌, ◌≤◌, ◌+◌, List, ℕ, Option, length, drop, take, option_map, slice_get, IfSome, IsTrue, ◌↔◌};
 ghost use Rattle.dns_label.specs.Label.{octets_of};
 ghost use Rattle.dns_label.specs.Name.{labels_wire, low};
 ghost use Rattle.dns_name.specs.Chain.{AreOfName};
@@ -52,6 +52,7 @@ pub trait ToLabelIter {
             name: self,
             index: 0,
             place: self.first_place(),
+            most: 128,
         }
     }
 
@@ -77,12 +78,14 @@ pub struct LabelIter<'a, N: ToLabelIter> {
     /// The number of the next label, and where it stands.
     index: usize,
     place: Option<usize>,
+    /// How many of the labels from there on are left at most; those behind them were taken from the right.
+    most: usize,
 }
 
 impl<'a, N: ToLabelIter> Model for LabelIter<'a, N> {
     ghost Value = { List (List ℕ) };
 
-    ghost view = { λ it. drop it.index (N.labels it.name.now) };
+    ghost view = { λ it. take it.most (drop it.index (N.labels it.name.now)) };
 
     ghost invariant = { λ it. N.stands it.name.now it.index it.place };
 }
@@ -97,9 +100,38 @@ impl<'a, N: ToLabelIter> Iterator for LabelIter<'a, N> {
     ghost remaining = { item_count (λ labels. labels) };
 
     fn next(&mut self) -> Option<Label<'a>> {
+        if self.most == 0 {
+            return None;
+        }
         let (label, place) = self.name.label_at(self.index, self.place)?;
         self.index += 1;
         self.place = place;
+        self.most -= 1;
+        Some(label)
+    }
+}
+
+impl<'a, N: ToLabelIter> DoubleEndedIterator for LabelIter<'a, N> {
+    ghost use Rattle.std.specs.Iterator.{YieldsLastBy};
+
+    ghost next_back_gives = { YieldsLastBy octets_of (λ labels. labels) };
+
+    /// The last label. It is found from the left, so this takes as long as there are labels.
+    fn next_back(&mut self) -> Option<Label<'a>> {
+        let labels = LabelIter {
+            name: self.name,
+            index: self.index,
+            place: self.place,
+            most: self.most,
+        };
+        let mut last = None;
+        let mut count = 0;
+        for label in labels {
+            last = Some((count, label));
+            count += 1;
+        }
+        let (front, label) = last?;
+        self.most = front;
         Some(label)
     }
 }

@@ -15,9 +15,15 @@ ghost use Rattle.dns_name.specs.Skip.{Skips};
 ghost use Rattle.dns_name.specs.ParsedName.{labels_in};
 ghost use Rattle.dns_name.specs.Suffix.{EndsWith};
 
+mod text;
+
 use crate::{Name, ParsedName};
 use dns_octets::Octets;
 use std::hash::Hash;
+pub use text::{
+    dotted_text_reads_back, relative_text_reads_back, seen_labels_print_as_their_name,
+    text_spells_one_name,
+};
 
 /// Two names are the same up to ASCII case exactly where their octets in lower case are, and exactly where the order
 /// answers Equal (RFC 4343).

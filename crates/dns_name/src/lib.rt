@@ -17,6 +17,7 @@ mod name;
 mod name_iter;
 mod parsed;
 mod parsed_iter;
+mod print;
 mod record_data;
 mod relative;
 mod reverse;
@@ -35,8 +36,8 @@ pub use builder::{NameBuilder, PushError, PushNameError};
 pub use chain::{Chain, LongChainError};
 pub use composer::Composer;
 pub use dns_label::{
-    BadSymbol, Label, LabelTypeError, LongLabelError, SplitLabelError, Symbol, SymbolCharsError,
-    Symbols,
+    BadSymbol, Label, LabelFromStrError, LabelMut, LabelTypeError, LongLabelError, OwnedLabel,
+    OwnedLabelMut, SliceLabelsIter, SplitLabelError, Symbol, SymbolCharsError, Symbols,
 };
 pub use dns_octets::{
     AppendError, Compose, EmptyBuilder, FormError, FreezeBuilder, FromBuilder, Octets,
@@ -54,9 +55,10 @@ pub use name::{Name, NameError, SuffixIter};
 pub use name_iter::NameIter;
 pub use parsed::{ParsedName, ParsedSuffixIter};
 pub use parsed_iter::ParsedNameIter;
+pub use print::DisplayWithDot;
 pub use record_data::{ComposeRecordData, ParseAnyRecordData, ParseRecordData, RecordData};
 pub use relative::{RelativeName, RelativeNameError, StripSuffixError};
-pub use text::{FromStrError, PresentationError};
+pub use text::{FromStrError, PresentationError, RelativeFromStrError};
 pub use to_name::ToName;
 pub use to_relative_name::ToRelativeName;
 pub use unknown::UnknownRecordData;

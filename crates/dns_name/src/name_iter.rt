@@ -1,5 +1,5 @@
 //! The labels of flat names, one after another.
-ghost use Rattle.std.specs.Prelude.{◌≡◌, ◌∷◌, List, ℕ, [], option_map, slice_get, IfSome, IfNone};
+ghost use Rattle.std.specs.Prelude.{◌≡◌, ◌∷◌, ◌++◌, List, ℕ, [], option_map, slice_get, IfSome, IfNone};
 ghost use Rattle.dns_label.specs.Label.{octets_of};
 ghost use Rattle.dns_name.specs.FlatLabels.{AreLabels, flat_labels};
 
@@ -53,6 +53,19 @@ impl<'a> Iterator for NameIter<'a> {
     }
 }
 
+impl<'a> DoubleEndedIterator for NameIter<'a> {
+    ghost use Rattle.std.specs.Iterator.{YieldsLastBy};
+
+    ghost next_back_gives = { YieldsLastBy octets_of (λ labels. labels) };
+
+    /// The last label. It is found from the left, so this takes as long as there are labels.
+    fn next_back(&mut self) -> Option<Label<'a>> {
+        let (label, front) = split_last(self.rest)?;
+        self.rest = front;
+        Some(label)
+    }
+}
+
 /// The label in front, and the octets behind it. None where there are no octets.
 pub(crate) fn split_first(octets: &[u8]) -> Option<(Label<'_>, &[u8])>
     requires { AreLabels octets.now }
@@ -67,4 +80,22 @@ pub(crate) fn split_first(octets: &[u8]) -> Option<(Label<'_>, &[u8])>
         Ok((label, behind)) => Some((label, behind)),
         Err(_) => unreachable!(),
     }
+}
+
+/// The last label, and the octets in front of it. None where there are no octets.
+fn split_last(octets: &[u8]) -> Option<(Label<'_>, &[u8])>
+    requires { AreLabels octets.now }
+    ensures some { IfSome result (λ found. flat_labels octets.now ≡ flat_labels found.1.now ++ octets_of found.0 ∷ []) }
+    ensures left { IfSome result (λ found. AreLabels found.1.now) }
+    ensures none { IfNone result (flat_labels octets.now ≡ []) }
+{
+    let (first, behind) = split_first(octets)?;
+    let mut last = first;
+    let mut rest = behind;
+    'labels: while let Some((label, behind)) = split_first(rest) {
+        last = label;
+        rest = behind;
+    }
+    let (front, _) = octets.split_at(octets.len() - last.len() - 1);
+    Some((last, front))
 }

@@ -1,5 +1,5 @@
 //! The labels of names, one after another.
-ghost use Rattle.std.specs.Prelude.{◌≡◌, ◌∷◌, List, ℕ, option_map, slice_get};
+ghost use Rattle.std.specs.Prelude.{◌≡◌, ◌∷◌, List, ℕ, option_map, slice_get, take};
 ghost use Rattle.dns_label.specs.Name.{with_root};
 ghost use Rattle.dns_label.specs.Label.{octets_of};
 ghost use Rattle.dns_label.specs.Labels.{labels_at};
@@ -15,12 +15,14 @@ pub struct ParsedNameIter<'a> {
     octets: &'a [u8],
     /// Where the next label stands, or None behind the root's.
     place: Option<usize>,
+    /// How many of the labels from there on are left at most; those behind them were taken from the right.
+    most: usize,
 }
 
 impl<'a> Model for ParsedNameIter<'a> {
     ghost Value = { List (List ℕ) };
 
-    ghost view = { λ it. labels_left it.octets.now it.place };
+    ghost view = { λ it. take it.most (labels_left it.octets.now it.place) };
 
     ghost invariant = { λ it. IsLeft it.octets.now it.place };
 }
@@ -34,6 +36,7 @@ impl<'a> ParsedNameIter<'a> {
         ParsedNameIter {
             octets,
             place: Some(place),
+            most: 128,
         }
     }
 
@@ -55,8 +58,36 @@ impl<'a> Iterator for ParsedNameIter<'a> {
     ghost remaining = { item_count (λ labels. labels) };
 
     fn next(&mut self) -> Option<Label<'a>> {
+        if self.most == 0 {
+            return None;
+        }
         let (label, place) = split_label(self.octets, self.place?);
         self.place = place;
+        self.most -= 1;
+        Some(label)
+    }
+}
+
+impl<'a> DoubleEndedIterator for ParsedNameIter<'a> {
+    ghost use Rattle.std.specs.Iterator.{YieldsLastBy};
+
+    ghost next_back_gives = { YieldsLastBy octets_of (λ labels. labels) };
+
+    /// The last label. It is found from the left, so this takes as long as there are labels.
+    fn next_back(&mut self) -> Option<Label<'a>> {
+        let labels = ParsedNameIter {
+            octets: self.octets,
+            place: self.place,
+            most: self.most,
+        };
+        let mut last = None;
+        let mut count = 0;
+        for label in labels {
+            last = Some((count, label));
+            count += 1;
+        }
+        let (front, label) = last?;
+        self.most = front;
         Some(label)
     }
 }

@@ -149,7 +149,7 @@ impl<'a> RelativeName<&'a [u8]> {
 }
 
 /// Refuses octets that are no relative name.
-fn check(octets: &[u8]) -> Result<(), RelativeNameError>
+pub(crate) fn check(octets: &[u8]) -> Result<(), RelativeNameError>
     ensures ok { OnOk result (IsWritten (octets.now ++ 0 ∷ [])) }
     ensures err { OnErr result ((name : List (List ℕ)) → IsName name → octets.now ≡ labels_wire name → ⊥) }
 {

@@ -1,8 +1,11 @@
 //! Names by outside examples (RFC 1035 4.1.4, 5.1; RFC 4343).
 mod chains;
 mod compare;
+mod ends;
 mod parsed;
 mod parts;
+mod print;
+mod relative_text;
 
 use crate::{
     AppendError, FromStrError, Name, NameError, ParseError, ParsedName, Parser, PresentationError,

@@ -8,12 +8,14 @@ ghost use Rattle.dns_name.specs.declared.text.FromStrError.TheVariants.{Presenta
 
 mod draft;
 mod octet_chars;
+mod relative;
 
 use crate::{Name, PushError};
 use dns_label::{BadSymbol, Symbol, SymbolCharsError};
 use dns_octets::{AppendError, EmptyBuilder, FromBuilder};
 use draft::Spelling;
 use octet_chars::OctetChars;
+pub use relative::RelativeFromStrError;
 use std::alloc::Global;
 use thiserror::Error;
 

@@ -13,11 +13,12 @@ ghost use Rattle.dns_octets.specs.declared.error.AppendError.TheVariants.{ShortB
 use crate::compare::{cmp_labels, count_labels, same_labels};
 use crate::name::copied_name;
 use crate::wire_form::{lowered_wire_of, wire_of};
-use crate::{Name, ToLabelIter};
+use crate::{DisplayWithDot, Name, ToLabelIter};
 use dns_octets::{AppendError, EmptyBuilder, FromBuilder, OctetsBuilder};
 use std::alloc::{AllocError, Global};
 use std::borrow::CowSlice;
 use std::cmp::Ordering;
+use std::hash::Hasher;
 
 /// An absolute name, whatever holds it.
 pub trait ToName: ToLabelIter {
@@ -159,6 +160,13 @@ pub trait ToName: ToLabelIter {
             .cmp(lowered_wire_of(other).as_slice())
     }
 
+    /// Hashes the octets in lower case, uncompressed, so that names that are the same up to ASCII case hash alike.
+    final fn name_hash<H: Hasher>(&self, state: &mut H)
+        ensures { state.new ≡ H.write state.old (wire (low (name self.now))) }
+    {
+        state.write(lowered_wire_of(self).as_slice());
+    }
+
     /// The name over its own octets where these lie flat, and else flat in a vector.
     final fn to_cow(&self, alloc: Global) -> Result<Name<CowSlice<'_, u8>>, AllocError>
         ensures { IfOk result (λ flat. flat ≡ name self.now) }
@@ -167,6 +175,13 @@ pub trait ToName: ToLabelIter {
             Some(octets) => Ok(Name::of_octets(CowSlice::Borrowed(octets))),
             None => Ok(Name::of_octets(CowSlice::Owned(self.to_vec(alloc)?.into_octets()))),
         }
+    }
+
+    /// What shows the name with a dot behind each label, and the root as a dot (RFC 1035 5.1).
+    final fn fmt_with_dot(&self) -> DisplayWithDot<'_, Self>
+        ensures { result ≡ name self.now }
+    {
+        DisplayWithDot::of(self)
     }
 
     /// How many labels a signature counts: all but the root's and a first one that is the asterisk (RFC 4034 3.1.3).

@@ -9,6 +9,7 @@ ghost use Rattle.std.specs.Ordering.{as_partial_cmp};
 ghost use Rattle.dns_name.specs.Page.Parts.{End, Octets};
 ghost use Rattle.dns_name.specs.Unknown.{UnknownData, unknown_eq, unknown_cmp, IsUnknownAt};
 
+mod flatten;
 mod show;
 
 use crate::{

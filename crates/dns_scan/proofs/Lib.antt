@@ -11,3 +11,5 @@ pub mod Tokens
 pub mod Numerals
 pub mod Entries
 pub mod UnknownWords
+pub mod SymbolsRead
+pub mod Deciphered

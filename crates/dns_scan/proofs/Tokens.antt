@@ -1,6 +1,6 @@
 -- The tokens that are left of texts.
-use Rattle.std.proofs.Common.{◌≡◌, ℕ, ◌≤◌, List, [], ◌∷◌, length, map, drop, sym, ◌∙◌, ap, subst, arith, nat_eq}
-use Rattle.std.specs.Prelude.{IsTrue, Result, Ok, Err, IfErr}
+use Rattle.std.proofs.Common.{◌≡◌, ℕ, ◌≤◌, zero, suc, refl, List, [], ◌∷◌, length, map, drop, sym, ◌∙◌, ap, subst, arith, nat_eq}
+use Rattle.std.specs.Prelude.{IsTrue, Result, Ok, Err, IfErr, OnOk, OnErr}
 use Rattle.std.specs.Borrow.{Bor}
 use Rattle.std.proofs.lemmas.List.{length-map, length-drop, drop_all}
 use Rattle.std.proofs.lemmas.Bool.Decides.{nat_tests}
@@ -23,6 +23,13 @@ all_taken texts place within none =
     let size = ap (length {A = Token}) none in
     omega (arith, size, length-map (drop place texts) (λ text. unquoted text.now), length-drop place texts)
 
+-- behind the first token
+pub one_less : (texts : List (Bor (List ℕ))) (place : ℕ) → left texts (suc place) ≡ drop 1 (left texts place)
+one_less [] zero = refl
+one_less [] (suc place) = refl
+one_less (text ∷ texts) zero = refl
+one_less (text ∷ texts) (suc place) = one_less texts place
+
 -- one token is taken
 pub one_taken : (before left : List Token) (token : Token) → before ≡ token ∷ left → IsEnding left before
 one_taken before left token is = record { taken = token ∷ []; is = is }
@@ -39,3 +46,11 @@ not_taken Fits before new left token is other takes =
 pub if_err_weaker : {T E : Type 0} (r : Result T E) (P Q : E → Type 0) → ((e : E) → P e → Q e) → IfErr r P → IfErr r Q
 if_err_weaker (Ok x) P Q more is = tt
 if_err_weaker (Err e) P Q more is = more e is
+
+pub on_err_weaker : {T E : Type 0} (r : Result T E) (P Q : Type 0) → (P → Q) → OnErr r P → OnErr r Q
+on_err_weaker (Ok x) P Q more is = tt
+on_err_weaker (Err e) P Q more is = more is
+
+pub on_ok_map : {T E : Type 0} (r : Result T E) (P Q : Type 0) → (P → Q) → OnOk r P → OnOk r Q
+on_ok_map (Ok x) P Q more is = more is
+on_ok_map (Err e) P Q more is = tt

@@ -1,5 +1,5 @@
 -- A text while it is decoded.
-use Rattle.std.specs.Prelude.{◌≡◌, ◌*◌, ◌<◌, ◌≤◌, ◌⊎◌, ⊤, ℕ, List, ◌∷◌, ◌++◌, length, map, replicate, Option, None}
+use Rattle.std.specs.Prelude.{◌≡◌, ◌*◌, ◌<◌, ◌≤◌, ◌⊎◌, ⊤, ℕ, List, [], ◌∷◌, ◌++◌, length, map, replicate, Option, None, Some}
 use Rattle.std.specs.List.{AllByRecursion}
 use Rattle.dns_scan.specs.declared.base.Base.{Base}
 use Rattle.dns_scan.specs.declared.base.Base.TheVariants.{Sixteen, ThirtyTwoHex, SixtyFour}
@@ -15,6 +15,20 @@ pub record Progress : Type 0 where
   pub waiting : List ℕ
   pub pads : ℕ
   pub error : Option DecodeError
+
+-- what is held of a text until more of it comes: the bits that wait for others, and the pads
+pub record Held : Type 0 where
+  pub waiting : List ℕ
+  pub pads : ℕ
+
+-- so far where no error has come
+abbrev pub progress_of : List ℕ → Held → Progress
+progress_of octets held = record { octets = octets; waiting = held.waiting; pads = held.pads; error = None }
+
+-- the octet that is whole, if there is one
+abbrev pub octet_in : Option ℕ → List ℕ
+octet_in None = []
+octet_in (Some octet) = octet ∷ []
 
 -- Pads stand only in base 64, behind bits that are too few for another character, and no more than there may be: one for
 -- two bits.

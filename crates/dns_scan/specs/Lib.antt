@@ -11,3 +11,5 @@ pub mod Scans
 pub mod StrError
 pub mod ScanError
 pub mod UnknownData
+pub mod Symbols
+pub mod Converted

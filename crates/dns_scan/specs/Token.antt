@@ -24,6 +24,10 @@ pub record Takes (Fits : Token → Type 0) (before left : List Token) : Type 0 w
   pub is : before ≡ token ∷ left
   pub fits : Fits token
 
+-- the token's text
+abbrev pub HasText : List ℕ → Token → Type 0
+HasText text token = token.text ≡ text
+
 -- the token spells octets, each by a symbol
 abbrev pub SpellsOctets : List ℕ → Token → Type 0
 SpellsOctets octets token = Spells token.text octets
@@ -45,10 +49,10 @@ abbrev pub marker : Token
 marker = unquoted (92 ∷ 35 ∷ [])
 
 -- each of the tokens has a piece, and the pieces one behind the other are the whole
-abbrev pub IsEntry : (List ℕ → Token → Type 0) → List Token → List ℕ → Type 0
+abbrev pub IsEntry : {A : Type 0} → (List A → Token → Type 0) → List Token → List A → Type 0
 IsEntry IsPiece [] whole = whole ≡ []
-IsEntry IsPiece (token ∷ tokens) whole =
-    (piece : List ℕ) × (more : List ℕ) × IsPiece piece token × IsEntry IsPiece tokens more × (whole ≡ piece ++ more)
+IsEntry {A} IsPiece (token ∷ tokens) whole =
+    (piece : List A) × (more : List A) × IsPiece piece token × IsEntry IsPiece tokens more × (whole ≡ piece ++ more)
 
 -- the token's string as it is on the wire
 abbrev pub IsStringOnWire : List ℕ → Token → Type 0

@@ -2,15 +2,20 @@
 ghost use Rattle.std.specs.Prelude.{◌≡◌, ◌∷◌, ◌++◌, List, ℕ, [], None, Some, Err, false, IfOk, IfErr, OnOk, OnErr, string_bytes};
 ghost use Rattle.std.specs.Str.{chars};
 ghost use Rattle.dns_scan.specs.Encodings.{encoded_32, Decodes32, WhyNoText32, HasRead32, WhyRefused32, NoneIs32};
-ghost use Rattle.dns_scan.specs.Decoding.{Progress};
+ghost use Rattle.dns_scan.specs.Converted.{Deciphers32, DeciphersEntry32, HasDeciphered32, HasDecipheredEntry32};
+ghost use Rattle.dns_scan.specs.Decoding.{Held, Progress};
 ghost use Rattle.dns_scan.specs.Token.{IsEntry, IsWord, IsEnding, SameNames};
 ghost use Rattle.dns_scan.specs.declared.decode_error.DecodeError.{DecodeError};
 ghost use Rattle.dns_scan.specs.declared.decode_error.DecodeError.TheVariants.{ShortInput};
 
 use crate::base::Base;
 use crate::decoding::{self, Decoding};
-use crate::{DecodeError, DisplayEncoded, Scanner, scan_decoded};
-use dns_name::{EmptyBuilder, FreezeBuilder, FromBuilder, Octets, OctetsBuilder};
+use crate::group::Group;
+use crate::{
+    ConvertSymbols, DecodeError, DecodedOctet, DisplayEncoded, EntrySymbol, Scanner, ScannerError,
+    scan_decoded,
+};
+use dns_name::{EmptyBuilder, FreezeBuilder, FromBuilder, Octets, OctetsBuilder, Symbol};
 use std::alloc::{AllocError, Global};
 use std::marker::Model;
 
@@ -112,5 +117,66 @@ impl<Builder: OctetsBuilder> Decoder<Builder> {
     {
         let Decoder { decoding } = self;
         Ok(decoding.finish(Base::ThirtyTwoHex)?.freeze())
+    }
+}
+
+/// A converter of symbols, each of which is a plain character of the text.
+///
+/// A contract sees the bits that wait for others, and the pads.
+#[derive(Debug, Drop)]
+pub struct SymbolConverter {
+    group: Group,
+}
+
+impl Model for SymbolConverter {
+    ghost Value = { Held };
+
+    ghost view = { λ converter. converter.group };
+}
+
+impl SymbolConverter {
+    /// In front of the symbols.
+    pub fn new() -> Self
+        ensures { HasDeciphered32 result [] [] }
+    {
+        SymbolConverter {
+            group: Group::none(),
+        }
+    }
+}
+
+impl<Error: ScannerError> ConvertSymbols<Symbol, Error> for SymbolConverter {
+    type Converted = DecodedOctet;
+
+    ghost has_taken = { HasDeciphered32 };
+
+    ghost converts = { Deciphers32 };
+
+    fn process_symbol(&mut self, symbol: Symbol) -> Result<Option<DecodedOctet>, Error> {
+        self.group.take_symbol(Base::ThirtyTwoHex, symbol)
+    }
+
+    fn process_tail(&mut self) -> Result<Option<DecodedOctet>, Error> {
+        self.group.end_symbols(Base::ThirtyTwoHex)
+    }
+}
+
+/// The symbols of all tokens are those of one text.
+impl<Error: ScannerError> ConvertSymbols<EntrySymbol, Error> for SymbolConverter {
+    type Converted = DecodedOctet;
+
+    ghost has_taken = { HasDecipheredEntry32 };
+
+    ghost converts = { DeciphersEntry32 };
+
+    fn process_symbol(&mut self, symbol: EntrySymbol) -> Result<Option<DecodedOctet>, Error> {
+        match symbol {
+            EntrySymbol::Symbol(symbol) => self.group.take_symbol(Base::ThirtyTwoHex, symbol),
+            EntrySymbol::EndOfToken => Ok(None),
+        }
+    }
+
+    fn process_tail(&mut self) -> Result<Option<DecodedOctet>, Error> {
+        self.group.end_symbols(Base::ThirtyTwoHex)
     }
 }

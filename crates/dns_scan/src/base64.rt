@@ -2,15 +2,20 @@
 ghost use Rattle.std.specs.Prelude.{◌≡◌, ◌∷◌, ◌++◌, List, ℕ, [], None, Some, Err, false, IfOk, IfErr, OnOk, OnErr, string_bytes};
 ghost use Rattle.std.specs.Str.{chars};
 ghost use Rattle.dns_scan.specs.Encodings.{encoded_64, Decodes64, WhyNoText64, HasRead64, WhyRefused64, NoneIs64};
-ghost use Rattle.dns_scan.specs.Decoding.{Progress};
+ghost use Rattle.dns_scan.specs.Converted.{Deciphers64, DeciphersEntry64, HasDeciphered64, HasDecipheredEntry64};
+ghost use Rattle.dns_scan.specs.Decoding.{Held, Progress};
 ghost use Rattle.dns_scan.specs.Token.{IsEntry, IsWord, IsEnding, SameNames};
 ghost use Rattle.dns_scan.specs.declared.decode_error.DecodeError.{DecodeError};
 ghost use Rattle.dns_scan.specs.declared.decode_error.DecodeError.TheVariants.{ShortInput};
 
 use crate::base::Base;
 use crate::decoding::{self, Decoding};
-use crate::{DecodeError, DisplayEncoded, Scanner, scan_decoded};
-use dns_name::{EmptyBuilder, FreezeBuilder, FromBuilder, Octets, OctetsBuilder};
+use crate::group::Group;
+use crate::{
+    ConvertSymbols, DecodeError, DecodedOctet, DisplayEncoded, EntrySymbol, Scanner, ScannerError,
+    scan_decoded,
+};
+use dns_name::{EmptyBuilder, FreezeBuilder, FromBuilder, Octets, OctetsBuilder, Symbol};
 use std::alloc::{AllocError, Global};
 use std::marker::Model;
 
@@ -113,5 +118,66 @@ impl<Builder: OctetsBuilder> Decoder<Builder> {
     {
         let Decoder { decoding } = self;
         Ok(decoding.finish(Base::SixtyFour)?.freeze())
+    }
+}
+
+/// A converter of symbols, each of which is a plain character of the text.
+///
+/// A contract sees the bits that wait for others, and the pads.
+#[derive(Debug, Drop)]
+pub struct SymbolConverter {
+    group: Group,
+}
+
+impl Model for SymbolConverter {
+    ghost Value = { Held };
+
+    ghost view = { λ converter. converter.group };
+}
+
+impl SymbolConverter {
+    /// In front of the symbols.
+    pub fn new() -> Self
+        ensures { HasDeciphered64 result [] [] }
+    {
+        SymbolConverter {
+            group: Group::none(),
+        }
+    }
+}
+
+impl<Error: ScannerError> ConvertSymbols<Symbol, Error> for SymbolConverter {
+    type Converted = DecodedOctet;
+
+    ghost has_taken = { HasDeciphered64 };
+
+    ghost converts = { Deciphers64 };
+
+    fn process_symbol(&mut self, symbol: Symbol) -> Result<Option<DecodedOctet>, Error> {
+        self.group.take_symbol(Base::SixtyFour, symbol)
+    }
+
+    fn process_tail(&mut self) -> Result<Option<DecodedOctet>, Error> {
+        self.group.end_symbols(Base::SixtyFour)
+    }
+}
+
+/// The symbols of all tokens are those of one text.
+impl<Error: ScannerError> ConvertSymbols<EntrySymbol, Error> for SymbolConverter {
+    type Converted = DecodedOctet;
+
+    ghost has_taken = { HasDecipheredEntry64 };
+
+    ghost converts = { DeciphersEntry64 };
+
+    fn process_symbol(&mut self, symbol: EntrySymbol) -> Result<Option<DecodedOctet>, Error> {
+        match symbol {
+            EntrySymbol::Symbol(symbol) => self.group.take_symbol(Base::SixtyFour, symbol),
+            EntrySymbol::EndOfToken => Ok(None),
+        }
+    }
+
+    fn process_tail(&mut self) -> Result<Option<DecodedOctet>, Error> {
+        self.group.end_symbols(Base::SixtyFour)
     }
 }

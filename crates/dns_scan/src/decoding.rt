@@ -1,16 +1,15 @@
 //! Reading the texts of encodings, character by character.
-ghost use Rattle.std.specs.Prelude.{◌≡◌, ◌+◌, ◌*◌, ◌<◌, ◌≤◌, ◌↔◌, List, ℕ, [], ◌∷◌, ◌++◌, None, Some, Err, IsTrue, IfOk, IfErr, OnOk, length};
+ghost use Rattle.std.specs.Prelude.{◌≡◌, List, ℕ, [], ◌∷◌, ◌++◌, None, Some, Err, IfOk, IfErr, OnOk};
 ghost use Rattle.std.specs.Str.{chars};
 ghost use Rattle.dns_scan.specs.Base.{Decodes};
-ghost use Rattle.dns_scan.specs.Decoding.{Progress, HasRead, IsWhole, NoneIs, WhyRefused, WhyNoText};
+ghost use Rattle.dns_scan.specs.Decoding.{Progress, HasRead, NoneIs, WhyRefused, WhyNoText};
 ghost use Rattle.dns_scan.specs.declared.decode_error.DecodeError.{DecodeError};
 ghost use Rattle.dns_scan.specs.declared.decode_error.DecodeError.TheVariants.{ShortInput};
 ghost use Rattle.dns_scan.specs.declared.base.Base.{Base};
-ghost use Rattle.dns_scan.specs.declared.base.Base.TheVariants.{SixtyFour};
 
 use crate::DecodeError;
 use crate::base::Base;
-use crate::bits::Bits;
+use crate::group::Group;
 use dns_name::{EmptyBuilder, FromBuilder, OctetsBuilder};
 use std::alloc::Global;
 use std::marker::Model;
@@ -19,10 +18,7 @@ use std::marker::Model;
 #[derive(Debug, Drop)]
 pub(crate) struct Decoding<Builder: OctetsBuilder> {
     builder: Builder,
-    /// The bits that wait for others.
-    waiting: Bits,
-    /// How many pads have come.
-    pads: u32,
+    group: Group,
     /// What every later call answers.
     error: Option<DecodeError>,
 }
@@ -32,12 +28,10 @@ impl<Builder: OctetsBuilder> Model for Decoding<Builder> {
 
     ghost view = { λ decoding. record {
       octets = Builder.list decoding.builder;
-      waiting = decoding.waiting;
-      pads = decoding.pads;
+      waiting = decoding.group.waiting;
+      pads = decoding.group.pads;
       error = decoding.error;
     } };
-
-    ghost invariant = { λ decoding. (length decoding.waiting < 8) × (decoding.pads < 4) };
 }
 
 impl<Builder: OctetsBuilder> Decoding<Builder> {
@@ -48,8 +42,7 @@ impl<Builder: OctetsBuilder> Decoding<Builder> {
     {
         Decoding {
             builder,
-            waiting: Bits::none(),
-            pads: 0,
+            group: Group::none(),
             error: None,
         }
     }
@@ -79,47 +72,9 @@ impl<Builder: OctetsBuilder> Decoding<Builder> {
         ensures ok { OnOk result ((text : List ℕ) → HasRead base self.old text → HasRead base self.new (text ++ character ∷ [])) }
         ensures why { IfErr result (λ error. WhyRefused base self.old character error) }
     {
-        if base.is_pad(character) {
-            self.push_pad()
-        } else {
-            self.push_character(base, character)
-        }
-    }
-
-    /// Takes a pad.
-    fn push_pad(&mut self) -> Result<(), DecodeError>
-        requires { self.old.error ≡ None }
-        ensures ok { OnOk result ((text : List ℕ) → HasRead SixtyFour self.old text → HasRead SixtyFour self.new (text ++ 61 ∷ [])) }
-        ensures why { IfErr result (λ error. WhyRefused SixtyFour self.old 61 error) }
-    {
-        if pad_fits(self.pads, self.waiting.len()) {
-            self.pads += 1;
+        let Some(octet) = self.group.take(base, character)? else {
             return Ok(());
-        }
-        if self.pads > 0 {
-            return Err(DecodeError::TrailingInput);
-        }
-        Err(DecodeError::IllegalChar('='))
-    }
-
-    /// Takes a character that is no pad.
-    fn push_character(&mut self, base: Base, character: char) -> Result<(), DecodeError>
-        requires sound { self.old.error ≡ None }
-        requires no_pad { base ≡ SixtyFour → character ≡ 61 → ⊥ }
-        ensures ok { OnOk result ((text : List ℕ) → HasRead base self.old text → HasRead base self.new (text ++ character ∷ [])) }
-        ensures why { IfErr result (λ error. WhyRefused base self.old character error) }
-    {
-        if self.pads > 0 {
-            return Err(DecodeError::TrailingInput);
-        }
-        let Some(number) = base.digit(character) else {
-            return Err(DecodeError::IllegalChar(character));
         };
-        self.waiting.push(base.width(), number);
-        if self.waiting.len() < 8 {
-            return Ok(());
-        }
-        let octet = self.waiting.take(8) as u8;
         match self.builder.append_slice(&[octet]) {
             Ok(()) => Ok(()),
             Err(_) => Err(DecodeError::ShortBuf),
@@ -137,35 +92,15 @@ impl<Builder: OctetsBuilder> Decoding<Builder> {
         if let Some(error) = self.error {
             return Err(error);
         }
-        if !is_whole(base, self.pads, self.waiting.len()) {
+        if !self.group.is_whole(base) {
             return Err(DecodeError::ShortInput);
         }
         let Decoding {
             builder,
-            waiting: _,
-            pads: _,
+            group: _,
             error: _,
         } = self;
         Ok(builder)
-    }
-}
-
-/// Whether one more pad may stand behind so many, where so many bits wait.
-fn pad_fits(pads: u32, bits: u32) -> bool
-    requires { pads < 4 }
-    ensures { IsTrue result ↔ ((bits < 6) × (2 * (pads + 1) ≤ bits)) }
-{
-    bits < 6 && 2 * (pads + 1) <= bits
-}
-
-/// Whether a text may end where so many bits wait, behind so many pads.
-fn is_whole(base: Base, pads: u32, bits: u32) -> bool
-    requires { pads < 4 }
-    ensures { IsTrue result ↔ IsWhole base pads bits }
-{
-    match base {
-        Base::Sixteen | Base::ThirtyTwoHex => bits < base.width(),
-        Base::SixtyFour => bits < base.width() && 2 * pads == bits,
     }
 }
 

@@ -187,6 +187,19 @@ impl<'a> Scanner for IterScanner<'a> {
     fn octets_builder(&mut self) -> Result<Vec<u8>, StrError> {
         Ok(Vec::new(self.alloc))
     }
+
+    fn peek_text(&self) -> Result<&[u8], StrError> {
+        match self.peek() {
+            Some(text) => Ok(text.as_bytes()),
+            None => Err(StrError::EndOfEntry),
+        }
+    }
+
+    fn skip_token(&mut self) {
+        if self.place < self.texts.len() {
+            self.place += 1;
+        }
+    }
 }
 
 /// The string that a text spells.

@@ -28,7 +28,7 @@ pub(crate) fn scan_entry<S: Scanner>(scanner: &mut S, base: Base) -> Result<S::O
 }
 
 /// The scanner's error for one of decoding.
-fn scan_error<Error: ScannerError>(error: DecodeError) -> Error
+pub(crate) fn scan_error<Error: ScannerError>(error: DecodeError) -> Error
     ensures { Error.is_short result ≡ is_want_of_room error }
 {
     match error {

@@ -1,10 +1,16 @@
 //! Scanning the tokens of an entry of a zone file (RFC 1035 5.1).
-ghost use Rattle.std.specs.Prelude.{◌≡◌, ◌≢◌, ◌↔◌, List, ℕ, Bool, [], ◌∷◌, false, true, Some, None, IsUtf8, string_bytes, IsTrue, IfOk, IfErr, OnErr};
+ghost use Rattle.std.specs.Prelude.{◌≡◌, ◌≢◌, ◌↔◌, List, ℕ, Bool, [], ◌∷◌, false, true, Some, None, IsUtf8, string_bytes, drop, IsTrue, IfOk, IfErr, OnOk, OnErr};
 ghost use Rattle.std.specs.Fn.{FnOnceReturnsAt};
-ghost use Rattle.dns_scan.specs.Token.{Token, IsEnding, Takes, SpellsOctets, SpellsString, IsEntry, IsStringOnWire, IsWord, SameNames, unquoted, marker};
+ghost use Rattle.dns_label.specs.declared.symbol.Symbol.{Symbol};
+ghost use Rattle.dns_scan.specs.declared.entry_symbol.EntrySymbol.{EntrySymbol};
+ghost use Rattle.dns_scan.specs.Converted.{IsConverted};
+ghost use Rattle.dns_scan.specs.Symbols.{HasSymbols, HasMarked, TakesAll, RefusesOne};
+ghost use Rattle.dns_scan.specs.Token.{Token, IsEnding, Takes, HasText, SpellsOctets, SpellsString, IsEntry, IsStringOnWire, IsWord, SameNames, unquoted, marker};
 
-use crate::{CharStr, ScannerError};
-use dns_name::{EmptyBuilder, FreezeBuilder, FromBuilder, Octets, ToName};
+use crate::converting::{append_given, convert_marked, convert_text};
+use crate::handing_over::{hand_over, hand_over_marked};
+use crate::{CharStr, ConvertSymbols, EntrySymbol, ScannerError};
+use dns_name::{EmptyBuilder, FreezeBuilder, FromBuilder, Octets, Symbol, ToName};
 
 /// What gives the tokens of an entry, one after another.
 ///
@@ -54,6 +60,7 @@ pub trait Scanner {
     fn scan_opt_unknown_marker(&mut self) -> Result<bool, Self::Error>
         ensures marked { IfOk result (λ marked. IsTrue marked → tokens self.old ≡ marker ∷ tokens self.new) }
         ensures other { IfOk result (λ marked. (IsTrue marked → ⊥) → (tokens self.new ≡ tokens self.old) × ((left : List Token) → tokens self.old ≡ marker ∷ left → ⊥)) }
+        ensures err { IfErr result (λ error. Self.Error.is_short error ≡ false → (left : List Token) → tokens self.old ≡ marker ∷ left → ⊥) }
         ensures left { OnErr result (IsEnding (tokens self.new) (tokens self.old)) }
         ensures names { SameNames (names self.old) (names self.new) };
 
@@ -103,4 +110,98 @@ pub trait Scanner {
         ensures err { IfErr result (λ error. Self.Error.is_short error ≡ true) }
         ensures stays { tokens self.new ≡ tokens self.old }
         ensures names { SameNames (names self.old) (names self.new) };
+
+    /// The text of the next token, as it is written and without its quotes; it stays. Refused where there is none.
+    fn peek_text(&self) -> Result<&[u8], Self::Error>
+        ensures ok { IfOk result (λ text. (left : List Token) × Takes (HasText text.now) (tokens self.now) left) }
+        ensures err { OnErr result (tokens self.now ≡ []) };
+
+    /// Takes the next token, if there is one.
+    fn skip_token(&mut self)
+        ensures taken { tokens self.new ≡ drop 1 (tokens self.old) }
+        ensures names { SameNames (names self.old) (names self.new) };
+
+    /// Hands the symbols of the next token to the closure, one after another, and takes the token.
+    ///
+    /// Refused where there is none, where its text has something else than symbols, and where the closure refuses a symbol;
+    /// the tokens stay then.
+    final fn scan_symbols<F>(&mut self, op: F) -> Result<(), Self::Error>
+    where
+        F: FnMut(Symbol) -> Result<(), Self::Error>,
+        requires { F.IsAlwaysCallable op }
+        ensures ok { OnOk result ((symbols : List Symbol) × (last : F) × Takes (HasSymbols symbols) (tokens self.old) (tokens self.new) × TakesAll F.step op symbols last) }
+        ensures err { IfErr result (λ error. (symbols : List Symbol) (left : List Token) → Takes (HasSymbols symbols) (tokens self.old) left → RefusesOne F.step op symbols error) }
+        ensures stays { OnErr result (tokens self.new ≡ tokens self.old) }
+        ensures names { SameNames (names self.old) (names self.new) }
+    {
+        let text = self.peek_text()?;
+        hand_over(text, op)?;
+        self.skip_token();
+        Ok(())
+    }
+
+    /// Hands the symbols of all tokens that are left to the closure, one after another, with a mark behind each token's.
+    ///
+    /// Refused where a token's text has something else than symbols, and where the closure refuses a symbol or a mark.
+    final fn scan_entry_symbols<F>(&mut self, mut op: F) -> Result<(), Self::Error>
+    where
+        F: FnMut(EntrySymbol) -> Result<(), Self::Error>,
+        requires { F.IsAlwaysCallable op }
+        ensures ok { OnOk result (((symbols : List EntrySymbol) × (last : F) × IsEntry HasMarked (tokens self.old) symbols × TakesAll F.step op symbols last) × (tokens self.new ≡ [])) }
+        ensures err { IfErr result (λ error. (symbols : List EntrySymbol) → IsEntry HasMarked (tokens self.old) symbols → RefusesOne F.step op symbols error) }
+        ensures left { OnErr result (IsEnding (tokens self.new) (tokens self.old)) }
+        ensures names { SameNames (names self.old) (names self.new) }
+    {
+        while self.continues() {
+            let text = self.peek_text()?;
+            op = hand_over_marked(text, op)?;
+            self.skip_token();
+        }
+        Ok(())
+    }
+
+    /// The octets to which the converter, which was handed nothing yet, converts the symbols of the next token.
+    ///
+    /// Refused where there is no such token, and for want of room or memory; the tokens stay then.
+    final fn convert_token<C>(&mut self, mut converter: C) -> Result<Self::Octets, Self::Error>
+    where
+        C: ConvertSymbols<Symbol, Self::Error> + Drop,
+        requires { C.has_taken converter [] [] }
+        ensures ok { IfOk result (λ octets. Takes (IsConverted C.converts (⟦<Self::Octets as Octets>⟧.list octets)) (tokens self.old) (tokens self.new)) }
+        ensures err { IfErr result (λ error. Self.Error.is_short error ≡ false → (octets : List ℕ) (left : List Token) → Takes (IsConverted C.converts octets) (tokens self.old) left → ⊥) }
+        ensures stays { OnErr result (tokens self.new ≡ tokens self.old) }
+        ensures names { SameNames (names self.old) (names self.new) }
+    {
+        let mut builder = self.octets_builder()?;
+        let text = self.peek_text()?;
+        convert_text(text, &mut converter, &mut builder)?;
+        let given = converter.process_tail()?;
+        append_given(&mut builder, given)?;
+        self.skip_token();
+        Ok(builder.freeze())
+    }
+
+    /// The octets to which the converter, which was handed nothing yet, converts the symbols of all tokens that are left,
+    /// with a mark behind each token's.
+    ///
+    /// Refused where the tokens left are not converted to any, and for want of room or memory.
+    final fn convert_entry<C>(&mut self, mut converter: C) -> Result<Self::Octets, Self::Error>
+    where
+        C: ConvertSymbols<EntrySymbol, Self::Error> + Drop,
+        requires { C.has_taken converter [] [] }
+        ensures ok { IfOk result (λ octets. ((symbols : List EntrySymbol) × IsEntry HasMarked (tokens self.old) symbols × C.converts symbols (⟦<Self::Octets as Octets>⟧.list octets)) × (tokens self.new ≡ [])) }
+        ensures err { IfErr result (λ error. Self.Error.is_short error ≡ false → (symbols : List EntrySymbol) (octets : List ℕ) → IsEntry HasMarked (tokens self.old) symbols → C.converts symbols octets → ⊥) }
+        ensures left { OnErr result (IsEnding (tokens self.new) (tokens self.old)) }
+        ensures names { SameNames (names self.old) (names self.new) }
+    {
+        let mut builder = self.octets_builder()?;
+        while self.continues() {
+            let text = self.peek_text()?;
+            convert_marked(text, &mut converter, &mut builder)?;
+            self.skip_token();
+        }
+        let given = converter.process_tail()?;
+        append_given(&mut builder, given)?;
+        Ok(builder.freeze())
+    }
 }

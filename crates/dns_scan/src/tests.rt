@@ -2,3 +2,4 @@
 mod char_strs;
 mod encodings;
 mod scanners;
+mod symbols;

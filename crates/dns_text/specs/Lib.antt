@@ -1,6 +1,14 @@
 pub mod Tokens
 pub mod Numbers
 pub mod Document
+pub mod Layout
+pub mod Writing
+pub mod Written
+pub mod Shown
+pub mod Documents
+pub mod DocumentRows
+pub mod Uncertain
+pub mod UncertainChain
 pub mod Tried
 pub use Rattle.dns_scan.specs.CharStr
 pub use Rattle.dns_scan.specs.CharStrBuilder
@@ -15,3 +23,5 @@ pub use Rattle.dns_scan.specs.Scans
 pub use Rattle.dns_scan.specs.StrError
 pub use Rattle.dns_scan.specs.ScanError
 pub use Rattle.dns_scan.specs.UnknownData
+pub use Rattle.dns_scan.specs.Symbols
+pub use Rattle.dns_scan.specs.Converted

@@ -1,10 +1,11 @@
 -- How the text of a zone file is cut into rows of tokens (RFC 1035 5.1).
-use Rattle.std.specs.Prelude.{◌≡◌, ◌≢◌, ◌==◌, ◌||◌, ◌<◌, ℕ, Bool, true, false, List, [], ◌∷◌, ◌++◌, length, Option, Some, None, not}
+use Rattle.std.specs.Prelude.{◌≡◌, ◌==◌, ◌||◌, ◌<◌, ℕ, Bool, true, false, List, [], ◌∷◌, ◌++◌, length, Option, Some, None, not}
 use Rattle.std.specs.Prelude.{if◌then◌else◌, ⊤}
 use Rattle.std.specs.List.{AllByRecursion, flat_map}
 use Rattle.dns_label.specs.declared.symbol.Symbol.{Symbol}
-use Rattle.dns_label.specs.declared.symbol.Symbol.TheVariants.{Char, SimpleEscape, DecimalEscape}
+use Rattle.dns_label.specs.declared.symbol.Symbol.TheVariants.{Char}
 use Rattle.dns_label.specs.Symbol.{IsSymbol, spelled}
+use Rattle.dns_scan.specs.Token.{Token}
 
 -- white space other than a line feed: a space, a tab, a carriage return
 abbrev pub is_gap : ℕ → Bool
@@ -54,11 +55,6 @@ pub record IsRun (quoted : Bool) (text front rest : List ℕ) : Type 0 where
   pub written : front ≡ flat_map spelled symbols
   pub whole : text ≡ front ++ rest
   pub longest : EndsToken quoted rest
-
--- a token: whether it is quoted, and its text as it is written, without the quotes
-pub record Token : Type 0 where
-  pub quoted : Bool
-  pub text : List ℕ
 
 -- what is left of a comment's text from its line feed on
 abbrev pub from_feed : List ℕ → List ℕ

@@ -69,3 +69,10 @@ bare_tabbed = refl
 pub bare_multiline : document_text Multiline bare
     ≡ codes "a" ++ 9 ∷ codes "; note" ++ 10 ∷ codes "b (" ++ 10 ∷ codes "        )" ++ 10 ∷ []
 bare_multiline = refl
+
+-- the data of an SOA record: two names, and five numbers with a comment each
+abbrev pub authority : List Piece
+authority =
+    Token (codes "b.") ∷ Token (codes "c.") ∷ Token (codes "1") ∷ Comment (codes "serial") ∷ Token (codes "2")
+    ∷ Comment (codes "refresh") ∷ Token (codes "3") ∷ Comment (codes "retry") ∷ Token (codes "4") ∷ Comment (codes "expire")
+    ∷ Token (codes "5") ∷ Comment (codes "minimum") ∷ []

@@ -1,12 +1,31 @@
 //! Presentation text: tokens and rows, character strings, encodings, documents and their layouts (RFC 1035 5.1,
 //! RFC 4648).
 //!
-//! Its part `dns_scan` (character strings, encodings, scanners) is handed on. Besides it holds definitions: how a zone
+//! Its part `dns_scan` (character strings, encodings, scanners) is handed on. Values show their documents through a
+//! `Formatter`, under one of three layouts; names may be absolute or relative. Besides it holds definitions: how a zone
 //! file's text is cut into rows of tokens.
 #![tactic(auto)]
 
+mod display;
+mod formatter;
+pub mod laws;
+mod layout;
+mod names;
+#[cfg(test)]
+mod tests;
+mod uncertain;
+mod values;
+mod writer;
+mod zonefile_fmt;
+
+pub use display::ZoneFileDisplay;
 pub use dns_scan::{
-    CharStr, CharStrBuilder, CharStrError, CharStrIter, DecodeError, DisplayEncoded, DisplayQuoted,
-    DisplayUnquoted, FromStrError, IterScanner, PresentationError, Scan, Scanner, ScannerError,
-    StrError, base16, base32, base64, scan_unknown_octets,
+    CharStr, CharStrBuilder, CharStrError, CharStrIter, ConvertSymbols, DecodeError, DecodedOctet,
+    DisplayEncoded, DisplayQuoted, DisplayUnquoted, EntrySymbol, FromStrError, IterScanner,
+    PresentationError, Scan, Scanner, ScannerError, StrError, base16, base32, base64,
+    scan_unknown_octets, scan_without_marker,
 };
+pub use formatter::Formatter;
+pub use layout::DisplayKind;
+pub use uncertain::{UncertainChain, UncertainName};
+pub use zonefile_fmt::{WriteShow, ZonefileFmt};

@@ -6,7 +6,8 @@ use Rattle.std.specs.List.{AllByRecursion, flat_map}
 use Rattle.dns_label.specs.Name.{IsName, wire}
 use Rattle.dns_label.specs.NameText.{IsAbsoluteText}
 use Rattle.dns_label.specs.NameText.IsAbsoluteText.{root, labels}
-use Rattle.dns_text.specs.Tokens.{Next, Token, from_feed, IsEmptyRow}
+use Rattle.dns_text.specs.Token.{Token}
+use Rattle.dns_text.specs.Tokens.{Next, from_feed, IsEmptyRow}
 use Rattle.dns_text.specs.Tokens.Next.{ended, goes, comment, quoted, unquoted}
 use Rattle.dns_text.specs.Tokens.Row.{end}
 use Rattle.dns_rdata.specs.Fields.{Field, ipv4, compressible, number32, octets, IsRow}

@@ -2,6 +2,7 @@
 use Rattle.std.specs.Prelude.{◌≡◌, ◌<◌, ◌^◌, ℕ, List}
 use Rattle.std.specs.List.{AllByRecursion}
 use Rattle.dns_label.specs.Name.{IsName}
+pub use Rattle.dns_name.specs.PrintedLabels.{AreOctets}
 use Rattle.dns_rdata.specs.Fields.{IsData}
 use Rattle.dns_message.specs.Record.{IsRecord}
 use Rattle.zone_core.specs.Record.{Record}
@@ -10,9 +11,6 @@ use Rattle.zone_core.specs.Query.{AxfrQuery}
 use Rattle.zone_core.specs.View.{apex_of}
 use Rattle.zone_core.specs.Transfer.{IsSpellable, IsTypeToday}
 use Rattle.zone_core.specs.Sent.{AsksFor}
-
-abbrev pub AreOctets : List ℕ → Type 0
-AreOctets octets = AllByRecursion (λ octet. octet < 2 ^ 8) octets
 
 -- A record of the class whose data is that of its type, and which text can spell.
 pub record IsSendable (class : ℕ) (r : Record) : Type 0 where

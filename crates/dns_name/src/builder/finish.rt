@@ -1,12 +1,23 @@
-//! Absolute names from labels that were built.
+//! Names from labels that were built.
 ghost use Rattle.std.specs.Prelude.{◌≡◌, ◌<◌, ◌↔◌, ◌++◌, Err, length, IfOk};
-ghost use Rattle.dns_label.specs.Name.{IsName, wire};
+ghost use Rattle.dns_label.specs.Name.{wire};
 ghost use Rattle.dns_name.specs.Built.{labels_built};
 ghost use Rattle.dns_name.specs.declared.builder.error.PushNameError.TheVariants.{LongName};
 
 use super::{NameBuilder, PushNameError};
-use crate::{Name, ToName};
+use crate::wire_form::wire_of;
+use crate::{Name, RelativeName, ToName};
 use dns_octets::{FreezeBuilder, OctetsBuilder};
+
+impl<B: OctetsBuilder + FreezeBuilder> NameBuilder<B> {
+    /// The relative name of all labels, in the same octets.
+    pub fn finish(self) -> RelativeName<B::Octets>
+        ensures { result ≡ labels_built self }
+    {
+        let NameBuilder { builder, head: _ } = self;
+        RelativeName::of_octets(builder.freeze())
+    }
+}
 
 impl<B: OctetsBuilder + FreezeBuilder + Drop> NameBuilder<B> {
     /// The name of all labels and the root. Refused with `ShortBuf`, for want of room or memory, and never with
@@ -28,20 +39,18 @@ impl<B: OctetsBuilder + FreezeBuilder + Drop> NameBuilder<B> {
     /// Refused with `LongName` exactly where it would have more than 255 octets, and with `ShortBuf` for want of room or
     /// memory.
     pub fn append_origin<N: ToName>(self, origin: &N) -> Result<Name<B::Octets>, PushNameError>
-        requires { IsName (N.name origin.now) }
         ensures ok { IfOk result (λ name. name ≡ labels_built self ++ N.name origin.now) }
         ensures long { (result ≡ Err LongName) ↔ (255 < length (wire (labels_built self ++ N.name origin.now))) }
     {
-        if self.len() + usize::from(origin.compose_len()) > 255 {
+        let labels = wire_of(origin);
+        if labels.as_slice().len() > 255 - self.len() {
             return Err(PushNameError::LongName);
         }
         let NameBuilder {
             mut builder,
             head: _,
         } = self;
-        for label in origin.iter_labels() {
-            label.compose(&mut builder)?;
-        }
+        builder.append_slice(labels.as_slice())?;
         Ok(Name::of_wire(builder.freeze()))
     }
 }

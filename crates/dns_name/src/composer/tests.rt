@@ -1,5 +1,5 @@
 //! Targets at concrete types, through their bound.
-mod one_suffix;
+pub(crate) mod one_suffix;
 
 use crate::{AppendError, Composer, Name, Octets, OctetsBuilder, Truncate};
 use arrayvec::ArrayVec;

@@ -6,7 +6,9 @@ ghost use Rattle.dns_octets.specs.Builder.{IsPast};
 ghost use Rattle.dns_octets.specs.declared.error.AppendError.TheVariants.{ShortBuf, BadLength};
 
 use super::Name;
-use dns_octets::{AppendError, EmptyBuilder, FromBuilder, Octets, OctetsBuilder};
+use crate::ToName;
+use crate::copies::octets_from;
+use dns_octets::{AppendError, EmptyBuilder, FromBuilder, Octets, OctetsFrom};
 use std::alloc::Global;
 
 impl<Octs: Octets> Name<Octs> {
@@ -31,7 +33,20 @@ where
     ensures short { result ≡ Err ShortBuf → IsPast ⟦<Octs::Builder as EmptyBuilder>⟧.limit (length octets.now) }
     ensures not_bad { result ≡ Err BadLength → ⊥ }
 {
-    let mut builder = Octs::Builder::with_capacity(alloc, octets.len())?;
-    builder.append_slice(octets)?;
-    Ok(Name::of_octets(Octs::from_builder(builder)))
+    Ok(Name::of_octets(octets_from(alloc, octets)?))
+}
+
+/// The same name over other octets. Refused with `ShortBuf` only where these can't hold as many octets, and with
+/// `OutOfMemory` where memory was wanting.
+impl<Source: Octets + Drop, Octs: FromBuilder> OctetsFrom<Name<Source>> for Name<Octs>
+where
+    Octs::Builder: EmptyBuilder + Drop,
+{
+    ghost octets_from_gives = { λ source result. IfOk result (λ name. name ≡ source)
+        × (result ≡ Err ShortBuf → IsPast Octs.Builder.limit (length (wire source)))
+        × (result ≡ Err BadLength → ⊥) };
+
+    fn try_octets_from(alloc: Global, source: Name<Source>) -> Result<Self, AppendError> {
+        source.try_to_name(alloc)
+    }
 }

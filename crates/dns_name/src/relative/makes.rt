@@ -6,8 +6,9 @@ ghost use Rattle.dns_octets.specs.Builder.{IsPast};
 ghost use Rattle.dns_octets.specs.declared.error.AppendError.TheVariants.{ShortBuf, BadLength};
 
 use super::RelativeName;
+use crate::copies::octets_from;
 use crate::{Name, ToRelativeName};
-use dns_octets::{AppendError, EmptyBuilder, FromBuilder, Octets, OctetsBuilder};
+use dns_octets::{AppendError, EmptyBuilder, FromBuilder, Octets, OctetsBuilder, OctetsFrom};
 use std::alloc::{AllocError, Global};
 
 impl<Octs: Octets> ToRelativeName for RelativeName<Octs> {
@@ -28,9 +29,23 @@ where
     ensures short { result ≡ Err ShortBuf → IsPast ⟦<Octs::Builder as EmptyBuilder>⟧.limit (length octets.now) }
     ensures not_bad { result ≡ Err BadLength → ⊥ }
 {
-    let mut builder = Octs::Builder::with_capacity(alloc, octets.len())?;
-    builder.append_slice(octets)?;
-    Ok(RelativeName::of_octets(Octs::from_builder(builder)))
+    Ok(RelativeName::of_octets(octets_from(alloc, octets)?))
+}
+
+/// The same name over other octets. Refused with `ShortBuf` only where these can't hold as many octets, and with
+/// `OutOfMemory` where memory was wanting.
+impl<Source: Octets + Drop, Octs: FromBuilder> OctetsFrom<RelativeName<Source>>
+    for RelativeName<Octs>
+where
+    Octs::Builder: EmptyBuilder + Drop,
+{
+    ghost octets_from_gives = { λ source result. IfOk result (λ name. name ≡ source)
+        × (result ≡ Err ShortBuf → IsPast Octs.Builder.limit (length (labels_wire source)))
+        × (result ≡ Err BadLength → ⊥) };
+
+    fn try_octets_from(alloc: Global, source: RelativeName<Source>) -> Result<Self, AppendError> {
+        source.try_to_relative_name(alloc)
+    }
 }
 
 impl<Octs: FromBuilder> RelativeName<Octs>

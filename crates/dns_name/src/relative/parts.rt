@@ -189,7 +189,8 @@ impl<Octs: Octets> ToLabelIter for RelativeName<Octs> {
     }
 
     fn first_place(&self) -> Option<usize> {
-        let _octets = self.as_slice();
+        // What the type says of its octets is known where these are named.
+        let _ = &self.octets;
         Some(0)
     }
 

@@ -142,8 +142,16 @@ fn hash_of<T: Hash>(value: &T) -> u64 {
     state.finish()
 }
 
+fn name_hash_of<N: ToName>(name: &N) -> u64 {
+    let mut state = DefaultHasher::new();
+    name.name_hash(&mut state);
+    state.finish()
+}
+
 #[test]
 fn equal_names_hash_alike(rt: HostRuntime) -> Result<(), Fail> {
+    assert_eq!(rt; name_hash_of(&www()?), name_hash_of(&flat(FLAT)?));
+    assert!(rt; name_hash_of(&www()?) != name_hash_of(&flat(b"\x00")?));
     assert_eq!(rt; hash_of(&www()?), hash_of(&flat(FLAT)?));
     assert_eq!(rt; hash_of(&flat(LOWERED)?), hash_of(&flat(FLAT)?));
     assert!(rt; hash_of(&www()?) != hash_of(&flat(b"\x00")?));

@@ -6,12 +6,14 @@ ghost use Rattle.dns_label.specs.declared.symbol.Symbol.{Symbol};
 ghost use Rattle.dns_label.specs.Name.{IsName};
 ghost use Rattle.dns_label.specs.Symbol.{IsSymbol, spelled};
 ghost use Rattle.dns_label.specs.Taken.{RulesOut};
-ghost use Rattle.dns_label.specs.NameText.{IsNameText};
-ghost use Rattle.dns_name.specs.Text.{SpellName, IsFault};
+ghost use Rattle.dns_name.specs.Text.{IsFault};
+ghost use Rattle.dns_name.specs.declared.text.FromStrError.TheVariants.{ShortBuf};
+ghost use Rattle.dns_name.specs.declared.text.relative.RelativeFromStrError.TheVariants.{FromStr};
 
-use super::{FromStrError, PresentationError, is_dot};
-use crate::Name;
+use super::{FromStrError, PresentationError, RelativeFromStrError, is_dot};
 use crate::copies::octets_from;
+use crate::relative::copied_relative;
+use crate::{Name, RelativeName};
 use dns_label::{Symbol, Symbols};
 use dns_octets::{EmptyBuilder, FromBuilder};
 use std::alloc::Global;
@@ -32,18 +34,18 @@ pub(super) struct Spelling {
 }
 
 impl Spelling {
-    ghost use Rattle.dns_name.specs.Draft.{Holds, IsReadBy};
+    ghost use Rattle.dns_name.specs.Draft.{Holds, IsReadBy, IsReadable, AreReadable};
 
     /// What characters spell, the last label still open; None where they are the root's dot alone.
     ///
-    /// Refused where they spell no name, and maybe before all of them are taken.
+    /// Refused where they spell no name though there are some, and maybe before all of them are taken.
     pub(super) fn read_chars<C: Iterator<Item = char> + Drop>(
         chars: C,
     ) -> Result<Option<Spelling>, PresentationError>
         requires can { C.can_next chars }
         requires ends { IsFinite (C.remaining chars) }
         ensures ok { IfOk result (λ read. (text : List ℕ) × Drains C.next_gives chars text × IsReadBy text read) }
-        ensures err { OnErr result (RulesOut C.next_gives chars (λ text. (name : List (List ℕ)) × IsNameText text name)) }
+        ensures err { OnErr result (RulesOut C.next_gives chars IsReadable) }
     {
         let mut symbols = Symbols::new(chars);
         let read = Spelling::read(&mut symbols)?;
@@ -53,14 +55,14 @@ impl Spelling {
 
     /// What symbols spell, the last label still open; None where they are the root's dot alone.
     ///
-    /// Refused where they spell no name, and maybe before all of them are taken.
+    /// Refused where they spell no name though there are some, and maybe before all of them are taken.
     pub(super) fn read<S: Iterator<Item = Symbol>>(
         symbols: &mut S,
     ) -> Result<Option<Spelling>, PresentationError>
         requires can { S.can_next symbols.old }
         requires ends { IsFinite (S.remaining symbols.old) }
         ensures ok { IfOk result (λ read. (list : List Symbol) × YieldsThen S.next_gives symbols.old list None symbols.new × AllByRecursion IsSymbol list × IsReadBy (flat_map spelled list) read) }
-        ensures err { OnErr result (RulesOut S.next_gives symbols.old (λ list. (name : List (List ℕ)) × SpellName list name)) }
+        ensures err { OnErr result (RulesOut S.next_gives symbols.old AreReadable) }
     {
         let mut spelling = Spelling {
             octets: [0; 255],
@@ -85,6 +87,13 @@ impl Spelling {
         ensures { IsTrue result ↔ (self.now.start + 1 < self.now.len) }
     {
         self.len - self.start > 1
+    }
+
+    /// Whether nothing was put to it.
+    pub(super) fn is_new(&self) -> bool
+        ensures { IsTrue result ↔ (self.now.len ≡ 1) }
+    {
+        self.len == 1
     }
 
     /// Puts an octet to the open label. Refused past 63 of them, and where no room for the root would be left.
@@ -132,6 +141,20 @@ impl Spelling {
         }
         let octets = octets_from(alloc, &self.octets[..self.len])?;
         Ok(Name::of_wire(octets))
+    }
+
+    /// The relative name of the finished labels.
+    pub(super) fn finish_relative<Octs: FromBuilder>(
+        self,
+        alloc: Global,
+    ) -> Result<RelativeName<Octs>, RelativeFromStrError>
+    where
+        Octs::Builder: EmptyBuilder + Drop,
+        requires { (done : List (List ℕ)) × Holds self done [] }
+        ensures ok { IfOk result (λ name. IsName name × Holds self name []) }
+        ensures err { IfErr result (λ error. error ≡ FromStr ShortBuf) }
+    {
+        Ok(copied_relative(alloc, &self.octets[..self.start])?)
     }
 }
 

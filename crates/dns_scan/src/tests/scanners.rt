@@ -1,8 +1,9 @@
 //! Scanners: tokens in and values out (RFC 1035 5.1), and error texts.
 use crate::{
-    IterScanner, Scan, Scanner, ScannerError, StrError, base16, base32, base64, scan_unknown_octets,
+    IterScanner, Scan, Scanner, ScannerError, StrError, base16, base32, base64,
+    scan_unknown_octets, scan_without_marker,
 };
-use dns_name::{Class, Name, OctetsBuilder, Rtype, Serial, Ttl};
+use dns_name::{Class, Name, OctetsBuilder, Rtype, Serial, Ttl, UnknownRecordData};
 use std::alloc::Global;
 use std::test::Fail;
 
@@ -68,6 +69,17 @@ fn tokens_are_scanned(rt: HostRuntime) -> Result<(), Fail> {
     let mut builder = scanner.octets_builder()?;
     builder.append_slice(b"a")?;
     assert_eq!(rt; builder.as_slice(), b"a".as_slice());
+    Ok(())
+}
+
+#[test]
+fn a_word_is_handed_to_a_closure(rt: HostRuntime) -> Result<(), Fail> {
+    let mut scanner = over(rt.alloc(), "abc def \\100 ghi")?;
+    assert_eq!(rt; scanner.scan_ascii_str(|word| Some(word.len())), Ok(3));
+    let refused = Err(StrError::Custom("invalid word"));
+    assert_eq!(rt; scanner.scan_ascii_str(|_| None::<usize>), refused);
+    assert_eq!(rt; scanner.scan_ascii_str(|word| Some(word.len())), refused);
+    assert_eq!(rt; scanner.scan_ascii_str(|word| Some(word.len())), Ok(3));
     Ok(())
 }
 
@@ -156,6 +168,31 @@ fn data_of_unknown_types(rt: HostRuntime) -> Result<(), Fail> {
         unknown_octets(rt.alloc(), "").err(),
         Some(StrError::EndOfEntry)
     );
+    Ok(())
+}
+
+/// RFC 3597 5.
+#[test]
+fn records_of_unknown_types(rt: HostRuntime) -> Result<(), Fail> {
+    let mut scanner = over(rt.alloc(), "4 010 20304")?;
+    let rdata = scan_without_marker(Rtype::from_int(1), &mut scanner)?;
+    assert_eq!(rt; rdata.rtype(), Rtype::from_int(1));
+    assert_eq!(rt; rdata.data().as_slice(), b"\x01\x02\x03\x04".as_slice());
+    let number = StrError::Custom("another number of octets");
+    let mut scanner = over(rt.alloc(), "4 010203")?;
+    let refused = scan_without_marker(Rtype::from_int(1), &mut scanner);
+    assert_eq!(rt; refused.err(), Some(number));
+    let mut scanner = over(rt.alloc(), "TYPE731 \\# 6 abcdef 01 23 45")?;
+    let rdata = UnknownRecordData::<Vec<u8>>::scan(&mut scanner)?;
+    assert_eq!(rt; rdata.rtype(), Rtype::from_int(731));
+    assert_eq!(rt;
+        rdata.data().as_slice(),
+        b"\xab\xcd\xef\x01\x23\x45".as_slice()
+    );
+    let marker = StrError::Custom("'\\#' expected");
+    let mut scanner = over(rt.alloc(), "TYPE731 6 abcdef012345")?;
+    let refused = UnknownRecordData::<Vec<u8>>::scan(&mut scanner);
+    assert_eq!(rt; refused.err(), Some(marker));
     Ok(())
 }
 

@@ -1,4 +1,4 @@
-use Rattle.std.proofs.Common.{◌≡◌, List, ℕ, [], refl, subst}
+use Rattle.std.proofs.Common.{◌≡◌, List, ℕ, [], refl, subst, inr}
 use Rattle.std.specs.Prelude.{Option}
 use Rattle.std.proofs.lemmas.Result.{err_from_is_err_and}
 use Rattle.dns_label.specs.NameText.IsAbsoluteText.{root}
@@ -20,7 +20,7 @@ pub returns-in_err-spelling-clause-err : goal.returns-in_err-spelling-clause-err
 returns-in_err-spelling-clause-err c =
     let p = err_from_is_err_and c.from_residual.result c.from_residual.ensures.1 in
     rw (p.1, p.2)
-    (λ name is. first_rules (λ (chars : OctetChars). chars.0.now) _ c.in_err-spelling.ensures.err (name, absolute is))
+    (λ name is. first_rules (λ (chars : OctetChars). chars.0.now) _ c.in_err-spelling.ensures.err (inr (name, absolute is)))
 
 pub returns-in_err-root-clause-err : goal.returns-in_err-root-clause-err
 returns-in_err-root-clause-err c =

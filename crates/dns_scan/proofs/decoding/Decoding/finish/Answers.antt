@@ -1,4 +1,4 @@
-use Rattle.std.proofs.Common.{◌≡◌, ℕ, List, length, refl, sym, ◌∙◌, ap, subst}
+use Rattle.std.proofs.Common.{◌≡◌, ℕ, List, length, refl, sym, ap, subst}
 use Rattle.dns_scan.specs.Base.{Decodes}
 use Rattle.dns_scan.specs.Decoding.{IsWhole}
 use Rattle.dns_scan.specs.declared.base.Base.{Base}
@@ -19,7 +19,7 @@ returns-then-not-is_whole-clause-short g c = λ sound. (
       (λ whole.
       let bad = c.if-not-is_whole.ensures.1
       (whole_at c.args.base _ _ _ _ (sym (ap (λ p. p.pads) c.self.view_is))
-      (sym (c.len.ensures ∙ ap (λ p. length p.waiting) c.self.view_is)) whole) in cc) octets decodes,
+      (sym (ap (λ p. length p.waiting) c.self.view_is)) whole) in cc) octets decodes,
 )
 
 pub returns-clause-ok : goal.returns-clause-ok
@@ -28,4 +28,4 @@ returns-clause-ok g c = λ text read.
     subst P (sym (ap (λ p. p.octets) c.self.view_is))
     (whole_decodes c.args.base c.args.self text read
     (whole_at c.args.base _ _ _ _ (ap (λ p. p.pads) c.self.view_is)
-    (c.len.ensures ∙ ap (λ p. length p.waiting) c.self.view_is) (c.if-not-is_whole.ensures.0 refl)))
+    (ap (λ p. length p.waiting) c.self.view_is) (c.if-not-is_whole.ensures.0 refl)))

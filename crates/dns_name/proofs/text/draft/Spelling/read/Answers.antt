@@ -2,7 +2,7 @@ use Rattle.std.proofs.Common.{ℕ, [], ◌∷◌, ◌++◌, refl, sym, subst}
 use Rattle.dns_label.proofs.Taken.{rules_behind, rules_item, yields_append}
 use Rattle.dns_name.proofs.Flat.{always_on_err}
 use Rattle.dns_name.proofs.Parts.{Reading, reading_here, reading-octet, reading-dot}
-use Rattle.dns_name.proofs.Readings.{bad_symbol, over_none, empty_none, new_none, some_read, read_end, root_answer, root_refused}
+use Rattle.dns_name.proofs.Readings.{some_readable, bad_symbol, over_none, empty_none, new_none, some_read, read_end, root_answer, root_refused}
 use Rattle.dns_name.proofs.text.draft.Spelling.read.Goals as goal
 
 pub symbols-init : goal.symbols-init
@@ -18,7 +18,9 @@ returns-in_err-octet-clause-err g c =
     always_on_err c.from_residual.result
     (rules_behind c.args.symbols.now c.symbols.symbols at.0 at.3
     (rules_item c.symbols.symbols c.next.new.self c.in-Some.symbol c.in-Some.ensures.steps
-    (λ rest spells. bad_symbol at.0 rest c.in-Some.symbol spells.0 (λ is. let no = c.in_err-octet.ensures.symbol.1 is in cc) spells.1)))
+    (λ rest.
+    some_readable at.0 c.in-Some.symbol rest
+    (λ name. bad_symbol at.0 rest c.in-Some.symbol name (λ is. let no = c.in_err-octet.ensures.symbol.1 is in cc)))))
 
 pub symbols-preserved-in-Continue-branch-2 : goal.symbols-preserved-in-Continue-branch-2
 symbols-preserved-in-Continue-branch-2 g c =
@@ -48,9 +50,10 @@ returns-in_err-push-clause-err g c =
     always_on_err c.from_residual-in_err-push.result
     (rules_behind c.args.symbols.now c.symbols.symbols at.0 at.3
     (rules_item c.symbols.symbols c.next.new.self c.in-Some.symbol c.in-Some.ensures.steps
-    (λ rest spells.
-    over_none c.symbols.spelling at.0 rest at.1 at.2 c.in-Some.symbol spells.0 at.4 at.5 is_symbol (sym c.if-not-is_dot.ensures)
-    c.in_err-push.ensures.err spells.1)))
+    (λ rest.
+    some_readable at.0 c.in-Some.symbol rest
+    (λ name. over_none c.symbols.spelling at.0 rest at.1 at.2 c.in-Some.symbol name at.4 at.5 is_symbol (sym c.if-not-is_dot.ensures)
+    c.in_err-push.ensures.err))))
 
 pub returns-then-spelling-eq1-clause-ok : goal.returns-then-spelling-eq1-clause-ok
 returns-then-spelling-eq1-clause-ok g c =
@@ -97,9 +100,10 @@ returns-in_err-end_label-clause-err g c =
     always_on_err c.from_residual-in_err-end_label.result
     (rules_behind c.args.symbols.now c.symbols.symbols at.0 at.3
     (rules_item c.symbols.symbols c.next.new.self c.in-Some.symbol c.in-Some.ensures.steps
-    (λ rest spells.
-    empty_none c.symbols.spelling at.0 rest at.1 at.2 c.in-Some.symbol spells.0 at.4 at.5 is_symbol (sym c.if-not-is_dot.ensures)
-    c.if-spelling-eq1.false c.in_err-end_label.ensures.err spells.1)))
+    (λ rest.
+    some_readable at.0 c.in-Some.symbol rest
+    (λ name. empty_none c.symbols.spelling at.0 rest at.1 at.2 c.in-Some.symbol name at.4 at.5 is_symbol (sym c.if-not-is_dot.ensures)
+    c.if-spelling-eq1.false c.in_err-end_label.ensures.err))))
 
 pub returns-clause-ok : goal.returns-clause-ok
 returns-clause-ok g c =

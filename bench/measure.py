@@ -1,0 +1,93 @@
+#!/usr/bin/env python3
+"""Times the proved program on zones of several sizes, and beside it the zone readers of other name servers.
+
+For each size: processor time a record (user and system), octets of its input a second, and the peak of its memory, for
+`send` (zone text to stream) and `receive` (that stream to text). Of the others those that are installed read the same
+text and one NS record more, without which some take no zone; their time is given as a ratio of the time of `send`. Each
+is run three times, and the fastest counts. A peak below some 20 MB is that of the measuring program itself."""
+import argparse
+import os
+import shutil
+import subprocess
+import sys
+import tempfile
+from dataclasses import dataclass
+from pathlib import Path
+
+import generate
+
+RUNS = 3
+SIZES = [10_000, 100_000, 1_000_000]
+ZONE = generate.APEX.rstrip(".")
+
+
+@dataclass
+class Run:
+    seconds: float
+    peak_octets: int
+
+
+def run_once(words, stdin, stdout):
+    """One run of a program: its processor time and the peak of its memory. A program that fails ends the benchmark."""
+    with open(stdin, "rb") as source, open(stdout, "wb") as sink:
+        child = subprocess.Popen(words, stdin=source, stdout=sink, stderr=subprocess.PIPE)
+        said = child.stderr.read()
+        _, status, usage = os.wait4(child.pid, 0)
+        child.returncode = os.waitstatus_to_exitcode(status)
+    if child.returncode != 0:
+        sys.exit(f"{' '.join(words)}: status {child.returncode}: {said.decode(errors='replace')}")
+    return Run(usage.ru_utime + usage.ru_stime, usage.ru_maxrss * 1024)
+
+
+def fastest(words, stdin, stdout):
+    return min((run_once(words, stdin, stdout) for _ in range(RUNS)), key=lambda run: run.seconds)
+
+
+def peers(text):
+    """The commands of other name servers that read the zone's text, where they are installed."""
+    commands = {
+        "kzonecheck": ["-o", ZONE, text],
+        "nsd-checkzone": [ZONE, text],
+        "named-compilezone": ["-q", "-i", "none", "-o", os.devnull, ZONE, text],
+        "ldns-read-zone": ["-n", text],
+    }
+    return {name: [found, *words] for name, words in commands.items() if (found := shutil.which(name))}
+
+
+def report(name, run, records, octets, ratio=None):
+    ratio = "" if ratio is None else f"{ratio:8.2f}"
+    print(f"  {name:<18}{run.seconds * 1e9 / records:10.0f}{octets / run.seconds / 1e6:10.1f}{run.peak_octets / 1e6:10.1f}{ratio}")
+
+
+def measure(program, records, folder):
+    text, stream, again, with_server = (folder / name for name in ("zone", "stream", "again", "with_server"))
+    with open(text, "w") as out:
+        generate.write_zone(out, records)
+    with open(with_server, "w") as out:
+        generate.write_zone(out, records)
+        out.write(generate.name_server())
+    sent = fastest([program, "send", "--spelling", "plain"], text, stream)
+    received = fastest([program, "receive", "--apex", generate.APEX], stream, again)
+    if text.read_bytes() != again.read_bytes():
+        sys.exit("the text that was received is not the text that was sent")
+    print(f"{records:,} records, {text.stat().st_size / 1e6:.1f} MB of text, {stream.stat().st_size / 1e6:.1f} MB of stream")
+    print(f"  {'':<18}{'ns/record':>10}{'MB/s':>10}{'peak MB':>10}{'ratio':>8}")
+    report("zonewire send", sent, records, text.stat().st_size, 1)
+    report("zonewire receive", received, records, stream.stat().st_size)
+    for name, words in peers(str(with_server)).items():
+        other = fastest(words, os.devnull, os.devnull)
+        report(name, other, records, with_server.stat().st_size, other.seconds / sent.seconds)
+
+
+def main():
+    parser = argparse.ArgumentParser(description=__doc__, formatter_class=argparse.RawDescriptionHelpFormatter)
+    parser.add_argument("program", help="the proved program")
+    parser.add_argument("records", nargs="*", type=int, default=SIZES, help="sizes of the zones")
+    arguments = parser.parse_args()
+    with tempfile.TemporaryDirectory() as folder:
+        for records in arguments.records:
+            measure(arguments.program, records, Path(folder))
+
+
+if __name__ == "__main__":
+    main()

@@ -1,0 +1,11 @@
+pub mod Writing
+pub mod Lengths
+pub mod NameOctets
+pub mod Leaves
+pub mod FieldKinds
+pub mod ReadParts
+pub mod ReadFields
+pub mod ReadStrings
+pub mod Shows
+pub mod ScanParts
+pub mod ScanLeaves

@@ -1,0 +1,15 @@
+use Rattle.std.proofs.Common.{◌+◌, ◌≤◌, length, refl, rules}
+use Rattle.dns_octets.specs.Parser.{octets_of, place_of}
+use Rattle.dns_fields.proofs.ReadFields.{octets_read, long_take, fixed_sole, ipv6_fixed}
+use Rattle.dns_fields.proofs.read.leaves.Ipv6AddrReadField.read_field.Goals as goal
+
+pub returns-in-Ok-clause-ok : goal.returns-in-Ok-clause-ok
+returns-in-Ok-clause-ok c =
+    let enough : place_of c.args.parser.now + 16 ≤ length (octets_of c.args.parser.now) = search rules in
+    record {
+      is_field = long_take (octets_of c.args.parser.now) (place_of c.args.parser.now) 16 _ c.in-Ok.ensures.ok enough;
+      spelled = octets_read (octets_of c.args.parser.now) (place_of c.args.parser.now) _ 16 _ c.in-Ok.ensures.ok enough c.in-Ok.ensures.place.place;
+    }
+
+pub returns-in-Ok-clause-sole : goal.returns-in-Ok-clause-sole
+returns-in-Ok-clause-sole c = fixed_sole ipv6_fixed refl (returns-in-Ok-clause-ok c)

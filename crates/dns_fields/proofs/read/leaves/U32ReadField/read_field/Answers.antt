@@ -1,0 +1,14 @@
+use Rattle.std.proofs.Common.{◌≡◌, ◌+◌, ◌≤◌, ◌<◌, ◌^◌, ℕ, length, refl, rules, arith}
+use Rattle.dns_octets.specs.Parser.{octets_of, place_of}
+use Rattle.dns_fields.specs.Reading.{ReadsField}
+use Rattle.dns_fields.proofs.ReadFields.{octets_read, fixed_sole, number32_fixed}
+use Rattle.dns_fields.proofs.read.leaves.U32ReadField.read_field.Goals as goal
+
+pub returns-clause-ok : goal.returns-clause-ok
+returns-clause-ok c =
+    let enough : place_of c.args.parser.now + 4 ≤ length (octets_of c.args.parser.now) = search rules in
+    let small : c.in_ok-parse_u32_be.field-0 < 2 ^ 32 = search rules in
+    record {
+      is_field = small;
+      spelled = octets_read (octets_of c.args.parser.now) (place_of c.args.parser.now) _ 4 _ c.in_ok-parse_u32_be.ensures.back enough c.in_ok-parse_u32_be.ensures.place.place;
+    }

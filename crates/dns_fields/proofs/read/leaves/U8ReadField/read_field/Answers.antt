@@ -1,0 +1,14 @@
+use Rattle.std.proofs.Common.{◌≡◌, ◌+◌, ◌≤◌, ◌<◌, ◌^◌, ℕ, length, refl, rules, arith}
+use Rattle.dns_octets.specs.Parser.{octets_of, place_of}
+use Rattle.dns_fields.specs.Reading.{ReadsField}
+use Rattle.dns_fields.proofs.ReadFields.{octets_read, fixed_sole, number8_fixed}
+use Rattle.dns_fields.proofs.read.leaves.U8ReadField.read_field.Goals as goal
+
+pub returns-clause-ok : goal.returns-clause-ok
+returns-clause-ok c =
+    let enough : place_of c.args.parser.now + 1 ≤ length (octets_of c.args.parser.now) = search rules in
+    let small : c.in_ok-parse_u8.field-0 < 2 ^ 8 = search rules in
+    record {
+      is_field = small;
+      spelled = octets_read (octets_of c.args.parser.now) (place_of c.args.parser.now) _ 1 _ c.in_ok-parse_u8.ensures.ok enough c.in_ok-parse_u8.ensures.place.place;
+    }

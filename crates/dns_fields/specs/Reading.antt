@@ -1,0 +1,52 @@
+-- Data as a reader takes it out of a message: fields one behind another, up to where the octets end (RFC 1035 3.2.1).
+use Rattle.std.specs.Prelude.{◌≡◌, ℕ, List, [], ◌∷◌, length, map}
+use Rattle.std.specs.List.{AllByRecursion}
+use Rattle.dns_name.specs.Page.{Parts}
+use Rattle.dns_name.specs.Page.Parts.{End, Octets, Named}
+use Rattle.dns_name.specs.SpelledParts.{Spells}
+use Rattle.dns_fields.specs.Fields.{Kind, Field, compressible, uncompressed, kind_of, field_octets, IsField, IsRow}
+
+-- a field in front of parts: any name may have a pointer (RFC 3597 4 asks readers for that)
+abbrev pub read_field : Field → Parts → Parts
+read_field (compressible name) behind = Named name behind
+read_field (uncompressed name) behind = Named name behind
+read_field field behind = Octets (field_octets field) behind
+
+-- the parts of a row
+abbrev pub read_parts : List Field → Parts
+read_parts [] = End
+read_parts (field ∷ row) = read_field field (read_parts row)
+
+-- the field stands at the place, and `next` is the place behind it
+pub record ReadsField (message : List ℕ) (place : ℕ) (field : Field) (next : ℕ) : Type 0 where
+  pub is_field : IsField field
+  pub spelled : Spells message place (read_field field End) next
+
+-- the fields stand from the place on, with nothing behind them
+pub record ReadsFields (message : List ℕ) (place : ℕ) (row : List Field) : Type 0 where
+  pub each : AllByRecursion IsField row
+  pub spelled : Spells message place (read_parts row) (length message)
+
+-- the octets from the place on are this data of the type
+pub record ReadsRow (rtype : ℕ) (message : List ℕ) (place : ℕ) (row : List Field) : Type 0 where
+  pub is_row : IsRow rtype row
+  pub spelled : Spells message place (read_parts row) (length message)
+
+-- this field alone of its kind stands at the place
+pub record IsSoleField (message : List ℕ) (place : ℕ) (field : Field) (next : ℕ) : Type 0 where
+  pub sole : (other : Field) (end : ℕ) → kind_of other ≡ kind_of field → ReadsField message place other end
+      → (other ≡ field) × (end ≡ next)
+
+-- these fields alone of their kinds do
+pub record AreSoleFields (message : List ℕ) (place : ℕ) (row : List Field) : Type 0 where
+  pub sole : (others : List Field) → map kind_of others ≡ map kind_of row → ReadsFields message place others → others ≡ row
+
+-- no field of the kind stands at the place, no fields of the kinds, no data of the type
+abbrev pub NoField : List ℕ → ℕ → Kind → Type 0
+NoField message place kind = (field : Field) (next : ℕ) → kind_of field ≡ kind → ReadsField message place field next → ⊥
+
+abbrev pub NoFields : List ℕ → ℕ → List Kind → Type 0
+NoFields message place kinds = (row : List Field) → map kind_of row ≡ kinds → ReadsFields message place row → ⊥
+
+abbrev pub NoRow : ℕ → List ℕ → ℕ → Type 0
+NoRow rtype message place = (row : List Field) → ReadsRow rtype message place row → ⊥

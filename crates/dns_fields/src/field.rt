@@ -1,0 +1,92 @@
+//! Fields of record data.
+ghost use Rattle.std.specs.Prelude.{◌≡◌, ◌++◌, ℕ, List, Err, length, fold, OnOk};
+ghost use Rattle.std.specs.Ordering.{ordering_then, nat_cmp};
+ghost use Rattle.std.specs.Prelude.{nat_eq};
+ghost use Rattle.std.specs.Cmp.Lexicographic.{pointwise, slice_cmp};
+ghost use Rattle.dns_octets.specs.Builder.{GrowsTo, IsPast};
+ghost use Rattle.dns_octets.specs.declared.error.AppendError.TheVariants.{ShortBuf, BadLength};
+ghost use Rattle.dns_name.specs.Page.{write};
+ghost use Rattle.dns_name.specs.Page.Parts.{End};
+ghost use Rattle.dns_name.specs.RecordData.{page_of};
+ghost use Rattle.dns_fields.specs.Fields.{Kind, Field, kind_of, field_octets, lowered};
+ghost use Rattle.dns_fields.specs.Alike.{folded};
+ghost use Rattle.dns_fields.specs.Written.{may_point, written_field};
+
+mod addresses;
+mod names;
+mod numbers;
+mod strings;
+
+use dns_name::{AppendError, Composer};
+pub use names::{Compressible, Uncompressed};
+use std::cmp::Ordering;
+use std::hash::Hasher;
+pub use strings::Tag;
+
+/// A value that is a field of record data, of one kind.
+pub trait FieldValue {
+    ghost kind: { Kind };
+
+    ghost field: { Self → Field };
+
+    /// Whether fields of this kind may be written with a pointer (RFC 3597 4).
+    fn may_point() -> bool
+        ensures { result ≡ may_point kind };
+
+    /// How many octets the field has where no name is written with a pointer.
+    fn field_len(&self) -> usize
+        ensures { result ≡ length (field_octets (field self.now)) };
+
+    /// Appends the field, or a part of it where it is refused. Refused with `ShortBuf` only where the target would then
+    /// hold more octets than it may, and with `OutOfMemory` where a growth was refused.
+    fn compose_field<Target: Composer>(&self, target: &mut Target) -> Result<(), AppendError>
+        ensures ok { OnOk result (page_of (Target.list target.new) (Target.known target.new)
+            ≡ write Target.spelling (page_of (Target.list target.old) (Target.known target.old))
+            (written_field (field self.now) End)) }
+        ensures grows { GrowsTo (Target.list target.old) (Target.known target.old) (Target.list target.new)
+            (Target.known target.new) }
+        ensures short { result ≡ Err ShortBuf → IsPast (Target.bound target.old)
+            (length (write Target.spelling (page_of (Target.list target.old) (Target.known target.old))
+            (written_field (field self.now) End)).octets) }
+        ensures not_bad { result ≡ Err BadLength → ⊥ }
+        ensures same_bound { Target.bound target.new ≡ Target.bound target.old }
+        ensures stays { Target.stays target.old target.new };
+
+    /// Appends the canonical form of the field, refused as `compose_field` is.
+    fn compose_canonical_field<Target: Composer>(
+        &self,
+        target: &mut Target,
+    ) -> Result<(), AppendError>
+        ensures ok { OnOk result (Target.list target.new
+            ≡ Target.list target.old ++ field_octets (lowered (field self.now))) }
+        ensures known { Target.known target.new ≡ Target.known target.old }
+        ensures grows { GrowsTo (Target.list target.old) (Target.known target.old) (Target.list target.new)
+            (Target.known target.new) }
+        ensures short { result ≡ Err ShortBuf → IsPast (Target.bound target.old)
+            (length (Target.list target.old ++ field_octets (lowered (field self.now)))) }
+        ensures not_bad { result ≡ Err BadLength → ⊥ }
+        ensures same_bound { Target.bound target.new ≡ Target.bound target.old }
+        ensures stays { Target.stays target.old target.new };
+
+    /// Whether two fields are the same up to the case that doesn't count.
+    fn field_eq(&self, other: &Self) -> bool
+        ensures { result ≡ pointwise nat_eq (field_octets (folded (field self.now)))
+            (field_octets (folded (field other.now))) };
+
+    /// How the field stands to another one, up to the case that doesn't count.
+    fn field_cmp(&self, other: &Self) -> Ordering
+        ensures { result ≡ slice_cmp nat_cmp (field_octets (folded (field self.now)))
+            (field_octets (folded (field other.now))) };
+
+    /// How the field's canonical octets stand to those of another one. They decide, or are the same.
+    fn canonical_field_cmp(&self, other: &Self) -> Ordering
+        ensures { (behind beyond : List ℕ) → slice_cmp nat_cmp (field_octets (lowered (field self.now)) ++ behind)
+            (field_octets (lowered (field other.now)) ++ beyond)
+            ≡ ordering_then result (slice_cmp nat_cmp behind beyond) };
+
+    /// Hashes the field up to the case that doesn't count.
+    fn hash_field<H: Hasher>(&self, state: &mut H)
+        ensures { state.new ≡ H.write state.old (field_octets (folded (field self.now))) };
+
+    ghost of_kind: { (x : Self) → kind_of (field x) ≡ kind };
+}

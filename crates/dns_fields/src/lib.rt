@@ -1,0 +1,21 @@
+//! Record data as rows of fields.
+//!
+//! A part of `dns_rdata`. A value of record data holds its fields as nested pairs, and what all types of data do, to be
+//! written, compared and hashed, is done field by field, by the table of the types.
+#![tactic(auto)]
+
+mod compose;
+mod field;
+mod read;
+mod row;
+mod scan;
+mod show;
+#[cfg(test)]
+mod tests;
+
+pub use compose::{compose_canonical_row, compose_row, row_len};
+pub use field::{Compressible, FieldValue, Tag, Uncompressed};
+pub use read::{ReadError, ReadField, ReadRow, parse_row};
+pub use row::{Last, LastValue, Rest16, Rest64, RestText, Row};
+pub use scan::{ScanField, ScanRow, scan_row};
+pub use show::{ShowField, ShowRow, show_row};

@@ -1,0 +1,68 @@
+//! Fields and rows that are read from the tokens of an entry (RFC 1035 5.1).
+ghost use Rattle.std.specs.Prelude.{◌≡◌, false, Some, IfOk, IfErr, OnErr};
+ghost use Rattle.dns_scan.specs.Token.{IsEnding, SameNames};
+ghost use Rattle.dns_fields.specs.Fields.{kinds_of};
+ghost use Rattle.dns_fields.specs.Scanned.{ScansField, ScansRow, ScansData, NoFieldScans, NoRowScans, NoDataScans};
+
+mod leaves;
+mod rests;
+
+use crate::{FieldValue, Row};
+use dns_text::Scanner;
+
+/// A field that is read from tokens.
+pub trait ScanField<S: Scanner>: FieldValue + Sized + Drop {
+    /// Reads the field, and takes its tokens.
+    ///
+    /// Refused with an error other than `short_buf` only where there is no such field in front; the tokens left are then an
+    /// ending of those left before.
+    fn scan_field(scanner: &mut S) -> Result<Self, S::Error>
+        ensures ok { IfOk result (λ value. ScansField (S.names scanner.old) (Self.field value) (S.tokens scanner.old)
+            (S.tokens scanner.new)) }
+        ensures err { IfErr result (λ error. S.Error.is_short error ≡ false
+            → NoFieldScans (S.names scanner.old) Self.kind (S.tokens scanner.old)) }
+        ensures left { OnErr result (IsEnding (S.tokens scanner.new) (S.tokens scanner.old)) }
+        ensures names { SameNames (S.names scanner.old) (S.names scanner.new) };
+}
+
+/// A row that is read from tokens.
+pub trait ScanRow<S: Scanner>: Row + Sized + Drop {
+    /// Reads the fields, and takes their tokens. Refused as `scan_row` does.
+    fn scan_fields(scanner: &mut S) -> Result<Self, S::Error>
+        ensures ok { IfOk result (λ row. ScansRow (S.names scanner.old) (Self.fields row) (S.tokens scanner.old)
+            (S.tokens scanner.new)) }
+        ensures err { IfErr result (λ error. S.Error.is_short error ≡ false
+            → NoRowScans (S.names scanner.old) Self.kinds (S.tokens scanner.old)) }
+        ensures left { OnErr result (IsEnding (S.tokens scanner.new) (S.tokens scanner.old)) }
+        ensures names { SameNames (S.names scanner.old) (S.names scanner.new) };
+}
+
+impl<S: Scanner> ScanRow<S> for () {
+    fn scan_fields(scanner: &mut S) -> Result<Self, S::Error> {
+        Ok(())
+    }
+}
+
+impl<S: Scanner, A: ScanField<S>, B: ScanRow<S>> ScanRow<S> for (A, B) {
+    fn scan_fields(scanner: &mut S) -> Result<Self, S::Error> {
+        let first = A::scan_field(scanner)?;
+        let others = B::scan_fields(scanner)?;
+        Ok((first, others))
+    }
+}
+
+/// Reads data of a type, as a row of its kinds, from the tokens in front, and takes these. Tokens behind the last field stay.
+///
+/// Refused with an error other than `short_buf` only where there is no such data in front; the tokens left are then an ending
+/// of those left before.
+pub fn scan_row<S: Scanner, R: ScanRow<S>, const RTYPE: u16>(scanner: &mut S) -> Result<R, S::Error>
+    requires { kinds_of RTYPE ≡ Some R.kinds }
+    ensures ok { IfOk result (λ row. ScansData (S.names scanner.old) RTYPE (R.fields row) (S.tokens scanner.old)
+        (S.tokens scanner.new)) }
+    ensures err { IfErr result (λ error. S.Error.is_short error ≡ false
+        → NoDataScans (S.names scanner.old) RTYPE (S.tokens scanner.old)) }
+    ensures left { OnErr result (IsEnding (S.tokens scanner.new) (S.tokens scanner.old)) }
+    ensures names { SameNames (S.names scanner.old) (S.names scanner.new) }
+{
+    R::scan_fields(scanner)
+}

@@ -1,0 +1,13 @@
+-- A view by which a label that holds its octets is changed.
+use Rattle.std.specs.Prelude.{ℕ, List}
+use Rattle.std.specs.Borrow.{GName}
+use Rattle.dns_label.specs.OwnedLabel.{octets_owned}
+use Rattle.dns_label.specs.declared.label.owned.view.OwnedLabelMut.{OwnedLabelMut}
+
+-- the label's octets
+abbrev pub octets_viewed : OwnedLabelMut → List ℕ
+octets_viewed view = octets_owned view.label.now
+
+-- the reference that it holds: to the label that it was made of, so that what it has when it ends is what that ends as
+abbrev pub loan_viewed : OwnedLabelMut → GName
+loan_viewed view = view.label.ghost_name

@@ -1,0 +1,141 @@
+//! Labels that are changed where they stand.
+ghost use Rattle.std.specs.Prelude.{◌≡◌, ◌≤◌, ◌↔◌, length, IsOk, IfOk, IfErr};
+ghost use Rattle.dns_label.specs.Label.{octets_of};
+ghost use Rattle.dns_label.specs.Composed.{low_label};
+ghost use Rattle.dns_label.specs.Split.{NoLabel, StartsWithLabel};
+
+use super::{Label, LongLabelError, SplitLabelError};
+
+/// A label of a domain name that is changed where it stands: at most 63 octets (RFC 1035 3.1), as many to its end.
+#[derive(Debug, Drop)]
+pub struct LabelMut<'a> {
+    octets: &'a mut [u8],
+    pub ghost short: { length octets.now ≤ 63 },
+}
+
+impl<'a> LabelMut<'a> {
+    ghost use Rattle.dns_label.specs.LabelMut.{octets_lent, loan_of};
+
+    /// The label of these octets. Refused past 63 of them.
+    ///
+    /// It holds the reference to them that it was given, so what it has when it ends is what they are then.
+    pub fn from_slice(octets: &'a mut [u8]) -> Result<Self, LongLabelError>
+        ensures ok { IfOk result (λ label. octets_lent label ≡ octets.old) }
+        ensures same { IfOk result (λ label. loan_of label ≡ octets.entry.ghost_name) }
+        ensures short { IsOk result ↔ (length octets.old ≤ 63) }
+    {
+        if octets.len() > 63 {
+            return Err(LongLabelError);
+        }
+        Ok(LabelMut::of_short(octets))
+    }
+
+    /// The label of these octets, of which there have to be at most 63. What it has when it ends is what they are then.
+    pub fn of_short(octets: &'a mut [u8]) -> Self
+        requires { length octets.old ≤ 63 }
+        ensures octets { octets_lent result ≡ octets.old }
+        ensures same { loan_of result ≡ octets.entry.ghost_name }
+    {
+        LabelMut { octets }
+    }
+
+    /// The label at the front of the octets, which stands behind its length, and the octets behind it.
+    ///
+    /// Refused where the front is a pointer, is of another kind, or ends early (RFC 1035 4.1.4).
+    pub fn split_from(octets: &'a mut [u8]) -> Result<(Self, &'a mut [u8]), SplitLabelError>
+        ensures ok { IfOk result (λ found. StartsWithLabel octets.old (octets_lent found.0) found.1.now) }
+        ensures err { IfErr result (NoLabel octets.old) }
+    {
+        let len = match Label::split_from(octets) {
+            Ok((label, _)) => label.len(),
+            Err(error) => return Err(error),
+        };
+        let (_, behind) = octets.split_at_mut(1);
+        let (label, rest) = behind.split_at_mut(len);
+        Ok((LabelMut::of_short(label), rest))
+    }
+
+    /// The octets, without their length.
+    pub fn as_slice(&self) -> &[u8]
+        ensures { result.now ≡ octets_lent self.now }
+    {
+        &*self.octets
+    }
+
+    /// The label as it is now.
+    pub fn as_label(&self) -> Label<'_>
+        ensures { octets_of result ≡ octets_lent self.now }
+    {
+        Label {
+            octets: self.octets,
+        }
+    }
+
+    /// Puts the ASCII letters into lower case (RFC 4034 6.2).
+    pub fn make_canonical(&mut self)
+        ensures lower { octets_lent self.new ≡ low_label (octets_lent self.old) }
+        ensures same { loan_of self.new ≡ loan_of self.old }
+    {
+        self.octets.make_ascii_lowercase();
+    }
+}
+
+#[cfg(test)]
+mod tests {
+    use super::*;
+    use crate::LabelTypeError;
+    use std::test::Fail;
+
+    #[test]
+    fn a_label_is_lowered_where_it_stands(rt: HostRuntime) -> Result<(), Fail> {
+        let mut octets = *b"xWWwx";
+        let mut label = LabelMut::from_slice(&mut octets[1..4])?;
+        label.make_canonical();
+        assert_eq!(rt; label.as_slice(), b"www".as_slice());
+        assert!(rt; label.as_label() == Label::from_slice(b"WWW")?);
+        assert_eq!(rt; octets.as_slice(), b"xwwwx".as_slice());
+        assert!(rt; LabelMut::from_slice(&mut [0; 64]).is_err());
+        let mut octets = *b"WWw";
+        lower(&mut octets);
+        assert_eq!(rt; octets.as_slice(), b"www".as_slice());
+        Ok(())
+    }
+
+    #[test]
+    fn a_label_is_split_off_and_lowered(rt: HostRuntime) -> Result<(), Fail> {
+        let mut octets = *b"\x01A\x01BC";
+        let (mut label, rest) = LabelMut::split_from(&mut octets)?;
+        label.make_canonical();
+        let (mut label, rest) = LabelMut::split_from(rest)?;
+        label.make_canonical();
+        assert_eq!(rt; label.as_slice(), b"b".as_slice());
+        assert_eq!(rt; &rest[..], b"C".as_slice());
+        assert_eq!(rt; octets.as_slice(), b"\x01a\x01bC".as_slice());
+        assert_eq!(rt;
+            refusal(&mut [0xc0, 0x0c]),
+            Some(SplitLabelError::Pointer(12))
+        );
+        assert_eq!(rt;
+            refusal(&mut [0x41]),
+            Some(SplitLabelError::BadType(LabelTypeError::Extended))
+        );
+        assert_eq!(rt; refusal(&mut [2, 0]), Some(SplitLabelError::ShortInput));
+        Ok(())
+    }
+
+    /// What the octets are when the label ends follows from its contracts.
+    fn lower(octets: &mut [u8])
+        requires { length octets.old ≤ 63 }
+        ensures { octets.new ≡ low_label octets.old }
+    {
+        let mut label = LabelMut::of_short(octets);
+        label.make_canonical();
+    }
+
+    fn refusal(octets: &mut [u8]) -> Option<SplitLabelError> {
+        match LabelMut::split_from(octets) {
+            Ok(_) => None,
+            Err(error) => Some(error),
+        }
+    }
+}

@@ -1,0 +1,24 @@
+//! Data that is not looked into, in octets of another kind.
+ghost use Rattle.std.specs.Prelude.{◌≡◌};
+
+use super::UnknownRecordData;
+use crate::FlattenInto;
+use crate::copies::octets_from;
+use dns_octets::{AppendError, EmptyBuilder, FromBuilder, Octets};
+use std::alloc::Global;
+
+/// The same octets: a name in them is not known.
+impl<Source: Octets + Drop, Octs: FromBuilder> FlattenInto<UnknownRecordData<Octs>>
+    for UnknownRecordData<Source>
+where
+    Octs::Builder: EmptyBuilder + Drop,
+{
+    ghost flattens = { λ rdata flat. flat ≡ rdata };
+
+    fn try_flatten_into(self, alloc: Global) -> Result<UnknownRecordData<Octs>, AppendError> {
+        Ok(UnknownRecordData {
+            rtype: self.rtype,
+            octets: octets_from(alloc, self.octets.octets())?,
+        })
+    }
+}

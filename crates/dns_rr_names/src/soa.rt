@@ -1,0 +1,243 @@
+//! Data of type SOA (RFC 1035 3.3.13).
+ghost use Rattle.std.specs.Prelude.{◌≡◌, ◌==◌, List, [], ◌∷◌, Some, IfOk, OnOk, OnErr};
+ghost use Rattle.std.specs.Ordering.{as_partial_cmp};
+ghost use Rattle.std.proofs.Common.{refl};
+ghost use Rattle.dns_fields.specs.Fields.{Field, compressible, number32, canonical_octets, field_at};
+ghost use Rattle.dns_fields.specs.Alike.{keys, rows_eq, rows_cmp, canonical_rows_cmp};
+ghost use Rattle.dns_fields.specs.AlikeLaws.{rows_equivalent, rows_partly_equivalent, rows_total, rows_ties, rows_order, rows_alike};
+ghost use Rattle.dns_fields.specs.Reading.{ReadsRow, NoRow};
+ghost use Rattle.dns_fields.specs.Written.{written_parts};
+ghost use Rattle.dns_name.specs.RecordData.{IsAtEnd};
+ghost use Rattle.dns_octets.specs.Parser.{octets_of, place_of};
+
+use dns_fields::{Compressible, Row, compose_canonical_row, compose_row, parse_row, row_len};
+use dns_name::{
+    AppendError, CanonicalOrd, ComposeRecordData, Composer, ParseError, ParseRecordData,
+    ParsedName, Parser, RecordData, Rtype, Serial, ToName, Ttl,
+};
+use std::cmp::Ordering;
+use std::hash::{Hash, Hasher};
+use std::marker::Model;
+
+/// The start of a zone: where it comes from, and how copies of it are kept.
+///
+/// A contract sees it as its row of fields.
+#[derive(Debug, Drop)]
+pub struct Soa<N: ToName> {
+    row: (
+        Compressible<N>,
+        (Compressible<N>, (u32, (u32, (u32, (u32, (u32, ())))))),
+    ),
+}
+
+impl<N: ToName> Model for Soa<N> {
+    ghost Value = { List Field };
+
+    ghost view = { λ rdata. compressible (N.name rdata.row.0.0) ∷ compressible (N.name rdata.row.1.0.0)
+        ∷ number32 rdata.row.1.1.0 ∷ number32 rdata.row.1.1.1.0 ∷ number32 rdata.row.1.1.1.1.0
+        ∷ number32 rdata.row.1.1.1.1.1.0 ∷ number32 rdata.row.1.1.1.1.1.1.0 ∷ [] };
+}
+
+impl<N: ToName> Soa<N> {
+    /// The two names, the number and the four times.
+    pub fn new(
+        mname: N,
+        rname: N,
+        serial: Serial,
+        refresh: Ttl,
+        retry: Ttl,
+        expire: Ttl,
+        minimum: Ttl,
+    ) -> Self
+        ensures { result ≡ compressible (N.name mname) ∷ compressible (N.name rname) ∷ number32 serial
+            ∷ number32 refresh ∷ number32 retry ∷ number32 expire ∷ number32 minimum ∷ [] }
+    {
+        Soa {
+            row: (
+                Compressible(mname),
+                (
+                    Compressible(rname),
+                    (
+                        serial.into_int(),
+                        (
+                            refresh.as_secs(),
+                            (retry.as_secs(), (expire.as_secs(), (minimum.as_secs(), ()))),
+                        ),
+                    ),
+                ),
+            ),
+        }
+    }
+
+    /// The name of the host that the zone comes from.
+    pub fn mname(&self) -> &N
+        ensures { field_at 0 self.now ≡ Some (compressible (N.name result.now)) }
+    {
+        let (mname, _) = &self.row;
+        &mname.0
+    }
+
+    /// The mailbox of who is responsible for the zone, written as a name.
+    pub fn rname(&self) -> &N
+        ensures { field_at 1 self.now ≡ Some (compressible (N.name result.now)) }
+    {
+        let (_, (rname, _)) = &self.row;
+        &rname.0
+    }
+
+    /// The number of this version of the zone.
+    pub fn serial(&self) -> Serial
+        ensures { field_at 2 self.now ≡ Some (number32 result) }
+    {
+        let (_, (_, (serial, _))) = &self.row;
+        Serial(*serial)
+    }
+
+    /// How long a copy waits before it is refreshed.
+    pub fn refresh(&self) -> Ttl
+        ensures { field_at 3 self.now ≡ Some (number32 result) }
+    {
+        let (_, (_, (_, (refresh, _)))) = &self.row;
+        Ttl::from_secs(*refresh)
+    }
+
+    /// How long it waits before a refresh that failed is tried again.
+    pub fn retry(&self) -> Ttl
+        ensures { field_at 4 self.now ≡ Some (number32 result) }
+    {
+        let (_, (_, (_, (_, (retry, _))))) = &self.row;
+        Ttl::from_secs(*retry)
+    }
+
+    /// How long a copy stands that cannot be refreshed.
+    pub fn expire(&self) -> Ttl
+        ensures { field_at 5 self.now ≡ Some (number32 result) }
+    {
+        let (_, (_, (_, (_, (_, (expire, _)))))) = &self.row;
+        Ttl::from_secs(*expire)
+    }
+
+    /// How long it may be kept that something is not there (RFC 2308 4).
+    pub fn minimum(&self) -> Ttl
+        ensures { field_at 6 self.now ≡ Some (number32 result) }
+    {
+        let (_, (_, (_, (_, (_, (_, (minimum, ()))))))) = &self.row;
+        Ttl::from_secs(*minimum)
+    }
+}
+
+impl<'a> Soa<ParsedName<&'a [u8]>> {
+    /// Reads the data up to the end of the parser. Refused where what is left is no SOA data; the parser then stays where
+    /// it is.
+    pub fn parse(parser: &mut Parser<'a>) -> Result<Self, ParseError>
+        ensures ok { IfOk result (λ rdata. ReadsRow 6 (octets_of parser.old) (place_of parser.old) rdata) }
+        ensures end { OnOk result (IsAtEnd parser.old parser.new) }
+        ensures no_data { OnErr result (NoRow 6 (octets_of parser.old) (place_of parser.old)) }
+        ensures err { OnErr result (parser.new ≡ parser.old) }
+    {
+        Ok(Soa {
+            row: parse_row::<_, 6>(parser)?,
+        })
+    }
+}
+
+/// Takes this type alone.
+impl<'a> ParseRecordData<'a> for Soa<ParsedName<&'a [u8]>> {
+    ghost takes = { λ number. number == 6 };
+
+    ghost reads = { λ message place number rdata. ReadsRow number message place rdata };
+
+    fn parse_rdata(rtype: Rtype, parser: &mut Parser<'a>) -> Result<Option<Self>, ParseError> {
+        if rtype != Rtype::SOA {
+            return Ok(None);
+        }
+        Ok(Some(Soa::parse(parser)?))
+    }
+}
+
+impl<N: ToName> RecordData for Soa<N> {
+    ghost rtype = { λ _. 6 };
+
+    fn rtype(&self) -> Rtype {
+        Rtype::SOA
+    }
+}
+
+impl<N: ToName> ComposeRecordData for Soa<N> {
+    ghost parts = { written_parts };
+
+    ghost canonical_octets = { canonical_octets };
+
+    fn rdlen(&self, compress: bool) -> Option<u16> {
+        row_len(&self.row, compress)
+    }
+
+    fn compose_rdata<Target: Composer>(&self, target: &mut Target) -> Result<(), AppendError> {
+        compose_row(&self.row, target)
+    }
+
+    fn compose_canonical_rdata<Target: Composer>(
+        &self,
+        target: &mut Target,
+    ) -> Result<(), AppendError> {
+        compose_canonical_row(&self.row, target)
+    }
+}
+
+/// Up to ASCII case (RFC 4343).
+impl<N: ToName> PartialEq for Soa<N> {
+    ghost eq = { rows_eq };
+
+    ghost laws = { rows_partly_equivalent };
+
+    fn eq(&self, other: &Self) -> bool {
+        self.row.fields_eq(&other.row)
+    }
+}
+
+impl<N: ToName> Eq for Soa<N> {
+    ghost laws = { rows_equivalent };
+}
+
+impl<N: ToName> PartialOrd for Soa<N> {
+    ghost partial_cmp = { as_partial_cmp rows_cmp };
+
+    ghost laws = { rows_order };
+
+    fn partial_cmp(&self, other: &Self) -> Option<Ordering> {
+        Some(self.cmp(other))
+    }
+}
+
+impl<N: ToName> Ord for Soa<N> {
+    ghost cmp = { rows_cmp };
+
+    ghost total = { rows_total };
+
+    ghost matches_partial_cmp = { λ _ _. refl };
+
+    ghost matches_eq = { rows_ties };
+
+    fn cmp(&self, other: &Self) -> Ordering {
+        self.row.fields_cmp(&other.row)
+    }
+}
+
+/// The order of the canonical octets (RFC 4034 6.3).
+impl<N: ToName> CanonicalOrd for Soa<N> {
+    ghost canonical = { canonical_rows_cmp };
+
+    fn canonical_cmp(&self, other: &Self) -> Ordering {
+        self.row.canonical_fields_cmp(&other.row)
+    }
+}
+
+impl<N: ToName> Hash for Soa<N> {
+    ghost hash_input = { keys };
+
+    ghost respects_eq = { rows_alike };
+
+    fn hash<H: Hasher>(&self, state: &mut H) {
+        self.row.hash_fields(state);
+    }
+}

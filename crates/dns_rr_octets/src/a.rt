@@ -1,0 +1,182 @@
+//! Data of type A (RFC 1035 3.4.1).
+ghost use Rattle.std.specs.Prelude.{◌≡◌, ◌==◌, List, [], ◌∷◌, Some, IfOk, OnOk, OnErr};
+ghost use Rattle.std.specs.Ordering.{as_partial_cmp};
+ghost use Rattle.std.proofs.Common.{refl};
+ghost use Rattle.std.specs.Net.Addr.{ipv4_octets};
+ghost use Rattle.dns_fields.specs.Fields.{Field, ipv4, canonical_octets, field_at};
+ghost use Rattle.dns_fields.specs.Alike.{keys, rows_eq, rows_cmp, canonical_rows_cmp};
+ghost use Rattle.dns_fields.specs.AlikeLaws.{rows_equivalent, rows_partly_equivalent, rows_total, rows_ties, rows_order, rows_alike};
+ghost use Rattle.dns_fields.specs.Reading.{ReadsRow, NoRow};
+ghost use Rattle.dns_fields.specs.Written.{written_parts};
+ghost use Rattle.dns_name.specs.RecordData.{IsAtEnd};
+ghost use Rattle.dns_octets.specs.Parser.{octets_of, place_of};
+
+use dns_fields::{Row, compose_canonical_row, compose_row, parse_row, row_len};
+use dns_name::{
+    AppendError, CanonicalOrd, ComposeRecordData, Composer, ParseError, ParseRecordData, Parser,
+    RecordData, Rtype,
+};
+use std::cmp::Ordering;
+use std::hash::{Hash, Hasher};
+use std::marker::Model;
+use std::net::Ipv4Addr;
+
+/// An address of version 4 of the Internet protocol.
+///
+/// A contract sees it as its row of fields.
+#[derive(Debug, Drop)]
+pub struct A {
+    row: (Ipv4Addr, ()),
+}
+
+impl Model for A {
+    ghost Value = { List Field };
+
+    ghost view = { λ rdata. ipv4 (ipv4_octets rdata.row.0) ∷ [] };
+}
+
+impl A {
+    /// The address.
+    pub fn new(addr: Ipv4Addr) -> Self
+        ensures { result ≡ ipv4 (ipv4_octets addr) ∷ [] }
+    {
+        A { row: (addr, ()) }
+    }
+
+    /// The address of four octets.
+    pub fn from_octets(a: u8, b: u8, c: u8, d: u8) -> Self
+        ensures { result ≡ ipv4 (a ∷ b ∷ c ∷ d ∷ []) ∷ [] }
+    {
+        A::new(Ipv4Addr::new(a, b, c, d))
+    }
+
+    /// The address.
+    pub fn addr(&self) -> Ipv4Addr
+        ensures { field_at 0 self.now ≡ Some (ipv4 (ipv4_octets result)) }
+    {
+        let (addr, ()) = &self.row;
+        *addr
+    }
+
+    /// Puts another address in the place of this one.
+    pub fn set_addr(&mut self, addr: Ipv4Addr)
+        ensures { self.new ≡ ipv4 (ipv4_octets addr) ∷ [] }
+    {
+        self.row = (addr, ());
+    }
+}
+
+impl A {
+    /// Reads the data up to the end of the parser. Refused where what is left is no A data; the parser then stays where
+    /// it is.
+    pub fn parse<'a>(parser: &mut Parser<'a>) -> Result<Self, ParseError>
+        ensures ok { IfOk result (λ rdata. ReadsRow 1 (octets_of parser.old) (place_of parser.old) rdata) }
+        ensures end { OnOk result (IsAtEnd parser.old parser.new) }
+        ensures no_data { OnErr result (NoRow 1 (octets_of parser.old) (place_of parser.old)) }
+        ensures err { OnErr result (parser.new ≡ parser.old) }
+    {
+        Ok(A {
+            row: parse_row::<_, 1>(parser)?,
+        })
+    }
+}
+
+/// Takes this type alone.
+impl<'a> ParseRecordData<'a> for A {
+    ghost takes = { λ number. number == 1 };
+
+    ghost reads = { λ message place number rdata. ReadsRow number message place rdata };
+
+    fn parse_rdata(rtype: Rtype, parser: &mut Parser<'a>) -> Result<Option<Self>, ParseError> {
+        if rtype != Rtype::A {
+            return Ok(None);
+        }
+        Ok(Some(A::parse(parser)?))
+    }
+}
+
+impl RecordData for A {
+    ghost rtype = { λ _. 1 };
+
+    fn rtype(&self) -> Rtype {
+        Rtype::A
+    }
+}
+
+impl ComposeRecordData for A {
+    ghost parts = { written_parts };
+
+    ghost canonical_octets = { canonical_octets };
+
+    fn rdlen(&self, compress: bool) -> Option<u16> {
+        row_len(&self.row, compress)
+    }
+
+    fn compose_rdata<Target: Composer>(&self, target: &mut Target) -> Result<(), AppendError> {
+        compose_row(&self.row, target)
+    }
+
+    fn compose_canonical_rdata<Target: Composer>(
+        &self,
+        target: &mut Target,
+    ) -> Result<(), AppendError> {
+        compose_canonical_row(&self.row, target)
+    }
+}
+
+impl PartialEq for A {
+    ghost eq = { rows_eq };
+
+    ghost laws = { rows_partly_equivalent };
+
+    fn eq(&self, other: &Self) -> bool {
+        self.row.fields_eq(&other.row)
+    }
+}
+
+impl Eq for A {
+    ghost laws = { rows_equivalent };
+}
+
+impl PartialOrd for A {
+    ghost partial_cmp = { as_partial_cmp rows_cmp };
+
+    ghost laws = { rows_order };
+
+    fn partial_cmp(&self, other: &Self) -> Option<Ordering> {
+        Some(self.cmp(other))
+    }
+}
+
+impl Ord for A {
+    ghost cmp = { rows_cmp };
+
+    ghost total = { rows_total };
+
+    ghost matches_partial_cmp = { λ _ _. refl };
+
+    ghost matches_eq = { rows_ties };
+
+    fn cmp(&self, other: &Self) -> Ordering {
+        self.row.fields_cmp(&other.row)
+    }
+}
+
+/// The order of the canonical octets (RFC 4034 6.3).
+impl CanonicalOrd for A {
+    ghost canonical = { canonical_rows_cmp };
+
+    fn canonical_cmp(&self, other: &Self) -> Ordering {
+        self.row.canonical_fields_cmp(&other.row)
+    }
+}
+
+impl Hash for A {
+    ghost hash_input = { keys };
+
+    ghost respects_eq = { rows_alike };
+
+    fn hash<H: Hasher>(&self, state: &mut H) {
+        self.row.hash_fields(state);
+    }
+}

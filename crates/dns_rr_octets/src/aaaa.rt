@@ -1,0 +1,175 @@
+//! Data of type AAAA (RFC 3596 2.2).
+ghost use Rattle.std.specs.Prelude.{◌≡◌, ◌==◌, List, [], ◌∷◌, Some, IfOk, OnOk, OnErr};
+ghost use Rattle.std.specs.Ordering.{as_partial_cmp};
+ghost use Rattle.std.proofs.Common.{refl};
+ghost use Rattle.std.specs.Net.Addr.{ipv6_octets};
+ghost use Rattle.dns_fields.specs.Fields.{Field, ipv6, canonical_octets, field_at};
+ghost use Rattle.dns_fields.specs.Alike.{keys, rows_eq, rows_cmp, canonical_rows_cmp};
+ghost use Rattle.dns_fields.specs.AlikeLaws.{rows_equivalent, rows_partly_equivalent, rows_total, rows_ties, rows_order, rows_alike};
+ghost use Rattle.dns_fields.specs.Reading.{ReadsRow, NoRow};
+ghost use Rattle.dns_fields.specs.Written.{written_parts};
+ghost use Rattle.dns_name.specs.RecordData.{IsAtEnd};
+ghost use Rattle.dns_octets.specs.Parser.{octets_of, place_of};
+
+use dns_fields::{Row, compose_canonical_row, compose_row, parse_row, row_len};
+use dns_name::{
+    AppendError, CanonicalOrd, ComposeRecordData, Composer, ParseError, ParseRecordData, Parser,
+    RecordData, Rtype,
+};
+use std::cmp::Ordering;
+use std::hash::{Hash, Hasher};
+use std::marker::Model;
+use std::net::Ipv6Addr;
+
+/// An address of version 6 of the Internet protocol.
+///
+/// A contract sees it as its row of fields.
+#[derive(Debug, Drop)]
+pub struct Aaaa {
+    row: (Ipv6Addr, ()),
+}
+
+impl Model for Aaaa {
+    ghost Value = { List Field };
+
+    ghost view = { λ rdata. ipv6 (ipv6_octets rdata.row.0) ∷ [] };
+}
+
+impl Aaaa {
+    /// The address.
+    pub fn new(addr: Ipv6Addr) -> Self
+        ensures { result ≡ ipv6 (ipv6_octets addr) ∷ [] }
+    {
+        Aaaa { row: (addr, ()) }
+    }
+
+    /// The address.
+    pub fn addr(&self) -> Ipv6Addr
+        ensures { field_at 0 self.now ≡ Some (ipv6 (ipv6_octets result)) }
+    {
+        let (addr, ()) = &self.row;
+        *addr
+    }
+
+    /// Puts another address in the place of this one.
+    pub fn set_addr(&mut self, addr: Ipv6Addr)
+        ensures { self.new ≡ ipv6 (ipv6_octets addr) ∷ [] }
+    {
+        self.row = (addr, ());
+    }
+}
+
+impl Aaaa {
+    /// Reads the data up to the end of the parser. Refused where what is left is no AAAA data; the parser then
+    /// stays where it is.
+    pub fn parse<'a>(parser: &mut Parser<'a>) -> Result<Self, ParseError>
+        ensures ok { IfOk result (λ rdata. ReadsRow 28 (octets_of parser.old) (place_of parser.old) rdata) }
+        ensures end { OnOk result (IsAtEnd parser.old parser.new) }
+        ensures no_data { OnErr result (NoRow 28 (octets_of parser.old) (place_of parser.old)) }
+        ensures err { OnErr result (parser.new ≡ parser.old) }
+    {
+        Ok(Aaaa {
+            row: parse_row::<_, 28>(parser)?,
+        })
+    }
+}
+
+/// Takes this type alone.
+impl<'a> ParseRecordData<'a> for Aaaa {
+    ghost takes = { λ number. number == 28 };
+
+    ghost reads = { λ message place number rdata. ReadsRow number message place rdata };
+
+    fn parse_rdata(rtype: Rtype, parser: &mut Parser<'a>) -> Result<Option<Self>, ParseError> {
+        if rtype != Rtype::AAAA {
+            return Ok(None);
+        }
+        Ok(Some(Aaaa::parse(parser)?))
+    }
+}
+
+impl RecordData for Aaaa {
+    ghost rtype = { λ _. 28 };
+
+    fn rtype(&self) -> Rtype {
+        Rtype::AAAA
+    }
+}
+
+impl ComposeRecordData for Aaaa {
+    ghost parts = { written_parts };
+
+    ghost canonical_octets = { canonical_octets };
+
+    fn rdlen(&self, compress: bool) -> Option<u16> {
+        row_len(&self.row, compress)
+    }
+
+    fn compose_rdata<Target: Composer>(&self, target: &mut Target) -> Result<(), AppendError> {
+        compose_row(&self.row, target)
+    }
+
+    fn compose_canonical_rdata<Target: Composer>(
+        &self,
+        target: &mut Target,
+    ) -> Result<(), AppendError> {
+        compose_canonical_row(&self.row, target)
+    }
+}
+
+impl PartialEq for Aaaa {
+    ghost eq = { rows_eq };
+
+    ghost laws = { rows_partly_equivalent };
+
+    fn eq(&self, other: &Self) -> bool {
+        self.row.fields_eq(&other.row)
+    }
+}
+
+impl Eq for Aaaa {
+    ghost laws = { rows_equivalent };
+}
+
+impl PartialOrd for Aaaa {
+    ghost partial_cmp = { as_partial_cmp rows_cmp };
+
+    ghost laws = { rows_order };
+
+    fn partial_cmp(&self, other: &Self) -> Option<Ordering> {
+        Some(self.cmp(other))
+    }
+}
+
+impl Ord for Aaaa {
+    ghost cmp = { rows_cmp };
+
+    ghost total = { rows_total };
+
+    ghost matches_partial_cmp = { λ _ _. refl };
+
+    ghost matches_eq = { rows_ties };
+
+    fn cmp(&self, other: &Self) -> Ordering {
+        self.row.fields_cmp(&other.row)
+    }
+}
+
+/// The order of the canonical octets (RFC 4034 6.3).
+impl CanonicalOrd for Aaaa {
+    ghost canonical = { canonical_rows_cmp };
+
+    fn canonical_cmp(&self, other: &Self) -> Ordering {
+        self.row.canonical_fields_cmp(&other.row)
+    }
+}
+
+impl Hash for Aaaa {
+    ghost hash_input = { keys };
+
+    ghost respects_eq = { rows_alike };
+
+    fn hash<H: Hasher>(&self, state: &mut H) {
+        self.row.hash_fields(state);
+    }
+}

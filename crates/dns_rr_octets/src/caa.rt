@@ -1,0 +1,202 @@
+//! Data of type CAA (RFC 8659 4.1).
+ghost use Rattle.std.specs.Prelude.{◌≡◌, ◌==◌, ◌≤◌, ◌↔◌, length, List, [], ◌∷◌, Some, IsOk, IfOk, OnOk, OnErr};
+ghost use Rattle.std.specs.Ordering.{as_partial_cmp};
+ghost use Rattle.std.proofs.Common.{refl};
+ghost use Rattle.dns_fields.specs.Fields as fields;
+ghost use Rattle.dns_fields.specs.Fields.{Field, number8, rest_text, octets, canonical_octets, field_at};
+ghost use Rattle.dns_fields.specs.Alike.{keys, rows_eq, rows_cmp, canonical_rows_cmp};
+ghost use Rattle.dns_fields.specs.AlikeLaws.{rows_equivalent, rows_partly_equivalent, rows_total, rows_ties, rows_order, rows_alike};
+ghost use Rattle.dns_fields.specs.Reading.{ReadsRow, NoRow};
+ghost use Rattle.dns_fields.specs.Written.{written_parts};
+ghost use Rattle.dns_name.specs.RecordData.{IsAtEnd};
+ghost use Rattle.dns_octets.specs.Parser.{octets_of, place_of};
+
+use dns_fields::{
+    Last, RestText, Row, Tag, compose_canonical_row, compose_row, parse_row, row_len,
+};
+use dns_name::{
+    AppendError, CanonicalOrd, ComposeRecordData, Composer, LongRecordData, Octets, ParseError,
+    ParseRecordData, Parser, RecordData, Rtype,
+};
+use dns_scan::CharStr;
+use std::cmp::Ordering;
+use std::hash::{Hash, Hasher};
+use std::marker::Model;
+
+/// Who may issue certificates for the owner, as a property of it: a tag and a value.
+///
+/// A contract sees it as its row of fields, whose octets are at most 65,535.
+#[derive(Debug, Drop)]
+pub struct Caa<Octs: Octets> {
+    row: (u8, (Tag<Octs>, Last<RestText<Octs>>)),
+}
+
+impl<Octs: Octets> Model for Caa<Octs> {
+    ghost Value = { List Field };
+
+    ghost view = { λ rdata. number8 rdata.row.0 ∷ fields.tag rdata.row.1.0.0
+        ∷ rest_text (Octs.list rdata.row.1.1.0.0) ∷ [] };
+
+    ghost invariant = { λ rdata. length (octets (number8 rdata.row.0 ∷ fields.tag rdata.row.1.0.0
+        ∷ rest_text (Octs.list rdata.row.1.1.0.0) ∷ [])) ≤ 65535 };
+}
+
+impl<Octs: Octets> Caa<Octs> {
+    /// The property, with its flags.
+    ///
+    /// Refused where the data would have more than 65,535 octets.
+    pub fn new(flags: u8, tag: CharStr<Octs>, value: Octs) -> Result<Self, LongRecordData>
+    where
+        Octs: Drop,
+        ensures ok { IfOk result (λ rdata. rdata ≡ number8 flags ∷ fields.tag tag ∷ rest_text (Octs.list value)
+            ∷ []) }
+        ensures short { IsOk result ↔ (length (octets (number8 flags ∷ fields.tag tag
+            ∷ rest_text (Octs.list value) ∷ [])) ≤ 65535) }
+    {
+        let row = (flags, (Tag(tag), Last(RestText(value))));
+        if row.fields_len().is_none() {
+            return Err(LongRecordData);
+        }
+        Ok(Caa { row })
+    }
+
+    /// Whether the property must be understood, as bits (RFC 8659 4.1).
+    pub fn flags(&self) -> u8
+        ensures { field_at 0 self.now ≡ Some (number8 result) }
+    {
+        let (flags, _) = &self.row;
+        *flags
+    }
+
+    /// The name of the property.
+    pub fn tag(&self) -> &CharStr<Octs>
+        ensures { field_at 1 self.now ≡ Some (fields.tag result.now) }
+    {
+        let (_, (tag, _)) = &self.row;
+        &tag.0
+    }
+
+    /// The value of the property.
+    pub fn value(&self) -> &Octs
+        ensures { field_at 2 self.now ≡ Some (rest_text (Octs.list result.now)) }
+    {
+        let (_, (_, value)) = &self.row;
+        &value.0.0
+    }
+}
+
+impl<'a> Caa<&'a [u8]> {
+    /// Reads the data up to the end of the parser. Refused where what is left is no CAA data; the parser then
+    /// stays where it is.
+    pub fn parse(parser: &mut Parser<'a>) -> Result<Self, ParseError>
+        ensures ok { IfOk result (λ rdata. ReadsRow 257 (octets_of parser.old) (place_of parser.old) rdata) }
+        ensures end { OnOk result (IsAtEnd parser.old parser.new) }
+        ensures no_data { OnErr result (NoRow 257 (octets_of parser.old) (place_of parser.old)) }
+        ensures err { OnErr result (parser.new ≡ parser.old) }
+    {
+        Ok(Caa {
+            row: parse_row::<_, 257>(parser)?,
+        })
+    }
+}
+
+/// Takes this type alone.
+impl<'a> ParseRecordData<'a> for Caa<&'a [u8]> {
+    ghost takes = { λ number. number == 257 };
+
+    ghost reads = { λ message place number rdata. ReadsRow number message place rdata };
+
+    fn parse_rdata(rtype: Rtype, parser: &mut Parser<'a>) -> Result<Option<Self>, ParseError> {
+        if rtype != Rtype::CAA {
+            return Ok(None);
+        }
+        Ok(Some(Caa::parse(parser)?))
+    }
+}
+
+impl<Octs: Octets> RecordData for Caa<Octs> {
+    ghost rtype = { λ _. 257 };
+
+    fn rtype(&self) -> Rtype {
+        Rtype::CAA
+    }
+}
+
+impl<Octs: Octets> ComposeRecordData for Caa<Octs> {
+    ghost parts = { written_parts };
+
+    ghost canonical_octets = { canonical_octets };
+
+    fn rdlen(&self, compress: bool) -> Option<u16> {
+        row_len(&self.row, compress)
+    }
+
+    fn compose_rdata<Target: Composer>(&self, target: &mut Target) -> Result<(), AppendError> {
+        compose_row(&self.row, target)
+    }
+
+    fn compose_canonical_rdata<Target: Composer>(
+        &self,
+        target: &mut Target,
+    ) -> Result<(), AppendError> {
+        compose_canonical_row(&self.row, target)
+    }
+}
+
+/// The tag up to ASCII case (RFC 8659 4.1).
+impl<Octs: Octets> PartialEq for Caa<Octs> {
+    ghost eq = { rows_eq };
+
+    ghost laws = { rows_partly_equivalent };
+
+    fn eq(&self, other: &Self) -> bool {
+        self.row.fields_eq(&other.row)
+    }
+}
+
+impl<Octs: Octets> Eq for Caa<Octs> {
+    ghost laws = { rows_equivalent };
+}
+
+impl<Octs: Octets> PartialOrd for Caa<Octs> {
+    ghost partial_cmp = { as_partial_cmp rows_cmp };
+
+    ghost laws = { rows_order };
+
+    fn partial_cmp(&self, other: &Self) -> Option<Ordering> {
+        Some(self.cmp(other))
+    }
+}
+
+impl<Octs: Octets> Ord for Caa<Octs> {
+    ghost cmp = { rows_cmp };
+
+    ghost total = { rows_total };
+
+    ghost matches_partial_cmp = { λ _ _. refl };
+
+    ghost matches_eq = { rows_ties };
+
+    fn cmp(&self, other: &Self) -> Ordering {
+        self.row.fields_cmp(&other.row)
+    }
+}
+
+/// The order of the canonical octets (RFC 4034 6.3).
+impl<Octs: Octets> CanonicalOrd for Caa<Octs> {
+    ghost canonical = { canonical_rows_cmp };
+
+    fn canonical_cmp(&self, other: &Self) -> Ordering {
+        self.row.canonical_fields_cmp(&other.row)
+    }
+}
+
+impl<Octs: Octets> Hash for Caa<Octs> {
+    ghost hash_input = { keys };
+
+    ghost respects_eq = { rows_alike };
+
+    fn hash<H: Hasher>(&self, state: &mut H) {
+        self.row.hash_fields(state);
+    }
+}

@@ -1,0 +1,218 @@
+//! Data of type DS (RFC 4034 5.1).
+ghost use Rattle.std.specs.Prelude.{◌≡◌, ◌==◌, ◌≤◌, ◌↔◌, length, List, [], ◌∷◌, Some, IsOk, IfOk, OnOk, OnErr};
+ghost use Rattle.std.specs.Ordering.{as_partial_cmp};
+ghost use Rattle.std.proofs.Common.{refl};
+ghost use Rattle.dns_fields.specs.Fields.{Field, number16, number8, rest16, octets, canonical_octets, field_at};
+ghost use Rattle.dns_fields.specs.Alike.{keys, rows_eq, rows_cmp, canonical_rows_cmp};
+ghost use Rattle.dns_fields.specs.AlikeLaws.{rows_equivalent, rows_partly_equivalent, rows_total, rows_ties, rows_order, rows_alike};
+ghost use Rattle.dns_fields.specs.Reading.{ReadsRow, NoRow};
+ghost use Rattle.dns_fields.specs.Written.{written_parts};
+ghost use Rattle.dns_name.specs.RecordData.{IsAtEnd};
+ghost use Rattle.dns_octets.specs.Parser.{octets_of, place_of};
+
+use dns_fields::{Last, Rest16, Row, compose_canonical_row, compose_row, parse_row, row_len};
+use dns_name::{
+    AppendError, CanonicalOrd, ComposeRecordData, Composer, LongRecordData, Octets, ParseError,
+    ParseRecordData, Parser, RecordData, Rtype,
+};
+use std::cmp::Ordering;
+use std::hash::{Hash, Hasher};
+use std::marker::Model;
+
+/// A key that signs the keys of the owner, by a digest of it.
+///
+/// A contract sees it as its row of fields, whose octets are at most 65,535.
+#[derive(Debug, Drop)]
+pub struct Ds<Octs: Octets> {
+    row: (u16, (u8, (u8, Last<Rest16<Octs>>))),
+}
+
+impl<Octs: Octets> Model for Ds<Octs> {
+    ghost Value = { List Field };
+
+    ghost view = { λ rdata. number16 rdata.row.0 ∷ number8 rdata.row.1.0 ∷ number8 rdata.row.1.1.0
+        ∷ rest16 (Octs.list rdata.row.1.1.1.0.0) ∷ [] };
+
+    ghost invariant = { λ rdata. length (octets (number16 rdata.row.0 ∷ number8 rdata.row.1.0
+        ∷ number8 rdata.row.1.1.0 ∷ rest16 (Octs.list rdata.row.1.1.1.0.0) ∷ [])) ≤ 65535 };
+}
+
+impl<Octs: Octets> Ds<Octs> {
+    /// The digest of a key, with the numbers of the key and of the digest.
+    ///
+    /// Refused where the data would have more than 65,535 octets.
+    pub fn new(
+        key_tag: u16,
+        algorithm: u8,
+        digest_type: u8,
+        digest: Octs,
+    ) -> Result<Self, LongRecordData>
+    where
+        Octs: Drop,
+        ensures ok { IfOk result (λ rdata. rdata ≡ number16 key_tag ∷ number8 algorithm ∷ number8 digest_type
+            ∷ rest16 (Octs.list digest) ∷ []) }
+        ensures short { IsOk result ↔ (length (octets (number16 key_tag ∷ number8 algorithm
+            ∷ number8 digest_type ∷ rest16 (Octs.list digest) ∷ [])) ≤ 65535) }
+    {
+        let row = (key_tag, (algorithm, (digest_type, Last(Rest16(digest)))));
+        if row.fields_len().is_none() {
+            return Err(LongRecordData);
+        }
+        Ok(Ds { row })
+    }
+
+    /// The number by which the key is found faster (RFC 4034 B).
+    pub fn key_tag(&self) -> u16
+        ensures { field_at 0 self.now ≡ Some (number16 result) }
+    {
+        let (key_tag, _) = &self.row;
+        *key_tag
+    }
+
+    /// The number of the algorithm of the key.
+    pub fn algorithm(&self) -> u8
+        ensures { field_at 1 self.now ≡ Some (number8 result) }
+    {
+        let (_, (algorithm, _)) = &self.row;
+        *algorithm
+    }
+
+    /// The number of the algorithm of the digest.
+    pub fn digest_type(&self) -> u8
+        ensures { field_at 2 self.now ≡ Some (number8 result) }
+    {
+        let (_, (_, (digest_type, _))) = &self.row;
+        *digest_type
+    }
+
+    /// The digest of the key.
+    pub fn digest(&self) -> &Octs
+        ensures { field_at 3 self.now ≡ Some (rest16 (Octs.list result.now)) }
+    {
+        let (_, (_, (_, digest))) = &self.row;
+        &digest.0.0
+    }
+
+    /// The digest of the key alone.
+    pub fn into_digest(self) -> Octs
+        ensures { field_at 3 self ≡ Some (rest16 (Octs.list result)) }
+    {
+        let (_, (_, (_, digest))) = self.row;
+        digest.0.0
+    }
+}
+
+impl<'a> Ds<&'a [u8]> {
+    /// Reads the data up to the end of the parser. Refused where what is left is no DS data; the parser then
+    /// stays where it is.
+    pub fn parse(parser: &mut Parser<'a>) -> Result<Self, ParseError>
+        ensures ok { IfOk result (λ rdata. ReadsRow 43 (octets_of parser.old) (place_of parser.old) rdata) }
+        ensures end { OnOk result (IsAtEnd parser.old parser.new) }
+        ensures no_data { OnErr result (NoRow 43 (octets_of parser.old) (place_of parser.old)) }
+        ensures err { OnErr result (parser.new ≡ parser.old) }
+    {
+        Ok(Ds {
+            row: parse_row::<_, 43>(parser)?,
+        })
+    }
+}
+
+/// Takes this type alone.
+impl<'a> ParseRecordData<'a> for Ds<&'a [u8]> {
+    ghost takes = { λ number. number == 43 };
+
+    ghost reads = { λ message place number rdata. ReadsRow number message place rdata };
+
+    fn parse_rdata(rtype: Rtype, parser: &mut Parser<'a>) -> Result<Option<Self>, ParseError> {
+        if rtype != Rtype::DS {
+            return Ok(None);
+        }
+        Ok(Some(Ds::parse(parser)?))
+    }
+}
+
+impl<Octs: Octets> RecordData for Ds<Octs> {
+    ghost rtype = { λ _. 43 };
+
+    fn rtype(&self) -> Rtype {
+        Rtype::DS
+    }
+}
+
+impl<Octs: Octets> ComposeRecordData for Ds<Octs> {
+    ghost parts = { written_parts };
+
+    ghost canonical_octets = { canonical_octets };
+
+    fn rdlen(&self, compress: bool) -> Option<u16> {
+        row_len(&self.row, compress)
+    }
+
+    fn compose_rdata<Target: Composer>(&self, target: &mut Target) -> Result<(), AppendError> {
+        compose_row(&self.row, target)
+    }
+
+    fn compose_canonical_rdata<Target: Composer>(
+        &self,
+        target: &mut Target,
+    ) -> Result<(), AppendError> {
+        compose_canonical_row(&self.row, target)
+    }
+}
+
+impl<Octs: Octets> PartialEq for Ds<Octs> {
+    ghost eq = { rows_eq };
+
+    ghost laws = { rows_partly_equivalent };
+
+    fn eq(&self, other: &Self) -> bool {
+        self.row.fields_eq(&other.row)
+    }
+}
+
+impl<Octs: Octets> Eq for Ds<Octs> {
+    ghost laws = { rows_equivalent };
+}
+
+impl<Octs: Octets> PartialOrd for Ds<Octs> {
+    ghost partial_cmp = { as_partial_cmp rows_cmp };
+
+    ghost laws = { rows_order };
+
+    fn partial_cmp(&self, other: &Self) -> Option<Ordering> {
+        Some(self.cmp(other))
+    }
+}
+
+impl<Octs: Octets> Ord for Ds<Octs> {
+    ghost cmp = { rows_cmp };
+
+    ghost total = { rows_total };
+
+    ghost matches_partial_cmp = { λ _ _. refl };
+
+    ghost matches_eq = { rows_ties };
+
+    fn cmp(&self, other: &Self) -> Ordering {
+        self.row.fields_cmp(&other.row)
+    }
+}
+
+/// The order of the canonical octets (RFC 4034 6.3).
+impl<Octs: Octets> CanonicalOrd for Ds<Octs> {
+    ghost canonical = { canonical_rows_cmp };
+
+    fn canonical_cmp(&self, other: &Self) -> Ordering {
+        self.row.canonical_fields_cmp(&other.row)
+    }
+}
+
+impl<Octs: Octets> Hash for Ds<Octs> {
+    ghost hash_input = { keys };
+
+    ghost respects_eq = { rows_alike };
+
+    fn hash<H: Hasher>(&self, state: &mut H) {
+        self.row.hash_fields(state);
+    }
+}

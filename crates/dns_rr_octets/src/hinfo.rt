@@ -1,0 +1,178 @@
+//! Data of type HINFO (RFC 1035 3.3.2).
+ghost use Rattle.std.specs.Prelude.{◌≡◌, ◌==◌, List, [], ◌∷◌, Some, IfOk, OnOk, OnErr};
+ghost use Rattle.std.specs.Ordering.{as_partial_cmp};
+ghost use Rattle.std.proofs.Common.{refl};
+ghost use Rattle.dns_fields.specs.Fields.{Field, string, canonical_octets, field_at};
+ghost use Rattle.dns_fields.specs.Alike.{keys, rows_eq, rows_cmp, canonical_rows_cmp};
+ghost use Rattle.dns_fields.specs.AlikeLaws.{rows_equivalent, rows_partly_equivalent, rows_total, rows_ties, rows_order, rows_alike};
+ghost use Rattle.dns_fields.specs.Reading.{ReadsRow, NoRow};
+ghost use Rattle.dns_fields.specs.Written.{written_parts};
+ghost use Rattle.dns_name.specs.RecordData.{IsAtEnd};
+ghost use Rattle.dns_octets.specs.Parser.{octets_of, place_of};
+
+use dns_fields::{Row, compose_canonical_row, compose_row, parse_row, row_len};
+use dns_name::{
+    AppendError, CanonicalOrd, ComposeRecordData, Composer, Octets, ParseError, ParseRecordData,
+    Parser, RecordData, Rtype,
+};
+use dns_scan::CharStr;
+use std::cmp::Ordering;
+use std::hash::{Hash, Hasher};
+use std::marker::Model;
+
+/// What kind of host the owner is.
+///
+/// A contract sees it as its row of fields.
+#[derive(Debug, Drop)]
+pub struct Hinfo<Octs: Octets> {
+    row: (CharStr<Octs>, (CharStr<Octs>, ())),
+}
+
+impl<Octs: Octets> Model for Hinfo<Octs> {
+    ghost Value = { List Field };
+
+    ghost view = { λ rdata. string rdata.row.0 ∷ string rdata.row.1.0 ∷ [] };
+}
+
+impl<Octs: Octets> Hinfo<Octs> {
+    /// The kinds of its processor and of its operating system.
+    pub fn new(cpu: CharStr<Octs>, os: CharStr<Octs>) -> Self
+        ensures { result ≡ string cpu ∷ string os ∷ [] }
+    {
+        Hinfo {
+            row: (cpu, (os, ())),
+        }
+    }
+
+    /// The kind of its processor.
+    pub fn cpu(&self) -> &CharStr<Octs>
+        ensures { field_at 0 self.now ≡ Some (string result.now) }
+    {
+        let (cpu, _) = &self.row;
+        cpu
+    }
+
+    /// The kind of its operating system.
+    pub fn os(&self) -> &CharStr<Octs>
+        ensures { field_at 1 self.now ≡ Some (string result.now) }
+    {
+        let (_, (os, ())) = &self.row;
+        os
+    }
+}
+
+impl<'a> Hinfo<&'a [u8]> {
+    /// Reads the data up to the end of the parser. Refused where what is left is no HINFO data; the parser then
+    /// stays where it is.
+    pub fn parse(parser: &mut Parser<'a>) -> Result<Self, ParseError>
+        ensures ok { IfOk result (λ rdata. ReadsRow 13 (octets_of parser.old) (place_of parser.old) rdata) }
+        ensures end { OnOk result (IsAtEnd parser.old parser.new) }
+        ensures no_data { OnErr result (NoRow 13 (octets_of parser.old) (place_of parser.old)) }
+        ensures err { OnErr result (parser.new ≡ parser.old) }
+    {
+        Ok(Hinfo {
+            row: parse_row::<_, 13>(parser)?,
+        })
+    }
+}
+
+/// Takes this type alone.
+impl<'a> ParseRecordData<'a> for Hinfo<&'a [u8]> {
+    ghost takes = { λ number. number == 13 };
+
+    ghost reads = { λ message place number rdata. ReadsRow number message place rdata };
+
+    fn parse_rdata(rtype: Rtype, parser: &mut Parser<'a>) -> Result<Option<Self>, ParseError> {
+        if rtype != Rtype::HINFO {
+            return Ok(None);
+        }
+        Ok(Some(Hinfo::parse(parser)?))
+    }
+}
+
+impl<Octs: Octets> RecordData for Hinfo<Octs> {
+    ghost rtype = { λ _. 13 };
+
+    fn rtype(&self) -> Rtype {
+        Rtype::HINFO
+    }
+}
+
+impl<Octs: Octets> ComposeRecordData for Hinfo<Octs> {
+    ghost parts = { written_parts };
+
+    ghost canonical_octets = { canonical_octets };
+
+    fn rdlen(&self, compress: bool) -> Option<u16> {
+        row_len(&self.row, compress)
+    }
+
+    fn compose_rdata<Target: Composer>(&self, target: &mut Target) -> Result<(), AppendError> {
+        compose_row(&self.row, target)
+    }
+
+    fn compose_canonical_rdata<Target: Composer>(
+        &self,
+        target: &mut Target,
+    ) -> Result<(), AppendError> {
+        compose_canonical_row(&self.row, target)
+    }
+}
+
+/// Each string up to ASCII case.
+impl<Octs: Octets> PartialEq for Hinfo<Octs> {
+    ghost eq = { rows_eq };
+
+    ghost laws = { rows_partly_equivalent };
+
+    fn eq(&self, other: &Self) -> bool {
+        self.row.fields_eq(&other.row)
+    }
+}
+
+impl<Octs: Octets> Eq for Hinfo<Octs> {
+    ghost laws = { rows_equivalent };
+}
+
+impl<Octs: Octets> PartialOrd for Hinfo<Octs> {
+    ghost partial_cmp = { as_partial_cmp rows_cmp };
+
+    ghost laws = { rows_order };
+
+    fn partial_cmp(&self, other: &Self) -> Option<Ordering> {
+        Some(self.cmp(other))
+    }
+}
+
+impl<Octs: Octets> Ord for Hinfo<Octs> {
+    ghost cmp = { rows_cmp };
+
+    ghost total = { rows_total };
+
+    ghost matches_partial_cmp = { λ _ _. refl };
+
+    ghost matches_eq = { rows_ties };
+
+    fn cmp(&self, other: &Self) -> Ordering {
+        self.row.fields_cmp(&other.row)
+    }
+}
+
+/// The order of the canonical octets (RFC 4034 6.3).
+impl<Octs: Octets> CanonicalOrd for Hinfo<Octs> {
+    ghost canonical = { canonical_rows_cmp };
+
+    fn canonical_cmp(&self, other: &Self) -> Ordering {
+        self.row.canonical_fields_cmp(&other.row)
+    }
+}
+
+impl<Octs: Octets> Hash for Hinfo<Octs> {
+    ghost hash_input = { keys };
+
+    ghost respects_eq = { rows_alike };
+
+    fn hash<H: Hasher>(&self, state: &mut H) {
+        self.row.hash_fields(state);
+    }
+}

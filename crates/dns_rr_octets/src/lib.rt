@@ -1,0 +1,20 @@
+//! Record data of the types whose fields are addresses, numbers, strings and octets.
+//!
+//! A part of `dns_rdata`.
+#![tactic(auto)]
+
+mod a;
+mod aaaa;
+mod caa;
+mod dnskey;
+mod ds;
+mod hinfo;
+#[cfg(test)]
+mod tests;
+
+pub use a::A;
+pub use aaaa::Aaaa;
+pub use caa::Caa;
+pub use dnskey::Dnskey;
+pub use ds::Ds;
+pub use hinfo::Hinfo;

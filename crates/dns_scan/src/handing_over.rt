@@ -1,0 +1,48 @@
+//! The symbols of a token's text, handed to a closure.
+ghost use Rattle.std.specs.Prelude.{◌≡◌, List, ℕ, IfOk, IfErr};
+ghost use Rattle.dns_label.specs.declared.symbol.Symbol.{Symbol};
+ghost use Rattle.dns_scan.specs.Symbols.{AreWritten, TakesAll, RefusesOne, marked};
+
+use crate::{EntrySymbol, ScannerError};
+use dns_name::Symbol;
+
+/// Hands the symbols of a text to the closure, which is given back.
+pub(crate) fn hand_over<Error: ScannerError, F: FnMut(Symbol) -> Result<(), Error>>(
+    text: &[u8],
+    mut op: F,
+) -> Result<F, Error>
+    requires { F.IsAlwaysCallable op }
+    ensures ok { IfOk result (λ last. ((symbols : List Symbol) × AreWritten symbols text.now × TakesAll F.step op symbols last) × F.IsAlwaysCallable last) }
+    ensures err { IfErr result (λ error. (symbols : List Symbol) → AreWritten symbols text.now → RefusesOne F.step op symbols error) }
+{
+    let mut rest = text;
+    while !rest.is_empty() {
+        let Some((symbol, behind)) = Symbol::split_from(rest) else {
+            return Err(Error::custom("bad symbol"));
+        };
+        op(symbol)?;
+        rest = behind;
+    }
+    Ok(op)
+}
+
+/// Hands the symbols of a token's text, and the mark behind them, to the closure, which is given back.
+pub(crate) fn hand_over_marked<Error: ScannerError, F: FnMut(EntrySymbol) -> Result<(), Error>>(
+    text: &[u8],
+    mut op: F,
+) -> Result<F, Error>
+    requires { F.IsAlwaysCallable op }
+    ensures ok { IfOk result (λ last. ((symbols : List Symbol) × AreWritten symbols text.now × TakesAll F.step op (marked symbols) last) × F.IsAlwaysCallable last) }
+    ensures err { IfErr result (λ error. (symbols : List Symbol) → AreWritten symbols text.now → RefusesOne F.step op (marked symbols) error) }
+{
+    let mut rest = text;
+    while !rest.is_empty() {
+        let Some((symbol, behind)) = Symbol::split_from(rest) else {
+            return Err(Error::custom("bad symbol"));
+        };
+        op(EntrySymbol::Symbol(symbol))?;
+        rest = behind;
+    }
+    op(EntrySymbol::EndOfToken)?;
+    Ok(op)
+}

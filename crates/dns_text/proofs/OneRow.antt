@@ -1,0 +1,117 @@
+-- A text has one row at a place, and is rows of tokens in one way.
+use Rattle.std.proofs.Common.{◌≡◌, ℕ, Bool, true, false, List, [], ◌∷◌, ◌++◌, Option, Some, None, refl, sym, ◌∙◌, ap, subst}
+use Rattle.std.specs.List.{flat_map}
+use Rattle.dns_label.specs.Symbol.{spelled}
+use Rattle.dns_scan.specs.Token.{Token}
+use Rattle.dns_text.specs.Tokens.{Head, IsRun, Next, Row, from_feed, head_of}
+use Rattle.dns_text.specs.Tokens.Head.{Go, Comment, Feed, Quote, Word, Refused}
+use Rattle.dns_text.specs.Tokens.Next.{ended, goes, comment, quoted, unquoted}
+use Rattle.dns_text.specs.Tokens.Row.{end, token}
+use Rattle.dns_text.specs.DocumentRows.{IsRows}
+use Rattle.dns_text.specs.DocumentRows.IsRows.{none, more}
+use Rattle.dns_text.proofs.TokenSymbols.{one_run}
+
+-- a token whose text is the longest run of symbols
+record Reads (is_quoted : Bool) (text : List ℕ) (behind : List ℕ → List ℕ) (inside : Bool) (found : Option Token) (out : Bool) (rest : List ℕ) : Type 0 where
+  pub front : List ℕ
+  pub run : IsRun is_quoted text front (behind rest)
+  pub found_is : found ≡ Some (record { quoted = is_quoted; text = front })
+  pub out_is : out ≡ inside
+
+-- what the next token says behind the octet in front
+abbrev After : Bool → ℕ → Head → List ℕ → Option Token → Bool → List ℕ → Type 0
+After inside octet (Go behind) text found out rest = Next behind text found out rest
+After inside octet Comment text found out rest = Next inside (from_feed text) found out rest
+After inside octet Feed text found out rest = (found ≡ None) × (out ≡ false) × (rest ≡ text)
+After inside octet Quote text found out rest = Reads true text (λ l. 34 ∷ l) inside found out rest
+After inside octet Word text found out rest = Reads false (octet ∷ text) (λ l. l) inside found out rest
+After inside octet Refused text found out rest = ⊥
+
+along : (inside : Bool) (octet : ℕ) (text rest : List ℕ) (found : Option Token) (out : Bool) (a b : Head) → a ≡ b
+    → After inside octet a text found out rest → After inside octet b text found out rest
+along inside octet text rest found out a b same after = subst (λ (h : Head). After inside octet h text found out rest) same after
+
+after_of : (inside : Bool) (octet : ℕ) (text rest : List ℕ) (found : Option Token) (out : Bool) → Next inside (octet ∷ text) found out rest
+    → After inside octet (head_of inside octet) text found out rest
+after_of inside octet text rest found out (ended c head) = along inside octet text rest found out Feed _ (sym head) (refl, refl, refl)
+after_of inside octet text rest found out (goes c behind head next) = along inside octet text rest found out (Go behind) _ (sym head) next
+after_of inside octet text rest found out (comment c head next) = along inside octet text rest found out Comment _ (sym head) next
+after_of inside octet text rest found out (quoted {front = front} c head run) =
+    along inside octet text rest found out Quote _ (sym head) (record { front = front; run = run; found_is = refl; out_is = refl })
+after_of inside octet text rest found out (unquoted {front = front} c head run some) =
+    along inside octet text rest found out Word _ (sym head) (record { front = front; run = run; found_is = refl; out_is = refl })
+
+after_at : (inside : Bool) (octet : ℕ) (text rest : List ℕ) (found : Option Token) (out : Bool) (head : Head) → head_of inside octet ≡ head
+    → Next inside (octet ∷ text) found out rest → After inside octet head text found out rest
+after_at inside octet text rest found out head is next = along inside octet text rest found out _ head is (after_of inside octet text rest found out next)
+
+record Same (found found' : Option Token) (out out' : Bool) (rest rest' : List ℕ) : Type 0 where
+  pub founds : found ≡ found'
+  pub outs : out ≡ out'
+  pub rests : rest ≡ rest'
+
+same_run : (is_quoted : Bool) (text front front' rest rest' : List ℕ) → IsRun is_quoted text front rest → IsRun is_quoted text front' rest'
+    → (front ≡ front') × (rest ≡ rest')
+same_run is_quoted text front front' rest rest' run run' =
+    let found = one_run is_quoted run.symbols run'.symbols rest rest' run.each run'.each run.longest run'.longest
+    (sym (ap (λ l. l ++ rest) run.written) ∙ sym run.whole ∙ run'.whole ∙ ap (λ l. l ++ rest') run'.written) in
+    (run.written ∙ ap (flat_map spelled) found.0 ∙ sym run'.written, found.1)
+
+one_next : {inside : Bool} {text : List ℕ} {found : Option Token} {out : Bool} {rest : List ℕ} → Next inside text found out rest
+    → (found' : Option Token) (out' : Bool) (rest' : List ℕ) → Next inside text found' out' rest' → Same found found' out out' rest rest'
+one_next {inside = inside} (ended {rest = text} octet head) found' out' rest' other =
+    let after = after_at inside octet text rest' found' out' Feed head other in
+    record { founds = sym after.0; outs = sym after.1; rests = sym after.2 }
+one_next {inside = inside} (goes {text = text} octet behind head next) found' out' rest' other =
+    one_next next found' out' rest' (after_at inside octet text rest' found' out' (Go behind) head other)
+one_next {inside = inside} (comment {text = text} octet head next) found' out' rest' other =
+    one_next next found' out' rest' (after_at inside octet text rest' found' out' Comment head other)
+one_next {inside = inside} (quoted {text = text} {front = front} {rest = rest} octet head run) found' out' rest' other =
+    let after = after_at inside octet text rest' found' out' Quote head other in
+    let same = same_run true text front after.front (34 ∷ rest) (34 ∷ rest') run after.run in
+    let rests = same.1 in
+    record {
+      founds = ap (λ l. Some (record { quoted = true; text = l })) same.0 ∙ sym after.found_is;
+      outs = sym after.out_is;
+      rests = cc;
+    }
+one_next {inside = inside} (unquoted {text = text} {front = front} {rest = rest} octet head run some) found' out' rest' other =
+    let after = after_at inside octet text rest' found' out' Word head other in
+    let same = same_run false (octet ∷ text) front after.front rest rest' run after.run in
+    record {
+      founds = ap (λ l. Some (record { quoted = false; text = l })) same.0 ∙ sym after.found_is;
+      outs = sym after.out_is;
+      rests = same.1;
+    }
+
+pub one_row : {inside : Bool} {text rest : List ℕ} {row : List Token} → Row inside text row rest → (row' : List Token) (rest' : List ℕ)
+    → Row inside text row' rest' → (row ≡ row') × (rest ≡ rest')
+one_row (end next) row' rest' (end next') = (refl, (one_next next None false rest' next').rests)
+one_row (end next) row' rest' (token {found = found'} out' left' next' others') =
+    let bad = (one_next next (Some found') out' left' next').founds in cc
+one_row (token out left next others) row' rest' (end next') =
+    let bad = (one_next next None false rest' next').founds in cc
+one_row (token {found = found} out left next others) row' rest' (token {found = found'} {others = tokens'} out' left' next' others') =
+    let same = one_next next (Some found') out' left' next' in
+    let there : Row out left tokens' rest' =
+    subst (λ b. Row b left tokens' rest') (sym same.outs) (subst (λ l. Row out' l tokens' rest') (sym same.rests) others') in
+    let behind = one_row others tokens' rest' there in
+    let founds = same.founds in
+    let tokens = behind.0 in
+    (cc, behind.1)
+
+no_next : {inside : Bool} {found : Option Token} {out : Bool} {rest : List ℕ} → Next inside [] found out rest → ⊥
+no_next next = elim next [ ]
+
+no_row : {inside : Bool} {row : List Token} {rest : List ℕ} → Row inside [] row rest → ⊥
+no_row (end next) = no_next next
+no_row (token out left next others) = no_next next
+
+pub one_rows : {text : List ℕ} {rows : List (List Token)} → IsRows text rows → (others : List (List Token)) → IsRows text others → others ≡ rows
+one_rows none others none = refl
+one_rows none others (more first behind) = absurd (no_row first)
+one_rows (more first behind) others none = absurd (no_row first)
+one_rows (more {row = row} first behind) others (more {rest = rest'} {row = row'} {rows = rows'} first' behind') =
+    let same = one_row first row' rest' first' in
+    let there = one_rows behind rows' (subst (λ l. IsRows l rows') (sym same.1) behind') in
+    let row_is = same.0 in cc

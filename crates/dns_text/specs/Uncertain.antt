@@ -1,0 +1,61 @@
+-- Names that may be absolute or relative.
+use Rattle.std.specs.Prelude.{◌≡◌, ◌++◌, Bool, true, false, List, ℕ, Option}
+use Rattle.dns_label.specs.Name.{IsName, labels_wire, wire, with_root}
+use Rattle.dns_label.specs.Printed.{printed_name}
+use Rattle.dns_name.specs.Parsed.{StandsAt}
+use Rattle.dns_name.specs.Relative.{StandsIn as stands_in_relative}
+use Rattle.dns_name.specs.PrintedLabels.{printed_relative}
+use Rattle.dns_label.specs.NameText.{IsAbsoluteText}
+use Rattle.dns_name.specs.RelativeText.{IsRelativeNameText, SpellsEither}
+use Rattle.dns_name.specs.declared.text.FromStrError.{FromStrError}
+use Rattle.dns_name.specs.declared.text.FromStrError.TheVariants.{Presentation, ShortBuf}
+use Rattle.dns_text.specs.declared.uncertain.UncertainName.{UncertainName}
+use Rattle.dns_text.specs.declared.uncertain.UncertainName.TheVariants.{Absolute, Relative}
+
+abbrev pub is_absolute : {O : Type 0} → UncertainName O → Bool
+is_absolute (Absolute name) = true
+is_absolute (Relative name) = false
+
+-- the labels, without the root's
+abbrev pub labels_of : {O : Type 0} → UncertainName O → List (List ℕ)
+labels_of (Absolute name) = name
+labels_of (Relative name) = name
+
+-- the labels, with that of the root where the name is absolute
+abbrev pub seen_labels : {O : Type 0} → UncertainName O → List (List ℕ)
+seen_labels (Absolute name) = with_root name
+seen_labels (Relative name) = name
+
+-- the labels under a suffix: those of an absolute name alone, and those of a relative one in front of the suffix's
+abbrev pub chained_labels : {O : Type 0} → UncertainName O → List (List ℕ) → List (List ℕ)
+chained_labels (Absolute name) suffix = with_root name
+chained_labels (Relative name) suffix = name ++ suffix
+
+-- the octets on the wire
+abbrev pub octets_of : {O : Type 0} → UncertainName O → List ℕ
+octets_of (Absolute name) = wire name
+octets_of (Relative name) = labels_wire name
+
+-- how the name is printed: its last dot says that it is absolute
+abbrev pub text_of : {O : Type 0} → UncertainName O → List ℕ
+text_of (Absolute name) = printed_name name
+text_of (Relative name) = printed_relative name
+
+-- the label with this number stands at this place
+abbrev pub StandsIn : {O : Type 0} → UncertainName O → ℕ → Option ℕ → Type 0
+StandsIn (Absolute name) index place = StandsAt (wire name) (with_root name) index place
+StandsIn (Relative name) index place = stands_in_relative (labels_wire name) name index place
+
+-- octets that are no name
+abbrev pub IsNoName : List ℕ → Type 0
+IsNoName octets = (name : List (List ℕ)) → IsName name → (octets ≡ wire name → ⊥) × (octets ≡ labels_wire name → ⊥)
+
+-- The text spells the name: with its last dot where it is absolute, and without one where it is relative.
+abbrev pub IsTextOf : {O : Type 0} → List ℕ → UncertainName O → Type 0
+IsTextOf text (Absolute name) = IsAbsoluteText text name
+IsTextOf text (Relative name) = IsRelativeNameText text name
+
+-- The text spells no name, or one for which memory was wanting.
+abbrev pub IsNotRead : List ℕ → FromStrError → Type 0
+IsNotRead text (Presentation error) = SpellsEither text → ⊥
+IsNotRead text ShortBuf = SpellsEither text

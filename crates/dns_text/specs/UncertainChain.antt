@@ -1,0 +1,21 @@
+-- What a contract sees of an uncertain name under a suffix.
+use Rattle.std.specs.Prelude.{List, ℕ, Option, ◌++◌, length}
+use Rattle.dns_label.specs.Name.{labels_wire, wire, with_root}
+use Rattle.dns_name.specs.Chain.{StandsInOne}
+use Rattle.dns_name.specs.ChainParts.{left_of, right_of}
+use Rattle.dns_name.specs.Parsed.{StandsAt}
+use Rattle.dns_name.specs.Relative.{StandsIn as stands_in_relative}
+use Rattle.dns_text.specs.declared.uncertain.chain.UncertainChain.{UncertainChain}
+use Rattle.dns_text.specs.declared.uncertain.chain.UncertainChain.TheVariants.{Absolute, Relative}
+
+-- the labels, by those of the suffix
+abbrev pub labels_in : {O R : Type 0} {ghosts others : _} → (R → List (List ℕ)) → UncertainChain O R ghosts others → List (List ℕ)
+labels_in labels (Absolute name) = with_root name
+labels_in labels (Relative chain) = left_of chain ++ labels (right_of chain)
+
+-- the label with this number stands at this place
+abbrev pub StandsIn : {O R : Type 0} {ghosts others : _} → (R → List (List ℕ)) → (R → ℕ → Option ℕ → Type 0)
+    → UncertainChain O R ghosts others → ℕ → Option ℕ → Type 0
+StandsIn labels stands (Absolute name) index place = StandsAt (wire name) (with_root name) index place
+StandsIn labels stands (Relative chain) index place =
+    StandsInOne (stands_in_relative (labels_wire (left_of chain)) (left_of chain)) (stands (right_of chain)) (length (left_of chain)) index place

@@ -1,0 +1,238 @@
+//! Names that may be absolute or relative.
+ghost use Rattle.std.specs.Prelude.{◌≡◌, ◌↔◌, ◌<◌, List, ℕ, Some, Err, not, IsTrue, IsOk, IsSome, IfOk, IfErr, IfSome, OnErr, true, false};
+ghost use Rattle.dns_label.specs.Name.{IsName};
+ghost use Rattle.dns_label.specs.NameText.{IsAbsoluteText};
+ghost use Rattle.dns_name.specs.RelativeText.{SpellsAbsolute};
+ghost use Rattle.dns_octets.specs.declared.error.AppendError.TheVariants.{BadLength};
+ghost use Rattle.dns_text.specs.declared.uncertain.UncertainName.TheVariants.{Absolute, Relative};
+ghost use Rattle.dns_text.specs.Uncertain.{is_absolute, labels_of, octets_of, seen_labels, text_of, StandsIn, IsNoName, IsNotRead, IsTextOf};
+
+mod chain;
+
+pub use chain::UncertainChain;
+use dns_name::{
+    AppendError, EmptyBuilder, FromBuilder, FromStrError, Label, Name, Octets, OctetsBuilder,
+    RelativeFromStrError, RelativeName, RelativeNameError, ToLabelIter, laws,
+};
+use std::alloc::Global;
+use std::fmt;
+
+/// A name that is absolute or relative.
+#[derive(Debug, Drop)]
+#[derive_where(PartialEq, Eq, Hash)]
+pub enum UncertainName<Octs: Octets> {
+    /// With the root's label behind the others.
+    Absolute(Name<Octs>),
+    /// Without it.
+    Relative(RelativeName<Octs>),
+}
+
+impl<Octs: Octets> UncertainName<Octs> {
+    /// The name that the octets are: absolute where the root's label is their last, and relative where there is none.
+    /// Refused where they are neither, uncompressed and whole.
+    pub fn from_octets(octets: Octs) -> Result<Self, RelativeNameError>
+    where
+        Octs: Drop,
+        ensures ok { IfOk result (λ name. IsName (labels_of name) × (Octs.list octets ≡ octets_of name)) }
+        ensures err { OnErr result (IsNoName (Octs.list octets)) }
+    {
+        if Name::from_slice(octets.octets()).is_err() {
+            return Ok(UncertainName::Relative(RelativeName::from_octets(octets)?));
+        }
+        match Name::from_octets(octets) {
+            Ok(name) => Ok(UncertainName::Absolute(name)),
+            Err(_) => Err(RelativeNameError::ShortInput),
+        }
+    }
+
+    /// The name that a text spells (RFC 1035 5.1): absolute exactly where it ends with a dot that is not escaped. The empty
+    /// text is the relative name without labels.
+    ///
+    /// Refused with `Presentation` where the text spells no name, and with `ShortBuf` where it spells one, and there is no
+    /// memory or no room for it.
+    pub fn from_str(alloc: Global, text: &str) -> Result<Self, FromStrError>
+    where
+        Octs: FromBuilder,
+        Octs::Builder: EmptyBuilder + Drop,
+        ensures ok { IfOk result (IsTextOf text.now) }
+        ensures err { IfErr result (IsNotRead text.now) }
+    {
+        match RelativeName::from_str(alloc, text) {
+            Ok(name) => Ok(UncertainName::Relative(name)),
+            Err(RelativeFromStrError::FromStr(error)) => Err(error),
+            Err(RelativeFromStrError::AbsoluteName) => {
+                Ok(UncertainName::Absolute(read_absolute(alloc, text)?))
+            }
+        }
+    }
+
+    /// Whether the name is absolute.
+    pub fn is_absolute(&self) -> bool
+        ensures { result ≡ is_absolute self.now }
+    {
+        matches!(self, UncertainName::Absolute(_))
+    }
+
+    /// Whether the name is relative.
+    pub fn is_relative(&self) -> bool
+        ensures { result ≡ not (is_absolute self.now) }
+    {
+        matches!(self, UncertainName::Relative(_))
+    }
+
+    /// The absolute name, if it is one.
+    pub fn as_absolute(&self) -> Option<&Name<Octs>>
+        ensures some { IsSome result ↔ (is_absolute self.now ≡ true) }
+        ensures name { IfSome result (λ name. self.now ≡ Absolute name.now) }
+    {
+        match self {
+            UncertainName::Absolute(name) => Some(name),
+            UncertainName::Relative(_) => None,
+        }
+    }
+
+    /// The relative name, if it is one.
+    pub fn as_relative(&self) -> Option<&RelativeName<Octs>>
+        ensures some { IsSome result ↔ (is_absolute self.now ≡ false) }
+        ensures name { IfSome result (λ name. self.now ≡ Relative name.now) }
+    {
+        match self {
+            UncertainName::Absolute(_) => None,
+            UncertainName::Relative(name) => Some(name),
+        }
+    }
+
+    /// The name with the root's label behind it, in the same octets, if that is not there yet.
+    ///
+    /// Refused with `ShortBuf` only where these can't hold another octet, and with `OutOfMemory` where memory was
+    /// wanting.
+    pub fn into_absolute(self) -> Result<Name<Octs>, AppendError>
+    where
+        Octs: OctetsBuilder + Drop,
+        ensures ok { IfOk result (λ name. name ≡ labels_of self) }
+        ensures absolute { is_absolute self ≡ true → IsOk result }
+        ensures not_bad { result ≡ Err BadLength → ⊥ }
+    {
+        match self {
+            UncertainName::Absolute(name) => Ok(name),
+            UncertainName::Relative(name) => name.into_absolute(),
+        }
+    }
+
+    /// The absolute name. One that is relative is handed back.
+    pub fn try_into_absolute(self) -> Result<Name<Octs>, Self>
+        ensures ok { IfOk result (λ name. self ≡ Absolute name) }
+        ensures err { IfErr result (λ name. (name ≡ self) × (is_absolute self ≡ false)) }
+    {
+        match self {
+            UncertainName::Absolute(absolute) => Ok(absolute),
+            UncertainName::Relative(name) => Err(UncertainName::Relative(name)),
+        }
+    }
+
+    /// The relative name. One that is absolute is handed back.
+    pub fn try_into_relative(self) -> Result<RelativeName<Octs>, Self>
+        ensures ok { IfOk result (λ name. self ≡ Relative name) }
+        ensures err { IfErr result (λ name. (name ≡ self) × (is_absolute self ≡ true)) }
+    {
+        match self {
+            UncertainName::Absolute(name) => Err(UncertainName::Absolute(name)),
+            UncertainName::Relative(name) => Ok(name),
+        }
+    }
+
+    /// The octets that hold the name.
+    pub fn as_octets(&self) -> &Octs
+        ensures { Octs.list result.now ≡ octets_of self.now }
+    {
+        match self {
+            UncertainName::Absolute(name) => name.as_octets(),
+            UncertainName::Relative(name) => name.as_octets(),
+        }
+    }
+
+    /// The octets, uncompressed.
+    pub fn as_slice(&self) -> &[u8]
+        ensures octets { result.now ≡ octets_of self.now }
+        ensures name { IsName (labels_of self.now) }
+    {
+        match self {
+            UncertainName::Absolute(name) => name.as_slice(),
+            UncertainName::Relative(name) => name.as_slice(),
+        }
+    }
+}
+
+/// The absolute name that a text spells, which is known to spell one.
+fn read_absolute<Octs: FromBuilder>(alloc: Global, text: &str) -> Result<Name<Octs>, FromStrError>
+where
+    Octs::Builder: EmptyBuilder + Drop,
+    requires { SpellsAbsolute text.now }
+    ensures ok { IfOk result (IsAbsoluteText text.now) }
+    ensures err { IfErr result (IsNotRead text.now) }
+{
+    laws::text_spells_one_name();
+    Name::from_str(alloc, text)
+}
+
+impl<Octs: Octets> From<Name<Octs>> for UncertainName<Octs> {
+    ghost from_gives = { λ name uncertain. uncertain ≡ Absolute name };
+
+    fn from(name: Name<Octs>) -> Self {
+        UncertainName::Absolute(name)
+    }
+}
+
+impl<Octs: Octets> From<RelativeName<Octs>> for UncertainName<Octs> {
+    ghost from_gives = { λ name uncertain. uncertain ≡ Relative name };
+
+    fn from(name: RelativeName<Octs>) -> Self {
+        UncertainName::Relative(name)
+    }
+}
+
+/// Shows the name with a dot between two labels, and one behind the last label of an absolute name.
+impl<Octs: Octets> fmt::Display for UncertainName<Octs> {
+    ghost output = { λ name. Some (text_of name) };
+
+    fn fmt<W: fmt::Write>(&self, f: &mut fmt::Formatter<W>) -> fmt::Result {
+        match self {
+            UncertainName::Absolute(name) => name.fmt(f),
+            UncertainName::Relative(name) => name.fmt(f),
+        }
+    }
+}
+
+impl<Octs: Octets> ToLabelIter for UncertainName<Octs> {
+    ghost labels = { seen_labels };
+
+    ghost stands = { StandsIn };
+
+    fn label(&self, index: usize) -> Option<Label<'_>> {
+        match self {
+            UncertainName::Absolute(name) => name.label(index),
+            UncertainName::Relative(name) => name.label(index),
+        }
+    }
+
+    fn compose_len(&self) -> u16 {
+        match self {
+            UncertainName::Absolute(name) => name.compose_len(),
+            UncertainName::Relative(name) => name.compose_len(),
+        }
+    }
+
+    fn first_place(&self) -> Option<usize> {
+        match self {
+            UncertainName::Absolute(name) => name.first_place(),
+            UncertainName::Relative(name) => name.first_place(),
+        }
+    }
+
+    fn label_at(&self, index: usize, place: Option<usize>) -> Option<(Label<'_>, Option<usize>)> {
+        match self {
+            UncertainName::Absolute(name) => name.label_at(index, place),
+            UncertainName::Relative(name) => name.label_at(index, place),
+        }
+    }
+}

@@ -1,0 +1,78 @@
+//! Uncertain names that were put under a suffix.
+ghost use Rattle.std.specs.Prelude.{◌≡◌, ◌↔◌, ◌<◌, ◌+◌, length, Some, IsErr, IfOk, false};
+ghost use Rattle.dns_label.specs.Name.{labels_wire};
+ghost use Rattle.dns_name.specs.Chain.{before_root};
+ghost use Rattle.dns_text.specs.Uncertain.{is_absolute, labels_of, chained_labels};
+ghost use Rattle.dns_text.specs.UncertainChain.{labels_in, StandsIn};
+
+use super::UncertainName;
+use dns_name::{Chain, Label, LongChainError, Name, Octets, RelativeName, ToLabelIter};
+
+/// An uncertain name under a suffix: one that is absolute stays as it is, and one that is relative stands in front of the
+/// suffix.
+#[derive(Debug, Drop)]
+pub enum UncertainChain<Octs: Octets, R: ToLabelIter>
+where
+    RelativeName<Octs>: ToLabelIter,
+{
+    /// The absolute name, without the suffix.
+    Absolute(Name<Octs>),
+    /// The relative name, and the suffix behind it.
+    Relative(Chain<RelativeName<Octs>, R>),
+}
+
+impl<Octs: Octets> UncertainName<Octs> {
+    /// The name under the suffix: an absolute name alone, and the labels of a relative one with those of the suffix behind
+    /// them. Refused where these have more than 254 octets in front of any root.
+    pub fn chain<R: ToLabelIter + Drop>(
+        self,
+        suffix: R,
+    ) -> Result<UncertainChain<Octs, R>, LongChainError>
+    where
+        Octs: Drop,
+        ensures ok { IfOk result (λ chain. labels_in R.labels chain ≡ chained_labels self (R.labels suffix)) }
+        ensures long { IsErr result ↔ ((is_absolute self ≡ false)
+            × (254 < length (labels_wire (labels_of self)) + length (labels_wire (before_root (R.labels suffix))))) }
+    {
+        match self {
+            UncertainName::Absolute(name) => Ok(UncertainChain::Absolute(name)),
+            UncertainName::Relative(name) => {
+                Ok(UncertainChain::Relative(Chain::new(name, suffix)?))
+            }
+        }
+    }
+}
+
+impl<Octs: Octets, R: ToLabelIter> ToLabelIter for UncertainChain<Octs, R> {
+    ghost labels = { labels_in R.labels };
+
+    ghost stands = { StandsIn R.labels R.stands };
+
+    fn label(&self, index: usize) -> Option<Label<'_>> {
+        match self {
+            UncertainChain::Absolute(name) => name.label(index),
+            UncertainChain::Relative(chain) => chain.label(index),
+        }
+    }
+
+    fn compose_len(&self) -> u16 {
+        match self {
+            UncertainChain::Absolute(name) => name.compose_len(),
+            UncertainChain::Relative(chain) => chain.compose_len(),
+        }
+    }
+
+    fn first_place(&self) -> Option<usize> {
+        match self {
+            UncertainChain::Absolute(name) => name.first_place(),
+            UncertainChain::Relative(chain) => chain.first_place(),
+        }
+    }
+
+    fn label_at(&self, index: usize, place: Option<usize>) -> Option<(Label<'_>, Option<usize>)> {
+        match self {
+            UncertainChain::Absolute(name) => name.label_at(index, place),
+            UncertainChain::Relative(chain) => chain.label_at(index, place),
+        }
+    }
+}
