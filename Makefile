@@ -8,6 +8,10 @@ run:
 test:
 	rt ci
 
+# Each single change of the must-fail edits, where the gate tries a file of them at once.
+edits:
+	@python3 tools/edits.py
+
 # The proved program, at build/zonewire.
 build:
 	@mkdir -p build && cd $(ZONE) && rt run -- $$(cat args) < stdin > /dev/null && cp out/zone_main ../../build/zonewire
@@ -16,4 +20,4 @@ build:
 bench: build
 	@python3 bench/measure.py build/zonewire
 
-.PHONY: run test build bench
+.PHONY: run test edits build bench

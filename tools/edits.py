@@ -1,0 +1,162 @@
+#!/usr/bin/env python3
+"""edits.py [CRATE..]: shows that the prover refuses each single change of must-fail/, and not only each file of them.
+
+A file there changes several functions, and the gate asks that the file be refused. Here each function that a file changes
+has to be refused by itself: a contract is all that one function knows of another, so a changed function is judged as if the
+others were as they stand. The files of one round (those with no number behind their name, then those with a 2, ..) are put
+on a copy of the crate together, and one check names the functions that it does not prove. Run `rt check` in the crate first,
+so that the copy finds its work done. The exit status is 1 where a changed function stays proved."""
+import re
+import shutil
+import subprocess
+import sys
+import tempfile
+from dataclasses import dataclass
+from pathlib import Path
+
+ROOT = Path(__file__).resolve().parent.parent
+HEAD = re.compile(r"^( *)(?:pub(?:\([^)]*\))? )?(?:const |unsafe |final )*fn (\w+)", re.M)
+NOTE = re.compile(r"(src/\S+\.rt):(\d+):\d+: ")
+UNPROVED = re.compile(r"fn (\S+): (?:no proof|not proved)")
+
+
+@dataclass(frozen=True)
+class Change:
+    """One titled change of a file of edits."""
+
+    title: str
+    path: str
+    pairs: tuple
+
+
+@dataclass(frozen=True)
+class Function:
+    """A function of the changed source, by the lines that it takes."""
+
+    path: str
+    name: str
+    first: int
+    last: int
+
+
+def changes_of(edit):
+    """The changes of one file of edits: a title ends in a colon and stands above the pairs that it names."""
+    path, title, pairs, old, found = "", edit.stem, [], "", []
+    for line in [*edit.read_text().split("\n"), "end:"]:
+        if line.startswith("file: "):
+            path = line[len("file: ") :]
+        elif line.startswith("old: "):
+            old = line[len("old: ") :]
+        elif line.startswith("new:"):
+            pairs.append((old, line[len("new:") :].removeprefix(" ")))
+        elif line.endswith(":"):
+            found += [Change(title, path, tuple(pairs))] if pairs else []
+            title, pairs = line[:-1], []
+    return found
+
+
+def round_of(edit):
+    number = re.search(r"-(\d+)$", edit.stem)
+    return int(number[1]) if number else 1
+
+
+def function_at(text, line, path):
+    """The function that has this line, counted from 0, or None outside of all functions."""
+    heads = [(text.count("\n", 0, it.start(2)), it[2]) for it in HEAD.finditer(text)]
+    before = [it for it in heads if it[0] <= line]
+    if not before:
+        return None
+    first, name = before[-1]
+    after = [at for at, _ in heads if at > first]
+    return Function(path, name, first + 1, after[0] if after else text.count("\n") + 1)
+
+
+def apply(crate, changes):
+    """Changes the copy, and answers which functions each change is in."""
+    texts, lines = {}, []
+    for change in changes:
+        text = texts.get(change.path) or (crate / change.path).read_text()
+        for old, new in change.pairs:
+            if text.count(old) != 1:
+                sys.exit(f"{change.title}: {old!r} stands {text.count(old)} times in {change.path}")
+            # one line gives way to one line, so that its number stays
+            lines.append((change, text.count("\n", 0, text.find(old))))
+            text = text.replace(old, new)
+        texts[change.path] = text
+    for path, text in texts.items():
+        (crate / path).write_text(text)
+    places = {}
+    for change, line in lines:
+        places.setdefault(change, set()).add(function_at(texts[change.path], line, change.path))
+    return places
+
+
+def refused_by(said):
+    """What a check did not prove: places in sources, and names of functions."""
+    return {(path, int(line)) for path, line in NOTE.findall(said)}, set(UNPROVED.findall(said))
+
+
+def is_refused(function, lines, names):
+    if any(path == function.path and function.first <= line <= function.last for path, line in lines):
+        return True
+    module = function.path[len("src/") : -len(".rt")].replace("/", "::")
+    module = "" if module == "lib" else module + "::"
+    return any(re.search(rf"::{module}(\w+::)?{function.name}$", it) for it in names)
+
+
+def lower(name, needs):
+    return {it for below in needs[name] for it in [below, *lower(below, needs)]} if name in needs else set()
+
+
+def needs_of():
+    rows = [it.partition(":") for it in (ROOT / "crates.txt").read_text().split("\n") if it and it[0] != "#"]
+    every = {name for name, _, _ in rows}
+    return {name: [it for it in words.split() if it in every] for name, _, words in rows}
+
+
+def copy_of(name, room):
+    """A copy of the crate and what it stands on, with the work that their checks kept."""
+    needs = needs_of()
+    wanted = {name, *lower(name, needs)}
+    (room / "HANDLES").write_text((ROOT / "HANDLES").read_text())
+    lines = [it for it in (ROOT / "crates.txt").read_text().split("\n") if it.partition(":")[0] in wanted]
+    (room / "crates.txt").write_text("\n".join(lines) + "\n")
+    for it in wanted:
+        shutil.copytree(ROOT / "crates" / it, room / "crates" / it, ignore=shutil.ignore_patterns("must-fail"))
+    return room / "crates" / name
+
+
+def try_crate(name):
+    """Tries every round of a crate's edits. Answers how many changes were refused, and those that were not."""
+    edits = sorted((ROOT / "crates" / name / "must-fail").glob("*.edit"))
+    refused, kept = 0, []
+    with tempfile.TemporaryDirectory(prefix="edits-") as room:
+        crate = copy_of(name, Path(room))
+        for number in sorted({round_of(it) for it in edits}):
+            shutil.rmtree(crate / "src")
+            shutil.copytree(ROOT / "crates" / name / "src", crate / "src")
+            changes = [it for edit in edits if round_of(edit) == number for it in changes_of(edit)]
+            places = apply(crate, changes)
+            said = subprocess.run(["rt", "check"], cwd=crate, capture_output=True, text=True)
+            lines, names = refused_by(said.stdout + said.stderr)
+            for change in changes:
+                if any(it and is_refused(it, lines, names) for it in places[change]):
+                    refused += 1
+                else:
+                    kept.append(f"{name}: {change.title} ({change.path}, round {number})")
+    return refused, kept
+
+
+def main(names):
+    refused, kept = 0, []
+    for name in names or needs_of():
+        if (ROOT / "crates" / name / "must-fail").is_dir():
+            some, others = try_crate(name)
+            refused, kept = refused + some, kept + others
+            print(f"{name}: {some} refused, {len(others)} not", flush=True)
+    print("\n".join(kept + [f"{refused} changes refused, {len(kept)} not"]))
+    return 1 if kept else 0
+
+
+if __name__ == "__main__":
+    sys.exit(main(sys.argv[1:]))
