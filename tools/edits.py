@@ -44,7 +44,8 @@ def changes_of(edit):
     path, title, pairs, old, found = "", edit.stem, [], "", []
     for line in [*edit.read_text().split("\n"), "end:"]:
         if line.startswith("file: "):
-            path = line[len("file: ") :]
+            found += [Change(title, path, tuple(pairs))] if pairs else []
+            path, pairs = line[len("file: ") :], []
         elif line.startswith("old: "):
             old = line[len("old: ") :]
         elif line.startswith("new:"):

@@ -35,7 +35,6 @@ pub mod Soundness
 pub mod Growth
 pub mod Appending
 pub mod HexText
-pub mod OneSuffixLemmas
 pub mod WrittenParts
 mod Putting
 pub mod Chains

@@ -23,7 +23,6 @@ pub mod Remembered
 pub mod RecordData
 pub mod Unknown
 pub mod UnknownText
-pub mod OneSuffix
 pub mod Tried
 pub use Rattle.dns_octets.specs.Builder
 pub use Rattle.dns_octets.specs.Parser

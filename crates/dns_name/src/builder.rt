@@ -11,8 +11,6 @@ pub(crate) mod digits;
 mod error;
 mod finish;
 mod names;
-#[cfg(test)]
-mod tests;
 mod text;
 
 use crate::RelativeNameError;

@@ -8,8 +8,6 @@ ghost use Rattle.dns_name.specs.Remembered.{IsSound, is_free, patched};
 mod array_vec;
 mod in_full;
 mod reference;
-#[cfg(test)]
-pub(crate) mod tests;
 mod vec;
 
 use crate::ToName;

@@ -23,8 +23,6 @@ mod relative;
 mod reverse;
 mod root;
 mod skip;
-#[cfg(test)]
-mod tests;
 mod text;
 mod to_name;
 mod to_relative_name;

@@ -62,37 +62,3 @@ impl From<LongRecordData> for ParseError {
         ParseError::form_error(error.as_str())
     }
 }
-
-#[cfg(test)]
-mod tests {
-    use super::*;
-    use std::test::Fail;
-
-    #[test]
-    fn data_has_at_most_65535_octets(rt: HostRuntime) -> Result<(), Fail> {
-        assert_eq!(rt; LongRecordData::check_len(65_535), Ok(()));
-        assert_eq!(rt; LongRecordData::check_len(65_536), Err(LongRecordData));
-        assert_eq!(rt; LongRecordData::check_append_len(65_530, 5), Ok(()));
-        assert_eq!(rt;
-            LongRecordData::check_append_len(usize::MAX, usize::MAX),
-            Err(LongRecordData)
-        );
-        assert_eq!(rt; LongRecordData::check_multi_len(&[65_533, 1, 1]), Ok(()));
-        assert_eq!(rt;
-            LongRecordData::check_multi_len(&[65_533, 1, 2]),
-            Err(LongRecordData)
-        );
-        assert_eq!(rt; LongRecordData.as_str(), "record data too long");
-        assert_eq!(rt;
-            LongRecordData.to_string(rt.alloc())?.as_str(),
-            "record data too long"
-        );
-        assert_eq!(rt;
-            ParseError::from(LongRecordData)
-                .to_string(rt.alloc())?
-                .as_str(),
-            "record data too long"
-        );
-        Ok(())
-    }
-}

@@ -10,8 +10,6 @@ ghost use Rattle.dns_name.specs.RecordData.{page_of, counted_length, IsComposedL
 
 mod counted;
 mod reference;
-#[cfg(test)]
-mod tests;
 
 use crate::Composer;
 use counted::{append_canonical_counted, append_counted};

@@ -5,9 +5,6 @@ ghost use Rattle.dns_label.specs.Composed.{label_wire};
 ghost use Rattle.dns_name.specs.Reverse.{reverse_name, zone_labels, decimal_labels, hex_labels};
 ghost use Rattle.dns_name.specs.declared.builder.error.PushError.TheVariants.{ShortBuf};
 
-#[cfg(test)]
-mod tests;
-
 use crate::builder::digits::{decimal_label, hex_label};
 use crate::copies::octets_from;
 use crate::{Name, PushError};

@@ -3,9 +3,6 @@ ghost use Rattle.std.specs.Prelude.{◌≡◌, ◌<◌, ◌↔◌, Err, OnOk, On
 ghost use Rattle.dns_name.specs.Built.{built_len, labels_ended, with_labels};
 ghost use Rattle.dns_name.specs.declared.builder.error.PushNameError.TheVariants.{LongName};
 
-#[cfg(test)]
-mod tests;
-
 use super::{NameBuilder, PushNameError};
 use crate::wire_form::labels_of;
 use crate::{RelativeName, ToRelativeName};

@@ -1,0 +1,16 @@
+use Rattle.dns_octets.proofs.Grows.{GrowsTo-append}
+use Rattle.dns_name_tests.proofs.OneSuffixLemmas.{kept_append, sound_append}
+use Rattle.dns_name_tests.proofs.composers.one_suffix.OneSuffixOctetsBuilder.append_slice.Goals as goal
+
+pub invariant_of-self : goal.invariant_of-self
+invariant_of-self c = record {
+  sound = sound_append c.append_slice.new.self.items c.append_slice.ensures.grows.tail c.args.self.now.between c.append_slice.ensures.grows.octets c.args.self.now.sound;
+}
+
+pub returns-clause-known : goal.returns-clause-known
+returns-clause-known c = kept_append _ c.append_slice.ensures.grows.tail c.args.self.now.between c.append_slice.ensures.grows.octets c.args.self.now.sound
+
+pub returns-clause-grows : goal.returns-clause-grows
+returns-clause-grows c =
+    GrowsTo-append _ _ _ _ c.append_slice.ensures.grows.tail c.append_slice.ensures.grows.octets
+    (kept_append _ c.append_slice.ensures.grows.tail c.args.self.now.between c.append_slice.ensures.grows.octets c.args.self.now.sound)
