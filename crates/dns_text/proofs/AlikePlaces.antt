@@ -1,9 +1,9 @@
 -- Places behind which pieces have the same text.
-use Rattle.std.proofs.Common.{◌≡◌, ◌==◌, ◌-◌, ◌+◌, ℕ, zero, suc, nat_lt, Bool, true, false, if◌then◌else◌, List, [], ◌∷◌, ◌++◌, refl, sym, ◌∙◌, ap, subst, arith, append_assoc}
+use Rattle.std.proofs.Common.{◌≡◌, ◌-◌, ℕ, zero, suc, nat_lt, Bool, true, false, if◌then◌else◌, List, [], ◌∷◌, ◌++◌, refl, sym, ◌∙◌, ap, subst, append_assoc}
 use Rattle.dns_text.specs.Document.{Layout, Piece, depth, gap, has_data, is_first, is_inside, piece_text, place_behind}
 use Rattle.dns_text.specs.Document.Layout.{Simple, Tabbed, Multiline}
 use Rattle.dns_text.specs.Document.Piece.{Token, Comment, Open, Close, Newline}
-use Rattle.dns_text.specs.Lines.{closes, place_after}
+use Rattle.dns_text.specs.Lines.{place_after}
 use Rattle.dns_text.proofs.DocumentSplits.{some_open, text_behind}
 
 -- pieces behind pieces

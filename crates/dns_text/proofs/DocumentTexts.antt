@@ -1,5 +1,5 @@
 -- What the text of a document is, by what stands between its pieces.
-use Rattle.std.proofs.Common.{◌≡◌, ℕ, Bool, true, false, List, [], ◌∷◌, ◌++◌, refl, sym, ◌∙◌, ap, append_assoc, append-nil}
+use Rattle.std.proofs.Common.{◌≡◌, ℕ, true, false, List, [], ◌∷◌, ◌++◌, refl, sym, ◌∙◌, ap, append_assoc, append-nil}
 use Rattle.std.specs.List.{AllByRecursion}
 use Rattle.dns_text.specs.Document.{Layout, Piece, document_text, is_inside}
 use Rattle.dns_text.specs.Document.Layout.{Multiline}

@@ -1,7 +1,7 @@
 -- Blocks and line ends inside blocks, line ends outside, and comments.
-use Rattle.std.proofs.Common.{◌≡◌, ◌==◌, ◌-◌, ◌+◌, ℕ, zero, suc, nat_lt, Bool, true, false, if◌then◌else◌, List, [], ◌∷◌, ◌++◌, refl, sym, ◌∙◌, ap, subst, arith, append_assoc}
+use Rattle.std.proofs.Common.{◌≡◌, ◌==◌, ◌-◌, ◌+◌, ℕ, zero, suc, Bool, true, false, if◌then◌else◌, List, [], ◌∷◌, ◌++◌, refl, sym, ◌∙◌, ap, subst, arith}
 use Rattle.std.proofs.lemmas.Bool.{eqb-true, ltb-true}
-use Rattle.dns_text.specs.Document.{Layout, Piece, depth, gap, has_data, is_first, is_inside, piece_text, place_behind, under_multiline}
+use Rattle.dns_text.specs.Document.{Layout, Piece, depth, gap, has_data, is_first, is_inside, piece_text, place_behind}
 use Rattle.dns_text.specs.Document.Layout.{Simple, Tabbed, Multiline}
 use Rattle.dns_text.specs.Document.Piece.{Token, Comment, Open, Close, Newline}
 use Rattle.dns_text.specs.Lines.{closes, place_after}

@@ -1,11 +1,11 @@
 -- The text of a line of words and blocks.
-use Rattle.std.proofs.Common.{◌≡◌, ◌==◌, ◌-◌, ℕ, suc, nat_lt, Bool, true, false, if◌then◌else◌, List, [], ◌∷◌, ◌++◌, map, refl, sym, ◌∙◌, ap, subst, arith, append_assoc, append-nil}
+use Rattle.std.proofs.Common.{◌≡◌, ◌==◌, ◌-◌, ℕ, suc, Bool, true, false, if◌then◌else◌, List, [], ◌∷◌, ◌++◌, map, refl, sym, ◌∙◌, ap, subst, append_assoc, append-nil}
 use Rattle.std.proofs.lemmas.List.Folds.{flat_map-map}
 use Rattle.std.specs.List.{flat_map, join_with_byte}
-use Rattle.dns_text.specs.Document.{Layout, Piece, data_gap, depth, gap, has_data, is_first, is_inside, outer_gap, own_line, piece_text, place_behind, under_multiline}
+use Rattle.dns_text.specs.Document.{Layout, Piece, depth, gap, has_data, is_first, is_inside, own_line, piece_text, under_multiline}
 use Rattle.dns_text.specs.Document.Layout.{Simple, Tabbed, Multiline}
-use Rattle.dns_text.specs.Document.Piece.{Token, Comment, Open, Close, Newline}
-use Rattle.dns_text.specs.Lines.{Noted, Part, line_pieces, line_text, noted_pieces, noted_text, part_pieces, part_texts, place_after, separator, together}
+use Rattle.dns_text.specs.Document.Piece.{Token, Comment, Open, Close}
+use Rattle.dns_text.specs.Lines.{Noted, Part, line_pieces, line_text, noted_pieces, noted_text, part_pieces, part_texts, place_after, separator}
 use Rattle.dns_text.specs.Lines.Part.{Word, Block}
 use Rattle.dns_text.proofs.AlikePlaces.{place_after-append, text_behind-append}
 use Rattle.dns_text.proofs.BareBlocks.{unseen_close, unseen_open}

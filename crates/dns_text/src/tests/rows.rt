@@ -256,6 +256,35 @@ fn marks_one_by_one(rt: HostRuntime) -> Result<(), Fail> {
     Ok(())
 }
 
+/// Whether the words of a text, without parentheses and comments of one word each, are those of another.
+fn has_words(text: &str, others: &str) -> bool {
+    let mut others = others.split_whitespace();
+    let mut noted = false;
+    for word in text.split_whitespace() {
+        if noted || word == ";" {
+            noted = !noted;
+        } else if word != "(" && word != ")" && others.next() != Some(word) {
+            return false;
+        }
+    }
+    others.next().is_none()
+}
+
+#[test]
+fn layouts_have_the_same_words(rt: HostRuntime) -> Result<(), Fail> {
+    let alloc = rt.alloc();
+    for kind in KINDS {
+        let row = Row {
+            rtype: Rtype::SOA,
+            rdata: Authority,
+        };
+        let text = shown(alloc, &row, kind)?;
+        assert!(rt; has_words(text.as_str(), "a. 60 IN SOA b. c. 1 2 3 4 5"));
+        assert!(rt; !has_words(text.as_str(), "a. 60 IN SOA b. c. 1 2 3 4"));
+    }
+    Ok(())
+}
+
 /// A target that takes so many texts.
 #[derive(Drop)]
 struct Room {
