@@ -31,13 +31,13 @@ record Reads (layout : Layout) (line : List Piece) (text : List ℕ) (rows : Lis
   pub ends : is_first layout line ≡ false → EndsToken false text
 
 -- places inside and outside of blocks
-some_open : (n : ℕ) → nat_lt 0 (suc n) ≡ true
+pub some_open : (n : ℕ) → nat_lt 0 (suc n) ≡ true
 some_open n = lt-ltb 0 (suc n) (omega arith)
 
-is_inside_at : (line : List Piece) (n : ℕ) → depth line ≡ suc n → is_inside line ≡ true
+pub is_inside_at : (line : List Piece) (n : ℕ) → depth line ≡ suc n → is_inside line ≡ true
 is_inside_at line n at = ap (nat_lt 0) at ∙ some_open n
 
-is_outside_at : (line : List Piece) → depth line ≡ 0 → is_inside line ≡ false
+pub is_outside_at : (line : List Piece) → depth line ≡ 0 → is_inside line ≡ false
 is_outside_at line at = ap (nat_lt 0) at
 
 outside_of : (layout : Layout) (line : List Piece) → depth line ≡ 0 → inside_of layout line ≡ false
@@ -194,7 +194,7 @@ newline_step layout line rest rows at next =
       ends = λ first. ends_low false 10 rest (omega arith);
     }
 
-no_text : (b : Bool) (rest : List ℕ) → (if b then [] else []) ++ rest ≡ rest
+pub no_text : (b : Bool) (rest : List ℕ) → (if b then [] else []) ++ rest ≡ rest
 no_text true rest = refl
 no_text false rest = refl
 

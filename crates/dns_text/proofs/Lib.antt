@@ -4,5 +4,10 @@ pub mod Displays
 pub mod TokenSymbols
 pub mod RowSteps
 pub mod DocumentSplits
+pub mod AlikePlaces
+pub mod InnerBlocks
+pub mod BareBlocks
+pub mod LineTexts
+pub mod DocumentTexts
 pub mod OneRow
 pub mod UncertainTexts

@@ -6,6 +6,7 @@ pub mod Writing
 pub mod Written
 pub mod Shown
 pub mod Documents
+pub mod Lines
 pub mod DocumentRows
 pub mod Uncertain
 pub mod UncertainChain

@@ -1,8 +1,10 @@
 -- The text of documents tried on rows that are written out.
-use Rattle.std.specs.Prelude.{◌≡◌, List, [], ◌∷◌, ◌++◌, codes, refl}
+use Rattle.std.specs.Prelude.{◌≡◌, ℕ, List, [], ◌∷◌, ◌++◌, codes, refl}
 use Rattle.dns_text.specs.Document.{Piece, document_text}
 use Rattle.dns_text.specs.Document.Layout.{Simple, Tabbed, Multiline}
 use Rattle.dns_text.specs.Document.Piece.{Token, Comment, Open, Close, Newline}
+use Rattle.dns_text.specs.Lines.{Noted, Part, lines_pieces, lines_text}
+use Rattle.dns_text.specs.Lines.Part.{Word, Block}
 
 abbrev pub address : List Piece
 address =
@@ -69,6 +71,50 @@ bare_tabbed = refl
 pub bare_multiline : document_text Multiline bare
     ≡ codes "a" ++ 9 ∷ codes "; note" ++ 10 ∷ codes "b (" ++ 10 ∷ codes "        )" ++ 10 ∷ []
 bare_multiline = refl
+
+-- marks one by one, of which the last closes no block
+abbrev pub marks : List Piece
+marks =
+    Token (codes "a") ∷ Open ∷ Token (codes "b") ∷ Open ∷ Token (codes "c") ∷ Close ∷ Close ∷ Token (codes "d") ∷ Close
+    ∷ Token (codes "e") ∷ Newline ∷ []
+
+pub marks_simple : document_text Simple marks ≡ codes "a b c d e" ++ 10 ∷ []
+marks_simple = refl
+
+pub marks_tabbed : document_text Tabbed marks ≡ codes "a" ++ 9 ∷ codes "b c" ++ 9 ∷ codes "d" ++ 9 ∷ codes "e" ++ 10 ∷ []
+marks_tabbed = refl
+
+pub marks_multiline : document_text Multiline marks
+    ≡ codes "a (" ++ 10 ∷ codes "        b" ++ 10 ∷ codes "        c" ++ 10 ∷ codes "        ) d e" ++ 10 ∷ []
+marks_multiline = refl
+
+-- two rows as lines of words and blocks, of which one has no data, and their text
+abbrev pub bare_token : List ℕ → Noted
+bare_token token = record { token = token; comments = [] }
+
+abbrev pub rows : List (List Part)
+rows =
+    (Word (bare_token (codes "a.")) ∷ Word (bare_token (codes "60")) ∷ Word (bare_token (codes "IN")) ∷ Word (bare_token (codes "A"))
+    ∷ Block (bare_token (codes "1.2.3.4") ∷ []) ∷ [])
+    ∷ (Word (bare_token (codes "b")) ∷ Block [] ∷ Block ((record { token = codes "1"; comments = codes "serial" ∷ codes "x" ∷ [] })
+    ∷ bare_token (codes "2") ∷ []) ∷ []) ∷ []
+
+pub rows_begin : lines_pieces rows
+    ≡ address ++ Token (codes "b") ∷ Open ∷ Close ∷ Open ∷ Token (codes "1") ∷ Comment (codes "serial") ∷ Comment (codes "x")
+    ∷ Token (codes "2") ∷ Close ∷ Newline ∷ []
+rows_begin = refl
+
+pub rows_simple : lines_text Simple rows ≡ codes "a. 60 IN A 1.2.3.4" ++ 10 ∷ codes "b 1 2" ++ 10 ∷ []
+rows_simple = refl
+
+pub rows_tabbed : lines_text Tabbed rows
+    ≡ codes "a." ++ 9 ∷ codes "60" ++ 9 ∷ codes "IN" ++ 9 ∷ codes "A" ++ 9 ∷ codes "1.2.3.4" ++ 10 ∷ codes "b" ++ 9 ∷ codes "1 2" ++ 10 ∷ []
+rows_tabbed = refl
+
+pub rows_multiline : lines_text Multiline rows
+    ≡ codes "a. 60 IN A (" ++ 10 ∷ codes "        1.2.3.4" ++ 10 ∷ codes "        )" ++ 10 ∷ codes "b (" ++ 10 ∷ codes "        ) ("
+    ++ 10 ∷ codes "        1" ++ 9 ∷ codes "; serial" ++ 9 ∷ codes "; x" ++ 10 ∷ codes "        2" ++ 10 ∷ codes "        )" ++ 10 ∷ []
+rows_multiline = refl
 
 -- the data of an SOA record: two names, and five numbers with a comment each
 abbrev pub authority : List Piece

@@ -1,7 +1,8 @@
 -- What a contract sees of an uncertain name under a suffix.
-use Rattle.std.specs.Prelude.{List, ℕ, Option, ◌++◌, length}
+use Rattle.std.specs.Prelude.{◌≡◌, List, ℕ, Option, ◌++◌, length, refl}
 use Rattle.dns_label.specs.Name.{labels_wire, wire, with_root}
 use Rattle.dns_name.specs.Chain.{StandsInOne}
+use Rattle.dns_name.specs.ChainLaws.{rooted_behind}
 use Rattle.dns_name.specs.ChainParts.{left_of, right_of}
 use Rattle.dns_name.specs.Parsed.{StandsAt}
 use Rattle.dns_name.specs.Relative.{StandsIn as stands_in_relative}
@@ -19,3 +20,14 @@ abbrev pub StandsIn : {O R : Type 0} {ghosts others : _} → (R → List (List �
 StandsIn labels stands (Absolute name) index place = StandsAt (wire name) (with_root name) index place
 StandsIn labels stands (Relative chain) index place =
     StandsInOne (stands_in_relative (labels_wire (left_of chain)) (left_of chain)) (stands (right_of chain)) (length (left_of chain)) index place
+
+-- the labels without the root's, by those of a suffix that is absolute
+abbrev pub name_in : {O R : Type 0} {ghosts others : _} → (R → List (List ℕ)) → UncertainChain O R ghosts others → List (List ℕ)
+name_in own (Absolute name) = name
+name_in own (Relative chain) = left_of chain ++ own (right_of chain)
+
+-- the root's label stays last
+pub rooted_in : {O R : Type 0} {ghosts others : _} (labels own : R → List (List ℕ)) → ((suffix : R) → labels suffix ≡ with_root (own suffix))
+    → (chain : UncertainChain O R ghosts others) → labels_in labels chain ≡ with_root (name_in own chain)
+rooted_in labels own is (Absolute name) = refl
+rooted_in labels own is (Relative chain) = rooted_behind (left_of chain) (own (right_of chain)) (is (right_of chain))

@@ -1,8 +1,11 @@
 //! Laws of documents. Each function does nothing; what it ensures is the law.
-ghost use Rattle.std.specs.Prelude.{◌≡◌, List};
+ghost use Rattle.std.specs.Prelude.{◌≡◌, ◌∷◌, ◌++◌, [], ℕ, List, true, false};
 ghost use Rattle.std.specs.List.{AllByRecursion};
 ghost use Rattle.dns_name.specs.PrintedLabels.{AreOctets};
-ghost use Rattle.dns_text.specs.Document.{Layout, Piece, document_text};
+ghost use Rattle.dns_text.specs.Document.{Layout, Piece, document_text, is_inside};
+ghost use Rattle.dns_text.specs.Document.Layout.{Multiline};
+ghost use Rattle.dns_text.specs.Document.Piece.{Comment, Open, Close, Newline};
+ghost use Rattle.dns_text.specs.Lines.{IsNoToken, Part, closes, line_pieces, line_text, lines_pieces, lines_text, place_after};
 ghost use Rattle.dns_text.specs.DocumentRows.{HasRows, IsRowsOnly};
 ghost use Rattle.dns_scan.specs.Token.{Token};
 ghost use Rattle.dns_text.specs.Uncertain.{IsTextOf, labels_of, text_of};
@@ -17,6 +20,32 @@ use dns_name::laws::{dotted_text_reads_back, relative_text_reads_back, text_spel
 pub fn printed_documents_split()
     ensures { (layout : Layout) (document : List Piece) (rows : List (List Token)) → HasRows 0 document rows
         → IsRowsOnly (document_text layout document) rows }
+{}
+
+/// What the text of a document is under each layout, said by what stands between its pieces.
+///
+/// `line`, `lines`: on a line of words and blocks one space stands between any two texts, under `Tabbed` a tab. A block's
+/// tokens are texts of their own under `Simple`, and one text with spaces under `Tabbed`. Under `Multiline` they stand between
+/// parentheses, each behind eight spaces on a line of its own, as the last of the parentheses does. `end`: a line end outside
+/// of blocks is a line feed, and what follows is as if nothing stood in front. Inside a block it adds nothing (`held`), and
+/// neither do the marks of a block there (`inner`). But under `Multiline` those of a block without tokens add nothing (`bare`),
+/// nor does a comment (`comment`); under `Multiline` that is a tab, `; ` and its text, wherever it stands (`noted`).
+pub fn documents_print_by_layout()
+    ensures line { (layout : Layout) (parts : List Part) → document_text layout (line_pieces parts) ≡ line_text layout parts }
+    ensures lines { (layout : Layout) (lines : List (List Part)) → document_text layout (lines_pieces lines) ≡ lines_text layout lines }
+    ensures end { (layout : Layout) (front rest : List Piece) → is_inside (place_after [] front) ≡ false
+        → document_text layout (front ++ Newline ∷ rest) ≡ document_text layout front ++ 10 ∷ document_text layout rest }
+    ensures held { (layout : Layout) (front rest : List Piece) → is_inside (place_after [] front) ≡ true
+        → document_text layout (front ++ Newline ∷ rest) ≡ document_text layout (front ++ rest) }
+    ensures inner { (layout : Layout) (front block rest : List Piece) → is_inside (place_after [] front) ≡ true → closes 0 block ≡ true
+        → document_text layout (front ++ (Open ∷ block ++ Close ∷ rest)) ≡ document_text layout (front ++ (block ++ rest)) }
+    ensures bare { (layout : Layout) (front block rest : List Piece) → (layout ≡ Multiline → ⊥) → closes 0 block ≡ true
+        → AllByRecursion IsNoToken block
+        → document_text layout (front ++ (Open ∷ block ++ Close ∷ rest)) ≡ document_text layout (front ++ rest) }
+    ensures comment { (layout : Layout) (front rest : List Piece) (text : List ℕ) → (layout ≡ Multiline → ⊥)
+        → document_text layout (front ++ Comment text ∷ rest) ≡ document_text layout (front ++ rest) }
+    ensures noted { (front : List Piece) (text : List ℕ)
+        → document_text Multiline (front ++ Comment text ∷ []) ≡ document_text Multiline front ++ 9 ∷ 59 ∷ 32 ∷ text }
 {}
 
 /// What shows a name that is absolute or relative spells that name, of its kind, and no other.

@@ -3,7 +3,7 @@ ghost use Rattle.std.specs.Prelude.{[], ◌∷◌, OnOk, codes, decimal};
 ghost use Rattle.dns_values.specs.Mnemonic.{class_written, type_written};
 ghost use Rattle.dns_text.specs.Document.Piece.{Token, Comment, Open, Close, Newline};
 ghost use Rattle.dns_text.specs.Documents.{block_of};
-ghost use Rattle.dns_text.specs.Tried.{authority, bare, nested};
+ghost use Rattle.dns_text.specs.Tried.{authority, bare, marks, nested};
 ghost use Rattle.dns_text.specs.Writing.{Adds};
 
 use super::{KINDS, shown};
@@ -136,6 +136,28 @@ impl ZonefileFmt for Bare {
     }
 }
 
+/// The marks of blocks one by one, of which the last closes none.
+#[derive(Drop)]
+struct Marks;
+
+impl ZonefileFmt for Marks {
+    ghost document = { λ _. marks };
+
+    fn fmt<F: Formatter>(&self, formatter: &mut F) -> fmt::Result {
+        formatter.write_token("a")?;
+        formatter.open_block()?;
+        formatter.write_token("b")?;
+        formatter.open_block()?;
+        formatter.write_token("c")?;
+        formatter.close_block()?;
+        formatter.close_block()?;
+        formatter.write_token("d")?;
+        formatter.close_block()?;
+        formatter.write_token("e")?;
+        formatter.newline()
+    }
+}
+
 #[test]
 fn address_row(rt: HostRuntime) -> Result<(), Fail> {
     let row = Row {
@@ -213,6 +235,53 @@ fn blocks_without_tokens_are_seen_under_multiline_alone(rt: HostRuntime) -> Resu
         shown(alloc, &Bare, DisplayKind::Multiline)?.as_str(),
         "a\t; note\nb (\n        )\n"
     );
+    Ok(())
+}
+
+#[test]
+fn marks_one_by_one(rt: HostRuntime) -> Result<(), Fail> {
+    let alloc = rt.alloc();
+    assert_eq!(rt;
+        shown(alloc, &Marks, DisplayKind::Simple)?.as_str(),
+        "a b c d e\n"
+    );
+    assert_eq!(rt;
+        shown(alloc, &Marks, DisplayKind::Tabbed)?.as_str(),
+        "a\tb c\td\te\n"
+    );
+    assert_eq!(rt;
+        shown(alloc, &Marks, DisplayKind::Multiline)?.as_str(),
+        "a (\n        b\n        c\n        ) d e\n"
+    );
+    Ok(())
+}
+
+/// Whether the words of a text, without parentheses and comments of one word each, are those of another.
+fn has_words(text: &str, others: &str) -> bool {
+    let mut others = others.split_whitespace();
+    let mut noted = false;
+    for word in text.split_whitespace() {
+        if noted || word == ";" {
+            noted = !noted;
+        } else if word != "(" && word != ")" && others.next() != Some(word) {
+            return false;
+        }
+    }
+    others.next().is_none()
+}
+
+#[test]
+fn layouts_have_the_same_words(rt: HostRuntime) -> Result<(), Fail> {
+    let alloc = rt.alloc();
+    for kind in KINDS {
+        let row = Row {
+            rtype: Rtype::SOA,
+            rdata: Authority,
+        };
+        let text = shown(alloc, &row, kind)?;
+        assert!(rt; has_words(text.as_str(), "a. 60 IN SOA b. c. 1 2 3 4 5"));
+        assert!(rt; !has_words(text.as_str(), "a. 60 IN SOA b. c. 1 2 3 4"));
+    }
     Ok(())
 }
 

@@ -1,9 +1,9 @@
 //! Names that are absolute or relative (RFC 1035 5.1).
-use crate::UncertainName;
+use crate::{UncertainChain, UncertainName};
 use arrayvec::ArrayVec;
 use dns_name::{
     FromStrError, LongChainError, Name, PresentationError, RelativeName, RelativeNameError,
-    ToLabelIter,
+    ToLabelIter, ToName,
 };
 use std::alloc::Global;
 use std::hash::{DefaultHasher, Hash, Hasher};
@@ -114,6 +114,58 @@ fn relative_names_alone_are_chained(rt: HostRuntime) -> Result<(), Fail> {
     assert_eq!(rt; chain.compose_len(), 3);
     assert_eq!(rt; chain.iter_labels().count(), 2);
     assert!(rt; chain.ends_with(&Name::from_slice(b"\x00")?));
+    Ok(())
+}
+
+/// The name of the first text under that of the second.
+fn chained(
+    alloc: Global,
+    text: &str,
+    suffix: &str,
+) -> Result<UncertainChain<Vec<u8>, Name<Vec<u8>>>, Fail> {
+    Ok(read(alloc, text)?.chain(Name::vec_from_str(alloc, suffix)?)?)
+}
+
+#[test]
+fn chains_of_uncertain_names_show_their_labels(rt: HostRuntime) -> Result<(), Fail> {
+    let alloc = rt.alloc();
+    let rows = [
+        ("a", "b.c.", "a.b.c."),
+        ("a.", "b.c.", "a."),
+        (".", "b.", "."),
+        ("", "b.", "b."),
+        ("", ".", "."),
+        ("x\\.y", ".", "x\\.y."),
+    ];
+    for (text, suffix, shown) in rows {
+        let chain = chained(alloc, text, suffix)?;
+        assert_eq!(rt; chain.to_string(alloc)?.as_str(), shown);
+        assert_eq!(rt; chain.fmt_with_dot().to_string(alloc)?.as_str(), shown);
+    }
+    Ok(())
+}
+
+#[test]
+fn chains_of_relative_names_stay_relative(rt: HostRuntime) -> Result<(), Fail> {
+    let alloc = rt.alloc();
+    let chain = read(alloc, "a")?.chain(RelativeName::from_slice(b"\x01b")?)?;
+    assert_eq!(rt; chain.to_string(alloc)?.as_str(), "a.b");
+    Ok(())
+}
+
+#[test]
+fn chains_of_uncertain_names_are_flat_names(rt: HostRuntime) -> Result<(), Fail> {
+    let alloc = rt.alloc();
+    let absolute = chained(alloc, "a.", "b.")?;
+    assert_eq!(rt; absolute.as_flat_slice(), Some(b"\x01a\x00".as_slice()));
+    assert_eq!(rt; absolute.to_vec(alloc)?.as_slice(), b"\x01a\x00".as_slice());
+    let relative = chained(alloc, "a", "b.")?;
+    assert_eq!(rt; relative.as_flat_slice(), None);
+    assert_eq!(rt;
+        relative.to_vec(alloc)?.as_slice(),
+        b"\x01a\x01b\x00".as_slice()
+    );
+    assert!(rt; relative.name_eq(&Name::from_slice(b"\x01A\x01B\x00")?));
     Ok(())
 }
 

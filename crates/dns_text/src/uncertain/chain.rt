@@ -3,10 +3,14 @@ ghost use Rattle.std.specs.Prelude.{◌≡◌, ◌↔◌, ◌<◌, ◌+◌, leng
 ghost use Rattle.dns_label.specs.Name.{labels_wire};
 ghost use Rattle.dns_name.specs.Chain.{before_root};
 ghost use Rattle.dns_text.specs.Uncertain.{is_absolute, labels_of, chained_labels};
-ghost use Rattle.dns_text.specs.UncertainChain.{labels_in, StandsIn};
+ghost use Rattle.dns_name.specs.PrintedLabels.{printed_seen};
+ghost use Rattle.dns_text.specs.UncertainChain.{labels_in, name_in, rooted_in, StandsIn};
 
 use super::UncertainName;
-use dns_name::{Chain, Label, LongChainError, Name, Octets, RelativeName, ToLabelIter};
+use dns_name::laws::seen_labels_print_as_their_name;
+use dns_name::{Chain, Label, LongChainError, Name, Octets, RelativeName, ToLabelIter, ToName};
+use std::alloc::{AllocError, Global};
+use std::fmt;
 
 /// An uncertain name under a suffix: one that is absolute stays as it is, and one that is relative stands in front of the
 /// suffix.
@@ -73,6 +77,43 @@ impl<Octs: Octets, R: ToLabelIter> ToLabelIter for UncertainChain<Octs, R> {
         match self {
             UncertainChain::Absolute(name) => name.label_at(index, place),
             UncertainChain::Relative(chain) => chain.label_at(index, place),
+        }
+    }
+}
+
+/// Absolute or under a name, the name is absolute.
+impl<Octs: Octets, R: ToName> ToName for UncertainChain<Octs, R> {
+    ghost name = { name_in R.name };
+
+    ghost is_absolute = { rooted_in R.labels R.name R.is_absolute };
+
+    fn as_flat_slice(&self) -> Option<&[u8]> {
+        match self {
+            UncertainChain::Absolute(name) => name.as_flat_slice(),
+            UncertainChain::Relative(chain) => chain.as_flat_slice(),
+        }
+    }
+
+    fn to_vec(&self, alloc: Global) -> Result<Name<Vec<u8>>, AllocError> {
+        match self {
+            UncertainChain::Absolute(name) => name.to_vec(alloc),
+            UncertainChain::Relative(chain) => chain.to_vec(alloc),
+        }
+    }
+}
+
+/// Shows the labels with a dot between two, and the last dot where the root's is the last; the root is a dot.
+impl<Octs: Octets, R: ToLabelIter> fmt::Display for UncertainChain<Octs, R> {
+    ghost output = { λ chain. Some (printed_seen (labels_in R.labels chain)) };
+
+    fn fmt<W: fmt::Write>(&self, f: &mut fmt::Formatter<W>) -> fmt::Result {
+        seen_labels_print_as_their_name();
+        match self {
+            UncertainChain::Absolute(name) => {
+                let _octets = name.as_slice();
+                name.fmt(f)
+            }
+            UncertainChain::Relative(chain) => chain.fmt(f),
         }
     }
 }
