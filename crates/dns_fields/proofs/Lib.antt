@@ -7,5 +7,6 @@ pub mod ReadParts
 pub mod ReadFields
 pub mod ReadStrings
 pub mod Shows
+pub mod ShownTokens
 pub mod ScanParts
 pub mod ScanLeaves
