@@ -10,3 +10,6 @@ pub mod Shows
 pub mod ShownTokens
 pub mod ScanParts
 pub mod ScanLeaves
+pub mod StringsOf
+pub mod TextStrings
+pub mod ReadEach

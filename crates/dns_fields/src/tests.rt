@@ -1,4 +1,5 @@
 mod show;
+mod strings;
 
 use super::*;
 use dns_name::{AppendError, Name, ParseError, ParsedName, Parser};

@@ -1,7 +1,7 @@
 //! Rests as tokens.
 use super::ShowRow;
 use super::quoted::Quoted;
-use crate::{Last, LastValue, Rest16, Rest64, RestText};
+use crate::{Last, LastValue, Rest16, Rest64, RestText, Strings};
 use dns_name::Octets;
 use dns_text::{Formatter, base16, base64};
 use std::fmt;
@@ -32,5 +32,15 @@ impl<Octs: Octets> ShowRow for Last<Rest64<Octs>> {
             return Ok(());
         }
         formatter.write_token(base64::display(octets))
+    }
+}
+
+/// Each string between quotes.
+impl<Octs: Octets> ShowRow for Last<Strings<Octs>> {
+    fn show_fields<F: Formatter>(&self, formatter: &mut F) -> fmt::Result {
+        for string in self.0.iter() {
+            formatter.write_token(string.display_quoted())?;
+        }
+        Ok(())
     }
 }

@@ -2,7 +2,9 @@
 ghost use Rattle.dns_text.specs.Documents.{block_of};
 ghost use Rattle.dns_fields.specs.Shown.{row_pieces};
 
-use crate::{Compressible, Last, Rest16, Rest64, RestText, ShowRow, Tag, Uncompressed, show_row};
+use crate::{
+    Compressible, Last, Rest16, Rest64, RestText, ShowRow, Strings, Tag, Uncompressed, show_row,
+};
 use dns_name::{Name, Octets};
 use dns_text::{CharStr, DisplayKind, Formatter, ZonefileFmt};
 use std::alloc::{AllocError, Global};
@@ -81,5 +83,8 @@ fn rests_are_shown(rt: HostRuntime) -> Result<(), Fail> {
     let value = Last(RestText(b"a \";\\\xff~\x7f".as_slice()));
     assert_eq!(rt; text(alloc, value)?.as_str(), "\"a \\\";\\\\\\255~\\127\"");
     assert_eq!(rt; text(alloc, Last(RestText(none)))?.as_str(), "\"\"");
+    if let Some(strings) = Strings::from_octets(b"\x03a b\x00".as_slice()) {
+        assert_eq!(rt; text(alloc, Last(strings))?.as_str(), "\"a b\" \"\"");
+    }
     Ok(())
 }
