@@ -1,3 +1,5 @@
+mod text;
+
 use super::*;
 use dns_name::{
     AppendError, CanonicalOrd, ComposeRecordData, ParseRecordData, Parser, RecordData, Rtype,
