@@ -1,4 +1,5 @@
 mod text;
+mod txt;
 
 use super::*;
 use dns_name::{
