@@ -83,6 +83,9 @@ module _ (P : Field → Type 0) (field : Field) where
   pub of_string : ((octets : List ℕ) → P (string octets)) → kind_of field ≡ String → P field
   of_string each is = of_kind String is (each (octets_in field))
 
+  pub of_strings : ((each : List (List ℕ)) → P (strings each)) → kind_of field ≡ Strings → P field
+  of_strings each is = of_kind Strings is (each (lists_in field))
+
   pub of_tag : ((octets : List ℕ) → P (tag octets)) → kind_of field ≡ Tag → P field
   of_tag each is = of_kind Tag is (each (octets_in field))
 

@@ -7,5 +7,9 @@ pub mod ReadParts
 pub mod ReadFields
 pub mod ReadStrings
 pub mod Shows
+pub mod ShownTokens
 pub mod ScanParts
 pub mod ScanLeaves
+pub mod StringsOf
+pub mod TextStrings
+pub mod ReadEach

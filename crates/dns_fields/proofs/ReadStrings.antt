@@ -64,7 +64,7 @@ all_read {message} {text} {place} is fits =
     (octets [] (sym is ∙ sym (append-nil text)) (nothing (omega (arith, long))))
 
 -- is one
-all_one : (message text other : List ℕ) (place : ℕ) → text ≡ drop place message → Spells message place (Octets other End) (length message)
+pub all_one : (message text other : List ℕ) (place : ℕ) → text ≡ drop place message → Spells message place (Octets other End) (length message)
     → other ≡ text
 all_one message text other place is that =
     let there = opened that in

@@ -24,7 +24,7 @@ module _ (names : List ℕ → List (List ℕ) → Type 0) (tokens : List Token)
       of_ipv6 (λ f. ScansField names f tokens left → ⊥) field (λ octets scans. none scans.0 left scans.1 scans.2 scans.3) is
 
   -- a row of one field
-  one_field : (its : Kind) → NoFieldScans names its tokens → NoRowScans names (its ∷ []) tokens
+  pub one_field : (its : Kind) → NoFieldScans names its tokens → NoRowScans names (its ∷ []) tokens
   one_field its none [] left are scans = absurd (cc)
   one_field its none (field ∷ row) left are scans = none field scans.0 (cc) scans.1
 

@@ -72,6 +72,13 @@ left_of_row names field tokens behind left scans ending =
       is = first.is ∙ ap (λ l. first.taken ++ l) ending.is ∙ sym (append_assoc first.taken ending.taken left);
     }
 
+-- and those left behind a row
+pub left_of_fields : (names : List ℕ → List (List ℕ) → Type 0) (row : List Field) (tokens left : List Token) → ScansRow names row tokens left
+    → IsEnding left tokens
+left_of_fields names [] tokens left scans = record { taken = []; is = sym scans }
+left_of_fields names (field ∷ row) tokens left scans =
+    left_of_row names field tokens scans.0 left scans.1 (left_of_fields names row scans.0 left scans.2)
+
 -- what stands for a name at one place, if it stands for it at another
 module _ (old new : List ℕ → List (List ℕ) → Type 0) (into : (text : List ℕ) (name : List (List ℕ)) → old text name → new text name) where
   field_there : (field : Field) (tokens left : List Token) → ScansField old field tokens left → ScansField new field tokens left

@@ -16,6 +16,6 @@ mod tests;
 pub use compose::{compose_canonical_row, compose_row, row_len};
 pub use field::{Compressible, FieldValue, Tag, Uncompressed};
 pub use read::{ReadError, ReadField, ReadRow, parse_row};
-pub use row::{Last, LastValue, Rest16, Rest64, RestText, Row};
+pub use row::{Last, LastValue, Rest16, Rest64, RestText, Row, Strings, StringsIter};
 pub use scan::{ScanField, ScanRow, scan_row};
 pub use show::{ShowField, ShowRow, show_row};

@@ -13,6 +13,7 @@ ghost use Rattle.dns_fields.specs.Written.{may_point, written_parts};
 
 mod last;
 mod rests;
+mod strings;
 
 use crate::FieldValue;
 use dns_name::{AppendError, Composer, LongRecordData};
@@ -20,6 +21,7 @@ pub use last::{Last, LastValue};
 pub use rests::{Rest16, Rest64, RestText};
 use std::cmp::Ordering;
 use std::hash::Hasher;
+pub use strings::{Strings, StringsIter};
 
 /// The fields of record data, of fixed kinds: a pair of the first field and the others, or `()` where there are none.
 pub trait Row {

@@ -1,14 +1,14 @@
 //! Fields and rows that are read from the tokens of an entry (RFC 1035 5.1).
-ghost use Rattle.std.specs.Prelude.{◌≡◌, false, Some, IfOk, IfErr, OnErr};
+ghost use Rattle.std.specs.Prelude.{◌≡◌, ◌≤◌, false, length, Some, IfOk, IfErr, OnErr};
 ghost use Rattle.dns_scan.specs.Token.{IsEnding, SameNames};
-ghost use Rattle.dns_fields.specs.Fields.{kinds_of};
+ghost use Rattle.dns_fields.specs.Fields.{kinds_of, octets};
 ghost use Rattle.dns_fields.specs.Scanned.{ScansField, ScansRow, ScansData, NoFieldScans, NoRowScans, NoDataScans};
 
 mod leaves;
 mod rests;
 
 use crate::{FieldValue, Row};
-use dns_text::Scanner;
+use dns_text::{Scanner, ScannerError};
 
 /// A field that is read from tokens.
 pub trait ScanField<S: Scanner>: FieldValue + Sized + Drop {
@@ -53,16 +53,21 @@ impl<S: Scanner, A: ScanField<S>, B: ScanRow<S>> ScanRow<S> for (A, B) {
 
 /// Reads data of a type, as a row of its kinds, from the tokens in front, and takes these. Tokens behind the last field stay.
 ///
-/// Refused with an error other than `short_buf` only where there is no such data in front; the tokens left are then an ending
-/// of those left before.
+/// Refused with an error other than `short_buf` only where there is no such data in front, and with `short_buf` where the data
+/// has more than 65,535 octets; the tokens left are then an ending of those left before.
 pub fn scan_row<S: Scanner, R: ScanRow<S>, const RTYPE: u16>(scanner: &mut S) -> Result<R, S::Error>
     requires { kinds_of RTYPE ≡ Some R.kinds }
     ensures ok { IfOk result (λ row. ScansData (S.names scanner.old) RTYPE (R.fields row) (S.tokens scanner.old)
         (S.tokens scanner.new)) }
+    ensures fits { IfOk result (λ row. length (octets (R.fields row)) ≤ 65535) }
     ensures err { IfErr result (λ error. S.Error.is_short error ≡ false
         → NoDataScans (S.names scanner.old) RTYPE (S.tokens scanner.old)) }
     ensures left { OnErr result (IsEnding (S.tokens scanner.new) (S.tokens scanner.old)) }
     ensures names { SameNames (S.names scanner.old) (S.names scanner.new) }
 {
-    R::scan_fields(scanner)
+    let row = R::scan_fields(scanner)?;
+    if row.fields_len().is_none() {
+        return Err(S::Error::short_buf());
+    }
+    Ok(row)
 }

@@ -5,6 +5,8 @@ ghost use Rattle.dns_text.specs.Writing.{Adds};
 ghost use Rattle.dns_fields.specs.Shown.{field_pieces, row_pieces};
 
 mod leaves;
+mod quoted;
+mod rests;
 
 use crate::{FieldValue, Row};
 use dns_text::Formatter;

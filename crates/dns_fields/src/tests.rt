@@ -1,3 +1,6 @@
+mod show;
+mod strings;
+
 use super::*;
 use dns_name::{AppendError, Name, ParseError, ParsedName, Parser};
 use dns_text::{CharStr, IterScanner, Scanner, StrError};

@@ -1,22 +1,29 @@
 //! Data of type HINFO (RFC 1035 3.3.2).
-ghost use Rattle.std.specs.Prelude.{◌≡◌, ◌==◌, List, [], ◌∷◌, Some, IfOk, OnOk, OnErr};
+ghost use Rattle.std.specs.Prelude.{◌≡◌, ◌==◌, List, [], ◌∷◌, Some, IfOk, OnOk, OnErr, false, IfErr};
 ghost use Rattle.std.specs.Ordering.{as_partial_cmp};
 ghost use Rattle.std.proofs.Common.{refl};
 ghost use Rattle.dns_fields.specs.Fields.{Field, string, canonical_octets, field_at};
 ghost use Rattle.dns_fields.specs.Alike.{keys, rows_eq, rows_cmp, canonical_rows_cmp};
 ghost use Rattle.dns_fields.specs.AlikeLaws.{rows_equivalent, rows_partly_equivalent, rows_total, rows_ties, rows_order, rows_alike};
 ghost use Rattle.dns_fields.specs.Reading.{ReadsRow, NoRow};
+ghost use Rattle.dns_fields.specs.Scanned.{ScansData, NoDataScans};
+ghost use Rattle.dns_fields.specs.Shown.{row_pieces};
 ghost use Rattle.dns_fields.specs.Written.{written_parts};
 ghost use Rattle.dns_name.specs.RecordData.{IsAtEnd};
 ghost use Rattle.dns_octets.specs.Parser.{octets_of, place_of};
+ghost use Rattle.dns_scan.specs.Token.{IsEnding, SameNames};
+ghost use Rattle.dns_text.specs.Document.{document_text};
+ghost use Rattle.dns_text.specs.Document.Layout.{Simple};
+ghost use Rattle.dns_text.specs.Documents.{block_of};
 
-use dns_fields::{Row, compose_canonical_row, compose_row, parse_row, row_len};
+use dns_fields::{Row, compose_canonical_row, compose_row, parse_row, row_len, scan_row, show_row};
 use dns_name::{
-    AppendError, CanonicalOrd, ComposeRecordData, Composer, Octets, ParseError, ParseRecordData,
-    Parser, RecordData, Rtype,
+    AppendError, CanonicalOrd, ComposeRecordData, Composer, FromBuilder, Octets, ParseError,
+    ParseRecordData, Parser, RecordData, Rtype,
 };
-use dns_scan::CharStr;
+use dns_text::{CharStr, DisplayKind, Formatter, Scanner, ZonefileFmt};
 use std::cmp::Ordering;
+use std::fmt;
 use std::hash::{Hash, Hasher};
 use std::marker::Model;
 
@@ -58,6 +65,26 @@ impl<Octs: Octets> Hinfo<Octs> {
     {
         let (_, (os, ())) = &self.row;
         os
+    }
+
+    /// Reads the data from the tokens in front, and takes these. Tokens behind the last field stay.
+    ///
+    /// Refused with an error other than `short_buf` only where there is no HINFO data in front; the tokens left are then an
+    /// ending of those left before.
+    pub fn scan<S: Scanner<Octets = Octs>>(scanner: &mut S) -> Result<Self, S::Error>
+    where
+        Octs: FromBuilder + Drop,
+        ensures ok { IfOk result (λ rdata. ScansData (S.names scanner.old) 13 rdata (S.tokens scanner.old)
+            (S.tokens scanner.new)) }
+        ensures err { IfErr result (λ error. S.Error.is_short error ≡ false
+            → NoDataScans (S.names scanner.old) 13 (S.tokens scanner.old)) }
+        ensures left { OnErr result (IsEnding (S.tokens scanner.new) (S.tokens scanner.old)) }
+        ensures names { SameNames (S.names scanner.old) (S.names scanner.new) }
+    {
+        match scan_row::<_, _, 13>(scanner) {
+            Ok(row) => Ok(Hinfo { row }),
+            Err(error) => Err(error),
+        }
     }
 }
 
@@ -174,5 +201,23 @@ impl<Octs: Octets> Hash for Hinfo<Octs> {
 
     fn hash<H: Hasher>(&self, state: &mut H) {
         self.row.hash_fields(state);
+    }
+}
+
+/// The tokens of the fields in a block.
+impl<Octs: Octets> ZonefileFmt for Hinfo<Octs> {
+    ghost document = { λ rdata. block_of (row_pieces rdata) };
+
+    fn fmt<F: Formatter>(&self, formatter: &mut F) -> fmt::Result {
+        show_row(&self.row, formatter)
+    }
+}
+
+/// With one space between two fields.
+impl<Octs: Octets> fmt::Display for Hinfo<Octs> {
+    ghost output = { λ rdata. Some (document_text Simple (block_of (row_pieces rdata))) };
+
+    fn fmt<W: fmt::Write>(&self, f: &mut fmt::Formatter<W>) -> fmt::Result {
+        fmt::Display::fmt(&self.display_zonefile(DisplayKind::Simple), f)
     }
 }

@@ -11,6 +11,7 @@ mod ds;
 mod hinfo;
 #[cfg(test)]
 mod tests;
+mod txt;
 
 pub use a::A;
 pub use aaaa::Aaaa;
@@ -18,3 +19,4 @@ pub use caa::Caa;
 pub use dnskey::Dnskey;
 pub use ds::Ds;
 pub use hinfo::Hinfo;
+pub use txt::{Txt, TxtCharStrIter, TxtError, TxtIter};

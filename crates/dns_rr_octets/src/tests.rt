@@ -1,3 +1,6 @@
+mod text;
+mod txt;
+
 use super::*;
 use dns_name::{
     AppendError, CanonicalOrd, ComposeRecordData, ParseRecordData, Parser, RecordData, Rtype,

@@ -1,10 +1,10 @@
-//! Numbers, addresses of four octets, names, strings and tags as tokens.
+//! Numbers, addresses, names, strings and tags as tokens.
 use super::ShowField;
 use crate::{Compressible, Tag, Uncompressed};
 use dns_name::{Octets, ToName};
 use dns_text::{CharStr, Formatter};
 use std::fmt;
-use std::net::Ipv4Addr;
+use std::net::{Ipv4Addr, Ipv6Addr};
 
 impl ShowField for u8 {
     fn show_field<F: Formatter>(&self, formatter: &mut F) -> fmt::Result {
@@ -27,6 +27,13 @@ impl ShowField for u32 {
 impl ShowField for Ipv4Addr {
     fn show_field<F: Formatter>(&self, formatter: &mut F) -> fmt::Result {
         formatter.write_token(*self)
+    }
+}
+
+/// In groups alone (RFC 5952 4).
+impl ShowField for Ipv6Addr {
+    fn show_field<F: Formatter>(&self, formatter: &mut F) -> fmt::Result {
+        formatter.write_token(self.hex_groups())
     }
 }
 

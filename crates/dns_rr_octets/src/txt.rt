@@ -1,0 +1,264 @@
+//! Data of type TXT (RFC 1035 3.3.14).
+ghost use Rattle.std.specs.Prelude.{◌≡◌, ◌==◌, ◌≤◌, ◌↔◌, length, List, ℕ, [], ◌∷◌, Some, Err, false, IsOk, IfOk, IfErr, IfSome, IfNone, OnOk, OnErr};
+ghost use Rattle.std.specs.Ordering.{as_partial_cmp};
+ghost use Rattle.std.proofs.Common.{refl};
+ghost use Rattle.dns_fields.specs.Fields as fields;
+ghost use Rattle.dns_fields.specs.Fields.{Field, IsRow, strings, canonical_octets, field_at};
+ghost use Rattle.dns_fields.specs.Alike.{keys, rows_eq, rows_cmp, canonical_rows_cmp};
+ghost use Rattle.dns_fields.specs.AlikeLaws.{rows_equivalent, rows_partly_equivalent, rows_total, rows_ties, rows_order, rows_alike};
+ghost use Rattle.dns_fields.specs.Reading.{ReadsRow, NoRow};
+ghost use Rattle.dns_fields.specs.Scanned.{ScansData, NoDataScans};
+ghost use Rattle.dns_fields.specs.Shown.{row_pieces};
+ghost use Rattle.dns_fields.specs.Strings.{AreStringOctets};
+ghost use Rattle.dns_fields.specs.Written.{written_parts};
+ghost use Rattle.dns_name.specs.RecordData.{IsAtEnd};
+ghost use Rattle.dns_octets.specs.Parser.{octets_of, place_of};
+ghost use Rattle.dns_scan.specs.Token.{IsEnding, SameNames};
+ghost use Rattle.dns_text.specs.Document.{document_text};
+ghost use Rattle.dns_text.specs.Document.Layout.{Simple};
+ghost use Rattle.dns_text.specs.Documents.{block_of};
+
+mod iter;
+
+use dns_fields::{
+    Last, LastValue, Row, Strings, compose_canonical_row, compose_row, parse_row, row_len,
+    scan_row, show_row,
+};
+use dns_name::{
+    AppendError, CanonicalOrd, ComposeRecordData, Composer, FromBuilder, Octets, ParseError,
+    ParseRecordData, Parser, RecordData, Rtype,
+};
+use dns_text::{DisplayKind, Formatter, Scanner, ZonefileFmt};
+pub use iter::{TxtCharStrIter, TxtIter};
+use std::cmp::Ordering;
+use std::fmt;
+use std::hash::{Hash, Hasher};
+use std::marker::Model;
+use thiserror::Error;
+
+/// The octets are not one or more strings, or more than 65,535.
+#[derive(Clone, Copy, Debug, PartialEq, Eq, Error)]
+#[error("invalid TXT data")]
+pub struct TxtError;
+
+/// One or more strings for anyone to read.
+///
+/// A contract sees it as its row of one field, whose octets are at most 65,535.
+#[derive(Debug, Drop)]
+pub struct Txt<Octs: Octets> {
+    row: Last<Strings<Octs>>,
+}
+
+impl<Octs: Octets> Model for Txt<Octs> {
+    ghost Value = { List Field };
+
+    ghost view = { λ rdata. strings rdata.row.0 ∷ [] };
+
+    ghost invariant = { λ rdata. length (fields.octets (strings rdata.row.0 ∷ [])) ≤ 65535 };
+}
+
+impl<Octs: Octets> Txt<Octs> {
+    /// The data of these octets. Refused where they are not one or more strings, and past 65,535 of them.
+    pub fn from_octets(octets: Octs) -> Result<Self, TxtError>
+    where
+        Octs: Drop,
+        ensures ok { IfOk result (λ rdata. (each : List (List ℕ)) × (rdata ≡ strings each ∷ [])
+            × (Octs.list octets ≡ fields.field_octets (strings each))) }
+        ensures are { IsOk result ↔ (AreStringOctets (Octs.list octets) × (length (Octs.list octets) ≤ 65535)) }
+    {
+        if octets.octets().len() > 65_535 {
+            return Err(TxtError);
+        }
+        match Strings::from_octets(octets) {
+            Some(strings) => Ok(Txt { row: Last(strings) }),
+            None => Err(TxtError),
+        }
+    }
+
+    /// The octets of the strings, one string after another.
+    pub fn iter(&self) -> TxtIter<'_>
+        ensures { self.now ≡ strings result ∷ [] }
+    {
+        TxtIter::over(self.row.0.iter())
+    }
+
+    /// The strings, one after another.
+    pub fn iter_charstrs(&self) -> TxtCharStrIter<'_>
+        ensures { self.now ≡ strings result ∷ [] }
+    {
+        TxtCharStrIter::over(self.row.0.iter())
+    }
+
+    /// The octets of the string, where there is one alone.
+    pub fn as_flat_slice(&self) -> Option<&[u8]>
+        ensures some { IfSome result (λ string. self.now ≡ strings (string.now ∷ []) ∷ []) }
+        ensures none { IfNone result ((string : List ℕ) → self.now ≡ strings (string ∷ []) ∷ [] → ⊥) }
+    {
+        let mut strings = self.iter();
+        let first = strings.next()?;
+        match strings.next() {
+            Some(_) => None,
+            None => Some(first),
+        }
+    }
+
+    /// How many octets the data has.
+    pub fn len(&self) -> usize
+        ensures { result ≡ length (fields.octets self.now) }
+    {
+        self.row.0.as_slice().len()
+    }
+
+    /// Reads the data from the tokens in front, and takes these. Tokens behind the last field stay.
+    ///
+    /// Refused with an error other than `short_buf` only where there is no TXT data in front; the tokens left are then an
+    /// ending of those left before.
+    pub fn scan<S: Scanner<Octets = Octs>>(scanner: &mut S) -> Result<Self, S::Error>
+    where
+        Octs: FromBuilder + Drop,
+        ensures ok { IfOk result (λ rdata. ScansData (S.names scanner.old) 16 rdata (S.tokens scanner.old)
+            (S.tokens scanner.new)) }
+        ensures err { IfErr result (λ error. S.Error.is_short error ≡ false
+            → NoDataScans (S.names scanner.old) 16 (S.tokens scanner.old)) }
+        ensures left { OnErr result (IsEnding (S.tokens scanner.new) (S.tokens scanner.old)) }
+        ensures names { SameNames (S.names scanner.old) (S.names scanner.new) }
+    {
+        match scan_row::<_, _, 16>(scanner) {
+            Ok(row) => Ok(Txt { row }),
+            Err(error) => Err(error),
+        }
+    }
+}
+
+impl<'a> Txt<&'a [u8]> {
+    /// Reads the data up to the end of the parser. Refused where what is left is no TXT data; the parser then
+    /// stays where it is.
+    pub fn parse(parser: &mut Parser<'a>) -> Result<Self, ParseError>
+        ensures ok { IfOk result (λ rdata. ReadsRow 16 (octets_of parser.old) (place_of parser.old) rdata) }
+        ensures end { OnOk result (IsAtEnd parser.old parser.new) }
+        ensures no_data { OnErr result (NoRow 16 (octets_of parser.old) (place_of parser.old)) }
+        ensures err { OnErr result (parser.new ≡ parser.old) }
+    {
+        Ok(Txt {
+            row: parse_row::<_, 16>(parser)?,
+        })
+    }
+}
+
+/// Takes this type alone.
+impl<'a> ParseRecordData<'a> for Txt<&'a [u8]> {
+    ghost takes = { λ number. number == 16 };
+
+    ghost reads = { λ message place number rdata. ReadsRow number message place rdata };
+
+    fn parse_rdata(rtype: Rtype, parser: &mut Parser<'a>) -> Result<Option<Self>, ParseError> {
+        if rtype != Rtype::TXT {
+            return Ok(None);
+        }
+        Ok(Some(Txt::parse(parser)?))
+    }
+}
+
+impl<Octs: Octets> RecordData for Txt<Octs> {
+    ghost rtype = { λ _. 16 };
+
+    fn rtype(&self) -> Rtype {
+        Rtype::TXT
+    }
+}
+
+impl<Octs: Octets> ComposeRecordData for Txt<Octs> {
+    ghost parts = { written_parts };
+
+    ghost canonical_octets = { canonical_octets };
+
+    fn rdlen(&self, compress: bool) -> Option<u16> {
+        row_len(&self.row, compress)
+    }
+
+    fn compose_rdata<Target: Composer>(&self, target: &mut Target) -> Result<(), AppendError> {
+        compose_row(&self.row, target)
+    }
+
+    fn compose_canonical_rdata<Target: Composer>(
+        &self,
+        target: &mut Target,
+    ) -> Result<(), AppendError> {
+        compose_canonical_row(&self.row, target)
+    }
+}
+
+impl<Octs: Octets> PartialEq for Txt<Octs> {
+    ghost eq = { rows_eq };
+
+    ghost laws = { rows_partly_equivalent };
+
+    fn eq(&self, other: &Self) -> bool {
+        self.row.fields_eq(&other.row)
+    }
+}
+
+impl<Octs: Octets> Eq for Txt<Octs> {
+    ghost laws = { rows_equivalent };
+}
+
+impl<Octs: Octets> PartialOrd for Txt<Octs> {
+    ghost partial_cmp = { as_partial_cmp rows_cmp };
+
+    ghost laws = { rows_order };
+
+    fn partial_cmp(&self, other: &Self) -> Option<Ordering> {
+        Some(self.cmp(other))
+    }
+}
+
+impl<Octs: Octets> Ord for Txt<Octs> {
+    ghost cmp = { rows_cmp };
+
+    ghost total = { rows_total };
+
+    ghost matches_partial_cmp = { λ _ _. refl };
+
+    ghost matches_eq = { rows_ties };
+
+    fn cmp(&self, other: &Self) -> Ordering {
+        self.row.fields_cmp(&other.row)
+    }
+}
+
+/// The order of the canonical octets (RFC 4034 6.3).
+impl<Octs: Octets> CanonicalOrd for Txt<Octs> {
+    ghost canonical = { canonical_rows_cmp };
+
+    fn canonical_cmp(&self, other: &Self) -> Ordering {
+        self.row.canonical_fields_cmp(&other.row)
+    }
+}
+
+impl<Octs: Octets> Hash for Txt<Octs> {
+    ghost hash_input = { keys };
+
+    ghost respects_eq = { rows_alike };
+
+    fn hash<H: Hasher>(&self, state: &mut H) {
+        self.row.hash_fields(state);
+    }
+}
+
+/// The tokens of the fields in a block.
+impl<Octs: Octets> ZonefileFmt for Txt<Octs> {
+    ghost document = { λ rdata. block_of (row_pieces rdata) };
+
+    fn fmt<F: Formatter>(&self, formatter: &mut F) -> fmt::Result {
+        show_row(&self.row, formatter)
+    }
+}
+
+/// With one space between two fields.
+impl<Octs: Octets> fmt::Display for Txt<Octs> {
+    ghost output = { λ rdata. Some (document_text Simple (block_of (row_pieces rdata))) };
+
+    fn fmt<W: fmt::Write>(&self, f: &mut fmt::Formatter<W>) -> fmt::Result {
+        fmt::Display::fmt(&self.display_zonefile(DisplayKind::Simple), f)
+    }
+}
