@@ -28,8 +28,8 @@ pub fn printed_documents_split()
 /// tokens are texts of their own under `Simple`, and one text with spaces under `Tabbed`. Under `Multiline` they stand between
 /// parentheses, each behind eight spaces on a line of its own, as the last of the parentheses does. `end`: a line end outside
 /// of blocks is a line feed, and what follows is as if nothing stood in front. Inside a block it adds nothing (`held`), and
-/// neither do the marks of a block there (`inner`). But under `Multiline` those of a block without tokens add nothing (`bare`),
-/// nor does a comment (`comment`); under `Multiline` that is a tab, `; ` and its text, wherever it stands (`noted`).
+/// neither do the marks of a block there (`inner`). Under `Simple` and `Tabbed` a block without tokens adds nothing (`bare`), and
+/// neither does a comment (`comment`). Under `Multiline` that is a tab, `; ` and its text, wherever it stands (`noted`).
 pub fn documents_print_by_layout()
     ensures line { (layout : Layout) (parts : List Part) → document_text layout (line_pieces parts) ≡ line_text layout parts }
     ensures lines { (layout : Layout) (lines : List (List Part)) → document_text layout (lines_pieces lines) ≡ lines_text layout lines }
