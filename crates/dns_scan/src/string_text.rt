@@ -135,7 +135,7 @@ impl Taken {
     /// What the text spells.
     fn read(text: &[u8]) -> Result<Taken, PresentationError>
         ensures ok { IfOk result (λ taken. Spells text.now (take taken.len taken.octets)) }
-        ensures err { OnErr result ((string : List ℕ) → IsStringText text.now string → ⊥) }
+        ensures err { IfErr result (λ error. IsRefused text.now (Presentation error)) }
     {
         let mut octets = [0; 255];
         let mut len = 0;
