@@ -103,8 +103,8 @@ impl<Octs: Octets> CharStr<Octs> {
     /// The string that a text spells: each symbol stands for an octet, the plain space, quote, parentheses and semicolon
     /// too.
     ///
-    /// Refused where a part of the text is no symbol, where it spells more than 255 octets, and where there is no room or no
-    /// memory for the string.
+    /// Refused by the first part of the text that is no symbol, or by a 256th symbol, whichever comes first; and where there
+    /// is no room or no memory for the string.
     pub fn from_str(alloc: Global, text: &str) -> Result<Self, FromStrError>
     where
         Octs: FromBuilder,
