@@ -54,12 +54,13 @@ fn texts_spell_strings(rt: HostRuntime) -> Result<(), Fail> {
         spelled(rt.alloc(), text.as_str()).err(),
         Some(FromStrError::Presentation(PresentationError::LongString))
     );
-    text.push_str("\\256")?;
+    let mut worse = text.clone()?;
+    worse.push_str("\\256")?;
     assert_eq!(rt;
-        spelled(rt.alloc(), text.as_str()).err(),
+        spelled(rt.alloc(), worse.as_str()).err(),
         Some(FromStrError::Presentation(PresentationError::LongString))
     );
-    text.truncate(255);
+    assert_eq!(rt; text.pop(), Some('a'));
     assert_eq!(rt; spelled(rt.alloc(), text.as_str())?.len(), 255);
     text.push_str("\\256")?;
     assert_eq!(rt;
