@@ -142,7 +142,7 @@ pub replicated : (P : ℕ → Type 0) (count c : ℕ) → P c → AllByRecursion
 replicated P zero c is = tt
 replicated P (suc count) c is = (is, replicated P count c is)
 
-each_weaker : (P Q : ℕ → Type 0) (xs : List ℕ) → ((x : ℕ) → P x → Q x) → AllByRecursion P xs → AllByRecursion Q xs
+pub each_weaker : (P Q : ℕ → Type 0) (xs : List ℕ) → ((x : ℕ) → P x → Q x) → AllByRecursion P xs → AllByRecursion Q xs
 each_weaker P Q [] more each = tt
 each_weaker P Q (x ∷ xs) more each = (more x each.0, each_weaker P Q xs more each.1)
 
@@ -288,19 +288,28 @@ read_none base progress is = subst (λ p. HasRead base p []) (sym is) none
 pub refused_text : (base : Base) (progress : Progress) (read rest text : List ℕ) (c : ℕ) (error : DecodeError) → HasRead base progress read
     → read ++ c ∷ rest ≡ text → WhyRefused base progress c error → WhyNoText base text error
 refused_text base progress read rest text c (IllegalChar other) taken whole why = (
-  (read, rest, sym whole ∙ ap (λ n. read ++ n ∷ rest) (sym why.0)),
-  λ is. why.1 (subst (λ n. IsCharacter base n) why.0 is),
-  λ octets decodes. why.2 read rest octets taken (subst (λ l. Decodes base l octets) (sym whole) decodes),
+  record { front = read; refused = c; behind = rest; written = sym whole; progress = progress; taken = taken; why = why },
+  λ octets decodes. why.3 read rest octets taken (subst (λ l. Decodes base l octets) (sym whole) decodes),
 )
-refused_text base progress read rest text c TrailingInput taken whole why = λ octets decodes.
-    why.1 read rest octets taken (subst (λ l. Decodes base l octets) (sym whole) decodes)
+refused_text base progress read rest text c TrailingInput taken whole why = (
+  record { front = read; refused = c; behind = rest; written = sym whole; progress = progress; taken = taken; why = why },
+  λ octets decodes. why.1 read rest octets taken (subst (λ l. Decodes base l octets) (sym whole) decodes),
+)
 refused_text base progress read rest text c ShortInput taken whole why = absurd why
-refused_text base progress read rest text c ShortBuf taken whole why = tt
+refused_text base progress read rest text c ShortBuf taken whole why = record {
+  front = read;
+  refused = c;
+  behind = rest;
+  written = sym whole;
+  progress = progress;
+  taken = taken;
+  why = why;
+}
 
 -- a text that is refused for itself is none
 pub refused_for_itself : (base : Base) (text : List ℕ) (error : DecodeError) → WhyNoText base text error → is_want_of_room error ≡ false
     → NoneIs base text
-refused_for_itself base text (IllegalChar c) why itself = why.2
-refused_for_itself base text TrailingInput why itself = why
-refused_for_itself base text ShortInput why itself = why
+refused_for_itself base text (IllegalChar c) why itself = why.1
+refused_for_itself base text TrailingInput why itself = why.1
+refused_for_itself base text ShortInput why itself = why.2
 refused_for_itself base text ShortBuf why itself = cc

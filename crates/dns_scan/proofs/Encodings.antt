@@ -210,7 +210,7 @@ ascii_padding Sixteen count = tt
 ascii_padding ThirtyTwoHex count = tt
 ascii_padding SixtyFour count = replicated Ascii ((4 - count) % 4) 61 (omega arith)
 
-is_ascii : (text : List ℕ) → AllByRecursion Ascii text → IsAscii text
+pub is_ascii : (text : List ℕ) → AllByRecursion Ascii text → IsAscii text
 is_ascii [] each index = omega arith
 is_ascii (c ∷ text) each zero = each.0
 is_ascii (c ∷ text) each (suc index) = is_ascii text each.1 index

@@ -13,3 +13,5 @@ pub mod Entries
 pub mod UnknownWords
 pub mod SymbolsRead
 pub mod Deciphered
+pub mod ConvertedTokens
+pub mod ConvertedEntries

@@ -3,8 +3,11 @@ use Rattle.std.proofs.Common.{◌≡◌, ℕ, ◌≤◌, List, [], ◌∷◌, �
 use Rattle.std.specs.List.{AllByRecursion, flat_map}
 use Rattle.dns_label.specs.declared.symbol.Symbol.{Symbol}
 use Rattle.dns_label.specs.Symbol.{IsSymbol, octet, spelled}
+use Rattle.std.proofs.lemmas.List.{map_push}
 use Rattle.dns_name.proofs.Parts.{symbol_one, spelled_some}
 use Rattle.dns_scan.specs.StringText.{Spells, IsStringText}
+use Rattle.dns_scan.specs.Refused.{BeginsWith, HasFault}
+use Rattle.dns_scan.specs.declared.string_text.PresentationError.TheVariants.{BadSymbol, LongString}
 
 -- the text spells what was taken of it, and then what the rest spells, and nothing else
 pub record Reading (text rest taken : List ℕ) : Type 0 where
@@ -79,3 +82,42 @@ reading_full text rest behind taken symbol reading is_symbol is full string is_t
     let less = spells_less rest behind whole.0 symbol is_symbol is whole.1 in
     let size = ap (length {A = ℕ}) (whole.2 ∙ ap (λ l. taken ++ l) less.2) in
     omega (arith, size, length-append taken (octet symbol ∷ less.0), is_text.short)
+
+-- what was taken of a text stands in front of it
+pub begins_here : (text : List ℕ) → BeginsWith text [] text
+begins_here text = record { symbols = []; each = tt; written = refl; stand = refl }
+
+each_push : (symbols : List Symbol) (symbol : Symbol) → AllByRecursion IsSymbol symbols → IsSymbol symbol → AllByRecursion IsSymbol (symbols ++ symbol ∷ [])
+each_push [] symbol each is = (is, tt)
+each_push (first ∷ symbols) symbol each is = (each.0, each_push symbols symbol each.1 is)
+
+spelled_push : (symbols : List Symbol) (symbol : Symbol) → flat_map spelled (symbols ++ symbol ∷ []) ≡ flat_map spelled symbols ++ spelled symbol
+spelled_push [] symbol = append-nil (spelled symbol)
+spelled_push (first ∷ symbols) symbol =
+    ap (λ l. spelled first ++ l) (spelled_push symbols symbol) ∙ sym (append_assoc (spelled first) (flat_map spelled symbols) (spelled symbol))
+
+pub begins_more : (text rest behind taken : List ℕ) (symbol : Symbol) → BeginsWith text taken rest → IsSymbol symbol
+    → rest ≡ spelled symbol ++ behind → BeginsWith text (taken ++ octet symbol ∷ []) behind
+begins_more text rest behind taken symbol begins is_symbol is = record {
+  symbols = begins.symbols ++ symbol ∷ [];
+  each = each_push begins.symbols symbol begins.each is_symbol;
+  written =
+      begins.written ∙ ap (λ l. flat_map spelled begins.symbols ++ l) is
+      ∙ sym (append_assoc (flat_map spelled begins.symbols) (spelled symbol) behind)
+      ∙ ap (λ l. l ++ behind) (sym (spelled_push begins.symbols symbol));
+  stand = map_push octet begins.symbols symbol ∙ ap (λ l. l ++ octet symbol ∷ []) begins.stand;
+}
+
+-- the fault that comes first
+pub begins_badly : (text rest taken : List ℕ) → BeginsWith text taken rest → length taken ≤ 255 → (rest ≡ [] → ⊥)
+    → ((symbol : Symbol) (behind : List ℕ) → IsSymbol symbol → rest ≡ spelled symbol ++ behind → ⊥) → HasFault text BadSymbol
+begins_badly text rest taken begins few some none = (taken, rest, begins, few, record { some = some; none = none })
+
+pub begins_long : (text rest behind taken : List ℕ) (symbol : Symbol) → BeginsWith text taken rest → IsSymbol symbol
+    → rest ≡ spelled symbol ++ behind → length taken ≡ 255 → HasFault text LongString
+begins_long text rest behind taken symbol begins is_symbol is full = (
+  taken ++ octet symbol ∷ [],
+  behind,
+  begins_more text rest behind taken symbol begins is_symbol is,
+  length-append taken (octet symbol ∷ []) ∙ omega (arith, full),
+)

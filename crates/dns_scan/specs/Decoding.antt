@@ -1,5 +1,5 @@
 -- A text while it is decoded.
-use Rattle.std.specs.Prelude.{◌≡◌, ◌*◌, ◌<◌, ◌≤◌, ◌⊎◌, ⊤, ℕ, List, [], ◌∷◌, ◌++◌, length, map, replicate, Option, None, Some}
+use Rattle.std.specs.Prelude.{◌≡◌, ◌*◌, ◌<◌, ◌≤◌, ◌+◌, ◌⊎◌, ℕ, List, [], ◌∷◌, ◌++◌, length, map, replicate, Option, None, Some}
 use Rattle.std.specs.List.{AllByRecursion}
 use Rattle.dns_scan.specs.declared.base.Base.{Base}
 use Rattle.dns_scan.specs.declared.base.Base.TheVariants.{Sixteen, ThirtyTwoHex, SixtyFour}
@@ -52,28 +52,41 @@ IsWhole Sixteen pads bits = bits < 4
 IsWhole ThirtyTwoHex pads bits = bits < 5
 IsWhole SixtyFour pads bits = (bits < 6) × (2 * pads ≡ bits)
 
--- Why a character is refused behind what was taken: no text that goes on with it is one of octets, unless there was no room
--- or no memory.
+-- no text that goes on with the character behind what was taken is one of octets
 abbrev pub NoneGoesOn : Base → Progress → ℕ → Type 0
 NoneGoesOn base progress c =
     (text more octets : List ℕ) → HasRead base progress text → Decodes base (text ++ c ∷ more) octets → ⊥
 
+-- the character makes an octet whole, behind so many pads and waiting bits
+abbrev pub MakesWhole : Base → ℕ → ℕ → ℕ → Type 0
+MakesWhole base pads bits c = (pads ≡ 0) × IsCharacter base c × (8 ≤ bits + width base)
+
+-- Why a character is refused behind what was taken: in front of any pad, for what it is; behind a pad, for where it stands; and
+-- where an octet is whole with it, for want of room or memory.
 abbrev pub WhyRefused : Base → Progress → ℕ → DecodeError → Type 0
-WhyRefused base progress c (IllegalChar other) = (other ≡ c) × (IsCharacter base c → ⊥) × NoneGoesOn base progress c
+WhyRefused base progress c (IllegalChar other) =
+    (other ≡ c) × (progress.pads ≡ 0) × (IsCharacter base c → ⊥) × NoneGoesOn base progress c
 WhyRefused base progress c TrailingInput = (0 < progress.pads) × NoneGoesOn base progress c
 WhyRefused base progress c ShortInput = ⊥
-WhyRefused base progress c ShortBuf = ⊤
+WhyRefused base progress c ShortBuf = MakesWhole base progress.pads (length progress.waiting) c
 
 -- why a text is refused as a whole
 abbrev pub NoneIs : Base → List ℕ → Type 0
 NoneIs base text = (octets : List ℕ) → Decodes base text octets → ⊥
 
--- the character is one of the text
-abbrev pub Stands : List ℕ → ℕ → Type 0
-Stands text c = (front : List ℕ) × (behind : List ℕ) × (text ≡ front ++ c ∷ behind)
+-- the text was taken up to a character, which is refused with this error
+pub record StopsWith (base : Base) (text : List ℕ) (error : DecodeError) : Type 0 where
+  pub front : List ℕ
+  pub refused : ℕ
+  pub behind : List ℕ
+  pub written : text ≡ front ++ refused ∷ behind
+  pub progress : Progress
+  pub taken : HasRead base progress front
+  pub why : WhyRefused base progress refused error
 
+-- the first character that is refused gives the error, and where there is none, the end of the text
 abbrev pub WhyNoText : Base → List ℕ → DecodeError → Type 0
-WhyNoText base text (IllegalChar c) = Stands text c × (IsCharacter base c → ⊥) × NoneIs base text
-WhyNoText base text TrailingInput = NoneIs base text
-WhyNoText base text ShortInput = NoneIs base text
-WhyNoText base text ShortBuf = ⊤
+WhyNoText base text (IllegalChar c) = StopsWith base text (IllegalChar c) × NoneIs base text
+WhyNoText base text TrailingInput = StopsWith base text TrailingInput × NoneIs base text
+WhyNoText base text ShortInput = (progress : Progress) × HasRead base progress text × NoneIs base text
+WhyNoText base text ShortBuf = StopsWith base text ShortBuf

@@ -2,7 +2,9 @@
 ghost use Rattle.std.specs.Prelude.{◌≡◌, ◌∷◌, ◌++◌, List, ℕ, [], None, Some, Err, false, IfOk, IfErr, OnOk, OnErr, string_bytes};
 ghost use Rattle.std.specs.Str.{chars};
 ghost use Rattle.dns_scan.specs.Encodings.{encoded_16, Decodes16, WhyNoText16, HasRead16, WhyRefused16, NoneIs16};
-ghost use Rattle.dns_scan.specs.Converted.{Deciphers16, DeciphersEntry16, HasDeciphered16, HasDecipheredEntry16};
+ghost use Rattle.dns_scan.specs.Converted.{Deciphers16, DeciphersEntry16, HasDeciphered16, HasDecipheredEntry16, octets_given};
+ghost use Rattle.dns_label.specs.declared.symbol.Symbol.{Symbol};
+ghost use Rattle.dns_scan.specs.declared.entry_symbol.EntrySymbol.{EntrySymbol};
 ghost use Rattle.dns_scan.specs.Decoding.{Held, Progress};
 ghost use Rattle.dns_scan.specs.Token.{IsEntry, IsWord, IsEnding, SameNames};
 ghost use Rattle.dns_scan.specs.declared.decode_error.DecodeError.{DecodeError};
@@ -120,7 +122,8 @@ impl<Builder: OctetsBuilder> Decoder<Builder> {
     }
 }
 
-/// A converter of symbols, each of which is a plain character of the text.
+/// A converter of symbols, each of which is a plain character of the text. It takes no memory, and is never refused for want
+/// of it.
 ///
 /// A contract sees the bits that wait for others, and the pads.
 #[derive(Debug, Drop)]
@@ -152,11 +155,23 @@ impl<Error: ScannerError> ConvertSymbols<Symbol, Error> for SymbolConverter {
 
     ghost converts = { Deciphers16 };
 
-    fn process_symbol(&mut self, symbol: Symbol) -> Result<Option<DecodedOctet>, Error> {
+    fn process_symbol(&mut self, symbol: Symbol) -> Result<Option<DecodedOctet>, Error>
+        ensures ok { IfOk result (λ given. (symbols : List Symbol) (octets : List ℕ) → HasDeciphered16 self.old symbols octets
+            → HasDeciphered16 self.new (symbols ++ symbol ∷ []) (octets ++ octets_given ⟦<DecodedOctet as Octets>⟧.list given)) }
+        ensures err { IfErr result (λ error. Error.is_short error ≡ false → (symbols : List Symbol) (octets : List ℕ) → HasDeciphered16 self.old symbols octets
+            → (more : List Symbol) (all : List ℕ) → Deciphers16 (symbols ++ symbol ∷ more) all → ⊥) }
+        ensures itself { IfErr result (λ error. Error.is_short error ≡ false) }
+    {
         self.group.take_symbol(Base::Sixteen, symbol)
     }
 
-    fn process_tail(&mut self) -> Result<Option<DecodedOctet>, Error> {
+    fn process_tail(&mut self) -> Result<Option<DecodedOctet>, Error>
+        ensures ok { IfOk result (λ given. (symbols : List Symbol) (octets : List ℕ) → HasDeciphered16 self.old symbols octets
+            → Deciphers16 symbols (octets ++ octets_given ⟦<DecodedOctet as Octets>⟧.list given)) }
+        ensures err { IfErr result (λ error. Error.is_short error ≡ false → (symbols : List Symbol) (octets : List ℕ) → HasDeciphered16 self.old symbols octets
+            → (all : List ℕ) → Deciphers16 symbols all → ⊥) }
+        ensures itself { IfErr result (λ error. Error.is_short error ≡ false) }
+    {
         self.group.end_symbols(Base::Sixteen)
     }
 }
@@ -169,14 +184,26 @@ impl<Error: ScannerError> ConvertSymbols<EntrySymbol, Error> for SymbolConverter
 
     ghost converts = { DeciphersEntry16 };
 
-    fn process_symbol(&mut self, symbol: EntrySymbol) -> Result<Option<DecodedOctet>, Error> {
+    fn process_symbol(&mut self, symbol: EntrySymbol) -> Result<Option<DecodedOctet>, Error>
+        ensures ok { IfOk result (λ given. (symbols : List EntrySymbol) (octets : List ℕ) → HasDecipheredEntry16 self.old symbols octets
+            → HasDecipheredEntry16 self.new (symbols ++ symbol ∷ []) (octets ++ octets_given ⟦<DecodedOctet as Octets>⟧.list given)) }
+        ensures err { IfErr result (λ error. Error.is_short error ≡ false → (symbols : List EntrySymbol) (octets : List ℕ) → HasDecipheredEntry16 self.old symbols octets
+            → (more : List EntrySymbol) (all : List ℕ) → DeciphersEntry16 (symbols ++ symbol ∷ more) all → ⊥) }
+        ensures itself { IfErr result (λ error. Error.is_short error ≡ false) }
+    {
         match symbol {
             EntrySymbol::Symbol(symbol) => self.group.take_symbol(Base::Sixteen, symbol),
             EntrySymbol::EndOfToken => Ok(None),
         }
     }
 
-    fn process_tail(&mut self) -> Result<Option<DecodedOctet>, Error> {
+    fn process_tail(&mut self) -> Result<Option<DecodedOctet>, Error>
+        ensures ok { IfOk result (λ given. (symbols : List EntrySymbol) (octets : List ℕ) → HasDecipheredEntry16 self.old symbols octets
+            → DeciphersEntry16 symbols (octets ++ octets_given ⟦<DecodedOctet as Octets>⟧.list given)) }
+        ensures err { IfErr result (λ error. Error.is_short error ≡ false → (symbols : List EntrySymbol) (octets : List ℕ) → HasDecipheredEntry16 self.old symbols octets
+            → (all : List ℕ) → DeciphersEntry16 symbols all → ⊥) }
+        ensures itself { IfErr result (λ error. Error.is_short error ≡ false) }
+    {
         self.group.end_symbols(Base::Sixteen)
     }
 }

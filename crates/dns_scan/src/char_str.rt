@@ -1,5 +1,5 @@
 //! Character strings (RFC 1035 3.3).
-ghost use Rattle.std.specs.Prelude.{◌≡◌, ◌+◌, ◌≤◌, ◌↔◌, List, ℕ, [], length, take, fold, IsTrue, IsOk, IfOk, OnOk, OnErr, nat_eq, Some, Err};
+ghost use Rattle.std.specs.Prelude.{◌≡◌, ◌+◌, ◌≤◌, ◌↔◌, List, ℕ, [], length, take, fold, IsTrue, IsOk, IfOk, IfErr, OnOk, OnErr, nat_eq, Some, Err};
 ghost use Rattle.std.specs.Ordering.{on, as_partial_cmp, nat_cmp};
 ghost use Rattle.std.specs.Cmp.Lexicographic.{pointwise, slice_cmp};
 ghost use Rattle.std.specs.Cmp.Rules.{comparing, hashing};
@@ -7,6 +7,7 @@ ghost use Rattle.std.specs.Hash as fed;
 ghost use Rattle.std.proofs.Common.{rules};
 ghost use Rattle.dns_octets.specs.Builder.{IsPast};
 ghost use Rattle.dns_octets.specs.declared.error.AppendError.TheVariants.{ShortBuf, BadLength};
+ghost use Rattle.dns_octets.specs.declared.error.ParseError.TheVariants.{ShortInput};
 ghost use Rattle.dns_scan.specs.CharStr.{string_wire, StartsWithString, lower};
 ghost use Rattle.dns_octets.specs.Parser.{GoesOn, rest_of};
 
@@ -136,11 +137,12 @@ impl<'a> CharStr<&'a [u8]> {
 
     /// Reads a string behind its length octet, and leaves the parser behind it.
     ///
-    /// Refused where the octets end before it does, and the parser then stays where it is.
+    /// Refused with `ShortInput` where the octets end before it does, and the parser then stays where it is.
     pub fn parse(parser: &mut Parser<'a>) -> Result<Self, ParseError>
         ensures ok { IfOk result (λ string. StartsWithString (rest_of parser.old) string (rest_of parser.new)) }
         ensures place { IfOk result (λ string. GoesOn parser.old parser.new (length (string_wire string))) }
         ensures err { OnErr result ((string rest : List ℕ) → StartsWithString (rest_of parser.old) string rest → ⊥) }
+        ensures ends { IfErr result (λ error. error ≡ ShortInput) }
         ensures stays { OnErr result (parser.new ≡ parser.old) }
     {
         let front = parser.peek(1)?;
@@ -156,6 +158,7 @@ impl<'a> CharStr<&'a [u8]> {
         ensures ok { OnOk result ((string : List ℕ) × StartsWithString (rest_of parser.old) string (rest_of parser.new)
             × GoesOn parser.old parser.new (length (string_wire string))) }
         ensures err { OnErr result ((string rest : List ℕ) → StartsWithString (rest_of parser.old) string rest → ⊥) }
+        ensures ends { IfErr result (λ error. error ≡ ShortInput) }
         ensures stays { OnErr result (parser.new ≡ parser.old) }
     {
         CharStr::parse(parser)?;

@@ -72,7 +72,7 @@ impl<Builder: OctetsBuilder> CharStrBuilder<Builder> {
     pub fn as_slice(&self) -> &[u8]
         ensures { result.now ≡ octets_in Builder.list self.now }
     {
-        self.builder.octets()
+        self.octets()
     }
 
     /// How many octets there are, from 0 to 255.

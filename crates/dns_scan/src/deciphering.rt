@@ -22,7 +22,8 @@ impl Octets for DecodedOctet {
 }
 
 impl Group {
-    /// Takes the next symbol, which has to be a plain character, and gives the octet that is whole with it, if any.
+    /// Takes the next symbol, which has to be a plain character, and gives the octet that is whole with it, if any. It takes no
+    /// memory.
     pub(crate) fn take_symbol<Error: ScannerError>(
         &mut self,
         base: Base,
@@ -32,6 +33,7 @@ impl Group {
             → HasDeciphered base self.new (symbols ++ symbol ∷ []) (octets ++ octets_given ⟦<DecodedOctet as Octets>⟧.list given)) }
         ensures err { IfErr result (λ error. Error.is_short error ≡ false → (symbols : List Symbol) (octets : List ℕ) → HasDeciphered base self.old symbols octets
             → (more : List Symbol) (all : List ℕ) → Deciphers base (symbols ++ symbol ∷ more) all → ⊥) }
+        ensures itself { IfErr result (λ error. Error.is_short error ≡ false) }
     {
         let Symbol::Char(character) = symbol else {
             return Err(Error::custom("escaped character"));
@@ -52,6 +54,7 @@ impl Group {
             → Deciphers base symbols (octets ++ octets_given ⟦<DecodedOctet as Octets>⟧.list given)) }
         ensures err { IfErr result (λ error. (symbols : List Symbol) (octets : List ℕ) → HasDeciphered base self.now symbols octets
             → (all : List ℕ) → Deciphers base symbols all → ⊥) }
+        ensures itself { IfErr result (λ error. Error.is_short error ≡ false) }
     {
         if self.is_whole(base) {
             return Ok(None);

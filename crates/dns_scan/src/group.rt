@@ -1,6 +1,7 @@
 //! What is held of a text of an encoding until more of it comes.
-ghost use Rattle.std.specs.Prelude.{◌≡◌, ◌+◌, ◌*◌, ◌<◌, ◌≤◌, ◌↔◌, List, ℕ, [], ◌∷◌, ◌++◌, IsTrue, IfOk, IfErr, OnOk, length};
-ghost use Rattle.dns_scan.specs.Decoding.{Held, HasRead, IsWhole, WhyRefused, progress_of, octet_in};
+ghost use Rattle.std.specs.Prelude.{◌≡◌, ◌+◌, ◌*◌, ◌<◌, ◌≤◌, ◌↔◌, List, ℕ, [], ◌∷◌, ◌++◌, IsTrue, IfOk, IfErr, OnOk, OnErr, OnSome, false, length};
+ghost use Rattle.dns_scan.specs.ScanError.{is_want_of_room};
+ghost use Rattle.dns_scan.specs.Decoding.{Held, HasRead, IsWhole, MakesWhole, WhyRefused, progress_of, octet_in};
 ghost use Rattle.dns_scan.specs.declared.base.Base.{Base};
 ghost use Rattle.dns_scan.specs.declared.base.Base.TheVariants.{SixtyFour};
 
@@ -41,7 +42,10 @@ impl Group {
     pub(crate) fn take(&mut self, base: Base, character: char) -> Result<Option<u8>, DecodeError>
         ensures ok { IfOk result (λ octet. (octets text : List ℕ) → HasRead base (progress_of octets self.old) text
             → HasRead base (progress_of (octets ++ octet_in octet) self.new) (text ++ character ∷ [])) }
+        ensures whole { IfOk result (λ octet. OnSome octet (MakesWhole base self.old.pads (length self.old.waiting) character)) }
         ensures why { IfErr result (λ error. (octets : List ℕ) → WhyRefused base (progress_of octets self.old) character error) }
+        ensures itself { IfErr result (λ error. is_want_of_room error ≡ false) }
+        ensures stays { OnErr result (self.new ≡ self.old) }
     {
         if base.is_pad(character) {
             self.push_pad()?;
@@ -54,6 +58,8 @@ impl Group {
     fn push_pad(&mut self) -> Result<(), DecodeError>
         ensures ok { OnOk result ((octets text : List ℕ) → HasRead SixtyFour (progress_of octets self.old) text → HasRead SixtyFour (progress_of octets self.new) (text ++ 61 ∷ [])) }
         ensures why { IfErr result (λ error. (octets : List ℕ) → WhyRefused SixtyFour (progress_of octets self.old) 61 error) }
+        ensures itself { IfErr result (λ error. is_want_of_room error ≡ false) }
+        ensures stays { OnErr result (self.new ≡ self.old) }
     {
         if pad_fits(self.pads, self.waiting.len()) {
             self.pads += 1;
@@ -70,7 +76,10 @@ impl Group {
         requires { base ≡ SixtyFour → character ≡ 61 → ⊥ }
         ensures ok { IfOk result (λ octet. (octets text : List ℕ) → HasRead base (progress_of octets self.old) text
             → HasRead base (progress_of (octets ++ octet_in octet) self.new) (text ++ character ∷ [])) }
+        ensures whole { IfOk result (λ octet. OnSome octet (MakesWhole base self.old.pads (length self.old.waiting) character)) }
         ensures why { IfErr result (λ error. (octets : List ℕ) → WhyRefused base (progress_of octets self.old) character error) }
+        ensures itself { IfErr result (λ error. is_want_of_room error ≡ false) }
+        ensures stays { OnErr result (self.new ≡ self.old) }
     {
         if self.pads > 0 {
             return Err(DecodeError::TrailingInput);

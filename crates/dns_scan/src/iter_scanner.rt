@@ -1,5 +1,5 @@
 //! A scanner over tokens that are given as texts.
-ghost use Rattle.std.specs.Prelude.{◌≡◌, ◌≤◌, ◌↔◌, List, ℕ, [], ◌∷◌, false, length, map, drop, IsTrue, IfOk, IfErr, IfSome, IfNone, OnErr};
+ghost use Rattle.std.specs.Prelude.{◌≡◌, ◌≤◌, ◌↔◌, List, ℕ, [], ◌∷◌, false, true, length, map, drop, IsTrue, IfOk, IfErr, IfSome, IfNone, OnErr};
 ghost use Rattle.std.specs.List.{list_all};
 ghost use Rattle.std.specs.Iterator.{IsFinite};
 ghost use Rattle.std.specs.Iterator.Runs.{WholeRun};
@@ -206,6 +206,7 @@ impl<'a> Scanner for IterScanner<'a> {
 fn string_of(alloc: Global, text: &str) -> Result<CharStr<Vec<u8>>, StrError>
     ensures ok { IfOk result (λ string. IsStringText text.now string) }
     ensures err { IfErr result (λ error. is_short error ≡ false → (string : List ℕ) → IsStringText text.now string → ⊥) }
+    ensures short { IfErr result (λ error. is_short error ≡ true → (string : List ℕ) × IsStringText text.now string) }
 {
     match CharStr::from_str(alloc, text) {
         Ok(string) => Ok(string),

@@ -45,22 +45,35 @@ pub enum StrError {
 
 impl ScannerError for StrError {
     ghost use Rattle.dns_scan.specs.StrError.{is_short};
+    ghost use Rattle.dns_scan.specs.declared.scanner_error.StrError.TheVariants.{Custom, EndOfEntry, ShortBuf, TrailingTokens};
 
     ghost is_short = { is_short };
 
-    fn custom(message: &'static str) -> Self {
+    fn custom(message: &'static str) -> Self
+        ensures itself { is_short result ≡ false }
+        ensures is { result ≡ Custom message.entry }
+    {
         StrError::Custom(message)
     }
 
-    fn end_of_entry() -> Self {
+    fn end_of_entry() -> Self
+        ensures itself { is_short result ≡ false }
+        ensures is { result ≡ EndOfEntry }
+    {
         StrError::EndOfEntry
     }
 
-    fn short_buf() -> Self {
+    fn short_buf() -> Self
+        ensures short { is_short result ≡ true }
+        ensures is { result ≡ ShortBuf }
+    {
         StrError::ShortBuf
     }
 
-    fn trailing_tokens() -> Self {
+    fn trailing_tokens() -> Self
+        ensures itself { is_short result ≡ false }
+        ensures is { result ≡ TrailingTokens }
+    {
         StrError::TrailingTokens
     }
 }

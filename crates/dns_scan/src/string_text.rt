@@ -103,8 +103,8 @@ impl<Octs: Octets> CharStr<Octs> {
     /// The string that a text spells: each symbol stands for an octet, the plain space, quote, parentheses and semicolon
     /// too.
     ///
-    /// Refused where a part of the text is no symbol, where it spells more than 255 octets, and where there is no room or no
-    /// memory for the string.
+    /// Refused by the first part of the text that is no symbol, or by a 256th symbol, whichever comes first; and where there
+    /// is no room or no memory for the string.
     pub fn from_str(alloc: Global, text: &str) -> Result<Self, FromStrError>
     where
         Octs: FromBuilder,
@@ -135,7 +135,7 @@ impl Taken {
     /// What the text spells.
     fn read(text: &[u8]) -> Result<Taken, PresentationError>
         ensures ok { IfOk result (λ taken. Spells text.now (take taken.len taken.octets)) }
-        ensures err { OnErr result ((string : List ℕ) → IsStringText text.now string → ⊥) }
+        ensures err { IfErr result (λ error. IsRefused text.now (Presentation error)) }
     {
         let mut octets = [0; 255];
         let mut len = 0;

@@ -1,6 +1,6 @@
 //! Character strings: outside examples (RFC 1035 3.3 and 5.1), error texts, generic calls at concrete types.
 use crate::{CharStr, CharStrBuilder, CharStrError, FromStrError, PresentationError};
-use dns_name::{AppendError, CanonicalOrd, Compose, OctetsBuilder, OctetsFrom, Parser};
+use dns_name::{AppendError, CanonicalOrd, Compose, OctetsBuilder, OctetsFrom, ParseError, Parser};
 use std::alloc::Global;
 use std::cmp::Ordering;
 use std::hash::{DefaultHasher, Hash, Hasher};
@@ -54,8 +54,19 @@ fn texts_spell_strings(rt: HostRuntime) -> Result<(), Fail> {
         spelled(rt.alloc(), text.as_str()).err(),
         Some(FromStrError::Presentation(PresentationError::LongString))
     );
+    let mut worse = text.clone()?;
+    worse.push_str("\\256")?;
+    assert_eq!(rt;
+        spelled(rt.alloc(), worse.as_str()).err(),
+        Some(FromStrError::Presentation(PresentationError::LongString))
+    );
     assert_eq!(rt; text.pop(), Some('a'));
     assert_eq!(rt; spelled(rt.alloc(), text.as_str())?.len(), 255);
+    text.push_str("\\256")?;
+    assert_eq!(rt;
+        spelled(rt.alloc(), text.as_str()).err(),
+        Some(FromStrError::Presentation(PresentationError::BadSymbol))
+    );
     Ok(())
 }
 
@@ -66,9 +77,20 @@ fn strings_are_read_behind_their_number(rt: HostRuntime) -> Result<(), Fail> {
     assert_eq!(rt; string.as_slice(), b"ab".as_slice());
     assert_eq!(rt; CharStr::skip(&mut parser), Ok(()));
     assert_eq!(rt; parser.pos(), 4);
-    assert!(rt; CharStr::parse(&mut parser).is_err());
-    assert!(rt; CharStr::skip(&mut parser).is_err());
+    assert_eq!(rt;
+        CharStr::parse(&mut parser).err(),
+        Some(ParseError::ShortInput)
+    );
+    assert_eq!(rt;
+        CharStr::skip(&mut parser).err(),
+        Some(ParseError::ShortInput)
+    );
     assert_eq!(rt; parser.pos(), 4);
+    let mut parser = Parser::from_ref(b"");
+    assert_eq!(rt;
+        CharStr::parse(&mut parser).err(),
+        Some(ParseError::ShortInput)
+    );
     let mut target = Vec::new(rt.alloc());
     string.compose(&mut target)?;
     assert_eq!(rt; target.as_slice(), b"\x02ab".as_slice());

@@ -84,6 +84,11 @@ fn other_texts_are_refused(rt: HostRuntime) {
         why_not_64(rt.alloc(), "Zg==="),
         Some(DecodeError::TrailingInput)
     );
+    assert_eq!(rt;
+        why_not_64(rt.alloc(), "Zg=*"),
+        Some(DecodeError::TrailingInput)
+    );
+    assert_eq!(rt; why_not_64(rt.alloc(), "Zg*="), illegal('*'));
 }
 
 #[test]

@@ -112,6 +112,24 @@ fn tokens_are_converted(rt: HostRuntime) -> Result<(), Fail> {
     Ok(())
 }
 
+/// What the token is converted to in base 16, and what its text is decoded to.
+fn both_16(alloc: Global, token: &str) -> Result<(Option<Vec<u8>>, Option<Vec<u8>>), StrError> {
+    let converted = over(alloc, token)?.convert_token(base16::SymbolConverter::new());
+    Ok((converted.ok(), base16::decode(alloc, token).ok()))
+}
+
+#[test]
+fn a_token_is_converted_as_its_text_is_decoded(rt: HostRuntime) -> Result<(), Fail> {
+    let (converted, decoded) = both_16(rt.alloc(), "666F6f62")?;
+    assert_eq!(rt; converted.as_deref(), Some(b"foob".as_slice()));
+    assert_eq!(rt; decoded.as_deref(), Some(b"foob".as_slice()));
+    for token in ["6", "6g", "\\0546", "6=", "\u{e9}9"] {
+        let (converted, decoded) = both_16(rt.alloc(), token)?;
+        assert!(rt; converted.is_none() && decoded.is_none());
+    }
+    Ok(())
+}
+
 #[test]
 fn entries_are_converted(rt: HostRuntime) -> Result<(), Fail> {
     let foob = b"foob".as_slice();

@@ -6,7 +6,7 @@ use Rattle.std.proofs.lemmas.List.{nil_from_length}
 use Rattle.std.proofs.lemmas.Result.{err_from_is_err_and, IfOk-weaker}
 use Rattle.dns_scan.proofs.Tokens.{if_err_weaker}
 use Rattle.dns_scan.specs.Base.{Decodes}
-use Rattle.dns_scan.specs.Decoding.{NoneIs}
+use Rattle.dns_scan.specs.Decoding.{Progress, HasRead, NoneIs}
 use Rattle.dns_scan.proofs.Decoded.{refused_text}
 use Rattle.dns_scan.proofs.decoding.decode_into.Goals as goal
 
@@ -46,9 +46,10 @@ pub returns-clause-why : goal.returns-clause-why
 returns-clause-why g c =
     let at = c.loop-character.invariant in
     let whole = whole_text at.0 _ c.args.text.now at.2 (nil_from_length _ c.in-None.ensures.steps.0.0) in
-    let P : List ℕ → Type 0 = λ l. NoneIs c.args.base l in
+    let P : List ℕ → Type 0 = λ l. (progress : Progress) × HasRead c.args.base progress l × NoneIs c.args.base l in
     if_err_weaker c.finish.result _ _
-    (λ error short. let is = short at.1.sound in rw is.0 (subst P whole (is.1 at.0 at.1))) c.finish.ensures.short
+    (λ error short.
+    let is = short at.1.sound in rw is.0 (subst P whole (c.loop-character.decoding, at.1, is.1 at.0 at.1))) c.finish.ensures.short
 
 pub returns-clause-ok : goal.returns-clause-ok
 returns-clause-ok g c =

@@ -1,6 +1,6 @@
-use Rattle.std.proofs.Common.{◌≡◌, ◌+◌, ◌≤◌, ℕ, List, [], ◌∷◌, ◌++◌, length, refl, sym, ◌∙◌, ap, arith, append-nil, length-append}
+use Rattle.std.proofs.Common.{◌≡◌, ◌+◌, ◌≤◌, ◌<◌, ℕ, List, [], ◌∷◌, ◌++◌, length, refl, sym, ◌∙◌, ap, subst, arith, append-nil, length-append}
 use Rattle.dns_scan.specs.Bits.{bits}
-use Rattle.dns_scan.specs.Base.{width}
+use Rattle.dns_scan.specs.Base.{width, size}
 use Rattle.dns_scan.specs.Decoding.{progress_of}
 use Rattle.dns_scan.specs.declared.base.Base.{Base}
 use Rattle.dns_scan.specs.declared.base.Base.TheVariants.{Sixteen, ThirtyTwoHex, SixtyFour}
@@ -34,6 +34,7 @@ returns-then-self-gt0-clause-why c = λ octets.
 pub returns-in_default-clause-why : goal.returns-in_default-clause-why
 returns-in_default-clause-why c = λ octets. (
   refl,
+  (let pads = ap (λ p. p.pads) c.self.view_is in omega arith),
   c.in_default.ensures.none,
   no_character c.args.base (progress_of octets c.args.self.now) c.args.character c.in_default.ensures.none c.requires,
 )
@@ -49,6 +50,25 @@ returns-then-len-lt8-clause-ok c = λ octets text read.
     (ap (λ p. p.waiting ++ bits (width c.args.base) c.in-Some.number) (sym view)
     ∙ ap (λ n. c.self.inside.waiting ++ bits n c.in-Some.number) (sym c.width.ensures) ∙ sym c.push.ensures)
     (omega arith) tt
+
+pub returns-clause-whole : goal.returns-clause-whole
+returns-clause-whole c =
+    let view = c.self.view_is in
+    let pads = ap (λ p. p.pads) view in
+    let waits = ap (λ p. length p.waiting) view in
+    let at = c.in-Some.ensures.found in
+    let wide = c.width.ensures in
+    let counted = c.len.ensures in
+    let pushed = ap (length {A = ℕ}) c.push.ensures in (
+      omega arith,
+      subst (λ n. n < size c.args.base) at.0 at.1,
+      omega (
+        arith,
+        pushed,
+        length-append c.self.inside.waiting (bits c.width.result c.in-Some.number),
+        length-bits c.width.result c.in-Some.number,
+      ),
+    )
 
 pub invariant_of-self-2 : goal.invariant_of-self-2
 invariant_of-self-2 c =

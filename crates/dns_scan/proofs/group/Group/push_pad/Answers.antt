@@ -21,6 +21,7 @@ returns-clause-why c = λ octets.
     let waits = ap (λ p. length p.waiting) view in
     let counted = c.len.ensures in (
       refl,
+      omega arith,
       no_pad,
       no_more_pads (progress_of octets c.args.self.now)
           (λ fits. let bad = c.if-pad_fits.ensures.1 (omega (arith, fits.0), omega (arith, fits.1)) in cc),
