@@ -6,3 +6,4 @@ pub mod Written
 pub mod Reading
 pub mod Scanned
 pub mod Shown
+pub mod Held

@@ -1,3 +1,5 @@
+mod convert;
+
 use super::*;
 use dns_name::{AppendError, Name, ParseError, ParsedName, Parser};
 use dns_text::{CharStr, IterScanner, Scanner, StrError};
