@@ -7,3 +7,4 @@ pub mod Reading
 pub mod Scanned
 pub mod Shown
 pub mod Held
+pub mod Tried

@@ -20,4 +20,4 @@ pub use field::{Compressible, FieldValue, Tag, Uncompressed};
 pub use read::{ReadError, ReadField, ReadRow, parse_row};
 pub use row::{Last, LastValue, Rest16, Rest64, RestText, Row};
 pub use scan::{ScanField, ScanRow, scan_row};
-pub use show::{ShowField, ShowRow, show_row};
+pub use show::{ShowField, ShowRow, SoaRow, show_row, show_soa_row};

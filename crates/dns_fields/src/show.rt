@@ -5,9 +5,11 @@ ghost use Rattle.dns_text.specs.Writing.{Adds};
 ghost use Rattle.dns_fields.specs.Shown.{field_pieces, row_pieces};
 
 mod leaves;
+mod soa;
 
 use crate::{FieldValue, Row};
 use dns_text::Formatter;
+pub use soa::{SoaRow, show_soa_row};
 use std::fmt;
 
 /// A field that is printed.
