@@ -1,7 +1,7 @@
 //! Data that is read from tokens (RFC 1035 5.1).
-use super::{composed, name};
+use super::{is_written, name};
 use crate::{Cname, Mb, Md, Mf, Mg, Minfo, Mr, Mx, Ns, Ptr, Rp, Soa, Srv};
-use dns_name::{ComposeRecordData, Serial, ToName, Ttl};
+use dns_name::{Serial, ToName, Ttl};
 use dns_text::{IterScanner, Scanner, StrError};
 use std::alloc::Global;
 use std::test::Fail;
@@ -11,14 +11,6 @@ fn over(alloc: Global, words: &str) -> Result<IterScanner<'_>, StrError> {
         Ok(scanner) => Ok(scanner),
         Err(_) => Err(StrError::ShortBuf),
     }
-}
-
-/// Whether the data is written as these octets behind its length.
-fn is_written<Data: ComposeRecordData>(alloc: Global, rdata: &Data, octets: &[u8]) -> bool {
-    let Ok(all) = composed(alloc, rdata) else {
-        return false
-    };
-    all.as_slice().starts_with(octets)
 }
 
 #[test]
