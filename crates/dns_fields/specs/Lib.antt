@@ -7,3 +7,5 @@ pub mod Reading
 pub mod Scanned
 pub mod Shown
 pub mod Strings
+pub mod Held
+pub mod Tried

@@ -41,3 +41,22 @@ field_pieces field = map Token (field_tokens field)
 
 abbrev pub row_pieces : List Field → List Piece
 row_pieces row = map Token (row_tokens row)
+
+-- the comments behind the fields of a type, from the left; None behind a field without one
+abbrev pub comments_of : ℕ → List (Option (List ℕ))
+comments_of rtype =
+    if rtype == 6 then
+    None ∷ None ∷ Some (codes "serial") ∷ Some (codes "refresh") ∷ Some (codes "retry") ∷ Some (codes "expire")
+    ∷ Some (codes "minimum") ∷ []
+    else []
+
+-- the pieces of a row, each comment behind its field
+abbrev pub commented : List (Option (List ℕ)) → List Field → List Piece
+commented [] row = row_pieces row
+commented (comment ∷ comments) [] = []
+commented (None ∷ comments) (field ∷ row) = field_pieces field ++ commented comments row
+commented (Some comment ∷ comments) (field ∷ row) = field_pieces field ++ Comment comment ∷ commented comments row
+
+-- the pieces of a type's data
+abbrev pub data_pieces : ℕ → List Field → List Piece
+data_pieces rtype row = commented (comments_of rtype) row

@@ -5,6 +5,7 @@
 #![tactic(auto)]
 
 mod compose;
+mod convert;
 mod field;
 mod read;
 mod row;
@@ -14,8 +15,9 @@ mod show;
 mod tests;
 
 pub use compose::{compose_canonical_row, compose_row, row_len};
+pub use convert::{ConvertField, ConvertRow};
 pub use field::{Compressible, FieldValue, Tag, Uncompressed};
 pub use read::{ReadError, ReadField, ReadRow, parse_row};
 pub use row::{Last, LastValue, Rest16, Rest64, RestText, Row, Strings, StringsIter};
 pub use scan::{ScanField, ScanRow, scan_row};
-pub use show::{ShowField, ShowRow, show_row};
+pub use show::{ShowField, ShowRow, SoaRow, show_row, show_soa_row};

@@ -7,9 +7,11 @@ ghost use Rattle.dns_fields.specs.Shown.{field_pieces, row_pieces};
 mod leaves;
 mod quoted;
 mod rests;
+mod soa;
 
 use crate::{FieldValue, Row};
 use dns_text::Formatter;
+pub use soa::{SoaRow, show_soa_row};
 use std::fmt;
 
 /// A field that is printed.

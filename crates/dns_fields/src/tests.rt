@@ -1,5 +1,6 @@
 mod show;
 mod strings;
+mod convert;
 
 use super::*;
 use dns_name::{AppendError, Name, ParseError, ParsedName, Parser};

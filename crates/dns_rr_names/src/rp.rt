@@ -1,27 +1,33 @@
 //! Data of type RP (RFC 1183 2.2).
-ghost use Rattle.std.specs.Prelude.{◌≡◌, ◌==◌, List, [], ◌∷◌, Some, IfOk, OnOk, OnErr};
+ghost use Rattle.std.specs.Prelude.{◌≡◌, ◌==◌, List, [], ◌∷◌, false, Some, Err, IfOk, IfErr, OnOk, OnErr};
 ghost use Rattle.std.specs.Ordering.{as_partial_cmp};
 ghost use Rattle.std.proofs.Common.{refl};
 ghost use Rattle.dns_fields.specs.Fields.{Field, uncompressed, canonical_octets, field_at};
 ghost use Rattle.dns_fields.specs.Alike.{keys, rows_eq, rows_cmp, canonical_rows_cmp};
 ghost use Rattle.dns_fields.specs.AlikeLaws.{rows_equivalent, rows_partly_equivalent, rows_total, rows_ties, rows_order, rows_alike};
+ghost use Rattle.dns_fields.specs.Held.{OneIsPast};
 ghost use Rattle.dns_fields.specs.Reading.{ReadsRow, NoRow};
+ghost use Rattle.dns_fields.specs.Scanned.{ScansData, NoDataScans};
 ghost use Rattle.dns_fields.specs.Shown.{row_pieces};
 ghost use Rattle.dns_fields.specs.Written.{written_parts};
 ghost use Rattle.dns_name.specs.RecordData.{IsAtEnd};
+ghost use Rattle.dns_octets.specs.declared.error.AppendError.TheVariants.{ShortBuf, BadLength};
 ghost use Rattle.dns_octets.specs.Parser.{octets_of, place_of};
+ghost use Rattle.dns_scan.specs.Token.{IsEnding, SameNames};
 ghost use Rattle.dns_text.specs.Document.{document_text};
 ghost use Rattle.dns_text.specs.Document.Layout.{Simple};
 ghost use Rattle.dns_text.specs.Documents.{block_of};
 
 use dns_fields::{
-    Row, Uncompressed, compose_canonical_row, compose_row, parse_row, row_len, show_row,
+    ConvertRow, Row, Uncompressed, compose_canonical_row, compose_row, parse_row, row_len,
+    scan_row, show_row,
 };
 use dns_name::{
-    AppendError, CanonicalOrd, ComposeRecordData, Composer, ParseError, ParseRecordData,
-    ParsedName, Parser, RecordData, Rtype, ToName,
+    AppendError, CanonicalOrd, ComposeRecordData, Composer, EmptyBuilder, FlattenInto, FromBuilder,
+    Name, OctetsFrom, ParseError, ParseRecordData, ParsedName, Parser, RecordData, Rtype, ToName,
 };
-use dns_text::{DisplayKind, Formatter, ZonefileFmt};
+use dns_text::{DisplayKind, Formatter, Scanner, ZonefileFmt};
+use std::alloc::Global;
 use std::cmp::Ordering;
 use std::fmt;
 use std::hash::{Hash, Hasher};
@@ -83,6 +89,25 @@ impl<'a> Rp<ParsedName<&'a [u8]>> {
     }
 }
 
+impl<N: ToName + Drop> Rp<N> {
+    /// Reads the data from the tokens in front, and takes these. Tokens behind the last field stay (RFC 1035 5.1).
+    ///
+    /// Refused with an error other than `short_buf` only where no RP data stands in front; the tokens left are then an
+    /// ending of those left before.
+    pub fn scan<S: Scanner<Name = N>>(scanner: &mut S) -> Result<Self, S::Error>
+        ensures ok { IfOk result (λ rdata. ScansData (S.names scanner.old) 17 rdata (S.tokens scanner.old)
+            (S.tokens scanner.new)) }
+        ensures err { IfErr result (λ error. S.Error.is_short error ≡ false
+            → NoDataScans (S.names scanner.old) 17 (S.tokens scanner.old)) }
+        ensures left { OnErr result (IsEnding (S.tokens scanner.new) (S.tokens scanner.old)) }
+        ensures names { SameNames (S.names scanner.old) (S.names scanner.new) }
+    {
+        Ok(Rp {
+            row: scan_row::<_, _, 17>(scanner)?,
+        })
+    }
+}
+
 /// Takes this type alone.
 impl<'a> ParseRecordData<'a> for Rp<ParsedName<&'a [u8]>> {
     ghost takes = { λ number. number == 17 };
@@ -94,6 +119,35 @@ impl<'a> ParseRecordData<'a> for Rp<ParsedName<&'a [u8]>> {
             return Ok(None);
         }
         Ok(Some(Rp::parse(parser)?))
+    }
+}
+
+/// The same fields over other octets. Refused with `ShortBuf` only where these can't hold as many as a name has, and with
+/// `OutOfMemory` where memory was wanting.
+impl<Source: ToName + Drop, Octs: FromBuilder + Drop> OctetsFrom<Rp<Source>> for Rp<Name<Octs>>
+where
+    Octs::Builder: EmptyBuilder + Drop,
+{
+    ghost octets_from_gives = { λ source result. IfOk result (λ rdata. rdata ≡ source)
+        × (result ≡ Err ShortBuf → OneIsPast Octs.Builder.limit source)
+        × (result ≡ Err BadLength → ⊥) };
+
+    fn try_octets_from(alloc: Global, source: Rp<Source>) -> Result<Self, AppendError> {
+        Ok(Rp {
+            row: ConvertRow::<_, Octs>::convert_fields(&source.row, alloc)?,
+        })
+    }
+}
+
+/// The same fields, their names flat.
+impl<N: ToName + Drop, Octs: FromBuilder + Drop> FlattenInto<Rp<Name<Octs>>> for Rp<N>
+where
+    Octs::Builder: EmptyBuilder + Drop,
+{
+    ghost flattens = { λ rdata flat. flat ≡ rdata };
+
+    fn try_flatten_into(self, alloc: Global) -> Result<Rp<Name<Octs>>, AppendError> {
+        Rp::try_octets_from(alloc, self)
     }
 }
 

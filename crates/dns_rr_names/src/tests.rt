@@ -1,3 +1,5 @@
+mod flatten;
+mod scan;
 mod show;
 
 use super::*;
@@ -16,6 +18,14 @@ fn composed<Data: ComposeRecordData>(alloc: Global, rdata: &Data) -> Result<Vec<
     rdata.compose_len_rdata(&mut target)?;
     rdata.compose_canonical_rdata(&mut target)?;
     Ok(target)
+}
+
+/// Whether the data is written as these octets behind its length.
+fn is_written<Data: ComposeRecordData>(alloc: Global, rdata: &Data, octets: &[u8]) -> bool {
+    let Ok(all) = composed(alloc, rdata) else {
+        return false
+    };
+    all.as_slice().starts_with(octets)
 }
 
 fn hashed<T: Hash>(value: &T) -> u64 {

@@ -1,6 +1,7 @@
 //! Data as text (RFC 1035 5.1).
 use super::{UPPER, name};
-use crate::{Cname, Mb, Md, Mf, Mg, Minfo, Mr, Mx, Ns, Ptr, Rp, Srv};
+use crate::{Cname, Mb, Md, Mf, Mg, Minfo, Mr, Mx, Ns, Ptr, Rp, Soa, Srv};
+use dns_name::{Serial, Ttl};
 use dns_text::{DisplayKind, ZonefileFmt};
 use std::alloc::{AllocError, Global};
 use std::test::Fail;
@@ -60,6 +61,31 @@ fn rows_are_shown_with_a_space_between(rt: HostRuntime) -> Result<(), Fail> {
     assert_eq!(rt;
         shown(alloc, &srv, DisplayKind::Multiline)?.as_str(),
         "(\n        1\n        2\n        3\n        A.\n        )"
+    );
+    Ok(())
+}
+
+#[test]
+fn soa_is_shown_with_comments_under_multiline(rt: HostRuntime) -> Result<(), Fail> {
+    let alloc = rt.alloc();
+    let [refresh, retry, expire, minimum] = [2, 3, 4, 5].map(Ttl::from_secs);
+    let soa = Soa::new(
+        name(b"\x01b\x00")?,
+        name(b"\x01c\x00")?,
+        Serial(1),
+        refresh,
+        retry,
+        expire,
+        minimum,
+    );
+    assert_eq!(rt; soa.to_string(alloc)?.as_str(), "b. c. 1 2 3 4 5");
+    assert_eq!(rt;
+        shown(alloc, &soa, DisplayKind::Tabbed)?.as_str(),
+        "b. c. 1 2 3 4 5"
+    );
+    assert_eq!(rt;
+        shown(alloc, &soa, DisplayKind::Multiline)?.as_str(),
+        "(\n        b.\n        c.\n        1\t; serial\n        2\t; refresh\n        3\t; retry\n        4\t; expire\n        5\t; minimum\n        )"
     );
     Ok(())
 }
