@@ -19,6 +19,8 @@ mod Pushes
 mod PushNames
 mod Reverses
 pub mod Skipping
+pub mod Cuts
+mod NoNames
 pub mod Written
 pub mod Suffixes
 pub mod Standing
@@ -46,3 +48,4 @@ pub mod PrintedTexts
 pub mod OneName
 mod RelativeTexts
 mod RelativeRefusals
+mod SpelledTexts

@@ -2,7 +2,6 @@
 use Rattle.std.proofs.Common.{◌≡◌, ℕ, List, [], ◌∷◌, ◌++◌, take, refl, sym, ◌∙◌, ap, subst, arith}
 use Rattle.std.proofs.lemmas.List.{take-take}
 use Rattle.std.proofs.Math.Seq.{take-append_seam}
-use Rattle.std.specs.Prelude.{Result, Ok, Err, IfOk, IfErr}
 use Rattle.std.specs.List.{flat_map}
 use Rattle.dns_label.specs.declared.symbol.Symbol.{Symbol}
 use Rattle.dns_label.specs.Symbol.{octet, spelled}
@@ -10,12 +9,9 @@ use Rattle.dns_label.specs.Name.{IsName, wire, labels_wire}
 use Rattle.dns_label.specs.NameText.{HasParts, is_dot, parts_of}
 use Rattle.dns_name.specs.Draft.{Holds, IsReadAs}
 use Rattle.dns_name.specs.Flat.{IsWritten}
-use Rattle.dns_name.specs.RelativeText.{IsRelativeNameText, IsNoRelative, SpellsAbsolute}
+use Rattle.dns_name.specs.RelativeText.{IsRelativeNameText, SpellsAbsolute, SpellsRelative}
 use Rattle.dns_name.specs.RelativeText.IsRelativeNameText.{empty, labels}
 use Rattle.dns_name.specs.declared.text.draft.Spelling.{Spelling}
-use Rattle.dns_name.specs.declared.text.FromStrError.TheVariants.{ShortBuf}
-use Rattle.dns_name.specs.declared.text.relative.RelativeFromStrError.{RelativeFromStrError}
-use Rattle.dns_name.specs.declared.text.relative.RelativeFromStrError.TheVariants.{FromStr}
 use Rattle.dns_name.proofs.Case.{wire_one}
 use Rattle.dns_name.proofs.Drafts.{draft-len, draft-name, draft-some, draft-wire, holds_one}
 use Rattle.dns_name.proofs.Flat.{flat-written}
@@ -81,19 +77,15 @@ last_dot text spelling no_dot read none some =
     (whole.done, whole.spells more (held_name spelling whole.done whole.holds))
 
 -- what is answered then
-pub relative-result : {E : Type 0} (text : List ℕ) (spelling : Spelling) (result : Result (List (List ℕ)) E) → IsWholeRelative text spelling
-    → IfOk result (λ name. IsName name × Holds spelling name []) → IfOk result (IsRelativeNameText text)
-relative-result text spelling (Err error) whole made = tt
-relative-result text spelling (Ok name) whole made =
+pub relative-name : (text : List ℕ) (spelling : Spelling) (name : List (List ℕ)) → IsWholeRelative text spelling
+    → IsName name × Holds spelling name [] → IsRelativeNameText text name
+relative-name text spelling name whole made =
     let same = holds_one spelling whole.done name whole.holds (sym (draft-wire spelling.octets spelling.len name made.1.written)) in
     let P : List (List ℕ) → Type 0 = λ n. IsRelativeNameText text n in
     subst P (sym same) whole.spells
 
-pub relative-short : {T : Type 0} (text : List ℕ) (spelling : Spelling) (result : Result T RelativeFromStrError)
-    → IsWholeRelative text spelling → IfErr result (λ error. error ≡ FromStr ShortBuf) → IfErr result (IsNoRelative text)
-relative-short text spelling (Ok name) whole is = tt
-relative-short text spelling (Err error) whole is =
-    let P : RelativeFromStrError → Type 0 = λ e. IsNoRelative text e in subst P (sym is) (whole.done, whole.spells)
+pub relative-spells : (text : List ℕ) (spelling : Spelling) → IsWholeRelative text spelling → SpellsRelative text
+relative-spells text spelling whole = (whole.done, whole.spells)
 
 -- the octets in front of the open label's length
 front_octets : (spelling : Spelling) (done : List (List ℕ)) → Holds spelling done [] → take spelling.start spelling.octets ≡ labels_wire done

@@ -14,6 +14,8 @@ pub mod ParsedName
 pub mod Relative
 pub mod Rrsig
 pub mod Skip
+pub mod Cut
+pub mod NoName
 pub mod Suffix
 pub mod Suffixes
 pub mod Text
@@ -48,3 +50,4 @@ pub mod BuiltText
 pub mod TextErrors
 pub mod PrintedLabels
 pub mod RelativeText
+pub mod SpelledText

@@ -1,9 +1,11 @@
 //! Names that are built label by label (RFC 1035 3.1).
-ghost use Rattle.std.specs.Prelude.{◌≡◌, ◌+◌, ◌<◌, ◌≤◌, ◌↔◌, ◌++◌, ◌∷◌, List, ℕ, [], length, Ok, Err, Some, None, IsTrue, IsSome, IfOk, OnOk, OnErr};
+ghost use Rattle.std.specs.Prelude.{◌≡◌, ◌+◌, ◌<◌, ◌≤◌, ◌↔◌, ◌++◌, ◌∷◌, List, ℕ, [], length, Ok, Err, Some, None, IsTrue, IsSome, IfOk, IfErr, OnOk, OnErr};
 ghost use Rattle.dns_label.specs.Name.{IsName, labels_wire};
 ghost use Rattle.dns_label.specs.Composed.{label_wire};
 ghost use Rattle.dns_name.specs.Built.{Built, StandsFor, built_of, nothing_built, labels_built, labels_ended, built_len, open_len, with_octets, with_label, ended};
 ghost use Rattle.dns_name.specs.declared.builder.error.PushError.TheVariants.{LongLabel, LongName};
+ghost use Rattle.dns_name.specs.NoName.{IsNoRelativeName};
+ghost use Rattle.dns_name.specs.declared.relative.RelativeNameError.TheVariants as relative_error;
 ghost use Rattle.dns_octets.specs.Builder.{IsPast, IsWithin};
 ghost use Rattle.dns_octets.specs.declared.error.AppendError.TheVariants.{ShortBuf, BadLength};
 
@@ -88,12 +90,14 @@ impl NameBuilder<Vec<u8>> {
 
 impl<B: OctetsBuilder> NameBuilder<B> {
     /// Goes on behind the octets of a builder, which are finished labels. Refused where they are no relative name,
-    /// uncompressed and whole.
+    /// uncompressed and whole, as `RelativeName::from_octets` has it.
     pub fn from_builder(builder: B) -> Result<Self, RelativeNameError>
     where
         B: Drop,
         ensures ok { IfOk result (λ name. IsName name.finished × (name ≡ labels_ended name.finished) × (B.list builder ≡ labels_wire name.finished)) }
         ensures err { OnErr result ((name : List (List ℕ)) → IsName name → B.list builder ≡ labels_wire name → ⊥) }
+        ensures why { IfErr result (IsNoRelativeName (B.list builder)) }
+        ensures long { IfErr result (λ error. 254 < length (B.list builder) → error ≡ relative_error.LongName) }
     {
         check(builder.octets())?;
         Ok(NameBuilder {

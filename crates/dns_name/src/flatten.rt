@@ -1,6 +1,8 @@
 //! Making names flat that are held otherwise.
-ghost use Rattle.std.specs.Prelude.{◌≡◌, ◌++◌, Err, IfOk};
-ghost use Rattle.dns_octets.specs.declared.error.AppendError.TheVariants.{BadLength};
+ghost use Rattle.std.specs.Prelude.{◌≡◌, ◌++◌, Err, length, IfOk};
+ghost use Rattle.dns_label.specs.Name.{wire};
+ghost use Rattle.dns_octets.specs.Builder.{IsPast};
+ghost use Rattle.dns_octets.specs.declared.error.AppendError.TheVariants.{ShortBuf, BadLength};
 
 use crate::{Chain, Name, ParsedName, ToName, ToRelativeName};
 use dns_octets::{AppendError, EmptyBuilder, FromBuilder, Octets};
@@ -8,19 +10,24 @@ use std::alloc::Global;
 
 /// A value whose names can be made flat.
 ///
-/// `flattens` says which value of the other kind is the same.
+/// `flattens` says which value of the other kind is the same, and `is_long` that the flat names are too long for its
+/// octets.
 pub trait FlattenInto<T>: Sized {
     ghost flattens: { Self → T → Type 0 };
 
-    /// The same value with flat names. Refused with `ShortBuf` where these do not fit, and with `OutOfMemory` where
+    ghost is_long: { Self → Type 0 };
+
+    /// The same value with flat names. Refused with `ShortBuf` only where these do not fit, and with `OutOfMemory` where
     /// memory was wanting.
     fn try_flatten_into(self, alloc: Global) -> Result<T, AppendError>
         ensures ok { IfOk result (flattens self) }
+        ensures short { result ≡ Err ShortBuf → is_long self }
         ensures not_bad { result ≡ Err BadLength → ⊥ };
 
     /// The same value with flat names, as `try_flatten_into` gives it.
     final fn flatten_into(self, alloc: Global) -> Result<T, AppendError>
         ensures ok { IfOk result (flattens self) }
+        ensures short { result ≡ Err ShortBuf → is_long self }
         ensures not_bad { result ≡ Err BadLength → ⊥ }
     {
         self.try_flatten_into(alloc)
@@ -32,6 +39,8 @@ where
     Octs::Builder: EmptyBuilder + Drop,
 {
     ghost flattens = { λ name flat. flat ≡ name };
+
+    ghost is_long = { λ name. IsPast Octs.Builder.limit (length (wire name)) };
 
     fn try_flatten_into(self, alloc: Global) -> Result<Name<Octs>, AppendError> {
         self.try_to_name(alloc)
@@ -46,6 +55,8 @@ where
 
     ghost flattens = { λ name flat. flat ≡ labels_in Source.list name };
 
+    ghost is_long = { λ name. IsPast Octs.Builder.limit (length (wire (labels_in Source.list name))) };
+
     fn try_flatten_into(self, alloc: Global) -> Result<Name<Octs>, AppendError> {
         self.try_to_name(alloc)
     }
@@ -59,6 +70,8 @@ where
     ghost use Rattle.dns_name.specs.ChainParts.{left_of, right_of};
 
     ghost flattens = { λ chain flat. flat ≡ L.labels (left_of chain) ++ R.name (right_of chain) };
+
+    ghost is_long = { λ chain. IsPast Octs.Builder.limit (length (wire (L.labels (left_of chain) ++ R.name (right_of chain)))) };
 
     fn try_flatten_into(self, alloc: Global) -> Result<Name<Octs>, AppendError> {
         self.try_to_name(alloc)

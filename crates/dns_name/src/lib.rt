@@ -56,7 +56,7 @@ pub use parsed_iter::ParsedNameIter;
 pub use print::DisplayWithDot;
 pub use record_data::{ComposeRecordData, ParseAnyRecordData, ParseRecordData, RecordData};
 pub use relative::{RelativeName, RelativeNameError, StripSuffixError};
-pub use text::{FromStrError, PresentationError, RelativeFromStrError};
+pub use text::{FromStrError, PresentationError, RelativeFromStrError, SpelledName};
 pub use to_name::ToName;
 pub use to_relative_name::ToRelativeName;
 pub use unknown::UnknownRecordData;

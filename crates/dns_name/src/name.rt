@@ -1,5 +1,5 @@
 //! Absolute names, flat in octets.
-ghost use Rattle.std.specs.Prelude.{◌≡◌, ◌≤◌, ◌↔◌, List, ℕ, [], ◌++◌, length, take, IsTrue, IfOk, OnErr, OnOk, nat_eq, refl};
+ghost use Rattle.std.specs.Prelude.{◌≡◌, ◌<◌, ◌≤◌, ◌↔◌, List, ℕ, [], ◌++◌, length, take, IsTrue, IfOk, IfErr, OnErr, OnOk, nat_eq, refl};
 ghost use Rattle.std.specs.Ordering.{on};
 ghost use Rattle.std.specs.Cmp.Lexicographic.{pointwise, nat_list_eq_equiv};
 ghost use Rattle.std.specs.Cmp.Rules.{comparing};
@@ -9,7 +9,11 @@ ghost use Rattle.dns_name.specs.Flat.{IsWritten, StartsWithName};
 ghost use Rattle.dns_name.specs.Suffix.{EndsWith};
 ghost use Rattle.dns_label.specs.Labels.{labels_at};
 ghost use Rattle.dns_name.specs.Parsed.{StandsAt};
-ghost use Rattle.dns_octets.specs.Parser.{GoesOn, rest_of};
+ghost use Rattle.dns_name.specs.Cut.{IsCut};
+ghost use Rattle.dns_name.specs.NoName.{IsNoName};
+ghost use Rattle.dns_name.specs.declared.name.NameError.TheVariants.{LongName};
+ghost use Rattle.dns_octets.specs.Parser.{GoesOn, octets_of, place_of, rest_of};
+ghost use Rattle.dns_octets.specs.declared.error.ParseError.TheVariants.{ShortInput};
 
 mod canonical;
 mod makes;
@@ -19,6 +23,7 @@ mod suffixes;
 
 use crate::compare::ends_with;
 use crate::parsed_iter::split_label;
+use crate::skip::skip_name;
 use crate::{NameIter, ToLabelIter, ToName};
 use dns_label::{Label, LabelTypeError, SplitLabelError};
 use dns_octets::{Octets, ParseError, Parser};
@@ -68,12 +73,15 @@ impl<Octs: Octets> Name<Octs> {
     /// The largest number of octets of a name, the root's counted (RFC 1035 2.3.4).
     pub const MAX_LEN: usize = 255;
 
-    /// The name that the octets are. Refused where they are no name, uncompressed and whole.
+    /// The name that the octets are. Refused where they are no name, uncompressed and whole: with `LongName` where there
+    /// are too many of them, and else for what stands behind the labels in front.
     pub fn from_octets(octets: Octs) -> Result<Self, NameError>
     where
         Octs: Drop,
         ensures ok { IfOk result (λ name. IsName name × (Octs.list octets ≡ wire name)) }
         ensures err { OnErr result ((name : List (List ℕ)) → IsName name → Octs.list octets ≡ wire name → ⊥) }
+        ensures why { IfErr result (IsNoName (Octs.list octets)) }
+        ensures long { IfErr result (λ error. 255 < length (Octs.list octets) → error ≡ LongName) }
     {
         check(octets.octets())?;
         Ok(Name { octets })
@@ -150,27 +158,31 @@ impl<Octs: Octets> Name<Octs> {
 }
 
 impl<'a> Name<&'a [u8]> {
-    /// The name that the octets are. Refused where they are no name, uncompressed and whole.
+    /// The name that the octets are. Refused where they are no name, uncompressed and whole, as `from_octets` has it.
     pub fn from_slice(octets: &'a [u8]) -> Result<Self, NameError>
         ensures ok { IfOk result (λ name. IsName name × (octets.now ≡ wire name)) }
         ensures err { OnErr result ((name : List (List ℕ)) → IsName name → octets.now ≡ wire name → ⊥) }
+        ensures why { IfErr result (IsNoName octets.now) }
+        ensures long { IfErr result (λ error. 255 < length octets.now → error ≡ LongName) }
     {
         Name::from_octets(octets)
     }
 
     /// Reads a name with no pointer in it, and leaves the parser behind it.
     ///
-    /// Refused where no such name of at most 255 octets stands, and the parser then stays where it is.
+    /// Refused where no such name of at most 255 octets stands, and the parser then stays where it is: with `ShortInput`
+    /// exactly where the message ends too early, and else with an error of the form.
     pub fn parse(parser: &mut Parser<'a>) -> Result<Self, ParseError>
         ensures ok { IfOk result (λ name. IsName name × (rest_of parser.old ≡ wire name ++ rest_of parser.new)) }
         ensures place { IfOk result (λ name. GoesOn parser.old parser.new (length (wire name))) }
         ensures err { OnErr result ((name : List (List ℕ)) (rest : List ℕ) → IsName name → rest_of parser.old ≡ wire name ++ rest → ⊥) }
+        ensures short { IfErr result (λ error. (error ≡ ShortInput) ↔ IsCut (octets_of parser.old) 0 254 (place_of parser.old)) }
         ensures stays { OnErr result (parser.new ≡ parser.old) }
     {
         let front = next_255(parser);
         let behind = match behind_root(front) {
             Ok(behind) => behind,
-            Err(error) => return Err(form_error(error)),
+            Err(_) => return Err(refusal(parser)),
         };
         let octets = parser.parse_octets(front.len() - behind.len())?;
         Ok(Name { octets })
@@ -187,13 +199,13 @@ fn next_255<'a>(parser: &Parser<'a>) -> &'a [u8]
     }
 }
 
-impl<Octs: Octets> Name<Octs> {
-    /// The name that the octets are, of which this is known.
-    pub(crate) fn of_wire(octets: Octs) -> Self
-        requires { IsWritten (Octs.list octets) }
-        ensures { Octs.list octets ≡ wire result }
-    {
-        Name { octets }
+/// Why no name without pointers stands at the parser's place, where none does.
+fn refusal(parser: &Parser<'_>) -> ParseError
+    ensures { (result ≡ ShortInput) ↔ IsCut (octets_of parser.now) 0 254 (place_of parser.now) }
+{
+    match skip_name(parser.as_slice(), parser.pos()) {
+        Ok(_) => ParseError::form_error("compressed domain name"),
+        Err(error) => error,
     }
 }
 
@@ -251,20 +263,12 @@ impl<Octs: Octets> ToName for Name<Octs> {
     }
 }
 
-/// The same reason for a message.
-fn form_error(error: NameError) -> ParseError {
-    match error {
-        NameError::ShortInput => ParseError::ShortInput,
-        NameError::BadLabel(_) => ParseError::form_error("bad label type"),
-        NameError::CompressedName => ParseError::form_error("compressed domain name"),
-        NameError::LongName | NameError::TrailingData => ParseError::form_error("long domain name"),
-    }
-}
-
 /// Refuses octets that are no name.
 fn check(octets: &[u8]) -> Result<(), NameError>
     ensures ok { OnOk result (IsWritten octets.now) }
     ensures err { OnErr result ((name : List (List ℕ)) → IsName name → octets.now ≡ wire name → ⊥) }
+    ensures why { IfErr result (IsNoName octets.now) }
+    ensures long { IfErr result (λ error. 255 < length octets.now → error ≡ LongName) }
 {
     if octets.len() > 255 {
         return Err(NameError::LongName);
@@ -281,6 +285,7 @@ fn check(octets: &[u8]) -> Result<(), NameError>
 fn behind_root(octets: &[u8]) -> Result<&[u8], NameError>
     ensures ok { IfOk result (λ behind. (name : List (List ℕ)) × StartsWithName octets.now name behind.now) }
     ensures err { OnErr result ((name : List (List ℕ)) (rest : List ℕ) → StartsWithName octets.now name rest → ⊥) }
+    ensures why { IfErr result (IsNoName octets.now) }
 {
     let mut rest = octets;
     loop {

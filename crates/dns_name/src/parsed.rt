@@ -1,9 +1,11 @@
 //! Names in messages, with pointers.
-ghost use Rattle.std.specs.Prelude.{◌≡◌, ◌≤◌, ◌↔◌, List, ℕ, [], length, refl, IsTrue, IfOk, OnErr};
+ghost use Rattle.std.specs.Prelude.{◌≡◌, ◌≤◌, ◌↔◌, List, ℕ, [], length, refl, IsTrue, IfOk, IfErr, OnErr};
 ghost use Rattle.dns_label.specs.Name.{wire, with_root};
 ghost use Rattle.dns_label.specs.Spelled.{Reads};
 ghost use Rattle.dns_label.specs.Labels.{labels_at};
+ghost use Rattle.dns_name.specs.Cut.{IsCut};
 ghost use Rattle.dns_name.specs.Parsed.{IsReadAt, StandsAt};
+ghost use Rattle.dns_octets.specs.declared.error.ParseError.TheVariants.{ShortInput};
 
 mod order;
 mod parts;
@@ -45,10 +47,12 @@ impl<'a> ParsedName<&'a [u8]> {
     /// pointer.
     ///
     /// A pointer has to be less than its own place, at most 255 of them are followed, and the name has at most 255
-    /// octets. Refused where no such name stands, and the parser then stays where it is.
+    /// octets. Refused where no such name stands, and the parser then stays where it is: with `ShortInput` exactly where
+    /// the message ends too early, and else with an error of the form.
     pub fn parse(parser: &mut Parser<'a>) -> Result<Self, ParseError>
         ensures ok { IfOk result (λ name. Reads (octets_of parser.old) (place_of parser.old) (labels_of name) (place_of parser.new)) }
         ensures err { OnErr result ((name : List (List ℕ)) (next : ℕ) → Reads (octets_of parser.old) (place_of parser.old) name next → ⊥) }
+        ensures short { IfErr result (λ error. (error ≡ ShortInput) ↔ IsCut (octets_of parser.old) 255 255 (place_of parser.old)) }
         ensures same { octets_of parser.new ≡ octets_of parser.old }
         ensures stays { OnErr result (parser.new ≡ parser.old) }
     {
@@ -135,6 +139,6 @@ impl<Octs: Octets> ToName for ParsedName<Octs> {
             octets.push(label.len() as u8)?;
             octets.extend_from_slice(label.as_slice())?;
         }
-        Ok(Name::of_wire(octets))
+        Ok(Name::of_octets(octets))
     }
 }

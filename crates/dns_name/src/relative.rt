@@ -1,8 +1,10 @@
 //! Relative names, flat in octets.
-ghost use Rattle.std.specs.Prelude.{◌≡◌, ◌≤◌, ◌↔◌, List, ℕ, [], ◌∷◌, ◌++◌, length, IsTrue, IfOk, OnErr, OnOk};
+ghost use Rattle.std.specs.Prelude.{◌≡◌, ◌<◌, ◌≤◌, ◌↔◌, List, ℕ, [], ◌∷◌, ◌++◌, length, IsTrue, IfOk, IfErr, OnErr, OnOk};
 ghost use Rattle.dns_label.specs.Name.{IsName, labels_wire};
 ghost use Rattle.dns_label.specs.Labels.{labels_at};
 ghost use Rattle.dns_name.specs.Flat.{IsWritten};
+ghost use Rattle.dns_name.specs.NoName.{IsNoRelativeName};
+ghost use Rattle.dns_name.specs.declared.relative.RelativeNameError.TheVariants.{LongName};
 
 mod canonical;
 mod makes;
@@ -55,12 +57,15 @@ impl<Octs: Octets> Model for RelativeName<Octs> {
 }
 
 impl<Octs: Octets> RelativeName<Octs> {
-    /// The relative name that the octets are. Refused where they are none, uncompressed and whole.
+    /// The relative name that the octets are. Refused where they are none, uncompressed and whole: with `LongName` where
+    /// there are too many of them, and else for what stands behind the labels in front.
     pub fn from_octets(octets: Octs) -> Result<Self, RelativeNameError>
     where
         Octs: Drop,
         ensures ok { IfOk result (λ name. IsName name × (Octs.list octets ≡ labels_wire name)) }
         ensures err { OnErr result ((name : List (List ℕ)) → IsName name → Octs.list octets ≡ labels_wire name → ⊥) }
+        ensures why { IfErr result (IsNoRelativeName (Octs.list octets)) }
+        ensures long { IfErr result (λ error. 254 < length (Octs.list octets) → error ≡ LongName) }
     {
         check(octets.octets())?;
         Ok(RelativeName { octets })
@@ -139,10 +144,13 @@ impl<Octs: Octets> RelativeName<Octs> {
 }
 
 impl<'a> RelativeName<&'a [u8]> {
-    /// The relative name that the octets are. Refused where they are none, uncompressed and whole.
+    /// The relative name that the octets are. Refused where they are none, uncompressed and whole, as `from_octets` has
+    /// it.
     pub fn from_slice(octets: &'a [u8]) -> Result<Self, RelativeNameError>
         ensures ok { IfOk result (λ name. IsName name × (octets.now ≡ labels_wire name)) }
         ensures err { OnErr result ((name : List (List ℕ)) → IsName name → octets.now ≡ labels_wire name → ⊥) }
+        ensures why { IfErr result (IsNoRelativeName octets.now) }
+        ensures long { IfErr result (λ error. 254 < length octets.now → error ≡ LongName) }
     {
         RelativeName::from_octets(octets)
     }
@@ -152,6 +160,8 @@ impl<'a> RelativeName<&'a [u8]> {
 pub(crate) fn check(octets: &[u8]) -> Result<(), RelativeNameError>
     ensures ok { OnOk result (IsWritten (octets.now ++ 0 ∷ [])) }
     ensures err { OnErr result ((name : List (List ℕ)) → IsName name → octets.now ≡ labels_wire name → ⊥) }
+    ensures why { IfErr result (IsNoRelativeName octets.now) }
+    ensures long { IfErr result (λ error. 254 < length octets.now → error ≡ LongName) }
 {
     if octets.len() > 254 {
         return Err(RelativeNameError::LongName);

@@ -1,5 +1,7 @@
 //! Passing a name in a message without reading it (RFC 1035 4.1.4).
-ghost use Rattle.std.specs.Prelude.{◌≡◌, ◌≤◌, ℕ, length, IfOk, OnErr};
+ghost use Rattle.std.specs.Prelude.{◌≡◌, ◌≤◌, ◌↔◌, ℕ, length, IfOk, IfErr, OnErr};
+ghost use Rattle.dns_octets.specs.declared.error.ParseError.TheVariants.{ShortInput};
+ghost use Rattle.dns_name.specs.Cut.{IsCut};
 ghost use Rattle.dns_name.specs.Skip.{Skips};
 
 use crate::walk::label_at;
@@ -7,11 +9,12 @@ use dns_label::SplitLabelError;
 use dns_octets::ParseError;
 
 /// The place behind the labels at a place and what ends them: the root, or a pointer, which is not followed. Refused
-/// where none stand there, or more than 254 octets of them.
+/// where none stand there, or more than 254 octets of them: with `ShortInput` exactly where the message ends too early.
 pub fn skip_name(octets: &[u8], start: usize) -> Result<usize, ParseError>
     requires { start ≤ length octets.now }
     ensures ok { IfOk result (λ next. Skips octets.now 254 start next) }
     ensures err { OnErr result ((next : ℕ) → Skips octets.now 254 start next → ⊥) }
+    ensures short { IfErr result (λ error. (error ≡ ShortInput) ↔ IsCut octets.now 0 254 start) }
     ensures within { IfOk result (λ next. next ≤ length octets.now) }
 {
     let mut place = start;

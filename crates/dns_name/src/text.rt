@@ -5,10 +5,12 @@ ghost use Rattle.dns_label.specs.declared.symbol.Symbol.{Symbol};
 ghost use Rattle.dns_label.specs.NameText.{IsNameText, IsAbsoluteText, is_dot as separates};
 ghost use Rattle.dns_name.specs.TextErrors.{text_error};
 ghost use Rattle.dns_name.specs.declared.text.FromStrError.TheVariants.{Presentation, ShortBuf};
+ghost use Rattle.dns_name.specs.declared.text.PresentationError.TheVariants as presentation;
 
 mod draft;
 mod octet_chars;
 mod relative;
+mod spelled;
 
 use crate::{Name, PushError};
 use dns_label::{BadSymbol, Symbol, SymbolCharsError};
@@ -16,6 +18,7 @@ use dns_octets::{AppendError, EmptyBuilder, FromBuilder};
 use draft::Spelling;
 use octet_chars::OctetChars;
 pub use relative::RelativeFromStrError;
+pub use spelled::SpelledName;
 use std::alloc::Global;
 use thiserror::Error;
 
@@ -79,12 +82,16 @@ impl From<PushError> for FromStrError {
 }
 
 impl From<SymbolCharsError> for PresentationError {
+    ghost from_gives = { λ _ error. error ≡ presentation.BadSymbol };
+
     fn from(_: SymbolCharsError) -> PresentationError {
         PresentationError::BadSymbol
     }
 }
 
 impl From<BadSymbol> for PresentationError {
+    ghost from_gives = { λ _ error. error ≡ presentation.BadSymbol };
+
     fn from(_: BadSymbol) -> PresentationError {
         PresentationError::BadSymbol
     }

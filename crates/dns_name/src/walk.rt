@@ -1,9 +1,11 @@
 //! The walk over the heads of a name in a message (RFC 1035 4.1.4).
-ghost use Rattle.std.specs.Prelude.{◌≡◌, ◌≤◌, ◌+◌, List, ℕ, length, drop, IfOk, IfErr, OnErr};
+ghost use Rattle.std.specs.Prelude.{◌≡◌, ◌≤◌, ◌+◌, ◌↔◌, List, ℕ, length, drop, IfOk, IfErr, OnErr};
 ghost use Rattle.dns_label.specs.Label.{octets_of};
 ghost use Rattle.dns_label.specs.Name.{wire};
 ghost use Rattle.dns_label.specs.Spelled.{Reads};
 ghost use Rattle.dns_label.specs.Split.{NoLabel, StartsWithLabel};
+ghost use Rattle.dns_octets.specs.declared.error.ParseError.TheVariants.{ShortInput};
+ghost use Rattle.dns_name.specs.Cut.{IsCut};
 
 use dns_label::{Label, SplitLabelError};
 use dns_octets::ParseError;
@@ -17,11 +19,13 @@ pub struct Walk {
     pub next: usize,
 }
 
-/// Walks over the heads of the name at a place. Refused where none is read there.
+/// Walks over the heads of the name at a place. Refused where none is read there: with `ShortInput` exactly where the
+/// message ends too early.
 pub fn walk_name(octets: &[u8], start: usize) -> Result<Walk, ParseError>
     requires { start ≤ length octets.now }
     ensures ok { IfOk result (λ walk. (name : List (List ℕ)) × Reads octets.now start name walk.next × (walk.len ≡ length (wire name))) }
     ensures err { OnErr result ((name : List (List ℕ)) (next : ℕ) → Reads octets.now start name next → ⊥) }
+    ensures short { IfErr result (λ error. (error ≡ ShortInput) ↔ IsCut octets.now 255 255 start) }
 {
     let mut place = start;
     let mut len = 0u16;

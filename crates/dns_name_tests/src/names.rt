@@ -6,6 +6,7 @@ mod parsed;
 mod parts;
 mod print;
 mod relative_text;
+mod spelled_text;
 
 use arrayvec::ArrayVec;
 use dns_name::{
@@ -133,6 +134,42 @@ fn flat_name_is_read_without_pointers(rt: HostRuntime) -> Result<(), Fail> {
     assert_eq!(rt; parser.pos(), 5);
     assert!(rt; Name::parse(&mut parser).is_err());
     assert_eq!(rt; parser.pos(), 5);
+    Ok(())
+}
+
+fn form(text: &'static str) -> Option<ParseError> {
+    Some(ParseError::form_error(text))
+}
+
+fn why_unread(octets: &[u8]) -> Option<ParseError> {
+    Name::parse(&mut Parser::from_ref(octets)).err()
+}
+
+fn why_not_parsed(octets: &[u8]) -> Option<ParseError> {
+    ParsedName::parse(&mut Parser::from_ref(octets)).err()
+}
+
+fn why_not_passed(octets: &[u8]) -> Option<ParseError> {
+    ParsedName::skip(&mut Parser::from_ref(octets)).err()
+}
+
+#[test]
+fn short_input_is_a_message_that_ends_too_early(rt: HostRuntime) -> Result<(), Fail> {
+    let long = vec![in rt.alloc(); 1u8; 300]?;
+    for cut in [b"".as_slice(), b"\x01", b"\x02a", b"\x01a", b"\x01a\xc0"] {
+        assert_eq!(rt; why_unread(cut), Some(ParseError::ShortInput));
+        assert_eq!(rt; why_not_parsed(cut), Some(ParseError::ShortInput));
+        assert_eq!(rt; why_not_passed(cut), Some(ParseError::ShortInput));
+    }
+    assert_eq!(rt;
+        why_unread(b"\x01a\xc0\x00"),
+        form("compressed domain name")
+    );
+    assert_eq!(rt; why_unread(long.as_slice()), form("long domain name"));
+    assert_eq!(rt; why_not_parsed(long.as_slice()), form("long domain name"));
+    assert_eq!(rt; why_not_passed(long.as_slice()), form("long domain name"));
+    assert_eq!(rt; why_not_parsed(b"\x01a\xc0\x02"), form("forward pointer"));
+    assert_eq!(rt; why_not_passed(b"\x01a\x40"), form("bad label type"));
     Ok(())
 }
 

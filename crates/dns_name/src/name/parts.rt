@@ -37,10 +37,7 @@ impl<Octs: Octets> Name<Octs> {
     pub fn last(&self) -> Label<'_>
         ensures { Some (octets_of result) ≡ slice_get (with_root self.now) (length self.now) }
     {
-        match Label::from_slice(&[]) {
-            Ok(label) => label,
-            Err(_) => unreachable!(),
-        }
+        Label::root()
     }
 
     /// Whether the labels begin with those of the other name, up to ASCII case (RFC 4343).

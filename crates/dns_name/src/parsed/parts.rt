@@ -1,11 +1,13 @@
 //! Parts of names in messages.
-ghost use Rattle.std.specs.Prelude.{◌≡◌, ◌∷◌, List, ℕ, [], Some, false, length, slice_get, IsTrue, ◌↔◌, IfOk, IfSome, IfNone, OnOk, OnErr};
+ghost use Rattle.std.specs.Prelude.{◌≡◌, ◌∷◌, List, ℕ, [], Some, false, length, slice_get, IsTrue, ◌↔◌, IfOk, IfErr, IfSome, IfNone, OnOk, OnErr};
 ghost use Rattle.dns_label.specs.Label.{octets_of as label_octets};
 ghost use Rattle.dns_label.specs.Name.{with_root, wire, low};
 ghost use Rattle.dns_label.specs.Labels.{labels_at};
 ghost use Rattle.dns_label.specs.Spelled.{Reads};
+ghost use Rattle.dns_name.specs.Cut.{IsCut};
 ghost use Rattle.dns_name.specs.Parsed.{IsReadAt, IsWrittenAt};
 ghost use Rattle.dns_name.specs.Suffix.{EndsWith, StartsWith};
+ghost use Rattle.dns_octets.specs.declared.error.ParseError.TheVariants.{ShortInput};
 
 use super::ParsedName;
 use crate::compare::{ends_with, starts_with};
@@ -25,6 +27,7 @@ impl<'a> ParsedName<&'a [u8]> {
     pub fn parse_ref(parser: &mut Parser<'a>) -> Result<Self, ParseError>
         ensures ok { IfOk result (λ name. Reads (octets_of parser.old) (place_of parser.old) (labels_of name) (place_of parser.new)) }
         ensures err { OnErr result ((name : List (List ℕ)) (next : ℕ) → Reads (octets_of parser.old) (place_of parser.old) name next → ⊥) }
+        ensures short { IfErr result (λ error. (error ≡ ShortInput) ↔ IsCut (octets_of parser.old) 255 255 (place_of parser.old)) }
         ensures same { octets_of parser.new ≡ octets_of parser.old }
         ensures stays { OnErr result (parser.new ≡ parser.old) }
     {
@@ -34,10 +37,12 @@ impl<'a> ParsedName<&'a [u8]> {
     /// Leaves the parser behind the name at its place, and follows no pointer.
     ///
     /// It stops where `parse` does if a name is read there. Refused where there stand no labels of at most 254 octets
-    /// with the root or a pointer behind them, and the parser then stays where it is.
+    /// with the root or a pointer behind them, and the parser then stays where it is: with `ShortInput` exactly where the
+    /// message ends too early, and else with an error of the form.
     pub fn skip(parser: &mut Parser<'_>) -> Result<(), ParseError>
         ensures ok { OnOk result (Skips (octets_of parser.old) 254 (place_of parser.old) (place_of parser.new)) }
         ensures err { OnErr result ((next : ℕ) → Skips (octets_of parser.old) 254 (place_of parser.old) next → ⊥) }
+        ensures short { IfErr result (λ error. (error ≡ ShortInput) ↔ IsCut (octets_of parser.old) 0 254 (place_of parser.old)) }
         ensures same { octets_of parser.new ≡ octets_of parser.old }
         ensures stays { OnErr result (parser.new ≡ parser.old) }
     {
@@ -101,7 +106,7 @@ impl<Octs: Octets> ParsedName<Octs> {
     pub fn last(&self) -> Label<'_>
         ensures { Some (label_octets result) ≡ slice_get (with_root (labels_in Octs.list self.now)) (length (labels_in Octs.list self.now)) }
     {
-        root_label()
+        Label::root()
     }
 
     /// Whether the labels begin with those of the other name, up to ASCII case (RFC 4343).
@@ -129,16 +134,6 @@ impl<Octs: Octets> ParsedName<Octs> {
         self.start = first.next;
         self.len = first.len;
         Some(())
-    }
-}
-
-/// The root's label.
-fn root_label<'a>() -> Label<'a>
-    ensures { label_octets result ≡ [] }
-{
-    match Label::from_slice(&[]) {
-        Ok(label) => label,
-        Err(_) => unreachable!(),
     }
 }
 

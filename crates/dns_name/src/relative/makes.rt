@@ -1,6 +1,6 @@
 //! Relative names over octets of any kind.
 ghost use Rattle.std.specs.Prelude.{◌≡◌, ◌∷◌, ◌++◌, [], Err, length, IfOk, IfSome};
-ghost use Rattle.dns_label.specs.Name.{labels_wire};
+ghost use Rattle.dns_label.specs.Name.{labels_wire, wire};
 ghost use Rattle.dns_name.specs.Flat.{IsWritten};
 ghost use Rattle.dns_octets.specs.Builder.{IsPast};
 ghost use Rattle.dns_octets.specs.declared.error.AppendError.TheVariants.{ShortBuf, BadLength};
@@ -124,6 +124,7 @@ impl<Octs: OctetsBuilder + Drop> RelativeName<Octs> {
     /// wanting.
     pub fn into_absolute(self) -> Result<Name<Octs>, AppendError>
         ensures ok { IfOk result (λ name. name ≡ self) }
+        ensures short { result ≡ Err ShortBuf → (octets : Octs) × (Octs.list octets ≡ labels_wire self) × IsPast (Octs.bound octets) (length (wire self)) }
         ensures not_bad { result ≡ Err BadLength → ⊥ }
     {
         let mut octets = self.into_octets();

@@ -8,9 +8,8 @@ ghost use Rattle.dns_label.specs.Symbol.{IsSymbol, spelled};
 ghost use Rattle.dns_label.specs.Taken.{RulesOut};
 ghost use Rattle.dns_name.specs.Text.{IsFault};
 ghost use Rattle.dns_name.specs.declared.text.FromStrError.TheVariants.{ShortBuf};
-ghost use Rattle.dns_name.specs.declared.text.relative.RelativeFromStrError.TheVariants.{FromStr};
 
-use super::{FromStrError, PresentationError, RelativeFromStrError, is_dot};
+use super::{FromStrError, PresentationError, is_dot};
 use crate::copies::octets_from;
 use crate::relative::copied_relative;
 use crate::{Name, RelativeName};
@@ -140,19 +139,19 @@ impl Spelling {
             return Err(FromStrError::Presentation(PresentationError::EmptyLabel));
         }
         let octets = octets_from(alloc, &self.octets[..self.len])?;
-        Ok(Name::of_wire(octets))
+        Ok(Name::of_octets(octets))
     }
 
     /// The relative name of the finished labels.
     pub(super) fn finish_relative<Octs: FromBuilder>(
         self,
         alloc: Global,
-    ) -> Result<RelativeName<Octs>, RelativeFromStrError>
+    ) -> Result<RelativeName<Octs>, FromStrError>
     where
         Octs::Builder: EmptyBuilder + Drop,
         requires { (done : List (List ℕ)) × Holds self done [] }
         ensures ok { IfOk result (λ name. IsName name × Holds self name []) }
-        ensures err { IfErr result (λ error. error ≡ FromStr ShortBuf) }
+        ensures err { IfErr result (λ error. error ≡ ShortBuf) }
     {
         Ok(copied_relative(alloc, &self.octets[..self.start])?)
     }

@@ -93,10 +93,12 @@ where
         };
         if spelling.has_open_label() {
             spelling.end_label()?;
-        } else if !spelling.is_new() {
+            return Ok(spelling.finish_relative(alloc)?);
+        }
+        if !spelling.is_new() {
             return Err(RelativeFromStrError::AbsoluteName);
         }
-        spelling.finish_relative(alloc)
+        Ok(spelling.finish_relative(alloc)?)
     }
 }
 

@@ -1,5 +1,6 @@
 //! Data that is not looked into, in octets of another kind.
-ghost use Rattle.std.specs.Prelude.{◌≡◌};
+ghost use Rattle.std.specs.Prelude.{◌≡◌, length};
+ghost use Rattle.dns_octets.specs.Builder.{IsPast};
 
 use super::UnknownRecordData;
 use crate::FlattenInto;
@@ -14,6 +15,8 @@ where
     Octs::Builder: EmptyBuilder + Drop,
 {
     ghost flattens = { λ rdata flat. flat ≡ rdata };
+
+    ghost is_long = { λ rdata. IsPast Octs.Builder.limit (length rdata.octets) };
 
     fn try_flatten_into(self, alloc: Global) -> Result<UnknownRecordData<Octs>, AppendError> {
         Ok(UnknownRecordData {

@@ -1,9 +1,13 @@
 use Rattle.std.proofs.Common.{length}
+use Rattle.dns_name.specs.NoName.{StartsWithLabels}
 use Rattle.dns_name.proofs.Flat.{Leads}
 use Rattle.dns_name.proofs.name.behind_root.Given as goal
 
 abbrev pub invariant-loop-label : goal.invariant-loop-label
-invariant-loop-label l = Leads l.octets l.rest
+invariant-loop-label l = record {
+  leads : Leads l.octets l.rest;
+  front : StartsWithLabels l.octets l.rest;
+}
 
 abbrev pub decreases-loop-label : goal.decreases-loop-label
 decreases-loop-label l = length l.rest

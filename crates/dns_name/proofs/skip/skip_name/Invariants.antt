@@ -1,4 +1,5 @@
 use Rattle.std.proofs.Common.{◌≤◌, ℕ, length}
+use Rattle.dns_name.specs.Cut.{IsCut}
 use Rattle.dns_name.specs.Skip.{Skips}
 use Rattle.dns_name.proofs.skip.skip_name.Given as goal
 
@@ -6,6 +7,8 @@ abbrev pub invariant-loop-label : goal.invariant-loop-label
 invariant-loop-label l = record {
   on : (next : ℕ) → Skips l.octets l.room l.place next → Skips l.octets 254 l.start next;
   back : (next : ℕ) → Skips l.octets 254 l.start next → Skips l.octets l.room l.place next;
+  cut_on : IsCut l.octets 0 l.room l.place → IsCut l.octets 0 254 l.start;
+  cut_back : IsCut l.octets 0 254 l.start → IsCut l.octets 0 l.room l.place;
   within : l.place ≤ length l.octets;
 }
 

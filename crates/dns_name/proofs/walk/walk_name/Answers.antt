@@ -1,5 +1,6 @@
-use Rattle.std.proofs.Common.{ℕ, ◌≡◌, ◌+◌, [], length, ap, ◌∙◌, arith, rules}
+use Rattle.std.proofs.Common.{ℕ, ◌≡◌, ◌+◌, [], length, refl, ap, ◌∙◌, arith, rules}
 use Rattle.std.specs.Prelude.{unwrap_or}
+use Rattle.dns_name.proofs.Cuts.{cut-behind, cut-step, cut-stepped, cut-pointer, cut-led, cut-led_on, cut-bad_type, cut-here, cut-long}
 use Rattle.dns_name.proofs.Walking.{walks-label, walks-pointer, walks-root, walks-none, walks-long, walks-forward, walks-spent}
 use Rattle.dns_name.proofs.Heads.{to_pointer, bad_type-spells_none, short-spells_none, label-within}
 use Rattle.dns_name.proofs.Flat.{some_octets}
@@ -25,6 +26,9 @@ loop-label-preserved-else-is_root c =
     let is = c.from-place.ensures in
     record {
       walks = walks-label _ _ _ _ c.loop-label.invariant.walks c.in-Ok.ensures.ok some (omega arith) (omega arith);
+      cut_on = λ cut. c.loop-label.invariant.cut_on
+          (cut-step _ _ (c.len.result + 1) _ _ c.in-Ok.ensures.ok some (omega arith) (omega arith) (omega arith) (omega arith) cut);
+      cut_back = λ cut. cut-stepped _ _ (c.len.result + 1) _ _ (c.loop-label.invariant.cut_back cut) c.in-Ok.ensures.ok some (omega arith) (omega arith) (omega arith);
       within = omega (arith, label-within _ _ _ _ c.in-Ok.ensures.ok c.loop-label.invariant.within);
       few = omega arith;
     }
@@ -43,6 +47,11 @@ loop-label-preserved c =
     record {
       walks = rw (c.from-target.ensures, c.unwrap_or.ensures)
           (walks-pointer _ _ c.loop-label.invariant.walks (to_pointer _ c.in-Err-Pointer.ensures.err c.in-Err-Pointer.field-0-is) (omega arith) (omega arith));
+      cut_on = rw c.from-target.ensures
+          (λ cut. c.loop-label.invariant.cut_on
+          (cut-pointer _ _ _ _ _ (to_pointer _ c.in-Err-Pointer.ensures.err c.in-Err-Pointer.field-0-is) (omega arith) (omega arith) cut));
+      cut_back = rw c.from-target.ensures
+          (λ cut. cut-led_on _ _ (c.loop-label.invariant.cut_back cut) (to_pointer _ c.in-Err-Pointer.ensures.err c.in-Err-Pointer.field-0-is) (omega arith));
       within = omega (arith, c.loop-label.invariant.within);
       few = c.loop-label.invariant.few;
     }
@@ -54,3 +63,31 @@ returns-in-Err-BadType-clause-err c =
 pub returns-in-Err-ShortInput-clause-err : goal.returns-in-Err-ShortInput-clause-err
 returns-in-Err-ShortInput-clause-err c =
     walks-none c.loop-label.invariant.walks (λ name after spelled. short-spells_none c.in-Err-ShortInput.ensures.err c.in-Err-ShortInput.field-0-is spelled)
+
+pub returns-then-len-count-gt255-clause-short : goal.returns-then-len-count-gt255-clause-short
+returns-then-len-count-gt255-clause-short c =
+    (λ is. cc, λ cut. absurd (cut-long _ _ (c.loop-label.invariant.cut_back cut) c.in-Ok.ensures.ok (omega (arith, c.len.ensures))))
+
+pub returns-then-target-place-clause-short : goal.returns-then-target-place-clause-short
+returns-then-target-place-clause-short c = (
+  λ is. cc,
+  λ cut.
+      let led = cut-led _ (c.loop-label.invariant.cut_back cut) (to_pointer _ c.in-Err-Pointer.ensures.err c.in-Err-Pointer.field-0-is) in
+      absurd (omega (arith, led.back, c.from-target.ensures)),
+)
+
+pub returns-then-left-eq0-clause-short : goal.returns-then-left-eq0-clause-short
+returns-then-left-eq0-clause-short c = (
+  λ is. cc,
+  λ cut.
+      let led = cut-led _ (c.loop-label.invariant.cut_back cut) (to_pointer _ c.in-Err-Pointer.ensures.err c.in-Err-Pointer.field-0-is) in
+      absurd (omega (arith, led.more)),
+)
+
+pub returns-in-Err-BadType-clause-short : goal.returns-in-Err-BadType-clause-short
+returns-in-Err-BadType-clause-short c =
+    (λ is. cc, λ cut. absurd (cut-bad_type c.in-Err-BadType.ensures.err c.in-Err-BadType.field-0-is (c.loop-label.invariant.cut_back cut)))
+
+pub returns-in-Err-ShortInput-clause-short : goal.returns-in-Err-ShortInput-clause-short
+returns-in-Err-ShortInput-clause-short c =
+    (λ is. c.loop-label.invariant.cut_on (cut-here c.in-Err-ShortInput.ensures.err c.in-Err-ShortInput.field-0-is), λ cut. refl)

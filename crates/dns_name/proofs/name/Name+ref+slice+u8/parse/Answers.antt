@@ -42,3 +42,10 @@ returns-in_err-octets-clause-err c =
     (place_of c.args.parser.now) (length c.next_255-front.result.now - length c.in-Ok.behind.now)
     c.in-Ok.ensures.ok.0 c.next_255-front.ensures c.in-Ok.ensures.ok.1 refl c.args.parser.now.within in
     let bad = c.in_err-octets.ensures.enough.1 within in cc)
+
+pub returns-in_err-octets-clause-short : goal.returns-in_err-octets-clause-short
+returns-in_err-octets-clause-short c =
+    let within = front_within (octets_of c.args.parser.now) c.next_255-front.result.now c.in-Ok.behind.now
+    (place_of c.args.parser.now) (length c.next_255-front.result.now - length c.in-Ok.behind.now)
+    c.in-Ok.ensures.ok.0 c.next_255-front.ensures c.in-Ok.ensures.ok.1 refl c.args.parser.now.within in
+    let bad = c.in_err-octets.ensures.enough.1 within in cc

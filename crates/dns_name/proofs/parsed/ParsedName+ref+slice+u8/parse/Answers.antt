@@ -12,6 +12,12 @@ returns-in_err-seek-clause-err c =
     let within = spelled-within found.1.spelled in
     let bad = c.in_err-seek.ensures.enough.1 (omega (arith, ap (length {A = ℕ}) c.as_slice-octets.ensures)) in cc
 
+pub returns-in_err-seek-clause-short : goal.returns-in_err-seek-clause-short
+returns-in_err-seek-clause-short c =
+    let found = c.in_ok-walk.ensures.ok in
+    let within = spelled-within found.1.spelled in
+    let bad = c.in_err-seek.ensures.enough.1 (omega (arith, ap (length {A = ℕ}) c.as_slice-octets.ensures)) in cc
+
 pub invariant_of-result : goal.invariant_of-result
 invariant_of-result c =
     let found = c.in_ok-walk.ensures.ok in

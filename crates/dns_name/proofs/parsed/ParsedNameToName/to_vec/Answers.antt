@@ -18,12 +18,12 @@ loop-label-preserved g c =
     c.loop-label.invariant c.in-Some.ensures.steps c.in_ok-push.ensures.items c.len.ensures
     (c.in_ok-extend_from_slice.ensures.items ∙ ap (λ l. c.push.new.self.items ++ l) c.as_slice.ensures)
 
-pub of_wire-requires : goal.of_wire-requires
-of_wire-requires g c =
+pub of_octets-requires : goal.of_octets-requires
+of_octets-requires g c =
     flat-written _ _ (read-name _ _ c.args.self.now.reads)
     (wire_made c.loop-label.octets.items c.loop-label.label-iterator _ c.loop-label.invariant c.in-None.ensures.steps.0)
 
 pub returns : goal.returns
 returns g c =
-    wire_one _ _ (sym c.of_wire.ensures
+    wire_one _ _ (sym c.of_octets.ensures
     ∙ wire_made c.loop-label.octets.items c.loop-label.label-iterator _ c.loop-label.invariant c.in-None.ensures.steps.0)

@@ -1,4 +1,7 @@
-use Rattle.std.proofs.Common.{sym, ◌∙◌, ap, [], ◌∷◌, ◌++◌}
+use Rattle.std.proofs.Common.{◌≡◌, ℕ, length, subst, sym, ◌∙◌, ap, [], ◌∷◌, ◌++◌, rules}
+use Rattle.std.specs.Prelude.{Err}
+use Rattle.dns_octets.specs.Builder.{IsPast}
+use Rattle.dns_octets.specs.declared.error.AppendError.TheVariants.{ShortBuf}
 use Rattle.dns_name.proofs.Case.{wire_one}
 use Rattle.dns_name.proofs.Flat.{flat-written}
 use Rattle.dns_name.proofs.Wire.{wire_is}
@@ -8,6 +11,13 @@ pub of_octets-requires : goal.of_octets-requires
 of_octets-requires g c =
     flat-written _ c.args.self c.into_octets-octets.ensures.name
     (c.in_ok-append_slice.ensures.ok ∙ ap (λ l. l ++ 0 ∷ []) c.into_octets-octets.ensures.octets ∙ sym (wire_is c.args.self))
+
+pub returns-in_err-append_slice-clause-short : goal.returns-in_err-append_slice-clause-short
+returns-in_err-append_slice-clause-short g c is =
+    let refused : c.append_slice.result ≡ Err ShortBuf = search rules in
+    let whole = ap (λ l. l ++ 0 ∷ []) c.into_octets-octets.ensures.octets ∙ sym (wire_is c.args.self) in
+    let P : ℕ → Type 0 = λ n. IsPast (g.Octs.OctetsBuilder.bound c.into_octets-octets.result) n in
+    (c.into_octets-octets.result, c.into_octets-octets.ensures.octets, subst P (ap (length {A = ℕ}) whole) (c.append_slice.ensures.short refused))
 
 pub returns-clause-ok : goal.returns-clause-ok
 returns-clause-ok g c =

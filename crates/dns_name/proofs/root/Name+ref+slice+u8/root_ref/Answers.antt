@@ -4,10 +4,10 @@ use Rattle.dns_name.proofs.Flat.{flat-written}
 use Rattle.dns_name.proofs.Case.{wire_one}
 use Rattle.dns_name.proofs.root.Name+ref+slice+u8.root_ref.Goals as goal
 
-pub of_wire-requires : goal.of_wire-requires
-of_wire-requires c =
+pub of_octets-requires : goal.of_octets-requires
+of_octets-requires c =
     let is_name : IsName [] = record { labels = tt; short = omega arith } in
     flat-written _ [] is_name refl
 
 pub returns : goal.returns
-returns c = wire_one c.of_wire.result [] (sym c.of_wire.ensures)
+returns c = wire_one c.of_octets.result [] (sym c.of_octets.ensures)
