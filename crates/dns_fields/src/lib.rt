@@ -11,8 +11,6 @@ mod read;
 mod row;
 mod scan;
 mod show;
-#[cfg(test)]
-mod tests;
 
 pub use compose::{compose_canonical_row, compose_row, row_len};
 pub use convert::{ConvertField, ConvertRow};

@@ -16,8 +16,6 @@ mod ptr;
 mod rp;
 mod soa;
 mod srv;
-#[cfg(test)]
-mod tests;
 
 pub use cname::Cname;
 pub use mb::Mb;

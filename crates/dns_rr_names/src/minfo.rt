@@ -147,6 +147,8 @@ where
 {
     ghost flattens = { λ rdata flat. flat ≡ rdata };
 
+    ghost is_long = { OneIsPast Octs.Builder.limit };
+
     fn try_flatten_into(self, alloc: Global) -> Result<Minfo<Name<Octs>>, AppendError> {
         Minfo::try_octets_from(alloc, self)
     }

@@ -146,6 +146,8 @@ where
 {
     ghost flattens = { λ rdata flat. flat ≡ rdata };
 
+    ghost is_long = { OneIsPast Octs.Builder.limit };
+
     fn try_flatten_into(self, alloc: Global) -> Result<Mx<Name<Octs>>, AppendError> {
         Mx::try_octets_from(alloc, self)
     }

@@ -210,6 +210,8 @@ where
 {
     ghost flattens = { λ rdata flat. flat ≡ rdata };
 
+    ghost is_long = { OneIsPast Octs.Builder.limit };
+
     fn try_flatten_into(self, alloc: Global) -> Result<Soa<Name<Octs>>, AppendError> {
         Soa::try_octets_from(alloc, self)
     }

@@ -163,6 +163,8 @@ where
 {
     ghost flattens = { λ rdata flat. flat ≡ rdata };
 
+    ghost is_long = { OneIsPast Octs.Builder.limit };
+
     fn try_flatten_into(self, alloc: Global) -> Result<Srv<Name<Octs>>, AppendError> {
         Srv::try_octets_from(alloc, self)
     }

@@ -9,8 +9,6 @@ mod caa;
 mod dnskey;
 mod ds;
 mod hinfo;
-#[cfg(test)]
-mod tests;
 mod txt;
 
 pub use a::A;

@@ -30,8 +30,6 @@ mod scanner;
 mod scanner_error;
 mod spelled;
 mod string_text;
-#[cfg(test)]
-mod tests;
 mod unknown_data;
 mod values;
 

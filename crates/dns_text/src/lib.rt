@@ -11,8 +11,6 @@ mod formatter;
 pub mod laws;
 mod layout;
 mod names;
-#[cfg(test)]
-mod tests;
 mod uncertain;
 mod values;
 mod writer;

@@ -1,6 +1,6 @@
 //! Absolute and relative names from text (RFC 1035 5.1).
-use dns_name::{FromStrError, PresentationError, SpelledName};
 use arrayvec::ArrayVec;
+use dns_name::{FromStrError, PresentationError, SpelledName};
 use std::alloc::Global;
 use std::test::Fail;
 

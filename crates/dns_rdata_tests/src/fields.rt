@@ -1,0 +1,268 @@
+mod convert;
+mod show;
+mod strings;
+
+use dns_fields::*;
+use dns_name::{AppendError, Name, ParseError, ParsedName, Parser};
+use dns_text::{CharStr, IterScanner, Scanner, StrError};
+use std::alloc::Global;
+use std::cmp::Ordering;
+use std::hash::{DefaultHasher, Hasher};
+use std::net::{Ipv4Addr, Ipv6Addr};
+use std::test::Fail;
+
+fn composed<R: Row>(alloc: Global, row: &R) -> Result<Vec<u8>, AppendError> {
+    let mut target = Vec::new(alloc);
+    compose_row(row, &mut target)?;
+    Ok(target)
+}
+
+fn canonical<R: Row>(alloc: Global, row: &R) -> Result<Vec<u8>, AppendError> {
+    let mut target = Vec::new(alloc);
+    compose_canonical_row(row, &mut target)?;
+    Ok(target)
+}
+
+fn hashed<R: Row>(row: &R) -> u64 {
+    let mut state = DefaultHasher::new();
+    row.hash_fields(&mut state);
+    state.finish()
+}
+
+#[test]
+fn rows_end_with_a_rest(rt: HostRuntime) -> Result<(), Fail> {
+    let ds = (1u16, (8u8, (2u8, Last(Rest16(b"\xab".as_slice())))));
+    assert_eq!(rt;
+        composed(rt.alloc(), &ds)?.as_slice(),
+        b"\x00\x01\x08\x02\xab".as_slice()
+    );
+    assert_eq!(rt; row_len(&ds, true), Some(5));
+    let key = (256u16, (3u8, (8u8, Last(Rest64(b"\x01".as_slice())))));
+    assert_eq!(rt;
+        canonical(rt.alloc(), &key)?.as_slice(),
+        b"\x01\x00\x03\x08\x01".as_slice()
+    );
+    assert_eq!(rt; key.fields_cmp(&key), Ordering::Equal);
+    let caa = (
+        0u8,
+        (
+            Tag(CharStr::from_slice(b"issue")?),
+            Last(RestText(b"ca.b".as_slice())),
+        ),
+    );
+    assert_eq!(rt;
+        composed(rt.alloc(), &caa)?.as_slice(),
+        b"\x00\x05issueca.b".as_slice()
+    );
+    let long = [7u8; 65_535];
+    assert_eq!(rt; row_len(&(1u8, Last(Rest16(long.as_slice()))), false), None);
+    assert_eq!(rt;
+        row_len(&Last(Rest16(long.as_slice())), false),
+        Some(65_535)
+    );
+    Ok(())
+}
+
+#[test]
+fn strings_are_compared_up_to_case(rt: HostRuntime) -> Result<(), Fail> {
+    let one = (
+        CharStr::from_slice(b"PDP-11")?,
+        (CharStr::from_slice(b"UNIX")?, ()),
+    );
+    let other = (
+        CharStr::from_slice(b"pdp-11")?,
+        (CharStr::from_slice(b"unix")?, ()),
+    );
+    let shorter = (CharStr::from_slice(b"z")?, (CharStr::from_slice(b"")?, ()));
+    assert_eq!(rt;
+        composed(rt.alloc(), &one)?.as_slice(),
+        b"\x06PDP-11\x04UNIX".as_slice()
+    );
+    assert!(rt; one.fields_eq(&other));
+    assert!(rt; !one.fields_eq(&shorter));
+    assert_eq!(rt; hashed(&one), hashed(&other));
+    assert_eq!(rt; one.fields_cmp(&other), Ordering::Equal);
+    assert_eq!(rt; one.canonical_fields_cmp(&other), Ordering::Less);
+    assert_eq!(rt; shorter.canonical_fields_cmp(&one), Ordering::Less);
+    let tag = (Tag(CharStr::from_slice(b"Issue")?), ());
+    let small = (Tag(CharStr::from_slice(b"issue")?), ());
+    assert!(rt; tag.fields_eq(&small));
+    assert_eq!(rt; tag.canonical_fields_cmp(&small), Ordering::Less);
+    Ok(())
+}
+
+#[test]
+fn names_are_written_with_and_without_pointers(rt: HostRuntime) -> Result<(), Fail> {
+    let row = (
+        Compressible(Name::from_slice(b"\x01A\x00")?),
+        (Uncompressed(Name::from_slice(b"\x01B\x00")?), ()),
+    );
+    assert_eq!(rt;
+        composed(rt.alloc(), &row)?.as_slice(),
+        b"\x01A\x00\x01B\x00".as_slice()
+    );
+    assert_eq!(rt;
+        canonical(rt.alloc(), &row)?.as_slice(),
+        b"\x01a\x00\x01b\x00".as_slice()
+    );
+    assert_eq!(rt; row_len(&row, true), None);
+    assert_eq!(rt; row_len(&row, false), Some(6));
+    Ok(())
+}
+
+#[test]
+fn addresses_are_read(rt: HostRuntime) -> Result<(), Fail> {
+    let mut parser = Parser::from_ref(b"\x01\x02\x03\x04");
+    let (address, ()) = parse_row::<(Ipv4Addr, ()), 1>(&mut parser)?;
+    assert_eq!(rt; address, Ipv4Addr::new(1, 2, 3, 4));
+    assert_eq!(rt;
+        composed(rt.alloc(), &(address, ()))?.as_slice(),
+        b"\x01\x02\x03\x04".as_slice()
+    );
+    let mut longer = Parser::from_ref(b"\0\0\0\0\0\0\0\0\0\0\0\0\0\0\0\x01");
+    let (address, ()) = parse_row::<(Ipv6Addr, ()), 28>(&mut longer)?;
+    assert_eq!(rt; address, Ipv6Addr::new(0, 0, 0, 0, 0, 0, 0, 1));
+    let mut trailing = Parser::from_ref(b"\x01\x02\x03\x04\x05");
+    assert_eq!(rt;
+        parse_row::<(Ipv4Addr, ()), 1>(&mut trailing).err(),
+        Some(ReadError::TrailingData)
+    );
+    assert_eq!(rt; trailing.pos(), 0);
+    let mut short = Parser::from_ref(b"\x01\x02\x03");
+    assert_eq!(rt;
+        parse_row::<(Ipv4Addr, ()), 1>(&mut short).err(),
+        Some(ReadError::ShortInput)
+    );
+    let mut pointer = Parser::from_ref(b"\xc0\x00");
+    let name = parse_row::<(Compressible<ParsedName<&[u8]>>, ()), 2>(&mut pointer);
+    assert_eq!(rt; name.err(), Some(ReadError::BadName));
+    Ok(())
+}
+
+#[test]
+fn errors_say_what_is_wrong(rt: HostRuntime) -> Result<(), Fail> {
+    assert_eq!(rt;
+        ReadError::TrailingData.to_string(rt.alloc())?.as_str(),
+        "trailing data"
+    );
+    assert_eq!(rt;
+        ParseError::from(ReadError::ShortInput),
+        ParseError::ShortInput
+    );
+    assert_eq!(rt;
+        ParseError::from(ReadError::LongRecordData)
+            .to_string(rt.alloc())?
+            .as_str(),
+        "record data too long"
+    );
+    Ok(())
+}
+
+#[test]
+fn strings_and_rests_are_read(rt: HostRuntime) -> Result<(), Fail> {
+    let octets = b"\x00\x05issueca.b".as_slice();
+    let mut parser = Parser::from_ref(octets);
+    let caa = parse_row::<(u8, (Tag<&[u8]>, Last<RestText<&[u8]>>)), 257>(&mut parser)?;
+    assert_eq!(rt; composed(rt.alloc(), &caa)?.as_slice(), octets);
+    let octets = b"\x03CPU\x02os".as_slice();
+    let mut parser = Parser::from_ref(octets);
+    let hinfo = parse_row::<(CharStr<&[u8]>, (CharStr<&[u8]>, ())), 13>(&mut parser)?;
+    assert_eq!(rt; composed(rt.alloc(), &hinfo)?.as_slice(), octets);
+    let octets = b"\x00\x01\x08\x02\xab".as_slice();
+    let mut parser = Parser::from_ref(octets);
+    let ds = parse_row::<(u16, (u8, (u8, Last<Rest16<&[u8]>>))), 43>(&mut parser)?;
+    assert_eq!(rt; composed(rt.alloc(), &ds)?.as_slice(), octets);
+    let mut parser = Parser::from_ref(octets);
+    let key = parse_row::<(u16, (u8, (u8, Last<Rest64<&[u8]>>))), 48>(&mut parser)?;
+    assert_eq!(rt; composed(rt.alloc(), &key)?.as_slice(), octets);
+    Ok(())
+}
+
+fn over(alloc: Global, words: &str) -> Result<IterScanner<'_>, StrError> {
+    match IterScanner::new(alloc, words.split_whitespace()) {
+        Ok(scanner) => Ok(scanner),
+        Err(_) => Err(StrError::ShortBuf),
+    }
+}
+
+#[test]
+fn fields_are_scanned(rt: HostRuntime) -> Result<(), Fail> {
+    let mut scanner = over(rt.alloc(), "10 mail.Example. next")?;
+    let mx = scan_row::<_, (u16, (Compressible<Name<Vec<u8>>>, ())), 15>(&mut scanner)?;
+    assert_eq!(rt;
+        composed(rt.alloc(), &mx)?.as_slice(),
+        b"\x00\x0a\x04mail\x07Example\x00".as_slice()
+    );
+    assert_eq!(rt; scanner.peek_text()?, b"next".as_slice());
+    let mut scanner = over(rt.alloc(), "1 2 65535 a.b.")?;
+    let srv = scan_row::<_, (u16, (u16, (u16, (Uncompressed<Name<Vec<u8>>>, ())))), 33>(
+        &mut scanner,
+    )?;
+    assert_eq!(rt;
+        composed(rt.alloc(), &srv)?.as_slice(),
+        b"\x00\x01\x00\x02\xff\xff\x01a\x01b\x00".as_slice()
+    );
+    let mut scanner = over(rt.alloc(), "192.0.2.1 2001:db8::1")?;
+    let (address, ()) = scan_row::<_, (Ipv4Addr, ()), 1>(&mut scanner)?;
+    assert_eq!(rt; address, Ipv4Addr::new(192, 0, 2, 1));
+    let (address, ()) = scan_row::<_, (Ipv6Addr, ()), 28>(&mut scanner)?;
+    assert_eq!(rt; address, Ipv6Addr::new(0x2001, 0xdb8, 0, 0, 0, 0, 0, 1));
+    let mut scanner = over(rt.alloc(), "PDP\\04511 \\117nix")?;
+    let hinfo = scan_row::<_, (CharStr<Vec<u8>>, (CharStr<Vec<u8>>, ())), 13>(&mut scanner)?;
+    assert_eq!(rt;
+        composed(rt.alloc(), &hinfo)?.as_slice(),
+        b"\x06PDP-11\x04unix".as_slice()
+    );
+    Ok(())
+}
+
+#[test]
+fn rests_are_scanned(rt: HostRuntime) -> Result<(), Fail> {
+    let mut scanner = over(rt.alloc(), "0 issue ca.b")?;
+    let caa = scan_row::<_, (u8, (Tag<Vec<u8>>, Last<RestText<Vec<u8>>>)), 257>(&mut scanner)?;
+    assert_eq!(rt;
+        composed(rt.alloc(), &caa)?.as_slice(),
+        b"\x00\x05issueca.b".as_slice()
+    );
+    let mut scanner = over(rt.alloc(), "1 8 2 a bC d")?;
+    let ds = scan_row::<_, (u16, (u8, (u8, Last<Rest16<Vec<u8>>>))), 43>(&mut scanner)?;
+    assert_eq!(rt;
+        composed(rt.alloc(), &ds)?.as_slice(),
+        b"\x00\x01\x08\x02\xab\xcd".as_slice()
+    );
+    let mut scanner = over(rt.alloc(), "256 3 8 Zm 9v")?;
+    let key = scan_row::<_, (u16, (u8, (u8, Last<Rest64<Vec<u8>>>))), 48>(&mut scanner)?;
+    assert_eq!(rt;
+        composed(rt.alloc(), &key)?.as_slice(),
+        b"\x01\x00\x03\x08foo".as_slice()
+    );
+    Ok(())
+}
+
+#[test]
+fn other_fields_are_not_scanned(rt: HostRuntime) -> Result<(), Fail> {
+    let mut scanner = over(rt.alloc(), "10 65536 256.0.2.1 ::x a..b 10")?;
+    assert_eq!(rt;
+        scan_row::<_, (u16, (u16, (u16, (Uncompressed<Name<Vec<u8>>>, ())))), 33>(
+            &mut scanner
+        ).err(),
+        Some(StrError::Custom("invalid word"))
+    );
+    assert_eq!(rt;
+        scan_row::<_, (Ipv4Addr, ()), 1>(&mut scanner).err(),
+        Some(StrError::Custom("invalid word"))
+    );
+    assert_eq!(rt;
+        scan_row::<_, (Ipv6Addr, ()), 28>(&mut scanner).err(),
+        Some(StrError::Custom("invalid word"))
+    );
+    assert_eq!(rt;
+        scan_row::<_, (Compressible<Name<Vec<u8>>>, ()), 2>(&mut scanner).err(),
+        Some(StrError::Custom("invalid name"))
+    );
+    assert_eq!(rt;
+        scan_row::<_, (u16, (Compressible<Name<Vec<u8>>>, ())), 15>(&mut scanner).err(),
+        Some(StrError::EndOfEntry)
+    );
+    Ok(())
+}

@@ -1,5 +1,0 @@
-use Rattle.std.proofs.Common.{rules, []}
-use Rattle.dns_text.proofs.tests.rows.BareZonefileFmt.fmt.Goals as goal
-
-pub returns : goal.returns
-returns g c = let filled = c.in_ok-block.ensures [] (λ before behind result met. search rules) in search rules
