@@ -17,7 +17,9 @@ from pathlib import Path
 ROOT = Path(__file__).resolve().parent.parent
 HEAD = re.compile(r"^( *)(?:pub(?:\([^)]*\))? )?(?:const |unsafe |final )*fn (\w+)", re.M)
 NOTE = re.compile(r"(src/\S+\.rt):(\d+):\d+: ")
-UNPROVED = re.compile(r"fn (\S+): (?:no proof|not proved)")
+IMPL = re.compile(r"^impl(?:<.*?>)? (\w+)[^\n]*", re.M)
+# (a function that only waits for another one is not refused itself)
+UNPROVED = re.compile(r"fn (\S+): (?:no proof: expected|not proved$)", re.M)
 
 
 @dataclass(frozen=True)
@@ -34,6 +36,7 @@ class Function:
     """A function of the changed source, by the lines that it takes."""
 
     path: str
+    owner: str
     name: str
     first: int
     last: int
@@ -69,7 +72,8 @@ def function_at(text, line, path):
         return None
     first, name = before[-1]
     after = [at for at, _ in heads if at > first]
-    return Function(path, name, first + 1, after[0] if after else text.count("\n") + 1)
+    impls = [it[1] for it in IMPL.finditer(text) if text.count("\n", 0, it.start()) < first and " for " not in it[0]]
+    return Function(path, impls[-1] if impls else "", name, first + 1, after[0] if after else text.count("\n") + 1)
 
 
 def apply(crate, changes):
@@ -102,7 +106,10 @@ def is_refused(function, lines, names):
         return True
     module = function.path[len("src/") : -len(".rt")].replace("/", "::")
     module = "" if module == "lib" else module + "::"
-    return any(re.search(rf"::{module}(\w+::)?{function.name}$", it) for it in names)
+    # (a method of a type stands under the type's module, whichever file it is in)
+    places = [rf"::{module}([^: ]+::)?{function.name}$"]
+    places += [rf"::{function.owner}::{function.name}$"] if function.owner else []
+    return any(re.search(place, it) for place in places for it in names)
 
 
 def lower(name, needs):
