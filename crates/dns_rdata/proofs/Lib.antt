@@ -1,2 +1,3 @@
-pub mod Fronts
 pub mod Delimited
+pub mod Fronts
+pub mod ScanAny

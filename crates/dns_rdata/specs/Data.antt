@@ -1,0 +1,96 @@
+-- Data of a zone's records: a row of fields, or octets that are not looked into (RFC 3597).
+use Rattle.std.specs.Prelude.{◌≡◌, ℕ, Bool, true, false, List, [], ◌∷◌, ◌++◌, Option, None, length, nat_eq}
+use Rattle.std.proofs.Math.Bool.{beq}
+use Rattle.std.specs.Hash as fed
+use Rattle.std.specs.Ordering.{on, eq_of_both, then_cmp, nat_cmp, bool_cmp}
+use Rattle.std.specs.Cmp.Lexicographic.{pointwise, slice_cmp}
+use Rattle.std.specs.declared.cmp.Ordering.{Ordering}
+use Rattle.dns_octets.specs.Builder.{IsPast}
+use Rattle.dns_name.specs.Page.{Parts}
+use Rattle.dns_name.specs.Page.Parts.{End, Octets}
+use Rattle.dns_name.specs.Unknown.{UnknownData, IsUnknownAt}
+use Rattle.dns_scan.specs.Token.{Token, marker}
+use Rattle.dns_scan.specs.UnknownData.{IsUnknownData}
+use Rattle.dns_text.specs.Document.{Piece}
+use Rattle.dns_text.specs.Documents.{block_of, unknown_tokens}
+use Rattle.dns_fields.specs.Fields.{Field, kinds_of, canonical_octets}
+use Rattle.dns_fields.specs.Alike.{keys}
+use Rattle.dns_fields.specs.Held.{OneIsPast}
+use Rattle.dns_fields.specs.Reading.{ReadsRow}
+use Rattle.dns_fields.specs.Scanned.{ScansData}
+use Rattle.dns_fields.specs.Shown.{data_pieces}
+use Rattle.dns_fields.specs.Written.{written_parts}
+
+-- the number of a type with the row of its fields, or data that is not looked into
+pub data Data : Type 0 where
+  typed : ℕ → List Field → Data
+  untyped : UnknownData → Data
+
+abbrev pub number_of : Data → ℕ
+number_of (typed number row) = number
+number_of (untyped unknown) = unknown.number
+
+-- whether it is not looked into
+abbrev pub is_untyped : Data → Bool
+is_untyped (typed number row) = false
+is_untyped (untyped unknown) = true
+
+-- what the data is written as
+abbrev pub parts_of : Data → Parts
+parts_of (typed number row) = written_parts row
+parts_of (untyped unknown) = Octets unknown.octets End
+
+-- the canonical form (RFC 4034 6.2); that of data that is not looked into are its octets
+abbrev pub canonical_of : Data → List ℕ
+canonical_of (typed number row) = canonical_octets row
+canonical_of (untyped unknown) = unknown.octets
+
+-- The octets from the place on are the data of the type: fields where the type has some, and else untyped.
+abbrev pub ReadsData : List ℕ → ℕ → ℕ → Data → Type 0
+ReadsData message place rtype (typed number row) = (number ≡ rtype) × ReadsRow rtype message place row
+ReadsData message place rtype (untyped unknown) = (kinds_of rtype ≡ None) × IsUnknownAt message place rtype unknown
+
+-- what counts of the fields, or the octets
+abbrev pub counted : Data → List (List ℕ)
+counted (typed number row) = keys row
+counted (untyped unknown) = unknown.octets ∷ []
+
+-- data is equal of the same type, and alike not looked into or not, of which the same counts
+unfoldable pub data_eq : Data → Data → Bool
+data_eq = eq_of_both (on number_of nat_eq) (eq_of_both (on is_untyped beq) (on counted (pointwise (pointwise nat_eq))))
+
+-- by type, then fields in front of data that is not looked into, then by what counts
+unfoldable pub data_cmp : Data → Data → Ordering
+data_cmp = then_cmp (on number_of nat_cmp) (then_cmp (on is_untyped bool_cmp) (on counted (slice_cmp (slice_cmp nat_cmp))))
+
+-- by type, and then by the canonical octets, typed or not (RFC 4034 6.3)
+unfoldable pub canonical_data_cmp : Data → Data → Ordering
+canonical_data_cmp = then_cmp (on number_of nat_cmp) (on canonical_of (slice_cmp nat_cmp))
+
+-- how data is hashed: by its type, and by what counts of its fields, or by its type and its octets
+abbrev pub data_hashed : Data → List (List ℕ)
+data_hashed (typed number row) = fed.u16 number ++ keys row
+data_hashed (untyped unknown) = fed.u16 unknown.number ++ (fed.u16 unknown.number ++ fed.slice fed.u8 unknown.octets)
+
+-- the first token is not what marks untyped data
+abbrev pub IsUnmarked : List Token → Type 0
+IsUnmarked tokens = (words : List Token) → tokens ≡ marker ∷ words → ⊥
+
+-- The tokens begin with the text of data of the type, and these are left: untyped, whatever the type, where the first one
+-- marks it (RFC 3597 5), and else fields.
+abbrev pub ScansAnyData : (List ℕ → List (List ℕ) → Type 0) → ℕ → Data → List Token → List Token → Type 0
+ScansAnyData names rtype (typed number row) tokens left =
+    IsUnmarked tokens × (number ≡ rtype) × ScansData names rtype row tokens left
+ScansAnyData names rtype (untyped unknown) tokens left =
+    (unknown.number ≡ rtype) × (words : List Token) × (tokens ≡ marker ∷ words) × IsUnknownData words unknown.octets
+    × (left ≡ [])
+
+-- how the data is printed
+abbrev pub document_of : Data → List Piece
+document_of (typed number row) = block_of (data_pieces number row)
+document_of (untyped unknown) = block_of (unknown_tokens unknown.octets)
+
+-- a field holds more octets than the bound, or there are more that are not looked into
+abbrev pub HoldsPast : Option ℕ → Data → Type 0
+HoldsPast bound (typed number row) = OneIsPast bound row
+HoldsPast bound (untyped unknown) = IsPast bound (length unknown.octets)

@@ -1,0 +1,53 @@
+//! Data of any type out of a message.
+ghost use Rattle.std.specs.Prelude.{true};
+ghost use Rattle.dns_rdata.specs.Data.{ReadsData};
+ghost use Rattle.dns_rdata.specs.ZoneData.{data_of};
+
+use super::ZoneRecordData;
+use crate::{A, Ns, Md, Mf, Cname, Soa, Mb, Mg, Mr, Ptr, Hinfo, Minfo, Mx, Txt, Rp, Aaaa, Srv, Ds, Dnskey, Caa};
+use dns_name::{
+    ParseAnyRecordData, ParseError, ParseRecordData, ParsedName, Parser, Rtype, UnknownRecordData,
+};
+
+/// Takes the fields of the types that have some, up to the end of the parser with nothing left, and of every other type its
+/// octets, at most 65,535 of them.
+impl<'a> ParseAnyRecordData<'a> for ZoneRecordData<&'a [u8], ParsedName<&'a [u8]>> {
+    ghost reads_any = { λ message place number rdata. ReadsData message place number (data_of rdata) };
+
+    fn parse_any_rdata(rtype: Rtype, parser: &mut Parser<'a>) -> Result<Self, ParseError> {
+        Ok(match rtype {
+            Rtype::A => ZoneRecordData::A(A::parse(parser)?),
+            Rtype::NS => ZoneRecordData::Ns(Ns::parse(parser)?),
+            Rtype::MD => ZoneRecordData::Md(Md::parse(parser)?),
+            Rtype::MF => ZoneRecordData::Mf(Mf::parse(parser)?),
+            Rtype::CNAME => ZoneRecordData::Cname(Cname::parse(parser)?),
+            Rtype::SOA => ZoneRecordData::Soa(Soa::parse(parser)?),
+            Rtype::MB => ZoneRecordData::Mb(Mb::parse(parser)?),
+            Rtype::MG => ZoneRecordData::Mg(Mg::parse(parser)?),
+            Rtype::MR => ZoneRecordData::Mr(Mr::parse(parser)?),
+            Rtype::PTR => ZoneRecordData::Ptr(Ptr::parse(parser)?),
+            Rtype::HINFO => ZoneRecordData::Hinfo(Hinfo::parse(parser)?),
+            Rtype::MINFO => ZoneRecordData::Minfo(Minfo::parse(parser)?),
+            Rtype::MX => ZoneRecordData::Mx(Mx::parse(parser)?),
+            Rtype::TXT => ZoneRecordData::Txt(Txt::parse(parser)?),
+            Rtype::RP => ZoneRecordData::Rp(Rp::parse(parser)?),
+            Rtype::AAAA => ZoneRecordData::Aaaa(Aaaa::parse(parser)?),
+            Rtype::SRV => ZoneRecordData::Srv(Srv::parse(parser)?),
+            Rtype::DS => ZoneRecordData::Ds(Ds::parse(parser)?),
+            Rtype::DNSKEY => ZoneRecordData::Dnskey(Dnskey::parse(parser)?),
+            Rtype::CAA => ZoneRecordData::Caa(Caa::parse(parser)?),
+            _ => ZoneRecordData::Unknown(UnknownRecordData::parse_any_rdata(rtype, parser)?),
+        })
+    }
+}
+
+/// Takes every type.
+impl<'a> ParseRecordData<'a> for ZoneRecordData<&'a [u8], ParsedName<&'a [u8]>> {
+    ghost takes = { λ _. true };
+
+    ghost reads = { λ message place number rdata. ReadsData message place number (data_of rdata) };
+
+    fn parse_rdata(rtype: Rtype, parser: &mut Parser<'a>) -> Result<Option<Self>, ParseError> {
+        Ok(Some(ZoneRecordData::parse_any_rdata(rtype, parser)?))
+    }
+}

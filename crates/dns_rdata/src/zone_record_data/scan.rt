@@ -1,0 +1,92 @@
+//! Data of any type out of text.
+ghost use Rattle.std.specs.Prelude.{◌≡◌, ◌∷◌, List, false, IfOk, IfErr, OnErr};
+ghost use Rattle.dns_scan.specs.Token.{Token, IsEnding, SameNames, marker};
+ghost use Rattle.dns_rdata.specs.Data.{Data, IsUnmarked, ScansAnyData};
+ghost use Rattle.dns_rdata.specs.ZoneData.{data_of};
+
+use super::ZoneRecordData;
+use crate::{A, Ns, Md, Mf, Cname, Soa, Mb, Mg, Mr, Ptr, Hinfo, Minfo, Mx, Txt, Rp, Aaaa, Srv, Ds, Dnskey, Caa};
+use dns_name::{FromBuilder, Octets, Rtype, ToName};
+use dns_text::{Scanner, ScannerError, scan_without_marker};
+
+impl<Octs: FromBuilder + Drop, N: ToName + Drop> ZoneRecordData<Octs, N> {
+    /// Reads data of the type from the tokens in front, and takes these (RFC 1035 5.1). Where the first one is the unquoted
+    /// `\#`, this is data of any type as its octets (RFC 3597 5), which takes all tokens, and is not judged by the fields that the
+    /// type has; a type without fields has this form alone. Tokens behind the last field stay.
+    ///
+    /// Refused with an error other than `short_buf` only where no data of the type stands in front; the tokens left are then
+    /// an ending of those left before.
+    pub fn scan<S: Scanner<Octets = Octs, Name = N>>(
+        rtype: Rtype,
+        scanner: &mut S,
+    ) -> Result<Self, S::Error>
+        ensures ok { IfOk result (λ rdata. ScansAnyData (S.names scanner.old) rtype (data_of rdata) (S.tokens scanner.old)
+            (S.tokens scanner.new)) }
+        ensures err { IfErr result (λ error. S.Error.is_short error ≡ false → (rdata : Data) (left : List Token)
+            → ScansAnyData (S.names scanner.old) rtype rdata (S.tokens scanner.old) left → ⊥) }
+        ensures left { OnErr result (IsEnding (S.tokens scanner.new) (S.tokens scanner.old)) }
+        ensures names { SameNames (S.names scanner.old) (S.names scanner.new) }
+    {
+        match scanner.scan_opt_unknown_marker() {
+            Ok(true) => ZoneRecordData::scan_octets(rtype, scanner),
+            Ok(false) => ZoneRecordData::scan_fields(rtype, scanner),
+            Err(error) => Err(error),
+        }
+    }
+
+    /// Reads data of the type behind what marks it as not looked into.
+    fn scan_octets<S: Scanner<Octets = Octs, Name = N>>(
+        rtype: Rtype,
+        scanner: &mut S,
+    ) -> Result<Self, S::Error>
+        ensures ok { IfOk result (λ rdata. ScansAnyData (S.names scanner.old) rtype (data_of rdata)
+            (marker ∷ S.tokens scanner.old) (S.tokens scanner.new)) }
+        ensures err { IfErr result (λ error. S.Error.is_short error ≡ false → (rdata : Data) (left : List Token)
+            → ScansAnyData (S.names scanner.old) rtype rdata (marker ∷ S.tokens scanner.old) left → ⊥) }
+        ensures left { OnErr result (IsEnding (S.tokens scanner.new) (S.tokens scanner.old)) }
+        ensures names { SameNames (S.names scanner.old) (S.names scanner.new) }
+    {
+        match scan_without_marker(rtype, scanner) {
+            Ok(unknown) => Ok(ZoneRecordData::Unknown(unknown)),
+            Err(error) => Err(error),
+        }
+    }
+
+    /// Reads the fields of data of the type.
+    fn scan_fields<S: Scanner<Octets = Octs, Name = N>>(
+        rtype: Rtype,
+        scanner: &mut S,
+    ) -> Result<Self, S::Error>
+        requires { IsUnmarked (S.tokens scanner.old) }
+        ensures ok { IfOk result (λ rdata. ScansAnyData (S.names scanner.old) rtype (data_of rdata) (S.tokens scanner.old)
+            (S.tokens scanner.new)) }
+        ensures err { IfErr result (λ error. S.Error.is_short error ≡ false → (rdata : Data) (left : List Token)
+            → ScansAnyData (S.names scanner.old) rtype rdata (S.tokens scanner.old) left → ⊥) }
+        ensures left { OnErr result (IsEnding (S.tokens scanner.new) (S.tokens scanner.old)) }
+        ensures names { SameNames (S.names scanner.old) (S.names scanner.new) }
+    {
+        match rtype {
+            Rtype::A => Ok(ZoneRecordData::A(A::scan(scanner)?)),
+            Rtype::NS => Ok(ZoneRecordData::Ns(Ns::scan(scanner)?)),
+            Rtype::MD => Ok(ZoneRecordData::Md(Md::scan(scanner)?)),
+            Rtype::MF => Ok(ZoneRecordData::Mf(Mf::scan(scanner)?)),
+            Rtype::CNAME => Ok(ZoneRecordData::Cname(Cname::scan(scanner)?)),
+            Rtype::SOA => Ok(ZoneRecordData::Soa(Soa::scan(scanner)?)),
+            Rtype::MB => Ok(ZoneRecordData::Mb(Mb::scan(scanner)?)),
+            Rtype::MG => Ok(ZoneRecordData::Mg(Mg::scan(scanner)?)),
+            Rtype::MR => Ok(ZoneRecordData::Mr(Mr::scan(scanner)?)),
+            Rtype::PTR => Ok(ZoneRecordData::Ptr(Ptr::scan(scanner)?)),
+            Rtype::HINFO => Ok(ZoneRecordData::Hinfo(Hinfo::scan(scanner)?)),
+            Rtype::MINFO => Ok(ZoneRecordData::Minfo(Minfo::scan(scanner)?)),
+            Rtype::MX => Ok(ZoneRecordData::Mx(Mx::scan(scanner)?)),
+            Rtype::TXT => Ok(ZoneRecordData::Txt(Txt::scan(scanner)?)),
+            Rtype::RP => Ok(ZoneRecordData::Rp(Rp::scan(scanner)?)),
+            Rtype::AAAA => Ok(ZoneRecordData::Aaaa(Aaaa::scan(scanner)?)),
+            Rtype::SRV => Ok(ZoneRecordData::Srv(Srv::scan(scanner)?)),
+            Rtype::DS => Ok(ZoneRecordData::Ds(Ds::scan(scanner)?)),
+            Rtype::DNSKEY => Ok(ZoneRecordData::Dnskey(Dnskey::scan(scanner)?)),
+            Rtype::CAA => Ok(ZoneRecordData::Caa(Caa::scan(scanner)?)),
+            _ => Err(S::Error::custom("'\\#' expected")),
+        }
+    }
+}

@@ -1,0 +1,29 @@
+//! Data of any type as text.
+ghost use Rattle.std.specs.Prelude.{Some};
+ghost use Rattle.dns_rdata.specs.Data.{document_of};
+ghost use Rattle.dns_rdata.specs.ZoneData.{data_of};
+ghost use Rattle.dns_text.specs.Document.{document_text};
+ghost use Rattle.dns_text.specs.Document.Layout.{Simple};
+
+use super::ZoneRecordData;
+use dns_name::{Octets, ToName};
+use dns_text::{DisplayKind, Formatter, ZonefileFmt};
+use std::fmt;
+
+/// The tokens of the fields in a block, or the octets (RFC 3597 5).
+impl<Octs: Octets, N: ToName> ZonefileFmt for ZoneRecordData<Octs, N> {
+    ghost document = { λ rdata. document_of (data_of rdata) };
+
+    fn fmt<F: Formatter>(&self, formatter: &mut F) -> fmt::Result {
+        of_variant!(self, rdata => ZonefileFmt::fmt(rdata, formatter))
+    }
+}
+
+/// With one space between two tokens.
+impl<Octs: Octets, N: ToName> fmt::Display for ZoneRecordData<Octs, N> {
+    ghost output = { λ rdata. Some (document_text Simple (document_of (data_of rdata))) };
+
+    fn fmt<W: fmt::Write>(&self, f: &mut fmt::Formatter<W>) -> fmt::Result {
+        fmt::Display::fmt(&self.display_zonefile(DisplayKind::Simple), f)
+    }
+}
