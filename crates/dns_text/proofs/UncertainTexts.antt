@@ -12,7 +12,8 @@ use Rattle.dns_name.specs.RelativeText.{IsRelativeNameText, SpellsAbsolute}
 use Rattle.dns_name.specs.Text.{IsRefused}
 use Rattle.dns_text.specs.declared.uncertain.UncertainName.{UncertainName}
 use Rattle.dns_text.specs.declared.uncertain.UncertainName.TheVariants.{Absolute, Relative}
-use Rattle.dns_text.specs.Uncertain.{IsNotRead, IsTextOf, labels_of, text_of}
+use Rattle.dns_name.specs.SpelledText.{IsNotSpelled}
+use Rattle.dns_text.specs.Uncertain.{IsTextOf, labels_of, text_of}
 
 -- a text spells one name
 abbrev pub OneName : Type 0
@@ -25,7 +26,7 @@ read_ok text (Ok name) one spells is = subst (IsAbsoluteText text) (one text spe
 read_ok text (Err error) one spells is = tt
 
 pub read_err : {T : Type 0} (text : List ℕ) (result : Result T FromStrError) → SpellsAbsolute text → IfErr result (IsRefused IsNameText text)
-    → IfErr result (IsNotRead text)
+    → IfErr result (IsNotSpelled text)
 read_err text (Ok name) spells refused = tt
 read_err text (Err (Presentation error)) spells refused = absurd (refused spells.0 (absolute spells.1))
 read_err text (Err ShortBuf) spells refused = inr spells

@@ -6,9 +6,7 @@ use Rattle.dns_name.specs.Parsed.{StandsAt}
 use Rattle.dns_name.specs.Relative.{StandsIn as stands_in_relative}
 use Rattle.dns_name.specs.PrintedLabels.{printed_relative}
 use Rattle.dns_label.specs.NameText.{IsAbsoluteText}
-use Rattle.dns_name.specs.RelativeText.{IsRelativeNameText, SpellsEither}
-use Rattle.dns_name.specs.declared.text.FromStrError.{FromStrError}
-use Rattle.dns_name.specs.declared.text.FromStrError.TheVariants.{Presentation, ShortBuf}
+use Rattle.dns_name.specs.RelativeText.{IsRelativeNameText}
 use Rattle.dns_text.specs.declared.uncertain.UncertainName.{UncertainName}
 use Rattle.dns_text.specs.declared.uncertain.UncertainName.TheVariants.{Absolute, Relative}
 
@@ -54,8 +52,3 @@ IsNoName octets = (name : List (List ℕ)) → IsName name → (octets ≡ wire 
 abbrev pub IsTextOf : {O : Type 0} → List ℕ → UncertainName O → Type 0
 IsTextOf text (Absolute name) = IsAbsoluteText text name
 IsTextOf text (Relative name) = IsRelativeNameText text name
-
--- The text spells no name, or one for which memory was wanting.
-abbrev pub IsNotRead : List ℕ → FromStrError → Type 0
-IsNotRead text (Presentation error) = SpellsEither text → ⊥
-IsNotRead text ShortBuf = SpellsEither text

@@ -2,17 +2,19 @@
 ghost use Rattle.std.specs.Prelude.{◌≡◌, ◌↔◌, ◌<◌, List, ℕ, Some, Err, not, IsTrue, IsOk, IsSome, IfOk, IfErr, IfSome, OnErr, true, false};
 ghost use Rattle.dns_label.specs.Name.{IsName};
 ghost use Rattle.dns_label.specs.NameText.{IsAbsoluteText};
+ghost use Rattle.std.specs.Iterator.{IsFinite, Drains};
 ghost use Rattle.dns_name.specs.RelativeText.{SpellsAbsolute};
+ghost use Rattle.dns_name.specs.SpelledText.{IsNotSpelled, IsNotSpelledBy};
 ghost use Rattle.dns_octets.specs.declared.error.AppendError.TheVariants.{BadLength};
 ghost use Rattle.dns_text.specs.declared.uncertain.UncertainName.TheVariants.{Absolute, Relative};
-ghost use Rattle.dns_text.specs.Uncertain.{is_absolute, labels_of, octets_of, seen_labels, text_of, StandsIn, IsNoName, IsNotRead, IsTextOf};
+ghost use Rattle.dns_text.specs.Uncertain.{is_absolute, labels_of, octets_of, seen_labels, text_of, StandsIn, IsNoName, IsTextOf};
 
 mod chain;
 
 pub use chain::UncertainChain;
 use dns_name::{
     AppendError, EmptyBuilder, FromBuilder, FromStrError, Label, Name, Octets, OctetsBuilder,
-    RelativeFromStrError, RelativeName, RelativeNameError, ToLabelIter, laws,
+    RelativeFromStrError, RelativeName, RelativeNameError, SpelledName, ToLabelIter, laws,
 };
 use std::alloc::Global;
 use std::fmt;
@@ -55,7 +57,7 @@ impl<Octs: Octets> UncertainName<Octs> {
         Octs: FromBuilder,
         Octs::Builder: EmptyBuilder + Drop,
         ensures ok { IfOk result (IsTextOf text.now) }
-        ensures err { IfErr result (IsNotRead text.now) }
+        ensures err { IfErr result (IsNotSpelled text.now) }
     {
         match RelativeName::from_str(alloc, text) {
             Ok(name) => Ok(UncertainName::Relative(name)),
@@ -63,6 +65,28 @@ impl<Octs: Octets> UncertainName<Octs> {
             Err(RelativeFromStrError::AbsoluteName) => {
                 Ok(UncertainName::Absolute(read_absolute(alloc, text)?))
             }
+        }
+    }
+
+    /// The name that characters spell, as `from_str` has it.
+    ///
+    /// Refused with `Presentation` where they spell no name, maybe before all of them are taken; and with `ShortBuf` where
+    /// they spell one, and there is no memory or no room for it.
+    pub fn from_chars<C: Iterator<Item = char> + Drop>(
+        alloc: Global,
+        chars: C,
+    ) -> Result<Self, FromStrError>
+    where
+        Octs: FromBuilder,
+        Octs::Builder: EmptyBuilder + Drop,
+        requires can { C.can_next chars }
+        requires ends { IsFinite (C.remaining chars) }
+        ensures ok { IfOk result (λ name. (text : List ℕ) × Drains C.next_gives chars text × IsTextOf text name) }
+        ensures err { IfErr result (IsNotSpelledBy C.next_gives chars) }
+    {
+        match SpelledName::from_chars(alloc, chars)? {
+            SpelledName::Absolute(name) => Ok(UncertainName::Absolute(name)),
+            SpelledName::Relative(name) => Ok(UncertainName::Relative(name)),
         }
     }
 
@@ -169,7 +193,7 @@ where
     Octs::Builder: EmptyBuilder + Drop,
     requires { SpellsAbsolute text.now }
     ensures ok { IfOk result (IsAbsoluteText text.now) }
-    ensures err { IfErr result (IsNotRead text.now) }
+    ensures err { IfErr result (IsNotSpelled text.now) }
 {
     laws::text_spells_one_name();
     Name::from_str(alloc, text)

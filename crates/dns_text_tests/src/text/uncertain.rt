@@ -44,6 +44,23 @@ fn texts_with_a_last_dot_are_absolute(rt: HostRuntime) -> Result<(), Fail> {
 }
 
 #[test]
+fn characters_spell_what_their_text_does(rt: HostRuntime) -> Result<(), Fail> {
+    let alloc = rt.alloc();
+    let absolute = UncertainName::<Vec<u8>>::from_chars(alloc, "a\\.b.".chars())?;
+    assert!(rt; absolute.is_absolute());
+    assert_eq!(rt; absolute.as_slice(), b"\x03a.b\x00".as_slice());
+    let relative = UncertainName::<Vec<u8>>::from_chars(alloc, "a.b".chars())?;
+    assert!(rt; relative.is_relative());
+    assert_eq!(rt; relative.as_slice(), b"\x01a\x01b".as_slice());
+    let none = UncertainName::<Vec<u8>>::from_chars(alloc, "a..b".chars());
+    assert_eq!(rt;
+        none.err(),
+        Some(FromStrError::Presentation(PresentationError::EmptyLabel))
+    );
+    Ok(())
+}
+
+#[test]
 fn octets_with_the_root_are_absolute(rt: HostRuntime) -> Result<(), Fail> {
     let absolute = UncertainName::from_octets(b"\x01a\x00".as_slice())?;
     assert!(rt; absolute.is_absolute());
