@@ -46,6 +46,7 @@ pub trait Scanner {
     fn scan_octets(&mut self) -> Result<Self::Octets, Self::Error>
         ensures ok { IfOk result (λ octets. Takes (SpellsOctets (⟦<Self::Octets as Octets>⟧.list octets)) (tokens self.old) (tokens self.new)) }
         ensures err { IfErr result (λ error. Self.Error.is_short error ≡ false → (octets : List ℕ) (left : List Token) → Takes (SpellsOctets octets) (tokens self.old) left → ⊥) }
+        ensures end { IfErr result (λ error. Self.Error.is_short error ≡ false → ((Self.Error.is_end error ≡ true) ↔ (tokens self.old ≡ []))) }
         ensures left { OnErr result (IsEnding (tokens self.new) (tokens self.old)) }
         ensures names { SameNames (names self.old) (names self.new) };
 
@@ -53,6 +54,7 @@ pub trait Scanner {
     fn scan_charstr(&mut self) -> Result<CharStr<Self::Octets>, Self::Error>
         ensures ok { IfOk result (λ string. Takes (SpellsString string) (tokens self.old) (tokens self.new)) }
         ensures err { IfErr result (λ error. Self.Error.is_short error ≡ false → (string : List ℕ) (left : List Token) → Takes (SpellsString string) (tokens self.old) left → ⊥) }
+        ensures end { IfErr result (λ error. Self.Error.is_short error ≡ false → ((Self.Error.is_end error ≡ true) ↔ (tokens self.old ≡ []))) }
         ensures left { OnErr result (IsEnding (tokens self.new) (tokens self.old)) }
         ensures names { SameNames (names self.old) (names self.new) };
 
@@ -61,6 +63,7 @@ pub trait Scanner {
         ensures marked { IfOk result (λ marked. IsTrue marked → tokens self.old ≡ marker ∷ tokens self.new) }
         ensures other { IfOk result (λ marked. (IsTrue marked → ⊥) → (tokens self.new ≡ tokens self.old) × ((left : List Token) → tokens self.old ≡ marker ∷ left → ⊥)) }
         ensures err { IfErr result (λ error. Self.Error.is_short error ≡ false → (left : List Token) → tokens self.old ≡ marker ∷ left → ⊥) }
+        ensures end { IfErr result (λ error. Self.Error.is_short error ≡ false → ((Self.Error.is_end error ≡ true) ↔ (tokens self.old ≡ []))) }
         ensures left { OnErr result (IsEnding (tokens self.new) (tokens self.old)) }
         ensures names { SameNames (names self.old) (names self.new) };
 
@@ -73,6 +76,7 @@ pub trait Scanner {
         ensures ok { IfOk result (λ value. (text : List ℕ) × Takes (IsWord text) (tokens self.old) (tokens self.new) × FnOnceReturnsAt F.FnOnce op text (Some value)) }
         ensures err { IfErr result (λ error. Self.Error.is_short error ≡ false → (text : List ℕ) (left : List Token) → Takes (IsWord text) (tokens self.old) left
             → FnOnceReturnsAt F.FnOnce op text None) }
+        ensures end { IfErr result (λ error. Self.Error.is_short error ≡ false → ((Self.Error.is_end error ≡ true) ↔ (tokens self.old ≡ []))) }
         ensures left { OnErr result (IsEnding (tokens self.new) (tokens self.old)) }
         ensures names { SameNames (names self.old) (names self.new) };
 
@@ -80,6 +84,7 @@ pub trait Scanner {
     fn scan_name(&mut self) -> Result<Self::Name, Self::Error>
         ensures ok { IfOk result (λ name. (text : List ℕ) × (tokens self.old ≡ unquoted text ∷ tokens self.new) × names self.old text (⟦<Self::Name as ToName>⟧.name name)) }
         ensures err { IfErr result (λ error. Self.Error.is_short error ≡ false → (text : List ℕ) (left : List Token) (name : List (List ℕ)) → tokens self.old ≡ unquoted text ∷ left → names self.old text name → ⊥) }
+        ensures end { IfErr result (λ error. Self.Error.is_short error ≡ false → ((Self.Error.is_end error ≡ true) ↔ (tokens self.old ≡ []))) }
         ensures left { OnErr result (IsEnding (tokens self.new) (tokens self.old)) }
         ensures names { SameNames (names self.old) (names self.new) };
 
@@ -87,6 +92,7 @@ pub trait Scanner {
     fn scan_string(&mut self) -> Result<String, Self::Error>
         ensures ok { IfOk result (λ text. Takes (SpellsOctets (string_bytes text)) (tokens self.old) (tokens self.new)) }
         ensures err { IfErr result (λ error. Self.Error.is_short error ≡ false → (text : List ℕ) (left : List Token) → IsUtf8 text → Takes (SpellsOctets text) (tokens self.old) left → ⊥) }
+        ensures end { IfErr result (λ error. Self.Error.is_short error ≡ false → ((Self.Error.is_end error ≡ true) ↔ (tokens self.old ≡ []))) }
         ensures left { OnErr result (IsEnding (tokens self.new) (tokens self.old)) }
         ensures names { SameNames (names self.old) (names self.new) };
 
@@ -94,6 +100,7 @@ pub trait Scanner {
     fn scan_charstr_entry(&mut self) -> Result<Self::Octets, Self::Error>
         ensures ok { IfOk result (λ octets. IsEntry IsStringOnWire (tokens self.old) (⟦<Self::Octets as Octets>⟧.list octets) × (tokens self.new ≡ [])) }
         ensures err { IfErr result (λ error. Self.Error.is_short error ≡ false → (octets : List ℕ) → IsEntry IsStringOnWire (tokens self.old) octets → ⊥) }
+        ensures end { IfErr result (λ error. Self.Error.is_short error ≡ false → Self.Error.is_end error ≡ false) }
         ensures left { OnErr result (IsEnding (tokens self.new) (tokens self.old)) }
         ensures names { SameNames (names self.old) (names self.new) };
 
@@ -101,6 +108,7 @@ pub trait Scanner {
     fn scan_ascii_entry(&mut self) -> Result<String, Self::Error>
         ensures ok { IfOk result (λ text. IsEntry IsWord (tokens self.old) (string_bytes text) × (tokens self.new ≡ [])) }
         ensures err { IfErr result (λ error. Self.Error.is_short error ≡ false → (text : List ℕ) → IsEntry IsWord (tokens self.old) text → ⊥) }
+        ensures end { IfErr result (λ error. Self.Error.is_short error ≡ false → Self.Error.is_end error ≡ false) }
         ensures left { OnErr result (IsEnding (tokens self.new) (tokens self.old)) }
         ensures names { SameNames (names self.old) (names self.new) };
 
@@ -114,7 +122,8 @@ pub trait Scanner {
     /// The text of the next token, as it is written and without its quotes; it stays. Refused where there is none.
     fn peek_text(&self) -> Result<&[u8], Self::Error>
         ensures ok { IfOk result (λ text. (left : List Token) × Takes (HasText text.now) (tokens self.now) left) }
-        ensures err { OnErr result (tokens self.now ≡ []) };
+        ensures err { OnErr result (tokens self.now ≡ []) }
+        ensures end { IfErr result (λ error. Self.Error.is_end error ≡ true) };
 
     /// Takes the next token, if there is one.
     fn skip_token(&mut self)
@@ -131,11 +140,11 @@ pub trait Scanner {
         requires { F.IsAlwaysCallable op }
         ensures ok { OnOk result ((symbols : List Symbol) × (last : F) × Takes (HasSymbols symbols) (tokens self.old) (tokens self.new) × TakesAll F.step op symbols last) }
         ensures err { IfErr result (λ error. (symbols : List Symbol) (left : List Token) → Takes (HasSymbols symbols) (tokens self.old) left → RefusesOne F.step op symbols error) }
+        ensures end { IfErr result (λ error. tokens self.old ≡ [] → Self.Error.is_end error ≡ true) }
         ensures stays { OnErr result (tokens self.new ≡ tokens self.old) }
         ensures names { SameNames (names self.old) (names self.new) }
     {
-        let text = self.peek_text()?;
-        hand_over(text, op)?;
+        hand_over(self.peek_text()?, op)?;
         self.skip_token();
         Ok(())
     }
@@ -169,12 +178,12 @@ pub trait Scanner {
         requires { C.has_taken converter [] [] }
         ensures ok { IfOk result (λ octets. Takes (IsConverted C.converts (⟦<Self::Octets as Octets>⟧.list octets)) (tokens self.old) (tokens self.new)) }
         ensures err { IfErr result (λ error. Self.Error.is_short error ≡ false → (octets : List ℕ) (left : List Token) → Takes (IsConverted C.converts octets) (tokens self.old) left → ⊥) }
+        ensures end { IfErr result (λ error. Self.Error.is_short error ≡ false → tokens self.old ≡ [] → Self.Error.is_end error ≡ true) }
         ensures stays { OnErr result (tokens self.new ≡ tokens self.old) }
         ensures names { SameNames (names self.old) (names self.new) }
     {
         let mut builder = self.octets_builder()?;
-        let text = self.peek_text()?;
-        convert_text(text, &mut converter, &mut builder)?;
+        convert_text(self.peek_text()?, &mut converter, &mut builder)?;
         let given = converter.process_tail()?;
         append_given(&mut builder, given)?;
         self.skip_token();
