@@ -4,7 +4,7 @@ ghost use Rattle.std.specs.Fn.{FnOnceReturnsAt};
 ghost use Rattle.dns_label.specs.declared.symbol.Symbol.{Symbol};
 ghost use Rattle.dns_scan.specs.declared.entry_symbol.EntrySymbol.{EntrySymbol};
 ghost use Rattle.dns_scan.specs.Converted.{IsConverted};
-ghost use Rattle.dns_scan.specs.Symbols.{HasSymbols, HasMarked, TakesAll, RefusesOne};
+ghost use Rattle.dns_scan.specs.Symbols.{HasSymbols, HasMarked, TakesAll, RefusesOne, NeverAnswers};
 ghost use Rattle.dns_scan.specs.Token.{Token, IsEnding, Takes, HasText, SpellsOctets, SpellsString, IsEntry, IsStringOnWire, IsWord, SameNames, unquoted, marker};
 
 use crate::converting::{append_given, convert_marked, convert_text};
@@ -123,7 +123,7 @@ pub trait Scanner {
     fn peek_text(&self) -> Result<&[u8], Self::Error>
         ensures ok { IfOk result (λ text. (left : List Token) × Takes (HasText text.now) (tokens self.now) left) }
         ensures err { OnErr result (tokens self.now ≡ []) }
-        ensures end { IfErr result (λ error. Self.Error.is_end error ≡ true) };
+        ensures end { IfErr result (λ error. (Self.Error.is_short error ≡ false) × (Self.Error.is_end error ≡ true)) };
 
     /// Takes the next token, if there is one.
     fn skip_token(&mut self)
@@ -133,7 +133,7 @@ pub trait Scanner {
     /// Hands the symbols of the next token to the closure, one after another, and takes the token.
     ///
     /// Refused where there is none, where its text has something else than symbols, and where the closure refuses a symbol;
-    /// the tokens stay then.
+    /// the tokens stay then. Only the closure's error can be that of want of room.
     final fn scan_symbols<F>(&mut self, op: F) -> Result<(), Self::Error>
     where
         F: FnMut(Symbol) -> Result<(), Self::Error>,
@@ -141,6 +141,7 @@ pub trait Scanner {
         ensures ok { OnOk result ((symbols : List Symbol) × (last : F) × Takes (HasSymbols symbols) (tokens self.old) (tokens self.new) × TakesAll F.step op symbols last) }
         ensures err { IfErr result (λ error. (symbols : List Symbol) (left : List Token) → Takes (HasSymbols symbols) (tokens self.old) left → RefusesOne F.step op symbols error) }
         ensures end { IfErr result (λ error. tokens self.old ≡ [] → Self.Error.is_end error ≡ true) }
+        ensures own { IfErr result (λ error. NeverAnswers F.step error → (Self.Error.is_short error ≡ false) × (Self.Error.is_end error ≡ true → tokens self.old ≡ [])) }
         ensures stays { OnErr result (tokens self.new ≡ tokens self.old) }
         ensures names { SameNames (names self.old) (names self.new) }
     {
@@ -151,13 +152,15 @@ pub trait Scanner {
 
     /// Hands the symbols of all tokens that are left to the closure, one after another, with a mark behind each token's.
     ///
-    /// Refused where a token's text has something else than symbols, and where the closure refuses a symbol or a mark.
+    /// Refused where a token's text has something else than symbols, and where the closure refuses a symbol or a mark. Only the
+    /// closure's error can be that of want of room, or of the end of the entry.
     final fn scan_entry_symbols<F>(&mut self, mut op: F) -> Result<(), Self::Error>
     where
         F: FnMut(EntrySymbol) -> Result<(), Self::Error>,
         requires { F.IsAlwaysCallable op }
         ensures ok { OnOk result (((symbols : List EntrySymbol) × (last : F) × IsEntry HasMarked (tokens self.old) symbols × TakesAll F.step op symbols last) × (tokens self.new ≡ [])) }
         ensures err { IfErr result (λ error. (symbols : List EntrySymbol) → IsEntry HasMarked (tokens self.old) symbols → RefusesOne F.step op symbols error) }
+        ensures own { IfErr result (λ error. NeverAnswers F.step error → (Self.Error.is_short error ≡ false) × (Self.Error.is_end error ≡ false)) }
         ensures left { OnErr result (IsEnding (tokens self.new) (tokens self.old)) }
         ensures names { SameNames (names self.old) (names self.new) }
     {
