@@ -17,6 +17,9 @@ use dns_name::{EmptyBuilder, FreezeBuilder, FromBuilder, Octets, Symbol, ToName}
 /// `tokens` are those that are left, and `names` says which name a text spells here. Each call that scans takes the tokens
 /// of its value. Refused with an error other than `short_buf` only where there is no such value in front, and the tokens
 /// left are then an ending of those left before.
+///
+/// A call that wants one token is refused as `end_of_entry` exactly where there is none (`short_buf` aside), and one that takes
+/// all that are left never is.
 pub trait Scanner {
     type Octets: FromBuilder + Drop;
 
