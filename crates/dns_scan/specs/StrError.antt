@@ -1,4 +1,4 @@
--- Which of a scanner's errors is want of room or memory.
+-- Which of a scanner's errors is want of room or memory, and which want of a token.
 use Rattle.std.specs.Prelude.{Bool, true, false}
 use Rattle.dns_scan.specs.declared.scanner_error.StrError.{StrError}
 use Rattle.dns_scan.specs.declared.scanner_error.StrError.TheVariants.{Custom, EndOfEntry, ShortBuf, TrailingTokens}
@@ -8,3 +8,9 @@ is_short (Custom message) = false
 is_short EndOfEntry = false
 is_short ShortBuf = true
 is_short TrailingTokens = false
+
+abbrev pub is_end : StrError → Bool
+is_end (Custom message) = false
+is_end EndOfEntry = true
+is_end ShortBuf = false
+is_end TrailingTokens = false

@@ -43,3 +43,7 @@ pub record RefusesOne {F Sym E : Type 0} (step : F → Sym → Result (Unit {0})
   pub takes : TakesAll step op front before
   pub after : F
   pub refuses : step before symbol (Err error) after
+
+-- the closure refuses no symbol with this error
+abbrev pub NeverAnswers : {F Sym E : Type 0} → (F → Sym → Result (Unit {0}) E → F → Type 0) → E → Type 0
+NeverAnswers {F} {Sym} step error = (before after : F) (symbol : Sym) → step before symbol (Err error) after → ⊥

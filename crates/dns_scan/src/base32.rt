@@ -56,6 +56,7 @@ pub fn scan_entry<S: Scanner>(scanner: &mut S) -> Result<S::Octets, S::Error>
         × Decodes32 (chars text) (⟦<S::Octets as Octets>⟧.list octets) × (S.tokens scanner.new ≡ [])) }
     ensures err { IfErr result (λ error. S.Error.is_short error ≡ false → (text octets : List ℕ) → IsEntry IsWord (S.tokens scanner.old) text
         → Decodes32 (chars text) octets → ⊥) }
+    ensures end { IfErr result (λ error. S.Error.is_short error ≡ false → S.Error.is_end error ≡ false) }
     ensures left { OnErr result (IsEnding (S.tokens scanner.new) (S.tokens scanner.old)) }
     ensures names { SameNames (S.names scanner.old) (S.names scanner.new) }
 {
@@ -161,6 +162,7 @@ impl<Error: ScannerError> ConvertSymbols<Symbol, Error> for SymbolConverter {
         ensures err { IfErr result (λ error. Error.is_short error ≡ false → (symbols : List Symbol) (octets : List ℕ) → HasDeciphered32 self.old symbols octets
             → (more : List Symbol) (all : List ℕ) → Deciphers32 (symbols ++ symbol ∷ more) all → ⊥) }
         ensures itself { IfErr result (λ error. Error.is_short error ≡ false) }
+        ensures end { IfErr result (λ error. Error.is_end error ≡ false) }
     {
         self.group.take_symbol(Base::ThirtyTwoHex, symbol)
     }
@@ -171,6 +173,7 @@ impl<Error: ScannerError> ConvertSymbols<Symbol, Error> for SymbolConverter {
         ensures err { IfErr result (λ error. Error.is_short error ≡ false → (symbols : List Symbol) (octets : List ℕ) → HasDeciphered32 self.old symbols octets
             → (all : List ℕ) → Deciphers32 symbols all → ⊥) }
         ensures itself { IfErr result (λ error. Error.is_short error ≡ false) }
+        ensures end { IfErr result (λ error. Error.is_end error ≡ false) }
     {
         self.group.end_symbols(Base::ThirtyTwoHex)
     }
@@ -190,6 +193,7 @@ impl<Error: ScannerError> ConvertSymbols<EntrySymbol, Error> for SymbolConverter
         ensures err { IfErr result (λ error. Error.is_short error ≡ false → (symbols : List EntrySymbol) (octets : List ℕ) → HasDecipheredEntry32 self.old symbols octets
             → (more : List EntrySymbol) (all : List ℕ) → DeciphersEntry32 (symbols ++ symbol ∷ more) all → ⊥) }
         ensures itself { IfErr result (λ error. Error.is_short error ≡ false) }
+        ensures end { IfErr result (λ error. Error.is_end error ≡ false) }
     {
         match symbol {
             EntrySymbol::Symbol(symbol) => self.group.take_symbol(Base::ThirtyTwoHex, symbol),
@@ -203,6 +207,7 @@ impl<Error: ScannerError> ConvertSymbols<EntrySymbol, Error> for SymbolConverter
         ensures err { IfErr result (λ error. Error.is_short error ≡ false → (symbols : List EntrySymbol) (octets : List ℕ) → HasDecipheredEntry32 self.old symbols octets
             → (all : List ℕ) → DeciphersEntry32 symbols all → ⊥) }
         ensures itself { IfErr result (λ error. Error.is_short error ≡ false) }
+        ensures end { IfErr result (λ error. Error.is_end error ≡ false) }
     {
         self.group.end_symbols(Base::ThirtyTwoHex)
     }

@@ -57,6 +57,7 @@ pub fn scan_entry<S: Scanner>(scanner: &mut S) -> Result<S::Octets, S::Error>
         × Decodes64 (chars text) (⟦<S::Octets as Octets>⟧.list octets) × (S.tokens scanner.new ≡ [])) }
     ensures err { IfErr result (λ error. S.Error.is_short error ≡ false → (text octets : List ℕ) → IsEntry IsWord (S.tokens scanner.old) text
         → Decodes64 (chars text) octets → ⊥) }
+    ensures end { IfErr result (λ error. S.Error.is_short error ≡ false → S.Error.is_end error ≡ false) }
     ensures left { OnErr result (IsEnding (S.tokens scanner.new) (S.tokens scanner.old)) }
     ensures names { SameNames (S.names scanner.old) (S.names scanner.new) }
 {
@@ -162,6 +163,7 @@ impl<Error: ScannerError> ConvertSymbols<Symbol, Error> for SymbolConverter {
         ensures err { IfErr result (λ error. Error.is_short error ≡ false → (symbols : List Symbol) (octets : List ℕ) → HasDeciphered64 self.old symbols octets
             → (more : List Symbol) (all : List ℕ) → Deciphers64 (symbols ++ symbol ∷ more) all → ⊥) }
         ensures itself { IfErr result (λ error. Error.is_short error ≡ false) }
+        ensures end { IfErr result (λ error. Error.is_end error ≡ false) }
     {
         self.group.take_symbol(Base::SixtyFour, symbol)
     }
@@ -172,6 +174,7 @@ impl<Error: ScannerError> ConvertSymbols<Symbol, Error> for SymbolConverter {
         ensures err { IfErr result (λ error. Error.is_short error ≡ false → (symbols : List Symbol) (octets : List ℕ) → HasDeciphered64 self.old symbols octets
             → (all : List ℕ) → Deciphers64 symbols all → ⊥) }
         ensures itself { IfErr result (λ error. Error.is_short error ≡ false) }
+        ensures end { IfErr result (λ error. Error.is_end error ≡ false) }
     {
         self.group.end_symbols(Base::SixtyFour)
     }
@@ -191,6 +194,7 @@ impl<Error: ScannerError> ConvertSymbols<EntrySymbol, Error> for SymbolConverter
         ensures err { IfErr result (λ error. Error.is_short error ≡ false → (symbols : List EntrySymbol) (octets : List ℕ) → HasDecipheredEntry64 self.old symbols octets
             → (more : List EntrySymbol) (all : List ℕ) → DeciphersEntry64 (symbols ++ symbol ∷ more) all → ⊥) }
         ensures itself { IfErr result (λ error. Error.is_short error ≡ false) }
+        ensures end { IfErr result (λ error. Error.is_end error ≡ false) }
     {
         match symbol {
             EntrySymbol::Symbol(symbol) => self.group.take_symbol(Base::SixtyFour, symbol),
@@ -204,6 +208,7 @@ impl<Error: ScannerError> ConvertSymbols<EntrySymbol, Error> for SymbolConverter
         ensures err { IfErr result (λ error. Error.is_short error ≡ false → (symbols : List EntrySymbol) (octets : List ℕ) → HasDecipheredEntry64 self.old symbols octets
             → (all : List ℕ) → DeciphersEntry64 symbols all → ⊥) }
         ensures itself { IfErr result (λ error. Error.is_short error ≡ false) }
+        ensures end { IfErr result (λ error. Error.is_end error ≡ false) }
     {
         self.group.end_symbols(Base::SixtyFour)
     }

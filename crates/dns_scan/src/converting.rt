@@ -1,5 +1,5 @@
 //! The symbols of a token's text, handed to a converter.
-ghost use Rattle.std.specs.Prelude.{◌≡◌, ◌++◌, List, ℕ, [], false, true, OnOk, IfErr};
+ghost use Rattle.std.specs.Prelude.{◌≡◌, ◌≢◌, ◌++◌, List, ℕ, [], false, true, None, OnOk, OnErr, IfErr};
 ghost use Rattle.dns_label.specs.declared.symbol.Symbol.{Symbol};
 ghost use Rattle.dns_scan.specs.declared.entry_symbol.EntrySymbol.{EntrySymbol};
 ghost use Rattle.dns_scan.specs.Converted.{octets_given};
@@ -8,13 +8,14 @@ ghost use Rattle.dns_scan.specs.Symbols.{AreWritten, marked};
 use crate::{ConvertSymbols, EntrySymbol, ScannerError};
 use dns_name::{Octets, OctetsBuilder, Symbol};
 
-/// Appends the octets that a converter gave, if any.
+/// Appends the octets that a converter gave, if any. Refused for want of room or memory, and only where there are some.
 pub(crate) fn append_given<Error: ScannerError, Octs: Octets + Drop, Builder: OctetsBuilder>(
     builder: &mut Builder,
     given: Option<Octs>,
 ) -> Result<(), Error>
     ensures ok { OnOk result (Builder.list builder.new ≡ Builder.list builder.old ++ octets_given Octs.list given) }
     ensures err { IfErr result (λ error. Error.is_short error ≡ true) }
+    ensures some { OnErr result (given ≢ None) }
 {
     let Some(octets) = given else {
         return Ok(());

@@ -34,6 +34,7 @@ impl Group {
         ensures err { IfErr result (λ error. Error.is_short error ≡ false → (symbols : List Symbol) (octets : List ℕ) → HasDeciphered base self.old symbols octets
             → (more : List Symbol) (all : List ℕ) → Deciphers base (symbols ++ symbol ∷ more) all → ⊥) }
         ensures itself { IfErr result (λ error. Error.is_short error ≡ false) }
+        ensures end { IfErr result (λ error. Error.is_end error ≡ false) }
     {
         let Symbol::Char(character) = symbol else {
             return Err(Error::custom("escaped character"));
@@ -55,6 +56,7 @@ impl Group {
         ensures err { IfErr result (λ error. (symbols : List Symbol) (octets : List ℕ) → HasDeciphered base self.now symbols octets
             → (all : List ℕ) → Deciphers base symbols all → ⊥) }
         ensures itself { IfErr result (λ error. Error.is_short error ≡ false) }
+        ensures end { IfErr result (λ error. Error.is_end error ≡ false) }
     {
         if self.is_whole(base) {
             return Ok(None);

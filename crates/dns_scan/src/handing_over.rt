@@ -1,12 +1,13 @@
 //! The symbols of a token's text, handed to a closure.
-ghost use Rattle.std.specs.Prelude.{◌≡◌, List, ℕ, IfOk, IfErr};
+ghost use Rattle.std.specs.Prelude.{◌≡◌, List, ℕ, false, IfOk, IfErr};
 ghost use Rattle.dns_label.specs.declared.symbol.Symbol.{Symbol};
-ghost use Rattle.dns_scan.specs.Symbols.{AreWritten, TakesAll, RefusesOne, marked};
+ghost use Rattle.dns_scan.specs.Symbols.{AreWritten, TakesAll, RefusesOne, NeverAnswers, marked};
 
 use crate::{EntrySymbol, ScannerError};
 use dns_name::Symbol;
 
-/// Hands the symbols of a text to the closure, which is given back.
+/// Hands the symbols of a text to the closure, which is given back. Its own error says that something else than a symbol stands
+/// in the text.
 pub(crate) fn hand_over<Error: ScannerError, F: FnMut(Symbol) -> Result<(), Error>>(
     text: &[u8],
     mut op: F,
@@ -14,6 +15,7 @@ pub(crate) fn hand_over<Error: ScannerError, F: FnMut(Symbol) -> Result<(), Erro
     requires { F.IsAlwaysCallable op }
     ensures ok { IfOk result (λ last. ((symbols : List Symbol) × AreWritten symbols text.now × TakesAll F.step op symbols last) × F.IsAlwaysCallable last) }
     ensures err { IfErr result (λ error. (symbols : List Symbol) → AreWritten symbols text.now → RefusesOne F.step op symbols error) }
+    ensures own { IfErr result (λ error. NeverAnswers F.step error → (Error.is_short error ≡ false) × (Error.is_end error ≡ false)) }
 {
     let mut rest = text;
     while !rest.is_empty() {
@@ -26,7 +28,8 @@ pub(crate) fn hand_over<Error: ScannerError, F: FnMut(Symbol) -> Result<(), Erro
     Ok(op)
 }
 
-/// Hands the symbols of a token's text, and the mark behind them, to the closure, which is given back.
+/// Hands the symbols of a token's text, and the mark behind them, to the closure, which is given back. Its own error is as that
+/// of `hand_over`.
 pub(crate) fn hand_over_marked<Error: ScannerError, F: FnMut(EntrySymbol) -> Result<(), Error>>(
     text: &[u8],
     mut op: F,
@@ -34,6 +37,7 @@ pub(crate) fn hand_over_marked<Error: ScannerError, F: FnMut(EntrySymbol) -> Res
     requires { F.IsAlwaysCallable op }
     ensures ok { IfOk result (λ last. ((symbols : List Symbol) × AreWritten symbols text.now × TakesAll F.step op (marked symbols) last) × F.IsAlwaysCallable last) }
     ensures err { IfErr result (λ error. (symbols : List Symbol) → AreWritten symbols text.now → RefusesOne F.step op (marked symbols) error) }
+    ensures own { IfErr result (λ error. NeverAnswers F.step error → (Error.is_short error ≡ false) × (Error.is_end error ≡ false)) }
 {
     let mut rest = text;
     while !rest.is_empty() {

@@ -4,7 +4,8 @@ ghost use Rattle.std.specs.List.{list_all};
 ghost use Rattle.std.specs.Iterator.{IsFinite};
 ghost use Rattle.std.specs.Iterator.Runs.{WholeRun};
 ghost use Rattle.dns_label.specs.NameText.{IsNameText};
-ghost use Rattle.dns_scan.specs.StrError.{is_short};
+ghost use Rattle.dns_scan.specs.StrError.{is_short, is_end};
+ghost use Rattle.dns_scan.specs.declared.scanner_error.StrError.TheVariants.{EndOfEntry};
 ghost use Rattle.dns_scan.specs.StringText.{IsStringText};
 ghost use Rattle.dns_scan.specs.Token.{Token, is_plain, unquoted};
 
@@ -69,6 +70,7 @@ impl<'a> IterScanner<'a> {
     fn next_text(&mut self) -> Result<&'a str, StrError>
         ensures ok { IfOk result (λ text. self.old ≡ unquoted text.now ∷ self.new) }
         ensures err { OnErr result ((self.old ≡ []) × (self.new ≡ [])) }
+        ensures end { IfErr result (λ error. error ≡ EndOfEntry) }
     {
         if self.place == self.texts.len() {
             return Err(StrError::EndOfEntry);
@@ -207,6 +209,7 @@ fn string_of(alloc: Global, text: &str) -> Result<CharStr<Vec<u8>>, StrError>
     ensures ok { IfOk result (λ string. IsStringText text.now string) }
     ensures err { IfErr result (λ error. is_short error ≡ false → (string : List ℕ) → IsStringText text.now string → ⊥) }
     ensures short { IfErr result (λ error. is_short error ≡ true → (string : List ℕ) × IsStringText text.now string) }
+    ensures end { IfErr result (λ error. is_end error ≡ false) }
 {
     match CharStr::from_str(alloc, text) {
         Ok(string) => Ok(string),

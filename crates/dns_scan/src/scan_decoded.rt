@@ -16,6 +16,7 @@ pub(crate) fn scan_entry<S: Scanner>(scanner: &mut S, base: Base) -> Result<S::O
         × Decodes base (chars text) (⟦<S::Octets as Octets>⟧.list octets) × (S.tokens scanner.new ≡ [])) }
     ensures err { IfErr result (λ error. S.Error.is_short error ≡ false → (text octets : List ℕ) → IsEntry IsWord (S.tokens scanner.old) text
         → Decodes base (chars text) octets → ⊥) }
+    ensures end { IfErr result (λ error. S.Error.is_short error ≡ false → S.Error.is_end error ≡ false) }
     ensures left { OnErr result (IsEnding (S.tokens scanner.new) (S.tokens scanner.old)) }
     ensures names { SameNames (S.names scanner.old) (S.names scanner.new) }
 {
@@ -29,7 +30,8 @@ pub(crate) fn scan_entry<S: Scanner>(scanner: &mut S, base: Base) -> Result<S::O
 
 /// The scanner's error for one of decoding.
 pub(crate) fn scan_error<Error: ScannerError>(error: DecodeError) -> Error
-    ensures { Error.is_short result ≡ is_want_of_room error }
+    ensures short { Error.is_short result ≡ is_want_of_room error }
+    ensures end { Error.is_end result ≡ false }
 {
     match error {
         DecodeError::ShortBuf => Error::short_buf(),

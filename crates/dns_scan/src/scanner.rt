@@ -4,7 +4,7 @@ ghost use Rattle.std.specs.Fn.{FnOnceReturnsAt};
 ghost use Rattle.dns_label.specs.declared.symbol.Symbol.{Symbol};
 ghost use Rattle.dns_scan.specs.declared.entry_symbol.EntrySymbol.{EntrySymbol};
 ghost use Rattle.dns_scan.specs.Converted.{IsConverted};
-ghost use Rattle.dns_scan.specs.Symbols.{HasSymbols, HasMarked, TakesAll, RefusesOne};
+ghost use Rattle.dns_scan.specs.Symbols.{HasSymbols, HasMarked, TakesAll, RefusesOne, NeverAnswers};
 ghost use Rattle.dns_scan.specs.Token.{Token, IsEnding, Takes, HasText, SpellsOctets, SpellsString, IsEntry, IsStringOnWire, IsWord, SameNames, unquoted, marker};
 
 use crate::converting::{append_given, convert_marked, convert_text};
@@ -17,6 +17,9 @@ use dns_name::{EmptyBuilder, FreezeBuilder, FromBuilder, Octets, Symbol, ToName}
 /// `tokens` are those that are left, and `names` says which name a text spells here. Each call that scans takes the tokens
 /// of its value. Refused with an error other than `short_buf` only where there is no such value in front, and the tokens
 /// left are then an ending of those left before.
+///
+/// A call that wants one token is refused as `end_of_entry` exactly where there is none (`short_buf` aside), and one that takes
+/// all that are left never is.
 pub trait Scanner {
     type Octets: FromBuilder + Drop;
 
@@ -46,6 +49,7 @@ pub trait Scanner {
     fn scan_octets(&mut self) -> Result<Self::Octets, Self::Error>
         ensures ok { IfOk result (λ octets. Takes (SpellsOctets (⟦<Self::Octets as Octets>⟧.list octets)) (tokens self.old) (tokens self.new)) }
         ensures err { IfErr result (λ error. Self.Error.is_short error ≡ false → (octets : List ℕ) (left : List Token) → Takes (SpellsOctets octets) (tokens self.old) left → ⊥) }
+        ensures end { IfErr result (λ error. Self.Error.is_short error ≡ false → ((Self.Error.is_end error ≡ true) ↔ (tokens self.old ≡ []))) }
         ensures left { OnErr result (IsEnding (tokens self.new) (tokens self.old)) }
         ensures names { SameNames (names self.old) (names self.new) };
 
@@ -53,6 +57,7 @@ pub trait Scanner {
     fn scan_charstr(&mut self) -> Result<CharStr<Self::Octets>, Self::Error>
         ensures ok { IfOk result (λ string. Takes (SpellsString string) (tokens self.old) (tokens self.new)) }
         ensures err { IfErr result (λ error. Self.Error.is_short error ≡ false → (string : List ℕ) (left : List Token) → Takes (SpellsString string) (tokens self.old) left → ⊥) }
+        ensures end { IfErr result (λ error. Self.Error.is_short error ≡ false → ((Self.Error.is_end error ≡ true) ↔ (tokens self.old ≡ []))) }
         ensures left { OnErr result (IsEnding (tokens self.new) (tokens self.old)) }
         ensures names { SameNames (names self.old) (names self.new) };
 
@@ -61,6 +66,7 @@ pub trait Scanner {
         ensures marked { IfOk result (λ marked. IsTrue marked → tokens self.old ≡ marker ∷ tokens self.new) }
         ensures other { IfOk result (λ marked. (IsTrue marked → ⊥) → (tokens self.new ≡ tokens self.old) × ((left : List Token) → tokens self.old ≡ marker ∷ left → ⊥)) }
         ensures err { IfErr result (λ error. Self.Error.is_short error ≡ false → (left : List Token) → tokens self.old ≡ marker ∷ left → ⊥) }
+        ensures end { IfErr result (λ error. Self.Error.is_short error ≡ false → ((Self.Error.is_end error ≡ true) ↔ (tokens self.old ≡ []))) }
         ensures left { OnErr result (IsEnding (tokens self.new) (tokens self.old)) }
         ensures names { SameNames (names self.old) (names self.new) };
 
@@ -73,6 +79,7 @@ pub trait Scanner {
         ensures ok { IfOk result (λ value. (text : List ℕ) × Takes (IsWord text) (tokens self.old) (tokens self.new) × FnOnceReturnsAt F.FnOnce op text (Some value)) }
         ensures err { IfErr result (λ error. Self.Error.is_short error ≡ false → (text : List ℕ) (left : List Token) → Takes (IsWord text) (tokens self.old) left
             → FnOnceReturnsAt F.FnOnce op text None) }
+        ensures end { IfErr result (λ error. Self.Error.is_short error ≡ false → ((Self.Error.is_end error ≡ true) ↔ (tokens self.old ≡ []))) }
         ensures left { OnErr result (IsEnding (tokens self.new) (tokens self.old)) }
         ensures names { SameNames (names self.old) (names self.new) };
 
@@ -80,6 +87,7 @@ pub trait Scanner {
     fn scan_name(&mut self) -> Result<Self::Name, Self::Error>
         ensures ok { IfOk result (λ name. (text : List ℕ) × (tokens self.old ≡ unquoted text ∷ tokens self.new) × names self.old text (⟦<Self::Name as ToName>⟧.name name)) }
         ensures err { IfErr result (λ error. Self.Error.is_short error ≡ false → (text : List ℕ) (left : List Token) (name : List (List ℕ)) → tokens self.old ≡ unquoted text ∷ left → names self.old text name → ⊥) }
+        ensures end { IfErr result (λ error. Self.Error.is_short error ≡ false → ((Self.Error.is_end error ≡ true) ↔ (tokens self.old ≡ []))) }
         ensures left { OnErr result (IsEnding (tokens self.new) (tokens self.old)) }
         ensures names { SameNames (names self.old) (names self.new) };
 
@@ -87,6 +95,7 @@ pub trait Scanner {
     fn scan_string(&mut self) -> Result<String, Self::Error>
         ensures ok { IfOk result (λ text. Takes (SpellsOctets (string_bytes text)) (tokens self.old) (tokens self.new)) }
         ensures err { IfErr result (λ error. Self.Error.is_short error ≡ false → (text : List ℕ) (left : List Token) → IsUtf8 text → Takes (SpellsOctets text) (tokens self.old) left → ⊥) }
+        ensures end { IfErr result (λ error. Self.Error.is_short error ≡ false → ((Self.Error.is_end error ≡ true) ↔ (tokens self.old ≡ []))) }
         ensures left { OnErr result (IsEnding (tokens self.new) (tokens self.old)) }
         ensures names { SameNames (names self.old) (names self.new) };
 
@@ -94,6 +103,7 @@ pub trait Scanner {
     fn scan_charstr_entry(&mut self) -> Result<Self::Octets, Self::Error>
         ensures ok { IfOk result (λ octets. IsEntry IsStringOnWire (tokens self.old) (⟦<Self::Octets as Octets>⟧.list octets) × (tokens self.new ≡ [])) }
         ensures err { IfErr result (λ error. Self.Error.is_short error ≡ false → (octets : List ℕ) → IsEntry IsStringOnWire (tokens self.old) octets → ⊥) }
+        ensures end { IfErr result (λ error. Self.Error.is_short error ≡ false → Self.Error.is_end error ≡ false) }
         ensures left { OnErr result (IsEnding (tokens self.new) (tokens self.old)) }
         ensures names { SameNames (names self.old) (names self.new) };
 
@@ -101,6 +111,7 @@ pub trait Scanner {
     fn scan_ascii_entry(&mut self) -> Result<String, Self::Error>
         ensures ok { IfOk result (λ text. IsEntry IsWord (tokens self.old) (string_bytes text) × (tokens self.new ≡ [])) }
         ensures err { IfErr result (λ error. Self.Error.is_short error ≡ false → (text : List ℕ) → IsEntry IsWord (tokens self.old) text → ⊥) }
+        ensures end { IfErr result (λ error. Self.Error.is_short error ≡ false → Self.Error.is_end error ≡ false) }
         ensures left { OnErr result (IsEnding (tokens self.new) (tokens self.old)) }
         ensures names { SameNames (names self.old) (names self.new) };
 
@@ -114,7 +125,8 @@ pub trait Scanner {
     /// The text of the next token, as it is written and without its quotes; it stays. Refused where there is none.
     fn peek_text(&self) -> Result<&[u8], Self::Error>
         ensures ok { IfOk result (λ text. (left : List Token) × Takes (HasText text.now) (tokens self.now) left) }
-        ensures err { OnErr result (tokens self.now ≡ []) };
+        ensures err { OnErr result (tokens self.now ≡ []) }
+        ensures end { IfErr result (λ error. (Self.Error.is_short error ≡ false) × (Self.Error.is_end error ≡ true)) };
 
     /// Takes the next token, if there is one.
     fn skip_token(&mut self)
@@ -124,31 +136,34 @@ pub trait Scanner {
     /// Hands the symbols of the next token to the closure, one after another, and takes the token.
     ///
     /// Refused where there is none, where its text has something else than symbols, and where the closure refuses a symbol;
-    /// the tokens stay then.
+    /// the tokens stay then. Only the closure's error can be that of want of room.
     final fn scan_symbols<F>(&mut self, op: F) -> Result<(), Self::Error>
     where
         F: FnMut(Symbol) -> Result<(), Self::Error>,
         requires { F.IsAlwaysCallable op }
         ensures ok { OnOk result ((symbols : List Symbol) × (last : F) × Takes (HasSymbols symbols) (tokens self.old) (tokens self.new) × TakesAll F.step op symbols last) }
         ensures err { IfErr result (λ error. (symbols : List Symbol) (left : List Token) → Takes (HasSymbols symbols) (tokens self.old) left → RefusesOne F.step op symbols error) }
+        ensures end { IfErr result (λ error. tokens self.old ≡ [] → Self.Error.is_end error ≡ true) }
+        ensures own { IfErr result (λ error. NeverAnswers F.step error → (Self.Error.is_short error ≡ false) × (Self.Error.is_end error ≡ true → tokens self.old ≡ [])) }
         ensures stays { OnErr result (tokens self.new ≡ tokens self.old) }
         ensures names { SameNames (names self.old) (names self.new) }
     {
-        let text = self.peek_text()?;
-        hand_over(text, op)?;
+        hand_over(self.peek_text()?, op)?;
         self.skip_token();
         Ok(())
     }
 
     /// Hands the symbols of all tokens that are left to the closure, one after another, with a mark behind each token's.
     ///
-    /// Refused where a token's text has something else than symbols, and where the closure refuses a symbol or a mark.
+    /// Refused where a token's text has something else than symbols, and where the closure refuses a symbol or a mark. Only the
+    /// closure's error can be that of want of room, or of the end of the entry.
     final fn scan_entry_symbols<F>(&mut self, mut op: F) -> Result<(), Self::Error>
     where
         F: FnMut(EntrySymbol) -> Result<(), Self::Error>,
         requires { F.IsAlwaysCallable op }
         ensures ok { OnOk result (((symbols : List EntrySymbol) × (last : F) × IsEntry HasMarked (tokens self.old) symbols × TakesAll F.step op symbols last) × (tokens self.new ≡ [])) }
         ensures err { IfErr result (λ error. (symbols : List EntrySymbol) → IsEntry HasMarked (tokens self.old) symbols → RefusesOne F.step op symbols error) }
+        ensures own { IfErr result (λ error. NeverAnswers F.step error → (Self.Error.is_short error ≡ false) × (Self.Error.is_end error ≡ false)) }
         ensures left { OnErr result (IsEnding (tokens self.new) (tokens self.old)) }
         ensures names { SameNames (names self.old) (names self.new) }
     {
@@ -169,12 +184,12 @@ pub trait Scanner {
         requires { C.has_taken converter [] [] }
         ensures ok { IfOk result (λ octets. Takes (IsConverted C.converts (⟦<Self::Octets as Octets>⟧.list octets)) (tokens self.old) (tokens self.new)) }
         ensures err { IfErr result (λ error. Self.Error.is_short error ≡ false → (octets : List ℕ) (left : List Token) → Takes (IsConverted C.converts octets) (tokens self.old) left → ⊥) }
+        ensures end { IfErr result (λ error. Self.Error.is_short error ≡ false → tokens self.old ≡ [] → Self.Error.is_end error ≡ true) }
         ensures stays { OnErr result (tokens self.new ≡ tokens self.old) }
         ensures names { SameNames (names self.old) (names self.new) }
     {
         let mut builder = self.octets_builder()?;
-        let text = self.peek_text()?;
-        convert_text(text, &mut converter, &mut builder)?;
+        convert_text(self.peek_text()?, &mut converter, &mut builder)?;
         let given = converter.process_tail()?;
         append_given(&mut builder, given)?;
         self.skip_token();

@@ -1,7 +1,7 @@
 //! The octets that the text of a token spells (RFC 1035 5.1).
 ghost use Rattle.std.specs.Prelude.{◌≡◌, List, ℕ, false, IfOk, IfErr};
 ghost use Rattle.dns_scan.specs.StringText.{Spells};
-ghost use Rattle.dns_scan.specs.StrError.{is_short};
+ghost use Rattle.dns_scan.specs.StrError.{is_short, is_end};
 
 use crate::StrError;
 use crate::string_text::octet_of;
@@ -12,6 +12,7 @@ use std::alloc::Global;
 pub(crate) fn octets_of(alloc: Global, text: &[u8]) -> Result<Vec<u8>, StrError>
     ensures ok { IfOk result (λ octets. Spells text.now octets.items) }
     ensures err { IfErr result (λ error. is_short error ≡ false → (octets : List ℕ) → Spells text.now octets → ⊥) }
+    ensures end { IfErr result (λ error. is_end error ≡ false) }
 {
     let mut octets = Vec::new(alloc);
     let mut rest = text;

@@ -32,6 +32,16 @@ returns-in_err-op-clause-err g c =
       refuses = c.in_err-op.ensures;
     })
 
+pub returns-in_err-op-clause-own : goal.returns-in_err-op-clause-own
+returns-in_err-op-clause-own g c =
+    let p = err_from_is_err_and c.from_residual.result c.from_residual.ensures.1 in
+    rw (p.1, p.2) (λ never. absurd (never _ _ _ c.in_err-op.ensures))
+
+pub returns-in_err-op-2-clause-own : goal.returns-in_err-op-2-clause-own
+returns-in_err-op-2-clause-own g c =
+    let p = err_from_is_err_and c.from_residual-in_err-op-2.result c.from_residual-in_err-op-2.ensures.1 in
+    rw (p.1, p.2) (λ never. absurd (never _ _ _ c.in_err-op-2.ensures))
+
 pub loop-rest-preserved : goal.loop-rest-preserved
 loop-rest-preserved g c =
     let at = c.loop-rest.invariant.0 in

@@ -20,5 +20,5 @@ returns-clause-err g c = λ short text octets entry decodes.
     let same : text ≡ c.as_str.result.now =
     words_one _ text (string_bytes c.in_ok-text.text) entry c.in_ok-text.ensures.ok.0 ∙ sym c.as_str.ensures.value in
     let P : List ℕ → Type 0 = λ l. Decodes c.args.base (chars l) octets in
-    refused_for_itself c.args.base (chars c.as_str.result.now) c.in-Err.error c.in-Err.ensures.why (sym c.scan_error.ensures ∙ short)
+    refused_for_itself c.args.base (chars c.as_str.result.now) c.in-Err.error c.in-Err.ensures.why (sym c.scan_error.ensures.short ∙ short)
     octets (subst P same decodes)

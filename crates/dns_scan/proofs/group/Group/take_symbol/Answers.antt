@@ -24,4 +24,4 @@ returns-in-Ok-None-clause-ok g c = λ symbols octets has.
 pub returns-in-Err-clause-err : goal.returns-in-Err-clause-err
 returns-in-Err-clause-err g c = λ short.
     refused_none c.args.base c.args.self.now c.args.symbol c.in-Char.character c.in-Err.error c.in-Char.is c.in-Err.ensures.why
-    (sym c.scan_error.ensures ∙ short)
+    (sym c.scan_error.ensures.short ∙ short)

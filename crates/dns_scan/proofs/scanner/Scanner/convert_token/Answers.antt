@@ -12,9 +12,9 @@ returns-in_err-given-clause-err g c =
     rw (p.1, p.2)
     (λ short octets left takes.
     let read = c.in_ok-convert_text.ensures.ok in
-    let at = c.in_ok-text.ensures.ok.1 in
+    let at = c.in_ok-peek_text.ensures.ok.1 in
     let token : takes.token ≡ at.token = head (sym takes.is ∙ sym c.octets_builder.ensures.stays ∙ at.is) in
-    let here : AreWritten takes.fits.symbols c.in_ok-text.text.now =
+    let here : AreWritten takes.fits.symbols _ =
     subst (λ l. AreWritten takes.fits.symbols l) (ap (λ (t : Token). t.text) token ∙ at.fits) takes.fits.has in
     let one = written_one _ _ _ read.1 here in
     let P : List Symbol → Type 0 = λ l. g.C.ConvertSymbols.converts l octets in
