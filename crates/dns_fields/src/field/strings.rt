@@ -91,14 +91,14 @@ impl<Octs: Octets> FieldValue for Tag<Octs> {
 
     #[tactic(auto, using(crate::proofs::Leaves::leaf_rules), unfolding(dns_name::specs::Page::write))]
     fn compose_field<Target: Composer>(&self, target: &mut Target) -> Result<(), AppendError> {
-        self.0.compose(target)
+        self.0.compose_field(target)
     }
 
     fn compose_canonical_field<Target: Composer>(
         &self,
         target: &mut Target,
     ) -> Result<(), AppendError> {
-        self.0.compose(target)
+        self.0.compose_canonical_field(target)
     }
 
     fn field_eq(&self, other: &Self) -> bool {

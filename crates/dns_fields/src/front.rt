@@ -1,0 +1,62 @@
+//! Rows beside data of the same type that is held as octets (RFC 3597): they are compared canonically, field by field.
+ghost use Rattle.std.specs.Prelude.{◌≡◌, ◌++◌, IfOk, IfErr};
+ghost use Rattle.std.specs.Ordering.{nat_cmp};
+ghost use Rattle.std.specs.Cmp.Lexicographic.{slice_cmp};
+ghost use Rattle.dns_fields.specs.Fields.{field_octets, lowered, canonical_octets};
+ghost use Rattle.dns_fields.specs.Front.{Decides};
+
+mod leaves;
+mod names;
+mod split;
+
+use crate::{FieldValue, Last, LastValue, Row};
+use std::cmp::Ordering;
+
+/// A field that is compared with what octets begin with.
+pub trait FrontField: FieldValue {
+    /// What stands behind the field's canonical octets, where the octets begin with these. Else how they stand to the
+    /// octets, whatever would stand behind them.
+    fn split_canonical_field<'a>(&self, octets: &'a [u8]) -> Result<&'a [u8], Ordering>
+        ensures ok { IfOk result (λ behind. octets.now ≡ field_octets (lowered (Self.field self.now)) ++ behind.now) }
+        ensures err { IfErr result (Decides (field_octets (lowered (Self.field self.now))) octets.now) };
+}
+
+/// A row that is compared with octets.
+pub trait FrontRow: Row {
+    /// How the row's canonical octets stand to the octets.
+    fn canonical_fields_cmp_octets(&self, octets: &[u8]) -> Ordering
+        ensures { result ≡ slice_cmp nat_cmp (canonical_octets (Self.fields self.now)) octets.now };
+}
+
+impl FrontRow for () {
+    fn canonical_fields_cmp_octets(&self, octets: &[u8]) -> Ordering {
+        if octets.is_empty() {
+            Ordering::Equal
+        } else {
+            Ordering::Less
+        }
+    }
+}
+
+impl<A: FrontField, B: FrontRow> FrontRow for (A, B) {
+    fn canonical_fields_cmp_octets(&self, octets: &[u8]) -> Ordering {
+        let (first, others) = self;
+        match first.split_canonical_field(octets) {
+            Ok(behind) => others.canonical_fields_cmp_octets(behind),
+            Err(order) => order,
+        }
+    }
+}
+
+impl<V: LastValue> FrontRow for Last<V> {
+    fn canonical_fields_cmp_octets(&self, octets: &[u8]) -> Ordering {
+        self.0.last_octets().cmp(octets)
+    }
+}
+
+/// How the canonical form of the row (RFC 4034 6.2) stands to the octets, in the order of RFC 4034 6.3.
+pub fn canonical_row_cmp_octets<R: FrontRow>(row: &R, octets: &[u8]) -> Ordering
+    ensures { result ≡ slice_cmp nat_cmp (canonical_octets (R.fields row.now)) octets.now }
+{
+    row.canonical_fields_cmp_octets(octets)
+}

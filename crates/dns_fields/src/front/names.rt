@@ -1,0 +1,46 @@
+//! Names beside what octets begin with, in lower case and label by label.
+ghost use Rattle.std.specs.Prelude.{◌≡◌, ◌++◌, IfOk, IfErr};
+ghost use Rattle.dns_label.specs.Composed.{label_wire, low_label};
+ghost use Rattle.dns_label.specs.Label.{octets_of};
+ghost use Rattle.dns_label.specs.Name.{wire, low};
+ghost use Rattle.dns_fields.specs.Front.{Decides};
+
+use super::FrontField;
+use super::split::split_front;
+use crate::{Compressible, Uncompressed};
+use dns_name::{Label, OwnedLabel, ToName};
+use std::cmp::Ordering;
+
+impl<N: ToName> FrontField for Compressible<N> {
+    fn split_canonical_field<'a>(&self, octets: &'a [u8]) -> Result<&'a [u8], Ordering> {
+        split_name(&self.0, octets)
+    }
+}
+
+impl<N: ToName> FrontField for Uncompressed<N> {
+    fn split_canonical_field<'a>(&self, octets: &'a [u8]) -> Result<&'a [u8], Ordering> {
+        split_name(&self.0, octets)
+    }
+}
+
+/// `split_front` of the name's octets in lower case.
+fn split_name<'a, N: ToName>(name: &N, octets: &'a [u8]) -> Result<&'a [u8], Ordering>
+    ensures ok { IfOk result (λ behind. octets.now ≡ wire (low (N.name name.now)) ++ behind.now) }
+    ensures err { IfErr result (Decides (wire (low (N.name name.now))) octets.now) }
+{
+    let mut rest = octets;
+    for label in name.iter_labels() {
+        rest = split_label(label, rest)?;
+    }
+    Ok(rest)
+}
+
+/// `split_front` of the label's octets in lower case, behind their length.
+fn split_label<'a>(label: Label<'_>, octets: &'a [u8]) -> Result<&'a [u8], Ordering>
+    ensures ok { IfOk result (λ behind. octets.now ≡ label_wire (low_label (octets_of label.entry)) ++ behind.now) }
+    ensures err { IfErr result (Decides (label_wire (low_label (octets_of label.entry))) octets.now) }
+{
+    let mut lowered = OwnedLabel::from_label(label);
+    lowered.make_canonical();
+    split_front(lowered.as_wire_slice(), octets)
+}
