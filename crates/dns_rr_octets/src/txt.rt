@@ -1,5 +1,6 @@
 //! Data of type TXT (RFC 1035 3.3.14).
-ghost use Rattle.std.specs.Prelude.{◌≡◌, ◌==◌, ◌≤◌, ◌↔◌, length, List, ℕ, [], ◌∷◌, Some, Err, false, IsOk, IfOk, IfErr, IfSome, IfNone, OnOk, OnErr};
+ghost use Rattle.std.specs.Prelude.{◌≡◌, ◌==◌, ◌≤◌, ◌<◌, ◌↔◌, length, List, ℕ, [], ◌∷◌, Some, Err, false, IsOk, IfOk, IfErr, IfSome, IfNone, OnOk, OnErr};
+ghost use Rattle.std.specs.List.{concat};
 ghost use Rattle.std.specs.Ordering.{as_partial_cmp};
 ghost use Rattle.std.proofs.Common.{refl};
 ghost use Rattle.dns_fields.specs.Fields as fields;
@@ -14,21 +15,30 @@ ghost use Rattle.dns_fields.specs.Strings.{AreStringOctets};
 ghost use Rattle.dns_fields.specs.Written.{written_parts};
 ghost use Rattle.dns_name.specs.RecordData.{IsAtEnd};
 ghost use Rattle.dns_octets.specs.declared.error.AppendError.TheVariants.{ShortBuf, BadLength};
+ghost use Rattle.dns_octets.specs.Builder.{IsPast};
 ghost use Rattle.dns_octets.specs.Parser.{octets_of, place_of};
+ghost use Rattle.dns_rr_octets.specs.Built.{AreTextStrings, text_len};
+ghost use Rattle.dns_rr_octets.specs.declared.txt.append_error.TxtAppendError.TheVariants.{LongRecordData};
 ghost use Rattle.dns_scan.specs.Token.{IsEnding, SameNames};
 ghost use Rattle.dns_text.specs.Document.{document_text};
 ghost use Rattle.dns_text.specs.Document.Layout.{Simple};
 ghost use Rattle.dns_text.specs.Documents.{block_of};
 
+mod append_error;
+mod builder;
+mod cut;
 mod iter;
 
+pub use append_error::TxtAppendError;
+pub use builder::TxtBuilder;
+use cut::{append_joined, append_strings, fill, is_long};
 use dns_fields::{
     ConvertRow, Last, LastValue, Row, Strings, compose_canonical_row, compose_row, parse_row,
     row_len, scan_row, show_row,
 };
 use dns_name::{
     AppendError, CanonicalOrd, ComposeRecordData, Composer, EmptyBuilder, FlattenInto, FromBuilder,
-    Octets, OctetsFrom, ParseError, ParseRecordData, Parser, RecordData, Rtype,
+    Octets, OctetsBuilder, OctetsFrom, ParseError, ParseRecordData, Parser, RecordData, Rtype,
 };
 use dns_text::{DisplayKind, Formatter, Scanner, ZonefileFmt};
 pub use iter::{TxtCharStrIter, TxtIter};
@@ -76,6 +86,58 @@ impl<Octs: Octets> Txt<Octs> {
             Some(strings) => Ok(Txt { row: Last(strings) }),
             None => Err(TxtError),
         }
+    }
+
+    /// The data of octets that are strings, and not too many.
+    fn of_strings(octets: Octs) -> Self
+    where
+        Octs: Drop,
+        requires are { AreStringOctets (Octs.list octets) }
+        requires short { length (Octs.list octets) ≤ 65535 }
+        ensures { (each : List (List ℕ)) → Octs.list octets ≡ fields.field_octets (strings each) → result ≡ strings each ∷ [] }
+    {
+        match Txt::from_octets(octets) {
+            Ok(rdata) => rdata,
+            Err(_) => unreachable!(),
+        }
+    }
+
+    /// A text as strings of 255 octets and one of the rest. Where there is no text it is one empty string.
+    ///
+    /// Refused with `LongRecordData` exactly where the data would have more than 65,535 octets, and with `ShortBuf` for
+    /// want of room or memory.
+    pub fn build_from_slice(alloc: Global, text: &[u8]) -> Result<Self, TxtAppendError>
+    where
+        Octs: FromBuilder + Drop,
+        Octs::Builder: EmptyBuilder + Drop,
+        ensures ok { IfOk result (λ rdata. (each : List (List ℕ)) × (rdata ≡ strings each ∷ [])
+            × AreTextStrings text.now each) }
+        ensures long { (result ≡ Err LongRecordData) ↔ (65535 < text_len (length text.now)) }
+    {
+        if is_long(0, text.len()) {
+            return Err(TxtAppendError::LongRecordData);
+        }
+        let mut builder = Octs::Builder::empty(alloc);
+        append_strings(&mut builder, text)?;
+        fill(&mut builder)?;
+        Ok(Txt::of_strings(Octs::from_builder(builder)))
+    }
+
+    /// The octets of the strings, joined.
+    ///
+    /// Refused with `ShortBuf` only where such octets can't be as many, and with `OutOfMemory` where memory was wanting.
+    pub fn text<Text: FromBuilder>(&self, alloc: Global) -> Result<Text, AppendError>
+    where
+        Text::Builder: EmptyBuilder + Drop,
+        ensures ok { IfOk result (λ text. (each : List (List ℕ)) × (self.now ≡ strings each ∷ [])
+            × (Text.list text ≡ concat each)) }
+        ensures short { result ≡ Err ShortBuf → (each : List (List ℕ)) × (self.now ≡ strings each ∷ [])
+            × IsPast Text.Builder.limit (length (concat each)) }
+        ensures not_bad { result ≡ Err BadLength → ⊥ }
+    {
+        let mut builder = Text::Builder::empty(alloc);
+        append_joined(&mut builder, self.iter())?;
+        Ok(Text::from_builder(builder))
     }
 
     /// The octets of the strings, one string after another.
