@@ -6,6 +6,7 @@ ghost use Rattle.dns_fields.specs.Held.{held_octets, OneIsPast};
 
 mod leaves;
 mod rests;
+mod strings;
 
 use crate::{FieldValue, Row};
 use dns_name::{AppendError, EmptyBuilder, FromBuilder};

@@ -1,5 +1,5 @@
 //! Data of type AAAA (RFC 3596 2.2).
-ghost use Rattle.std.specs.Prelude.{◌≡◌, ◌==◌, List, [], ◌∷◌, Some, IfOk, OnOk, OnErr, false, IfErr};
+ghost use Rattle.std.specs.Prelude.{◌≡◌, ◌==◌, List, [], ◌∷◌, Some, IfOk, OnOk, OnErr, false, IfErr, Ok};
 ghost use Rattle.std.specs.Ordering.{as_partial_cmp};
 ghost use Rattle.std.proofs.Common.{refl};
 ghost use Rattle.std.specs.Net.Addr.{ipv6_octets};
@@ -19,10 +19,11 @@ ghost use Rattle.dns_text.specs.Documents.{block_of};
 
 use dns_fields::{Row, compose_canonical_row, compose_row, parse_row, row_len, scan_row, show_row};
 use dns_name::{
-    AppendError, CanonicalOrd, ComposeRecordData, Composer, ParseError, ParseRecordData, Parser,
-    RecordData, Rtype,
+    AppendError, CanonicalOrd, ComposeRecordData, Composer, FlattenInto, OctetsFrom, ParseError,
+    ParseRecordData, Parser, RecordData, Rtype,
 };
 use dns_text::{DisplayKind, Formatter, Scanner, ZonefileFmt};
+use std::alloc::Global;
 use std::cmp::Ordering;
 use std::fmt;
 use std::hash::{Hash, Hasher};
@@ -111,6 +112,26 @@ impl<'a> ParseRecordData<'a> for Aaaa {
             return Ok(None);
         }
         Ok(Some(Aaaa::parse(parser)?))
+    }
+}
+
+/// The same address: it is in no octets of another kind.
+impl OctetsFrom<Aaaa> for Aaaa {
+    ghost octets_from_gives = { λ source result. result ≡ Ok source };
+
+    fn try_octets_from(_alloc: Global, source: Aaaa) -> Result<Self, AppendError> {
+        Ok(source)
+    }
+}
+
+/// The same address: there is no name in it.
+impl FlattenInto<Aaaa> for Aaaa {
+    ghost flattens = { λ rdata flat. flat ≡ rdata };
+
+    ghost is_long = { λ _. ⊥ };
+
+    fn try_flatten_into(self, _alloc: Global) -> Result<Aaaa, AppendError> {
+        Ok(self)
     }
 }
 

@@ -1,27 +1,32 @@
 //! Data of type HINFO (RFC 1035 3.3.2).
-ghost use Rattle.std.specs.Prelude.{◌≡◌, ◌==◌, List, [], ◌∷◌, Some, IfOk, OnOk, OnErr, false, IfErr};
+ghost use Rattle.std.specs.Prelude.{◌≡◌, ◌==◌, List, [], ◌∷◌, Some, IfOk, OnOk, OnErr, false, IfErr, Err};
 ghost use Rattle.std.specs.Ordering.{as_partial_cmp};
 ghost use Rattle.std.proofs.Common.{refl};
 ghost use Rattle.dns_fields.specs.Fields.{Field, string, canonical_octets, field_at};
 ghost use Rattle.dns_fields.specs.Alike.{keys, rows_eq, rows_cmp, canonical_rows_cmp};
 ghost use Rattle.dns_fields.specs.AlikeLaws.{rows_equivalent, rows_partly_equivalent, rows_total, rows_ties, rows_order, rows_alike};
+ghost use Rattle.dns_fields.specs.Held.{OneIsPast};
 ghost use Rattle.dns_fields.specs.Reading.{ReadsRow, NoRow};
 ghost use Rattle.dns_fields.specs.Scanned.{ScansData, NoDataScans};
 ghost use Rattle.dns_fields.specs.Shown.{row_pieces};
 ghost use Rattle.dns_fields.specs.Written.{written_parts};
 ghost use Rattle.dns_name.specs.RecordData.{IsAtEnd};
+ghost use Rattle.dns_octets.specs.declared.error.AppendError.TheVariants.{ShortBuf, BadLength};
 ghost use Rattle.dns_octets.specs.Parser.{octets_of, place_of};
 ghost use Rattle.dns_scan.specs.Token.{IsEnding, SameNames};
 ghost use Rattle.dns_text.specs.Document.{document_text};
 ghost use Rattle.dns_text.specs.Document.Layout.{Simple};
 ghost use Rattle.dns_text.specs.Documents.{block_of};
 
-use dns_fields::{Row, compose_canonical_row, compose_row, parse_row, row_len, scan_row, show_row};
+use dns_fields::{
+    ConvertRow, Row, compose_canonical_row, compose_row, parse_row, row_len, scan_row, show_row,
+};
 use dns_name::{
-    AppendError, CanonicalOrd, ComposeRecordData, Composer, FromBuilder, Octets, ParseError,
-    ParseRecordData, Parser, RecordData, Rtype,
+    AppendError, CanonicalOrd, ComposeRecordData, Composer, EmptyBuilder, FlattenInto, FromBuilder,
+    Octets, OctetsFrom, ParseError, ParseRecordData, Parser, RecordData, Rtype,
 };
 use dns_text::{CharStr, DisplayKind, Formatter, Scanner, ZonefileFmt};
+use std::alloc::Global;
 use std::cmp::Ordering;
 use std::fmt;
 use std::hash::{Hash, Hasher};
@@ -114,6 +119,36 @@ impl<'a> ParseRecordData<'a> for Hinfo<&'a [u8]> {
             return Ok(None);
         }
         Ok(Some(Hinfo::parse(parser)?))
+    }
+}
+
+/// The same fields, held in octets of another kind.
+impl<Source: Octets + Drop, Octs: FromBuilder + Drop> OctetsFrom<Hinfo<Source>> for Hinfo<Octs>
+where
+    Octs::Builder: EmptyBuilder + Drop,
+{
+    ghost octets_from_gives = { λ source result. IfOk result (λ rdata. rdata ≡ source)
+        × (result ≡ Err ShortBuf → OneIsPast Octs.Builder.limit source)
+        × (result ≡ Err BadLength → ⊥) };
+
+    fn try_octets_from(alloc: Global, source: Hinfo<Source>) -> Result<Self, AppendError> {
+        Ok(Hinfo {
+            row: ConvertRow::<_, Octs>::convert_fields(&source.row, alloc)?,
+        })
+    }
+}
+
+/// The same fields: there is no name in them.
+impl<Source: Octets + Drop, Octs: FromBuilder + Drop> FlattenInto<Hinfo<Octs>> for Hinfo<Source>
+where
+    Octs::Builder: EmptyBuilder + Drop,
+{
+    ghost flattens = { λ rdata flat. flat ≡ rdata };
+
+    ghost is_long = { OneIsPast Octs.Builder.limit };
+
+    fn try_flatten_into(self, alloc: Global) -> Result<Hinfo<Octs>, AppendError> {
+        Hinfo::try_octets_from(alloc, self)
     }
 }
 

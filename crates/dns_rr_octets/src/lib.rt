@@ -17,4 +17,4 @@ pub use caa::Caa;
 pub use dnskey::Dnskey;
 pub use ds::Ds;
 pub use hinfo::Hinfo;
-pub use txt::{Txt, TxtCharStrIter, TxtError, TxtIter};
+pub use txt::{Txt, TxtAppendError, TxtBuilder, TxtCharStrIter, TxtError, TxtIter};

@@ -1,35 +1,48 @@
 //! Data of type TXT (RFC 1035 3.3.14).
-ghost use Rattle.std.specs.Prelude.{◌≡◌, ◌==◌, ◌≤◌, ◌↔◌, length, List, ℕ, [], ◌∷◌, Some, Err, false, IsOk, IfOk, IfErr, IfSome, IfNone, OnOk, OnErr};
+ghost use Rattle.std.specs.Prelude.{◌≡◌, ◌==◌, ◌≤◌, ◌<◌, ◌↔◌, length, List, ℕ, [], ◌∷◌, Some, Err, false, IsOk, IfOk, IfErr, IfSome, IfNone, OnOk, OnErr};
+ghost use Rattle.std.specs.List.{concat};
 ghost use Rattle.std.specs.Ordering.{as_partial_cmp};
 ghost use Rattle.std.proofs.Common.{refl};
 ghost use Rattle.dns_fields.specs.Fields as fields;
 ghost use Rattle.dns_fields.specs.Fields.{Field, IsRow, strings, canonical_octets, field_at};
 ghost use Rattle.dns_fields.specs.Alike.{keys, rows_eq, rows_cmp, canonical_rows_cmp};
 ghost use Rattle.dns_fields.specs.AlikeLaws.{rows_equivalent, rows_partly_equivalent, rows_total, rows_ties, rows_order, rows_alike};
+ghost use Rattle.dns_fields.specs.Held.{OneIsPast};
 ghost use Rattle.dns_fields.specs.Reading.{ReadsRow, NoRow};
 ghost use Rattle.dns_fields.specs.Scanned.{ScansData, NoDataScans};
 ghost use Rattle.dns_fields.specs.Shown.{row_pieces};
 ghost use Rattle.dns_fields.specs.Strings.{AreStringOctets};
 ghost use Rattle.dns_fields.specs.Written.{written_parts};
 ghost use Rattle.dns_name.specs.RecordData.{IsAtEnd};
+ghost use Rattle.dns_octets.specs.declared.error.AppendError.TheVariants.{ShortBuf, BadLength};
+ghost use Rattle.dns_octets.specs.Builder.{IsPast};
 ghost use Rattle.dns_octets.specs.Parser.{octets_of, place_of};
+ghost use Rattle.dns_rr_octets.specs.Built.{AreTextStrings, text_len};
+ghost use Rattle.dns_rr_octets.specs.declared.txt.append_error.TxtAppendError.TheVariants.{LongRecordData};
 ghost use Rattle.dns_scan.specs.Token.{IsEnding, SameNames};
 ghost use Rattle.dns_text.specs.Document.{document_text};
 ghost use Rattle.dns_text.specs.Document.Layout.{Simple};
 ghost use Rattle.dns_text.specs.Documents.{block_of};
 
+mod append_error;
+mod builder;
+mod cut;
 mod iter;
 
+pub use append_error::TxtAppendError;
+pub use builder::TxtBuilder;
+use cut::{append_joined, append_strings, fill, is_long};
 use dns_fields::{
-    Last, LastValue, Row, Strings, compose_canonical_row, compose_row, parse_row, row_len,
-    scan_row, show_row,
+    ConvertRow, Last, LastValue, Row, Strings, compose_canonical_row, compose_row, parse_row,
+    row_len, scan_row, show_row,
 };
 use dns_name::{
-    AppendError, CanonicalOrd, ComposeRecordData, Composer, FromBuilder, Octets, ParseError,
-    ParseRecordData, Parser, RecordData, Rtype,
+    AppendError, CanonicalOrd, ComposeRecordData, Composer, EmptyBuilder, FlattenInto, FromBuilder,
+    Octets, OctetsBuilder, OctetsFrom, ParseError, ParseRecordData, Parser, RecordData, Rtype,
 };
 use dns_text::{DisplayKind, Formatter, Scanner, ZonefileFmt};
 pub use iter::{TxtCharStrIter, TxtIter};
+use std::alloc::Global;
 use std::cmp::Ordering;
 use std::fmt;
 use std::hash::{Hash, Hasher};
@@ -73,6 +86,58 @@ impl<Octs: Octets> Txt<Octs> {
             Some(strings) => Ok(Txt { row: Last(strings) }),
             None => Err(TxtError),
         }
+    }
+
+    /// The data of octets that are strings, and not too many.
+    fn of_strings(octets: Octs) -> Self
+    where
+        Octs: Drop,
+        requires are { AreStringOctets (Octs.list octets) }
+        requires short { length (Octs.list octets) ≤ 65535 }
+        ensures { (each : List (List ℕ)) → Octs.list octets ≡ fields.field_octets (strings each) → result ≡ strings each ∷ [] }
+    {
+        match Txt::from_octets(octets) {
+            Ok(rdata) => rdata,
+            Err(_) => unreachable!(),
+        }
+    }
+
+    /// A text as strings of 255 octets and one of the rest. Where there is no text it is one empty string.
+    ///
+    /// Refused with `LongRecordData` exactly where the data would have more than 65,535 octets, and with `ShortBuf` for
+    /// want of room or memory.
+    pub fn build_from_slice(alloc: Global, text: &[u8]) -> Result<Self, TxtAppendError>
+    where
+        Octs: FromBuilder + Drop,
+        Octs::Builder: EmptyBuilder + Drop,
+        ensures ok { IfOk result (λ rdata. (each : List (List ℕ)) × (rdata ≡ strings each ∷ [])
+            × AreTextStrings text.now each) }
+        ensures long { (result ≡ Err LongRecordData) ↔ (65535 < text_len (length text.now)) }
+    {
+        if is_long(0, text.len()) {
+            return Err(TxtAppendError::LongRecordData);
+        }
+        let mut builder = Octs::Builder::empty(alloc);
+        append_strings(&mut builder, text)?;
+        fill(&mut builder)?;
+        Ok(Txt::of_strings(Octs::from_builder(builder)))
+    }
+
+    /// The octets of the strings, joined.
+    ///
+    /// Refused with `ShortBuf` only where such octets can't be as many, and with `OutOfMemory` where memory was wanting.
+    pub fn text<Text: FromBuilder>(&self, alloc: Global) -> Result<Text, AppendError>
+    where
+        Text::Builder: EmptyBuilder + Drop,
+        ensures ok { IfOk result (λ text. (each : List (List ℕ)) × (self.now ≡ strings each ∷ [])
+            × (Text.list text ≡ concat each)) }
+        ensures short { result ≡ Err ShortBuf → (each : List (List ℕ)) × (self.now ≡ strings each ∷ [])
+            × IsPast Text.Builder.limit (length (concat each)) }
+        ensures not_bad { result ≡ Err BadLength → ⊥ }
+    {
+        let mut builder = Text::Builder::empty(alloc);
+        append_joined(&mut builder, self.iter())?;
+        Ok(Text::from_builder(builder))
     }
 
     /// The octets of the strings, one string after another.
@@ -156,6 +221,36 @@ impl<'a> ParseRecordData<'a> for Txt<&'a [u8]> {
             return Ok(None);
         }
         Ok(Some(Txt::parse(parser)?))
+    }
+}
+
+/// The same fields, held in octets of another kind.
+impl<Source: Octets + Drop, Octs: FromBuilder + Drop> OctetsFrom<Txt<Source>> for Txt<Octs>
+where
+    Octs::Builder: EmptyBuilder + Drop,
+{
+    ghost octets_from_gives = { λ source result. IfOk result (λ rdata. rdata ≡ source)
+        × (result ≡ Err ShortBuf → OneIsPast Octs.Builder.limit source)
+        × (result ≡ Err BadLength → ⊥) };
+
+    fn try_octets_from(alloc: Global, source: Txt<Source>) -> Result<Self, AppendError> {
+        Ok(Txt {
+            row: ConvertRow::<_, Octs>::convert_fields(&source.row, alloc)?,
+        })
+    }
+}
+
+/// The same fields: there is no name in them.
+impl<Source: Octets + Drop, Octs: FromBuilder + Drop> FlattenInto<Txt<Octs>> for Txt<Source>
+where
+    Octs::Builder: EmptyBuilder + Drop,
+{
+    ghost flattens = { λ rdata flat. flat ≡ rdata };
+
+    ghost is_long = { OneIsPast Octs.Builder.limit };
+
+    fn try_flatten_into(self, alloc: Global) -> Result<Txt<Octs>, AppendError> {
+        Txt::try_octets_from(alloc, self)
     }
 }
 
