@@ -10,6 +10,7 @@ mod names;
 mod split;
 
 use crate::{FieldValue, Last, LastValue, Row};
+use dns_name::ComposeRecordData;
 use std::cmp::Ordering;
 
 /// A field that is compared with what octets begin with.
@@ -52,6 +53,13 @@ impl<V: LastValue> FrontRow for Last<V> {
     fn canonical_fields_cmp_octets(&self, octets: &[u8]) -> Ordering {
         self.0.last_octets().cmp(octets)
     }
+}
+
+/// Data that is compared canonically with data of the same type that is held as octets (RFC 3597).
+pub trait CanonicalOctetsOrd: ComposeRecordData {
+    /// How the canonical form of the data stands to the octets, in the order of RFC 4034 6.3.
+    fn canonical_octets_cmp(&self, octets: &[u8]) -> Ordering
+        ensures { result ≡ slice_cmp nat_cmp (Self.canonical_octets self.now) octets.now };
 }
 
 /// How the canonical form of the row (RFC 4034 6.2) stands to the octets, in the order of RFC 4034 6.3.

@@ -16,7 +16,7 @@ mod show;
 pub use compose::{compose_canonical_row, compose_row, row_len};
 pub use convert::{ConvertField, ConvertRow};
 pub use field::{Compressible, FieldValue, Tag, Uncompressed};
-pub use front::{FrontField, FrontRow, canonical_row_cmp_octets};
+pub use front::{CanonicalOctetsOrd, FrontField, FrontRow, canonical_row_cmp_octets};
 pub use read::{ReadError, ReadField, ReadRow, parse_row};
 pub use row::{Last, LastValue, Rest16, Rest64, RestText, Row, Strings, StringsIter};
 pub use scan::{ScanField, ScanRow, scan_row};

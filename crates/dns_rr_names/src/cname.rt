@@ -19,8 +19,8 @@ ghost use Rattle.dns_text.specs.Document.Layout.{Simple};
 ghost use Rattle.dns_text.specs.Documents.{block_of};
 
 use dns_fields::{
-    Compressible, ConvertRow, Row, compose_canonical_row, compose_row, parse_row, row_len,
-    scan_row, show_row,
+    CanonicalOctetsOrd, Compressible, ConvertRow, Row, canonical_row_cmp_octets,
+    compose_canonical_row, compose_row, parse_row, row_len, scan_row, show_row,
 };
 use dns_name::{
     AppendError, CanonicalOrd, ComposeRecordData, Composer, EmptyBuilder, FlattenInto, FromBuilder,
@@ -228,6 +228,13 @@ impl<N: ToName> CanonicalOrd for Cname<N> {
 
     fn canonical_cmp(&self, other: &Self) -> Ordering {
         self.row.canonical_fields_cmp(&other.row)
+    }
+}
+
+/// The same order, beside data that is held as octets.
+impl<N: ToName> CanonicalOctetsOrd for Cname<N> {
+    fn canonical_octets_cmp(&self, octets: &[u8]) -> Ordering {
+        canonical_row_cmp_octets(&self.row, octets)
     }
 }
 

@@ -17,7 +17,10 @@ ghost use Rattle.dns_text.specs.Document.{document_text};
 ghost use Rattle.dns_text.specs.Document.Layout.{Simple};
 ghost use Rattle.dns_text.specs.Documents.{block_of};
 
-use dns_fields::{Row, compose_canonical_row, compose_row, parse_row, row_len, scan_row, show_row};
+use dns_fields::{
+    CanonicalOctetsOrd, Row, canonical_row_cmp_octets, compose_canonical_row, compose_row,
+    parse_row, row_len, scan_row, show_row,
+};
 use dns_name::{
     AppendError, CanonicalOrd, ComposeRecordData, Composer, FlattenInto, OctetsFrom, ParseError,
     ParseRecordData, Parser, RecordData, Rtype,
@@ -208,6 +211,13 @@ impl CanonicalOrd for Aaaa {
 
     fn canonical_cmp(&self, other: &Self) -> Ordering {
         self.row.canonical_fields_cmp(&other.row)
+    }
+}
+
+/// The same order, beside data that is held as octets.
+impl CanonicalOctetsOrd for Aaaa {
+    fn canonical_octets_cmp(&self, octets: &[u8]) -> Ordering {
+        canonical_row_cmp_octets(&self.row, octets)
     }
 }
 

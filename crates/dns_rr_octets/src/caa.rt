@@ -20,8 +20,8 @@ ghost use Rattle.dns_text.specs.Document.Layout.{Simple};
 ghost use Rattle.dns_text.specs.Documents.{block_of};
 
 use dns_fields::{
-    ConvertRow, Last, RestText, Row, Tag, compose_canonical_row, compose_row, parse_row, row_len,
-    scan_row, show_row,
+    CanonicalOctetsOrd, ConvertRow, Last, RestText, Row, Tag, canonical_row_cmp_octets,
+    compose_canonical_row, compose_row, parse_row, row_len, scan_row, show_row,
 };
 use dns_name::{
     AppendError, CanonicalOrd, ComposeRecordData, Composer, EmptyBuilder, FlattenInto, FromBuilder,
@@ -249,6 +249,13 @@ impl<Octs: Octets> CanonicalOrd for Caa<Octs> {
 
     fn canonical_cmp(&self, other: &Self) -> Ordering {
         self.row.canonical_fields_cmp(&other.row)
+    }
+}
+
+/// The same order, beside data that is held as octets.
+impl<Octs: Octets> CanonicalOctetsOrd for Caa<Octs> {
+    fn canonical_octets_cmp(&self, octets: &[u8]) -> Ordering {
+        canonical_row_cmp_octets(&self.row, octets)
     }
 }
 

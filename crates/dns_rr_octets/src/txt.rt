@@ -33,8 +33,8 @@ pub use append_error::TxtAppendError;
 pub use builder::TxtBuilder;
 use cut::{append_joined, append_strings, fill, is_long};
 use dns_fields::{
-    ConvertRow, Last, LastValue, Row, Strings, compose_canonical_row, compose_row, parse_row,
-    row_len, scan_row, show_row,
+    CanonicalOctetsOrd, ConvertRow, Last, LastValue, Row, Strings, canonical_row_cmp_octets,
+    compose_canonical_row, compose_row, parse_row, row_len, scan_row, show_row,
 };
 use dns_name::{
     AppendError, CanonicalOrd, ComposeRecordData, Composer, EmptyBuilder, FlattenInto, FromBuilder,
@@ -327,6 +327,13 @@ impl<Octs: Octets> CanonicalOrd for Txt<Octs> {
 
     fn canonical_cmp(&self, other: &Self) -> Ordering {
         self.row.canonical_fields_cmp(&other.row)
+    }
+}
+
+/// The same order, beside data that is held as octets.
+impl<Octs: Octets> CanonicalOctetsOrd for Txt<Octs> {
+    fn canonical_octets_cmp(&self, octets: &[u8]) -> Ordering {
+        canonical_row_cmp_octets(&self.row, octets)
     }
 }
 

@@ -61,12 +61,12 @@ pub trait Scanner {
         ensures left { OnErr result (IsEnding (tokens self.new) (tokens self.old)) }
         ensures names { SameNames (names self.old) (names self.new) };
 
-    /// Whether the next token is the marker of data of an unknown type, which is then taken.
+    /// Whether the next token is the marker of data of an unknown type, which is then taken. Any other token, or none, is no
+    /// error: refused only where there is no room or no memory.
     fn scan_opt_unknown_marker(&mut self) -> Result<bool, Self::Error>
         ensures marked { IfOk result (λ marked. IsTrue marked → tokens self.old ≡ marker ∷ tokens self.new) }
         ensures other { IfOk result (λ marked. (IsTrue marked → ⊥) → (tokens self.new ≡ tokens self.old) × ((left : List Token) → tokens self.old ≡ marker ∷ left → ⊥)) }
-        ensures err { IfErr result (λ error. Self.Error.is_short error ≡ false → (left : List Token) → tokens self.old ≡ marker ∷ left → ⊥) }
-        ensures end { IfErr result (λ error. Self.Error.is_short error ≡ false → ((Self.Error.is_end error ≡ true) ↔ (tokens self.old ≡ []))) }
+        ensures err { IfErr result (λ error. Self.Error.is_short error ≡ true) }
         ensures left { OnErr result (IsEnding (tokens self.new) (tokens self.old)) }
         ensures names { SameNames (names self.old) (names self.new) };
 

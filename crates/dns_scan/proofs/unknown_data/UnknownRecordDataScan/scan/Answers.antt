@@ -1,4 +1,4 @@
-use Rattle.std.proofs.Common.{◌≡◌, List, ◌∷◌, sym, ◌∙◌, subst, rules}
+use Rattle.std.proofs.Common.{◌≡◌, Bool, true, false, List, ◌∷◌, sym, ◌∙◌, subst, rules}
 use Rattle.std.proofs.lemmas.Result.{err_from_is_err_and}
 use Rattle.dns_name.proofs.Flat.{always_on_err}
 use Rattle.dns_values.specs.Mnemonic.{type_read}
@@ -18,9 +18,10 @@ pub returns-in_err-scan_opt_unknown_marker-clause-err :
 returns-in_err-scan_opt_unknown_marker-clause-err g c =
     let p = err_from_is_err_and c.from_residual-in_err-scan_opt_unknown_marker.result c.from_residual-in_err-scan_opt_unknown_marker.ensures.1 in
     rw (p.1, p.2)
-    (λ short value left is.
-    let one = one_word type_read _ _ _ _ _ is.of_type c.in_ok-rtype.ensures.ok in
-    c.in_err-scan_opt_unknown_marker.ensures.err short is.words (sym one.lefts))
+    (λ short value left is. never c.in_err-scan_opt_unknown_marker.ensures.err short)
+  where
+    never : {b : Bool} → b ≡ true → b ≡ false → ⊥
+    never is unlike = cc
 
 pub returns-in_err-scan_opt_unknown_marker-clause-left :
     goal.returns-in_err-scan_opt_unknown_marker-clause-left
