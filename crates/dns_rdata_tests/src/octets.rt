@@ -1,3 +1,5 @@
+mod build;
+mod convert;
 mod text;
 mod txt;
 

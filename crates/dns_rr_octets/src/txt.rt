@@ -38,7 +38,7 @@ use dns_fields::{
 };
 use dns_name::{
     AppendError, CanonicalOrd, ComposeRecordData, Composer, EmptyBuilder, FlattenInto, FromBuilder,
-    Octets, OctetsBuilder, OctetsFrom, ParseError, ParseRecordData, Parser, RecordData, Rtype,
+    Octets, OctetsFrom, ParseError, ParseRecordData, Parser, RecordData, Rtype,
 };
 use dns_text::{DisplayKind, Formatter, Scanner, ZonefileFmt};
 pub use iter::{TxtCharStrIter, TxtIter};

@@ -109,7 +109,7 @@ impl<Builder: OctetsBuilder> TxtBuilder<Builder> {
     pub fn close_charstr(&mut self)
         ensures { self.new ≡ all_closed self.old }
     {
-        self.head = None;
+        self.head = None; // the length in front of it is kept as it grows
     }
 }
 
