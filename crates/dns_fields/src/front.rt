@@ -10,7 +10,7 @@ mod names;
 mod split;
 
 use crate::{FieldValue, Last, LastValue, Row};
-use dns_name::ComposeRecordData;
+use dns_name::{ComposeRecordData, Octets, UnknownRecordData};
 use std::cmp::Ordering;
 
 /// A field that is compared with what octets begin with.
@@ -60,6 +60,13 @@ pub trait CanonicalOctetsOrd: ComposeRecordData {
     /// How the canonical form of the data stands to the octets, in the order of RFC 4034 6.3.
     fn canonical_octets_cmp(&self, octets: &[u8]) -> Ordering
         ensures { result ≡ slice_cmp nat_cmp (Self.canonical_octets self.now) octets.now };
+}
+
+/// Data that is not looked into is its own canonical form.
+impl<Octs: Octets> CanonicalOctetsOrd for UnknownRecordData<Octs> {
+    fn canonical_octets_cmp(&self, octets: &[u8]) -> Ordering {
+        self.data().octets().cmp(octets)
+    }
 }
 
 /// How the canonical form of the row (RFC 4034 6.2) stands to the octets, in the order of RFC 4034 6.3.

@@ -40,7 +40,39 @@ macro_rules! of_variant {
     };
 }
 
+/// Runs an expression on the data of two values of the same variant, and another one where they are of two.
+macro_rules! of_both {
+    ($value:expr, $other:expr, ($one:ident, $two:ident) => $answer:expr, _ => $unlike:expr) => {
+        match ($value, $other) {
+            (ZoneRecordData::A($one), ZoneRecordData::A($two)) => $answer,
+            (ZoneRecordData::Ns($one), ZoneRecordData::Ns($two)) => $answer,
+            (ZoneRecordData::Md($one), ZoneRecordData::Md($two)) => $answer,
+            (ZoneRecordData::Mf($one), ZoneRecordData::Mf($two)) => $answer,
+            (ZoneRecordData::Cname($one), ZoneRecordData::Cname($two)) => $answer,
+            (ZoneRecordData::Soa($one), ZoneRecordData::Soa($two)) => $answer,
+            (ZoneRecordData::Mb($one), ZoneRecordData::Mb($two)) => $answer,
+            (ZoneRecordData::Mg($one), ZoneRecordData::Mg($two)) => $answer,
+            (ZoneRecordData::Mr($one), ZoneRecordData::Mr($two)) => $answer,
+            (ZoneRecordData::Ptr($one), ZoneRecordData::Ptr($two)) => $answer,
+            (ZoneRecordData::Hinfo($one), ZoneRecordData::Hinfo($two)) => $answer,
+            (ZoneRecordData::Minfo($one), ZoneRecordData::Minfo($two)) => $answer,
+            (ZoneRecordData::Mx($one), ZoneRecordData::Mx($two)) => $answer,
+            (ZoneRecordData::Txt($one), ZoneRecordData::Txt($two)) => $answer,
+            (ZoneRecordData::Rp($one), ZoneRecordData::Rp($two)) => $answer,
+            (ZoneRecordData::Aaaa($one), ZoneRecordData::Aaaa($two)) => $answer,
+            (ZoneRecordData::Srv($one), ZoneRecordData::Srv($two)) => $answer,
+            (ZoneRecordData::Ds($one), ZoneRecordData::Ds($two)) => $answer,
+            (ZoneRecordData::Dnskey($one), ZoneRecordData::Dnskey($two)) => $answer,
+            (ZoneRecordData::Caa($one), ZoneRecordData::Caa($two)) => $answer,
+            (ZoneRecordData::Unknown($one), ZoneRecordData::Unknown($two)) => $answer,
+            _ => $unlike,
+        }
+    };
+}
+
+mod canonical;
 mod compare;
+mod convert;
 mod parse;
 mod scan;
 mod show;

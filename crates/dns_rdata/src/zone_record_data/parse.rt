@@ -4,7 +4,10 @@ ghost use Rattle.dns_rdata.specs.Data.{ReadsData};
 ghost use Rattle.dns_rdata.specs.ZoneData.{data_of};
 
 use super::ZoneRecordData;
-use crate::{A, Ns, Md, Mf, Cname, Soa, Mb, Mg, Mr, Ptr, Hinfo, Minfo, Mx, Txt, Rp, Aaaa, Srv, Ds, Dnskey, Caa};
+use crate::{
+    A, Aaaa, Caa, Cname, Dnskey, Ds, Hinfo, Mb, Md, Mf, Mg, Minfo, Mr, Mx, Ns, Ptr, Rp, Soa, Srv,
+    Txt,
+};
 use dns_name::{
     ParseAnyRecordData, ParseError, ParseRecordData, ParsedName, Parser, Rtype, UnknownRecordData,
 };

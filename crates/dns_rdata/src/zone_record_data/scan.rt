@@ -5,7 +5,10 @@ ghost use Rattle.dns_rdata.specs.Data.{Data, IsUnmarked, ScansAnyData};
 ghost use Rattle.dns_rdata.specs.ZoneData.{data_of};
 
 use super::ZoneRecordData;
-use crate::{A, Ns, Md, Mf, Cname, Soa, Mb, Mg, Mr, Ptr, Hinfo, Minfo, Mx, Txt, Rp, Aaaa, Srv, Ds, Dnskey, Caa};
+use crate::{
+    A, Aaaa, Caa, Cname, Dnskey, Ds, Hinfo, Mb, Md, Mf, Mg, Minfo, Mr, Mx, Ns, Ptr, Rp, Soa, Srv,
+    Txt,
+};
 use dns_name::{FromBuilder, Octets, Rtype, ToName};
 use dns_text::{Scanner, ScannerError, scan_without_marker};
 
