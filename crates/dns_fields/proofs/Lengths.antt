@@ -1,13 +1,13 @@
 -- How long a row is in a message: as its octets, where no name is written with a pointer.
-use Rattle.std.proofs.Common.{◌≡◌, ◌+◌, ◌<◌, ℕ, Bool, true, false, List, [], ◌∷◌, ◌++◌, ◌||◌, length, map, refl, sym, ◌∙◌, ap, arith, length-append}
-use Rattle.std.specs.Prelude.{Option, Some, None, IfSome}
+use Rattle.std.proofs.Common.{◌≡◌, ◌+◌, ◌<◌, ◌≤◌, ℕ, Bool, true, false, List, [], ◌∷◌, ◌++◌, ◌||◌, length, map, refl, sym, ◌∙◌, ap, arith, length-append, ◌⊎◌, inl, inr}
+use Rattle.std.specs.Prelude.{Option, Some, None, IfSome, IfNone, IsNone, ◌↔◌}
 use Rattle.std.specs.List.{list_any}
 use Rattle.dns_label.specs.Name.{wire}
-use Rattle.dns_name.specs.Spelling.{Spelling, compresses, name_text, known_after}
+use Rattle.dns_name.specs.Spelling.{Spelling, plain as in_full, compresses, name_text, known_after}
 use Rattle.dns_name.specs.Page.{Page, Parts, with_name, write}
 use Rattle.dns_name.specs.Page.Parts.{End, Octets, Named}
 use Rattle.dns_octets.specs.Builder.{Known}
-use Rattle.dns_name.specs.RecordData.{IsComposedLength}
+use Rattle.dns_name.specs.RecordData.{page_of, has_name, IsComposedLength, IsUntold}
 use Rattle.dns_name.proofs.Spelled.{name_text-none, known_after-none}
 use Rattle.dns_fields.specs.Fields.{Field, number8, number16, number32, ipv4, ipv6, compressible, uncompressed, string, strings, tag, rest_text, rest16, rest64, kind_of, field_octets, octets}
 use Rattle.dns_fields.specs.Written.{may_point, written_field, written_parts}
@@ -113,3 +113,53 @@ row_composed false row len none is = record {
 pub if_some : {T : Type 0} {P Q : T → Type 0} (result : Option T) → ((value : T) → P value → Q value) → IfSome result P → IfSome result Q
 if_some (Some value) then fact = then value fact
 if_some None then fact = tt
+
+-- a name among the parts of a row is a field that may be written with a pointer
+pub row_named : (row : List Field) → has_name (written_parts row) ≡ list_any may_point (map kind_of row)
+row_named [] = refl
+row_named (compressible name ∷ row) = refl
+row_named (number8 n ∷ row) = row_named row
+row_named (number16 n ∷ row) = row_named row
+row_named (number32 n ∷ row) = row_named row
+row_named (ipv4 octets ∷ row) = row_named row
+row_named (ipv6 octets ∷ row) = row_named row
+row_named (uncompressed name ∷ row) = row_named row
+row_named (string octets ∷ row) = row_named row
+row_named (strings each ∷ row) = row_named row
+row_named (tag octets ∷ row) = row_named row
+row_named (rest_text octets ∷ row) = row_named row
+row_named (rest16 octets ∷ row) = row_named row
+row_named (rest64 octets ∷ row) = row_named row
+
+-- a row in full is as long as its octets
+pub row_in_full : (row : List Field) → length (write in_full (page_of [] []) (written_parts row)).octets ≡ length (octets row)
+row_in_full row =
+    let long = row_long in_full (page_of [] []) row (λ points. record { compresses = refl; known = refl }) in
+    omega (arith, long)
+
+-- there is no length where a name may be a pointer
+pub untold_named : (compress : Bool) (row : List Field) → compress ≡ true → list_any may_point (map kind_of row) ≡ true
+    → IsNone {T = ℕ} None ↔ IsUntold compress (written_parts row)
+untold_named compress row asks named = (
+  (λ none. inl (asks, row_named row ∙ named)),
+  (λ untold. refl),
+)
+
+-- else it is there exactly where it is not too long
+pub untold_long : (compress : Bool) (row : List Field) (result : Option ℕ)
+    → (compress ≡ true → list_any may_point (map kind_of row) ≡ false)
+    → IfSome result (λ len. len ≡ length (octets row))
+    → IfSome result (λ len. len ≤ 65535)
+    → IfNone result (65535 < length (octets row))
+    → IsNone result ↔ IsUntold compress (written_parts row)
+untold_long compress row None none same few long = (
+  (λ is. inr (rw (row_in_full row) long)),
+  (λ untold. refl),
+)
+untold_long compress row (Some len) none same few long = (
+  (λ is. absurd (cc)),
+  (λ untold. absurd (elim untold [
+    | inl it ↦ let asks = it.0 in let named = it.1 in let is = row_named row in let not = none asks in cc
+    | inr past ↦ let is = row_in_full row in omega (arith, past, is, same, few)
+  ])),
+)

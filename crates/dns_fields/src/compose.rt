@@ -1,19 +1,20 @@
 //! Rows of fields as a whole: written all or nothing, and how long they are.
-ghost use Rattle.std.specs.Prelude.{◌≡◌, ◌++◌, List, Err, length, IfSome, OnOk, OnErr};
+ghost use Rattle.std.specs.Prelude.{◌≡◌, ◌++◌, ◌↔◌, List, Err, length, IfSome, IsNone, OnOk, OnErr};
 ghost use Rattle.dns_octets.specs.Builder.{GrowsTo, IsPast};
 ghost use Rattle.dns_octets.specs.declared.error.AppendError.TheVariants.{ShortBuf, BadLength};
 ghost use Rattle.dns_name.specs.Page.{write};
-ghost use Rattle.dns_name.specs.RecordData.{page_of, IsComposedLength};
+ghost use Rattle.dns_name.specs.RecordData.{page_of, IsComposedLength, IsUntold};
 ghost use Rattle.dns_fields.specs.Fields.{canonical_octets};
 ghost use Rattle.dns_fields.specs.Written.{written_parts};
 
 use crate::Row;
 use dns_name::{AppendError, Composer};
 
-/// How many octets the row has in a message, or None where that is not known before it is written: where a name may be
-/// written with a pointer, and past 65,535 octets.
+/// How many octets the row has in a message. None exactly where a name may be written with a pointer, and past 65,535
+/// octets with every name in full.
 pub fn row_len<R: Row>(row: &R, compress: bool) -> Option<u16>
-    ensures { IfSome result (λ len. IsComposedLength compress (written_parts (R.fields row.now)) len) }
+    ensures some { IfSome result (λ len. IsComposedLength compress (written_parts (R.fields row.now)) len) }
+    ensures none { IsNone result ↔ IsUntold compress (written_parts (R.fields row.now)) }
 {
     if compress && R::may_point() {
         return None;

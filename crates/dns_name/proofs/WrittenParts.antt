@@ -2,14 +2,14 @@
 use Rattle.std.proofs.Common.{◌≡◌, ◌≤◌, ◌<◌, ◌+◌, ◌-◌, ℕ, Bool, true, false, List, [], ◌∷◌, ◌++◌, length, take, drop, refl, sym, ◌∙◌, ap, subst, arith, inl, inr, length-append, length-take, length-drop, append_assoc, ◌⊎◌}
 use Rattle.std.specs.Int.{to_be_bytes, w16}
 use Rattle.std.proofs.Math.Seq.{take-append-add, drop-append-add}
-use Rattle.std.specs.Prelude.{slice_index_or, Result, Ok, Err, OnOk}
+use Rattle.std.specs.Prelude.{slice_index_or, Option, Some, None, IsNone, ◌↔◌, Result, Ok, Err, OnOk}
 use Rattle.dns_octets.specs.Builder.{Standing, Known, StandsBetween, GrowsTo}
-use Rattle.dns_name.specs.Spelling.{Spelling, name_text, known_after}
+use Rattle.dns_name.specs.Spelling.{Spelling, plain, name_text, known_after}
 use Rattle.dns_name.specs.Remembered.{IsKnown, is_free, patched}
 use Rattle.dns_label.specs.Name.{wire}
 use Rattle.dns_name.specs.Page.{Page, Parts, with_octets, with_name, with_count, write}
 use Rattle.dns_name.specs.Page.Parts.{End, Octets, Named, Counted}
-use Rattle.dns_name.specs.RecordData.{page_of, IsComposedLength}
+use Rattle.dns_name.specs.RecordData.{page_of, has_name, IsComposedLength, IsUntold}
 use Rattle.dns_name.proofs.Known.{known-append_cases, each_known, free_from}
 use Rattle.dns_name.proofs.Spelled.{StopsBefore, name_text-none}
 
@@ -122,6 +122,22 @@ write-octets s octets known more = refl
 pub octets_composed : (compress : Bool) (octets : List ℕ) (len : ℕ) → len ≡ length octets → IsComposedLength compress (Octets octets End) len
 unfolding write
 octets_composed compress octets len is = record { composed = λ s page plain. omega (arith, length-append page.octets octets) }
+
+-- octets alone have a length that can be told
+pub octets_told : (compress : Bool) (octets : List ℕ) (len : ℕ) → length octets ≤ 65535 → IsNone (Some len) ↔ IsUntold compress (Octets octets End)
+unfolding write
+octets_told compress octets len short = (
+  (λ none. absurd (cc)),
+  (λ untold. absurd (elim untold [
+    | inl named ↦ let named = named.1 in cc
+    | inr long ↦ omega (arith, long, short)
+  ])),
+)
+
+-- a length that there is on every page is that of the parts in full
+pub composed_in_full : {compress : Bool} {parts : Parts} {len : ℕ} → IsComposedLength compress parts len
+    → length (write plain (page_of [] []) parts).octets ≡ len
+composed_in_full it = let long = it.composed plain (page_of [] []) (λ _. (refl, refl)) in omega (arith, long)
 
 pub page_on : {T E : Type 0} (result : Result T E) (a b : List ℕ) (known : Known) → OnOk result (a ≡ b)
     → OnOk result (page_of a known ≡ page_of b known)

@@ -1,12 +1,12 @@
 //! The data of records (RFC 1035 3.2.1): what all types of it have in common.
-ghost use Rattle.std.specs.Prelude.{◌≡◌, ◌≤◌, ◌<◌, ◌+◌, ◌++◌, ℕ, Bool, true, false, List, Err, length, is_some, IfOk, IfSome, OnSome, OnOk, OnErr};
+ghost use Rattle.std.specs.Prelude.{◌≡◌, ◌≤◌, ◌<◌, ◌+◌, ◌++◌, ◌↔◌, ℕ, Bool, true, false, List, Err, length, is_some, IfOk, IfSome, IsNone, OnSome, OnOk, OnErr};
 ghost use Rattle.std.specs.Int.{to_be_bytes, w16};
 ghost use Rattle.dns_octets.specs.Builder.{GrowsTo, IsWithin, IsPast};
 ghost use Rattle.dns_octets.specs.Parser.{octets_of, place_of};
 ghost use Rattle.dns_octets.specs.declared.error.AppendError.TheVariants.{ShortBuf, BadLength};
 ghost use Rattle.dns_name.specs.Page.{Parts, write};
 ghost use Rattle.dns_name.specs.Page.Parts.{End, Counted};
-ghost use Rattle.dns_name.specs.RecordData.{page_of, counted_length, IsComposedLength, IsAtEnd};
+ghost use Rattle.dns_name.specs.RecordData.{page_of, counted_length, IsComposedLength, IsUntold, IsAtEnd};
 
 mod counted;
 mod reference;
@@ -34,10 +34,11 @@ pub trait ComposeRecordData: RecordData {
 
     ghost canonical_octets: { Self → List ℕ };
 
-    /// How many octets the data has in a message, or None where that is not known before it is written. `compress` says
-    /// that the target may write names with pointers.
+    /// How many octets the data has in a message. `compress` says that the target may write names with pointers. None
+    /// exactly where it may and there is such a name, and past 65,535 octets with every name in full.
     fn rdlen(&self, compress: bool) -> Option<u16>
-        ensures { IfSome result (λ len. IsComposedLength compress (parts self.now) len) };
+        ensures some { IfSome result (λ len. IsComposedLength compress (parts self.now) len) }
+        ensures none { IsNone result ↔ IsUntold compress (parts self.now) };
 
     /// Appends the data, all or nothing. Refused with `ShortBuf` only where the target would then hold more octets than
     /// it may, and with `OutOfMemory` where a growth was refused.

@@ -1,6 +1,11 @@
 use Rattle.std.proofs.Common.{length, rules}
-use Rattle.dns_name.proofs.WrittenParts.{octets_composed}
+use Rattle.dns_name.proofs.WrittenParts.{octets_composed, octets_told}
 use Rattle.dns_name.proofs.unknown.UnknownRecordDataComposeRecordData.rdlen.Goals as goal
 
-pub returns : goal.returns
-returns g c = octets_composed c.args._compress c.args.self.now.octets (length c.octets.result.now) (search rules)
+pub returns-clause-some : goal.returns-clause-some
+returns-clause-some g c =
+    octets_composed c.args._compress c.args.self.now.octets (length c.octets.result.now) (search rules)
+
+pub returns-clause-none : goal.returns-clause-none
+returns-clause-none g c =
+    octets_told c.args._compress c.args.self.now.octets (length c.octets.result.now) (search rules)
