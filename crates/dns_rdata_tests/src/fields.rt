@@ -1,4 +1,5 @@
 mod convert;
+mod front;
 mod show;
 mod strings;
 

@@ -1,4 +1,5 @@
 mod flatten;
+mod parse;
 mod scan;
 mod show;
 
