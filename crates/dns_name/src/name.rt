@@ -1,5 +1,5 @@
 //! Absolute names, flat in octets.
-ghost use Rattle.std.specs.Prelude.{◌≡◌, ◌<◌, ◌≤◌, ◌↔◌, List, ℕ, [], ◌++◌, length, take, IsTrue, IfOk, IfErr, OnErr, OnOk, nat_eq, refl};
+ghost use Rattle.std.specs.Prelude.{◌≡◌, ◌<◌, ◌≤◌, ◌↔◌, List, ℕ, [], ◌++◌, length, take, IsTrue, IsSome, IfSome, IfOk, IfErr, OnErr, OnOk, nat_eq, refl};
 ghost use Rattle.std.specs.Ordering.{on};
 ghost use Rattle.std.specs.Cmp.Lexicographic.{pointwise, nat_list_eq_equiv};
 ghost use Rattle.std.specs.Cmp.Rules.{comparing};
@@ -252,7 +252,12 @@ impl<Octs: Octets> ToName for Name<Octs> {
 
     ghost is_absolute = { λ _. refl };
 
-    fn as_flat_slice(&self) -> Option<&[u8]> {
+    /// The octets, uncompressed, which lie so.
+    fn as_flat_slice(&self) -> Option<&[u8]>
+        ensures flat { IsSome result }
+        ensures octets { IfSome result (λ octets. octets.now ≡ wire self.now) }
+        ensures name { IsName self.now }
+    {
         Some(self.as_slice())
     }
 

@@ -1,6 +1,6 @@
 //! Names in messages, with pointers.
-ghost use Rattle.std.specs.Prelude.{◌≡◌, ◌≤◌, ◌↔◌, List, ℕ, [], length, refl, IsTrue, IfOk, IfErr, OnErr};
-ghost use Rattle.dns_label.specs.Name.{wire, with_root};
+ghost use Rattle.std.specs.Prelude.{◌≡◌, ◌≤◌, ◌↔◌, List, ℕ, [], length, refl, IsTrue, IsSome, IfSome, IfOk, IfErr, OnErr};
+ghost use Rattle.dns_label.specs.Name.{IsName, wire, with_root};
 ghost use Rattle.dns_label.specs.Spelled.{Reads};
 ghost use Rattle.dns_label.specs.Labels.{labels_at};
 ghost use Rattle.dns_name.specs.Cut.{IsCut};
@@ -119,13 +119,18 @@ impl<Octs: Octets> ToLabelIter for ParsedName<Octs> {
 }
 
 impl<Octs: Octets> ToName for ParsedName<Octs> {
-    ghost use Rattle.dns_name.specs.ParsedName.{labels_in};
+    ghost use Rattle.dns_name.specs.ParsedName.{labels_in, IsWrittenOut};
 
     ghost name = { λ name. labels_in Octs.list name };
 
     ghost is_absolute = { λ _. refl };
 
-    fn as_flat_slice(&self) -> Option<&[u8]> {
+    /// The octets, uncompressed, or None exactly where there is a pointer in front of the root.
+    fn as_flat_slice(&self) -> Option<&[u8]>
+        ensures flat { IsSome result ↔ IsWrittenOut Octs.list self.now }
+        ensures octets { IfSome result (λ octets. octets.now ≡ wire (labels_in Octs.list self.now)) }
+        ensures name { IsName (labels_in Octs.list self.now) }
+    {
         if self.is_compressed() {
             return None;
         }

@@ -1,6 +1,6 @@
 //! Relative names over octets of any kind.
-ghost use Rattle.std.specs.Prelude.{◌≡◌, ◌∷◌, ◌++◌, [], Err, length, IfOk, IfSome};
-ghost use Rattle.dns_label.specs.Name.{labels_wire, wire};
+ghost use Rattle.std.specs.Prelude.{◌≡◌, ◌∷◌, ◌++◌, [], Err, length, IsSome, IfOk, IfSome};
+ghost use Rattle.dns_label.specs.Name.{IsName, labels_wire, wire};
 ghost use Rattle.dns_name.specs.Flat.{IsWritten};
 ghost use Rattle.dns_octets.specs.Builder.{IsPast};
 ghost use Rattle.dns_octets.specs.declared.error.AppendError.TheVariants.{ShortBuf, BadLength};
@@ -12,7 +12,12 @@ use dns_octets::{AppendError, EmptyBuilder, FromBuilder, Octets, OctetsBuilder, 
 use std::alloc::{AllocError, Global};
 
 impl<Octs: Octets> ToRelativeName for RelativeName<Octs> {
-    fn as_flat_slice(&self) -> Option<&[u8]> {
+    /// The octets, uncompressed, which lie so.
+    fn as_flat_slice(&self) -> Option<&[u8]>
+        ensures flat { IsSome result }
+        ensures octets { IfSome result (λ octets. octets.now ≡ labels_wire self.now) }
+        ensures name { IsName self.now }
+    {
         Some(self.as_slice())
     }
 }
