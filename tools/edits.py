@@ -130,7 +130,9 @@ def copy_of(name, room):
     lines = [it for it in (ROOT / "crates.txt").read_text().split("\n") if it.partition(":")[0] in wanted]
     (room / "crates.txt").write_text("\n".join(lines) + "\n")
     for it in wanted:
-        shutil.copytree(ROOT / "crates" / it, room / "crates" / it, ignore=shutil.ignore_patterns("must-fail"))
+        # (of a crate below, only the library is wanted)
+        left = ["must-fail"] if it == name else ["must-fail", "incremental"]
+        shutil.copytree(ROOT / "crates" / it, room / "crates" / it, ignore=shutil.ignore_patterns(*left))
     return room / "crates" / name
 
 
