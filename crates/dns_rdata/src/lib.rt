@@ -14,5 +14,8 @@ pub use dns_fields::{
     show_row, show_soa_row,
 };
 pub use dns_rr_names::{Cname, Mb, Md, Mf, Mg, Minfo, Mr, Mx, Ns, Ptr, Rp, Soa, Srv};
-pub use dns_rr_octets::{A, Aaaa, Caa, Dnskey, Ds, Hinfo, Txt, TxtCharStrIter, TxtError, TxtIter};
+pub use dns_rr_octets::{
+    A, Aaaa, Caa, Dnskey, Ds, Hinfo, Txt, TxtAppendError, TxtBuilder, TxtCharStrIter, TxtError,
+    TxtIter,
+};
 pub use zone_record_data::ZoneRecordData;

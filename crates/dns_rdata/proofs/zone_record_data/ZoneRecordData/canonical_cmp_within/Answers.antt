@@ -11,6 +11,6 @@ returns-in-Unknown-self g c =
     let one = canonical_of (data_of c.args.self.now) in
     let two = canonical_of (data_of c.args.other.now) in
     let held = c.octets-in-Unknown-self.ensures ∙ c.data-in-Unknown-self.ensures.octets
-        ∙ sym (ap (λ rdata. canonical_of (data_of rdata)) c.in-Unknown-self.is) in
+    ∙ sym (ap (λ rdata. canonical_of (data_of rdata)) c.in-Unknown-self.is) in
     c.reverse.ensures ∙ ap ordering_reverse c.canonical_octets_cmp-in-Unknown-self.ensures
     ∙ ap (λ octets. ordering_reverse (slice_cmp nat_cmp two octets)) held ∙ sym (nat_list_cmp_total.antisymm one two)
