@@ -1,11 +1,12 @@
 //! Names that may be absolute or relative.
-ghost use Rattle.std.specs.Prelude.{◌≡◌, ◌↔◌, ◌<◌, List, ℕ, Some, Err, not, IsTrue, IsOk, IsSome, IfOk, IfErr, IfSome, OnErr, true, false};
-ghost use Rattle.dns_label.specs.Name.{IsName};
+ghost use Rattle.std.specs.Prelude.{◌≡◌, ◌↔◌, ◌<◌, List, ℕ, Some, Err, length, not, IsTrue, IsOk, IsSome, IfOk, IfErr, IfSome, OnErr, true, false};
+ghost use Rattle.dns_label.specs.Name.{IsName, wire};
+ghost use Rattle.dns_octets.specs.Builder.{IsPast};
 ghost use Rattle.dns_label.specs.NameText.{IsAbsoluteText};
 ghost use Rattle.std.specs.Iterator.{IsFinite, Drains};
 ghost use Rattle.dns_name.specs.RelativeText.{SpellsAbsolute};
 ghost use Rattle.dns_name.specs.SpelledText.{IsNotSpelled, IsNotSpelledBy};
-ghost use Rattle.dns_octets.specs.declared.error.AppendError.TheVariants.{BadLength};
+ghost use Rattle.dns_octets.specs.declared.error.AppendError.TheVariants.{ShortBuf, BadLength};
 ghost use Rattle.dns_text.specs.declared.uncertain.UncertainName.TheVariants.{Absolute, Relative};
 ghost use Rattle.dns_text.specs.Uncertain.{is_absolute, labels_of, octets_of, seen_labels, text_of, StandsIn, IsNoName, IsTextOf};
 
@@ -135,6 +136,8 @@ impl<Octs: Octets> UncertainName<Octs> {
         Octs: OctetsBuilder + Drop,
         ensures ok { IfOk result (λ name. name ≡ labels_of self) }
         ensures absolute { is_absolute self ≡ true → IsOk result }
+        ensures short { result ≡ Err ShortBuf → (octets : Octs) × (Octs.list octets ≡ octets_of self)
+            × IsPast (Octs.bound octets) (length (wire (labels_of self))) }
         ensures not_bad { result ≡ Err BadLength → ⊥ }
     {
         match self {
