@@ -14,3 +14,4 @@ pub mod ScanLeaves
 pub mod StringsOf
 pub mod TextStrings
 pub mod ReadEach
+mod ComposedRows
