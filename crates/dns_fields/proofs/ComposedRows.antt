@@ -65,7 +65,7 @@ row_stands front (field ∷ row) each =
     (row_stands (front ++ field_octets field) row each.1))
 
 -- Kinds that take all that is left are last.
-abbrev EndWell : List Kind → Type 0
+abbrev pub EndWell : List Kind → Type 0
 EndWell [] = ⊤
 EndWell (Strings ∷ (its ∷ kinds)) = ⊥
 EndWell (RestText ∷ (its ∷ kinds)) = ⊥
@@ -73,7 +73,7 @@ EndWell (Rest16 ∷ (its ∷ kinds)) = ⊥
 EndWell (Rest64 ∷ (its ∷ kinds)) = ⊥
 EndWell (its ∷ kinds) = EndWell kinds
 
-abbrev Fit : Option (List Kind) → Type 0
+abbrev pub Fit : Option (List Kind) → Type 0
 Fit None = ⊤
 Fit (Some kinds) = EndWell kinds
 
@@ -82,7 +82,7 @@ either true x y this that = this
 either false x y this that = that
 
 -- they are so in the table
-fits : (rtype : ℕ) → Fit (kinds_of rtype)
+pub fits : (rtype : ℕ) → Fit (kinds_of rtype)
 fits rtype =
     either (rtype == 1) _ _ tt (either (rtype == 2) _ _ tt (either (rtype == 3) _ _ tt (either (rtype == 4) _ _ tt
     (either (rtype == 5) _ _ tt (either (rtype == 6) _ _ tt (either (rtype == 7) _ _ tt (either (rtype == 8) _ _ tt

@@ -15,3 +15,5 @@ pub mod StringsOf
 pub mod TextStrings
 pub mod ReadEach
 mod ComposedRows
+mod PrintedTexts
+mod PrintedRows

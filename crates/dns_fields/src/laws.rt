@@ -1,7 +1,19 @@
 //! Laws of record data. Each function does nothing; what it ensures is the law.
-ghost use Rattle.std.specs.Prelude.{◌≡◌, ◌++◌, Some, ℕ, List, length};
+ghost use Rattle.std.specs.Prelude.{◌≡◌, ◌++◌, [], Some, ℕ, List, length};
+ghost use Rattle.std.specs.List.{AllByRecursion, AllZip};
+ghost use Rattle.dns_label.specs.Name.{IsName};
+ghost use Rattle.dns_label.specs.Printed.{printed_name};
+ghost use Rattle.dns_name.specs.PrintedLabels.{AreOctets};
+ghost use Rattle.dns_scan.specs.StringText.{IsOctet};
+ghost use Rattle.dns_scan.specs.Token.{Token};
+ghost use Rattle.dns_text.specs.DocumentRows.{WritesToken};
 ghost use Rattle.dns_fields.specs.Fields.{Kind, Field, octets, IsRow, IsData, kinds_of};
 ghost use Rattle.dns_fields.specs.Reading.{ReadsRow};
+ghost use Rattle.dns_fields.specs.Scanned.{ScansData};
+ghost use Rattle.dns_fields.specs.Shown.{row_tokens};
+
+use dns_scan::Scanner;
+use dns_scan::laws::texts_read_back;
 
 /// The octets of a row of a type, its names in full, are read as this row where they end the octets, and as no other row of
 /// the type: what `parse_row` gives is the row that was written. So data of a type that has fields is read as a row of it.
@@ -12,3 +24,14 @@ pub fn composed_data_parses_back()
     ensures data { (rtype : ℕ) (front all : List ℕ) (kinds : List Kind) → kinds_of rtype ≡ Some kinds → IsData rtype all
         → (row : List Field) × ReadsRow rtype (front ++ all) (length front) row × (octets row ≡ all) }
 {}
+
+/// The tokens whose texts a row of a type is printed as are scanned as this row, with none left, where a name is spelled for
+/// the scanner by the text that it is printed as (RFC 1035 5.1). An empty CAA tag is printed as no text, which no token has.
+pub fn printed_data_scans_back<S: Scanner>(scanner: &S)
+    ensures { (rtype : ℕ) (row : List Field) (tokens : List Token) → IsRow rtype row
+        → AllByRecursion IsOctet (octets row)
+        → ((name : List (List ℕ)) → IsName name → AllByRecursion AreOctets name → S.names scanner.now (printed_name name) name)
+        → AllZip WritesToken tokens (row_tokens row) → ScansData (S.names scanner.now) rtype row tokens [] }
+{
+    texts_read_back();
+}
