@@ -17,3 +17,4 @@ pub mod ReadEach
 mod ComposedRows
 mod PrintedTexts
 mod PrintedRows
+mod PrintedTokens

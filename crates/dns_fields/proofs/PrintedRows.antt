@@ -24,12 +24,12 @@ use Rattle.dns_fields.specs.Scanned.{AreStrings, ScansField, ScansRow, ScansData
 use Rattle.dns_fields.proofs.ComposedRows.{EndWell, Fit, fits}
 use Rattle.dns_fields.proofs.PrintedTexts.{NoQuote, IsSafe, bare_token, word_token, quoted_token, safe_decimal, number_back, safe_dotted, safe_colons, each_get, segments_small, safe_decoded}
 
-each_split : (P : ℕ → Type 0) (front rest : List ℕ) → AllByRecursion P (front ++ rest) → AllByRecursion P front × AllByRecursion P rest
+pub each_split : (P : ℕ → Type 0) (front rest : List ℕ) → AllByRecursion P (front ++ rest) → AllByRecursion P front × AllByRecursion P rest
 each_split P [] rest each = (tt, each)
 each_split P (first ∷ front) rest each = let on = each_split P front rest each.1 in ((each.0, on.0), on.1)
 
 -- the octets of a name's labels
-wire_octets : (name : List (List ℕ)) → AllByRecursion IsOctet (wire name) → AllByRecursion AreOctets name
+pub wire_octets : (name : List (List ℕ)) → AllByRecursion IsOctet (wire name) → AllByRecursion AreOctets name
 wire_octets [] each = tt
 wire_octets (label ∷ parent) each =
     let both = each_split IsOctet label (wire parent) each.1 in (both.0, wire_octets parent both.1)
@@ -62,7 +62,7 @@ tag_first true false c rest other behind is = let e : c ≡ 34 = cc in other ref
 tag_first false escaped c rest other behind is = let e : ◌≡◌ {A = ℕ} 92 34 = cc in omega (arith, e)
 
 -- what a word has behind a backslash
-abbrev escaped_in_words : ℕ → Bool
+abbrev pub escaped_in_words : ℕ → Bool
 escaped_in_words octet =
     (octet == 32) || ((octet == 34) || ((octet == 40) || ((octet == 41) || ((octet == 59) || (octet == 92)))))
 
@@ -103,12 +103,12 @@ rest_back (c ∷ text) [] safe writes = absurd writes
 rest_back (c ∷ text) (token ∷ []) safe writes = (c ∷ text, [], word_token writes.0 safe, refl, sym (append-nil (c ∷ text)))
 rest_back (c ∷ text) (token ∷ (more ∷ tokens)) safe writes = absurd writes.1
 
-safe_16 : (octets : List ℕ) → AllByRecursion IsOctet octets → AllByRecursion IsSafe (encoded_16 octets)
+pub safe_16 : (octets : List ℕ) → AllByRecursion IsOctet octets → AllByRecursion IsSafe (encoded_16 octets)
 safe_16 octets each =
     safe_decoded Sixteen (encoded_16 octets) octets
     (subst (λ l. Decodes16 l octets) (chars-encoded Sixteen octets) (text_decodes_only Sixteen octets each).decodes)
 
-safe_64 : (octets : List ℕ) → AllByRecursion IsOctet octets → AllByRecursion IsSafe (encoded_64 octets)
+pub safe_64 : (octets : List ℕ) → AllByRecursion IsOctet octets → AllByRecursion IsSafe (encoded_64 octets)
 safe_64 octets each =
     safe_decoded SixtyFour (encoded_64 octets) octets
     (subst (λ l. Decodes64 l octets) (chars-encoded SixtyFour octets) (text_decodes_only SixtyFour octets each).decodes)

@@ -18,17 +18,20 @@ use Rattle.dns_scan.specs.declared.base.Base.{Base}
 use Rattle.dns_scan.specs.declared.base.Base.TheVariants.{Sixteen, ThirtyTwoHex, SixtyFour}
 use Rattle.dns_scan.specs.Base.{IsCharacter, IsTextOf, Decodes, digit_64}
 use Rattle.dns_scan.proofs.Decoded.{each_append, each_weaker, replicated}
-use Rattle.dns_text.specs.Tokens.{IsIn}
+use Rattle.dns_text.specs.Tokens.{IsIn, stands_plain}
 use Rattle.dns_text.specs.DocumentRows.{WritesToken, quoted as between, unquoted as bare}
 use Rattle.dns_text.proofs.TokenSymbols.{symbol_first}
 
--- a character of a word that is no quote
+-- a character that stands plain in a word
 abbrev pub IsSafe : ℕ → Type 0
-IsSafe c = IsPrintable c × (c ≢ 92) × (c ≢ 34)
+IsSafe c = IsPrintable c × (c ≢ 92) × (stands_plain false c ≡ true)
 
 -- the text doesn't begin with a quote
 abbrev pub NoQuote : List ℕ → Type 0
 NoQuote text = (rest : List ℕ) → text ≡ 34 ∷ rest → ⊥
+
+above : (c : ℕ) → 41 < c → (c ≡ 59 → ⊥) → stands_plain false c ≡ true
+above c high other = grind (arith, nat_tests)
 
 plain_by : (c : ℕ) → IsSafe c → is_plain c ≡ true
 plain_by c is =
@@ -43,7 +46,7 @@ safe_plain (c ∷ text) each = rw (plain_by c each.0, safe_plain text each.1) re
 
 pub safe_no_quote : (text : List ℕ) → AllByRecursion IsSafe text → NoQuote text
 safe_no_quote [] each rest is = cc
-safe_no_quote (c ∷ text) each rest is = let e : c ≡ 34 = cc in each.0.2 e
+safe_no_quote (c ∷ text) each rest is = let e : c ≡ 34 = cc in let bad : stands_plain false 34 ≡ true = subst (λ n. stands_plain false n ≡ true) e each.0.2 in cc
 
 -- a text that doesn't begin with a quote is an unquoted token
 pub bare_token : {token : Token} {text : List ℕ} → WritesToken token text → NoQuote text → token ≡ unquoted text
@@ -84,7 +87,7 @@ safe_digits : (ds : List ℕ) → AllDigits 10 ds → AllByRecursion IsSafe ds
 safe_digits [] each = tt
 safe_digits (c ∷ ds) each =
     let range = digit_from_value c each.0 in
-    (((omega (arith, range), omega (arith, range)), (λ same. omega (arith, range, same)), (λ same. omega (arith, range, same))), safe_digits ds each.1)
+    (((omega (arith, range), omega (arith, range)), (λ same. omega (arith, range, same)), above c (omega (arith, range)) (λ same. omega (arith, range, same))), safe_digits ds each.1)
 
 pub safe_decimal : (n : ℕ) → n < 2 ^ 64 → AllByRecursion IsSafe (decimal n)
 safe_decimal n small = safe_digits (decimal n) (decimal_is_IsNumeral n small).0.1
@@ -104,12 +107,12 @@ all_each P [] all = tt
 all_each P (x ∷ xs) all = (all 0 x (omega arith), all_each P xs (λ k d within. all (suc k) d (omega arith)))
 
 dot_safe : (c : ℕ) → IsDigitOrDot c → IsSafe c
-dot_safe c (inl range) = ((omega (arith, range), omega (arith, range)), (λ same. omega (arith, range, same)), (λ same. omega (arith, range, same)))
-dot_safe c (inr is) = ((omega (arith, is), omega (arith, is)), (λ same. omega (arith, is, same)), (λ same. omega (arith, is, same)))
+dot_safe c (inl range) = ((omega (arith, range), omega (arith, range)), (λ same. omega (arith, range, same)), above c (omega (arith, range)) (λ same. omega (arith, range, same)))
+dot_safe c (inr is) = ((omega (arith, is), omega (arith, is)), (λ same. omega (arith, is, same)), above c (omega (arith, is)) (λ same. omega (arith, is, same)))
 
 colon_safe : (c : ℕ) → IsHexOrColon c → IsSafe c
-colon_safe c (inl range) = ((omega (arith, range), omega (arith, range)), (λ same. omega (arith, range, same)), (λ same. omega (arith, range, same)))
-colon_safe c (inr range) = ((omega (arith, range), omega (arith, range)), (λ same. omega (arith, range, same)), (λ same. omega (arith, range, same)))
+colon_safe c (inl range) = ((omega (arith, range), omega (arith, range)), (λ same. omega (arith, range, same)), above c (omega (arith, range)) (λ same. omega (arith, range, same)))
+colon_safe c (inr range) = ((omega (arith, range), omega (arith, range)), (λ same. omega (arith, range, same)), above c (omega (arith, range)) (λ same. omega (arith, range, same)))
 
 pub safe_dotted : (text : List ℕ) → All IsDigitOrDot text → AllByRecursion IsSafe text
 safe_dotted text all = each_weaker IsDigitOrDot IsSafe text dot_safe (all_each IsDigitOrDot text all)
@@ -140,6 +143,12 @@ hex_printable c is = (grind (arith, nat_tests), grind (arith, nat_tests))
 printable_64 : (c : ℕ) → digit_64 c < 64 → IsPrintable c
 printable_64 c is = (grind (arith, nat_tests), grind (arith, nat_tests))
 
+hex_above : (c : ℕ) → digit_value c < 32 → 41 < c
+hex_above c is = grind (arith, nat_tests)
+
+above_64 : (c : ℕ) → digit_64 c < 64 → 41 < c
+above_64 c is = grind (arith, nat_tests)
+
 not_hex : (other : ℕ) → (digit_value other < 32 → ⊥) → (c : ℕ) → digit_value c < 32 → c ≢ other
 not_hex other none c is same = none (subst (λ n. digit_value n < 32) same is)
 
@@ -147,12 +156,12 @@ not_64 : (other : ℕ) → (digit_64 other < 64 → ⊥) → (c : ℕ) → digit
 not_64 other none c is same = none (subst (λ n. digit_64 n < 64) same is)
 
 hex_safe : (c : ℕ) → digit_value c < 32 → IsSafe c
-hex_safe c is = (hex_printable c is, not_hex 92 (λ bad. omega (arith, bad)) c is, not_hex 34 (λ bad. omega (arith, bad)) c is)
+hex_safe c is = (hex_printable c is, not_hex 92 (λ bad. omega (arith, bad)) c is, above c (hex_above c is) (not_hex 59 (λ bad. omega (arith, bad)) c is))
 
 character_safe : (base : Base) (c : ℕ) → IsCharacter base c → IsSafe c
 character_safe Sixteen c is = hex_safe c (omega (arith, is))
 character_safe ThirtyTwoHex c is = hex_safe c is
-character_safe SixtyFour c is = (printable_64 c is, not_64 92 (λ bad. omega (arith, bad)) c is, not_64 34 (λ bad. omega (arith, bad)) c is)
+character_safe SixtyFour c is = (printable_64 c is, not_64 92 (λ bad. omega (arith, bad)) c is, above c (above_64 c is) (not_64 59 (λ bad. omega (arith, bad)) c is))
 
 safe_text : (base : Base) (text characters : List ℕ) → IsTextOf base text characters → AllByRecursion (IsCharacter base) characters
     → AllByRecursion IsSafe text
@@ -163,7 +172,7 @@ safe_text ThirtyTwoHex text characters is each =
 safe_text SixtyFour text characters is each =
     subst (λ l. AllByRecursion IsSafe l) (sym is.written)
     (each_append IsSafe characters _ (each_weaker (IsCharacter SixtyFour) IsSafe characters (character_safe SixtyFour) each)
-    (replicated IsSafe is.pads 61 ((omega arith, omega arith), (λ same. omega (arith, same)), (λ same. omega (arith, same)))))
+    (replicated IsSafe is.pads 61 ((omega arith, omega arith), (λ same. omega (arith, same)), above 61 (omega arith) (λ same. omega (arith, same)))))
 
 pub safe_decoded : (base : Base) (text octets : List ℕ) → Decodes base text octets → AllByRecursion IsSafe text
 safe_decoded base text octets decodes = safe_text base text decodes.characters decodes.text_of decodes.groups.each

@@ -7,7 +7,7 @@ ghost use Rattle.dns_name.specs.PrintedLabels.{AreOctets};
 ghost use Rattle.dns_scan.specs.StringText.{IsOctet};
 ghost use Rattle.dns_scan.specs.Token.{Token};
 ghost use Rattle.dns_text.specs.DocumentRows.{WritesToken};
-ghost use Rattle.dns_fields.specs.Fields.{Kind, Field, octets, IsRow, IsData, kinds_of};
+ghost use Rattle.dns_fields.specs.Fields.{Kind, Field, tag, octets, IsRow, IsData, kinds_of};
 ghost use Rattle.dns_fields.specs.Reading.{ReadsRow};
 ghost use Rattle.dns_fields.specs.Scanned.{ScansData};
 ghost use Rattle.dns_fields.specs.Shown.{row_tokens};
@@ -26,9 +26,12 @@ pub fn composed_data_parses_back()
 {}
 
 /// The tokens whose texts a row of a type is printed as are scanned as this row, with none left, where a name is spelled for
-/// the scanner by the text that it is printed as (RFC 1035 5.1). An empty CAA tag is printed as no text, which no token has.
+/// the scanner by the text that it is printed as (RFC 1035 5.1). There are such tokens unless the row has an empty tag, which is
+/// printed as no text.
 pub fn printed_data_scans_back<S: Scanner>(scanner: &S)
-    ensures { (rtype : ℕ) (row : List Field) (tokens : List Token) → IsRow rtype row
+    ensures written { (rtype : ℕ) (row : List Field) → IsRow rtype row → AllByRecursion IsOctet (octets row)
+        → AllByRecursion (λ field. field ≡ tag [] → ⊥) row → (tokens : List Token) × AllZip WritesToken tokens (row_tokens row) }
+    ensures scans { (rtype : ℕ) (row : List Field) (tokens : List Token) → IsRow rtype row
         → AllByRecursion IsOctet (octets row)
         → ((name : List (List ℕ)) → IsName name → AllByRecursion AreOctets name → S.names scanner.now (printed_name name) name)
         → AllZip WritesToken tokens (row_tokens row) → ScansData (S.names scanner.now) rtype row tokens [] }
