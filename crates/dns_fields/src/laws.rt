@@ -1,13 +1,16 @@
 //! Laws of record data. Each function does nothing; what it ensures is the law.
-ghost use Rattle.std.specs.Prelude.{◌≡◌, ◌++◌, [], Some, ℕ, List, length};
+ghost use Rattle.std.specs.Prelude.{◌≡◌, ◌++◌, [], Some, ℕ, List, IsTrue, length};
+ghost use Rattle.std.specs.Cmp.Lexicographic.{slice_cmp};
 ghost use Rattle.std.specs.List.{AllByRecursion, AllZip};
+ghost use Rattle.std.specs.Ordering.{is_eq, nat_cmp};
 ghost use Rattle.dns_label.specs.Name.{IsName};
 ghost use Rattle.dns_label.specs.Printed.{printed_name};
 ghost use Rattle.dns_name.specs.PrintedLabels.{AreOctets};
 ghost use Rattle.dns_scan.specs.StringText.{IsOctet};
 ghost use Rattle.dns_scan.specs.Token.{Token};
 ghost use Rattle.dns_text.specs.DocumentRows.{WritesToken};
-ghost use Rattle.dns_fields.specs.Fields.{Kind, Field, tag, octets, IsRow, IsData, kinds_of};
+ghost use Rattle.dns_fields.specs.Alike.{keys, rows_eq, rows_cmp, canonical_rows_cmp};
+ghost use Rattle.dns_fields.specs.Fields.{Kind, Field, tag, octets, canonical_octets, IsRow, IsData, kinds_of};
 ghost use Rattle.dns_fields.specs.Reading.{ReadsRow};
 ghost use Rattle.dns_fields.specs.Scanned.{ScansData};
 ghost use Rattle.dns_fields.specs.Shown.{row_tokens};
@@ -38,3 +41,14 @@ pub fn printed_data_scans_back<S: Scanner>(scanner: &S)
 {
     texts_read_back();
 }
+
+/// Rows are equal exactly where their order ties them, and rows that are equal are hashed alike.
+pub fn data_equality_order_and_hash_agree()
+    ensures order { (row other : List Field) → rows_eq row other ≡ is_eq (rows_cmp row other) }
+    ensures hash { (row other : List Field) → IsTrue (rows_eq row other) → keys row ≡ keys other }
+{}
+
+/// The canonical order of rows is the order of their canonical octets, a beginning first (RFC 4034 6.3).
+pub fn canonical_order_is_octet_order()
+    ensures { (row other : List Field) → canonical_rows_cmp row other ≡ slice_cmp nat_cmp (canonical_octets row) (canonical_octets other) }
+{}
