@@ -14,3 +14,7 @@ pub mod ScanLeaves
 pub mod StringsOf
 pub mod TextStrings
 pub mod ReadEach
+mod ComposedRows
+mod PrintedTexts
+mod PrintedRows
+mod PrintedTokens

@@ -8,6 +8,7 @@ mod compose;
 mod convert;
 mod field;
 mod front;
+pub mod laws;
 mod read;
 mod row;
 mod scan;

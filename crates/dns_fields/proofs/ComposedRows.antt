@@ -1,0 +1,161 @@
+-- The octets of a row are read as it, and as no other.
+use Rattle.std.proofs.Common.{◌≡◌, ◌+◌, ◌≤◌, ◌==◌, ℕ, Bool, true, false, List, [], ◌∷◌, ◌++◌, length, drop, map, refl, sym, ◌∙◌, ap, subst, arith, length-append, append_assoc, append-nil}
+use Rattle.std.specs.Prelude.{Option, Some, None, if◌then◌else◌, ⊤}
+use Rattle.std.specs.List.{AllByRecursion}
+use Rattle.std.proofs.Math.Seq.{drop-append_seam}
+use Rattle.dns_label.specs.Name.{IsName, wire}
+use Rattle.dns_label.specs.Spelled.{Reads}
+use Rattle.dns_label.proofs.Spelling.{spelled-written}
+use Rattle.dns_name.specs.Page.Parts.{End, Octets}
+use Rattle.dns_name.specs.SpelledParts.{Spells, nothing, octets}
+use Rattle.dns_fields.specs.Fields as fields
+use Rattle.dns_fields.specs.Fields.{Kind, Number8, Number16, Number32, Ipv4, Ipv6, Compressible, Uncompressed, String, Strings, Tag, RestText, Rest16, Rest64}
+use Rattle.dns_fields.specs.Fields.{Field, number8, number16, number32, ipv4, ipv6, compressible, uncompressed, string, strings, tag, rest_text, rest16, rest64, kind_of, kinds_of, field_octets, string_octets, IsField, IsRow, IsData, typed, opaque}
+use Rattle.dns_fields.specs.Reading.{ReadsField, ReadsFields, ReadsRow, IsSoleField, AreSoleFields}
+use Rattle.dns_fields.proofs.ReadFields.{IsFixed, fixed_sole, number8_fixed, number16_fixed, number32_fixed, ipv4_fixed, ipv6_fixed, compressible_sole, uncompressed_sole, name_read}
+use Rattle.dns_fields.proofs.ReadParts.{row_read, nothing_read, sole_row, sole_nothing}
+use Rattle.dns_fields.proofs.ReadStrings.{string_sole, tag_sole, rest_text_sole, rest16_sole, rest64_sole}
+use Rattle.dns_fields.proofs.ReadEach.{strings_sole}
+
+module _ (front rest : List ℕ) where
+  octets_stand : (text : List ℕ) → Spells (front ++ (text ++ rest)) (length front) (Octets text End) (length front + length text)
+  octets_stand text =
+      octets rest (drop-append_seam front (text ++ rest))
+      (nothing (omega (arith, length-append front (text ++ rest), length-append text rest)))
+
+  name_stands : (name : List (List ℕ)) → IsName name → Reads (front ++ (wire name ++ rest)) (length front) name (length front + length (wire name))
+  name_stands name is_name = record {
+    spelled = spelled-written (front ++ (wire name ++ rest)) 255 (length front) name rest (drop-append_seam front (wire name ++ rest)) is_name.labels;
+    is_name = is_name;
+  }
+
+  name_within : (text : List ℕ) → length front + length text ≤ length (front ++ (text ++ rest))
+  name_within text = omega (arith, length-append front (text ++ rest), length-append text rest)
+
+  -- a field's octets are read as it
+  field_stands : (field : Field) → IsField field
+      → ReadsField (front ++ (field_octets field ++ rest)) (length front) field (length front + length (field_octets field))
+  field_stands (number8 n) is = record { is_field = is; spelled = octets_stand (field_octets (number8 n)) }
+  field_stands (number16 n) is = record { is_field = is; spelled = octets_stand (field_octets (number16 n)) }
+  field_stands (number32 n) is = record { is_field = is; spelled = octets_stand (field_octets (number32 n)) }
+  field_stands (ipv4 text) is = record { is_field = is; spelled = octets_stand text }
+  field_stands (ipv6 text) is = record { is_field = is; spelled = octets_stand text }
+  field_stands (compressible name) is = record { is_field = is; spelled = name_read (name_stands name is) (name_within (wire name)) }
+  field_stands (uncompressed name) is = record { is_field = is; spelled = name_read (name_stands name is) (name_within (wire name)) }
+  field_stands (string text) is = record { is_field = is; spelled = octets_stand (string_octets text) }
+  field_stands (strings each) is = record { is_field = is; spelled = octets_stand (field_octets (strings each)) }
+  field_stands (tag text) is = record { is_field = is; spelled = octets_stand (string_octets text) }
+  field_stands (rest_text text) is = record { is_field = is; spelled = octets_stand text }
+  field_stands (rest16 text) is = record { is_field = is; spelled = octets_stand text }
+  field_stands (rest64 text) is = record { is_field = is; spelled = octets_stand text }
+
+-- what holds of the octets behind a field, with it in front, holds there
+behind : (P : List ℕ → ℕ → Type 0) (front first rest : List ℕ) → P ((front ++ first) ++ rest) (length (front ++ first))
+    → P (front ++ (first ++ rest)) (length front + length first)
+behind P front first rest there =
+    subst (λ l. P l (length front + length first)) (append_assoc front first rest)
+    (subst (λ n. P ((front ++ first) ++ rest) n) (length-append front first) there)
+
+-- a row's octets are read as it
+row_stands : (front : List ℕ) (row : List Field) → AllByRecursion IsField row → ReadsFields (front ++ fields.octets row) (length front) row
+row_stands front [] each = nothing_read (sym (ap (length {A = ℕ}) (append-nil front)))
+row_stands front (field ∷ row) each =
+    row_read (field_stands front (fields.octets row) field each.0)
+    (behind (λ message place. ReadsFields message place row) front (field_octets field) (fields.octets row)
+    (row_stands (front ++ field_octets field) row each.1))
+
+-- Kinds that take all that is left are last.
+abbrev pub EndWell : List Kind → Type 0
+EndWell [] = ⊤
+EndWell (Strings ∷ (its ∷ kinds)) = ⊥
+EndWell (RestText ∷ (its ∷ kinds)) = ⊥
+EndWell (Rest16 ∷ (its ∷ kinds)) = ⊥
+EndWell (Rest64 ∷ (its ∷ kinds)) = ⊥
+EndWell (its ∷ kinds) = EndWell kinds
+
+abbrev pub Fit : Option (List Kind) → Type 0
+Fit None = ⊤
+Fit (Some kinds) = EndWell kinds
+
+either : (b : Bool) (x y : Option (List Kind)) → Fit x → Fit y → Fit (if b then x else y)
+either true x y this that = this
+either false x y this that = that
+
+-- they are so in the table
+pub fits : (rtype : ℕ) → Fit (kinds_of rtype)
+fits rtype =
+    either (rtype == 1) _ _ tt (either (rtype == 2) _ _ tt (either (rtype == 3) _ _ tt (either (rtype == 4) _ _ tt
+    (either (rtype == 5) _ _ tt (either (rtype == 6) _ _ tt (either (rtype == 7) _ _ tt (either (rtype == 8) _ _ tt
+    (either (rtype == 9) _ _ tt (either (rtype == 12) _ _ tt (either (rtype == 13) _ _ tt (either (rtype == 14) _ _ tt
+    (either (rtype == 15) _ _ tt (either (rtype == 16) _ _ tt (either (rtype == 17) _ _ tt (either (rtype == 28) _ _ tt
+    (either (rtype == 33) _ _ tt (either (rtype == 43) _ _ tt (either (rtype == 48) _ _ tt (either (rtype == 257) _ _ tt tt)))))))))))))))))))
+
+module _ (front : List ℕ) where
+  fixed_first : {its : Kind} {size : ℕ} (field : Field) (row : List Field) → IsFixed its size → kind_of field ≡ its → IsField field
+      → IsSoleField (front ++ (field_octets field ++ fields.octets row)) (length front) field (length front + length (field_octets field))
+  fixed_first field row fixed kind is = fixed_sole fixed kind (field_stands front (fields.octets row) field is)
+
+  all_left : (text : List ℕ) → text ≡ drop (length front) (front ++ (text ++ []))
+  all_left text = sym (drop-append_seam front (text ++ []) ∙ append-nil text)
+
+on : (front first : List ℕ) (row : List Field) → AreSoleFields ((front ++ first) ++ fields.octets row) (length (front ++ first)) row
+    → AreSoleFields (front ++ (first ++ fields.octets row)) (length front + length first) row
+on front first row = behind (λ message place. AreSoleFields message place row) front first (fields.octets row)
+
+-- and it alone
+sole_rows : (front : List ℕ) (row : List Field) → AllByRecursion IsField row → EndWell (map kind_of row)
+    → AreSoleFields (front ++ fields.octets row) (length front) row
+sole_rows front [] each well = sole_nothing
+sole_rows front (strings each' ∷ []) each well =
+    strings_sole (front ++ fields.octets (strings each' ∷ [])) each' (length front) (all_left front (field_octets (strings each')))
+sole_rows front (rest_text text ∷ []) each well = rest_text_sole (front ++ (text ++ [])) text (length front) (all_left front text)
+sole_rows front (rest16 text ∷ []) each well = rest16_sole (front ++ (text ++ [])) text (length front) (all_left front text)
+sole_rows front (rest64 text ∷ []) each well = rest64_sole (front ++ (text ++ [])) text (length front) (all_left front text)
+sole_rows front (strings text ∷ (field ∷ row)) each well = absurd well
+sole_rows front (rest_text text ∷ (field ∷ row)) each well = absurd well
+sole_rows front (rest16 text ∷ (field ∷ row)) each well = absurd well
+sole_rows front (rest64 text ∷ (field ∷ row)) each well = absurd well
+sole_rows front (number8 n ∷ row) each well =
+    sole_row (fixed_first front (number8 n) row number8_fixed refl each.0)
+    (on front (field_octets (number8 n)) row (sole_rows (front ++ field_octets (number8 n)) row each.1 well))
+sole_rows front (number16 n ∷ row) each well =
+    sole_row (fixed_first front (number16 n) row number16_fixed refl each.0)
+    (on front (field_octets (number16 n)) row (sole_rows (front ++ field_octets (number16 n)) row each.1 well))
+sole_rows front (number32 n ∷ row) each well =
+    sole_row (fixed_first front (number32 n) row number32_fixed refl each.0)
+    (on front (field_octets (number32 n)) row (sole_rows (front ++ field_octets (number32 n)) row each.1 well))
+sole_rows front (ipv4 text ∷ row) each well =
+    sole_row (fixed_first front (ipv4 text) row ipv4_fixed refl each.0)
+    (on front (field_octets (ipv4 text)) row (sole_rows (front ++ field_octets (ipv4 text)) row each.1 well))
+sole_rows front (ipv6 text ∷ row) each well =
+    sole_row (fixed_first front (ipv6 text) row ipv6_fixed refl each.0)
+    (on front (field_octets (ipv6 text)) row (sole_rows (front ++ field_octets (ipv6 text)) row each.1 well))
+sole_rows front (compressible name ∷ row) each well =
+    sole_row (compressible_sole (name_stands front (fields.octets row) name each.0))
+    (on front (wire name) row (sole_rows (front ++ wire name) row each.1 well))
+sole_rows front (uncompressed name ∷ row) each well =
+    sole_row (uncompressed_sole (name_stands front (fields.octets row) name each.0))
+    (on front (wire name) row (sole_rows (front ++ wire name) row each.1 well))
+sole_rows front (string text ∷ row) each well =
+    sole_row (string_sole (octets_stand front (fields.octets row) (string_octets text)))
+    (on front (string_octets text) row (sole_rows (front ++ string_octets text) row each.1 well))
+sole_rows front (tag text ∷ row) each well =
+    sole_row (tag_sole (octets_stand front (fields.octets row) (string_octets text)))
+    (on front (string_octets text) row (sole_rows (front ++ string_octets text) row each.1 well))
+
+pub row_parses : (rtype : ℕ) (front : List ℕ) (row : List Field) → IsRow rtype row → ReadsRow rtype (front ++ fields.octets row) (length front) row
+row_parses rtype front row is = record { is_row = is; spelled = (row_stands front row is.each).spelled }
+
+pub row_parses_only : (rtype : ℕ) (front : List ℕ) (row other : List Field) → IsRow rtype row
+    → ReadsRow rtype (front ++ fields.octets row) (length front) other → other ≡ row
+row_parses_only rtype front row other is reads =
+    let kinds : Some (map kind_of other) ≡ Some (map kind_of row) = sym reads.is_row.kinds ∙ is.kinds in
+    let same : map kind_of other ≡ map kind_of row = cc in
+    (sole_rows front row is.each (subst Fit is.kinds (fits rtype))).sole other same
+    (record { each = reads.is_row.each; spelled = reads.spelled })
+
+pub data_parses : (rtype : ℕ) (front data' : List ℕ) (kinds : List Kind) → kinds_of rtype ≡ Some kinds → IsData rtype data'
+    → (row : List Field) × ReadsRow rtype (front ++ data') (length front) row × (fields.octets row ≡ data')
+data_parses rtype front data' kinds has (typed row is same) =
+    (row, subst (λ d. ReadsRow rtype (front ++ d) (length front) row) (sym same) (row_parses rtype front row is), sym same)
+data_parses rtype front data' kinds has (opaque none short) = absurd (let both : None ≡ Some kinds = sym none ∙ has in cc)

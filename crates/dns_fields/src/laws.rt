@@ -1,0 +1,54 @@
+//! Laws of record data. Each function does nothing; what it ensures is the law.
+ghost use Rattle.std.specs.Prelude.{◌≡◌, ◌++◌, [], Some, ℕ, List, IsTrue, length};
+ghost use Rattle.std.specs.Cmp.Lexicographic.{slice_cmp};
+ghost use Rattle.std.specs.List.{AllByRecursion, AllZip};
+ghost use Rattle.std.specs.Ordering.{is_eq, nat_cmp};
+ghost use Rattle.dns_label.specs.Name.{IsName};
+ghost use Rattle.dns_label.specs.Printed.{printed_name};
+ghost use Rattle.dns_name.specs.PrintedLabels.{AreOctets};
+ghost use Rattle.dns_scan.specs.StringText.{IsOctet};
+ghost use Rattle.dns_scan.specs.Token.{Token};
+ghost use Rattle.dns_text.specs.DocumentRows.{WritesToken};
+ghost use Rattle.dns_fields.specs.Alike.{keys, rows_eq, rows_cmp, canonical_rows_cmp};
+ghost use Rattle.dns_fields.specs.Fields.{Kind, Field, tag, octets, canonical_octets, IsRow, IsData, kinds_of};
+ghost use Rattle.dns_fields.specs.Reading.{ReadsRow};
+ghost use Rattle.dns_fields.specs.Scanned.{ScansData};
+ghost use Rattle.dns_fields.specs.Shown.{row_tokens};
+
+use dns_scan::Scanner;
+use dns_scan::laws::texts_read_back;
+
+/// The octets of a row of a type, its names in full, are read as this row where they end the octets, and as no other row of
+/// the type: what `parse_row` gives is the row that was written. So data of a type that has fields is read as a row of it.
+pub fn composed_data_parses_back()
+    ensures reads { (rtype : ℕ) (front : List ℕ) (row : List Field) → IsRow rtype row → ReadsRow rtype (front ++ octets row) (length front) row }
+    ensures alone { (rtype : ℕ) (front : List ℕ) (row other : List Field) → IsRow rtype row
+        → ReadsRow rtype (front ++ octets row) (length front) other → other ≡ row }
+    ensures data { (rtype : ℕ) (front all : List ℕ) (kinds : List Kind) → kinds_of rtype ≡ Some kinds → IsData rtype all
+        → (row : List Field) × ReadsRow rtype (front ++ all) (length front) row × (octets row ≡ all) }
+{}
+
+/// The tokens whose texts a row of a type is printed as are scanned as this row, with none left, where a name is spelled for
+/// the scanner by the text that it is printed as (RFC 1035 5.1). There are such tokens unless the row has an empty tag, which is
+/// printed as no text.
+pub fn printed_data_scans_back<S: Scanner>(scanner: &S)
+    ensures written { (rtype : ℕ) (row : List Field) → IsRow rtype row → AllByRecursion IsOctet (octets row)
+        → AllByRecursion (λ field. field ≡ tag [] → ⊥) row → (tokens : List Token) × AllZip WritesToken tokens (row_tokens row) }
+    ensures scans { (rtype : ℕ) (row : List Field) (tokens : List Token) → IsRow rtype row
+        → AllByRecursion IsOctet (octets row)
+        → ((name : List (List ℕ)) → IsName name → AllByRecursion AreOctets name → S.names scanner.now (printed_name name) name)
+        → AllZip WritesToken tokens (row_tokens row) → ScansData (S.names scanner.now) rtype row tokens [] }
+{
+    texts_read_back();
+}
+
+/// Rows are equal exactly where their order ties them, and rows that are equal are hashed alike.
+pub fn data_equality_order_and_hash_agree()
+    ensures order { (row other : List Field) → rows_eq row other ≡ is_eq (rows_cmp row other) }
+    ensures hash { (row other : List Field) → IsTrue (rows_eq row other) → keys row ≡ keys other }
+{}
+
+/// The canonical order of rows is the order of their canonical octets, a beginning first (RFC 4034 6.3).
+pub fn canonical_order_is_octet_order()
+    ensures { (row other : List Field) → canonical_rows_cmp row other ≡ slice_cmp nat_cmp (canonical_octets row) (canonical_octets other) }
+{}
