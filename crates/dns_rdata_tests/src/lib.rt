@@ -10,4 +10,6 @@ mod names;
 #[cfg(test)]
 mod octets;
 #[cfg(test)]
+mod vectors;
+#[cfg(test)]
 mod zone_data;

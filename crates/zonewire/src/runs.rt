@@ -34,15 +34,15 @@ pub fn run<R: Source, W: Sink>(
     ensures silent { IfErr result (λ error. error ≢ fault.Write → sink.new ≡ sink.old) }
 {
     let input = read_all(alloc, source)?;
-    let output = output(alloc, input.as_slice(), &job)?;
+    let output = output(alloc, input, &job)?;
     write_all(sink, output.as_slice())?;
     Ok(())
 }
 
-/// What the job makes of the input.
-fn output(alloc: Global, input: &[u8], job: &Job) -> Result<Vec<u8>, Fault>
-    ensures ok { IfOk result (λ output. IsOutput job.now input.now output.items) }
-    ensures err { IfErr result (IsJobFault job.now input.now) }
+/// What the job makes of the input, which is let go of as soon as it is read, for zones may be large.
+fn output(alloc: Global, input: Vec<u8>, job: &Job) -> Result<Vec<u8>, Fault>
+    ensures ok { IfOk result (λ output. IsOutput job.now input.items output.items) }
+    ensures err { IfErr result (IsJobFault job.now input.items) }
 {
     match job {
         Job::Send {
@@ -53,7 +53,8 @@ fn output(alloc: Global, input: &[u8], job: &Job) -> Result<Vec<u8>, Fault>
             max,
             spelling,
         } => {
-            let zone = read_zone(alloc, input, origin, *class)?;
+            let zone = read_zone(alloc, input.as_slice(), origin, *class)?;
+            drop(input);
             send_zone(alloc, &zone, *id, apex, *max, *spelling)
         }
         Job::Receive {
@@ -109,17 +110,18 @@ fn read_zone(
 /// The text of the zone of the transfer that the input begins with, for the query that the job makes.
 fn receive_text(
     alloc: Global,
-    input: &[u8],
+    input: Vec<u8>,
     class: Class,
     id: u16,
     apex: &Name<Vec<u8>>,
     layout: DisplayKind,
 ) -> Result<Vec<u8>, Fault>
-    ensures ok { IfOk result (λ output. IsReceiveOutput class id apex.now layout input.now output.items) }
-    ensures err { IfErr result (IsReceiveJobFault class id apex.now input.now) }
+    ensures ok { IfOk result (λ output. IsReceiveOutput class id apex.now layout input.items output.items) }
+    ensures err { IfErr result (IsReceiveJobFault class id apex.now input.items) }
 {
     let query = axfr_query(alloc, id, &apex.for_ref(), class)?;
-    let zone = receive_zone(alloc, input, query.as_slice())?;
+    let zone = receive_zone(alloc, input.as_slice(), query.as_slice())?;
+    drop(input);
     let text = zone.print(alloc, layout)?;
     Ok(text)
 }
