@@ -1,8 +1,11 @@
 //! Why a message was not read or written.
 ghost use Rattle.std.specs.Prelude.{◌≡◌};
+ghost use Rattle.dns_octets.specs.ErrorText.{IsKept};
+ghost use Rattle.dns_octets.specs.declared.error.FormError.{FormError};
 ghost use Rattle.dns_octets.specs.declared.error.ParseError.TheVariants as parse_error;
 ghost use Rattle.dns_octets.specs.declared.error.AppendError.TheVariants as append_error;
 
+use arrayvec::ArrayString;
 use std::alloc::AllocError;
 use thiserror::Error;
 
@@ -11,19 +14,25 @@ use thiserror::Error;
 #[error("unexpected end of input")]
 pub struct ShortInput;
 
+/// How many octets of an error's text are kept.
+const ROOM: usize = 62;
+
 /// The octets are there, and are not a value of the kind that was asked for.
+// (It keeps its text and no reference to it: what is generic over a lifetime can't answer with a type that holds `'static`.)
 #[derive(Clone, Copy, Debug, PartialEq, Eq, Error)]
 #[error("{message}")]
 pub struct FormError {
-    message: &'static str,
+    message: ArrayString<ROOM>,
 }
 
 impl FormError {
-    /// An error that shows this text.
+    /// An error that shows this text, or of a longer one the whole characters of its first 62 octets.
     pub fn new(message: &'static str) -> Self
-        ensures { result.message ≡ message.entry }
+        ensures { IsKept message.now result.message.bytes }
     {
-        FormError { message }
+        let mut kept = ArrayString::new();
+        kept.push_str(&message[..message.floor_char_boundary(ROOM)]);
+        FormError { message: kept }
     }
 }
 
@@ -39,9 +48,9 @@ pub enum ParseError {
 }
 
 impl ParseError {
-    /// An error of the form, which shows this text.
+    /// An error of the form, which shows this text as `FormError::new` has it.
     pub fn form_error(message: &'static str) -> Self
-        ensures { result ≡ parse_error.Form (record { message = message.entry }) }
+        ensures { (form : FormError) × (result ≡ parse_error.Form form) × IsKept message.now form.message.bytes }
     {
         ParseError::Form(FormError::new(message))
     }

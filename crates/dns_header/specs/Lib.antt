@@ -1,0 +1,3 @@
+pub mod Header
+pub mod Head
+pub mod Record

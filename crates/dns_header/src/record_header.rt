@@ -1,0 +1,224 @@
+//! What stands in front of a record's data.
+ghost use Rattle.std.specs.Prelude.{◌≡◌, ℕ, is_some, IfOk, IfSome, OnOk, OnErr};
+ghost use Rattle.dns_octets.specs.Parser.{GoesOn, octets_of, place_of};
+ghost use Rattle.dns_name.specs.ParsedName.{labels_of};
+ghost use Rattle.dns_header.specs.Head.{Head, labelled, ReadsHead, ReadsWhole, NoHead, NoWhole};
+ghost use Rattle.dns_header.specs.Record.{RecordOf, ReadsData, NoData, DataIsRefused};
+
+use crate::Record;
+use dns_name::{Class, ParseAnyRecordData, ParseError, ParseRecordData, ParsedName, Parser, Rtype, ShortInput, Ttl};
+use std::marker::Model;
+
+/// What stands in front of a record's data (RFC 1035 3.2.1): whose record it is, of which type and class, for how long it
+/// may be kept, and how many octets the data has.
+#[derive(Clone, Copy, Debug, Drop)]
+pub struct RecordHeader<N> {
+    owner: N,
+    rtype: Rtype,
+    class: Class,
+    ttl: Ttl,
+    rdlen: u16,
+}
+
+impl<N> Model for RecordHeader<N> {
+    ghost Value = { Head N };
+
+    ghost view = { λ header. record {
+        owner = header.owner;
+        rtype = header.rtype;
+        class = header.class;
+        ttl = header.ttl;
+        data_len = header.rdlen;
+    } };
+
+    ghost inverse = { λ head. record {
+        owner = head.owner;
+        rtype = head.rtype;
+        class = head.class;
+        ttl = head.ttl;
+        rdlen = head.data_len;
+    } };
+}
+
+impl<N> RecordHeader<N> {
+    /// What stands in front of so many octets of data.
+    pub fn new(owner: N, rtype: Rtype, class: Class, ttl: Ttl, rdlen: u16) -> Self
+        ensures { result ≡ record { owner = owner; rtype = rtype; class = class; ttl = ttl; data_len = rdlen } }
+    {
+        RecordHeader {
+            owner,
+            rtype,
+            class,
+            ttl,
+            rdlen,
+        }
+    }
+
+    /// The name that the record is about.
+    pub fn owner(&self) -> &N
+        ensures { result.now ≡ self.now.owner }
+    {
+        &self.owner
+    }
+
+    /// The type of the data.
+    pub fn rtype(&self) -> Rtype
+        ensures { result ≡ self.now.rtype }
+    {
+        self.rtype
+    }
+
+    /// The class of the record.
+    pub fn class(&self) -> Class
+        ensures { result ≡ self.now.class }
+    {
+        self.class
+    }
+
+    /// For how long the record may be kept.
+    pub fn ttl(&self) -> Ttl
+        ensures { result ≡ self.now.ttl }
+    {
+        self.ttl
+    }
+
+    /// How many octets the data has.
+    pub fn rdlen(&self) -> u16
+        ensures { result ≡ self.now.data_len }
+    {
+        self.rdlen
+    }
+}
+
+impl<'a> RecordHeader<ParsedName<&'a [u8]>> {
+    /// Reads what stands at the parser's place, and leaves the parser in front of the data. Refused where no such thing
+    /// stands there; the parser then stays where it is.
+    pub fn parse(parser: &mut Parser<'a>) -> Result<Self, ParseError>
+        ensures ok { IfOk result (λ header. ReadsHead (octets_of parser.old) (place_of parser.old) (labelled labels_of header) (place_of parser.new)) }
+        ensures err { OnErr result (NoHead (octets_of parser.old) (place_of parser.old)) }
+        ensures same { octets_of parser.new ≡ octets_of parser.old }
+        ensures stays { OnErr result (parser.new ≡ parser.old) }
+    {
+        let mut ahead = *parser;
+        let header = RecordHeader::read(&mut ahead)?;
+        *parser = ahead;
+        Ok(header)
+    }
+
+    /// Reads as `parse` does, but where it is refused the parser may have gone on.
+    fn read(parser: &mut Parser<'a>) -> Result<Self, ParseError>
+        ensures ok { IfOk result (λ header. ReadsHead (octets_of parser.old) (place_of parser.old) (labelled labels_of header) (place_of parser.new)) }
+        ensures err { OnErr result (NoHead (octets_of parser.old) (place_of parser.old)) }
+        ensures same { octets_of parser.new ≡ octets_of parser.old }
+    {
+        let owner = ParsedName::parse(parser)?;
+        let rtype = Rtype::from_int(parser.parse_u16_be()?);
+        let class = Class::from_int(parser.parse_u16_be()?);
+        let ttl = Ttl::from_secs(parser.parse_u32_be()?);
+        let rdlen = parser.parse_u16_be()?;
+        Ok(RecordHeader {
+            owner,
+            rtype,
+            class,
+            ttl,
+            rdlen,
+        })
+    }
+
+    /// The same as `parse`.
+    pub fn parse_ref(parser: &mut Parser<'a>) -> Result<Self, ParseError>
+        ensures ok { IfOk result (λ header. ReadsHead (octets_of parser.old) (place_of parser.old) (labelled labels_of header) (place_of parser.new)) }
+        ensures err { OnErr result (NoHead (octets_of parser.old) (place_of parser.old)) }
+        ensures same { octets_of parser.new ≡ octets_of parser.old }
+        ensures stays { OnErr result (parser.new ≡ parser.old) }
+    {
+        RecordHeader::parse(parser)
+    }
+
+    /// Reads what stands at the parser's place, and leaves the parser behind the data, which is not looked into. Refused
+    /// where no such thing stands there with the data behind it; the parser then stays where it is.
+    pub fn parse_and_skip(parser: &mut Parser<'a>) -> Result<Self, ParseError>
+        ensures ok { IfOk result (λ header. (data_place : ℕ) × ReadsWhole (octets_of parser.old) (place_of parser.old)
+            (labelled labels_of header) data_place (place_of parser.new)) }
+        ensures err { OnErr result (NoWhole (octets_of parser.old) (place_of parser.old)) }
+        ensures same { octets_of parser.new ≡ octets_of parser.old }
+        ensures stays { OnErr result (parser.new ≡ parser.old) }
+    {
+        let mut ahead = *parser;
+        let header = RecordHeader::parse(&mut ahead)?;
+        ahead.advance(usize::from(header.rdlen))?;
+        *parser = ahead;
+        Ok(header)
+    }
+}
+
+impl<N> RecordHeader<N> {
+    /// The record with this data.
+    pub fn into_record<Data>(self, rdata: Data) -> Record<N, Data>
+        ensures { result ≡ record { owner = self.owner; class = self.class; ttl = self.ttl; rdata = rdata } }
+    {
+        Record::new(self.owner, self.class, self.ttl, rdata)
+    }
+
+}
+
+impl<'a, N> RecordHeader<N> {
+    /// The record with the data at the parser's place, or None where data of the type is not taken; the parser is then
+    /// behind the data. Refused where fewer octets are left than the data has, or these are not data of the type; the
+    /// parser then stays where it is.
+    pub fn parse_into_record<Data: ParseRecordData<'a>>(
+        self,
+        parser: &mut Parser<'a>,
+    ) -> Result<Option<Record<N, Data>>, ParseError>
+    where
+        N: Drop,
+        ensures taken { IfOk result (λ found. is_some found ≡ Data.takes self.rtype) }
+        ensures ok { IfOk result (λ found. IfSome found (ReadsData Data.reads (octets_of parser.old) (place_of parser.old) self)) }
+        ensures place { OnOk result (GoesOn parser.old parser.new self.data_len) }
+        ensures err { OnErr result (DataIsRefused Data.takes Data.reads (octets_of parser.old) (place_of parser.old) self.rtype self.data_len) }
+        ensures stays { OnErr result (parser.new ≡ parser.old) }
+    {
+        let mut ahead = *parser;
+        let mut inner = ahead.parse_parser(usize::from(self.rdlen))?;
+        let found = read_data(self.rtype, &mut inner)?;
+        *parser = ahead;
+        match found {
+            Some(rdata) => Ok(Some(self.into_record(rdata))),
+            None => Ok(None),
+        }
+    }
+
+    /// The record with the data at the parser's place, whatever its type; the parser is then behind the data. Refused where
+    /// fewer octets are left than the data has, or these are not data of the type; the parser then stays where it is.
+    pub fn parse_into_any_record<Data: ParseAnyRecordData<'a>>(
+        self,
+        parser: &mut Parser<'a>,
+    ) -> Result<Record<N, Data>, ParseError>
+    where
+        N: Drop,
+        ensures ok { IfOk result (ReadsData Data.reads_any (octets_of parser.old) (place_of parser.old) self) }
+        ensures place { OnOk result (GoesOn parser.old parser.new self.data_len) }
+        ensures err { OnErr result (NoData Data.reads_any (octets_of parser.old) (place_of parser.old) self.rtype self.data_len) }
+        ensures stays { OnErr result (parser.new ≡ parser.old) }
+    {
+        let mut ahead = *parser;
+        let mut inner = ahead.parse_parser(usize::from(self.rdlen))?;
+        let rdata = read_any_data(self.rtype, &mut inner)?;
+        *parser = ahead;
+        Ok(self.into_record(rdata))
+    }
+}
+
+fn read_data<'a, Data: ParseRecordData<'a>>(rtype: Rtype, parser: &mut Parser<'a>) -> Result<Option<Data>, ShortInput> {
+    match Data::parse_rdata(rtype, parser) {
+        Ok(found) => Ok(found),
+        Err(_) => Err(ShortInput),
+    }
+}
+
+fn read_any_data<'a, Data: ParseAnyRecordData<'a>>(rtype: Rtype, parser: &mut Parser<'a>) -> Result<Data, ShortInput> {
+    match Data::parse_any_rdata(rtype, parser) {
+        Ok(found) => Ok(found),
+        Err(_) => Err(ShortInput),
+    }
+}
