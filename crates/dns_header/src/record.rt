@@ -22,7 +22,7 @@ impl<N, Data> Model for Record<N, Data> {
 
     ghost view = { λ rr. record { owner = rr.owner; class = rr.class; ttl = rr.ttl; rdata = rr.data } };
 
-    ghost inverse = { λ rr. record { owner = rr.owner; class = rr.class; ttl = rr.ttl; data = rr.rdata } };
+    ghost inverse = { λ rr. record { owner = rr.owner; class = rr.class; ttl = rr.ttl; «data» = rr.rdata } };
 }
 
 impl<N, Data> Record<N, Data> {
@@ -78,14 +78,6 @@ impl<N, Data> Record<N, Data> {
         ensures { self.new ≡ record { owner = self.old.owner; class = self.old.class; ttl = ttl; rdata = self.old.rdata } }
     {
         self.ttl = ttl;
-    }
-
-    /// The data, to be changed.
-    pub fn data_mut(&mut self) -> &mut Data
-        ensures now { result.now ≡ self.old.rdata }
-        ensures later { self.new ≡ record { owner = self.old.owner; class = self.old.class; ttl = self.old.ttl; rdata = result.new } }
-    {
-        &mut self.data
     }
 
     /// The data alone.

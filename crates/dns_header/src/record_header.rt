@@ -1,5 +1,7 @@
 //! What stands in front of a record's data.
-ghost use Rattle.std.specs.Prelude.{◌≡◌, ℕ, is_some, IfOk, IfSome, OnOk, OnErr};
+ghost use Rattle.std.specs.Prelude.{◌≡◌, ◌+◌, ◌≤◌, ◌↔◌, ℕ, length, take, drop, is_some, IsOk, IfOk, IfSome, OnOk, OnErr};
+ghost use Rattle.std.specs.Int.{from_be_bytes, w32};
+ghost use Rattle.dns_header.specs.Header.{number_at};
 ghost use Rattle.dns_octets.specs.Parser.{GoesOn, octets_of, place_of};
 ghost use Rattle.dns_name.specs.ParsedName.{labels_of};
 ghost use Rattle.dns_header.specs.Head.{Head, labelled, ReadsHead, ReadsWhole, NoHead, NoWhole};
@@ -99,30 +101,15 @@ impl<'a> RecordHeader<ParsedName<&'a [u8]>> {
         ensures same { octets_of parser.new ≡ octets_of parser.old }
         ensures stays { OnErr result (parser.new ≡ parser.old) }
     {
-        let mut ahead = *parser;
-        let header = RecordHeader::read(&mut ahead)?;
-        *parser = ahead;
-        Ok(header)
-    }
-
-    /// Reads as `parse` does, but where it is refused the parser may have gone on.
-    fn read(parser: &mut Parser<'a>) -> Result<Self, ParseError>
-        ensures ok { IfOk result (λ header. ReadsHead (octets_of parser.old) (place_of parser.old) (labelled labels_of header) (place_of parser.new)) }
-        ensures err { OnErr result (NoHead (octets_of parser.old) (place_of parser.old)) }
-        ensures same { octets_of parser.new ≡ octets_of parser.old }
-    {
+        let start = *parser;
         let owner = ParsedName::parse(parser)?;
-        let rtype = Rtype::from_int(parser.parse_u16_be()?);
-        let class = Class::from_int(parser.parse_u16_be()?);
-        let ttl = Ttl::from_secs(parser.parse_u32_be()?);
-        let rdlen = parser.parse_u16_be()?;
-        Ok(RecordHeader {
-            owner,
-            rtype,
-            class,
-            ttl,
-            rdlen,
-        })
+        match parse_fixed(parser) {
+            Ok((rtype, class, ttl, rdlen)) => Ok(RecordHeader::new(owner, rtype, class, ttl, rdlen)),
+            Err(error) => {
+                *parser = start;
+                Err(ParseError::from(error))
+            }
+        }
     }
 
     /// The same as `parse`.
@@ -180,7 +167,7 @@ impl<'a, N> RecordHeader<N> {
     {
         let mut ahead = *parser;
         let mut inner = ahead.parse_parser(usize::from(self.rdlen))?;
-        let found = read_data(self.rtype, &mut inner)?;
+        let found = Data::parse_rdata(self.rtype, &mut inner)?;
         *parser = ahead;
         match found {
             Some(rdata) => Ok(Some(self.into_record(rdata))),
@@ -203,22 +190,26 @@ impl<'a, N> RecordHeader<N> {
     {
         let mut ahead = *parser;
         let mut inner = ahead.parse_parser(usize::from(self.rdlen))?;
-        let rdata = read_any_data(self.rtype, &mut inner)?;
+        let rdata = Data::parse_any_rdata(self.rtype, &mut inner)?;
         *parser = ahead;
         Ok(self.into_record(rdata))
     }
 }
 
-fn read_data<'a, Data: ParseRecordData<'a>>(rtype: Rtype, parser: &mut Parser<'a>) -> Result<Option<Data>, ShortInput> {
-    match Data::parse_rdata(rtype, parser) {
-        Ok(found) => Ok(found),
-        Err(_) => Err(ShortInput),
-    }
-}
-
-fn read_any_data<'a, Data: ParseAnyRecordData<'a>>(rtype: Rtype, parser: &mut Parser<'a>) -> Result<Data, ShortInput> {
-    match Data::parse_any_rdata(rtype, parser) {
-        Ok(found) => Ok(found),
-        Err(_) => Err(ShortInput),
-    }
+/// Reads the type, the class, the TTL and the length of the data. Refused where fewer than ten octets are left; the parser
+/// then stays where it is.
+fn parse_fixed(parser: &mut Parser<'_>) -> Result<(Rtype, Class, Ttl, u16), ShortInput>
+    ensures enough { IsOk result ↔ (place_of parser.old + 10 ≤ length (octets_of parser.old)) }
+    ensures place { OnOk result (GoesOn parser.old parser.new 10) }
+    ensures rtype { IfOk result (λ fixed. fixed.0 ≡ number_at (octets_of parser.old) (place_of parser.old)) }
+    ensures class { IfOk result (λ fixed. fixed.1 ≡ number_at (octets_of parser.old) (place_of parser.old + 2)) }
+    ensures ttl { IfOk result (λ fixed. fixed.2 ≡ from_be_bytes w32 (take 4 (drop (place_of parser.old + 4) (octets_of parser.old)))) }
+    ensures len { IfOk result (λ fixed. fixed.3 ≡ number_at (octets_of parser.old) (place_of parser.old + 8)) }
+    ensures err { OnErr result (parser.new ≡ parser.old) }
+{
+    parser.peek(10)?;
+    let rtype = Rtype::from_int(parser.parse_u16_be()?);
+    let class = Class::from_int(parser.parse_u16_be()?);
+    let ttl = Ttl::from_secs(parser.parse_u32_be()?);
+    Ok((rtype, class, ttl, parser.parse_u16_be()?))
 }
