@@ -1,3 +1,4 @@
 pub mod Header
 pub mod Head
 pub mod Record
+pub mod Written
