@@ -8,6 +8,8 @@ ghost use Rattle.dns_name.specs.RecordData.{page_of};
 ghost use Rattle.dns_header.specs.Head.{fixed_octets};
 ghost use Rattle.dns_header.specs.Written.{Written, parts_of, data_length};
 
+mod records;
+
 use dns_name::{AppendError, Class, ComposeRecordData, Composer, Rtype, ToName, Ttl};
 
 /// A record that is written into messages.
