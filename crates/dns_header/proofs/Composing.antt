@@ -1,11 +1,12 @@
 -- What is written in front of a record's data, and then the data.
 use Rattle.std.proofs.Common.{◌≡◌, ◌≤◌, ◌<◌, ◌+◌, ℕ, List, ◌++◌, length, refl, sym, subst, ◌∙◌, ap, arith, length-append}
-use Rattle.std.specs.Prelude.{Result, Ok, Err, Option, OnOk}
-use Rattle.dns_octets.specs.Builder.{Known, IsPast}
+use Rattle.std.specs.Prelude.{Result, Ok, Err, Option, OnOk, OnErr}
+use Rattle.dns_octets.specs.Builder.{Known, GrowsTo, IsPast}
 use Rattle.dns_name.specs.Spelling.{Spelling, name_text, known_after}
 use Rattle.dns_name.specs.Page.{Page, Parts, write}
 use Rattle.dns_name.specs.Page.Parts.{End, Octets, Named, Counted}
 use Rattle.dns_name.specs.RecordData.{page_of, counted_length}
+use Rattle.dns_octets.proofs.Grows.{GrowsTo-append, GrowsTo-same}
 use Rattle.dns_name.proofs.Growth.{IsPast-more, IsPast-from}
 use Rattle.dns_name.proofs.WrittenParts.{page_same, write-long}
 
@@ -57,3 +58,9 @@ pub past_slice : (s : Spelling) (octets : List ℕ) (known : Known) (name : List
     → IsPast bound (length (write s (page_of octets known) (Named name (Octets more End))).octets)
 unfolding write
 past_slice s octets known name more bound other is same = IsPast-from bound other _ _ same (omega (arith, ap (λ l. length (l ++ more)) is))
+
+-- octets are appended, all or none
+pub grows-all : {T E : Type 0} (result : Result T E) (old new more : List ℕ) (known same : Known) → OnOk result (new ≡ old ++ more)
+    → OnErr result (new ≡ old) → same ≡ known → GrowsTo old known new same
+grows-all (Ok value) old new more known same ok err is = GrowsTo-append _ _ _ _ _ ok is
+grows-all (Err error) old new more known same ok err is = GrowsTo-same _ _ _ _ err is

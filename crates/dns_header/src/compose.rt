@@ -8,7 +8,10 @@ ghost use Rattle.dns_name.specs.RecordData.{page_of};
 ghost use Rattle.dns_header.specs.Head.{fixed_octets};
 ghost use Rattle.dns_header.specs.Written.{Written, parts_of, data_length};
 
+mod canonical;
 mod records;
+
+pub(crate) use canonical::{compose_canonical_head, compose_canonical_parts};
 
 use dns_name::{AppendError, Class, ComposeRecordData, Composer, Rtype, ToName, Ttl};
 
@@ -92,6 +95,35 @@ fn append_parts<N: ToName, Data: ComposeRecordData, Target: Composer>(
     rdata.compose_len_rdata(target)
 }
 
+/// Appends an owner and the octets behind it, all or nothing.
+pub(crate) fn compose_head<N: ToName, Target: Composer>(
+    owner: &N,
+    octets: &[u8],
+    target: &mut Target,
+) -> Result<(), AppendError>
+    ensures ok { OnOk result (page_of (Target.list target.new) (Target.known target.new)
+        ≡ write Target.spelling (page_of (Target.list target.old) (Target.known target.old)) (Named (N.name owner.now) (Octets octets.now End))) }
+    ensures err { OnErr result ((Target.list target.new ≡ Target.list target.old)
+        × (Target.known target.new ≡ Target.known target.old)) }
+    ensures grows { GrowsTo (Target.list target.old) (Target.known target.old) (Target.list target.new)
+        (Target.known target.new) }
+    ensures short { result ≡ Err ShortBuf → IsPast (Target.bound target.old)
+        (length (write Target.spelling (page_of (Target.list target.old) (Target.known target.old))
+        (Named (N.name owner.now) (Octets octets.now End))).octets) }
+    ensures not_bad { result ≡ Err BadLength → ⊥ }
+    ensures same_bound { Target.bound target.new ≡ Target.bound target.old }
+    ensures stays { Target.stays target.old target.new }
+{
+    let len = target.octets().len();
+    match append_head(owner, octets, target) {
+        Ok(()) => Ok(()),
+        Err(error) => {
+            target.truncate(len);
+            Err(error)
+        }
+    }
+}
+
 /// Appends an owner and the octets behind it, or as much of them as there is room for.
 fn append_head<N: ToName, Target: Composer>(
     owner: &N,
@@ -114,7 +146,7 @@ fn append_head<N: ToName, Target: Composer>(
 }
 
 /// The octets of the type, the class and the TTL.
-fn fixed(rtype: Rtype, class: Class, ttl: Ttl) -> [u8; 8]
+pub(crate) fn fixed(rtype: Rtype, class: Class, ttl: Ttl) -> [u8; 8]
     ensures { result ≡ fixed_octets rtype class ttl }
 {
     let [a, b] = rtype.to_int().to_be_bytes();
