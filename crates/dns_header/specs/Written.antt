@@ -4,7 +4,8 @@ use Rattle.dns_name.specs.Spelling.{Spelling}
 use Rattle.dns_name.specs.Page.{Page, Parts, write}
 use Rattle.dns_name.specs.Page.Parts.{End, Octets, Named}
 use Rattle.dns_name.specs.RecordData.{counted_length}
-use Rattle.dns_header.specs.Head.{fixed_octets, record_parts}
+use Rattle.dns_header.specs.Head.{fixed_octets, record_parts, canonical_record}
+use Rattle.dns_header.specs.Record.{RecordOf}
 
 -- a record with the parts of its data
 pub record Written : Type 0 where
@@ -21,3 +22,17 @@ parts_of w = record_parts w.owner w.rtype w.class w.ttl w.rdata
 abbrev pub data_length : Spelling → Page → Written → ℕ
 data_length s page w =
     counted_length s (write s page (Named w.owner (Octets (fixed_octets w.rtype w.class w.ttl) End))) w.rdata
+
+-- a record is written so, given its owner's labels, and the type and parts of its data
+abbrev pub written_of : {Owner Data : Type 0} → (Owner → List (List ℕ)) → (Data → ℕ) → (Data → Parts) → RecordOf Owner Data → Written
+written_of labels rtype parts rr = record {
+  owner = labels rr.owner;
+  rtype = rtype rr.rdata;
+  class = rr.class;
+  ttl = rr.ttl;
+  rdata = parts rr.rdata;
+}
+
+-- the same in canonical form
+abbrev pub canonical_of : {Owner Data : Type 0} → (Owner → List (List ℕ)) → (Data → ℕ) → (Data → List ℕ) → RecordOf Owner Data → List ℕ
+canonical_of labels rtype octets rr = canonical_record (labels rr.owner) (rtype rr.rdata) rr.class rr.ttl (octets rr.rdata)

@@ -1,11 +1,16 @@
 //! Records.
-ghost use Rattle.std.specs.Prelude.{◌≡◌, ℕ, is_some, IfOk, IfSome, OnOk, OnErr};
-ghost use Rattle.dns_octets.specs.Parser.{GoesOn, octets_of, place_of};
-ghost use Rattle.dns_name.specs.ParsedName.{labels_of};
-ghost use Rattle.dns_header.specs.Head.{Head, labelled, ReadsHead, ReadsWhole, NoHead, NoWhole};
-ghost use Rattle.dns_header.specs.Record.{RecordOf, ReadsData, NoData, DataIsRefused};
+ghost use Rattle.std.specs.Prelude.{◌≡◌, ◌<◌, ◌++◌, Err, length, OnOk, OnErr};
+ghost use Rattle.dns_octets.specs.Builder.{GrowsTo, IsPast};
+ghost use Rattle.dns_octets.specs.declared.error.AppendError.TheVariants.{ShortBuf, BadLength};
+ghost use Rattle.dns_name.specs.Page.{write};
+ghost use Rattle.dns_name.specs.RecordData.{page_of};
+ghost use Rattle.dns_header.specs.Record.{RecordOf};
+ghost use Rattle.dns_header.specs.Written.{parts_of, written_of, canonical_of, data_length};
 
-use dns_name::{Class, RecordData, Rtype, Ttl};
+use crate::compose::{compose_canonical_parts, compose_parts};
+use dns_name::{
+    AppendError, Class, ComposeRecordData, Composer, RecordData, Rtype, ToName, Ttl,
+};
 use std::marker::Model;
 
 /// A resource record: a name, and data of the type and class that there is about it, for so long (RFC 1035 3.2.1).
@@ -103,5 +108,44 @@ impl<N, Data: RecordData> Record<N, Data> {
         ensures { result ≡ Data.rtype self.now.rdata }
     {
         self.data.rtype()
+    }
+}
+
+impl<N: ToName, Data: ComposeRecordData> Record<N, Data> {
+    /// Appends the record, all or nothing, and refused as `ComposeRecord::compose_record` has it.
+    pub fn compose<Target: Composer>(&self, target: &mut Target) -> Result<(), AppendError>
+        ensures ok { OnOk result (page_of (Target.list target.new) (Target.known target.new)
+            ≡ write Target.spelling (page_of (Target.list target.old) (Target.known target.old)) (parts_of (written_of N.name Data.rtype Data.parts self.now))) }
+        ensures err { OnErr result ((Target.list target.new ≡ Target.list target.old)
+            × (Target.known target.new ≡ Target.known target.old)) }
+        ensures grows { GrowsTo (Target.list target.old) (Target.known target.old) (Target.list target.new)
+            (Target.known target.new) }
+        ensures short { result ≡ Err ShortBuf → IsPast (Target.bound target.old)
+            (length (write Target.spelling (page_of (Target.list target.old) (Target.known target.old))
+            (parts_of (written_of N.name Data.rtype Data.parts self.now))).octets) }
+        ensures bad { result ≡ Err BadLength → 65535 < data_length Target.spelling
+            (page_of (Target.list target.old) (Target.known target.old)) (written_of N.name Data.rtype Data.parts self.now) }
+        ensures same_bound { Target.bound target.new ≡ Target.bound target.old }
+        ensures stays { Target.stays target.old target.new }
+    {
+        compose_parts(&self.owner, self.class, self.ttl, &self.data, target)
+    }
+
+    /// Appends the canonical form of the record (RFC 4034 6.2), all or nothing: its owner and the names in its data in full
+    /// and in lower case. Refused with `ShortBuf` only where the target would then hold more octets than it may, with
+    /// `BadLength` only where the data has more than 65,535 octets, and with `OutOfMemory` where a growth was refused.
+    pub fn compose_canonical<Target: Composer>(
+        &self,
+        target: &mut Target,
+    ) -> Result<(), AppendError>
+        ensures ok { OnOk result (Target.list target.new ≡ Target.list target.old ++ canonical_of N.name Data.rtype Data.canonical_octets self.now) }
+        ensures err { OnErr result (Target.list target.new ≡ Target.list target.old) }
+        ensures known { Target.known target.new ≡ Target.known target.old }
+        ensures short { result ≡ Err ShortBuf → IsPast (Target.bound target.old) (length (Target.list target.old ++ canonical_of N.name Data.rtype Data.canonical_octets self.now)) }
+        ensures bad { result ≡ Err BadLength → 65535 < length (Data.canonical_octets self.now.rdata) }
+        ensures same_bound { Target.bound target.new ≡ Target.bound target.old }
+        ensures stays { Target.stays target.old target.new }
+    {
+        compose_canonical_parts(&self.owner, self.class, self.ttl, &self.data, target)
     }
 }

@@ -1,14 +1,19 @@
 //! What stands in front of a record's data.
-ghost use Rattle.std.specs.Prelude.{◌≡◌, ◌+◌, ◌≤◌, ◌↔◌, ℕ, length, take, drop, is_some, IsOk, IfOk, IfSome, OnOk, OnErr};
-ghost use Rattle.std.specs.Int.{from_be_bytes, w32};
+ghost use Rattle.std.specs.Prelude.{◌≡◌, ◌+◌, ◌≤◌, ◌↔◌, ◌++◌, ℕ, Err, length, take, drop, is_some, IsOk, IfOk, IfSome, OnOk, OnErr};
+ghost use Rattle.std.specs.Int.{from_be_bytes, to_be_bytes, w16, w32};
+ghost use Rattle.dns_octets.specs.Builder.{GrowsTo, IsPast};
+ghost use Rattle.dns_octets.specs.declared.error.AppendError.TheVariants.{ShortBuf, BadLength};
+ghost use Rattle.dns_name.specs.Page.{write};
+ghost use Rattle.dns_name.specs.RecordData.{page_of};
 ghost use Rattle.dns_header.specs.Header.{number_at};
 ghost use Rattle.dns_octets.specs.Parser.{GoesOn, octets_of, place_of};
 ghost use Rattle.dns_name.specs.ParsedName.{labels_of};
-ghost use Rattle.dns_header.specs.Head.{Head, labelled, ReadsHead, ReadsWhole, NoHead, NoWhole};
+ghost use Rattle.dns_header.specs.Head.{Head, labelled, fixed_octets, head_parts, canonical_head, ReadsHead, ReadsWhole, NoHead, NoWhole};
 ghost use Rattle.dns_header.specs.Record.{RecordOf, ReadsData, NoData, DataIsRefused};
 
 use crate::Record;
-use dns_name::{Class, ParseAnyRecordData, ParseError, ParseRecordData, ParsedName, Parser, Rtype, ShortInput, Ttl};
+use crate::compose::{compose_canonical_head, compose_head, fixed};
+use dns_name::{AppendError, Class, Composer, ParseAnyRecordData, ParseError, ParseRecordData, ParsedName, Parser, Rtype, ShortInput, ToName, Ttl};
 use std::marker::Model;
 
 /// What stands in front of a record's data (RFC 1035 3.2.1): whose record it is, of which type and class, for how long it
@@ -193,6 +198,53 @@ impl<'a, N> RecordHeader<N> {
         let rdata = Data::parse_any_rdata(self.rtype, &mut inner)?;
         *parser = ahead;
         Ok(self.into_record(rdata))
+    }
+}
+
+impl<N: ToName> RecordHeader<N> {
+    /// Appends what stands in front of the data, all or nothing: the owner, which may be written with a pointer, and the
+    /// numbers. Refused with `ShortBuf` only where the target would then hold more octets than it may, and with
+    /// `OutOfMemory` where a growth was refused.
+    pub fn compose<Target: Composer>(&self, target: &mut Target) -> Result<(), AppendError>
+        ensures ok { OnOk result (page_of (Target.list target.new) (Target.known target.new)
+            ≡ write Target.spelling (page_of (Target.list target.old) (Target.known target.old)) (head_parts (labelled N.name self.now))) }
+        ensures err { OnErr result ((Target.list target.new ≡ Target.list target.old)
+            × (Target.known target.new ≡ Target.known target.old)) }
+        ensures grows { GrowsTo (Target.list target.old) (Target.known target.old) (Target.list target.new)
+            (Target.known target.new) }
+        ensures short { result ≡ Err ShortBuf → IsPast (Target.bound target.old)
+            (length (write Target.spelling (page_of (Target.list target.old) (Target.known target.old))
+            (head_parts (labelled N.name self.now))).octets) }
+        ensures not_bad { result ≡ Err BadLength → ⊥ }
+        ensures same_bound { Target.bound target.new ≡ Target.bound target.old }
+        ensures stays { Target.stays target.old target.new }
+    {
+        compose_head(&self.owner, &self.fixed(), target)
+    }
+
+    /// Appends the same in canonical form, the owner in full and in lower case (RFC 4034 6.2), refused as `compose` is.
+    pub fn compose_canonical<Target: Composer>(
+        &self,
+        target: &mut Target,
+    ) -> Result<(), AppendError>
+        ensures ok { OnOk result (Target.list target.new ≡ Target.list target.old ++ canonical_head (labelled N.name self.now)) }
+        ensures err { OnErr result (Target.list target.new ≡ Target.list target.old) }
+        ensures known { Target.known target.new ≡ Target.known target.old }
+        ensures short { result ≡ Err ShortBuf → IsPast (Target.bound target.old) (length (Target.list target.old ++ canonical_head (labelled N.name self.now))) }
+        ensures not_bad { result ≡ Err BadLength → ⊥ }
+        ensures same_bound { Target.bound target.new ≡ Target.bound target.old }
+        ensures stays { Target.stays target.old target.new }
+    {
+        compose_canonical_head(&self.owner, &self.fixed(), target)
+    }
+
+    /// The octets behind the owner.
+    fn fixed(&self) -> [u8; 10]
+        ensures { result ≡ fixed_octets self.now.rtype self.now.class self.now.ttl ++ to_be_bytes w16 self.now.data_len }
+    {
+        let [a, b, c, d, e, f, g, h] = fixed(self.rtype, self.class, self.ttl);
+        let [i, j] = self.rdlen.to_be_bytes();
+        [a, b, c, d, e, f, g, h, i, j]
     }
 }
 

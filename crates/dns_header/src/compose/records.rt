@@ -1,4 +1,6 @@
 //! What is written as a record.
+ghost use Rattle.dns_header.specs.Written.{written_of};
+
 use super::{ComposeRecord, compose_parts};
 use crate::Record;
 use dns_name::{AppendError, Class, ComposeRecordData, Composer, ToName, Ttl};
@@ -12,10 +14,10 @@ impl<R: ComposeRecord> ComposeRecord for &R {
 }
 
 impl<N: ToName, Data: ComposeRecordData> ComposeRecord for Record<N, Data> {
-    ghost written = { λ rr. record { owner = N.name rr.owner; rtype = Data.rtype rr.rdata; class = rr.class; ttl = rr.ttl; rdata = Data.parts rr.rdata } };
+    ghost written = { written_of N.name Data.rtype Data.parts };
 
     fn compose_record<Target: Composer>(&self, target: &mut Target) -> Result<(), AppendError> {
-        compose_parts(self.owner(), self.class(), self.ttl(), self.data(), target)
+        self.compose(target)
     }
 }
 
