@@ -8,6 +8,10 @@ pub record RecordOf (Owner Data : Type 0) : Type 0 where
   pub ttl : ℕ
   pub rdata : Data
 
+-- the same with the owner's labels
+abbrev pub with_labels : {Owner Data : Type 0} → (Owner → List (List ℕ)) → RecordOf Owner Data → RecordOf (List (List ℕ)) Data
+with_labels labels rr = record { owner = labels rr.owner; class = rr.class; ttl = rr.ttl; rdata = rr.rdata }
+
 -- Data of so many octets, of the type that the head says, stands at the place. The record has the head's other parts.
 pub record ReadsData {Owner Data : Type 0} (reads : List ℕ → ℕ → ℕ → Data → Type 0) (message : List ℕ) (place : ℕ) (head : Head Owner)
     (found : RecordOf Owner Data) : Type 0 where

@@ -4,9 +4,11 @@
 #![tactic(auto)]
 
 mod compose;
+mod parsed_record;
 mod record;
 mod record_header;
 
 pub use compose::ComposeRecord;
+pub use parsed_record::ParsedRecord;
 pub use record::Record;
 pub use record_header::RecordHeader;

@@ -1,15 +1,21 @@
 //! Records.
-ghost use Rattle.std.specs.Prelude.{◌≡◌, ◌<◌, ◌++◌, Err, length, OnOk, OnErr};
+ghost use Rattle.std.specs.Prelude.{◌≡◌, ◌<◌, ◌++◌, ℕ, List, Err, length, is_some, IfOk, IfSome, OnOk, OnErr};
+ghost use Rattle.dns_octets.specs.Parser.{octets_of, place_of};
+ghost use Rattle.dns_name.specs.ParsedName.{labels_of};
+ghost use Rattle.dns_header.specs.Head.{Head, ReadsWhole};
+ghost use Rattle.dns_header.specs.ParsedRecord.{NoRecord};
 ghost use Rattle.dns_octets.specs.Builder.{GrowsTo, IsPast};
 ghost use Rattle.dns_octets.specs.declared.error.AppendError.TheVariants.{ShortBuf, BadLength};
 ghost use Rattle.dns_name.specs.Page.{write};
 ghost use Rattle.dns_name.specs.RecordData.{page_of};
-ghost use Rattle.dns_header.specs.Record.{RecordOf};
+ghost use Rattle.dns_header.specs.Record.{RecordOf, ReadsData, with_labels};
 ghost use Rattle.dns_header.specs.Written.{parts_of, written_of, canonical_of, data_length};
 
+use crate::RecordHeader;
 use crate::compose::{compose_canonical_parts, compose_parts};
 use dns_name::{
-    AppendError, Class, ComposeRecordData, Composer, RecordData, Rtype, ToName, Ttl,
+    AppendError, Class, ComposeRecordData, Composer, ParseError, ParseRecordData, ParsedName, Parser,
+    RecordData, Rtype, ToName, Ttl,
 };
 use std::marker::Model;
 
@@ -147,5 +153,26 @@ impl<N: ToName, Data: ComposeRecordData> Record<N, Data> {
         ensures stays { Target.stays target.old target.new }
     {
         compose_canonical_parts(&self.owner, self.class, self.ttl, &self.data, target)
+    }
+}
+
+impl<'a, Data: ParseRecordData<'a>> Record<ParsedName<&'a [u8]>, Data> {
+    /// Reads the record at the parser's place, or answers None where data of its type is not taken; the parser is then behind
+    /// the record. Refused where no record stands there, or its data is no data of the type; the parser then stays where it
+    /// is.
+    pub fn parse(parser: &mut Parser<'a>) -> Result<Option<Self>, ParseError>
+        ensures ok { IfOk result (λ found. (head : Head (List (List ℕ))) × (data_place : ℕ)
+            × ReadsWhole (octets_of parser.old) (place_of parser.old) head data_place (place_of parser.new)
+            × (is_some found ≡ Data.takes head.rtype)
+            × IfSome found (λ rr. ReadsData Data.reads (octets_of parser.old) data_place head (with_labels labels_of rr))) }
+        ensures err { OnErr result (NoRecord Data.takes Data.reads (octets_of parser.old) (place_of parser.old)) }
+        ensures same { octets_of parser.new ≡ octets_of parser.old }
+        ensures stays { OnErr result (parser.new ≡ parser.old) }
+    {
+        let mut ahead = *parser;
+        let header = RecordHeader::parse(&mut ahead)?;
+        let found = header.parse_into_record(&mut ahead)?;
+        *parser = ahead;
+        Ok(found)
     }
 }
