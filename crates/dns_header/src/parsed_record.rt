@@ -1,12 +1,15 @@
 //! Records in a message.
-ghost use Rattle.std.specs.Prelude.{◌≡◌, ◌+◌, ℕ, List, is_some, length, IfOk, IfSome, OnOk, OnErr};
+ghost use Rattle.std.specs.Prelude.{◌≡◌, true, is_some, IfOk, IfSome, OnErr};
 ghost use Rattle.dns_octets.specs.Parser.{octets_of, place_of};
 ghost use Rattle.dns_name.specs.ParsedName.{labels_of};
-ghost use Rattle.dns_header.specs.Head.{Head, labelled, ReadsWhole, NoWhole};
-ghost use Rattle.dns_header.specs.ParsedRecord.{Parsed, HoldsRecord};
+ghost use Rattle.dns_header.specs.Head.{labelled, NoWhole};
+ghost use Rattle.dns_header.specs.ParsedRecord.{Parsed, HoldsRecord, IsRecordOf, HasNoData};
+ghost use Rattle.dns_header.specs.Record.{with_labels};
 
-use crate::RecordHeader;
-use dns_name::{Class, ParseError, ParsedName, Parser, Rtype, Ttl};
+use crate::{Record, RecordHeader};
+use dns_name::{
+    Class, ParseAnyRecordData, ParseError, ParseRecordData, ParsedName, Parser, Rtype, Ttl,
+};
 use std::marker::Model;
 
 /// A record in a message, whose data is not looked into yet.
@@ -82,5 +85,61 @@ impl<'a> ParsedRecord<'a> {
         let data = ahead.parse_parser(usize::from(header.rdlen()))?;
         *parser = ahead;
         Ok(ParsedRecord { header, data })
+    }
+
+    /// The record with its data, or None where data of its type is not taken. Refused where it is no data of the type.
+    pub fn to_record<Data: ParseRecordData<'a>>(
+        &self,
+    ) -> Result<Option<Record<ParsedName<&'a [u8]>, Data>>, ParseError>
+        ensures taken { IfOk result (λ found. is_some found ≡ Data.takes self.now.head.rtype) }
+        ensures ok { IfOk result (λ found. IfSome found (λ rr. IsRecordOf Data.reads self.now (with_labels labels_of rr))) }
+        ensures err { OnErr result ((Data.takes self.now.head.rtype ≡ true) × HasNoData Data.reads self.now) }
+    {
+        let mut parser = self.data;
+        match Data::parse_rdata(self.rtype(), &mut parser)? {
+            Some(rdata) => Ok(Some(self.with_data(rdata))),
+            None => Ok(None),
+        }
+    }
+
+    /// The same as `to_record`.
+    pub fn into_record<Data: ParseRecordData<'a>>(
+        self,
+    ) -> Result<Option<Record<ParsedName<&'a [u8]>, Data>>, ParseError>
+        ensures taken { IfOk result (λ found. is_some found ≡ Data.takes self.entry.head.rtype) }
+        ensures ok { IfOk result (λ found. IfSome found (λ rr. IsRecordOf Data.reads self.entry (with_labels labels_of rr))) }
+        ensures err { OnErr result ((Data.takes self.entry.head.rtype ≡ true) × HasNoData Data.reads self.entry) }
+    {
+        self.to_record()
+    }
+
+    /// The record with its data, whatever its type. Refused where it is no data of the type.
+    pub fn to_any_record<Data: ParseAnyRecordData<'a>>(
+        &self,
+    ) -> Result<Record<ParsedName<&'a [u8]>, Data>, ParseError>
+        ensures ok { IfOk result (λ rr. IsRecordOf Data.reads_any self.now (with_labels labels_of rr)) }
+        ensures err { OnErr result (HasNoData Data.reads_any self.now) }
+    {
+        let mut parser = self.data;
+        let rdata = Data::parse_any_rdata(self.rtype(), &mut parser)?;
+        Ok(self.with_data(rdata))
+    }
+
+    /// The same as `to_any_record`.
+    pub fn into_any_record<Data: ParseAnyRecordData<'a>>(
+        self,
+    ) -> Result<Record<ParsedName<&'a [u8]>, Data>, ParseError>
+        ensures ok { IfOk result (λ rr. IsRecordOf Data.reads_any self.entry (with_labels labels_of rr)) }
+        ensures err { OnErr result (HasNoData Data.reads_any self.entry) }
+    {
+        self.to_any_record()
+    }
+
+    /// The record with this data.
+    fn with_data<Data>(&self, rdata: Data) -> Record<ParsedName<&'a [u8]>, Data>
+        ensures { with_labels labels_of result ≡ record { owner = self.now.head.owner; class = self.now.head.class;
+            ttl = self.now.head.ttl; rdata = rdata } }
+    {
+        Record::new(self.owner(), self.class(), self.ttl(), rdata)
     }
 }
