@@ -12,7 +12,6 @@ mod canonical;
 mod records;
 
 pub(crate) use canonical::{compose_canonical_head, compose_canonical_parts};
-
 use dns_name::{AppendError, Class, ComposeRecordData, Composer, Rtype, ToName, Ttl};
 
 /// A record that is written into messages.

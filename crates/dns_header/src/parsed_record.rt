@@ -137,8 +137,12 @@ impl<'a> ParsedRecord<'a> {
 
     /// The record with this data.
     fn with_data<Data>(&self, rdata: Data) -> Record<ParsedName<&'a [u8]>, Data>
-        ensures { with_labels labels_of result ≡ record { owner = self.now.head.owner; class = self.now.head.class;
-            ttl = self.now.head.ttl; rdata = rdata } }
+        ensures { with_labels labels_of result ≡ record {
+          owner = self.now.head.owner;
+          class = self.now.head.class;
+          ttl = self.now.head.ttl;
+          rdata = rdata;
+        } }
     {
         Record::new(self.owner(), self.class(), self.ttl(), rdata)
     }

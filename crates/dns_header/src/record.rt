@@ -14,8 +14,8 @@ ghost use Rattle.dns_header.specs.Written.{parts_of, written_of, canonical_of, d
 use crate::RecordHeader;
 use crate::compose::{compose_canonical_parts, compose_parts};
 use dns_name::{
-    AppendError, Class, ComposeRecordData, Composer, ParseError, ParseRecordData, ParsedName, Parser,
-    RecordData, Rtype, ToName, Ttl,
+    AppendError, Class, ComposeRecordData, Composer, ParseError, ParseRecordData, ParsedName,
+    Parser, RecordData, Rtype, ToName, Ttl,
 };
 use std::marker::Model;
 

@@ -13,7 +13,10 @@ ghost use Rattle.dns_header.specs.Record.{RecordOf, ReadsData, NoData, DataIsRef
 
 use crate::Record;
 use crate::compose::{compose_canonical_head, compose_head, fixed};
-use dns_name::{AppendError, Class, Composer, ParseAnyRecordData, ParseError, ParseRecordData, ParsedName, Parser, Rtype, ShortInput, ToName, Ttl};
+use dns_name::{
+    AppendError, Class, Composer, ParseAnyRecordData, ParseError, ParseRecordData, ParsedName,
+    Parser, Rtype, ShortInput, ToName, Ttl,
+};
 use std::marker::Model;
 
 /// What stands in front of a record's data (RFC 1035 3.2.1): whose record it is, of which type and class, for how long it
@@ -31,19 +34,19 @@ impl<N> Model for RecordHeader<N> {
     ghost Value = { Head N };
 
     ghost view = { λ header. record {
-        owner = header.owner;
-        rtype = header.rtype;
-        class = header.class;
-        ttl = header.ttl;
-        data_len = header.rdlen;
+      owner = header.owner;
+      rtype = header.rtype;
+      class = header.class;
+      ttl = header.ttl;
+      data_len = header.rdlen;
     } };
 
     ghost inverse = { λ head. record {
-        owner = head.owner;
-        rtype = head.rtype;
-        class = head.class;
-        ttl = head.ttl;
-        rdlen = head.data_len;
+      owner = head.owner;
+      rtype = head.rtype;
+      class = head.class;
+      ttl = head.ttl;
+      rdlen = head.data_len;
     } };
 }
 
@@ -109,7 +112,9 @@ impl<'a> RecordHeader<ParsedName<&'a [u8]>> {
         let start = *parser;
         let owner = ParsedName::parse(parser)?;
         match parse_fixed(parser) {
-            Ok((rtype, class, ttl, rdlen)) => Ok(RecordHeader::new(owner, rtype, class, ttl, rdlen)),
+            Ok((rtype, class, ttl, rdlen)) => Ok(RecordHeader::new(
+                owner, rtype, class, ttl, rdlen,
+            )),
             Err(error) => {
                 *parser = start;
                 Err(ParseError::from(error))
@@ -151,7 +156,6 @@ impl<N> RecordHeader<N> {
     {
         Record::new(self.owner, self.class, self.ttl, rdata)
     }
-
 }
 
 impl<'a, N> RecordHeader<N> {

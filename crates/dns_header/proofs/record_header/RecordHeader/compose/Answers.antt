@@ -18,6 +18,6 @@ pub returns-clause-short : goal.returns-clause-short
 returns-clause-short g c is =
     let page : Page = page_of (g.Target.Octets.list c.args.target.now) (g.Target.Remembers.known c.args.target.now) in
     let same : write g.Target.Composer.spelling page (Named (g.N.ToName.name c.self.inside.owner) (Octets c.fixed.result End))
-        ≡ write g.Target.Composer.spelling page (head_parts (labelled g.N.ToName.name c.args.self.now)) =
+    ≡ write g.Target.Composer.spelling page (head_parts (labelled g.N.ToName.name c.args.self.now)) =
     λ i. write g.Target.Composer.spelling page (Named (g.N.ToName.name (c.self.view_is i).owner) (Octets (c.fixed.ensures i) End)) in
     subst (λ (p : Page). IsPast (g.Target.OctetsBuilder.bound c.args.target.now) (length p.octets)) same (c.compose_head.ensures.short is)
