@@ -1,2 +1,3 @@
 pub mod Builder
 pub mod Parser
+pub mod ErrorText

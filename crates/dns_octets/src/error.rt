@@ -1,5 +1,7 @@
 //! Why a message was not read or written.
 ghost use Rattle.std.specs.Prelude.{◌≡◌};
+ghost use Rattle.dns_octets.specs.ErrorText.{IsKept, text_of};
+ghost use Rattle.dns_octets.specs.declared.error.FormError.{FormError};
 ghost use Rattle.dns_octets.specs.declared.error.ParseError.TheVariants as parse_error;
 ghost use Rattle.dns_octets.specs.declared.error.AppendError.TheVariants as append_error;
 
@@ -11,19 +13,36 @@ use thiserror::Error;
 #[error("unexpected end of input")]
 pub struct ShortInput;
 
+/// How many octets of an error's text are kept.
+const ROOM: usize = 62;
+
 /// The octets are there, and are not a value of the kind that was asked for.
+// (It keeps its text and no reference to it: what is generic over a lifetime can't answer with a type that holds `'static`.)
 #[derive(Clone, Copy, Debug, PartialEq, Eq, Error)]
-#[error("{message}")]
+#[error("{}", self.text())]
 pub struct FormError {
-    message: &'static str,
+    octets: [u8; ROOM],
+    /// How many of them are the text; the others are 0.
+    len: usize,
 }
 
 impl FormError {
-    /// An error that shows this text.
+    /// An error that shows this text, or of a longer one the whole characters of its first 62 octets.
     pub fn new(message: &'static str) -> Self
-        ensures { result.message ≡ message.entry }
+        ensures { IsKept message.now (text_of result) }
     {
-        FormError { message }
+        let len = message.floor_char_boundary(ROOM);
+        let mut octets = [0; ROOM];
+        octets[..len].copy_from_slice(&message.as_bytes()[..len]);
+        FormError { octets, len }
+    }
+
+    /// The text.
+    fn text(&self) -> &str {
+        match self.octets.get(..self.len) {
+            Some(octets) => str::from_utf8(octets).unwrap_or(""),
+            None => "",
+        }
     }
 }
 
@@ -39,9 +58,9 @@ pub enum ParseError {
 }
 
 impl ParseError {
-    /// An error of the form, which shows this text.
+    /// An error of the form, which shows this text as `FormError::new` has it.
     pub fn form_error(message: &'static str) -> Self
-        ensures { result ≡ parse_error.Form (record { message = message.entry }) }
+        ensures { (form : FormError) × (result ≡ parse_error.Form form) × IsKept message.now (text_of form) }
     {
         ParseError::Form(FormError::new(message))
     }

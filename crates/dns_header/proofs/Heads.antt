@@ -1,0 +1,70 @@
+-- What is no record, or no record's head.
+use Rattle.std.proofs.Common.{◌≡◌, ◌+◌, ◌<◌, ◌≤◌, ℕ, Bool, true, List, length, take, drop, arith, sym, subst, ◌∙◌, ap, inl, inr}
+use Rattle.std.specs.Int.{from_be_bytes, w32}
+use Rattle.std.specs.Prelude.{Result, Ok, Err, OnErr}
+use Rattle.dns_label.specs.Spelled.{Reads}
+use Rattle.dns_label.proofs.Spelling.{reads_one}
+use Rattle.dns_header.specs.Header.{number_at}
+use Rattle.dns_header.specs.Head.{Head, ReadsHead, ReadsWhole, NoHead, NoWhole}
+use Rattle.dns_header.specs.Record.{NoData, DataIsRefused}
+use Rattle.dns_header.specs.ParsedRecord.{NoRecord}
+
+-- a clause about any error
+pub on_err : {T E P : Type 0} (result : Result T E) → P → OnErr result P
+on_err (Ok value) is = _
+on_err (Err error) is = is
+
+-- fewer than ten octets stand behind the owner
+pub no_head : {message : List ℕ} {place behind : ℕ} {name : List (List ℕ)}
+    → Reads message place name behind → length message < behind + 10 → NoHead message place
+no_head owner short head next is = omega (arith, short, is.whole, (reads_one owner is.owner).1)
+
+-- without a head there is no record
+pub no_whole : {message : List ℕ} {place : ℕ} → NoHead message place → NoWhole message place
+no_whole none head data_place next is = none head data_place is.reads
+
+-- fewer octets stand behind the head than the data has
+pub cut_data : {message : List ℕ} {place behind : ℕ} {head : Head (List (List ℕ))} → ReadsHead message place head behind
+    → length message < behind + head.data_len → NoWhole message place
+cut_data {message} read short other data_place next is =
+    let same = (reads_one read.owner is.reads.owner).1 in
+    let len = read.data_len ∙ ap (λ p. number_at message (p + 8)) same ∙ sym is.reads.data_len in
+    omega (arith, short, is.ends, is.within, read.ends, is.reads.ends, same, len)
+
+-- a message has one head at a place
+pub heads_one : {message : List ℕ} {place here there : ℕ} {one other : Head (List (List ℕ))} → ReadsHead message place one here
+    → ReadsHead message place other there → (one ≡ other) × (here ≡ there)
+heads_one {message} {one = one} {other = other} first second = (heads, first.ends ∙ ap (λ n. n + 10) same ∙ sym second.ends)
+  where
+    owners : one.owner ≡ other.owner
+    owners = (reads_one first.owner second.owner).0
+
+    same : first.behind ≡ second.behind
+    same = (reads_one first.owner second.owner).1
+
+    rtypes : one.rtype ≡ other.rtype
+    rtypes = first.rtype ∙ ap (number_at message) same ∙ sym second.rtype
+
+    classes : one.class ≡ other.class
+    classes = first.class ∙ ap (λ n. number_at message (n + 2)) same ∙ sym second.class
+
+    ttls : one.ttl ≡ other.ttl
+    ttls = first.ttl ∙ ap (λ n. from_be_bytes w32 (take 4 (drop (n + 4) message))) same ∙ sym second.ttl
+
+    lens : one.data_len ≡ other.data_len
+    lens = first.data_len ∙ ap (λ n. number_at message (n + 8)) same ∙ sym second.data_len
+
+    heads : one ≡ other
+    heads = λ i. record { owner = owners i; rtype = rtypes i; class = classes i; ttl = ttls i; data_len = lens i }
+
+-- data behind a head is refused: then the record is
+pub record_refused : {Data : Type 0} (takes : ℕ → Bool) (reads : List ℕ → ℕ → ℕ → Data → Type 0) {message : List ℕ} {place here : ℕ}
+    {head : Head (List (List ℕ))} → ReadsHead message place head here → DataIsRefused takes reads message here head.rtype head.data_len
+    → NoRecord takes reads message place
+record_refused takes reads read (inl short) other data_place next whole =
+    let is = heads_one read whole.reads in
+    absurd (omega (arith, short, whole.ends, whole.within, is.1, ap (λ (h : Head (List (List ℕ))). h.data_len) is.0))
+record_refused takes reads {message} {head = head} read (inr none) other data_place next whole =
+    let is = heads_one read whole.reads in
+    subst (λ (h : Head (List (List ℕ))). (takes h.rtype ≡ true) × NoData reads message data_place h.rtype h.data_len) is.0
+    (subst (λ n. (takes head.rtype ≡ true) × NoData reads message n head.rtype head.data_len) is.1 none)

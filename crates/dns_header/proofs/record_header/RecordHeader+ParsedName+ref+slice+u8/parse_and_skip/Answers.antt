@@ -1,0 +1,12 @@
+use Rattle.std.proofs.Common.{rules, ◌≡◌, ◌+◌, ◌<◌, ℕ, length}
+use Rattle.dns_octets.specs.Parser.{octets_of, place_of}
+use Rattle.dns_header.proofs.Heads.{on_err, no_whole, cut_data}
+use Rattle.dns_header.proofs.record_header.RecordHeader+ParsedName+ref+slice+u8.parse_and_skip.Goals as goal
+
+pub returns-in_err-header-clause-err : goal.returns-in_err-header-clause-err
+returns-in_err-header-clause-err c = on_err c.from_residual.result (no_whole c.in_err-header.ensures.err)
+
+pub returns-in_err-advance-clause-err : goal.returns-in_err-advance-clause-err
+returns-in_err-advance-clause-err c =
+    let short : length (octets_of c.args.parser.now) < place_of c.parse.new.parser + c.in_ok-header.header.data_len = search rules in
+    on_err c.from_residual-in_err-advance.result (cut_data c.in_ok-header.ensures.ok short)

@@ -1,0 +1,72 @@
+-- What stands in front of a record's data (RFC 1035 3.2.1).
+use Rattle.std.specs.Prelude.{◌≡◌, ◌+◌, ◌≤◌, ℕ, List, ◌++◌, length, take, drop}
+use Rattle.std.specs.Int.{from_be_bytes, to_be_bytes, w16, w32}
+use Rattle.dns_label.specs.Name.{wire, low}
+use Rattle.dns_label.specs.Spelled.{Reads}
+use Rattle.dns_name.specs.Page.{Parts}
+use Rattle.dns_name.specs.Page.Parts.{End, Octets, Named, Counted}
+use Rattle.dns_header.specs.Header.{number_at}
+
+-- an owner, and how many octets the data has
+pub record Head (Owner : Type 0) : Type 0 where
+  pub owner : Owner
+  pub rtype : ℕ
+  pub class : ℕ
+  pub ttl : ℕ
+  pub data_len : ℕ
+
+-- the same with the owner's labels
+abbrev pub labelled : {Owner : Type 0} → (Owner → List (List ℕ)) → Head Owner → Head (List (List ℕ))
+labelled labels head = record {
+  owner = labels head.owner;
+  rtype = head.rtype;
+  class = head.class;
+  ttl = head.ttl;
+  data_len = head.data_len;
+}
+
+-- The message has this at the place, and `next` is the place behind it.
+pub record ReadsHead (message : List ℕ) (place : ℕ) (head : Head (List (List ℕ))) (next : ℕ) : Type 0 where
+  pub behind : ℕ
+  pub owner : Reads message place head.owner behind
+  pub whole : behind + 10 ≤ length message
+  pub rtype : head.rtype ≡ number_at message behind
+  pub class : head.class ≡ number_at message (behind + 2)
+  pub ttl : head.ttl ≡ from_be_bytes w32 (take 4 (drop (behind + 4) message))
+  pub data_len : head.data_len ≡ number_at message (behind + 8)
+  pub ends : next ≡ behind + 10
+
+-- A record stands at the place, whose data begins at `data_place` and is not looked into; `next` is the place behind it.
+pub record ReadsWhole (message : List ℕ) (place : ℕ) (head : Head (List (List ℕ))) (data_place next : ℕ) : Type 0 where
+  pub reads : ReadsHead message place head data_place
+  pub ends : next ≡ data_place + head.data_len
+  pub within : next ≤ length message
+
+-- nothing of the kind stands at the place
+abbrev pub NoHead : List ℕ → ℕ → Type 0
+NoHead message place = (head : Head (List (List ℕ))) (next : ℕ) → ReadsHead message place head next → ⊥
+
+abbrev pub NoWhole : List ℕ → ℕ → Type 0
+NoWhole message place = (head : Head (List (List ℕ))) (data_place next : ℕ) → ReadsWhole message place head data_place next → ⊥
+
+-- the octets of the type, the class and the TTL
+abbrev pub fixed_octets : ℕ → ℕ → ℕ → List ℕ
+fixed_octets rtype class ttl = to_be_bytes w16 rtype ++ to_be_bytes w16 class ++ to_be_bytes w32 ttl
+
+-- the parts of a record, given those of its data
+abbrev pub record_parts : List (List ℕ) → ℕ → ℕ → ℕ → Parts → Parts
+record_parts owner rtype class ttl data' = Named owner (Octets (fixed_octets rtype class ttl) (Counted data' End))
+
+-- the parts in front of a record's data
+abbrev pub head_parts : Head (List (List ℕ)) → Parts
+head_parts head =
+    Named head.owner (Octets (fixed_octets head.rtype head.class head.ttl ++ to_be_bytes w16 head.data_len) End)
+
+-- the canonical form, given that of the data (RFC 4034 6.2)
+abbrev pub canonical_record : List (List ℕ) → ℕ → ℕ → ℕ → List ℕ → List ℕ
+canonical_record owner rtype class ttl data' =
+    wire (low owner) ++ fixed_octets rtype class ttl ++ to_be_bytes w16 (length data') ++ data'
+
+abbrev pub canonical_head : Head (List (List ℕ)) → List ℕ
+canonical_head head =
+    wire (low head.owner) ++ fixed_octets head.rtype head.class head.ttl ++ to_be_bytes w16 head.data_len

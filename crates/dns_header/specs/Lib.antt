@@ -1,0 +1,5 @@
+pub mod Header
+pub mod Head
+pub mod Record
+pub mod Written
+pub mod ParsedRecord

@@ -1,0 +1,149 @@
+//! Records in a message.
+ghost use Rattle.std.specs.Prelude.{◌≡◌, true, is_some, IfOk, IfSome, OnErr};
+ghost use Rattle.dns_octets.specs.Parser.{octets_of, place_of};
+ghost use Rattle.dns_name.specs.ParsedName.{labels_of};
+ghost use Rattle.dns_header.specs.Head.{labelled, NoWhole};
+ghost use Rattle.dns_header.specs.ParsedRecord.{Parsed, HoldsRecord, IsRecordOf, HasNoData};
+ghost use Rattle.dns_header.specs.Record.{with_labels};
+
+use crate::{Record, RecordHeader};
+use dns_name::{
+    Class, ParseAnyRecordData, ParseError, ParseRecordData, ParsedName, Parser, Rtype, Ttl,
+};
+use std::marker::Model;
+
+/// A record in a message, whose data is not looked into yet.
+#[derive(Debug, Drop)]
+pub struct ParsedRecord<'a> {
+    header: RecordHeader<ParsedName<&'a [u8]>>,
+    /// In front of the data, with which it ends.
+    data: Parser<'a>,
+}
+
+impl<'a> Model for ParsedRecord<'a> {
+    ghost Value = { Parsed };
+
+    ghost view = { λ parsed. record { head = labelled labels_of parsed.header; rdata = parsed.«data» } };
+}
+
+impl<'a> ParsedRecord<'a> {
+    /// The record of these parts; the parser stands in front of the data, and ends with it.
+    pub fn new(header: RecordHeader<ParsedName<&'a [u8]>>, parser: Parser<'a>) -> Self
+        ensures { result ≡ record { head = labelled labels_of header.entry; rdata = parser.entry } }
+    {
+        ParsedRecord {
+            header,
+            data: parser,
+        }
+    }
+
+    /// The name that the record is about.
+    pub fn owner(&self) -> ParsedName<&'a [u8]>
+        ensures { labels_of result ≡ self.now.head.owner }
+    {
+        *self.header.owner()
+    }
+
+    /// The type of the data.
+    pub fn rtype(&self) -> Rtype
+        ensures { result ≡ self.now.head.rtype }
+    {
+        self.header.rtype()
+    }
+
+    /// The class of the record.
+    pub fn class(&self) -> Class
+        ensures { result ≡ self.now.head.class }
+    {
+        self.header.class()
+    }
+
+    /// For how long the record may be kept.
+    pub fn ttl(&self) -> Ttl
+        ensures { result ≡ self.now.head.ttl }
+    {
+        self.header.ttl()
+    }
+
+    /// How many octets the data has.
+    pub fn rdlen(&self) -> u16
+        ensures { result ≡ self.now.head.data_len }
+    {
+        self.header.rdlen()
+    }
+
+    /// Reads the record at the parser's place, and leaves the parser behind it. Refused where no record stands there, and
+    /// the parser then stays where it is. The data is not looked into.
+    pub fn parse(parser: &mut Parser<'a>) -> Result<Self, ParseError>
+        ensures ok { IfOk result (λ found. HoldsRecord (octets_of parser.old) (place_of parser.old) found (place_of parser.new)) }
+        ensures err { OnErr result (NoWhole (octets_of parser.old) (place_of parser.old)) }
+        ensures same { octets_of parser.new ≡ octets_of parser.old }
+        ensures stays { OnErr result (parser.new ≡ parser.old) }
+    {
+        let mut ahead = *parser;
+        let header = RecordHeader::parse(&mut ahead)?;
+        let data = ahead.parse_parser(usize::from(header.rdlen()))?;
+        *parser = ahead;
+        Ok(ParsedRecord { header, data })
+    }
+
+    /// The record with its data, or None where data of its type is not taken. Refused where it is no data of the type.
+    pub fn to_record<Data: ParseRecordData<'a>>(
+        &self,
+    ) -> Result<Option<Record<ParsedName<&'a [u8]>, Data>>, ParseError>
+        ensures taken { IfOk result (λ found. is_some found ≡ Data.takes self.now.head.rtype) }
+        ensures ok { IfOk result (λ found. IfSome found (λ rr. IsRecordOf Data.reads self.now (with_labels labels_of rr))) }
+        ensures err { OnErr result ((Data.takes self.now.head.rtype ≡ true) × HasNoData Data.reads self.now) }
+    {
+        let mut parser = self.data;
+        match Data::parse_rdata(self.rtype(), &mut parser)? {
+            Some(rdata) => Ok(Some(self.with_data(rdata))),
+            None => Ok(None),
+        }
+    }
+
+    /// The same as `to_record`.
+    pub fn into_record<Data: ParseRecordData<'a>>(
+        self,
+    ) -> Result<Option<Record<ParsedName<&'a [u8]>, Data>>, ParseError>
+        ensures taken { IfOk result (λ found. is_some found ≡ Data.takes self.entry.head.rtype) }
+        ensures ok { IfOk result (λ found. IfSome found (λ rr. IsRecordOf Data.reads self.entry (with_labels labels_of rr))) }
+        ensures err { OnErr result ((Data.takes self.entry.head.rtype ≡ true) × HasNoData Data.reads self.entry) }
+    {
+        self.to_record()
+    }
+
+    /// The record with its data, whatever its type. Refused where it is no data of the type.
+    pub fn to_any_record<Data: ParseAnyRecordData<'a>>(
+        &self,
+    ) -> Result<Record<ParsedName<&'a [u8]>, Data>, ParseError>
+        ensures ok { IfOk result (λ rr. IsRecordOf Data.reads_any self.now (with_labels labels_of rr)) }
+        ensures err { OnErr result (HasNoData Data.reads_any self.now) }
+    {
+        let mut parser = self.data;
+        let rdata = Data::parse_any_rdata(self.rtype(), &mut parser)?;
+        Ok(self.with_data(rdata))
+    }
+
+    /// The same as `to_any_record`.
+    pub fn into_any_record<Data: ParseAnyRecordData<'a>>(
+        self,
+    ) -> Result<Record<ParsedName<&'a [u8]>, Data>, ParseError>
+        ensures ok { IfOk result (λ rr. IsRecordOf Data.reads_any self.entry (with_labels labels_of rr)) }
+        ensures err { OnErr result (HasNoData Data.reads_any self.entry) }
+    {
+        self.to_any_record()
+    }
+
+    /// The record with this data.
+    fn with_data<Data>(&self, rdata: Data) -> Record<ParsedName<&'a [u8]>, Data>
+        ensures { with_labels labels_of result ≡ record {
+          owner = self.now.head.owner;
+          class = self.now.head.class;
+          ttl = self.now.head.ttl;
+          rdata = rdata;
+        } }
+    {
+        Record::new(self.owner(), self.class(), self.ttl(), rdata)
+    }
+}
