@@ -12,7 +12,7 @@ use Rattle.dns_name.specs.SpelledParts.{Spells}
 use Rattle.dns_message.specs.Item.{plain}
 use Rattle.dns_name.specs.Page.{Parts}
 use Rattle.dns_name.specs.Page.Parts.{End, Octets}
-use Rattle.dns_message.specs.Question.{Question, ReadsQuestion, question_octets}
+use Rattle.dns_header.specs.Question.{Question, ReadsQuestion, question_octets}
 use Rattle.dns_message.specs.Record.{Record, IsRecord, IsRead, ReadsRecord, read_parts, record_parts, record_octets}
 use Rattle.dns_message.specs.Record.IsRead.{typed, opaque}
 use Rattle.dns_message.proofs.Written.{AreWritable, reads-written, spells-written, within_message}

@@ -3,7 +3,7 @@ use Rattle.std.specs.Prelude.{◌≡◌, ◌+◌, ◌<◌, ◌≤◌, ◌^◌, �
 use Rattle.std.specs.Int.{to_be_bytes, w16}
 use Rattle.dns_label.specs.Name.{IsName, wire}
 use Rattle.dns_label.specs.Spelled.{Reads}
-use Rattle.dns_message.specs.Header.{number_at}
+use Rattle.dns_header.specs.Header.{number_at}
 
 pub record Question : Type 0 where
   pub name : List (List ℕ)

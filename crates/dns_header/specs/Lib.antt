@@ -1,0 +1,6 @@
+pub mod Flags
+pub mod Header
+pub mod HeaderBits
+pub mod HeaderFields
+pub mod Question
+pub mod Tried

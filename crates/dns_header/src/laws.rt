@@ -1,0 +1,12 @@
+//! Laws of headers. Each function does nothing; what it ensures is the law.
+ghost use Rattle.std.specs.Prelude.{◌≡◌};
+ghost use Rattle.dns_header.specs.HeaderFields.{fields_of, header_octets};
+
+use crate::Header;
+
+/// The octets of a header are known by its fields, so headers with the same fields are the same.
+pub fn header_is_its_fields(header: Header)
+    ensures { header ≡ header_octets (fields_of header) }
+{
+    let _octets = header.octets();
+}

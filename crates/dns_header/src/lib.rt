@@ -1,0 +1,9 @@
+//! Headers, questions and records of messages, and how each is read and written (RFC 1035 4.1).
+//!
+//! A part of `dns_message`, which hands all of it on.
+#![tactic(auto)]
+
+mod header;
+pub mod laws;
+
+pub use header::{Flags, FlagsFromStrError, Header};
