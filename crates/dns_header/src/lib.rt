@@ -3,7 +3,9 @@
 //! A part of `dns_message`, which hands all of it on.
 #![tactic(auto)]
 
+mod counts;
 mod header;
 pub mod laws;
 
+pub use counts::{CountOverflow, HeaderCounts};
 pub use header::{Flags, FlagsFromStrError, Header};
