@@ -6,6 +6,8 @@
 mod counts;
 mod header;
 pub mod laws;
+mod section;
 
 pub use counts::{CountOverflow, HeaderCounts};
 pub use header::{Flags, FlagsFromStrError, Header};
+pub use section::HeaderSection;
