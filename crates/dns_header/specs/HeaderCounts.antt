@@ -1,7 +1,7 @@
 -- How many questions and records a message has (RFC 1035 4.1.1), by the eight octets that say so.
 use Rattle.std.specs.Prelude.{◌≡◌, ◌+◌, ℕ, List, ◌++◌, length, slice_index, slice_set}
 use Rattle.std.specs.Int.{to_be_bytes, w16}
-use Rattle.dns_header.specs.Header.{number_at}
+use Rattle.dns_header.specs.Header.{number_at, question_count, answer_count, authority_count, additional_count}
 
 -- the questions, answers, authority and additional records
 pub record Counts : Type 0 where
@@ -16,6 +16,15 @@ counts_of counts = record {
   an = number_at counts 2;
   ns = number_at counts 4;
   ar = number_at counts 6;
+}
+
+-- the counts of a message
+abbrev pub counts_in : List ℕ → Counts
+counts_in message = record {
+  qd = question_count message;
+  an = answer_count message;
+  ns = authority_count message;
+  ar = additional_count message;
 }
 
 -- the octets that say so

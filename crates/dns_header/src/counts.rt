@@ -1,7 +1,7 @@
 //! How many questions and records a message has (RFC 1035 4.1.1; in updates RFC 2136 2.2).
 ghost use Rattle.std.specs.Prelude.{◌≡◌, ◌+◌, ◌-◌, ◌<◌, ◌≤◌, ◌↔◌, ℕ, [], ◌∷◌, length, take, drop, slice_index, IsErr, OnOk, OnErr};
 ghost use Rattle.dns_header.specs.Header.{number_at};
-ghost use Rattle.dns_header.specs.HeaderCounts.{counts_of, ChangesNumber};
+ghost use Rattle.dns_header.specs.HeaderCounts.{counts_of, counts_in, ChangesNumber};
 
 use std::marker::Model;
 use thiserror::Error;
@@ -42,7 +42,8 @@ impl HeaderCounts {
     /// The counts of a message, of which there are at least twelve octets.
     pub fn for_message_slice(message: &[u8]) -> Self
         requires { 12 ≤ length message.now }
-        ensures { result ≡ take 8 (drop 4 message.now) }
+        ensures octets { result ≡ take 8 (drop 4 message.now) }
+        ensures said { counts_of result ≡ counts_in message.now }
     {
         let mut inner = [0; 8];
         inner.copy_from_slice(&message[4..12]);

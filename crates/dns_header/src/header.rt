@@ -47,7 +47,8 @@ impl Header {
     /// The header of a message, of which there are at least four octets.
     pub fn for_message_slice(s: &[u8]) -> Header
         requires { 4 ≤ length s.now }
-        ensures { result ≡ take 4 s.now }
+        ensures octets { result ≡ take 4 s.now }
+        ensures said { fields_of result ≡ fields_of s.now }
     {
         Header {
             inner: [s[0], s[1], s[2], s[3]],

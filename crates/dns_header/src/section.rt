@@ -1,5 +1,7 @@
 //! The header of a message with its counts (RFC 1035 4.1.1).
 ghost use Rattle.std.specs.Prelude.{◌≡◌, ◌+◌, ◌≤◌, ◌↔◌, ◌++◌, length, take, drop, replicate, IsOk, IfOk, IfErr, OnOk, OnErr};
+ghost use Rattle.dns_header.specs.HeaderFields.{fields_of};
+ghost use Rattle.dns_header.specs.HeaderCounts.{counts_of, counts_in};
 ghost use Rattle.dns_octets.specs.Parser.{GoesOn, octets_of, place_of, rest_of};
 
 use crate::{Header, HeaderCounts};
@@ -58,14 +60,16 @@ impl HeaderSection {
 
     /// The header.
     pub fn header(&self) -> Header
-        ensures { result ≡ take 4 self.now }
+        ensures octets { result ≡ take 4 self.now }
+        ensures said { fields_of result ≡ fields_of self.now }
     {
         Header::for_message_slice(&self.inner)
     }
 
     /// The counts.
     pub fn counts(&self) -> HeaderCounts
-        ensures { result ≡ drop 4 self.now }
+        ensures octets { result ≡ drop 4 self.now }
+        ensures said { counts_of result ≡ counts_in self.now }
     {
         HeaderCounts::for_message_slice(&self.inner)
     }
