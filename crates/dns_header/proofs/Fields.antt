@@ -81,13 +81,29 @@ with bit set s i = if i == bit then set else s i
 -- eight bits say all of them
 third_bits : (f : HeaderFields) (s t : ℕ → Bool) → ((i : ℕ) → i < 8 → s i ≡ t i) → with_third f s ≡ with_third f t
 third_bits f s t same =
-    simp (same 0 (omega arith), same 1 (omega arith), same 2 (omega arith), same 3 (omega arith), same 4 (omega arith),
-    same 5 (omega arith), same 6 (omega arith), same 7 (omega arith))
+    simp (
+      same 0 (omega arith),
+      same 1 (omega arith),
+      same 2 (omega arith),
+      same 3 (omega arith),
+      same 4 (omega arith),
+      same 5 (omega arith),
+      same 6 (omega arith),
+      same 7 (omega arith),
+    )
 
 fourth_bits : (f : HeaderFields) (s t : ℕ → Bool) → ((i : ℕ) → i < 8 → s i ≡ t i) → with_fourth f s ≡ with_fourth f t
 fourth_bits f s t same =
-    simp (same 0 (omega arith), same 1 (omega arith), same 2 (omega arith), same 3 (omega arith), same 4 (omega arith),
-    same 5 (omega arith), same 6 (omega arith), same 7 (omega arith))
+    simp (
+      same 0 (omega arith),
+      same 1 (omega arith),
+      same 2 (omega arith),
+      same 3 (omega arith),
+      same 4 (omega arith),
+      same 5 (omega arith),
+      same 6 (omega arith),
+      same 7 (omega arith),
+    )
 
 four_octets : (xs : List ℕ) → length xs ≡ 4 → xs ≡ slice_index xs 0 ∷ slice_index xs 1 ∷ slice_index xs 2 ∷ slice_index xs 3 ∷ []
 four_octets (a ∷ (b ∷ (c ∷ (d ∷ [])))) four = refl

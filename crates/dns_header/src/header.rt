@@ -304,4 +304,3 @@ impl Header {
         self.set_cd(flags.cd);
     }
 }
-

@@ -11,3 +11,6 @@ mod section;
 pub use counts::{CountOverflow, HeaderCounts};
 pub use header::{Flags, FlagsFromStrError, Header};
 pub use section::HeaderSection;
+
+#[cfg(test)]
+mod tests;

@@ -132,7 +132,8 @@ fn is_flag(piece: &str) -> bool
 fn has_piece(text: &str, word: &str) -> bool
     ensures { result ≡ text_of.has_piece text.now word.now }
 {
-    text.split(' ').any(|piece| piece.eq_ignore_ascii_case(word))
+    text.split(' ')
+        .any(|piece| piece.eq_ignore_ascii_case(word))
 }
 
 /// A piece of the text is no flag.

@@ -1,0 +1,6 @@
+//! Headers tried on octets that are written out.
+
+mod counts;
+mod flags;
+mod header;
+mod section;
