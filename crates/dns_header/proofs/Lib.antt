@@ -1,3 +1,4 @@
 pub mod Headers
 pub mod Fields
 pub mod FlagTexts
+pub mod Questions

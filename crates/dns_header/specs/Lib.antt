@@ -5,4 +5,5 @@ pub mod HeaderBits
 pub mod HeaderCounts
 pub mod HeaderFields
 pub mod Question
+pub mod QuestionParts
 pub mod Tried

@@ -6,10 +6,12 @@
 mod counts;
 mod header;
 pub mod laws;
+mod question;
 mod section;
 
 pub use counts::{CountOverflow, HeaderCounts};
 pub use header::{Flags, FlagsFromStrError, Header};
+pub use question::{ComposeQuestion, Question};
 pub use section::HeaderSection;
 
 #[cfg(test)]

@@ -1,0 +1,11 @@
+-- What a contract sees of a question.
+use Rattle.std.specs.Prelude.{ℕ, List}
+use Rattle.dns_header.specs.Question as spec
+use Rattle.dns_header.specs.declared.question.Question.{Question}
+
+abbrev pub qname_of : {N : Type 0} → Question N → N
+qname_of question = question.qname
+
+-- the question that is asked, where `name` says the labels of its name
+abbrev pub question_of : {N : Type 0} → (N → List (List ℕ)) → Question N → spec.Question
+question_of name question = record { name = name question.qname; qtype = question.qtype; qclass = question.qclass }
