@@ -5,5 +5,7 @@ pub mod HeaderBits
 pub mod HeaderCounts
 pub mod HeaderFields
 pub mod Question
+pub mod QuestionLaws
+pub mod QuestionOrder
 pub mod QuestionParts
 pub mod Tried

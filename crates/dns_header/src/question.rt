@@ -2,6 +2,8 @@
 ghost use Rattle.std.specs.Prelude.{◌≡◌};
 
 mod compose;
+mod convert;
+mod order;
 mod read;
 
 pub use compose::ComposeQuestion;

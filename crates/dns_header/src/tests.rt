@@ -3,4 +3,5 @@
 mod counts;
 mod flags;
 mod header;
+mod question;
 mod section;

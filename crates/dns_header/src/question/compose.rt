@@ -146,7 +146,7 @@ fn append_parts<N: ToName, Target: Composer>(
 }
 
 /// The octets of a type and a class.
-fn four_octets(qtype: Rtype, qclass: Class) -> [u8; 4]
+pub(super) fn four_octets(qtype: Rtype, qclass: Class) -> [u8; 4]
     ensures { result ≡ to_be_bytes w16 qtype ++ to_be_bytes w16 qclass }
 {
     let [high, low] = qtype.to_int().to_be_bytes();
