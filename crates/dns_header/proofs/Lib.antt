@@ -2,3 +2,4 @@ pub mod Headers
 pub mod Fields
 pub mod FlagTexts
 pub mod Questions
+pub mod WrittenQuestions

@@ -8,8 +8,8 @@ use Rattle.dns_label.proofs.Spelling.{drop_behind}
 use Rattle.dns_header.specs.Question.{Question, question_octets}
 use Rattle.dns_message.specs.Record.{record_octets}
 use Rattle.dns_header.proofs.Headers.{header_says}
-use Rattle.dns_message.proofs.Written.{within_message}
-use Rattle.dns_message.proofs.WrittenRecords.{record-written, question-written}
+use Rattle.dns_header.proofs.WrittenQuestions.{within_message, question-written}
+use Rattle.dns_message.proofs.WrittenRecords.{record-written}
 use Rattle.zone_core.specs.Record.{Record}
 use Rattle.zone_core.specs.Query.{AxfrQuery, question_of}
 use Rattle.zone_core.specs.Frames.{IsFramable}

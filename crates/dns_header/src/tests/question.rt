@@ -87,9 +87,8 @@ fn makes_and_takes_apart(rt: HostRuntime) {
     assert_eq!(rt; short, long);
     assert_eq!(rt; Question::new_in(Name::root_slice(), Rtype::A), long);
     assert_eq!(rt; long.qname().as_slice(), [0u8].as_slice());
-    let copy = long;
-    assert!(rt; copy.into_qname().is_root());
     assert_eq!(rt; long.qclass(), Class::IN);
+    assert!(rt; long.into_qname().is_root());
 }
 
 fn hash_of(question: &Question<Name<&[u8]>>) -> u64 {
@@ -122,7 +121,8 @@ fn is_shown_and_converted(rt: HostRuntime) -> Result<(), Fail> {
     let mut parser = Parser::from_ref(&MESSAGE);
     parser.advance(3)?;
     let question = Question::parse(&mut parser)?;
-    assert_eq!(rt; question.to_string(rt.alloc())?.as_str(), "b.a.\tMX\tCH");
+    let copy = question;
+    assert_eq!(rt; copy.to_string(rt.alloc())?.as_str(), "b.a.\tMX\tCH");
     let flat = Question::new(question.qname().to_vec(rt.alloc())?, Rtype::MX, Class::CH);
     let small: Question<Name<ArrayVec<u8, 5>>> = Question::try_octets_from(rt.alloc(), flat)?;
     assert_eq!(rt; small.to_string(rt.alloc())?.as_str(), "b.a.\tMX\tCH");
