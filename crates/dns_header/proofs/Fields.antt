@@ -1,14 +1,13 @@
 -- The fields of a header, and how they change with a bit.
 use Rattle.std.proofs.Common.{◌≡◌, ℕ, zero, suc, ◌+◌, ◌-◌, ◌*◌, ◌/◌, ◌%◌, ◌==◌, ◌<◌, ◌^◌, List, [], ◌∷◌, ◌++◌, Bool, true, false, refl, sym, ◌∙◌, ap, subst, arith, nat_lt, length, slice_set, get_or}
 use Rattle.std.specs.Prelude.{if◌then◌else◌, slice_index}
-use Rattle.std.specs.List.{All}
 use Rattle.dns_header.specs.HeaderFields.{HeaderFields, fields_of, header_octets}
 use Rattle.dns_header.specs.HeaderBits.{SetsBit, ChangesBit, SetsOpcode, SetsRcode}
 use Rattle.std.specs.Int.{from_be_bytes, to_be_bytes, w16, w8, bit_at}
 use Rattle.std.specs.Int.RustNames.{bit_and, bit_or}
 use Rattle.std.proofs.lemmas.Grind.{widths}
 use Rattle.std.proofs.lemmas.Nat.{be_bytes_2}
-use Rattle.std.proofs.lemmas.Nat.Bits.{bit_at_set_same, bit_at_set_other, bit_at_clear_same, bit_at_clear_other, shr_and_one}
+use Rattle.std.proofs.lemmas.Nat.Bits.{bit_at_set_same, bit_at_set_other, bit_at_clear_same, bit_at_clear_other}
 
 pub bit_set : (octet bit : ℕ) → bit < 8 → octet < 256 → SetsBit bit true octet (bit_or octet (1 * 2 ^ bit % 256))
 bit_set octet bit within small = record {

@@ -1,9 +1,9 @@
 -- Questions that are written: a name, and four octets behind it.
-use Rattle.std.proofs.Common.{true, false, ◌≡◌, ◌≤◌, ◌+◌, ℕ, List, [], ◌∷◌, ◌++◌, length, refl, sym, ◌∙◌, ap, subst, arith, length-append}
+use Rattle.std.proofs.Common.{true, false, ◌≡◌, ◌≤◌, ◌+◌, ℕ, List, ◌++◌, length, refl, ◌∙◌, ap, arith, length-append}
 use Rattle.std.specs.Prelude.{Option}
 use Rattle.dns_octets.specs.Builder.{Known, IsPast}
 use Rattle.dns_name.specs.Spelling.{Spelling, name_text, known_after}
-use Rattle.dns_name.specs.Page.{Page, write, with_octets, with_name}
+use Rattle.dns_name.specs.Page.{write}
 use Rattle.dns_name.specs.Page.Parts.{End, Octets, Named}
 use Rattle.dns_name.specs.RecordData.{page_of}
 use Rattle.dns_name.proofs.Growth.{IsPast-more, IsPast-from}

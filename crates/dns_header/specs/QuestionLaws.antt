@@ -1,15 +1,13 @@
 -- Equality of questions is an equivalence, their order is a total one that ties exactly those that are equal, and equal
 -- questions hash alike.
-use Rattle.std.specs.Prelude.{◌≡◌, ◌&&◌, Bool, true, nat_eq, IsTrue, ◌∷◌, [], ◌++◌, List, ℕ}
+use Rattle.std.specs.Prelude.{◌≡◌, ◌&&◌, IsTrue, ◌∷◌, [], ◌++◌}
 use Rattle.std.specs.Int.{to_be_bytes, w16}
-use Rattle.std.proofs.Common.{refl, ◌∙◌, ap}
+use Rattle.std.proofs.Common.{refl, ap}
 use Rattle.std.specs.Cmp.{IsEquivalence, IsTotalOrder, on_equiv, on_total, and_equiv, nat_eq_equiv, nat_cmp_total, unsigned_ties, unsigned_Decides, first_so, second_so}
 use Rattle.std.proofs.lemmas.Cmp.{then_total}
-use Rattle.std.specs.Ordering.{is_eq, nat_cmp, on, ordering_then}
-use Rattle.std.specs.Cmp.Lexicographic.{pointwise}
+use Rattle.std.specs.Ordering.{is_eq, nat_cmp, ordering_then}
 use Rattle.std.specs.declared.cmp.Ordering.{Ordering}
 use Rattle.std.specs.declared.cmp.Ordering.TheVariants.{Less, Equal, Greater}
-use Rattle.dns_label.specs.Name.{low, wire}
 use Rattle.dns_name.specs.Order.{labels_order}
 use Rattle.dns_name.specs.OrderLaws.{labels_equivalence, labels_total, labels_ties, labels_alike}
 use Rattle.dns_header.specs.Question.{Question}

@@ -1,5 +1,5 @@
 -- The definitions tried on octets that are written out.
-use Rattle.std.specs.Prelude.{◌≡◌, ℕ, List, [], ◌∷◌, refl, true, false}
+use Rattle.std.specs.Prelude.{◌≡◌, [], ◌∷◌, refl, true, false}
 use Rattle.dns_header.specs.Header.{answer_header, id_of, is_response, opcode_of, rcode_of, recursion_desired, answer_count}
 use Rattle.dns_header.specs.Question.{question_octets}
 

@@ -18,16 +18,21 @@ fn question() -> Question<Name<&'static [u8]>> {
 
 #[test]
 fn parses_in_front(rt: HostRuntime) -> Result<(), Fail> {
-    let mut parser = Parser::from_ref(&MESSAGE);
+    let message = MESSAGE;
+    let mut parser = Parser::from_ref(&message);
     parser.advance(3)?;
-    let question = Question::parse(&mut parser)?;
+    match Question::parse(&mut parser) {
+        Ok(question) => {
+            assert_eq!(rt;
+                question.qname().to_vec(rt.alloc())?.as_slice(),
+                b"\x01b\x01a\0".as_slice()
+            );
+            assert_eq!(rt; question.qtype(), Rtype::MX);
+            assert_eq!(rt; question.qclass(), Class::CH);
+        }
+        Err(_) => assert!(rt; false),
+    }
     assert_eq!(rt; parser.pos(), 11);
-    assert_eq!(rt;
-        question.qname().to_vec(rt.alloc())?.as_slice(),
-        b"\x01b\x01a\0".as_slice()
-    );
-    assert_eq!(rt; question.qtype(), Rtype::MX);
-    assert_eq!(rt; question.qclass(), Class::CH);
     assert!(rt; Question::parse(&mut parser).is_err());
     assert_eq!(rt; parser.pos(), 11);
     Ok(())
@@ -35,7 +40,8 @@ fn parses_in_front(rt: HostRuntime) -> Result<(), Fail> {
 
 #[test]
 fn skips_in_front(rt: HostRuntime) -> Result<(), Fail> {
-    let mut parser = Parser::from_ref(&MESSAGE);
+    let message = MESSAGE;
+    let mut parser = Parser::from_ref(&message);
     parser.advance(3)?;
     Question::skip(&mut parser)?;
     assert_eq!(rt; parser.pos(), 11);
@@ -116,13 +122,16 @@ fn compares_up_to_case(rt: HostRuntime) -> Result<(), Fail> {
     Ok(())
 }
 
+fn needs_copy<T: Copy>(_copied: &T) {}
+
 #[test]
 fn is_shown_and_converted(rt: HostRuntime) -> Result<(), Fail> {
-    let mut parser = Parser::from_ref(&MESSAGE);
+    let message = MESSAGE;
+    let mut parser = Parser::from_ref(&message);
     parser.advance(3)?;
-    let question = Question::parse(&mut parser)?;
-    let copy = question;
-    assert_eq!(rt; copy.to_string(rt.alloc())?.as_str(), "b.a.\tMX\tCH");
+    let question = Question::new(ParsedName::parse(&mut parser)?, Rtype::MX, Class::CH);
+    needs_copy(&question);
+    assert_eq!(rt; question.to_string(rt.alloc())?.as_str(), "b.a.\tMX\tCH");
     let flat = Question::new(question.qname().to_vec(rt.alloc())?, Rtype::MX, Class::CH);
     let small: Question<Name<ArrayVec<u8, 5>>> = Question::try_octets_from(rt.alloc(), flat)?;
     assert_eq!(rt; small.to_string(rt.alloc())?.as_str(), "b.a.\tMX\tCH");

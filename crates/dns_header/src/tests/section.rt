@@ -25,8 +25,10 @@ fn has_header_and_counts(rt: HostRuntime) {
 
 #[test]
 fn parses_and_composes(rt: HostRuntime) -> Result<(), Fail> {
-    let mut parser = Parser::from_ref(&OCTETS);
-    let section = HeaderSection::parse(&mut parser)?;
+    let octets = OCTETS;
+    let mut parser = Parser::from_ref(&octets);
+    let section = HeaderSection::for_message_slice(&OCTETS);
+    assert_eq!(rt; HeaderSection::parse(&mut parser), Ok(section));
     assert_eq!(rt; section.header().id(), 0x0102);
     assert_eq!(rt; parser.pos(), 12);
     assert!(rt; HeaderSection::parse(&mut parser).is_err());

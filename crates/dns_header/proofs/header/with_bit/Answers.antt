@@ -1,4 +1,3 @@
-use Rattle.std.proofs.Common.{rules, ◌≡◌, arith}
 use Rattle.dns_header.proofs.header.with_bit.Goals as goal
 use Rattle.dns_header.proofs.Fields.{bit_set, bit_cleared}
 

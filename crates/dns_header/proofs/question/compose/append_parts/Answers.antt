@@ -1,6 +1,5 @@
-use Rattle.std.proofs.Common.{◌≡◌, rules, ◌++◌, sym, ◌∙◌}
+use Rattle.std.proofs.Common.{◌≡◌, rules}
 use Rattle.std.specs.Prelude.{Err}
-use Rattle.std.specs.Int.{to_be_bytes, w16}
 use Rattle.dns_octets.specs.declared.error.AppendError.TheVariants.{ShortBuf}
 use Rattle.dns_name.proofs.Growth.{GrowsTo-trans}
 use Rattle.dns_header.proofs.Questions.{written, past_name, past_four}

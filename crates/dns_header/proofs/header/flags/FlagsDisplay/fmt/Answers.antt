@@ -1,4 +1,4 @@
-use Rattle.std.proofs.Common.{rules, ◌≡◌, List, ℕ, subst, false}
+use Rattle.std.proofs.Common.{rules, false}
 use Rattle.std.specs.Prelude.{◌||◌, codes}
 use Rattle.std.specs.Fmt.{HasWritten}
 use Rattle.dns_header.specs.FlagWords.{word_text}
