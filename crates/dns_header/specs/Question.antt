@@ -45,3 +45,10 @@ pub record SkipsQuestion (message : List ℕ) (place : ℕ) (next : ℕ) : Type 
   pub name : Skips message 254 place behind
   pub whole : behind + 4 ≤ length message
   pub ends : next ≡ behind + 4
+
+-- The message ends behind the name of a question and in front of the question's end, where `Name` says which name stands
+-- at the place, or what is passed as one.
+pub record EndsInQuestion (message : List ℕ) (Name : ℕ → Type 0) : Type 0 where
+  pub behind : ℕ
+  pub name : Name behind
+  pub short : length message < behind + 4
