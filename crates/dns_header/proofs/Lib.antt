@@ -1,2 +1,7 @@
 pub mod Heads
 pub mod Composing
+pub mod Headers
+pub mod Fields
+pub mod FlagTexts
+pub mod Questions
+pub mod WrittenQuestions

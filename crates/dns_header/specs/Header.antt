@@ -1,5 +1,5 @@
 -- The header of a message: its first twelve octets (RFC 1035 4.1.1).
-use Rattle.std.specs.Prelude.{◌≡◌, ◌+◌, ◌*◌, ◌/◌, ◌%◌, ◌==◌, ℕ, Bool, List, [], ◌∷◌, ◌++◌, length, take, drop, slice_index, nat_lt}
+use Rattle.std.specs.Prelude.{◌/◌, ◌%◌, ◌==◌, ℕ, Bool, List, ◌∷◌, ◌++◌, take, drop, slice_index, nat_lt}
 use Rattle.std.specs.Prelude.{if◌then◌else◌}
 use Rattle.std.specs.Int.{from_be_bytes, to_be_bytes, w16}
 

@@ -3,3 +3,13 @@ pub mod Head
 pub mod Record
 pub mod Written
 pub mod ParsedRecord
+pub mod Flags
+pub mod FlagWords
+pub mod HeaderBits
+pub mod HeaderCounts
+pub mod HeaderFields
+pub mod Question
+pub mod QuestionLaws
+pub mod QuestionOrder
+pub mod QuestionParts
+pub mod Tried

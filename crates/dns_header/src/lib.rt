@@ -1,14 +1,26 @@
-//! The parts of messages: records.
+//! Headers, questions and records of messages, and how each is read and written (RFC 1035 4.1).
 //!
-//! A part of `dns_message`.
+//! A part of `dns_message`, which hands all of it on.
 #![tactic(auto)]
 
 mod compose;
+mod counts;
+mod header;
+pub mod laws;
 mod parsed_record;
+mod question;
 mod record;
 mod record_header;
+mod section;
 
 pub use compose::ComposeRecord;
+pub use counts::{CountOverflow, HeaderCounts};
+pub use header::{Flags, FlagsFromStrError, Header};
 pub use parsed_record::ParsedRecord;
+pub use question::{ComposeQuestion, Question};
 pub use record::Record;
 pub use record_header::RecordHeader;
+pub use section::HeaderSection;
+
+#[cfg(test)]
+mod tests;

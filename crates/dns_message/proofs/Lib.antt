@@ -1,5 +1,4 @@
 pub mod Written
-pub mod Headers
 pub mod WrittenRecords
 pub mod Opened
 pub mod ReadRows

@@ -4,9 +4,9 @@ use Rattle.std.specs.Prelude.{⊤}
 use Rattle.std.specs.Int.{to_be_bytes, w16}
 use Rattle.std.proofs.lemmas.List.{drop-take, take_at}
 use Rattle.dns_label.specs.Name.{IsName, wire}
-use Rattle.dns_label.specs.Spelled.{Reads}
-use Rattle.dns_label.proofs.Spelling.{drop_behind, spelled-written}
+use Rattle.dns_label.proofs.Spelling.{drop_behind}
 use Rattle.dns_name.specs.SpelledParts.{Spells}
+use Rattle.dns_header.proofs.WrittenQuestions.{reads-written, within_message}
 use Rattle.dns_message.specs.Item.{plain}
 use Rattle.dns_name.specs.Page.{Parts}
 use Rattle.dns_name.specs.Page.Parts.{End, Octets, Named, Counted}
@@ -18,20 +18,6 @@ AreWritable End = ⊤
 AreWritable (Octets text parts) = AreWritable parts
 AreWritable (Named name parts) = IsName name × AreWritable parts
 AreWritable (Counted inner parts) = (length (plain inner) < 2 ^ 16) × AreWritable inner × AreWritable parts
-
--- a name that is written out is read
-pub reads-written : (message : List ℕ) (place : ℕ) (name : List (List ℕ)) (rest : List ℕ) → drop place message ≡ wire name ++ rest
-    → IsName name → Reads message place name (place + length (wire name))
-reads-written message place name rest at is = record {
-  spelled = spelled-written message 255 place name rest at is.labels;
-  is_name = is;
-}
-
--- what stands at a place ends within the message
-pub within_message : (message : List ℕ) (place : ℕ) (front rest : List ℕ) → drop place message ≡ front ++ rest
-    → place ≤ length message → place + length front + length rest ≡ length message
-within_message message place front rest at within =
-    omega (arith, length-drop place message, ap length at, length-append front rest)
 
 -- the octets that a length mark counts are the end of the message up to there
 counted_octets : (message : List ℕ) (place count : ℕ) (inner rest : List ℕ) → drop place message ≡ inner ++ rest → count ≡ length inner

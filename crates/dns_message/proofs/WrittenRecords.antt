@@ -1,10 +1,8 @@
--- Records and questions whose names are written out are read.
+-- Records whose names are written out are read.
 use Rattle.std.proofs.Common.{◌≡◌, ℕ, ◌+◌, ◌<◌, ◌≤◌, ◌^◌, List, [], ◌∷◌, ◌++◌, length, take, drop, refl, sym, ap, ◌∙◌, subst, arith, append_assoc, append-nil, length-append}
-use Rattle.std.specs.Int.{to_be_bytes, from_be_bytes, w16, w32}
+use Rattle.std.specs.Int.{to_be_bytes, w16, w32}
 use Rattle.std.specs.List.{AllByRecursion}
-use Rattle.std.proofs.lemmas.Nat.{from_be_bytes-to_be_bytes_2}
 use Rattle.dns_label.specs.Name.{IsName, wire}
-use Rattle.dns_label.proofs.Spelling.{drop_behind}
 use Rattle.dns_rdata.specs.Fields.{Field, IsField, IsData, field_octets, octets}
 use Rattle.dns_rdata.specs.Fields.Field.{number8, number16, number32, ipv4, ipv6, compressible, uncompressed, string, strings, tag, rest_text, rest16, rest64}
 use Rattle.dns_rdata.specs.Fields.IsData.{typed as typed_data, opaque as opaque_data}
@@ -12,10 +10,9 @@ use Rattle.dns_name.specs.SpelledParts.{Spells}
 use Rattle.dns_message.specs.Item.{plain}
 use Rattle.dns_name.specs.Page.{Parts}
 use Rattle.dns_name.specs.Page.Parts.{End, Octets}
-use Rattle.dns_message.specs.Question.{Question, ReadsQuestion, question_octets}
 use Rattle.dns_message.specs.Record.{Record, IsRecord, IsRead, ReadsRecord, read_parts, record_parts, record_octets}
 use Rattle.dns_message.specs.Record.IsRead.{typed, opaque}
-use Rattle.dns_message.proofs.Written.{AreWritable, reads-written, spells-written, within_message}
+use Rattle.dns_message.proofs.Written.{AreWritable, spells-written}
 
 -- the first field of a row as a part
 plain_first : (field : Field) (row : List Field) → plain (read_parts (field ∷ row)) ≡ field_octets field ++ plain (read_parts row)
@@ -87,27 +84,3 @@ record-written message place r rest at within good (typed_data row is_row is) =
     (typed row is_row is)
 record-written message place r rest at within good (opaque_data none short) =
     record_spelled message place r (Octets r.rdata End) rest at within good (append-nil r.rdata) tt (opaque none)
-
--- A question that is written out is read.
-pub question-written : (message : List ℕ) (place : ℕ) (q : Question) (rest : List ℕ) → drop place message ≡ question_octets q ++ rest
-    → place ≤ length message → IsName q.name → q.qtype < 2 ^ 16 → q.qclass < 2 ^ 16
-    → ReadsQuestion message place q (place + length (question_octets q))
-question-written message place q rest at within name small small' =
-    let numbers : List ℕ = to_be_bytes w16 q.qtype ++ (to_be_bytes w16 q.qclass ++ rest) in
-    let here : drop place message ≡ wire q.name ++ numbers =
-    at ∙ ap (λ l. l ++ rest) (append_assoc (wire q.name) (to_be_bytes w16 q.qtype) (to_be_bytes w16 q.qclass))
-    ∙ append_assoc (wire q.name) (to_be_bytes w16 q.qtype ++ to_be_bytes w16 q.qclass) rest in
-    let long = length-append (wire q.name) (to_be_bytes w16 q.qtype ++ to_be_bytes w16 q.qclass) in
-    let parted = ap length (append_assoc (wire q.name) (to_be_bytes w16 q.qtype) (to_be_bytes w16 q.qclass)) in
-    let room = within_message message place (wire q.name) numbers here within in
-    let behind : drop (place + length (wire q.name)) message ≡ numbers = drop_behind message place _ (wire q.name) numbers here refl in
-    let behind' : drop (place + length (wire q.name) + 2) message ≡ to_be_bytes w16 q.qclass ++ rest =
-    drop_behind message (place + length (wire q.name)) _ (to_be_bytes w16 q.qtype) (to_be_bytes w16 q.qclass ++ rest) behind refl in
-    record {
-      behind = place + length (wire q.name);
-      name = reads-written message place q.name numbers here name;
-      whole = omega arith;
-      qtype = sym (from_be_bytes-to_be_bytes_2 q.qtype small) ∙ ap (λ l. from_be_bytes w16 (take 2 l)) (sym behind);
-      qclass = sym (from_be_bytes-to_be_bytes_2 q.qclass small') ∙ ap (λ l. from_be_bytes w16 (take 2 l)) (sym behind');
-      ends = omega (arith, long, parted);
-    }

@@ -7,8 +7,8 @@ use Rattle.dns_label.specs.Name.{low}
 use Rattle.dns_rdata.specs.Fields.{Kind, Field, IsData, IsRow, kind_of, kinds_of, lowered, octets}
 use Rattle.dns_rdata.specs.Fields.Kind.{Compressible, Number32}
 use Rattle.dns_rdata.specs.Fields.IsData.{typed, opaque}
-use Rattle.dns_message.specs.Header.{is_response, opcode_of, rcode_of, question_count, authority_count, additional_count, id_of}
-use Rattle.dns_message.specs.Question.{Question}
+use Rattle.dns_header.specs.Header.{is_response, opcode_of, rcode_of, question_count, authority_count, additional_count, id_of}
+use Rattle.dns_header.specs.Question.{Question}
 use Rattle.zone_core.specs.Record.{Record}
 use Rattle.zone_core.specs.Zone.{IsUnder, soa_type, axfr_type}
 use Rattle.zone_core.specs.Query.{AxfrQuery}

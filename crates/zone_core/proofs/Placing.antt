@@ -5,7 +5,7 @@ use Rattle.std.proofs.lemmas.List.Concat.{flat_map-append}
 use Rattle.std.specs.Int.{to_be_bytes, w16}
 use Rattle.std.specs.List.{AllByRecursion, push}
 use Rattle.dns_label.specs.Name.{wire}
-use Rattle.dns_message.specs.Question.{question_octets}
+use Rattle.dns_header.specs.Question.{question_octets}
 use Rattle.dns_message.specs.Record.{Record, record_octets}
 use Rattle.zone_core.specs.Query.{AxfrQuery, question_of}
 use Rattle.zone_core.specs.Frames.{frames}

@@ -2,8 +2,8 @@
 use Rattle.std.proofs.Common.{◌≡◌, ℕ, ◌+◌, List, ◌++◌, length, refl, arith, length-append, ap, ◌∙◌}
 use Rattle.std.specs.Prelude.{flat_map}
 use Rattle.std.proofs.lemmas.List.Concat.{flat_map-append}
-use Rattle.dns_message.specs.Header.{answer_header}
-use Rattle.dns_message.specs.Question.{question_octets}
+use Rattle.dns_header.specs.Header.{answer_header}
+use Rattle.dns_header.specs.Question.{question_octets}
 use Rattle.dns_message.specs.Record.{Record, record_octets}
 use Rattle.zone_core.specs.Cutting.{Grows}
 use Rattle.zone_core.specs.Query.{AxfrQuery, question_of}

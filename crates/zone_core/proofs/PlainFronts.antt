@@ -6,9 +6,9 @@ use Rattle.dns_octets.specs.declared.parser.Parser.{Parser}
 use Rattle.dns_octets.specs.Parser.{GoesOn, octets_of, place_of, rest_of}
 use Rattle.dns_label.specs.Name.{IsName, wire}
 use Rattle.dns_label.proofs.Spelling.{drop_behind}
-use Rattle.dns_message.specs.Question.{Question, ReadsPlainQuestion, question_octets}
+use Rattle.dns_header.specs.Question.{Question, ReadsPlainQuestion, question_octets}
 use Rattle.dns_rdata.proofs.Fronts.{same_fronts, same_number16}
-use Rattle.dns_message.specs.Header.{question_count}
+use Rattle.dns_header.specs.Header.{question_count}
 use Rattle.zone_core.specs.Query.{AxfrQuery}
 use Rattle.zone_core.specs.Transfer.{WrittenOut, AsksAgain, HasAnswerHeader, IsQuestionOf}
 use Rattle.zone_core.proofs.SoaOctets.{front_one}

@@ -4,7 +4,7 @@ use mathlib.Core.Logic.{inl, inr}
 use Rattle.std.proofs.lemmas.Bool.{cases_lt}
 use Rattle.dns_label.specs.Spelled.{Reads}
 use Rattle.dns_label.proofs.Spelling.{reads_one}
-use Rattle.dns_message.specs.Question.{Question, ReadsQuestion}
+use Rattle.dns_header.specs.Question.{Question, ReadsQuestion}
 
 -- the message ends in the four octets behind the name
 pub ends_early : (message there : List ℕ) (place behind : ℕ) (name : List (List ℕ)) (q : Question) (next : ℕ) → Reads there place name behind → there ≡ message

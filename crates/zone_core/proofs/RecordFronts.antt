@@ -8,7 +8,7 @@ use Rattle.dns_label.specs.Name.{wire}
 use Rattle.dns_rdata.specs.Fields.{IsData}
 use Rattle.dns_rdata.specs.Fields.Kind.{Ipv4, Compressible, Number32}
 use Rattle.dns_rdata.proofs.Fronts.{same_fronts, same_number16, same_number32}
-use Rattle.dns_message.specs.Question.{Question, ReadsPlainQuestion, question_octets}
+use Rattle.dns_header.specs.Question.{Question, ReadsPlainQuestion, question_octets}
 use Rattle.dns_message.specs.Record.{IsRecord, record_octets}
 use Rattle.zone_core.specs.Record.{Record}
 use Rattle.zone_core.specs.Zone.{soa_type, a_type}

@@ -4,7 +4,7 @@ use Rattle.std.specs.Prelude.{IsTrue, nat_eq}
 use Rattle.std.specs.Cmp.Lexicographic.{pointwise}
 use lib.Pointwise.{pointwise_decides, bytes_decides}
 use Rattle.dns_label.specs.Name.{low}
-use Rattle.dns_message.specs.Header.{id_of}
+use Rattle.dns_header.specs.Header.{id_of}
 use Rattle.zone_core.specs.Record as spec
 use Rattle.zone_core.specs.declared.record.Record.{Record}
 use Rattle.zone_core.specs.declared.send_error.SendError.{SendError}

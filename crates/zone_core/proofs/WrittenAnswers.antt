@@ -5,11 +5,11 @@ use Rattle.std.specs.Int.{to_be_bytes, w16, w32}
 use Rattle.std.specs.List.{AllByRecursion}
 use Rattle.dns_label.specs.Name.{IsName, wire}
 use Rattle.dns_label.proofs.Spelling.{drop_behind}
-use Rattle.dns_message.specs.Question.{Question, question_octets}
+use Rattle.dns_header.specs.Question.{Question, question_octets}
 use Rattle.dns_message.specs.Record.{record_octets}
-use Rattle.dns_message.proofs.Headers.{header_says}
-use Rattle.dns_message.proofs.Written.{within_message}
-use Rattle.dns_message.proofs.WrittenRecords.{record-written, question-written}
+use Rattle.dns_header.proofs.Headers.{header_says}
+use Rattle.dns_header.proofs.WrittenQuestions.{within_message, question-written}
+use Rattle.dns_message.proofs.WrittenRecords.{record-written}
 use Rattle.zone_core.specs.Record.{Record}
 use Rattle.zone_core.specs.Query.{AxfrQuery, question_of}
 use Rattle.zone_core.specs.Frames.{IsFramable}

@@ -2,9 +2,10 @@
 use Rattle.std.proofs.Common.{◌≡◌, ℕ, ◌≤◌, Bool, true, false, List, [], ◌∷◌, ◌++◌, length, drop, sym, ap, subst, arith, length-append, length-drop, inl, inr}
 use Rattle.std.specs.Int.{to_be_bytes, w16}
 use Rattle.dns_label.specs.Name.{wire}
-use Rattle.dns_message.specs.Question.{Question, ReadsQuestion, ReadsPlainQuestion, question_octets}
+use Rattle.dns_header.specs.Question.{Question, ReadsQuestion, ReadsPlainQuestion, question_octets}
 use Rattle.dns_message.specs.Record.{ReadsRecord, record_octets}
-use Rattle.dns_message.proofs.WrittenRecords.{record-written, question-written}
+use Rattle.dns_header.proofs.WrittenQuestions.{question-written}
+use Rattle.dns_message.proofs.WrittenRecords.{record-written}
 use Rattle.zone_core.specs.Record.{Record}
 use Rattle.zone_core.specs.Query.{AxfrQuery}
 use Rattle.zone_core.specs.Transfer.{Standard, WrittenOut, HasRecord, AsksAgain, SpellsRecords, IsAnswer, AreAnswers, IsTransfer, IsTransferIn}

@@ -1,6 +1,6 @@
 -- What the program's queries ask.
 use Rattle.dns_name.specs.ParsedName.{labels_of}
-use Rattle.dns_message.specs.Question as spec
+use Rattle.dns_header.specs.Question as spec
 use Rattle.zone_core.specs.Query.{AxfrQuery}
 use Rattle.zone_core.specs.declared.query.Query.{Query}
 use Rattle.zone_core.specs.declared.query.OwnedQuery.{OwnedQuery}

@@ -4,7 +4,7 @@ use Rattle.std.specs.List.{AllByRecursion, push}
 use Rattle.dns_octets.specs.declared.parser.Parser.{Parser}
 use Rattle.dns_octets.specs.Parser.{octets_of, place_of}
 use Rattle.dns_label.specs.Name.{IsName, wire, low}
-use Rattle.dns_message.specs.Question.{Question}
+use Rattle.dns_header.specs.Question.{Question}
 use Rattle.zone_core.specs.Record as spec
 use Rattle.zone_core.specs.Query.{AxfrQuery}
 use Rattle.zone_core.specs.Frames.{frame, frames, IsFramable, IsPartial}

@@ -1,7 +1,7 @@
 -- A query for a zone's transfer (RFC 5936 2.1), and the first rule that other octets break.
 use Rattle.std.specs.Prelude.{◌≡◌, ◌≢◌, ◌≤◌, ◌<◌, ℕ, Bool, true, false, List, length}
-use Rattle.dns_message.specs.Header.{is_response, opcode_of, question_count, answer_count, authority_count, additional_count, id_of, recursion_desired}
-use Rattle.dns_message.specs.Question.{Question, ReadsQuestion}
+use Rattle.dns_header.specs.Header.{is_response, opcode_of, question_count, answer_count, authority_count, additional_count, id_of, recursion_desired}
+use Rattle.dns_header.specs.Question.{Question, ReadsQuestion}
 use Rattle.zone_core.specs.Zone.{any_class, axfr_type}
 use Rattle.zone_core.specs.declared.query_error.QueryError.{QueryError}
 use Rattle.zone_core.specs.declared.query_error.QueryError.TheVariants.{Short, Response, Opcode, Counts, Malformed, NotAxfr, ClassAny, Trailing}

@@ -3,7 +3,7 @@
 use Rattle.std.specs.Prelude.{◌≡◌, ◌≢◌, ◌+◌, ◌<◌, ◌≤◌, ◌⊎◌, ℕ, Bool, true, false, Option, Some, None, List, [], ◌∷◌, ◌++◌, length, take, ⊤}
 use Rattle.std.specs.List.{AllByRecursion, push}
 use Rattle.dns_label.specs.Name.{low}
-use Rattle.dns_message.specs.Header.{is_response, opcode_of, rcode_of, answer_count, id_of}
+use Rattle.dns_header.specs.Header.{is_response, opcode_of, rcode_of, answer_count, id_of}
 use Rattle.zone_core.specs.Record.{Record}
 use Rattle.zone_core.specs.Zone.{IsUnder, soa_type}
 use Rattle.zone_core.specs.Query.{AxfrQuery, IsQueryFault}

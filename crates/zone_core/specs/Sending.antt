@@ -4,7 +4,7 @@ use Rattle.std.specs.Prelude.{if◌then◌else◌}
 use Rattle.std.specs.Int.{to_be_bytes, w16}
 use Rattle.std.specs.List.{push}
 use Rattle.dns_label.specs.Name.{IsName}
-use Rattle.dns_message.specs.Question.{question_octets}
+use Rattle.dns_header.specs.Question.{question_octets}
 use Rattle.dns_message.specs.Record.{record_octets}
 use Rattle.zone_core.specs.Record.{Record}
 use Rattle.zone_core.specs.Query.{AxfrQuery, question_of}

@@ -1,8 +1,8 @@
 -- What is sent for a zone and a query, with every name written out (RFC 5936 2.2).
 use Rattle.std.specs.Prelude.{◌≡◌, ℕ, List, [], ◌∷◌, ◌++◌, length, map, flat_map}
 use Rattle.dns_label.specs.Name.{low}
-use Rattle.dns_message.specs.Header.{answer_header}
-use Rattle.dns_message.specs.Question.{question_octets}
+use Rattle.dns_header.specs.Header.{answer_header}
+use Rattle.dns_header.specs.Question.{question_octets}
 use Rattle.dns_message.specs.Record.{record_octets}
 use Rattle.zone_core.specs.Record.{Record}
 use Rattle.zone_core.specs.Query.{AxfrQuery, IsQuery, IsQueryFault, question_of}

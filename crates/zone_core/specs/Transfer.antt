@@ -3,8 +3,8 @@ use Rattle.std.specs.Prelude.{◌≡◌, ◌≢◌, ◌≤◌, ◌⊎◌, ℕ, B
 use Rattle.std.specs.List.{AllByRecursion}
 use Rattle.dns_label.specs.Name.{low}
 use Rattle.dns_rdata.specs.Fields.{Field, IsRow, octets, lowered}
-use Rattle.dns_message.specs.Header.{is_response, opcode_of, rcode_of, question_count, answer_count, authority_count, additional_count, id_of}
-use Rattle.dns_message.specs.Question.{Question, ReadsQuestion, ReadsPlainQuestion}
+use Rattle.dns_header.specs.Header.{is_response, opcode_of, rcode_of, question_count, answer_count, authority_count, additional_count, id_of}
+use Rattle.dns_header.specs.Question.{Question, ReadsQuestion, ReadsPlainQuestion}
 use Rattle.dns_message.specs.Record.{ReadsRecord, ReadsPlainRecord}
 use Rattle.zone_core.specs.Record.{Record}
 use Rattle.zone_core.specs.Zone.{IsUnder, a_type, axfr_type, soa_type}

@@ -1,6 +1,6 @@
 //! The numbers of a message's header (RFC 1035 4.1.1).
 ghost use Rattle.std.specs.Prelude.{◌≡◌, ◌+◌, ◌≤◌, length};
-ghost use Rattle.dns_message.specs.Header as header;
+ghost use Rattle.dns_header.specs.Header as header;
 
 /// The number of two octets at a place.
 pub(crate) fn number_at(octets: &[u8], place: usize) -> u16

@@ -1,9 +1,9 @@
 //! Queries for a zone's transfer.
 ghost use Rattle.std.specs.Prelude.{◌≡◌, ◌+◌, ◌≤◌, ◌↔◌, ℕ, length, IsTrue, IfOk, IfErr, OnErr};
 ghost use Rattle.dns_name.specs.ParsedName.{labels_of};
-ghost use Rattle.dns_message.specs.Header as header;
-ghost use Rattle.dns_message.specs.Question as spec;
-ghost use Rattle.dns_message.specs.Question.{ReadsQuestion};
+ghost use Rattle.dns_header.specs.Header as header;
+ghost use Rattle.dns_header.specs.Question as spec;
+ghost use Rattle.dns_header.specs.Question.{ReadsQuestion};
 ghost use Rattle.zone_core.specs.Asked.{asked_by, asked_of, question_by};
 ghost use Rattle.zone_core.specs.Query.{AsksOne, IsQuery, IsQueryFault};
 

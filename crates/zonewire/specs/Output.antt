@@ -1,7 +1,7 @@
 -- What a job makes of its input.
 use Rattle.std.specs.Prelude.{◌≡◌, ℕ, List, [], ◌∷◌, ◌++◌, false, Option, Some, unwrap_or, ⊤}
 use Rattle.std.specs.Int.{to_be_bytes, w16}
-use Rattle.dns_message.specs.Question.{question_octets}
+use Rattle.dns_header.specs.Question.{question_octets}
 use Rattle.zone_core.specs.Record.{Record}
 use Rattle.zone_core.specs.View.{apex_of}
 use Rattle.zone_core.specs.Query.{AxfrQuery, IsQuery, question_of}

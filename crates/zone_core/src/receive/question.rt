@@ -1,7 +1,7 @@
 //! The questions of messages, with every name written out (RFC 1035 4.1.2).
 ghost use Rattle.std.specs.Prelude.{◌≡◌, ◌↔◌, ℕ, IsTrue, IfOk, OnErr};
 ghost use Rattle.dns_octets.specs.Parser.{octets_of, place_of};
-ghost use Rattle.dns_message.specs.Question.{Question, ReadsPlainQuestion};
+ghost use Rattle.dns_header.specs.Question.{Question, ReadsPlainQuestion};
 ghost use Rattle.zone_core.specs.Asked.{asked_of};
 ghost use Rattle.zone_core.specs.Transfer.{IsQuestionOf};
 ghost use Rattle.zone_core.specs.Intake.{question_in};

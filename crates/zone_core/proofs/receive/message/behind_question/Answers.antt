@@ -1,6 +1,6 @@
 use Rattle.std.proofs.Common.{◌≡◌, ℕ, List, length, ap, ◌∙◌, subst, arith}
 use Rattle.dns_octets.specs.Parser.{octets_of, place_of}
-use Rattle.dns_message.specs.Question.{Question, ReadsPlainQuestion}
+use Rattle.dns_header.specs.Question.{Question, ReadsPlainQuestion}
 use Rattle.zone_core.specs.Asked.{asked_of}
 use Rattle.zone_core.specs.Intake.{question_in}
 use Rattle.zone_core.proofs.PlainFronts.{asks_not, asks_other, question_within}

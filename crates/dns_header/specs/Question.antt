@@ -3,7 +3,10 @@ use Rattle.std.specs.Prelude.{◌≡◌, ◌+◌, ◌<◌, ◌≤◌, ◌^◌, �
 use Rattle.std.specs.Int.{to_be_bytes, w16}
 use Rattle.dns_label.specs.Name.{IsName, wire}
 use Rattle.dns_label.specs.Spelled.{Reads}
-use Rattle.dns_message.specs.Header.{number_at}
+use Rattle.dns_name.specs.Page.{Parts}
+use Rattle.dns_name.specs.Page.Parts.{End, Octets, Named}
+use Rattle.dns_name.specs.Skip.{Skips}
+use Rattle.dns_header.specs.Header.{number_at}
 
 pub record Question : Type 0 where
   pub name : List (List ℕ)
@@ -31,3 +34,21 @@ pub record ReadsPlainQuestion (message : List ℕ) (place : ℕ) (q : Question) 
   pub rest : List ℕ
   pub at : drop place message ≡ question_octets q ++ rest
   pub ends : next ≡ place + length (question_octets q)
+
+-- the parts by which a message spells a question
+abbrev pub question_parts : Question → Parts
+question_parts q = Named q.name (Octets (to_be_bytes w16 q.qtype ++ to_be_bytes w16 q.qclass) End)
+
+-- What a reader passes that follows no pointer: `next` is the place behind it.
+pub record SkipsQuestion (message : List ℕ) (place : ℕ) (next : ℕ) : Type 0 where
+  pub behind : ℕ
+  pub name : Skips message 254 place behind
+  pub whole : behind + 4 ≤ length message
+  pub ends : next ≡ behind + 4
+
+-- The message ends behind the name of a question and in front of the question's end, where `Name` says which name stands
+-- at the place, or what is passed as one.
+pub record EndsInQuestion (message : List ℕ) (Name : ℕ → Type 0) : Type 0 where
+  pub behind : ℕ
+  pub name : Name behind
+  pub short : length message < behind + 4

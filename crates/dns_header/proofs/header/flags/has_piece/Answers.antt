@@ -1,0 +1,11 @@
+use Rattle.std.proofs.Common.{rules, tests, lit<}
+use Rattle.std.specs.Str.{str_eq_ignore_ascii_case}
+use Rattle.std.proofs.lemmas.Iterator.Search.{any_from_yields_List}
+use Rattle.std.proofs.lemmas.Iterator.Splits.{YieldsList-from_str_split}
+use Rattle.dns_header.proofs.header.flags.has_piece.Goals as goal
+
+pub returns : goal.returns
+returns c =
+    any_from_yields_List (λ piece. str_eq_ignore_ascii_case piece c.args.word.now) _ _ _ c.any.ensures.ran
+    (YieldsList-from_str_split 32 c.args.text.now (lit< tt) c.split.ensures.text c.split.ensures.has_more c.split.ensures.pattern)
+    (λ x b q k. search (rules, tests))

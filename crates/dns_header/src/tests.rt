@@ -1,0 +1,7 @@
+//! Headers tried on octets that are written out.
+
+mod counts;
+mod flags;
+mod header;
+mod question;
+mod section;
