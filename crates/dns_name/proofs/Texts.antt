@@ -37,7 +37,7 @@ pub record Whole (Spells : List ℕ → List (List ℕ) → Type 0) (text : List
   pub spells : 0 < length done → IsName done → Spells text done
   pub only : (name : List (List ℕ)) → Spells text name → (0 < length name) × (name ≡ done)
 
-last_label : (done : List (List ℕ)) (label : List ℕ) → AllByRecursion IsLabel (done ++ label ∷ []) → IsLabel label
+pub last_label : (done : List (List ℕ)) (label : List ℕ) → AllByRecursion IsLabel (done ++ label ∷ []) → IsLabel label
 last_label [] label each = each.0
 last_label (first ∷ done) label each = last_label done label each.1
 

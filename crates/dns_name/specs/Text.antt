@@ -4,7 +4,8 @@ use Rattle.std.specs.List.{AllByRecursion, flat_map}
 use Rattle.std.specs.Iterator.{Drains}
 use Rattle.dns_label.specs.declared.symbol.Symbol.{Symbol}
 use Rattle.dns_label.specs.Symbol.{IsSymbol, spelled}
-use Rattle.dns_label.specs.NameText.{IsNameText}
+use Rattle.dns_label.specs.Name.{IsName}
+use Rattle.dns_label.specs.NameText.{IsNameText, IsRelativeText}
 use Rattle.dns_label.specs.Taken.{RulesOut}
 use Rattle.dns_name.specs.declared.text.FromStrError.{FromStrError}
 use Rattle.dns_name.specs.declared.text.FromStrError.TheVariants.{Presentation, ShortBuf}
@@ -13,6 +14,10 @@ use Rattle.dns_name.specs.declared.text.FromStrError.TheVariants.{Presentation, 
 pub record SpellName (symbols : List Symbol) (name : List (List ℕ)) : Type 0 where
   pub each : AllByRecursion IsSymbol symbols
   pub text : IsNameText (flat_map spelled symbols) name
+
+-- The text spells a name, and leaves its last dot out.
+abbrev pub LacksLastDot : List ℕ → Type 0
+LacksLastDot text = (name : List (List ℕ)) × IsRelativeText text name × IsName name
 
 -- The text spells no name; or it spells one, and memory was wanting.
 abbrev pub IsRefused : {A : Type 0} → (List A → List (List ℕ) → Type 0) → List A → FromStrError → Type 0

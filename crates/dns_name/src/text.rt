@@ -1,5 +1,5 @@
 //! Text to names (RFC 1035 5.1).
-ghost use Rattle.std.specs.Prelude.{◌≡◌, List, ℕ, IfOk, IfErr};
+ghost use Rattle.std.specs.Prelude.{◌≡◌, ◌↔◌, List, ℕ, Err, IfOk, IfErr};
 ghost use Rattle.std.specs.Iterator.{IsFinite, Drains};
 ghost use Rattle.dns_label.specs.declared.symbol.Symbol.{Symbol};
 ghost use Rattle.dns_label.specs.NameText.{IsNameText, IsAbsoluteText, is_dot as separates};
@@ -116,6 +116,7 @@ where
         requires ends { IsFinite (C.remaining chars) }
         ensures ok { IfOk result (λ name. (text : List ℕ) × Drains C.next_gives chars text × IsNameText text name) }
         ensures err { IfErr result (IsRefusedBy C.next_gives chars IsNameText) }
+        ensures other { result ≡ Err (Presentation presentation.RelativeName) → ⊥ }
     {
         Name::of_read(alloc, Spelling::read_chars(chars)?)
     }
@@ -132,6 +133,7 @@ where
         requires ends { IsFinite (S.remaining symbols) }
         ensures ok { IfOk result (λ name. (list : List Symbol) × Drains S.next_gives symbols list × SpellName list name) }
         ensures err { IfErr result (IsRefusedBy S.next_gives symbols SpellName) }
+        ensures other { result ≡ Err (Presentation presentation.RelativeName) → ⊥ }
     {
         Name::of_read(alloc, Spelling::read(&mut symbols)?)
     }
@@ -143,6 +145,7 @@ where
     pub fn from_str(alloc: Global, text: &str) -> Result<Self, FromStrError>
         ensures ok { IfOk result (λ name. IsNameText text.now name) }
         ensures err { IfErr result (IsRefused IsNameText text.now) }
+        ensures other { result ≡ Err (Presentation presentation.RelativeName) → ⊥ }
     {
         Name::from_chars(alloc, OctetChars(text.as_bytes()))
     }
@@ -152,6 +155,7 @@ where
         requires { (text : List ℕ) × IsReadBy text read }
         ensures ok { IfOk result (λ name. (text : List ℕ) → IsReadBy text read → IsNameText text name) }
         ensures err { IfErr result (λ error. (text : List ℕ) → IsReadBy text read → IsRefused IsNameText text error) }
+        ensures other { result ≡ Err (Presentation presentation.RelativeName) → ⊥ }
     {
         let Some(mut spelling) = read else {
             return Ok(Name::root(alloc)?);
@@ -164,23 +168,25 @@ where
 }
 
 impl Name<Vec<u8>> {
-    ghost use Rattle.dns_name.specs.Text.{IsRefused};
+    ghost use Rattle.dns_name.specs.Text.{IsRefused, LacksLastDot};
 
     /// The name that a text spells, its last dot there or not, as `from_str` has it.
     pub fn vec_from_str(alloc: Global, text: &str) -> Result<Self, FromStrError>
         ensures ok { IfOk result (λ name. IsNameText text.now name) }
         ensures err { IfErr result (IsRefused IsNameText text.now) }
+        ensures other { result ≡ Err (Presentation presentation.RelativeName) → ⊥ }
     {
         Name::from_str(alloc, text)
     }
 
     /// The name that octets of text spell, in which the last dot has to be there.
     ///
-    /// Refused where the text spells no name with its last dot; and with `ShortBuf` where it spells one, and there is no
-    /// memory for it.
+    /// Refused where the text spells no name with its last dot, with `RelativeName` exactly where it leaves that dot out and
+    /// else spells a name; and with `ShortBuf` where it spells one, and there is no memory for it.
     pub fn absolute_from_text(alloc: Global, text: &[u8]) -> Result<Self, FromStrError>
         ensures ok { IfOk result (λ name. IsAbsoluteText text.now name) }
         ensures err { IfErr result (IsRefused IsAbsoluteText text.now) }
+        ensures relative { IfErr result (λ error. (error ≡ Presentation presentation.RelativeName) ↔ LacksLastDot text.now) }
     {
         let Some(spelling) = Spelling::read_chars(OctetChars(text))? else {
             return Ok(Name::root(alloc)?);

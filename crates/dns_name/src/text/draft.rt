@@ -1,5 +1,5 @@
 //! A name while its text is read.
-ghost use Rattle.std.specs.Prelude.{◌≡◌, ◌+◌, ◌≤◌, ◌<◌, ◌⊎◌, ◌↔◌, List, ℕ, [], ◌∷◌, ◌++◌, length, true, false, Some, None, IsTrue, IfOk, IfErr, OnOk, OnErr, IfSome, IfNone};
+ghost use Rattle.std.specs.Prelude.{◌≡◌, ◌+◌, ◌≤◌, ◌<◌, ◌⊎◌, ◌↔◌, List, ℕ, [], ◌∷◌, ◌++◌, length, true, false, Some, None, Err, IsTrue, IfOk, IfErr, OnOk, OnErr, IfSome, IfNone};
 ghost use Rattle.std.specs.Iterator.{IsFinite, YieldsThen, Drains};
 ghost use Rattle.std.specs.List.{AllByRecursion, flat_map};
 ghost use Rattle.dns_label.specs.declared.symbol.Symbol.{Symbol};
@@ -7,7 +7,8 @@ ghost use Rattle.dns_label.specs.Name.{IsName};
 ghost use Rattle.dns_label.specs.Symbol.{IsSymbol, spelled};
 ghost use Rattle.dns_label.specs.Taken.{RulesOut};
 ghost use Rattle.dns_name.specs.Text.{IsFault};
-ghost use Rattle.dns_name.specs.declared.text.FromStrError.TheVariants.{ShortBuf};
+ghost use Rattle.dns_name.specs.declared.text.FromStrError.TheVariants.{Presentation, ShortBuf};
+ghost use Rattle.dns_name.specs.declared.text.PresentationError.TheVariants as presentation;
 
 use super::{FromStrError, PresentationError, is_dot};
 use crate::copies::octets_from;
@@ -45,6 +46,7 @@ impl Spelling {
         requires ends { IsFinite (C.remaining chars) }
         ensures ok { IfOk result (λ read. (text : List ℕ) × Drains C.next_gives chars text × IsReadBy text read) }
         ensures err { OnErr result (RulesOut C.next_gives chars IsReadable) }
+        ensures other { result ≡ Err presentation.RelativeName → ⊥ }
     {
         let mut symbols = Symbols::new(chars);
         let read = Spelling::read(&mut symbols)?;
@@ -62,6 +64,7 @@ impl Spelling {
         requires ends { IsFinite (S.remaining symbols.old) }
         ensures ok { IfOk result (λ read. (list : List Symbol) × YieldsThen S.next_gives symbols.old list None symbols.new × AllByRecursion IsSymbol list × IsReadBy (flat_map spelled list) read) }
         ensures err { OnErr result (RulesOut S.next_gives symbols.old AreReadable) }
+        ensures other { result ≡ Err presentation.RelativeName → ⊥ }
     {
         let mut spelling = Spelling {
             octets: [0; 255],
@@ -99,6 +102,7 @@ impl Spelling {
     fn push(&mut self, octet: u8) -> Result<(), PresentationError>
         ensures ok { OnOk result ((done : List (List ℕ)) (begun : List ℕ) → Holds self.old done begun → Holds self.new done (begun ++ octet ∷ [])) }
         ensures err { OnErr result ((self.old.len ≡ self.old.start + 64) ⊎ (253 < self.old.len)) }
+        ensures other { result ≡ Err presentation.RelativeName → ⊥ }
     {
         if self.len - self.start > 63 {
             return Err(PresentationError::LongLabel);
@@ -115,6 +119,7 @@ impl Spelling {
     pub(super) fn end_label(&mut self) -> Result<(), PresentationError>
         ensures ok { OnOk result ((done : List (List ℕ)) (begun : List ℕ) → Holds self.old done begun → Holds self.new (done ++ begun ∷ []) []) }
         ensures err { OnErr result (self.old.len ≡ self.old.start + 1) }
+        ensures other { result ≡ Err presentation.RelativeName → ⊥ }
     {
         let count = self.len - self.start - 1;
         if count == 0 {
@@ -134,6 +139,7 @@ impl Spelling {
         requires { (done : List (List ℕ)) × Holds self done [] }
         ensures ok { IfOk result (λ name. IsName name × Holds self name [] × (0 < length name)) }
         ensures err { IfErr result (λ error. IsFault error ↔ (self.len ≡ 1)) }
+        ensures other { result ≡ Err (Presentation presentation.RelativeName) → ⊥ }
     {
         if self.len == 1 {
             return Err(FromStrError::Presentation(PresentationError::EmptyLabel));
@@ -164,6 +170,7 @@ fn root_alone<S: Iterator<Item = Symbol>>(
     requires { S.can_next symbols.old }
     ensures root { IfOk result (λ read. (read ≡ None) × S.next_gives symbols.old None symbols.new) }
     ensures err { OnErr result ((symbol : Symbol) × S.next_gives symbols.old (Some symbol) symbols.new) }
+    ensures other { result ≡ Err presentation.RelativeName → ⊥ }
 {
     match symbols.next() {
         None => Ok(None),

@@ -1,12 +1,13 @@
-use Rattle.std.proofs.Common.{◌≡◌, List, ℕ, [], refl, subst, inr}
-use Rattle.std.specs.Prelude.{Option}
+use Rattle.std.proofs.Common.{◌≡◌, List, ℕ, [], refl, ◌∙◌, ap, subst, inr}
+use Rattle.std.specs.Prelude.{Option, Err}
 use Rattle.std.proofs.lemmas.Result.{err_from_is_err_and}
 use Rattle.dns_label.specs.NameText.IsAbsoluteText.{root}
-use Rattle.dns_label.specs.NameText.IsNameText.{absolute}
+use Rattle.dns_label.specs.NameText.IsNameText.{absolute, relative}
 use Rattle.dns_label.proofs.Taken.{first_drains, first_rules}
 use Rattle.dns_name.specs.declared.text.draft.Spelling.{Spelling}
 use Rattle.dns_name.specs.declared.text.octet_chars.OctetChars.{OctetChars}
 use Rattle.dns_name.specs.Draft.{IsReadBy}
+use Rattle.dns_name.proofs.LastDots.{open_lacks, dotted_lacks, root_lacks, told_other, told_short, told_read}
 use Rattle.dns_name.proofs.Texts.{whole-absolute, open_label, whole-result, whole-err, begun_some, begun_none}
 use Rattle.dns_name.proofs.text.Name+Vec+u8.absolute_from_text.Goals as goal
 
@@ -68,3 +69,35 @@ returns-clause-err c =
     let whole = whole-absolute c.args.text.now c.in-Some.spelling given.0 given.1
     (begun_none _ _ given.1 (λ more. let bad = c.if-has_open_label.ensures.1 more in cc)) in
     whole-err _ _ _ c.finish.result whole c.finish.ensures.err
+
+pub returns-in_err-spelling-clause-relative : goal.returns-in_err-spelling-clause-relative
+returns-in_err-spelling-clause-relative c =
+    let p = err_from_is_err_and c.from_residual.result c.from_residual.ensures.1 in
+    told_read c.args.text.now c.from_residual.result
+    (λ lacks. first_rules (λ (chars : OctetChars). chars.0.now) _ c.in_err-spelling.ensures.err (inr (lacks.0, relative lacks.1 lacks.2)))
+    c.read_chars.result c.in_err-spelling.field-0.0 c.in_err-spelling.was (p.1 ∙ ap (λ e. Err e) p.2) c.read_chars.ensures.other
+
+pub returns-in_err-root-clause-relative : goal.returns-in_err-root-clause-relative
+returns-in_err-root-clause-relative c =
+    let read = c.in_ok-spelling.ensures.ok in
+    let taken = first_drains (λ (chars : OctetChars). chars.0.now) read.0 _ read.1 in
+    let p = err_from_is_err_and c.from_residual-in_err-root.result c.from_residual-in_err-root.ensures.1 in
+    told_short c.args.text.now c.from_residual-in_err-root.result
+    (root_lacks c.args.text.now (read_by c.args.text.now _ _ read.0 taken c.in_default.is read.2)) (p.1 ∙ ap (λ e. Err e) p.2)
+
+pub returns-then-has_open_label-clause-relative : goal.returns-then-has_open_label-clause-relative
+returns-then-has_open_label-clause-relative c =
+    let read = c.in_ok-spelling.ensures.ok in
+    let taken = first_drains (λ (chars : OctetChars). chars.0.now) read.0 _ read.1 in
+    let given = read_by c.args.text.now _ _ read.0 taken c.in-Some.is read.2 in (
+      λ same. open_lacks c.args.text.now c.in-Some.spelling given.1 (begun_some _ _ given.1 (c.if-has_open_label.ensures.0 refl)),
+      λ lacks. refl,
+    )
+
+pub returns-clause-relative : goal.returns-clause-relative
+returns-clause-relative c =
+    let read = c.in_ok-spelling.ensures.ok in
+    let taken = first_drains (λ (chars : OctetChars). chars.0.now) read.0 _ read.1 in
+    let given = read_by c.args.text.now _ _ read.0 taken c.in-Some.is read.2 in
+    let none = begun_none _ _ given.1 (λ more. let bad = c.if-has_open_label.ensures.1 more in cc) in
+    told_other c.args.text.now c.finish.result (dotted_lacks c.args.text.now c.in-Some.spelling given.1 none) c.finish.ensures.other
