@@ -14,6 +14,7 @@ pub mod ScanLeaves
 pub mod StringsOf
 pub mod TextStrings
 pub mod ReadEach
+pub mod CutFields
 mod ComposedRows
 mod PrintedTexts
 mod PrintedRows

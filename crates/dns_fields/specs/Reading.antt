@@ -1,10 +1,11 @@
 -- Data as a reader takes it out of a message: fields one behind another, up to where the octets end (RFC 1035 3.2.1).
-use Rattle.std.specs.Prelude.{◌≡◌, ℕ, List, [], ◌∷◌, length, map}
+use Rattle.std.specs.Prelude.{◌≡◌, ◌⊎◌, ℕ, List, [], ◌∷◌, length, map, IsSomeAnd}
 use Rattle.std.specs.List.{AllByRecursion}
+use Rattle.dns_name.specs.Cut.{IsCut}
 use Rattle.dns_name.specs.Page.{Parts}
 use Rattle.dns_name.specs.Page.Parts.{End, Octets, Named}
 use Rattle.dns_name.specs.SpelledParts.{Spells}
-use Rattle.dns_fields.specs.Fields.{Kind, Field, compressible, uncompressed, kind_of, field_octets, IsField, IsRow}
+use Rattle.dns_fields.specs.Fields.{Kind, Compressible, Uncompressed, Strings, Field, compressible, uncompressed, kind_of, kinds_of, field_octets, IsField, IsRow}
 
 -- a field in front of parts: any name may have a pointer (RFC 3597 4 asks readers for that)
 abbrev pub read_field : Field → Parts → Parts
@@ -50,3 +51,22 @@ NoFields message place kinds = (row : List Field) → map kind_of row ≡ kinds 
 
 abbrev pub NoRow : ℕ → List ℕ → ℕ → Type 0
 NoRow rtype message place = (row : List Field) → ReadsRow rtype message place row → ⊥
+
+-- The octets end too early for a field of the kind at the place: for a name, behind labels and pointers that begin one. A field
+-- of another kind is missing for no other reason; strings have all octets that are left.
+abbrev pub IsCutField : List ℕ → ℕ → Kind → Type 0
+IsCutField message place Compressible = IsCut message 255 255 place
+IsCutField message place Uncompressed = IsCut message 255 255 place
+IsCutField message place Strings = NoFields message place (Strings ∷ [])
+IsCutField message place kind = NoField message place kind
+
+-- they end too early for fields of the kinds: for one of them, where those in front of it stand
+abbrev pub AreCutFields : List ℕ → ℕ → List Kind → Type 0
+AreCutFields message place [] = ⊥
+AreCutFields message place (kind ∷ kinds) =
+    IsCutField message place kind
+    ⊎ ((field : Field) × (next : ℕ) × (kind_of field ≡ kind) × ReadsField message place field next × AreCutFields message next kinds)
+
+-- for data of the type
+abbrev pub IsCutRow : ℕ → List ℕ → ℕ → Type 0
+IsCutRow rtype message place = IsSomeAnd (kinds_of rtype) (AreCutFields message place)

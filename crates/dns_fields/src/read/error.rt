@@ -25,7 +25,9 @@ pub enum ReadError {
 
 impl ReadError {
     /// The error of a name that was not read.
-    pub(crate) fn of_name(error: ParseError) -> Self {
+    pub(crate) fn of_name(error: ParseError) -> Self
+        ensures { (result ≡ read_error.ShortInput) ↔ (error ≡ parse_error.ShortInput) }
+    {
         match error {
             ParseError::ShortInput => ReadError::ShortInput,
             ParseError::Form(_) => ReadError::BadName,

@@ -1,5 +1,6 @@
 use Rattle.std.proofs.Common.{◌≤◌, ℕ, List, length, subst}
 use Rattle.dns_octets.specs.Parser.{octets_of, place_of}
+use Rattle.dns_fields.proofs.CutFields.{name_whole}
 use Rattle.dns_fields.proofs.ReadFields.{name_read, compressible_sole}
 use Rattle.dns_fields.proofs.read.leaves.CompressibleParsedNameRefSliceU8ReadField.read_field.Goals as goal
 
@@ -11,3 +12,6 @@ returns-in-Ok-clause-ok c =
 
 pub returns-in-Ok-clause-sole : goal.returns-in-Ok-clause-sole
 returns-in-Ok-clause-sole c = compressible_sole c.in-Ok.ensures.ok
+
+pub returns-in-Ok-clause-short : goal.returns-in-Ok-clause-short
+returns-in-Ok-clause-short c = name_whole c.in-Ok.ensures.ok

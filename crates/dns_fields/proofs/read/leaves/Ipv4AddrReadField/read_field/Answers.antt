@@ -1,5 +1,6 @@
 use Rattle.std.proofs.Common.{◌+◌, ◌≤◌, length, refl, rules}
 use Rattle.dns_octets.specs.Parser.{octets_of, place_of}
+use Rattle.dns_fields.proofs.CutFields.{field_whole}
 use Rattle.dns_fields.proofs.ReadFields.{octets_read, long_take, fixed_sole, ipv4_fixed}
 use Rattle.dns_fields.proofs.read.leaves.Ipv4AddrReadField.read_field.Goals as goal
 
@@ -13,3 +14,6 @@ returns-in-Ok-clause-ok c =
 
 pub returns-in-Ok-clause-sole : goal.returns-in-Ok-clause-sole
 returns-in-Ok-clause-sole c = fixed_sole ipv4_fixed refl (returns-in-Ok-clause-ok c)
+
+pub returns-in-Ok-clause-short : goal.returns-in-Ok-clause-short
+returns-in-Ok-clause-short c = field_whole (returns-in-Ok-clause-ok c)

@@ -1,5 +1,6 @@
 use Rattle.std.proofs.Common.{◌≤◌, ℕ, List, length, subst, ap, Bor}
 use Rattle.dns_octets.specs.Parser.{octets_of, place_of}
+use Rattle.dns_fields.proofs.CutFields.{field_whole}
 use Rattle.dns_fields.proofs.ReadStrings.{string_read, tag_sole, no_tag}
 use Rattle.dns_fields.proofs.read.leaves.TagRefSliceU8ReadField.read_field.Goals as goal
 
@@ -14,3 +15,6 @@ returns-in-Ok-clause-sole c = tag_sole (returns-in-Ok-clause-ok c).spelled
 
 pub returns-in-Err-clause-err : goal.returns-in-Err-clause-err
 returns-in-Err-clause-err c = no_tag c.in-Err.ensures.err
+
+pub returns-in-Ok-clause-short : goal.returns-in-Ok-clause-short
+returns-in-Ok-clause-short c = field_whole (returns-in-Ok-clause-ok c)

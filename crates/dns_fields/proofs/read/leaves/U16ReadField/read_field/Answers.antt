@@ -1,7 +1,7 @@
-use Rattle.std.proofs.Common.{◌≡◌, ◌+◌, ◌≤◌, ◌<◌, ◌^◌, ℕ, length, refl, rules, arith}
+use Rattle.std.proofs.Common.{◌+◌, ◌≤◌, ◌<◌, ◌^◌, length, rules}
 use Rattle.dns_octets.specs.Parser.{octets_of, place_of}
-use Rattle.dns_fields.specs.Reading.{ReadsField}
-use Rattle.dns_fields.proofs.ReadFields.{octets_read, fixed_sole, number16_fixed}
+use Rattle.dns_fields.proofs.CutFields.{field_whole}
+use Rattle.dns_fields.proofs.ReadFields.{octets_read}
 use Rattle.dns_fields.proofs.read.leaves.U16ReadField.read_field.Goals as goal
 
 pub returns-clause-ok : goal.returns-clause-ok
@@ -12,3 +12,6 @@ returns-clause-ok c =
       is_field = small;
       spelled = octets_read (octets_of c.args.parser.now) (place_of c.args.parser.now) _ 2 _ c.in_ok-parse_u16_be.ensures.back enough c.in_ok-parse_u16_be.ensures.place.place;
     }
+
+pub returns-clause-short : goal.returns-clause-short
+returns-clause-short c = field_whole (returns-clause-ok c)

@@ -1,4 +1,7 @@
 use Rattle.dns_octets.specs.Parser.{octets_of, place_of}
+use Rattle.std.proofs.Common.{length, refl}
+use Rattle.dns_fields.specs.Fields.{rest16}
+use Rattle.dns_fields.proofs.CutFields.{row_whole}
 use Rattle.dns_fields.proofs.ReadStrings.{all_read, rest16_sole}
 use Rattle.dns_fields.proofs.read.rests.LastRest16RefSliceU8ReadRow.read_fields.Goals as goal
 
@@ -7,3 +10,9 @@ returns-clause-ok c = record { each = (tt, tt); spelled = all_read c.peek_all-oc
 
 pub returns-clause-sole : goal.returns-clause-sole
 returns-clause-sole c = rest16_sole (octets_of c.args.parser.now) _ (place_of c.args.parser.now) c.peek_all-octets.ensures
+
+pub returns-clause-short : goal.returns-clause-short
+returns-clause-short c =
+    row_whole
+    (λ none. none (rest16 c.peek_all-octets.result.now) (length (octets_of c.args.parser.now)) refl
+    (record { is_field = tt; spelled = (returns-clause-ok c).spelled }))
