@@ -101,11 +101,13 @@ def block_of(text, start, module):
         here = re.search(rf"^(?:pub(?:\([^)]*\))? )?(?:struct|enum) {kind}\b", text, re.M)
         return (module if here else "") + kind + r"(?:\+\S*)?::"
     names = [words_of(kind, params), words_of(trait, params)]
-    return module + r"(?:Ref|Mut|Slice|Array)*" + "".join(f"(?:{it})?" if place else it for words in names for place, it in enumerate(words)) + "::"
+    # (arguments are left out where the names are unlike without them)
+    words = [f"(?:{it})?" if place else it for some in names for place, it in enumerate(some)]
+    return module + r"(?:Any|Ref|Mut|Slice|Array)*" + "".join(words) + "::"
 
 
 def function_at(text, line, path):
-    """The function that has this line, counted from 0, or None outside of all functions. A constant is all functions of its file."""
+    """The function that has this line, counted from 0, or None where there is none. A constant is all functions of its file."""
     module = "".join(f"{it}::" for it in path[len("src/") : -len(".rt")].split("/") if it != "lib")
     heads = [(text.count("\n", 0, it.start(2)), it) for it in HEAD.finditer(text)]
     constants = [text.count("\n", 0, it.start()) for it in CONST.finditer(text)]
