@@ -23,6 +23,8 @@ BLOCK = re.compile(r"^(?:pub(?:\([^)]*\))? )?(?:impl\b|trait )", re.M)
 UNPROVED = re.compile(r"fn (\S+): (?:no proof: expected|not proved$)", re.M)
 # (of one whose own proof fails and that waits too, the proof's file is named)
 BAD_PROOF = re.compile(r"^\./proofs/(\S+)/\w+\.antt:\d+:\d+: error", re.M)
+# (a change that is no program shows nothing)
+BROKEN = re.compile(r"^src/\S+:\d+:\d+: error\[.*", re.M)
 
 
 @dataclass(frozen=True)
@@ -190,6 +192,10 @@ def try_crate(name):
             changes = [it for edit in edits if round_of(edit) == number for it in changes_of(edit)]
             places = apply(crate, changes)
             said = subprocess.run(["rt", "check"], cwd=crate, capture_output=True, text=True)
+            broken = BROKEN.search(said.stdout + said.stderr)
+            if broken:
+                kept.append(f"{name}: round {number} is no program: {broken[0]}")
+                continue
             lines, names = refused_by(said.stdout + said.stderr)
             for change in changes:
                 if any(it and is_refused(it, lines, names) for it in places[change]):
