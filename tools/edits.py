@@ -17,9 +17,14 @@ from pathlib import Path
 ROOT = Path(__file__).resolve().parent.parent
 HEAD = re.compile(r"^( *)(?:pub(?:\([^)]*\))? )?(?:const |unsafe |final )*fn (\w+)", re.M)
 NOTE = re.compile(r"(src/\S+\.rt):(\d+):\d+: ")
-IMPL = re.compile(r"^impl(?:<.*?>)? (\w+)[^\n]*", re.M)
+CONST = re.compile(r"^ *(?:pub(?:\([^)]*\))? )?(?:const|static) \w+:", re.M)
+BLOCK = re.compile(r"^(?:pub(?:\([^)]*\))? )?(?:impl\b|trait )", re.M)
 # (a function that only waits for another one is not refused itself)
 UNPROVED = re.compile(r"fn (\S+): (?:no proof: expected|not proved$)", re.M)
+# (of one whose own proof fails and that waits too, the proof's file is named)
+BAD_PROOF = re.compile(r"^\./proofs/(\S+)/\w+\.antt:\d+:\d+: error", re.M)
+# (a change that is no program shows nothing)
+BROKEN = re.compile(r"^src/\S+:\d+:\d+: error\[.*", re.M)
 
 
 @dataclass(frozen=True)
@@ -33,11 +38,10 @@ class Change:
 
 @dataclass(frozen=True)
 class Function:
-    """A function of the changed source, by the lines that it takes."""
+    """A function of the changed source, by the lines that it takes; `names` are those that a check may call it by."""
 
     path: str
-    owner: str
-    name: str
+    names: str
     first: int
     last: int
 
@@ -64,16 +68,60 @@ def round_of(edit):
     return int(number[1]) if number else 1
 
 
+def split_params(header):
+    """What stands in the angle brackets at the front, and what is behind them."""
+    if not header.startswith("<"):
+        return "", header
+    depth = 0
+    for place, it in enumerate(header):
+        depth += (it == "<") - (it == ">" and header[place - 1] != "-")
+        if depth == 0:
+            return header[1:place], header[place + 1 :]
+    return "", header
+
+
+def words_of(part, params):
+    words = [it.split("::")[-1] for it in re.findall(r"'?\w+(?:::\w+)*", part)]
+    return [it[0].upper() + it[1:] for it in words if it not in params and it != "mut" and not re.match(r"['\d]", it)]
+
+
+def block_of(text, start, module):
+    """The names that the block around a function may have in what a check says, and where they stand."""
+    before = [it for it in BLOCK.finditer(text) if it.start() < start]
+    if not before or "\n}" in text[before[-1].start() : start]:
+        return module
+    header = re.split(r"\{|\bwhere\b", text[before[-1].end() :], maxsplit=1)[0]
+    if "trait " in before[-1][0]:
+        # (a clause that was changed is one of all blocks of the trait)
+        return r"\w*" + re.match(r"\w+", header)[0] + "::"
+    params, rest = split_params(header)
+    params = set(re.findall(r"(?:^|,)\s*(?:const )?(\w+)", params))
+    trait, found, kind = rest.partition(" for ")
+    if not found:
+        # (a method of a type stands under the type's module, whichever file it is in)
+        kind = words_of(rest, params)[0]
+        here = re.search(rf"^(?:pub(?:\([^)]*\))? )?(?:struct|enum) {kind}\b", text, re.M)
+        return (module if here else "") + kind + r"(?:\+\S*)?::"
+    names = [words_of(kind, params), words_of(trait, params)]
+    # (arguments are left out where the names are unlike without them)
+    words = [f"(?:{it})?" if place else it for some in names for place, it in enumerate(some)]
+    return module + r"(?:Any|Ref|Mut|Slice|Array)*" + "".join(words) + "::"
+
+
 def function_at(text, line, path):
-    """The function that has this line, counted from 0, or None outside of all functions."""
-    heads = [(text.count("\n", 0, it.start(2)), it[2]) for it in HEAD.finditer(text)]
+    """The function that has this line, counted from 0, or None where there is none. A constant is all functions of its file."""
+    module = "".join(f"{it}::" for it in path[len("src/") : -len(".rt")].split("/") if it != "lib")
+    heads = [(text.count("\n", 0, it.start(2)), it) for it in HEAD.finditer(text)]
+    constants = [text.count("\n", 0, it.start()) for it in CONST.finditer(text)]
     before = [it for it in heads if it[0] <= line]
+    if any(it <= line and (not before or it > before[-1][0]) for it in constants):
+        return Function(path, f"::{module}", 1, text.count("\n") + 1)
     if not before:
         return None
-    first, name = before[-1]
+    first, head = before[-1]
     after = [at for at, _ in heads if at > first]
-    impls = [it[1] for it in IMPL.finditer(text) if text.count("\n", 0, it.start()) < first and " for " not in it[0]]
-    return Function(path, impls[-1] if impls else "", name, first + 1, after[0] if after else text.count("\n") + 1)
+    block = block_of(text, head.start(2), module) if head[1] else module
+    return Function(path, f"::{block}{head[2]}$", first + 1, after[0] if after else text.count("\n") + 1)
 
 
 def apply(crate, changes):
@@ -98,18 +146,14 @@ def apply(crate, changes):
 
 def refused_by(said):
     """What a check did not prove: places in sources, and names of functions."""
-    return {(path, int(line)) for path, line in NOTE.findall(said)}, set(UNPROVED.findall(said))
+    proofs = {"::" + path.replace("/", "::") for path in BAD_PROOF.findall(said)}
+    return {(path, int(line)) for path, line in NOTE.findall(said)}, set(UNPROVED.findall(said)) | proofs
 
 
 def is_refused(function, lines, names):
     if any(path == function.path and function.first <= line <= function.last for path, line in lines):
         return True
-    module = function.path[len("src/") : -len(".rt")].replace("/", "::")
-    module = "" if module == "lib" else module + "::"
-    # (a method of a type stands under the type's module, whichever file it is in)
-    places = [rf"::{module}([^: ]+::)?{function.name}$"]
-    places += [rf"::{function.owner}::{function.name}$"] if function.owner else []
-    return any(re.search(place, it) for place in places for it in names)
+    return any(re.search(function.names, it) for it in names)
 
 
 def lower(name, needs):
@@ -148,6 +192,10 @@ def try_crate(name):
             changes = [it for edit in edits if round_of(edit) == number for it in changes_of(edit)]
             places = apply(crate, changes)
             said = subprocess.run(["rt", "check"], cwd=crate, capture_output=True, text=True)
+            broken = BROKEN.search(said.stdout + said.stderr)
+            if broken:
+                kept.append(f"{name}: round {number} is no program: {broken[0]}")
+                continue
             lines, names = refused_by(said.stdout + said.stderr)
             for change in changes:
                 if any(it and is_refused(it, lines, names) for it in places[change]):

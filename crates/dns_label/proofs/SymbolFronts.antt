@@ -1,11 +1,12 @@
 -- What characters begin with no symbol.
-use Rattle.std.proofs.Common.{◌≡◌, ℕ, true, false, ◌+◌, ◌*◌, ◌-◌, ◌/◌, ◌%◌, ◌<◌, ◌≤◌, List, [], ◌∷◌, ◌++◌, inl, inr, arith}
+use Rattle.std.proofs.Common.{◌≡◌, ℕ, true, false, ◌+◌, ◌*◌, ◌-◌, ◌/◌, ◌%◌, ◌<◌, ◌≤◌, List, [], ◌∷◌, ◌++◌, refl, inl, inr, arith}
 use Rattle.dns_label.specs.declared.symbol.Symbol.{Symbol}
 use Rattle.dns_label.specs.declared.symbol.Symbol.TheVariants.{Char, SimpleEscape, DecimalEscape}
 use Rattle.dns_label.specs.Symbol.{IsSymbol, spelled}
-use Rattle.std.specs.Prelude.{Option, Result, Ok, Err, IsErr, OnErr}
+use Rattle.std.specs.Prelude.{Option, Some, Result, Ok, Err, IsErr, OnErr}
 use Rattle.dns_label.specs.declared.symbol.SymbolCharsError.{SymbolCharsError}
-use Rattle.dns_label.specs.ReadSymbol.{BeginsWithSymbol, BeginsWithDigit, GoesOnInSymbols, ReadsSymbol}
+use Rattle.dns_label.specs.declared.symbol.SymbolCharsError.TheVariants.{BadChar, BadEscape, ShortInput}
+use Rattle.dns_label.specs.ReadSymbol.{BeginsWithSymbol, BeginsWithDigit, GoesOnInSymbols, ReadsSymbol, IsDigitFault, IsEscapeFault, IsSymbolFault}
 use Rattle.dns_label.specs.Taken.{RulesOut}
 
 pub no_digit : (c : ℕ) (rest : List ℕ) → (48 ≤ c → c ≤ 57 → ⊥) → BeginsWithDigit (c ∷ rest) → ⊥
@@ -110,3 +111,41 @@ fact_on_err (Err error) holds = holds
 pub goes_on : (c : ℕ) (rest : List ℕ) → GoesOnInSymbols (c ∷ rest) → BeginsWithSymbol (c ∷ rest)
 goes_on c rest (inl none) = cc
 goes_on c rest (inr begins) = begins
+
+-- no digit stands behind a backslash and a digit
+pub fault_behind_digit : {S : Type 0} (steps : S → Option ℕ → S → Type 0) (start here : S) (first : ℕ) (error : SymbolCharsError)
+    → steps start (Some first) here → 48 ≤ first → first ≤ 57 → IsDigitFault steps here error → IsEscapeFault steps start error
+fault_behind_digit steps start here first BadChar step least most fault = fault
+fault_behind_digit steps start here first BadEscape step least most fault = (
+  first ∷ fault.0 ∷ [],
+  fault.1,
+  (here, step, (fault.1, fault.2, refl)),
+  λ rest begins. no_digit fault.0 rest (λ low high. fault.3 (low, high)) (tens_behind first (fault.0 ∷ rest) least most begins),
+)
+fault_behind_digit steps start here first ShortInput step least most fault =
+    (first ∷ [], ((least, most), tt), omega arith, (fault.0, (fault.1.0, (here, step, fault.1.1), fault.1.2)))
+
+-- no digit stands behind a backslash and two digits
+pub fault_behind_two : {S : Type 0} (steps : S → Option ℕ → S → Type 0) (start here there : S) (first tens : ℕ) (error : SymbolCharsError)
+    → steps start (Some first) here → steps here (Some (48 + tens)) there → 48 ≤ first → first ≤ 57 → tens < 10
+    → IsDigitFault steps there error → IsEscapeFault steps start error
+fault_behind_two steps start here there first tens BadChar step next least most few fault = fault
+fault_behind_two steps start here there first tens BadEscape step next least most few fault = (
+  first ∷ (48 + tens) ∷ fault.0 ∷ [],
+  fault.1,
+  (here, step, (there, next, (fault.1, fault.2, refl))),
+  λ rest begins. no_digit fault.0 rest (λ low high. fault.3 (low, high)) (ones_behind first (48 + tens) (fault.0 ∷ rest) least most begins),
+)
+fault_behind_two steps start here there first tens ShortInput step next least most few fault = (
+  first ∷ (48 + tens) ∷ [],
+  ((least, most), ((omega arith, omega arith), tt)),
+  omega arith,
+  (fault.0, (fault.1.0, (here, step, (there, next, fault.1.1)), fault.1.2)),
+)
+
+-- what is at fault behind a backslash
+pub fault_behind_backslash : {S : Type 0} (steps : S → Option ℕ → S → Type 0) (start here : S) (error : SymbolCharsError)
+    → steps start (Some 92) here → IsEscapeFault steps here error → IsSymbolFault steps start error
+fault_behind_backslash steps start here BadChar step fault = absurd fault
+fault_behind_backslash steps start here BadEscape step fault = (here, step, fault)
+fault_behind_backslash steps start here ShortInput step fault = (here, step, fault)

@@ -76,7 +76,7 @@ module _ {C : Type 0} (steps : C → Option ℕ → C → Type 0) where
   ends_badly (Ok from) (Ok to) here error is are gives = let no : Ok to ≡ Err error = are in cc
   ends_badly (Ok from) (Err why) here error is are gives =
       let e : from ≡ here = cc in
-      let P : C → Type 0 = λ s. RulesOut steps s GoesOnInSymbols in subst P e gives
+      let P : C → Type 0 = λ s. RulesOut steps s GoesOnInSymbols in subst P e gives.0
   ends_badly (Err why) new here error is are gives = let no : Err why ≡ Ok here = is in cc
 
   pub record StopsAt (start : C) (symbols : List Symbol) : Type 0 where

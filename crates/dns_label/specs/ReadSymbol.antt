@@ -1,9 +1,11 @@
 -- Reading symbols off an iterator of characters (RFC 1035 5.1).
-use Rattle.std.specs.Prelude.{◌≡◌, ◌<◌, ◌+◌, ◌⊎◌, ℕ, List, [], ◌∷◌, ◌++◌, Option, Some, None, Result, Ok, Err}
-use Rattle.std.specs.Iterator.{Yields}
+use Rattle.std.specs.Prelude.{◌≡◌, ◌<◌, ◌≤◌, ◌+◌, ◌⊎◌, ℕ, List, [], ◌∷◌, ◌++◌, length, Option, Some, None, Result, Ok, Err}
+use Rattle.std.specs.Iterator.{Yields, Drains}
+use Rattle.std.specs.List.{AllByRecursion}
 use Rattle.dns_label.specs.declared.symbol.Symbol.{Symbol}
 use Rattle.dns_label.specs.declared.symbol.SymbolCharsError.{SymbolCharsError}
-use Rattle.dns_label.specs.Symbol.{IsSymbol, spelled}
+use Rattle.dns_label.specs.declared.symbol.SymbolCharsError.TheVariants.{BadChar, BadEscape, ShortInput}
+use Rattle.dns_label.specs.Symbol.{IsPrintable, IsSymbol, spelled}
 use Rattle.dns_label.specs.Taken.{RulesOut}
 
 -- the text begins with a symbol
@@ -29,3 +31,26 @@ abbrev pub ReadsSymbol : {S : Type 0} → (S → Option ℕ → S → Type 0) �
 ReadsSymbol steps start (Ok (Some symbol)) end = IsSymbol symbol × Yields steps start (spelled symbol) end
 ReadsSymbol steps start (Ok None) end = steps start None end
 ReadsSymbol steps start (Err error) end = RulesOut steps start GoesOnInSymbols
+
+abbrev pub IsDigit : ℕ → Type 0
+IsDigit c = (48 ≤ c) × (c ≤ 57)
+
+-- which error comes where a digit is wanted: a character is none, or none is left
+abbrev pub IsDigitFault : {S : Type 0} → (S → Option ℕ → S → Type 0) → S → SymbolCharsError → Type 0
+IsDigitFault steps start BadChar = ⊥
+IsDigitFault {S} steps start BadEscape = (c : ℕ) × (here : S) × steps start (Some c) here × (IsDigit c → ⊥)
+IsDigitFault steps start ShortInput = Drains steps start []
+
+-- which error comes behind a backslash: whatever follows what is taken, no symbol begins there; or the characters end in its digits
+abbrev pub IsEscapeFault : {S : Type 0} → (S → Option ℕ → S → Type 0) → S → SymbolCharsError → Type 0
+IsEscapeFault steps start BadChar = ⊥
+IsEscapeFault {S} steps start BadEscape =
+    (taken : List ℕ) × (here : S) × Yields steps start taken here × ((rest : List ℕ) → BeginsWithSymbol (92 ∷ taken ++ rest) → ⊥)
+IsEscapeFault steps start ShortInput =
+    (digits : List ℕ) × AllByRecursion IsDigit digits × (length digits < 3) × Drains steps start digits
+
+-- which error comes in place of a symbol: its first character is not printable, or it is a backslash with a fault behind it
+abbrev pub IsSymbolFault : {S : Type 0} → (S → Option ℕ → S → Type 0) → S → SymbolCharsError → Type 0
+IsSymbolFault {S} steps start BadChar = (c : ℕ) × (here : S) × steps start (Some c) here × (IsPrintable c → ⊥)
+IsSymbolFault {S} steps start BadEscape = (here : S) × steps start (Some 92) here × IsEscapeFault steps here BadEscape
+IsSymbolFault {S} steps start ShortInput = (here : S) × steps start (Some 92) here × IsEscapeFault steps here ShortInput

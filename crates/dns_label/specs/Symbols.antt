@@ -5,7 +5,7 @@ use Rattle.dns_label.specs.declared.symbol.Symbol.{Symbol}
 use Rattle.dns_label.specs.declared.symbol.SymbolCharsError.{SymbolCharsError}
 use Rattle.dns_label.specs.declared.symbols.Symbols.{Symbols}
 use Rattle.dns_label.specs.Symbol.{IsSymbol, spelled}
-use Rattle.dns_label.specs.ReadSymbol.{GoesOnInSymbols}
+use Rattle.dns_label.specs.ReadSymbol.{GoesOnInSymbols, IsSymbolFault}
 use Rattle.dns_label.specs.Taken.{RulesOut}
 
 -- the characters that are left, or why no more are read
@@ -19,7 +19,7 @@ abbrev pub GivesSymbol : {C : Type 0} → (C → Option ℕ → C → Type 0) �
 GivesSymbol steps (Ok start) (Some symbol) (Ok end) = IsSymbol symbol × Yields steps start (spelled symbol) end
 GivesSymbol steps (Ok start) (Some symbol) (Err error) = ⊥
 GivesSymbol steps (Ok start) None (Ok end) = steps start None end
-GivesSymbol steps (Ok start) None (Err error) = RulesOut steps start GoesOnInSymbols
+GivesSymbol steps (Ok start) None (Err error) = RulesOut steps start GoesOnInSymbols × IsSymbolFault steps start error
 GivesSymbol steps (Err error) (Some symbol) end = ⊥
 GivesSymbol steps (Err error) None end = end ≡ Err error
 

@@ -1,8 +1,8 @@
 //! The symbols in which text writes octets.
-ghost use Rattle.std.specs.Prelude.{◌≡◌, ◌+◌, ◌≤◌, ◌<◌, ◌⊎◌, ◌++◌, ◌∷◌, ◌↔◌, List, ℕ, Some, IsTrue, IsOk, IfSome, IfNone, IfOk, OnErr};
+ghost use Rattle.std.specs.Prelude.{◌≡◌, ◌+◌, ◌≤◌, ◌<◌, ◌⊎◌, ◌++◌, ◌∷◌, ◌↔◌, List, ℕ, Some, IsTrue, IsOk, IfSome, IfNone, IfOk, IfErr, OnErr};
 ghost use Rattle.std.specs.Iterator.{MakesProgress, Yields};
 ghost use Rattle.dns_label.specs.Symbol.{IsPrintable, IsNoDigit, IsSymbol, spelled, octet, three_digits};
-ghost use Rattle.dns_label.specs.ReadSymbol.{BeginsWithSymbol, BeginsWithDigit};
+ghost use Rattle.dns_label.specs.ReadSymbol.{BeginsWithSymbol, BeginsWithDigit, IsDigitFault, IsEscapeFault};
 ghost use Rattle.dns_label.specs.Taken.{RulesOut};
 
 mod show;
@@ -40,7 +40,7 @@ pub enum Symbol {
 }
 
 impl Symbol {
-    ghost use Rattle.dns_label.specs.ReadSymbol.{ReadsSymbol};
+    ghost use Rattle.dns_label.specs.ReadSymbol.{ReadsSymbol, IsSymbolFault};
     ghost use Rattle.dns_label.specs.Digit.{IsCharacter, IsDigitTo};
 
     /// The next symbol of the characters, of which no more are taken; None where there is no character left.
@@ -52,6 +52,7 @@ impl Symbol {
     ) -> Result<Option<Symbol>, SymbolCharsError>
         requires { C.can_next chars.old }
         ensures symbol { ReadsSymbol C.next_gives chars.old result chars.new }
+        ensures why { IfErr result (IsSymbolFault C.next_gives chars.old) }
         ensures progress { IfOk result (λ found. MakesProgress C.can_next C.remaining chars.old found chars.new) }
     {
         match chars.next() {
@@ -148,6 +149,7 @@ fn read_escape<C: Iterator<Item = char>>(chars: &mut C) -> Result<Symbol, Symbol
     requires { C.can_next chars.old }
     ensures found { IfOk result (λ symbol. IsSymbol symbol × ((behind : List ℕ) × (spelled symbol ≡ 92 ∷ behind) × Yields C.next_gives chars.old behind chars.new)) }
     ensures err { OnErr result (RulesOut C.next_gives chars.old (λ text. BeginsWithSymbol (92 ∷ text))) }
+    ensures why { IfErr result (IsEscapeFault C.next_gives chars.old) }
     ensures progress { IfOk result (λ symbol. MakesProgress C.can_next C.remaining chars.old (Some symbol) chars.new) }
 {
     let Some(first) = chars.next() else {
@@ -173,6 +175,7 @@ fn read_digit<C: Iterator<Item = char>>(chars: &mut C) -> Result<u16, SymbolChar
     requires { C.can_next chars.old }
     ensures found { IfOk result (λ value. (value < 10) × C.next_gives chars.old (Some (48 + value)) chars.new) }
     ensures err { OnErr result (RulesOut C.next_gives chars.old BeginsWithDigit) }
+    ensures why { IfErr result (IsDigitFault C.next_gives chars.old) }
     ensures progress { IfOk result (λ value. MakesProgress C.can_next C.remaining chars.old (Some value) chars.new) }
 {
     match chars.next() {

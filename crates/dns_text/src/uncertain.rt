@@ -4,7 +4,9 @@ ghost use Rattle.dns_label.specs.Name.{IsName, wire};
 ghost use Rattle.dns_octets.specs.Builder.{IsPast};
 ghost use Rattle.dns_label.specs.NameText.{IsAbsoluteText};
 ghost use Rattle.std.specs.Iterator.{IsFinite, Drains};
+ghost use Rattle.dns_name.specs.NoName.{IsNoRelativeName};
 ghost use Rattle.dns_name.specs.RelativeText.{SpellsAbsolute};
+ghost use Rattle.dns_name.specs.declared.relative.RelativeNameError.TheVariants.{LongName};
 ghost use Rattle.dns_name.specs.SpelledText.{IsNotSpelled, IsNotSpelledBy};
 ghost use Rattle.dns_octets.specs.declared.error.AppendError.TheVariants.{ShortBuf, BadLength};
 ghost use Rattle.dns_text.specs.declared.uncertain.UncertainName.TheVariants.{Absolute, Relative};
@@ -32,12 +34,14 @@ pub enum UncertainName<Octs: Octets> {
 
 impl<Octs: Octets> UncertainName<Octs> {
     /// The name that the octets are: absolute where the root's label is their last, and relative where there is none.
-    /// Refused where they are neither, uncompressed and whole.
+    /// Refused where they are neither, uncompressed and whole, by the error that they have as a relative name.
     pub fn from_octets(octets: Octs) -> Result<Self, RelativeNameError>
     where
         Octs: Drop,
         ensures ok { IfOk result (λ name. IsName (labels_of name) × (Octs.list octets ≡ octets_of name)) }
         ensures err { OnErr result (IsNoName (Octs.list octets)) }
+        ensures why { IfErr result (IsNoRelativeName (Octs.list octets)) }
+        ensures long { IfErr result (λ error. 254 < length (Octs.list octets) → error ≡ LongName) }
     {
         if Name::from_slice(octets.octets()).is_err() {
             return Ok(UncertainName::Relative(RelativeName::from_octets(octets)?));

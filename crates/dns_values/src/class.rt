@@ -118,7 +118,7 @@ pub struct ClassFromStrError;
 
 /// The numbers that have a mnemonic.
 #[rattlefmt::skip]
-static MNEMONICS: [Mnemonic; 3] = [(1, "IN"), (3, "CH"), (4, "HS")];
+static MNEMONICS: [Mnemonic; 3] = [(Class::IN.0, "IN"), (Class::CH.0, "CH"), (Class::HS.0, "HS")];
 
 /// The numbers that have a mnemonic.
 #[tactic(auto, unfolding(crate::specs::Mnemonic::classes))]

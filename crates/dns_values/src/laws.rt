@@ -1,8 +1,11 @@
 //! Laws of the numbers of this crate. Each function does nothing; what it ensures is the law.
-ghost use Rattle.std.specs.Prelude.{◌≡◌, ◌<◌, ◌+◌, ◌%◌, ◌^◌, ◌↔◌, Some, None};
+ghost use Rattle.std.specs.Prelude.{◌≡◌, ◌<◌, ◌+◌, ◌-◌, ◌*◌, ◌/◌, ◌%◌, ◌^◌, ◌↔◌, Some, None, [], ◌∷◌, length};
 ghost use Rattle.std.specs.declared.cmp.Ordering.TheVariants.{Less};
 ghost use Rattle.dns_values.specs.Mnemonic.{type_read, type_written, class_read, class_written};
 ghost use Rattle.dns_values.specs.Serial.{serial_add, serial_cmp, swapped};
+
+use crate::{Opcode, Rcode, Serial, Ttl};
+use dns_octets::Compose;
 
 /// What is printed of a record type reads back.
 #[tactic(auto, using(crate::proofs::ReadsBack::reads_back_rules))]
@@ -34,4 +37,59 @@ pub fn serial_sides_swapped(serial: u32, other: u32)
 #[tactic(auto, using(crate::proofs::Serials::serial_laws))]
 pub fn serial_half_way_round(serial: u32, other: u32)
     ensures { (serial_cmp serial other ≡ None) ↔ ((serial + 2 ^ 31) % 2 ^ 32 ≡ other) }
+{}
+
+/// The opcodes that have names, in the order of their numbers (RFC 1035, 1996, 2136 and 3425).
+pub fn named_opcodes() -> [Opcode; 5]
+    ensures { result ≡ 0 ∷ 1 ∷ 2 ∷ 4 ∷ 5 ∷ [] }
+{
+    [
+        Opcode::QUERY,
+        Opcode::IQUERY,
+        Opcode::STATUS,
+        Opcode::NOTIFY,
+        Opcode::UPDATE,
+    ]
+}
+
+/// The response codes that have names, in the order of their numbers (RFC 1035, section 4.1.1).
+pub fn named_rcodes() -> [Rcode; 6]
+    ensures { result ≡ 0 ∷ 1 ∷ 2 ∷ 3 ∷ 4 ∷ 5 ∷ [] }
+{
+    [
+        Rcode::NOERROR,
+        Rcode::FORMERR,
+        Rcode::SERVFAIL,
+        Rcode::NXDOMAIN,
+        Rcode::NOTIMP,
+        Rcode::REFUSED,
+    ]
+}
+
+/// The times that have names: none, a second, a minute, an hour, a day, the week that others are cut to, and the longest.
+pub fn named_times() -> [Ttl; 7]
+    ensures { result ≡ 0 ∷ 1 ∷ 60 ∷ (60 * 60) ∷ (24 * (60 * 60)) ∷ (7 * (24 * (60 * 60))) ∷ (2 ^ 32 - 1) ∷ [] }
+{
+    [
+        Ttl::ZERO,
+        Ttl::SECOND,
+        Ttl::MINUTE,
+        Ttl::HOUR,
+        Ttl::DAY,
+        Ttl::CAP,
+        Ttl::MAX,
+    ]
+}
+
+/// How many whole minutes, hours and days there are at most: those of the longest time.
+pub fn longest_times()
+    ensures minutes { Ttl.MAX_MINUTES ≡ (2 ^ 32 - 1) / 60 }
+    ensures hours { Ttl.MAX_HOURS ≡ (2 ^ 32 - 1) / (60 * 60) }
+    ensures days { Ttl.MAX_DAYS ≡ (2 ^ 32 - 1) / (24 * (60 * 60)) }
+{}
+
+/// A time and a serial number have as many octets in a message as their types say.
+pub fn composed_lengths(ttl: Ttl, serial: Serial)
+    ensures ttl { length (⟦<Ttl as Compose>⟧.composed ttl) ≡ Ttl.COMPOSE_LEN }
+    ensures serial { length (⟦<Serial as Compose>⟧.composed serial) ≡ Serial.COMPOSE_LEN }
 {}
