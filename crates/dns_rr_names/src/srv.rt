@@ -1,18 +1,19 @@
 //! Data of type SRV (RFC 2782).
-ghost use Rattle.std.specs.Prelude.{◌≡◌, ◌==◌, List, [], ◌∷◌, false, Some, Err, IfOk, IfErr, OnOk, OnErr};
+ghost use Rattle.std.specs.Prelude.{◌≡◌, ◌==◌, List, [], ◌∷◌, false, Some, Err, IfOk, IfErr, OnOk, OnErr, ◌↔◌, IsErrOf};
 ghost use Rattle.std.specs.Ordering.{as_partial_cmp};
 ghost use Rattle.std.proofs.Common.{refl};
 ghost use Rattle.dns_fields.specs.Fields.{Field, number16, uncompressed, canonical_octets, field_at};
 ghost use Rattle.dns_fields.specs.Alike.{keys, rows_eq, rows_cmp, canonical_rows_cmp};
 ghost use Rattle.dns_fields.specs.AlikeLaws.{rows_equivalent, rows_partly_equivalent, rows_total, rows_ties, rows_order, rows_alike};
 ghost use Rattle.dns_fields.specs.Held.{OneIsPast};
-ghost use Rattle.dns_fields.specs.Reading.{ReadsRow, NoRow};
+ghost use Rattle.dns_fields.specs.Reading.{ReadsRow, NoRow, IsCutRow};
 ghost use Rattle.dns_fields.specs.Scanned.{ScansData, NoDataScans};
 ghost use Rattle.dns_fields.specs.Shown.{row_pieces};
 ghost use Rattle.dns_fields.specs.Written.{written_parts};
 ghost use Rattle.dns_name.specs.RecordData.{IsAtEnd};
 ghost use Rattle.dns_octets.specs.declared.error.AppendError.TheVariants.{ShortBuf, BadLength};
 ghost use Rattle.dns_octets.specs.Parser.{octets_of, place_of};
+ghost use Rattle.dns_octets.specs.declared.error.ParseError.TheVariants.{ShortInput};
 ghost use Rattle.dns_scan.specs.Token.{IsEnding, SameNames};
 ghost use Rattle.dns_text.specs.Document.{document_text};
 ghost use Rattle.dns_text.specs.Document.Layout.{Simple};
@@ -92,12 +93,13 @@ impl<N: ToName> Srv<N> {
 }
 
 impl<'a> Srv<ParsedName<&'a [u8]>> {
-    /// Reads the data up to the end of the parser. Refused where what is left is no SRV data; the parser then stays where
-    /// it is.
+    /// Reads the data up to the end of the parser. Refused where what is left is no SRV data, with `ShortInput` exactly
+    /// where the octets end too early for it; the parser then stays where it is.
     pub fn parse(parser: &mut Parser<'a>) -> Result<Self, ParseError>
         ensures ok { IfOk result (λ rdata. ReadsRow 33 (octets_of parser.old) (place_of parser.old) rdata) }
         ensures end { OnOk result (IsAtEnd parser.old parser.new) }
         ensures no_data { OnErr result (NoRow 33 (octets_of parser.old) (place_of parser.old)) }
+        ensures short { IsErrOf result ShortInput ↔ IsCutRow 33 (octets_of parser.old) (place_of parser.old) }
         ensures err { OnErr result (parser.new ≡ parser.old) }
     {
         Ok(Srv {

@@ -1,5 +1,5 @@
 //! Data of type TXT (RFC 1035 3.3.14).
-ghost use Rattle.std.specs.Prelude.{◌≡◌, ◌==◌, ◌≤◌, ◌<◌, ◌↔◌, length, List, ℕ, [], ◌∷◌, Some, Err, false, IsOk, IfOk, IfErr, IfSome, IfNone, OnOk, OnErr};
+ghost use Rattle.std.specs.Prelude.{◌≡◌, ◌==◌, ◌≤◌, ◌<◌, ◌↔◌, length, List, ℕ, [], ◌∷◌, Some, Err, false, IsOk, IfOk, IfErr, IfSome, IfNone, OnOk, OnErr, IsErrOf};
 ghost use Rattle.std.specs.List.{concat};
 ghost use Rattle.std.specs.Ordering.{as_partial_cmp};
 ghost use Rattle.std.proofs.Common.{refl};
@@ -8,7 +8,7 @@ ghost use Rattle.dns_fields.specs.Fields.{Field, IsRow, strings, canonical_octet
 ghost use Rattle.dns_fields.specs.Alike.{keys, rows_eq, rows_cmp, canonical_rows_cmp};
 ghost use Rattle.dns_fields.specs.AlikeLaws.{rows_equivalent, rows_partly_equivalent, rows_total, rows_ties, rows_order, rows_alike};
 ghost use Rattle.dns_fields.specs.Held.{OneIsPast};
-ghost use Rattle.dns_fields.specs.Reading.{ReadsRow, NoRow};
+ghost use Rattle.dns_fields.specs.Reading.{ReadsRow, NoRow, IsCutRow};
 ghost use Rattle.dns_fields.specs.Scanned.{ScansData, NoDataScans};
 ghost use Rattle.dns_fields.specs.Shown.{row_pieces};
 ghost use Rattle.dns_fields.specs.Strings.{AreStringOctets};
@@ -17,6 +17,7 @@ ghost use Rattle.dns_name.specs.RecordData.{IsAtEnd};
 ghost use Rattle.dns_octets.specs.declared.error.AppendError.TheVariants.{ShortBuf, BadLength};
 ghost use Rattle.dns_octets.specs.Builder.{IsPast};
 ghost use Rattle.dns_octets.specs.Parser.{octets_of, place_of};
+ghost use Rattle.dns_octets.specs.declared.error.ParseError.TheVariants.{ShortInput};
 ghost use Rattle.dns_rr_octets.specs.Built.{AreTextStrings, text_len};
 ghost use Rattle.dns_rr_octets.specs.declared.txt.append_error.TxtAppendError.TheVariants.{LongRecordData};
 ghost use Rattle.dns_scan.specs.Token.{IsEnding, SameNames};
@@ -196,12 +197,13 @@ impl<Octs: Octets> Txt<Octs> {
 }
 
 impl<'a> Txt<&'a [u8]> {
-    /// Reads the data up to the end of the parser. Refused where what is left is no TXT data; the parser then
-    /// stays where it is.
+    /// Reads the data up to the end of the parser. Refused where what is left is no TXT data, with `ShortInput`
+    /// exactly where the octets end too early for it; the parser then stays where it is.
     pub fn parse(parser: &mut Parser<'a>) -> Result<Self, ParseError>
         ensures ok { IfOk result (λ rdata. ReadsRow 16 (octets_of parser.old) (place_of parser.old) rdata) }
         ensures end { OnOk result (IsAtEnd parser.old parser.new) }
         ensures no_data { OnErr result (NoRow 16 (octets_of parser.old) (place_of parser.old)) }
+        ensures short { IsErrOf result ShortInput ↔ IsCutRow 16 (octets_of parser.old) (place_of parser.old) }
         ensures err { OnErr result (parser.new ≡ parser.old) }
     {
         Ok(Txt {
