@@ -6,7 +6,8 @@ use Rattle.dns_rdata.specs.Fields.{Field, number8, number16, number32, ipv4, ipv
 use Rattle.dns_name.specs.SpelledParts.{Spells}
 pub use Rattle.dns_rdata.specs.Reading.{read_parts}
 use Rattle.dns_name.specs.Page.{Parts}
-use Rattle.dns_name.specs.Page.Parts.{End, Octets, Named, Counted}
+use Rattle.dns_name.specs.Page.Parts.{End, Octets}
+use Rattle.dns_header.specs.Head as head
 
 -- a record: its owner's labels without the root's, and its data as uncompressed octets
 pub record Record : Type 0 where
@@ -26,8 +27,7 @@ pub record IsRecord (r : Record) : Type 0 where
 
 -- the parts of a record around those of its data
 abbrev pub record_parts : Record → Parts → Parts
-record_parts r data' =
-    Named r.owner (Octets (to_be_bytes w16 r.rtype ++ to_be_bytes w16 r.class ++ to_be_bytes w32 r.ttl) (Counted data' End))
+record_parts r data' = head.record_parts r.owner r.rtype r.class r.ttl data'
 
 -- The parts of the record as a reader takes them. Opaque data is its octets.
 pub data IsRead (r : Record) : Parts → Type 0 where
