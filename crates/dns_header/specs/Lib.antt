@@ -13,3 +13,4 @@ pub mod QuestionLaws
 pub mod QuestionOrder
 pub mod QuestionParts
 pub mod Tried
+pub mod Shown

@@ -8,7 +8,7 @@ ghost use Rattle.dns_header.specs.Flags.{flags_in, with_flags};
 
 mod flags;
 
-use dns_values::{Opcode, Rcode};
+use dns_name::{Opcode, Rcode};
 pub use flags::{Flags, FlagsFromStrError};
 use std::marker::Model;
 

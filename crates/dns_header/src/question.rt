@@ -7,7 +7,7 @@ mod order;
 mod read;
 
 pub use compose::ComposeQuestion;
-use dns_values::{Class, Rtype};
+use dns_name::{Class, Rtype};
 
 /// A question: a name, a type and a class.
 #[derive(Clone, Copy, Debug, Drop)]

@@ -11,6 +11,9 @@ ghost use Rattle.dns_name.specs.RecordData.{page_of};
 ghost use Rattle.dns_header.specs.Record.{RecordOf, ReadsData, with_labels};
 ghost use Rattle.dns_header.specs.Written.{parts_of, written_of, canonical_of, data_length};
 
+mod convert;
+mod show;
+
 use crate::RecordHeader;
 use crate::compose::{compose_canonical_parts, compose_parts};
 use dns_name::{

@@ -5,7 +5,7 @@ ghost use Rattle.dns_header.specs.HeaderCounts.{counts_of, counts_in};
 ghost use Rattle.dns_octets.specs.Parser.{GoesOn, octets_of, place_of, rest_of};
 
 use crate::{Header, HeaderCounts};
-use dns_octets::{AppendError, Compose, OctetsBuilder, ParseError, Parser};
+use dns_name::{AppendError, Compose, OctetsBuilder, ParseError, Parser};
 use std::marker::Model;
 
 /// The first twelve octets of a message.

@@ -1,9 +1,7 @@
 -- How a record is printed: its owner, TTL, class and type, and then its data (RFC 1035 5.1).
-use Rattle.std.specs.Prelude.{◌≡◌, List, ◌∷◌, decimal}
-use Rattle.dns_label.specs.Printed.{printed_name}
-use Rattle.dns_values.specs.Mnemonic.{class_written, type_written}
+use Rattle.std.specs.Prelude.{◌≡◌, List}
 use Rattle.dns_text.specs.Document.{Piece}
-use Rattle.dns_text.specs.Document.Piece.{Token}
+use Rattle.dns_header.specs.Shown.{record_document}
 use Rattle.dns_rdata.specs.Printed.{IsDataDocument}
 use Rattle.dns_message.specs.Record.{Record}
 
@@ -11,6 +9,4 @@ use Rattle.dns_message.specs.Record.{Record}
 pub record IsDocument (r : Record) (document : List Piece) : Type 0 where
   pub data_document : List Piece
   pub data_is : IsDataDocument r.rtype r.rdata data_document
-  pub is : document
-      ≡ Token (printed_name r.owner) ∷ Token (decimal r.ttl) ∷ Token (class_written r.class) ∷ Token (type_written r.rtype)
-      ∷ data_document
+  pub is : document ≡ record_document r.owner r.ttl r.class r.rtype data_document

@@ -10,9 +10,7 @@ ghost use Rattle.dns_header.specs.Question.{question_parts};
 ghost use Rattle.dns_header.specs.QuestionParts.{question_of};
 
 use super::Question;
-use dns_name::{Composer, ToName};
-use dns_octets::AppendError;
-use dns_values::{Class, Rtype};
+use dns_name::{AppendError, Class, Composer, Rtype, ToName};
 
 /// What is written as a question; `question` says which.
 pub trait ComposeQuestion {

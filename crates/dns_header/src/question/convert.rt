@@ -5,8 +5,7 @@ ghost use Rattle.dns_values.specs.Mnemonic.{class_written, type_written};
 ghost use Rattle.dns_header.specs.QuestionParts.{qname_of, IsConverted};
 
 use super::Question;
-use dns_name::ToName;
-use dns_octets::{AppendError, OctetsFrom};
+use dns_name::{AppendError, OctetsFrom, ToName};
 use std::alloc::Global;
 use std::fmt;
 

@@ -11,8 +11,7 @@ ghost use Rattle.dns_header.specs.QuestionParts.{question_of};
 
 use super::Question;
 use super::compose::four_octets;
-use dns_name::ToName;
-use dns_values::CanonicalOrd;
+use dns_name::{CanonicalOrd, ToName};
 use std::cmp::Ordering;
 use std::hash::{Hash, Hasher};
 

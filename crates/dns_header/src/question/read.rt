@@ -9,9 +9,7 @@ ghost use Rattle.dns_header.specs.Question as spec;
 ghost use Rattle.dns_header.specs.Question.{ReadsQuestion, SkipsQuestion, EndsInQuestion};
 
 use super::Question;
-use dns_name::ParsedName;
-use dns_octets::{ParseError, Parser};
-use dns_values::{Class, Rtype};
+use dns_name::{Class, ParseError, ParsedName, Parser, Rtype};
 
 impl<'a> Question<ParsedName<&'a [u8]>> {
     ghost use Rattle.dns_name.specs.ParsedName.{labels_of};

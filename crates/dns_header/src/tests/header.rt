@@ -1,7 +1,7 @@
 //! The first four octets.
 
 use crate::{Flags, Header};
-use dns_values::{Opcode, Rcode};
+use dns_name::{Opcode, Rcode};
 
 #[test]
 fn reads_its_octets(rt: HostRuntime) {

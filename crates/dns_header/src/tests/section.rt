@@ -1,7 +1,7 @@
 //! The twelve octets of a header section.
 
 use crate::HeaderSection;
-use dns_octets::{Compose, Parser};
+use dns_name::{Compose, Parser};
 use std::test::Fail;
 
 const OCTETS: [u8; 12] = [
