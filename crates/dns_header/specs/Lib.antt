@@ -14,3 +14,5 @@ pub mod QuestionOrder
 pub mod QuestionParts
 pub mod Tried
 pub mod Shown
+pub mod RecordOrder
+pub mod RecordLaws

@@ -7,6 +7,7 @@ mod order;
 mod read;
 
 pub use compose::ComposeQuestion;
+pub(crate) use order::same_names;
 use dns_name::{Class, Rtype};
 
 /// A question: a name, a type and a class.

@@ -12,6 +12,7 @@ ghost use Rattle.dns_header.specs.Record.{RecordOf, ReadsData, with_labels};
 ghost use Rattle.dns_header.specs.Written.{parts_of, written_of, canonical_of, data_length};
 
 mod convert;
+mod order;
 mod show;
 
 use crate::RecordHeader;

@@ -28,7 +28,7 @@ impl<N: ToName> PartialEq for Question<N> {
 }
 
 /// Whether two names are the same up to ASCII case.
-fn same_names<N: ToName>(name: &N, other: &N) -> bool
+pub(crate) fn same_names<N: ToName>(name: &N, other: &N) -> bool
     ensures { result ≡ on low (pointwise (pointwise nat_eq)) (N.name name.now) (N.name other.now) }
 {
     name.name_eq(other)
