@@ -7,8 +7,8 @@ mod order;
 mod read;
 
 pub use compose::ComposeQuestion;
-pub(crate) use order::same_names;
 use dns_name::{Class, Rtype};
+pub(crate) use order::same_names;
 
 /// A question: a name, a type and a class.
 #[derive(Clone, Copy, Debug, Drop)]

@@ -50,7 +50,10 @@ impl<N: ToName, Data: Ord> Ord for Record<N, Data> {
 
     #[tactic(auto, unfolding(crate::specs::RecordOrder::records_cmp))]
     fn cmp(&self, other: &Self) -> Ordering {
-        let behind = self.class.cmp(&other.class).then(self.data.cmp(&other.data));
+        let behind = self
+            .class
+            .cmp(&other.class)
+            .then(self.data.cmp(&other.data));
         self.owner.name_cmp(&other.owner).then(behind)
     }
 }
