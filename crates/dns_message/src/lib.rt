@@ -1,4 +1,9 @@
 //! Messages: headers, questions, records, how they are read and built (RFC 1035 4.1).
 //!
-//! Today the crate holds definitions alone.
+//! Its part `dns_header`, which it hands on, has headers, questions and records. Whole messages are definitions alone today.
 #![tactic(auto)]
+
+pub use dns_header::{
+    ComposeQuestion, ComposeRecord, CountOverflow, Flags, FlagsFromStrError, Header, HeaderCounts,
+    HeaderSection, ParsedRecord, Question, Record, RecordHeader, laws,
+};
