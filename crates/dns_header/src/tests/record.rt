@@ -166,3 +166,50 @@ fn records_are_shown(rt: HostRuntime) -> Result<(), Fail> {
     );
     Ok(())
 }
+
+#[test]
+fn parts_make_a_record(rt: HostRuntime) -> Result<(), Fail> {
+    let message = MESSAGE;
+    let mut parser = Parser::from_ref(&message);
+    parser.advance(3)?;
+    let header = RecordHeader::parse(&mut parser)?;
+    let found: Option<Record<ParsedName<&[u8]>, UnknownRecordData<&[u8]>>> =
+        header.parse_into_record(&mut parser)?;
+    match found {
+        Some(record) => {
+            let (_, rdata) = record.into_owner_and_data();
+            assert_eq!(rt; *rdata.data(), b"\x07\x08".as_slice());
+        }
+        None => assert!(rt; false),
+    }
+    assert_eq!(rt; parser.pos(), 19);
+    Ok(())
+}
+
+#[test]
+fn data_of_any_type_makes_a_record(rt: HostRuntime) -> Result<(), Fail> {
+    let message = MESSAGE;
+    let mut parser = Parser::from_ref(&message);
+    parser.advance(3)?;
+    let header = RecordHeader::parse(&mut parser)?;
+    let record: Record<ParsedName<&[u8]>, UnknownRecordData<&[u8]>> = header.parse_into_any_record(
+        &mut parser,
+    )?;
+    assert_eq!(rt; record.ttl(), Ttl::from_secs(60));
+    assert_eq!(rt; parser.pos(), 19);
+    Ok(())
+}
+
+#[test]
+fn data_that_is_looked_into_later_is_taken_or_not(rt: HostRuntime) -> Result<(), Fail> {
+    let message = MESSAGE;
+    let mut parser = Parser::from_ref(&message);
+    parser.advance(3)?;
+    let parsed = ParsedRecord::parse(&mut parser)?;
+    let found: Option<Record<ParsedName<&[u8]>, UnknownRecordData<&[u8]>>> = parsed.into_record()?;
+    match found {
+        Some(record) => assert_eq!(rt; record.class(), Class::CH),
+        None => assert!(rt; false),
+    }
+    Ok(())
+}
