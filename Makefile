@@ -8,7 +8,7 @@ run:
 test:
 	rt ci
 
-# Each single change of the must-fail edits, where the gate tries a file of them at once.
+# Each single change of the must-fail edits by itself, where the gate tries one file of a crate at once.
 edits:
 	@python3 tools/edits.py
 

@@ -1,11 +1,13 @@
 #!/usr/bin/env python3
 """edits.py [CRATE..]: shows that the prover refuses each single change of must-fail/, and not only each file of them.
 
-A file there changes several functions, and the gate asks that the file be refused. Here each function that a file changes
-has to be refused by itself: a contract is all that one function knows of another, so a changed function is judged as if the
-others were as they stand. The files of one round (those with no number behind their name, then those with a 2, ..) are put
-on a copy of the crate together, and one check names the functions that it does not prove. Run `rt check` in the crate first,
-so that the copy finds its work done. The exit status is 1 where a changed function stays proved."""
+The changes of must-fail/changes.edit are tried, which the gate puts on a crate all at once, and those of must-fail/others.md,
+which it leaves out. Each function that a change is in has to be refused by itself: a contract is all that one function knows
+of another, so a changed function is judged as if the others were as they stand. A round has changes of different functions. It
+is put on a copy of the crate, and one check names the functions that it does not prove. What is not refused in a round, or
+stands in one that is no program, comes again in a smaller one, and in the end alone: a function that waits for a changed one
+is not judged beside it. Run `rt check` in the crate first, so that the copy finds its work done. The exit status is 1 where a
+change is not refused, or is no program by itself."""
 import re
 import shutil
 import subprocess
@@ -61,11 +63,6 @@ def changes_of(edit):
             found += [Change(title, path, tuple(pairs))] if pairs else []
             title, pairs = line[:-1], []
     return found
-
-
-def round_of(edit):
-    number = re.search(r"-(\d+)$", edit.stem)
-    return int(number[1]) if number else 1
 
 
 def split_params(header):
@@ -124,24 +121,32 @@ def function_at(text, line, path):
     return Function(path, f"::{block}{head[2]}$", first + 1, after[0] if after else text.count("\n") + 1)
 
 
-def apply(crate, changes):
-    """Changes the copy, and answers which functions each change is in."""
-    texts, lines = {}, []
+def laid(text, change):
+    """The text with the change in it, and the functions that it is in, or None where an old text doesn't stand once."""
+    lines = []
+    for old, new in change.pairs:
+        if text.count(old) != 1:
+            return None
+        # one line gives way to one line, so that its number stays
+        lines.append(text.count("\n", 0, text.find(old)))
+        text = text.replace(old, new)
+    return text, {function_at(text, it, change.path) for it in lines}
+
+
+def is_shared(functions, others):
+    return any(a and b and a.path == b.path and a.first <= b.last and b.first <= a.last for a in functions for b in others)
+
+
+def plan(folder, changes):
+    """A round: the texts that it changes, the functions of each of its changes, and what is left for a later one."""
+    texts, places, left = {}, {}, []
     for change in changes:
-        text = texts.get(change.path) or (crate / change.path).read_text()
-        for old, new in change.pairs:
-            if text.count(old) != 1:
-                sys.exit(f"{change.title}: {old!r} stands {text.count(old)} times in {change.path}")
-            # one line gives way to one line, so that its number stays
-            lines.append((change, text.count("\n", 0, text.find(old))))
-            text = text.replace(old, new)
-        texts[change.path] = text
-    for path, text in texts.items():
-        (crate / path).write_text(text)
-    places = {}
-    for change, line in lines:
-        places.setdefault(change, set()).add(function_at(texts[change.path], line, change.path))
-    return places
+        made = laid(texts.get(change.path) or (folder / change.path).read_text(), change)
+        if not made or any(is_shared(made[1], it) for it in places.values()):
+            left.append(change)
+        else:
+            texts[change.path], places[change] = made
+    return texts, places, left
 
 
 def refused_by(said):
@@ -180,29 +185,60 @@ def copy_of(name, room):
     return room / "crates" / name
 
 
+def check(folder, crate, texts):
+    """What a check says of the copy with these texts in the place of its own."""
+    shutil.rmtree(crate / "src")
+    shutil.copytree(folder / "src", crate / "src")
+    for path, text in texts.items():
+        (crate / path).write_text(text)
+    said = subprocess.run(["rt", "check"], cwd=crate, capture_output=True, text=True)
+    return said.stdout + said.stderr
+
+
+def judge(places, said):
+    """Those changes that a check did not refuse, and why."""
+    broken = BROKEN.search(said)
+    if broken:
+        return [*places], f"is no program: {broken[0]}"
+    lines, names = refused_by(said)
+    return [it for it in places if not any(at and is_refused(at, lines, names) for at in places[it])], "is not refused"
+
+
+def later(places, again, left, said):
+    """The rounds to plan behind one. Where it refused nothing, those that an error blames are tried apart, and else halves."""
+    if len(again) < len(places):
+        return [left + again]
+    errors = {(path, int(line)) for path, line in NOTE.findall("\n".join(BROKEN.findall(said)))}
+    blamed = [it for it in again if any(at and is_refused(at, errors, ()) for at in places[it])]
+    part = blamed if 0 < len(blamed) < len(again) else again[: len(again) // 2]
+    return [[it for it in again if it not in part] + left, part]
+
+
+def try_changes(folder, changes, checked):
+    """The changes that no round refused, and why; `checked` tells what a check says of the texts of a round."""
+    rounds, kept = [changes], []
+    while rounds:
+        texts, places, left = plan(folder, rounds.pop(0))
+        if not places:
+            kept += [(it, "has an old text that doesn't stand once") for it in left]
+            continue
+        said = checked(texts)
+        again, why = judge(places, said)
+        if len(places) == 1:
+            kept, again = kept + [(it, why) for it in again], []
+        rounds += later(places, again, left, said)
+    return kept
+
+
 def try_crate(name):
-    """Tries every round of a crate's edits. Answers how many changes were refused, and those that were not."""
-    edits = sorted((ROOT / "crates" / name / "must-fail").glob("*.edit"))
-    refused, kept = 0, []
+    """Tries a crate's changes. Answers how many were refused, and what to say of those that were not."""
+    folder = ROOT / "crates" / name
+    files = [folder / "must-fail" / it for it in ("changes.edit", "others.md")]
+    changes = [it for file in files if file.is_file() for it in changes_of(file)]
     with tempfile.TemporaryDirectory(prefix="edits-") as room:
         crate = copy_of(name, Path(room))
-        for number in sorted({round_of(it) for it in edits}):
-            shutil.rmtree(crate / "src")
-            shutil.copytree(ROOT / "crates" / name / "src", crate / "src")
-            changes = [it for edit in edits if round_of(edit) == number for it in changes_of(edit)]
-            places = apply(crate, changes)
-            said = subprocess.run(["rt", "check"], cwd=crate, capture_output=True, text=True)
-            broken = BROKEN.search(said.stdout + said.stderr)
-            if broken:
-                kept.append(f"{name}: round {number} is no program: {broken[0]}")
-                continue
-            lines, names = refused_by(said.stdout + said.stderr)
-            for change in changes:
-                if any(it and is_refused(it, lines, names) for it in places[change]):
-                    refused += 1
-                else:
-                    kept.append(f"{name}: {change.title} ({change.path}, round {number})")
-    return refused, kept
+        kept = try_changes(folder, changes, lambda texts: check(folder, crate, texts))
+    return len(changes) - len(kept), [f"{name}: {it.title} ({it.path}) {why}" for it, why in kept]
 
 
 def main(names):

@@ -1,11 +1,11 @@
 -- What is written in front of a record's data, and then the data.
-use Rattle.std.proofs.Common.{◌≡◌, ◌≤◌, ◌<◌, ◌+◌, ℕ, List, ◌++◌, length, refl, sym, subst, ◌∙◌, ap, arith, length-append}
+use Rattle.std.proofs.Common.{◌≡◌, ℕ, List, ◌++◌, length, refl, ◌∙◌, ap, arith, length-append}
 use Rattle.std.specs.Prelude.{Result, Ok, Err, Option, OnOk, OnErr}
 use Rattle.dns_octets.specs.Builder.{Known, GrowsTo, IsPast}
 use Rattle.dns_name.specs.Spelling.{Spelling, name_text, known_after}
 use Rattle.dns_name.specs.Page.{Page, Parts, write}
 use Rattle.dns_name.specs.Page.Parts.{End, Octets, Named, Counted}
-use Rattle.dns_name.specs.RecordData.{page_of, counted_length}
+use Rattle.dns_name.specs.RecordData.{page_of}
 use Rattle.dns_octets.proofs.Grows.{GrowsTo-append, GrowsTo-same}
 use Rattle.dns_name.proofs.Growth.{IsPast-more, IsPast-from}
 use Rattle.dns_name.proofs.WrittenParts.{page_same, write-long}

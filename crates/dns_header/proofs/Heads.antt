@@ -1,11 +1,15 @@
 -- What is no record, or no record's head.
-use Rattle.std.proofs.Common.{◌≡◌, ◌+◌, ◌<◌, ◌≤◌, ℕ, Bool, true, List, length, take, drop, arith, sym, subst, ◌∙◌, ap, inl, inr}
+use Rattle.std.proofs.Common.{◌≡◌, ◌+◌, ◌<◌, ℕ, Bool, true, List, length, take, drop, arith, sym, subst, ◌∙◌, ap, inl, inr}
 use Rattle.std.specs.Int.{from_be_bytes, w32}
-use Rattle.std.specs.Prelude.{Result, Ok, Err, OnErr}
+use Rattle.std.specs.Prelude.{◌↔◌, Result, Ok, Err, OnErr, IfErr}
+use Rattle.std.specs.Result.{IsErrAnd}
+use Rattle.dns_octets.specs.declared.error.ParseError.{ParseError}
+use Rattle.dns_octets.specs.declared.error.ParseError.TheVariants.{ShortInput}
 use Rattle.dns_label.specs.Spelled.{Reads}
 use Rattle.dns_label.proofs.Spelling.{reads_one}
 use Rattle.dns_header.specs.Header.{number_at}
-use Rattle.dns_header.specs.Head.{Head, ReadsHead, ReadsWhole, NoHead, NoWhole}
+use Rattle.dns_header.specs.Head.{Head, ReadsHead, NoHead, NoWhole, HeadIsCut, WholeIsCut}
+use Rattle.dns_header.specs.Head.WholeIsCut.{in_head, in_data}
 use Rattle.dns_header.specs.Record.{NoData, DataIsRefused}
 use Rattle.dns_header.specs.ParsedRecord.{NoRecord}
 
@@ -30,6 +34,21 @@ cut_data {message} read short other data_place next is =
     let same = (reads_one read.owner is.reads.owner).1 in
     let len = read.data_len ∙ ap (λ p. number_at message (p + 8)) same ∙ sym is.reads.data_len in
     omega (arith, short, is.ends, is.within, read.ends, is.reads.ends, same, len)
+
+-- an error that says so of a head says so of the record: without a head there is no data either
+pub cut_whole : {message : List ℕ} {place : ℕ} {P : Type 0} → NoHead message place → (P → HeadIsCut message place) × (HeadIsCut message place → P)
+    → (P → WholeIsCut message place) × (WholeIsCut message place → P)
+cut_whole {message} {place} {P} none told = (λ is. in_head (told.0 is), back)
+  where
+    back : WholeIsCut message place → P
+    back (in_head cut) = told.1 cut
+    back (in_data head data_place reads short) = absurd (none head data_place reads)
+
+-- what is said of an error holds of the answer that hands it on
+pub told_of : {T W : Type 0} (result : Result T ParseError) (error : ParseError) → IsErrAnd result (λ e. e ≡ error)
+    → (error ≡ ShortInput → W) × (W → error ≡ ShortInput) → IfErr result (λ e. (e ≡ ShortInput) ↔ W)
+told_of (Ok value) error gives told = _
+told_of (Err e) error gives told = (λ is. told.0 (sym gives ∙ is), λ w. gives ∙ told.1 w)
 
 -- a message has one head at a place
 pub heads_one : {message : List ℕ} {place here there : ℕ} {one other : Head (List (List ℕ))} → ReadsHead message place one here

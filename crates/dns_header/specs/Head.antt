@@ -1,8 +1,9 @@
 -- What stands in front of a record's data (RFC 1035 3.2.1).
-use Rattle.std.specs.Prelude.{◌≡◌, ◌+◌, ◌≤◌, ℕ, List, ◌++◌, length, take, drop}
+use Rattle.std.specs.Prelude.{◌≡◌, ◌+◌, ◌<◌, ◌≤◌, ℕ, List, ◌++◌, length, take, drop}
 use Rattle.std.specs.Int.{from_be_bytes, to_be_bytes, w16, w32}
 use Rattle.dns_label.specs.Name.{wire, low}
 use Rattle.dns_label.specs.Spelled.{Reads}
+use Rattle.dns_name.specs.Cut.{IsCut}
 use Rattle.dns_name.specs.Page.{Parts}
 use Rattle.dns_name.specs.Page.Parts.{End, Octets, Named, Counted}
 use Rattle.dns_header.specs.Header.{number_at}
@@ -41,6 +42,17 @@ pub record ReadsWhole (message : List ℕ) (place : ℕ) (head : Head (List (Lis
   pub reads : ReadsHead message place head data_place
   pub ends : next ≡ data_place + head.data_len
   pub within : next ≤ length message
+
+-- The message ends too early for what stands in front of a record's data: in the owner, or behind it.
+pub data HeadIsCut (message : List ℕ) (place : ℕ) : Type 0 where
+  in_owner : IsCut message 255 255 place → HeadIsCut message place
+  behind_owner : (name : List (List ℕ)) (behind : ℕ) → Reads message place name behind → length message < behind + 10 → HeadIsCut message place
+
+-- The same, or in the data.
+pub data WholeIsCut (message : List ℕ) (place : ℕ) : Type 0 where
+  in_head : HeadIsCut message place → WholeIsCut message place
+  in_data : (head : Head (List (List ℕ))) (data_place : ℕ) → ReadsHead message place head data_place
+      → length message < data_place + head.data_len → WholeIsCut message place
 
 -- nothing of the kind stands at the place
 abbrev pub NoHead : List ℕ → ℕ → Type 0

@@ -1,5 +1,5 @@
 -- A record in a message, whose data is not looked into yet.
-use Rattle.std.specs.Prelude.{◌≡◌, ◌+◌, ℕ, Bool, true, List, take}
+use Rattle.std.specs.Prelude.{◌≡◌, ℕ, Bool, true, List, take}
 use Rattle.dns_octets.specs.Parser.{octets_of, place_of}
 use Rattle.dns_octets.specs.declared.parser.Parser.{Parser}
 use Rattle.dns_header.specs.Head.{Head, ReadsWhole}

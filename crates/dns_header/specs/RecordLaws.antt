@@ -1,6 +1,6 @@
 -- Equality of records is an equivalence, their order a total one that ties exactly those that are equal, where that holds of
 -- their data.
-use Rattle.std.specs.Prelude.{◌≡◌, ◌&&◌, ℕ, Bool, List, nat_eq}
+use Rattle.std.specs.Prelude.{◌≡◌, ◌&&◌, ℕ, Bool, List}
 use Rattle.std.proofs.Common.{refl}
 use Rattle.std.specs.Cmp.{IsPartialEquivalence, IsEquivalence, IsTotalOrder, partial_equiv_from_equiv, on_per, on_equiv, on_total, and_per, and_equiv, nat_eq_equiv, nat_cmp_total, unsigned_ties}
 use Rattle.std.proofs.lemmas.Cmp.{then_total}

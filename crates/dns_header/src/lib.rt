@@ -21,6 +21,3 @@ pub use question::{ComposeQuestion, Question};
 pub use record::Record;
 pub use record_header::RecordHeader;
 pub use section::HeaderSection;
-
-#[cfg(test)]
-mod tests;

@@ -1,8 +1,9 @@
 //! Records in a message.
-ghost use Rattle.std.specs.Prelude.{◌≡◌, true, is_some, IfOk, IfSome, OnErr};
+ghost use Rattle.std.specs.Prelude.{◌≡◌, ◌↔◌, true, is_some, IfOk, IfErr, IfSome, OnErr};
+ghost use Rattle.dns_octets.specs.declared.error.ParseError.TheVariants.{ShortInput};
 ghost use Rattle.dns_octets.specs.Parser.{octets_of, place_of};
 ghost use Rattle.dns_name.specs.ParsedName.{labels_of};
-ghost use Rattle.dns_header.specs.Head.{labelled, NoWhole};
+ghost use Rattle.dns_header.specs.Head.{labelled, NoWhole, WholeIsCut};
 ghost use Rattle.dns_header.specs.ParsedRecord.{Parsed, HoldsRecord, IsRecordOf, HasNoData};
 ghost use Rattle.dns_header.specs.Record.{with_labels};
 
@@ -72,11 +73,13 @@ impl<'a> ParsedRecord<'a> {
         self.header.rdlen()
     }
 
-    /// Reads the record at the parser's place, and leaves the parser behind it. Refused where no record stands there, and
-    /// the parser then stays where it is. The data is not looked into.
+    /// Reads the record at the parser's place, and leaves the parser behind it. The data is not looked into. Refused where
+    /// no record stands there, and the parser then stays where it is: with `ShortInput` exactly where the message ends too
+    /// early, and else with an error of the form.
     pub fn parse(parser: &mut Parser<'a>) -> Result<Self, ParseError>
         ensures ok { IfOk result (λ found. HoldsRecord (octets_of parser.old) (place_of parser.old) found (place_of parser.new)) }
         ensures err { OnErr result (NoWhole (octets_of parser.old) (place_of parser.old)) }
+        ensures short { IfErr result (λ error. (error ≡ ShortInput) ↔ WholeIsCut (octets_of parser.old) (place_of parser.old)) }
         ensures same { octets_of parser.new ≡ octets_of parser.old }
         ensures stays { OnErr result (parser.new ≡ parser.old) }
     {

@@ -1,14 +1,15 @@
 //! What stands in front of a record's data.
-ghost use Rattle.std.specs.Prelude.{◌≡◌, ◌+◌, ◌≤◌, ◌↔◌, ◌++◌, ℕ, Err, length, take, drop, is_some, IsOk, IfOk, IfSome, OnOk, OnErr};
+ghost use Rattle.std.specs.Prelude.{◌≡◌, ◌+◌, ◌≤◌, ◌↔◌, ◌++◌, ℕ, Err, length, take, drop, is_some, IsOk, IfOk, IfErr, IfSome, OnOk, OnErr};
 ghost use Rattle.std.specs.Int.{from_be_bytes, to_be_bytes, w16, w32};
 ghost use Rattle.dns_octets.specs.Builder.{GrowsTo, IsPast};
 ghost use Rattle.dns_octets.specs.declared.error.AppendError.TheVariants.{ShortBuf, BadLength};
+ghost use Rattle.dns_octets.specs.declared.error.ParseError.TheVariants as parse_error;
 ghost use Rattle.dns_name.specs.Page.{write};
 ghost use Rattle.dns_name.specs.RecordData.{page_of};
 ghost use Rattle.dns_header.specs.Header.{number_at};
 ghost use Rattle.dns_octets.specs.Parser.{GoesOn, octets_of, place_of};
 ghost use Rattle.dns_name.specs.ParsedName.{labels_of};
-ghost use Rattle.dns_header.specs.Head.{Head, labelled, fixed_octets, head_parts, canonical_head, ReadsHead, ReadsWhole, NoHead, NoWhole};
+ghost use Rattle.dns_header.specs.Head.{Head, labelled, fixed_octets, head_parts, canonical_head, ReadsHead, ReadsWhole, NoHead, NoWhole, HeadIsCut, WholeIsCut};
 ghost use Rattle.dns_header.specs.Record.{RecordOf, ReadsData, NoData, DataIsRefused};
 
 use crate::Record;
@@ -102,10 +103,12 @@ impl<N> RecordHeader<N> {
 
 impl<'a> RecordHeader<ParsedName<&'a [u8]>> {
     /// Reads what stands at the parser's place, and leaves the parser in front of the data. Refused where no such thing
-    /// stands there; the parser then stays where it is.
+    /// stands there, and the parser then stays where it is: with `ShortInput` exactly where the message ends too early, and
+    /// else with an error of the form.
     pub fn parse(parser: &mut Parser<'a>) -> Result<Self, ParseError>
         ensures ok { IfOk result (λ header. ReadsHead (octets_of parser.old) (place_of parser.old) (labelled labels_of header) (place_of parser.new)) }
         ensures err { OnErr result (NoHead (octets_of parser.old) (place_of parser.old)) }
+        ensures short { IfErr result (λ error. (error ≡ parse_error.ShortInput) ↔ HeadIsCut (octets_of parser.old) (place_of parser.old)) }
         ensures same { octets_of parser.new ≡ octets_of parser.old }
         ensures stays { OnErr result (parser.new ≡ parser.old) }
     {
@@ -126,6 +129,7 @@ impl<'a> RecordHeader<ParsedName<&'a [u8]>> {
     pub fn parse_ref(parser: &mut Parser<'a>) -> Result<Self, ParseError>
         ensures ok { IfOk result (λ header. ReadsHead (octets_of parser.old) (place_of parser.old) (labelled labels_of header) (place_of parser.new)) }
         ensures err { OnErr result (NoHead (octets_of parser.old) (place_of parser.old)) }
+        ensures short { IfErr result (λ error. (error ≡ parse_error.ShortInput) ↔ HeadIsCut (octets_of parser.old) (place_of parser.old)) }
         ensures same { octets_of parser.new ≡ octets_of parser.old }
         ensures stays { OnErr result (parser.new ≡ parser.old) }
     {
@@ -133,11 +137,13 @@ impl<'a> RecordHeader<ParsedName<&'a [u8]>> {
     }
 
     /// Reads what stands at the parser's place, and leaves the parser behind the data, which is not looked into. Refused
-    /// where no such thing stands there with the data behind it; the parser then stays where it is.
+    /// where no such thing stands there with the data behind it, and the parser then stays where it is: with `ShortInput`
+    /// exactly where the message ends too early, and else with an error of the form.
     pub fn parse_and_skip(parser: &mut Parser<'a>) -> Result<Self, ParseError>
         ensures ok { IfOk result (λ header. (data_place : ℕ) × ReadsWhole (octets_of parser.old) (place_of parser.old)
             (labelled labels_of header) data_place (place_of parser.new)) }
         ensures err { OnErr result (NoWhole (octets_of parser.old) (place_of parser.old)) }
+        ensures short { IfErr result (λ error. (error ≡ parse_error.ShortInput) ↔ WholeIsCut (octets_of parser.old) (place_of parser.old)) }
         ensures same { octets_of parser.new ≡ octets_of parser.old }
         ensures stays { OnErr result (parser.new ≡ parser.old) }
     {

@@ -9,7 +9,6 @@ use Rattle.dns_label.specs.declared.symbol.SymbolCharsError.{SymbolCharsError}
 use Rattle.dns_label.specs.declared.symbols.Symbols.{Symbols}
 use Rattle.dns_label.specs.Symbol.{IsSymbol, spelled}
 use Rattle.dns_label.specs.Symbols.{chars_of}
-use Rattle.dns_label.specs.ReadSymbol.{GoesOnInSymbols}
 use Rattle.dns_label.specs.Taken.{RulesOut}
 use Rattle.dns_label.specs.NameText.{IsNameText}
 use Rattle.dns_label.specs.NameText.IsAbsoluteText.{root, labels}

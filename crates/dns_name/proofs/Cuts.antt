@@ -1,5 +1,5 @@
 -- Walks over a name that the end of the message cuts.
-use Rattle.std.proofs.Common.{◌≡◌, ℕ, ◌+◌, ◌-◌, ◌*◌, ◌<◌, ◌≤◌, suc, List, [], ◌∷◌, ◌++◌, length, drop, inl, inr, refl, sym, ◌∙◌, ap, subst, arith, length-append}
+use Rattle.std.proofs.Common.{◌≡◌, ℕ, ◌+◌, ◌-◌, ◌*◌, ◌<◌, ◌≤◌, suc, List, [], ◌∷◌, ◌++◌, length, drop, inl, inr, refl, sym, ap, subst, arith, length-append}
 use Rattle.dns_label.specs.Split.{StartsWithLabel, StartsWithPointer, EndsEarly, NoLabel}
 use Rattle.dns_label.specs.declared.label.SplitLabelError.{SplitLabelError}
 use Rattle.dns_label.specs.declared.label.SplitLabelError.TheVariants.{BadType, ShortInput}

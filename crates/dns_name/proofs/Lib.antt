@@ -28,6 +28,7 @@ pub mod Standing
 pub mod Orders
 pub mod LowNames
 pub mod Intervals
+pub mod FlatEnds
 pub mod FlatForms
 pub mod RelativeForms
 pub mod PartForms

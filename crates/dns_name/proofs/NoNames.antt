@@ -1,5 +1,5 @@
 -- Labels that were taken off octets, and what stands behind them.
-use Rattle.std.proofs.Common.{◌≡◌, ℕ, ◌+◌, ◌<◌, List, [], ◌∷◌, ◌++◌, length, refl, sym, ◌∙◌, ap, subst, arith, append_assoc, append-nil}
+use Rattle.std.proofs.Common.{◌≡◌, ℕ, ◌<◌, List, [], ◌∷◌, ◌++◌, length, refl, sym, ◌∙◌, ap, subst, arith, append_assoc, append-nil}
 use Rattle.dns_label.specs.Name.{labels_wire}
 use Rattle.dns_label.specs.Split.{StartsWithLabel, NoLabel}
 use Rattle.dns_label.specs.declared.label.SplitLabelError.{SplitLabelError}

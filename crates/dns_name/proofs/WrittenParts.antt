@@ -2,14 +2,14 @@
 use Rattle.std.proofs.Common.{◌≡◌, ◌≤◌, ◌<◌, ◌+◌, ◌-◌, ℕ, Bool, true, false, List, [], ◌∷◌, ◌++◌, length, take, drop, refl, sym, ◌∙◌, ap, subst, arith, inl, inr, length-append, length-take, length-drop, append_assoc, ◌⊎◌}
 use Rattle.std.specs.Int.{to_be_bytes, w16}
 use Rattle.std.proofs.Math.Seq.{take-append-add, drop-append-add}
-use Rattle.std.specs.Prelude.{slice_index_or, Option, Some, None, IsNone, ◌↔◌, Result, Ok, Err, OnOk}
+use Rattle.std.specs.Prelude.{slice_index_or, Some, IsNone, ◌↔◌, Result, Ok, Err, OnOk}
 use Rattle.dns_octets.specs.Builder.{Standing, Known, StandsBetween, GrowsTo}
 use Rattle.dns_name.specs.Spelling.{Spelling, plain, name_text, known_after}
 use Rattle.dns_name.specs.Remembered.{IsKnown, is_free, patched}
 use Rattle.dns_label.specs.Name.{wire}
 use Rattle.dns_name.specs.Page.{Page, Parts, with_octets, with_name, with_count, write}
 use Rattle.dns_name.specs.Page.Parts.{End, Octets, Named, Counted}
-use Rattle.dns_name.specs.RecordData.{page_of, has_name, IsComposedLength, IsUntold}
+use Rattle.dns_name.specs.RecordData.{page_of, IsComposedLength, IsUntold}
 use Rattle.dns_name.proofs.Known.{known-append_cases, each_known, free_from}
 use Rattle.dns_name.proofs.Spelled.{StopsBefore, name_text-none}
 

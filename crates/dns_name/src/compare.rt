@@ -1,7 +1,9 @@
 //! Comparing names of any kind, label by label and up to ASCII case (RFC 4343).
 ghost use Rattle.std.specs.Prelude.{◌≡◌, ◌≤◌, ◌↔◌, IsTrue, length, drop};
 ghost use Rattle.std.specs.Ordering.{ordering_then};
+ghost use Rattle.dns_label.specs.Labels.{labels_at};
 ghost use Rattle.dns_label.specs.Name.{low};
+ghost use Rattle.dns_name.specs.Flat.{IsWritten};
 ghost use Rattle.dns_name.specs.Order.{label_order, labels_order};
 ghost use Rattle.dns_name.specs.Suffix.{EndsWith, StartsWith};
 
@@ -36,6 +38,26 @@ pub fn ends_with<N: ToLabelIter, B: ToLabelIter>(name: &N, end: &B) -> bool
         return false;
     };
     same_labels(behind(name.iter_labels(), extra), end.iter_labels())
+}
+
+/// Whether the name that these octets are ends with the other one, up to ASCII case. A name has at most one end of as many
+/// octets, so that alone is compared.
+pub fn flat_ends_with(octets: &[u8], end: &[u8]) -> bool
+    requires name { IsWritten octets.now }
+    requires end { IsWritten «end».now }
+    ensures { IsTrue result ↔ EndsWith (low (labels_at octets.now 0)) (low (labels_at «end».now 0)) }
+{
+    let mut rest = octets;
+    while rest.len() > end.len() {
+        let Some((len, behind)) = rest.split_first() else {
+            return false;
+        };
+        let Some(behind) = behind.get(usize::from(*len)..) else {
+            return false;
+        };
+        rest = behind;
+    }
+    rest.eq_ignore_ascii_case(end)
 }
 
 /// How many labels there are.

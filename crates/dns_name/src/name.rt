@@ -21,7 +21,7 @@ mod order;
 mod parts;
 mod suffixes;
 
-use crate::compare::ends_with;
+use crate::compare::{ends_with, flat_ends_with};
 use crate::parsed_iter::split_label;
 use crate::skip::skip_name;
 use crate::{NameIter, ToLabelIter, ToName};
@@ -153,7 +153,10 @@ impl<Octs: Octets> Name<Octs> {
     pub fn ends_with<N: ToName>(&self, base: &N) -> bool
         ensures { IsTrue result ↔ EndsWith (low self.now) (low (N.name base.now)) }
     {
-        ends_with(self, base)
+        match base.as_flat_slice() {
+            Some(end) => flat_ends_with(self.as_slice(), end),
+            None => ends_with(self, base),
+        }
     }
 }
 

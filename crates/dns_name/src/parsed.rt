@@ -144,6 +144,6 @@ impl<Octs: Octets> ToName for ParsedName<Octs> {
             octets.push(label.len() as u8)?;
             octets.extend_from_slice(label.as_slice())?;
         }
-        Ok(Name::of_octets(octets))
+        Ok(Name::from_octets_unchecked(octets))
     }
 }

@@ -31,7 +31,7 @@ where
         let mut wire = zone_wire(addr);
         put_label(&mut wire, b"arpa");
         wire.push(0);
-        Ok(Name::of_octets(octets_from(alloc, wire.as_slice())?))
+        Ok(Name::from_octets_unchecked(octets_from(alloc, wire.as_slice())?))
     }
 }
 

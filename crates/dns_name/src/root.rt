@@ -18,7 +18,7 @@ where
         ensures short { result ≡ Err ShortBuf → IsPast Octs.Builder.limit 1 }
         ensures not_bad { result ≡ Err BadLength → ⊥ }
     {
-        Ok(Name::of_octets(octets_from(alloc, &[0])?))
+        Ok(Name::from_octets_unchecked(octets_from(alloc, &[0])?))
     }
 }
 
@@ -27,7 +27,7 @@ impl Name<&'static [u8]> {
     pub fn root_ref() -> Self
         ensures { result ≡ [] }
     {
-        Name::of_octets(&[0])
+        Name::from_octets_unchecked(&[0])
     }
 
     /// The root.
@@ -43,6 +43,6 @@ impl Name<Vec<u8>> {
     pub fn root_vec(alloc: Global) -> Result<Self, AllocError>
         ensures { IfOk result (λ name. name ≡ []) }
     {
-        Ok(Name::of_octets(Vec::from_slice(alloc, &[0])?))
+        Ok(Name::from_octets_unchecked(Vec::from_slice(alloc, &[0])?))
     }
 }

@@ -172,8 +172,10 @@ pub trait ToName: ToLabelIter {
         ensures { IfOk result (λ flat. flat ≡ name self.now) }
     {
         match self.as_flat_slice() {
-            Some(octets) => Ok(Name::of_octets(CowSlice::Borrowed(octets))),
-            None => Ok(Name::of_octets(CowSlice::Owned(self.to_vec(alloc)?.into_octets()))),
+            Some(octets) => Ok(Name::from_octets_unchecked(CowSlice::Borrowed(octets))),
+            None => Ok(Name::from_octets_unchecked(CowSlice::Owned(
+                self.to_vec(alloc)?.into_octets(),
+            ))),
         }
     }
 

@@ -180,7 +180,7 @@ pub trait ToRelativeName: ToLabelIter {
         ensures root { right_of result ≡ [] }
     {
         let _flat = self.as_flat_slice();
-        match Chain::new(self, Name::of_octets(b"\x00".as_slice())) {
+        match Chain::new(self, Name::from_octets_unchecked(b"\x00".as_slice())) {
             Ok(chain) => chain,
             Err(_) => unreachable!(),
         }

@@ -20,6 +20,3 @@ pub use error::{AppendError, FormError, ParseError, ShortInput};
 pub use octets::Octets;
 pub use parse::Parse;
 pub use parser::Parser;
-
-#[cfg(test)]
-mod tests;

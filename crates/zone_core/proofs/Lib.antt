@@ -67,4 +67,5 @@ pub mod PrintedSymbols
 pub mod PrintedWords
 pub mod PrintedDocuments
 pub mod PrintedTexts
+pub mod HeldRecords
 pub mod PrintedOnce

@@ -6,8 +6,7 @@ use Rattle.dns_text.specs.Document.{document_text}
 use Rattle.dns_text.specs.Document.Layout.{Simple}
 use Rattle.dns_text.specs.Document.Piece.{Newline}
 use Rattle.zone_core.specs.Record.{Record}
-use Rattle.zone_core.specs.declared.record.Record.{Record as Held}
-use Rattle.zone_core.specs.Owned.{record_of, records_of}
+use Rattle.zone_core.specs.Owned.{Held, record_of, records_of}
 use Rattle.zone_core.specs.Records.{IsRecordOf}
 use Rattle.zone_core.specs.Printed.{IsPrinted}
 use Rattle.zone_core.specs.Printed.IsPrinted.{none, more}

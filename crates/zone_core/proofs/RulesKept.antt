@@ -8,13 +8,12 @@ use Rattle.std.proofs.lemmas.Bool.{eqb-true, eq-eqb}
 use Rattle.zone_core.specs.Record as spec
 use Rattle.zone_core.specs.Zone.{IsUnder, soa_type}
 use Rattle.zone_core.specs.Query.{AxfrQuery}
-use Rattle.zone_core.specs.Owned.{record_of, records_of}
+use Rattle.zone_core.specs.Owned.{Held, record_of, records_of}
 use Rattle.zone_core.specs.Records.{IsRecordOf}
 use Rattle.zone_core.specs.Transfer.{IsInZoneOf, SameSoa, IsTransferred, ClosesTransfer}
 use Rattle.zone_core.specs.Receiving.{IsOpen, IsClosed, KeepsFirstRule, KeepsLastRule}
 use Rattle.zone_core.specs.Intake.{IsPlacing, StandsAt}
 use Rattle.zone_core.specs.Intake.StandsAt.{begun, ended}
-use Rattle.zone_core.specs.declared.record.Record.{Record}
 use Rattle.zone_core.specs.declared.receive.rules.Placing.{Placing}
 use Rattle.zone_core.specs.declared.receive.rules.Placing.TheVariants.{Inner, Last}
 use Rattle.zone_core.proofs.LastRecord.{all_append}
@@ -71,15 +70,15 @@ pub kept_behind : (query : AxfrQuery) (xs : List spec.Record) (soa r : spec.Reco
 kept_behind query xs soa r rest is =
     let P : List spec.Record → Type 0 = λ l. KeepsFirstRule query l r in subst P (sym is) tt
 
-pub kept_where_none : {query : AxfrQuery} {xs : List spec.Record} {closed : Bool} (class : ℕ) (front : List Record)
-    (first : Option (Bor Record)) (none : Bool) (r : spec.Record) → option_copied first ≡ slice_get front 0 → is_some first ≡ not none
+pub kept_where_none : {query : AxfrQuery} {xs : List spec.Record} {closed : Bool} (class : ℕ) (front : List Held)
+    (first : Option (Bor Held)) (none : Bool) (r : spec.Record) → option_copied first ≡ slice_get front 0 → is_some first ≡ not none
     → none ≡ true → StandsAt query (records_of class front) closed xs → KeepsFirstRule query [] r → KeepsFirstRule query xs r
 kept_where_none {query} {xs} class front first none r is told is_none stands keeps =
     let empty = no_first front first is (told ∙ ap not is_none) in
     kept_first query xs r (stands_empty stands (ap (records_of class) empty)) keeps
 
-pub kept_where_some : {query : AxfrQuery} {xs : List spec.Record} {closed : Bool} (class : ℕ) (front : List Record)
-    (first : Option (Bor Record)) (none : Bool) (r : spec.Record) → option_copied first ≡ slice_get front 0 → is_some first ≡ not none
+pub kept_where_some : {query : AxfrQuery} {xs : List spec.Record} {closed : Bool} (class : ℕ) (front : List Held)
+    (first : Option (Bor Held)) (none : Bool) (r : spec.Record) → option_copied first ≡ slice_get front 0 → is_some first ≡ not none
     → none ≡ false → StandsAt query (records_of class front) closed xs → KeepsFirstRule query xs r
 kept_where_some {query} {xs} class front first none r is told is_some stands =
     let there = first_some front first is (told ∙ ap not is_some) in
@@ -156,7 +155,7 @@ told_other n m result told is same =
     let none : true ≡ false = sym is ∙ told ∙ ap not equal in cc
 
 -- one record where two classes are equal
-pub same_in_class : (class other : ℕ) (soa r : Record) → class ≡ other → SameSoa (record_of other soa) (record_of class r)
+pub same_in_class : (class other : ℕ) (soa r : Held) → class ≡ other → SameSoa (record_of other soa) (record_of class r)
     → SameSoa (record_of other soa) (record_of other r)
 same_in_class class other soa r is same =
     let P : ℕ → Type 0 = λ n. SameSoa (record_of other soa) (record_of n r) in subst P is same
@@ -166,7 +165,7 @@ pub known_first : (class : ℕ) (held : List spec.Record) (soa : spec.Record) (o
 known_first class held soa others is each =
     let P : List spec.Record → Type 0 = λ l. AllByRecursion (IsRecordOf class) l in (subst P is each).0
 
-pub in_own_class : (class other : ℕ) (soa r : Record) → class ≡ other → SameSoa (record_of other soa) (record_of other r)
+pub in_own_class : (class other : ℕ) (soa r : Held) → class ≡ other → SameSoa (record_of other soa) (record_of other r)
     → SameSoa (record_of other soa) (record_of class r)
 in_own_class class other soa r is same =
     let P : ℕ → Type 0 = λ n. SameSoa (record_of other soa) (record_of n r) in subst P (sym is) same

@@ -6,10 +6,9 @@ use lib.Pointwise.{pointwise_decides, bytes_decides}
 use Rattle.dns_label.specs.Name.{low}
 use Rattle.dns_header.specs.Header.{id_of}
 use Rattle.zone_core.specs.Record as spec
-use Rattle.zone_core.specs.declared.record.Record.{Record}
 use Rattle.zone_core.specs.declared.send_error.SendError.{SendError}
 use Rattle.zone_core.specs.declared.send_error.SendError.TheVariants as send_error
-use Rattle.zone_core.specs.Owned.{records_of}
+use Rattle.zone_core.specs.Owned.{Held, records_of}
 use Rattle.zone_core.specs.Query.{AxfrQuery, IsQuery}
 use Rattle.zone_core.specs.Records.{AreRecordsOf, IsQueryFor}
 use Rattle.zone_core.specs.Sent.{AsksFor, IsSent, IsSendFault}
@@ -17,11 +16,11 @@ use Rattle.zone_core.specs.Sending.{IsRefusedBy}
 use Rattle.zone_core.specs.View.{apex_of}
 
 -- the records that are held are the zone's
-same_records : (query : AxfrQuery) (class : ℕ) (held : List Record) (records : List spec.Record) → query.class ≡ class
+same_records : (query : AxfrQuery) (class : ℕ) (held : List Held) (records : List spec.Record) → query.class ≡ class
     → records_of class held ≡ records → records_of query.class held ≡ records
 same_records query class held records same are = ap (λ n. records_of n held) same ∙ are
 
-pub sent_for : (query : AxfrQuery) (class : ℕ) (held : List Record) (records : List spec.Record) (within max : ℕ) (stream : List ℕ)
+pub sent_for : (query : AxfrQuery) (class : ℕ) (held : List Held) (records : List spec.Record) (within max : ℕ) (stream : List ℕ)
     → AsksFor query (apex_of records) class → records_of class held ≡ records → within ≡ max
     → IsSent (records_of query.class held) query within stream → IsSent records query max stream
 sent_for query class held records within max stream asks are same sent =
@@ -36,7 +35,7 @@ fault_of query class records octets max send_error.WrongZone is asks refused = a
 fault_of query class records octets max (send_error.Record n) is asks refused = (query, is, asks, refused)
 fault_of query class records octets max send_error.OutOfMemory is asks refused = tt
 
-pub fault_for : (query : AxfrQuery) (class : ℕ) (held : List Record) (records : List spec.Record) (octets : List ℕ) (within max : ℕ)
+pub fault_for : (query : AxfrQuery) (class : ℕ) (held : List Held) (records : List spec.Record) (octets : List ℕ) (within max : ℕ)
     (error : SendError) → IsQuery octets query → AsksFor query (apex_of records) class → records_of class held ≡ records → within ≡ max
     → IsRefusedBy query within (records_of query.class held) error → IsSendFault records (apex_of records) class octets max error
 fault_for query class held records octets within max error is asks are same refused =

@@ -6,9 +6,8 @@ use Rattle.std.specs.List.{push}
 use Rattle.std.proofs.lemmas.List.{map-append}
 use Rattle.std.proofs.lemmas.List.Concat.{flat_map-append}
 use Rattle.zone_core.specs.Record as spec
-use Rattle.zone_core.specs.declared.record.Record.{Record}
 use Rattle.zone_core.specs.declared.sender.Sender.{Sender}
-use Rattle.zone_core.specs.Owned.{record_of, records_of}
+use Rattle.zone_core.specs.Owned.{Held, record_of, records_of}
 use Rattle.zone_core.specs.Query.{AxfrQuery}
 use Rattle.zone_core.specs.Frames.{frame, frames}
 use Rattle.zone_core.specs.Cutting.{IsFullCut, IsBlocked}
@@ -77,36 +76,36 @@ mapped_length f [] = refl
 mapped_length f (x ∷ xs) = ap suc (mapped_length f xs)
 
 -- a record is blocked that fits nowhere behind those before it
-pub record_blocked : (sender : Sender) (query : AxfrQuery) (records : List Record) (i : ℕ) (r : Record) (max : ℕ)
+pub record_blocked : (sender : Sender) (query : AxfrQuery) (records : List Held) (i : ℕ) (r : Held) (max : ℕ)
     → FitsNowhere sender query (records_of query.class (take i records)) (record_of query.class r)
     → i < length records → r ≡ get_or records i r → sender.max ≡ max
     → IsBlocked (size query) max (with_soa_again (records_of query.class records)) (i + 1)
 record_blocked sender query [] i r max nowhere within at same = absurd (omega arith)
 record_blocked sender query (soa ∷ others) i r max nowhere within at same =
-    let f : Record → spec.Record = record_of query.class in
-    let records : List Record = soa ∷ others in
+    let f : Held → spec.Record = record_of query.class in
+    let records : List Held = soa ∷ others in
     let P : List spec.Record → Type 0 = λ rs. IsFullCut (size query) sender.max rs nowhere.groups in
     let Q : ℕ → Type 0 = λ m. IsBlocked (size query) m (with_soa_again (records_of query.class records)) (i + 1) in
     subst Q same (blocked_at (size query) sender.max (map f records ++ f soa ∷ []) i nowhere.groups (f r) (mapped_at f records (f soa ∷ []) i r within at)
     (subst P (mapped_front f records (f soa ∷ []) i within) nowhere.cut) nowhere.behind nowhere.alone)
 
 -- all records and the first of them again
-pub all_again : (class : ℕ) (records : List Record) (i : ℕ) (soa : Record) → length records ≤ i → slice_get records 0 ≡ Some soa
+pub all_again : (class : ℕ) (records : List Held) (i : ℕ) (soa : Held) → length records ≤ i → slice_get records 0 ≡ Some soa
     → push (records_of class (take i records)) (record_of class soa) ≡ with_soa_again (records_of class records)
 all_again class [] i soa all first = absurd cc
 all_again class (r ∷ others) i soa all first =
-    let f : Record → spec.Record = record_of class in
+    let f : Held → spec.Record = record_of class in
     let same : soa ≡ r = cc in
     ap (λ l. push (map f l) (f soa)) (take_whole (r ∷ others) i all) ∙ ap (λ x. push (map f (r ∷ others)) (f x)) same
 
 -- the SOA is blocked that fits nowhere behind all records
-pub soa_blocked : (sender : Sender) (query : AxfrQuery) (records : List Record) (i : ℕ) (soa : Record) (max : ℕ)
+pub soa_blocked : (sender : Sender) (query : AxfrQuery) (records : List Held) (i : ℕ) (soa : Held) (max : ℕ)
     → FitsNowhere sender query (records_of query.class (take i records)) (record_of query.class soa)
     → length records ≤ i → slice_get records 0 ≡ Some soa → sender.max ≡ max
     → IsBlocked (size query) max (with_soa_again (records_of query.class records)) (length records + 1)
 soa_blocked sender query records i soa max nowhere all first same =
-    let f : Record → spec.Record = record_of query.class in
-    let P : List Record → Type 0 = λ rs. IsFullCut (size query) sender.max (map f rs) nowhere.groups in
+    let f : Held → spec.Record = record_of query.class in
+    let P : List Held → Type 0 = λ rs. IsFullCut (size query) sender.max (map f rs) nowhere.groups in
     let whole = take_whole records i all in
     let blocked = next_is_blocked (size query) sender.max (map f records) nowhere.groups (f soa) [] (subst P whole nowhere.cut) nowhere.behind nowhere.alone in
     let again : push (map f records) (f soa) ≡ with_soa_again (records_of query.class records) =
@@ -117,7 +116,7 @@ soa_blocked sender query records i soa max nowhere all first same =
     subst S (mapped_length f records) (subst R again (subst Q same blocked))
 
 -- where there are no records, none is sent
-pub none_again : (class : ℕ) (records : List Record) (i : ℕ) → length records ≤ 0
+pub none_again : (class : ℕ) (records : List Held) (i : ℕ) → length records ≤ 0
     → records_of class (take i records) ≡ with_soa_again (records_of class records)
 none_again class [] i empty = ap (map (record_of class)) (take_whole [] i (omega arith))
 none_again class (r ∷ records) i empty = absurd (omega arith)

@@ -4,8 +4,7 @@ use Rattle.std.proofs.lemmas.List.{map-append, length-map}
 use mir.Val.{bool_byte}
 use Rattle.std.specs.List.{push}
 use Rattle.zone_core.specs.Record as spec
-use Rattle.zone_core.specs.declared.record.Record.{Record}
-use Rattle.zone_core.specs.Owned.{record_of, records_of}
+use Rattle.zone_core.specs.Owned.{Held, record_of, records_of}
 use Rattle.zone_core.specs.Query.{AxfrQuery}
 use Rattle.zone_core.specs.Transfer.{WrittenOut, HasRecord, IsTransferred, ClosesTransfer}
 use Rattle.zone_core.specs.Receiving.{IsOpen}
@@ -63,8 +62,8 @@ takes_inner {query} {held = held} {new} {front} r has not_closed is still stands
     record { r = r; has = has; stands = subst Q (sym (stands_same stands not_closed)) (subst P (sym is) (begun still)) }
 
 -- records that are held, with one more
-pub records_push : (class : ℕ) (records : List Record) (r : Record) → records_of class (records ++ r ∷ []) ≡ push (records_of class records) (record_of class r)
+pub records_push : (class : ℕ) (records : List Held) (r : Held) → records_of class (records ++ r ∷ []) ≡ push (records_of class records) (record_of class r)
 records_push class records r = map-append (record_of class) records (r ∷ [])
 
-pub records_length : (class : ℕ) (records : List Record) → length (records_of class records) ≡ length records
+pub records_length : (class : ℕ) (records : List Held) → length (records_of class records) ≡ length records
 records_length class records = length-map records (record_of class)

@@ -7,8 +7,7 @@ use Rattle.std.proofs.lemmas.Nat.{from_be_bytes-to_be_bytes_2}
 use Rattle.zone_core.specs.Query.{AxfrQuery}
 use Rattle.zone_core.specs.Frames.{frame, frames, IsPartial}
 use Rattle.std.specs.List.{AllByRecursion}
-use Rattle.zone_core.specs.declared.record.Record.{Record}
-use Rattle.zone_core.specs.Owned.{records_of}
+use Rattle.zone_core.specs.Owned.{Held, records_of}
 use Rattle.zone_core.specs.Records.{IsRecordOf}
 use Rattle.zone_core.specs.Transfer.{WrittenOut, IsTransferIn}
 use Rattle.zone_core.specs.Intake.{BeginsWithFrame, EndsTransfer, HasFrame, IsEnded, IsWaiting, Judged}
@@ -64,6 +63,6 @@ pub ended_here : (intake new : Intake) (query : AxfrQuery) (end : ℕ) → EndsT
     → new.records ≡ intake.records → IsEnded new query
 ended_here intake new query end ends octets records =
     let P : List ℕ → Type 0 = λ l. IsTransferIn WrittenOut query l (records_of query.class intake.records.items) in
-    let Q : Vec Record Global → Type 0 = λ v. IsTransferIn WrittenOut query new.octets.items (records_of query.class v.items) in
-    let R : Vec Record Global → Type 0 = λ v. AllByRecursion (IsRecordOf query.class) (records_of query.class v.items) in
+    let Q : Vec Held Global → Type 0 = λ v. IsTransferIn WrittenOut query new.octets.items (records_of query.class v.items) in
+    let R : Vec Held Global → Type 0 = λ v. AllByRecursion (IsRecordOf query.class) (records_of query.class v.items) in
     record { transfer = subst Q (sym records) (subst P (sym octets) ends.transfer); known = subst R (sym records) ends.known }

@@ -46,6 +46,12 @@ pub record SpellsData (rtype : ℕ) (words : List (List ℕ)) (data' : List ℕ)
   pub spelled : DataWords rtype words row
   pub is : data' ≡ octets row
 
+-- so much was appended as the words spell of data of the type
+pub record AppendsData (rtype : ℕ) (words : List (List ℕ)) (old new : List ℕ) : Type 0 where
+  pub appended : List ℕ
+  pub spells : SpellsData rtype words appended
+  pub whole : new ≡ old ++ appended
+
 -- what an error for the text says. An error for want of memory says nothing.
 abbrev pub OnText : EntryError → Type 0 → Type 0
 OnText Text P = P

@@ -13,7 +13,6 @@ use Rattle.zone_core.specs.Owned.{record_of, records_of}
 use Rattle.zone_core.specs.Records.{IsRecordOf}
 use Rattle.zone_core.specs.Transfer.{WrittenOut, HasRecord, IsAnswer, AreAnswers, IsTransferred, ClosesTransfer, IsTransferIn}
 use Rattle.zone_core.specs.Receiving.{IsOpen, IsRecordFault, IsMessageFault, IsStreamFault, KeepsRulesTo}
-use Rattle.zone_core.specs.declared.record.Record.{Record}
 use Rattle.zone_core.specs.declared.receive.error.ReceiveError.{ReceiveError}
 use Rattle.zone_core.specs.declared.receive.error.ReceiveError.TheVariants as receive_error
 use Rattle.zone_core.specs.declared.receive.record.RecordError.{RecordError}

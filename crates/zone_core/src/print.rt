@@ -39,6 +39,3 @@ pub(crate) fn print_records(
     }
     Ok(text)
 }
-
-#[cfg(test)]
-mod tests;

@@ -8,8 +8,6 @@ mod receiver;
 mod record;
 mod rules;
 mod soa;
-#[cfg(test)]
-mod tests;
 
 pub use error::ReceiveError;
 pub use receiver::Receiver;

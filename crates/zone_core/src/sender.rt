@@ -164,23 +164,23 @@ fn record_len(record: &Record) -> usize
     ensures octets { (class : ℕ) → result ≡ length (record_octets (record_of class «record».now)) }
     ensures small { result < 2 ^ 63 + 2 ^ 16 }
 {
-    record.owner.len() + FIXED_OCTETS + record.data.len()
+    record.owner().len() + FIXED_OCTETS + record.data().len()
 }
 
 /// Appends a record with every name written out (RFC 1035 3.2.1).
 fn append_record(stream: &mut Vec<u8>, class: Class, record: &Record) -> Result<(), AllocError>
-    requires { length «record».now.data.items < 2 ^ 16 }
+    requires { length «record».now.rdata < 2 ^ 16 }
     ensures { OnOk result (stream.new.items ≡ stream.old.items ++ record_octets (record_of class «record».now)) }
 {
-    let [type_high, type_low] = record.rtype.to_int().to_be_bytes();
+    let [type_high, type_low] = record.rtype().to_int().to_be_bytes();
     let [class_high, class_low] = class.to_int().to_be_bytes();
-    let [a, b, c, d] = record.ttl.as_secs().to_be_bytes();
-    let [len_high, len_low] = (record.data.len() as u16).to_be_bytes();
-    stream.extend_from_slice(record.owner.as_slice())?;
+    let [a, b, c, d] = record.ttl().as_secs().to_be_bytes();
+    let [len_high, len_low] = (record.data().len() as u16).to_be_bytes();
+    stream.extend_from_slice(record.owner().as_slice())?;
     stream.extend_from_slice(&[
         type_high, type_low, class_high, class_low, a, b, c, d, len_high, len_low,
     ])?;
-    stream.extend_from_slice(record.data.as_slice())
+    stream.extend_from_slice(record.data())
 }
 
 /// Writes a number over the two octets at a place.

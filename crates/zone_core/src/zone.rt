@@ -78,7 +78,7 @@ impl Zone {
     pub fn apex(&self) -> Name<&[u8]>
         ensures { result ≡ apex_of self.now.records }
     {
-        self.records[0].owner.for_ref()
+        self.records[0].owner()
     }
 
     /// The class of all the records.
@@ -169,10 +169,10 @@ fn check_rules(front: &[Record], next: &Record) -> Result<(), ZoneError>
 {
     let number = front.len() + 1;
     match front.first() {
-        None if next.rtype == Rtype::SOA => Ok(()),
+        None if next.is_soa() => Ok(()),
         None => Err(ZoneError::FirstNotSoa(number)),
-        Some(_) if next.rtype == Rtype::SOA => Err(ZoneError::SecondSoa(number)),
-        Some(soa) if next.owner.ends_with(&soa.owner) => Ok(()),
+        Some(_) if next.is_soa() => Err(ZoneError::SecondSoa(number)),
+        Some(soa) if next.is_under(&soa.owner()) => Ok(()),
         Some(_) => Err(ZoneError::OutOfZone(number)),
     }
 }
@@ -228,14 +228,14 @@ impl<'a> ZoneRecord<'a> {
     pub fn owner(&self) -> Name<&'a [u8]>
         ensures { result ≡ (seen_record self.now).owner }
     {
-        self.record.owner.for_ref()
+        self.record.owner()
     }
 
     /// The type of the data.
     pub fn rtype(&self) -> Rtype
         ensures { result ≡ (seen_record self.now).rtype }
     {
-        self.record.rtype
+        self.record.rtype()
     }
 
     /// The class, which is the zone's.
@@ -249,13 +249,13 @@ impl<'a> ZoneRecord<'a> {
     pub fn ttl(&self) -> Ttl
         ensures { result ≡ (seen_record self.now).ttl }
     {
-        self.record.ttl
+        self.record.ttl()
     }
 
     /// The data as octets, with every name written out.
     pub fn data(&self) -> &'a [u8]
         ensures { result.now ≡ (seen_record self.now).rdata }
     {
-        self.record.data.as_slice()
+        self.record.data()
     }
 }

@@ -21,6 +21,3 @@ pub use zone_core::{
     DisplayKind, Query, QueryError, ReceiveError, Receiver, SendError, Spelling, Zone, ZoneError,
     ZoneRecord, ZoneRecords, check_query, laws, send,
 };
-
-#[cfg(test)]
-mod tests;

@@ -4,8 +4,6 @@ ghost use Rattle.dns_label.specs.Label.{octets_of};
 ghost use Rattle.dns_label.specs.Composed.{label_wire, low_label};
 
 mod order;
-#[cfg(test)]
-mod tests;
 mod text;
 mod view;
 

@@ -31,7 +31,7 @@ impl<B: OctetsBuilder + FreezeBuilder + Drop> NameBuilder<B> {
             head: _,
         } = self;
         builder.append_slice(&[0])?;
-        Ok(Name::of_octets(builder.freeze()))
+        Ok(Name::from_octets_unchecked(builder.freeze()))
     }
 
     /// The name of all labels and those of an absolute name behind them.
@@ -51,6 +51,6 @@ impl<B: OctetsBuilder + FreezeBuilder + Drop> NameBuilder<B> {
             head: _,
         } = self;
         builder.append_slice(labels.as_slice())?;
-        Ok(Name::of_octets(builder.freeze()))
+        Ok(Name::from_octets_unchecked(builder.freeze()))
     }
 }

@@ -23,7 +23,7 @@ impl<L: ToRelativeName, R: ToName> ToName for Chain<L, R> {
     fn to_vec(&self, alloc: Global) -> Result<Name<Vec<u8>>, AllocError> {
         let _flat = self.as_flat_slice();
         let octets = Vec::from_slice(alloc, flat_octets(self).as_slice())?;
-        Ok(Name::of_octets(octets))
+        Ok(Name::from_octets_unchecked(octets))
     }
 }
 

@@ -12,8 +12,9 @@ use dns_octets::{AppendError, EmptyBuilder, FromBuilder, Octets, OctetsFrom};
 use std::alloc::Global;
 
 impl<Octs: Octets> Name<Octs> {
-    /// The name that the octets are, of which this is known.
-    pub(crate) fn of_octets(octets: Octs) -> Self
+    /// The name that the octets are, uncompressed and whole (RFC 1035 3.1). They are not looked at: the caller owes that they
+    /// are a name's.
+    pub fn from_octets_unchecked(octets: Octs) -> Self
         requires { IsWritten (Octs.list octets) }
         ensures { Octs.list octets ≡ wire result }
     {
@@ -33,7 +34,7 @@ where
     ensures short { result ≡ Err ShortBuf → IsPast ⟦<Octs::Builder as EmptyBuilder>⟧.limit (length octets.now) }
     ensures not_bad { result ≡ Err BadLength → ⊥ }
 {
-    Ok(Name::of_octets(octets_from(alloc, octets)?))
+    Ok(Name::from_octets_unchecked(octets_from(alloc, octets)?))
 }
 
 /// The same name over other octets. Refused with `ShortBuf` only where these can't hold as many octets, and with

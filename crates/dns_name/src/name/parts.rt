@@ -73,7 +73,7 @@ impl<Octs: Octets> Name<Octs> {
         ensures { IsBack self.now start result }
     {
         let (_, back) = self.as_slice().split_at(start);
-        Name::of_octets(back)
+        Name::from_octets_unchecked(back)
     }
 
     /// The labels in front of the place, and the name from there on.
@@ -127,7 +127,7 @@ impl<Octs: Octets> Name<Octs> {
         if label.is_root() {
             return None;
         }
-        Some((label, Name::of_octets(behind)))
+        Some((label, Name::from_octets_unchecked(behind)))
     }
 
     /// The name without its first label, or None at the root.

@@ -53,7 +53,7 @@ impl<'a> Iterator for SuffixIter<'a> {
     fn next(&mut self) -> Option<Name<&'a [u8]>> {
         let octets = self.rest?;
         self.rest = parent_octets(octets);
-        Some(Name::of_octets(octets))
+        Some(Name::from_octets_unchecked(octets))
     }
 }
 

@@ -134,6 +134,6 @@ impl<Octs: OctetsBuilder + Drop> RelativeName<Octs> {
     {
         let mut octets = self.into_octets();
         octets.append_slice(&[0])?;
-        Ok(Name::of_octets(octets))
+        Ok(Name::from_octets_unchecked(octets))
     }
 }

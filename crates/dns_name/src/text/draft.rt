@@ -145,7 +145,7 @@ impl Spelling {
             return Err(FromStrError::Presentation(PresentationError::EmptyLabel));
         }
         let octets = octets_from(alloc, &self.octets[..self.len])?;
-        Ok(Name::of_octets(octets))
+        Ok(Name::from_octets_unchecked(octets))
     }
 
     /// The relative name of the finished labels.

@@ -19,6 +19,11 @@ fn ns_is_scanned(rt: HostRuntime) -> Result<(), Fail> {
     let ns = Ns::scan(&mut scanner)?;
     assert!(rt; is_written(rt.alloc(), &ns, b"\x00\x05\x01A\x01b\x00"));
     assert_eq!(rt; scanner.peek_text()?, b"next".as_slice());
+    Ok(())
+}
+
+#[test]
+fn what_is_no_name_is_not_scanned(rt: HostRuntime) -> Result<(), Fail> {
     let mut missing = over(rt.alloc(), "")?;
     assert_eq!(rt; Ns::scan(&mut missing).err(), Some(StrError::EndOfEntry));
     let mut other = over(rt.alloc(), "a..b")?;

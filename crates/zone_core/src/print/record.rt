@@ -26,13 +26,13 @@ pub(crate) fn print_record(
     ensures { OnOk result ((class : ℕ) → IsRecordOf class (record_of class «record».now) → class_text.now ≡ class_written class →
         IsLine (record_of class «record».now) text.old.items text.new.items) }
 {
-    print_name(text, &record.owner.for_ref())?;
+    print_name(text, &record.owner())?;
     text.push(b' ')?;
-    print_number(text, record.ttl.as_secs())?;
+    print_number(text, record.ttl().as_secs())?;
     text.push(b' ')?;
     text.extend_from_slice(class_text)?;
     text.push(b' ')?;
-    print_data(text, record.rtype, record.data.as_slice())?;
+    print_data(text, record.rtype(), record.data())?;
     Ok(text.push(b'\n')?)
 }
 

@@ -11,7 +11,7 @@ ghost use Rattle.zone_core.specs.declared.receive.record.RecordError.TheVariants
 
 use crate::receive::soa::SoaData;
 use crate::record::Record;
-use dns_name::{Class, Name, ParseError, Parser, Rtype, ShortInput, ToName, Ttl};
+use dns_name::{Class, Name, ParseError, Parser, Rtype, ShortInput, Ttl};
 use std::alloc::{AllocError, Global};
 
 /// Why no record is read.
@@ -68,13 +68,10 @@ pub(crate) fn parse_record(
     if !is_data(rtype, data) {
         return Err(RecordError::Malformed);
     }
-    let record = Record {
-        owner: owner.to_vec(alloc)?,
-        rtype,
-        ttl,
-        data: Vec::from_slice(alloc, data)?,
-    };
-    Ok((record, class))
+    let mut octets = Vec::with_capacity(alloc, owner.len() + data.len())?;
+    octets.extend_from_slice(owner.as_slice())?;
+    octets.extend_from_slice(data)?;
+    Ok((Record::of_octets(octets, owner.len(), rtype, ttl), class))
 }
 
 /// Whether the octets are data of the type, which has to be SOA or A.

@@ -15,7 +15,7 @@ use crate::query::OwnedQuery;
 use crate::receive::error::ReceiveError;
 use crate::receive::soa::SoaData;
 use crate::record::Record;
-use dns_name::{Class, Rtype};
+use dns_name::Class;
 
 /// What a record is in a transfer.
 #[derive(Clone, Copy, Debug, PartialEq, Eq)]
@@ -52,11 +52,11 @@ pub(crate) fn place_record(
     if class != query.class {
         return Err(ReceiveError::Class(number));
     }
-    if !next.owner.ends_with(&query.name) {
+    if !next.is_under(&query.name) {
         return Err(ReceiveError::OutOfZone(number));
     }
     let placing = match soa {
-        Some(soa) if next.rtype == Rtype::SOA => {
+        Some(soa) if next.is_soa() => {
             if !is_same_soa(soa, next) {
                 return Err(ReceiveError::SoaDiffers(number));
             }
@@ -74,7 +74,7 @@ pub(crate) fn place_record(
 fn is_first_soa(query: &OwnedQuery, next: &Record) -> bool
     ensures { (class : ℕ) → IsTrue result ↔ KeepsFirstRule (asked_of query.now) [] (record_of class next.now) }
 {
-    next.rtype == Rtype::SOA && next.owner == query.name
+    next.is_soa() && next.is_at(&query.name)
 }
 
 /// Whether two SOA records of one class are equal, names up to ASCII case.
@@ -83,11 +83,11 @@ fn is_same_soa(soa: &Record, other: &Record) -> bool
     requires second { (class : ℕ) × IsRecordOf class (record_of class other.now) × (other.now.rtype ≡ soa_type) }
     ensures { (class : ℕ) → IsTrue result ↔ SameSoa (record_of class soa.now) (record_of class other.now) }
 {
-    let Some(data) = SoaData::from_slice(soa.data.as_slice()) else {
+    let Some(data) = SoaData::from_slice(soa.data()) else {
         return false;
     };
-    let Some(other_data) = SoaData::from_slice(other.data.as_slice()) else {
+    let Some(other_data) = SoaData::from_slice(other.data()) else {
         return false;
     };
-    soa.owner == other.owner && soa.ttl == other.ttl && data.is_same(&other_data)
+    soa.is_at(&other.owner()) && soa.ttl() == other.ttl() && data.is_same(&other_data)
 }

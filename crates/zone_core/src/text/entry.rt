@@ -9,7 +9,7 @@ ghost use Rattle.zone_core.specs.declared.text.entry.EntryError.TheVariants as e
 use crate::record::Record;
 use crate::text::blank::{RowStart, skip_row};
 use crate::text::number::parse_number;
-use crate::text::rdata::parse_rdata;
+use crate::text::rdata::append_rdata;
 use crate::text::word::split_words;
 use dns_name::{Class, FromStrError, Name, Rtype, Ttl};
 use std::alloc::{AllocError, Global};
@@ -96,118 +96,8 @@ fn parse_record(alloc: Global, words: &[&[u8]], class: Class) -> Result<Record, 
     let ttl = parse_number(front[1]).ok_or(EntryError::Text)?;
     let rtype = Rtype::from_bytes(front[3]).ok_or(EntryError::Text)?;
     let owner = Name::absolute_from_text(alloc, front[0])?;
-    let data = parse_rdata(alloc, rtype, data_words)?;
-    Ok(Record {
-        owner,
-        rtype,
-        ttl: Ttl::from_secs(ttl),
-        data,
-    })
-}
-
-#[cfg(test)]
-mod tests {
-    use super::*;
-    use std::test::Fail;
-
-    /// The whole text is this record of class IN, and nothing is behind it.
-    fn reads(
-        alloc: Global,
-        text: &[u8],
-        rtype: Rtype,
-        ttl: u32,
-        data: &[u8],
-    ) -> Result<bool, EntryError> {
-        match next_record(alloc, text, Class::IN)? {
-            Some((record, rest)) => Ok(
-                record.owner.as_slice() == b"\x01a\x00".as_slice()
-                    && record.rtype == rtype
-                    && record.ttl.as_secs() == ttl
-                    && record.data.as_slice() == data
-                    && next_record(alloc, rest, Class::IN)?.is_none(),
-            ),
-            None => Ok(false),
-        }
-    }
-
-    fn is_refused(alloc: Global, text: &[u8]) -> bool {
-        matches!(next_record(alloc, text, Class::IN), Err(EntryError::Text))
-    }
-
-    #[test]
-    fn rows_are_read(rt: HostRuntime) -> Result<(), Fail> {
-        let alloc = rt.alloc();
-        let soa =
-            b"\x01b\x00\x01c\x00\x00\x00\x00\x01\x00\x00\x00\x02\x00\x00\x00\x03\x00\x00\x00\x04\x00\x00\x00\x05";
-        assert!(rt;
-            reads(
-                alloc,
-                b"a. 60 IN SOA b. c. 1 2 3 4 5\n",
-                Rtype::SOA,
-                60,
-                soa
-            )?
-        );
-        assert!(rt;
-            reads(
-                alloc,
-                b"a.  007 in  type6 b. c. 1 2 3 4 5\n",
-                Rtype::SOA,
-                7,
-                soa
-            )?
-        );
-        assert!(rt; reads(alloc, b"a. 60 IN A 1.2.3.4\n", Rtype::A, 60, &[1, 2, 3, 4])?);
-        assert!(rt;
-            reads(
-                alloc,
-                b"\\097. 0 CLASS1 TYPE1 0.0.0.255\n",
-                Rtype::A,
-                0,
-                &[0, 0, 0, 255]
-            )?
-        );
-        Ok(())
-    }
-
-    #[test]
-    fn rows_without_tokens_are_no_entries(rt: HostRuntime) -> Result<(), Fail> {
-        let alloc = rt.alloc();
-        let text =
-            b"\n \t\r\n; a comment (\n ( ; inside\n ) ; behind\n()\na. 1 IN A 1.2.3.4\n \t; the end";
-        assert!(rt; reads(alloc, text, Rtype::A, 1, &[1, 2, 3, 4])?);
-        assert!(rt; next_record(alloc, b"", Class::IN)?.is_none());
-        assert!(rt; is_refused(alloc, b"( )"));
-        assert!(rt; is_refused(alloc, b"(\n"));
-        assert!(rt; is_refused(alloc, b")\n"));
-        assert!(rt; is_refused(alloc, b"(()\n"));
-        Ok(())
-    }
-
-    #[test]
-    fn other_rows_are_refused(rt: HostRuntime) {
-        let alloc = rt.alloc();
-        let rows: [&[u8]; 17] = [
-            b"a.\t60\tIN\tA\t1.2.3.4\n",
-            b"a. 60 IN A 1.2.3.4",
-            b"a. 60 IN A 1.2.3.4\x80\n",
-            b"a. 60 IN A 1.2.3\n",
-            b"a. 4294967296 IN A 1.2.3.4\n",
-            b"a. +60 IN A 1.2.3.4\n",
-            b"a. \"60\" IN A 1.2.3.4\n",
-            b"a 60 IN A 1.2.3.4\n",
-            b"$TTL 5\n",
-            b"$a. 60 IN A 1.2.3.4\n",
-            b"a. 60 CH A 1.2.3.4\n",
-            b"a. 60 IN NS b.\n",
-            b"a. 60 IN A 1.2.3.4 \n",
-            b" a. 60 IN A 1.2.3.4\n",
-            b"a. 60 IN A 1.2.3.4 5\n",
-            b"a. 60 IN SOA b. c. 1 2 3 4\n",
-            b"a. 60 IN SOA b. c. 1 2 3 4 5 6\n",
-        ];
-        for row in rows {
-            assert!(rt; is_refused(alloc, row));
-        }
-    }
+    let owner_len = owner.len();
+    let mut octets = owner.into_octets();
+    append_rdata(&mut octets, alloc, rtype, data_words)?;
+    Ok(Record::of_octets(octets, owner_len, rtype, Ttl::from_secs(ttl)))
 }

@@ -1,4 +1,4 @@
-use Rattle.std.proofs.Common.{◌≡◌, ◌∙◌, ap, subst, rules, length, List, ℕ}
+use Rattle.std.proofs.Common.{◌≡◌, ◌∙◌, ap, subst, rules, length}
 use Rattle.std.specs.Prelude.{Err}
 use Rattle.dns_octets.specs.Builder.{IsPast}
 use Rattle.dns_octets.specs.declared.error.AppendError.TheVariants.{ShortBuf}

@@ -40,29 +40,3 @@ impl OwnedLabelMut<'_> {
         self.label.make_canonical();
     }
 }
-
-#[cfg(test)]
-mod tests {
-    use super::*;
-    use std::test::Fail;
-
-    #[test]
-    fn a_label_that_holds_its_octets_is_lowered_by_a_view(rt: HostRuntime) -> Result<(), Fail> {
-        let mut label: OwnedLabel = "WwW".parse()?;
-        assert_eq!(rt;
-            label.as_label_mut().as_label().as_slice(),
-            b"WwW".as_slice()
-        );
-        lower(&mut label);
-        assert_eq!(rt; label.as_wire_slice(), b"\x03www".as_slice());
-        Ok(())
-    }
-
-    /// What the label is when its view ends follows from the contracts.
-    fn lower(label: &mut OwnedLabel)
-        ensures { octets_owned label.new ≡ low_label (octets_owned label.old) }
-    {
-        let mut view = label.as_label_mut();
-        view.make_canonical();
-    }
-}

@@ -1,5 +1,5 @@
 use Rattle.std.proofs.Common.{ℕ, List, subst}
-use Rattle.dns_octets.specs.Parser.{octets_of, place_of}
+use Rattle.dns_octets.specs.Parser.{octets_of}
 use Rattle.dns_name.specs.Skip.{Skips}
 use Rattle.dns_name.proofs.Cuts.{skips-uncut}
 use Rattle.dns_name.proofs.name.refusal.Goals as goal

@@ -1,4 +1,4 @@
-use Rattle.std.proofs.Common.{◌≡◌, ◌∙◌, List, ℕ, length, ap, subst}
+use Rattle.std.proofs.Common.{◌≡◌, ◌∙◌, length, subst}
 use Rattle.dns_octets.specs.Builder.{IsPast}
 use Rattle.dns_name.specs.Page.{Page, write}
 use Rattle.dns_name.specs.Page.Parts.{End, Octets, Named}

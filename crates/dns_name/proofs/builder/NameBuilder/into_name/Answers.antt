@@ -5,8 +5,8 @@ use Rattle.dns_name.proofs.Case.{wire_one}
 use Rattle.dns_name.proofs.Builds.{stands_name}
 use Rattle.dns_name.proofs.builder.NameBuilder.into_name.Goals as goal
 
-pub of_octets-requires : goal.of_octets-requires
-of_octets-requires g c =
+pub from_octets_unchecked-requires : goal.from_octets_unchecked-requires
+from_octets_unchecked-requires g c =
     let P : Built → Type 0 = λ b. StandsFor (g.B.Octets'.list c.self.inside.builder) c.self.inside.head b in
     let here = subst P c.self.view_is c.self.invariant in
     let made = stands_name _ _ _ _ here (c.freeze.ensures ∙ c.in_ok-append_slice.ensures.ok) in
@@ -17,4 +17,4 @@ returns-clause-ok g c =
     let P : Built → Type 0 = λ b. StandsFor (g.B.Octets'.list c.self.inside.builder) c.self.inside.head b in
     let here = subst P c.self.view_is c.self.invariant in
     let made = stands_name _ _ _ _ here (c.freeze.ensures ∙ c.in_ok-append_slice.ensures.ok) in
-    wire_one c.of_octets.result (labels_built c.args.self) (sym c.of_octets.ensures ∙ made.1)
+    wire_one c.from_octets_unchecked.result (labels_built c.args.self) (sym c.from_octets_unchecked.ensures ∙ made.1)

@@ -7,8 +7,8 @@ use Rattle.dns_name.proofs.Case.{wire_one}
 use Rattle.dns_name.proofs.Reverses.{reverse_written}
 use Rattle.dns_name.proofs.name.Name.reverse_from_addr.Goals as goal
 
-pub of_octets-requires : goal.of_octets-requires
-of_octets-requires g c =
+pub from_octets_unchecked-requires : goal.from_octets_unchecked-requires
+from_octets_unchecked-requires g c =
     let few : length c.push.new.self.items ≤ 255 =
     omega (arith, c.zone_wire-wire.ensures.few, ap (length {A = ℕ}) c.put_label.ensures, length-append c.zone_wire-wire.result.items (label_wire (codes "arpa")), c.push.ensures.len) in
     let made = reverse_written _ _ c.push.new.self.items c.args.addr c.zone_wire-wire.ensures.labels c.put_label.ensures c.push.ensures.items few in
@@ -19,4 +19,4 @@ returns-clause-ok g c =
     let few : length c.push.new.self.items ≤ 255 =
     omega (arith, c.zone_wire-wire.ensures.few, ap (length {A = ℕ}) c.put_label.ensures, length-append c.zone_wire-wire.result.items (label_wire (codes "arpa")), c.push.ensures.len) in
     let made = reverse_written _ _ c.push.new.self.items c.args.addr c.zone_wire-wire.ensures.labels c.put_label.ensures c.push.ensures.items few in
-    wire_one c.of_octets.result (reverse_name c.args.addr) (sym c.of_octets.ensures ∙ c.in_ok-octets_from.ensures.octets ∙ c.as_slice.ensures.value ∙ made.1)
+    wire_one c.from_octets_unchecked.result (reverse_name c.args.addr) (sym c.from_octets_unchecked.ensures ∙ c.in_ok-octets_from.ensures.octets ∙ c.as_slice.ensures.value ∙ made.1)

@@ -13,8 +13,8 @@ pub returns-then-is_root-clause-none : goal.returns-then-is_root-clause-none
 returns-then-is_root-clause-none g c =
     first_root c.in_ok-label.behind.now c.args.self.now c.as_slice.ensures.name c.as_slice.ensures.octets c.in_ok-label.ensures.some (c.if-is_root.ensures.0 refl)
 
-pub of_octets-requires : goal.of_octets-requires
-of_octets-requires g c =
+pub from_octets_unchecked-requires : goal.from_octets_unchecked-requires
+from_octets_unchecked-requires g c =
     first_parent c.as_slice.ensures.name
     (first_of {behind = c.in_ok-label.behind.now} c.args.self.now c.as_slice.ensures.octets c.in_ok-label.ensures.some c.in_ok-label.ensures.left
     (λ none. let bad = c.if-is_root.ensures.1 none in cc))
@@ -23,4 +23,4 @@ pub returns-clause-some : goal.returns-clause-some
 returns-clause-some g c =
     first_is
     (first_of {behind = c.in_ok-label.behind.now} c.args.self.now c.as_slice.ensures.octets c.in_ok-label.ensures.some c.in_ok-label.ensures.left
-    (λ none. let bad = c.if-is_root.ensures.1 none in cc)) c.of_octets.ensures
+    (λ none. let bad = c.if-is_root.ensures.1 none in cc)) c.from_octets_unchecked.ensures

@@ -18,12 +18,12 @@ loop-label-preserved g c =
     c.loop-label.invariant c.in-Some.ensures.steps c.in_ok-push.ensures.items c.len.ensures
     (c.in_ok-extend_from_slice.ensures.items ∙ ap (λ l. c.push.new.self.items ++ l) c.as_slice.ensures)
 
-pub of_octets-requires : goal.of_octets-requires
-of_octets-requires g c =
+pub from_octets_unchecked-requires : goal.from_octets_unchecked-requires
+from_octets_unchecked-requires g c =
     flat-written _ _ (read-name _ _ c.args.self.now.reads)
     (wire_made c.loop-label.octets.items c.loop-label.label-iterator _ c.loop-label.invariant c.in-None.ensures.steps.0)
 
 pub returns : goal.returns
 returns g c =
-    wire_one _ _ (sym c.of_octets.ensures
+    wire_one _ _ (sym c.from_octets_unchecked.ensures
     ∙ wire_made c.loop-label.octets.items c.loop-label.label-iterator _ c.loop-label.invariant c.in-None.ensures.steps.0)

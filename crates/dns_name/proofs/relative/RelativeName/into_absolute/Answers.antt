@@ -7,8 +7,8 @@ use Rattle.dns_name.proofs.Flat.{flat-written}
 use Rattle.dns_name.proofs.Wire.{wire_is}
 use Rattle.dns_name.proofs.relative.RelativeName.into_absolute.Goals as goal
 
-pub of_octets-requires : goal.of_octets-requires
-of_octets-requires g c =
+pub from_octets_unchecked-requires : goal.from_octets_unchecked-requires
+from_octets_unchecked-requires g c =
     flat-written _ c.args.self c.into_octets-octets.ensures.name
     (c.in_ok-append_slice.ensures.ok ∙ ap (λ l. l ++ 0 ∷ []) c.into_octets-octets.ensures.octets ∙ sym (wire_is c.args.self))
 
@@ -22,4 +22,4 @@ returns-in_err-append_slice-clause-short g c is =
 pub returns-clause-ok : goal.returns-clause-ok
 returns-clause-ok g c =
     wire_one _ c.args.self
-    (sym c.of_octets.ensures ∙ c.in_ok-append_slice.ensures.ok ∙ ap (λ l. l ++ 0 ∷ []) c.into_octets-octets.ensures.octets ∙ sym (wire_is c.args.self))
+    (sym c.from_octets_unchecked.ensures ∙ c.in_ok-append_slice.ensures.ok ∙ ap (λ l. l ++ 0 ∷ []) c.into_octets-octets.ensures.octets ∙ sym (wire_is c.args.self))

@@ -1,10 +1,10 @@
-use Rattle.std.proofs.Common.{List, ℕ, [], refl, subst}
+use Rattle.std.proofs.Common.{[], refl, subst}
 use Rattle.std.specs.Prelude.{Option}
 use Rattle.std.proofs.lemmas.Result.{err_from_is_err_and}
 use Rattle.dns_label.specs.NameText.IsAbsoluteText.{root}
 use Rattle.dns_name.specs.declared.text.draft.Spelling.{Spelling}
 use Rattle.dns_name.specs.Draft.{IsReadBy}
-use Rattle.dns_name.proofs.RelativeTexts.{IsWholeRelative, relative-open, relative-none, relative-name, relative-spells, last_dot}
+use Rattle.dns_name.proofs.RelativeTexts.{relative-open, relative-none, relative-name, relative-spells, last_dot}
 use Rattle.dns_name.proofs.Texts.{begun_none}
 use Rattle.dns_name.proofs.relative.RelativeName.of_read.Goals as goal
 

@@ -4,10 +4,10 @@ use Rattle.dns_name.proofs.Flat.{flat-written}
 use Rattle.dns_name.proofs.Case.{wire_one}
 use Rattle.dns_name.proofs.root.Name+ref+slice+u8.root_ref.Goals as goal
 
-pub of_octets-requires : goal.of_octets-requires
-of_octets-requires c =
+pub from_octets_unchecked-requires : goal.from_octets_unchecked-requires
+from_octets_unchecked-requires c =
     let is_name : IsName [] = record { labels = tt; short = omega arith } in
     flat-written _ [] is_name refl
 
 pub returns : goal.returns
-returns c = wire_one c.of_octets.result [] (sym c.of_octets.ensures)
+returns c = wire_one c.from_octets_unchecked.result [] (sym c.from_octets_unchecked.ensures)

@@ -3,8 +3,8 @@ use Rattle.dns_name.proofs.Case.{wire_one}
 use Rattle.dns_name.proofs.Flat.{flat-written}
 use Rattle.dns_name.proofs.to_name.ToName.to_cow.Goals as goal
 
-pub of_octets-requires : goal.of_octets-requires
-of_octets-requires g c = flat-written _ _ c.as_flat_slice.ensures.name c.in-Some.ensures.octets
+pub from_octets_unchecked-requires : goal.from_octets_unchecked-requires
+from_octets_unchecked-requires g c = flat-written _ _ c.as_flat_slice.ensures.name c.in-Some.ensures.octets
 
 pub returns-in-Some : goal.returns-in-Some
-returns-in-Some g c = wire_one _ _ (sym c.of_octets.ensures ∙ c.in-Some.ensures.octets)
+returns-in-Some g c = wire_one _ _ (sym c.from_octets_unchecked.ensures ∙ c.in-Some.ensures.octets)

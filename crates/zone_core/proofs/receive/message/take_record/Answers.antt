@@ -2,10 +2,9 @@ use Rattle.std.proofs.Common.{◌≡◌, ◌+◌, ℕ, List, length, arith, ap, 
 use Rattle.std.proofs.lemmas.Result.{err_from_is_err_and}
 use Rattle.dns_octets.specs.Parser.{octets_of, place_of}
 use Rattle.zone_core.specs.Record as spec
-use Rattle.zone_core.specs.declared.record.Record.{Record}
 use Rattle.zone_core.specs.declared.receive.error.ReceiveError.{ReceiveError}
 use Rattle.zone_core.specs.Asked.{asked_of}
-use Rattle.zone_core.specs.Owned.{record_of, records_of}
+use Rattle.zone_core.specs.Owned.{Held, record_of, records_of}
 use Rattle.zone_core.specs.Transfer.{WrittenOut, HasRecord}
 use Rattle.zone_core.specs.Receiving.{IsRecordFault}
 use Rattle.zone_core.specs.Intake.{StandsAt}
@@ -24,7 +23,7 @@ pub place_record-requires-clause-stands : goal.place_record-requires-clause-stan
 place_record-requires-clause-stands c =
     let front : List spec.Record = c.requires.stands.0 in
     let stands = c.requires.stands.1 in
-    let P : List Record → Type 0 = λ records. StandsAt (asked_of c.args.query.now) (records_of c.args.query.now.class records) c.args.closed front in (
+    let P : List Held → Type 0 = λ records. StandsAt (asked_of c.args.query.now) (records_of c.args.query.now.class records) c.args.closed front in (
       front,
       subst P (sym c.as_slice.ensures.value) stands,
       omega (arith, stands_counted c.from.result stands c.from.ensures, c.len.ensures, records_length c.args.query.now.class c.args.records.now.items),

@@ -6,7 +6,9 @@ use Rattle.dns_rdata.specs.Fields.{IsData}
 use Rattle.dns_message.specs.Record.{ReadsPlainRecord}
 use Rattle.zone_core.specs.Record as spec
 use Rattle.zone_core.specs.Records.{IsRecordOf}
-use Rattle.zone_core.specs.Transfer.{IsTypeToday}
+use Rattle.zone_core.specs.Owned.{Held, record_of}
+use Rattle.zone_core.specs.Transfer.{WrittenOut, HasRecord, IsTypeToday}
+use Rattle.zone_core.proofs.HeldRecords.{parts_of, parts_owned, parts_held}
 use Rattle.zone_core.proofs.PlainRecords.{malformed_exit, taken_off, left_few, parts_taken, no_room, same_parts, no_data, typed_parts, not_typed, taken_long, read_record}
 use Rattle.zone_core.proofs.RecordFronts.{octets_from}
 use Rattle.zone_core.proofs.receive.record.parse_record.Goals as goal
@@ -112,16 +114,16 @@ returns-then-not-is_data-clause-err c =
     c.is_data.ensures.1 c.if-not-is_data.true typed
 
 -- the record that is made
-abbrev record_at : goal.In_ok-from_slice → spec.Record
+abbrev record_at : goal.After-of_octets → spec.Record
 record_at c = record {
-  owner = c.in_ok-to_vec.field-0;
+  owner = c.in_ok-owner.owner;
   rtype = c.from_int-rtype.result;
   class = c.from_int-class.result;
   ttl = c.from_secs-ttl.result;
-  rdata = c.in_ok-from_slice.field-0.items;
+  rdata = c.in_ok-data.data.now;
 }
 
-made : (c : goal.In_ok-from_slice)
+made : (c : goal.After-of_octets)
     → (ReadsPlainRecord (octets_of c.args.parser.now) (place_of c.args.parser.now) (record_at c) (place_of c.parse_octets.new.self)
     × IsTypeToday (record_at c).rtype)
     × IsRecordOf (record_at c).class (record_at c)
@@ -144,9 +146,7 @@ made c =
     let long = taken_long c.parse_u16_be-3.new.self c.from.result c.in_ok-data.data.now (c.in_ok-data.ensures.enough.0 refl)
     c.in_ok-data.ensures.ok in
     let typed = c.is_data.ensures.0 c.if-not-is_data.false in
-    let items : c.in_ok-from_slice.field-0.items ≡ c.in_ok-data.data.now = c.in_ok-from_slice.ensures.items in
     let r : spec.Record = record_at c in
-    let P : List ℕ → Type 0 = λ l. IsData c.from_int-rtype.result l in
     let f1 : c.in_ok-parse_u16_be.field-0 < 2 ^ 16 = omega arith in
     let f2 : c.in_ok-parse_u16_be-2.field-0 < 2 ^ 16 = omega arith in
     let f3 : c.in_ok-parse_u32_be.field-0 < 2 ^ 32 = omega arith in
@@ -159,13 +159,31 @@ made c =
     let q5 = c.in_ok-data.ensures.place.place in
     read_record (octets_of c.args.parser.now) (place_of c.args.parser.now) (place_of c.parse_octets.new.self) r
     c.in_ok-owner.owner c.in_ok-parse_u16_be.field-0 c.in_ok-parse_u16_be-2.field-0 c.in_ok-parse_u32_be.field-0 c.in_ok-len.len
-    (rest_of c.parse_u16_be-3.new.self) (rest_of c.parse_octets.new.self) name.0 f1 f2 f3 f4 whole c.in_ok-to_vec.ensures
-    c.from_int-rtype.ensures c.from_int-class.ensures c.from_secs-ttl.ensures (ap length items ∙ long ∙ c.from.ensures)
-    (fifth ∙ ap (λ l. l ++ rest_of c.parse_octets.new.self) (sym items)) typed.0 (subst P (sym items) typed.1)
+    (rest_of c.parse_u16_be-3.new.self) (rest_of c.parse_octets.new.self) name.0 f1 f2 f3 f4 whole refl
+    c.from_int-rtype.ensures c.from_int-class.ensures c.from_secs-ttl.ensures (long ∙ c.from.ensures) fifth typed.0 typed.1
     (omega (arith, q0, q1, q2, q3, q4, q5, c.from.ensures)) (octets_from (octets_of c.args.parser.now) (place_of c.args.parser.now) c.requires)
 
+pub of_octets-requires : goal.of_octets-requires
+of_octets-requires c = parts_owned (parts_of c.as_slice.ensures.name c.len-2.ensures.octets
+    (c.in_ok-extend_from_slice-2.ensures.items ∙ ap (λ l. l ++ c.in_ok-data.data.now)
+    (c.in_ok-extend_from_slice.ensures.items ∙ ap (λ l. l ++ c.as_slice.result.now) c.in_ok-octets.ensures.items ∙ c.as_slice.ensures.octets)))
+
+held_is : (c : goal.After-of_octets) → c.of_octets.result ≡ record {
+  owner = c.in_ok-owner.owner;
+  rtype = c.from_int-rtype.result;
+  ttl = c.from_secs-ttl.result;
+  rdata = c.in_ok-data.data.now;
+}
+held_is c = c.of_octets.ensures ∙ parts_held c.from_int-rtype.result c.from_secs-ttl.result (parts_of c.as_slice.ensures.name c.len-2.ensures.octets
+    (c.in_ok-extend_from_slice-2.ensures.items ∙ ap (λ l. l ++ c.in_ok-data.data.now)
+    (c.in_ok-extend_from_slice.ensures.items ∙ ap (λ l. l ++ c.as_slice.result.now) c.in_ok-octets.ensures.items ∙ c.as_slice.ensures.octets)))
+
 pub returns-clause-ok : goal.returns-clause-ok
-returns-clause-ok c = (made c).0
+returns-clause-ok c =
+    let P : Held → Type 0 = λ r. HasRecord WrittenOut (octets_of c.args.parser.now) (place_of c.args.parser.now)
+    (record_of c.from_int-class.result r) (place_of c.parse_octets.new.self) in
+    subst P (sym (held_is c)) (made c).0
 
 pub returns-clause-known : goal.returns-clause-known
-returns-clause-known c = (made c).1
+returns-clause-known c =
+    let P : Held → Type 0 = λ r. IsRecordOf c.from_int-class.result (record_of c.from_int-class.result r) in subst P (sym (held_is c)) (made c).1

@@ -51,12 +51,12 @@ returns-then-ne-clause-err c =
           )
     ]
 
-pub returns-then-not-ends_with-clause-err : goal.returns-then-not-ends_with-clause-err
-returns-then-not-ends_with-clause-err c =
+pub returns-then-not-is_under-clause-err : goal.returns-then-not-is_under-clause-err
+returns-then-not-is_under-clause-err c =
     let class : ℕ = c.args.query.now.class in
     let r : spec.Record = record_of c.args.class c.args.next.now in
     let same = told_equal c.args.class class c.ne.result c.ne.ensures c.if-ne.false in
-    let refused = c.if-not-ends_with.true in
+    let refused = c.if-not-is_under.true in
     elim c.else-is_none.branch [
       | else-is_none-via-then-is_none+else-not-is_first_soa w ↦
           λ xs message place end stands number has. (
@@ -66,7 +66,7 @@ returns-then-not-ends_with-clause-err c =
             has,
             kept_where_none class c.args.front.now c.first-soa.result c.is_none.result r c.first-soa.ensures.value c.is_none.ensures w.if-is_none.true stands ((w.is_first_soa.ensures c.args.class).0 w.if-not-is_first_soa.false),
             same,
-            λ under. let told = c.ends_with.ensures.1 (record { front = under.0; whole_is = under.1 }) in cc,
+            λ under. let told = c.is_under.ensures.1 (record { front = under.0; whole_is = under.1 }) in cc,
           )
       | else-is_none-via-else-is_none w ↦
           λ xs message place end stands number has. (
@@ -76,7 +76,7 @@ returns-then-not-ends_with-clause-err c =
             has,
             kept_where_some class c.args.front.now c.first-soa.result c.is_none.result r c.first-soa.ensures.value c.is_none.ensures w.if-is_none.false stands,
             same,
-            λ under. let told = c.ends_with.ensures.1 (record { front = under.0; whole_is = under.1 }) in cc,
+            λ under. let told = c.is_under.ensures.1 (record { front = under.0; whole_is = under.1 }) in cc,
           )
     ]
 
@@ -94,11 +94,11 @@ returns-then-not-is_same_soa-clause-err c =
     let class : ℕ = c.args.query.now.class in
     let r : spec.Record = record_of c.args.class c.args.next.now in
     let same = told_equal c.args.class class c.ne.result c.ne.ensures c.if-ne.false in
-    let under = c.ends_with.ensures.0 c.if-not-ends_with.false in
+    let under = c.is_under.ensures.0 c.if-not-is_under.false in
     let there = first_is c.args.front.now c.first-soa.result c.in-Some.soa c.first-soa.ensures.value c.in-Some.is in
     let soa : spec.Record = record_of class c.in-Some.soa.now in
     let held = ap (records_of class) there.1 in
-    let rtype = eqb-true c.args.next.now.rtype 6 (sym c.eq.ensures ∙ c.if-eq.true) in
+    let rtype = eqb-true c.args.next.now.rtype 6 (sym c.is_soa.ensures ∙ c.if-is_soa.true) in
     let refused = c.if-not-is_same_soa.true in
     λ xs message place end stands number has.
     let behind = stands_behind soa (records_of class there.0) stands held in (
@@ -117,7 +117,7 @@ returns-then-closed-clause-err c =
     let class : ℕ = c.args.query.now.class in
     let r : spec.Record = record_of c.args.class c.args.next.now in
     let same = told_equal c.args.class class c.ne.result c.ne.ensures c.if-ne.false in
-    let under = c.ends_with.ensures.0 c.if-not-ends_with.false in
+    let under = c.is_under.ensures.0 c.if-not-is_under.false in
     let closed = c.if-closed.true in
     elim c.match-soa.branch [
       | in-Some+else-not-is_same_soa w ↦
@@ -140,7 +140,7 @@ returns-then-closed-clause-err c =
       | in_default-2 w ↦
           let there = first_is c.args.front.now c.first-soa.result w.in-Some.soa c.first-soa.ensures.value w.in-Some.is in
           let soa : spec.Record = record_of class w.in-Some.soa.now in
-          let other = told_no c.args.next.now.rtype 6 w.eq.result w.eq.ensures w.if-eq.false in
+          let other = told_no c.args.next.now.rtype 6 w.is_soa.result w.is_soa.ensures w.if-is_soa.false in
           λ xs message place end stands number has.
           let behind = stands_behind soa (records_of class there.0) stands (ap (records_of class) there.1) in (
             number,
@@ -165,7 +165,7 @@ returns-clause-ok c =
     let r : spec.Record = record_of c.args.class c.args.next.now in
     let held : List spec.Record = records_of class c.args.front.now in
     let same = told_equal c.args.class class c.ne.result c.ne.ensures c.if-ne.false in
-    let ends = c.ends_with.ensures.0 c.if-not-ends_with.false in
+    let ends = c.is_under.ensures.0 c.if-not-is_under.false in
     let under : IsUnder query.name r.owner = (ends.front, ends.whole_is) in
     elim c.match-soa.branch [
       | in-Some+else-not-is_same_soa w ↦
@@ -174,14 +174,14 @@ returns-clause-ok c =
           let others = ap (records_of class) there.1 in
           let equal = in_own_class c.args.class class w.in-Some.soa.now c.args.next.now same
           ((w.is_same_soa.ensures class).0 w.if-not-is_same_soa.false) in
-          let rtype = eqb-true c.args.next.now.rtype 6 (sym w.eq.ensures ∙ w.if-eq.true) in
+          let rtype = eqb-true c.args.next.now.rtype 6 (sym w.is_soa.ensures ∙ w.if-is_soa.true) in
           placed_last query held soa (records_of class there.0) r c.match-soa.placing others w.placing-is
           (stands_transferred soa (records_of class there.0) c.requires.stands.1 others) rtype equal
       | in_default-2 w ↦
           let there = first_is c.args.front.now c.first-soa.result w.in-Some.soa c.first-soa.ensures.value w.in-Some.is in
           let soa : spec.Record = record_of class w.in-Some.soa.now in
           let others = ap (records_of class) there.1 in
-          let other = told_no c.args.next.now.rtype 6 w.eq.result w.eq.ensures w.if-eq.false in
+          let other = told_no c.args.next.now.rtype 6 w.is_soa.result w.is_soa.ensures w.if-is_soa.false in
           placed_inner query held soa (records_of class there.0) r c.args.class c.match-soa.placing others w.placing-is
           (stands_transferred soa (records_of class there.0) c.requires.stands.1 others) other c.requires.next same under
       | in_default w ↦

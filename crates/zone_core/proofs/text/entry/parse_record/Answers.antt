@@ -1,4 +1,8 @@
-use Rattle.std.proofs.Common.{◌∙◌, sym}
+use Rattle.std.proofs.Common.{◌∙◌, ◌++◌, ap, subst, sym}
+use Rattle.dns_zonefile.specs.PlainRow.{RecordWords}
+use Rattle.zone_core.specs.Entry.{texts_of}
+use Rattle.zone_core.specs.Owned.{Held, record_of}
+use Rattle.zone_core.proofs.HeldRecords.{parts_of, parts_owned, parts_held}
 use Rattle.zone_core.proofs.RecordData.{text_exit, name_exit, number_of}
 use Rattle.zone_core.proofs.EntryRows.{is_none, is_some, no_type, no_owner, no_data, handed_exit, record_made, class_found}
 use Rattle.zone_core.proofs.text.entry.parse_record.Goals as goal
@@ -12,13 +16,20 @@ returns-in_err-owner-clause-err c =
     name_exit _ _ _ c.from_residual-in_err-owner.ensures.1 c.in_err-owner.ensures.err
     (λ none. no_owner c.args.words.now _ c.split_at.ensures.front none)
 
-pub returns-in_err-data-clause-err : goal.returns-in_err-data-clause-err
-returns-in_err-data-clause-err c =
-    handed_exit _ _ c.from_residual-in_err-data.ensures.1 c.in_err-data.ensures.err
+pub returns-in_err-append_rdata-clause-err : goal.returns-in_err-append_rdata-clause-err
+returns-in_err-append_rdata-clause-err c =
+    handed_exit _ _ c.from_residual-in_err-append_rdata.ensures.1 c.in_err-append_rdata.ensures.err
     (λ none. no_data c.args.words.now _ _ _ c.split_at.ensures.front c.split_at.ensures.back (sym c.from_bytes-2.ensures ∙ is_some _ _ _ c.in_ok-rtype.ensures.value) none)
+
+pub of_octets-requires : goal.of_octets-requires
+of_octets-requires c = parts_owned (parts_of c.len-owner_len.ensures.name c.len-owner_len.ensures.octets
+    (c.in_ok-append_rdata.ensures.ok.whole ∙ ap (λ l. l ++ c.in_ok-append_rdata.ensures.ok.appended) c.into_octets-octets.ensures))
 
 pub returns-clause-ok : goal.returns-clause-ok
 returns-clause-ok c =
-    record_made _ c.args.words.now _ _ _ _ _ _ _ c.if-words-lt4.false c.split_at.ensures.front c.split_at.ensures.back c.in_ok-owner.ensures.ok
+    let made = record_made _ c.args.words.now _ _ _ _ _ _ _ c.if-words-lt4.false c.split_at.ensures.front c.split_at.ensures.back c.in_ok-owner.ensures.ok
     (number_of _ _ _ _ c.in_ok-ttl.ensures.value c.parse_number.ensures.found) c.from_secs.ensures
-    (sym c.from_bytes.ensures ∙ class_found c.from_bytes.result c.args.class c.if-ne.ensures) (sym c.from_bytes-2.ensures ∙ is_some _ _ _ c.in_ok-rtype.ensures.value) c.in_ok-data.ensures.ok
+    (sym c.from_bytes.ensures ∙ class_found c.from_bytes.result c.args.class c.if-ne.ensures) (sym c.from_bytes-2.ensures ∙ is_some _ _ _ c.in_ok-rtype.ensures.value) c.in_ok-append_rdata.ensures.ok.spells in
+    let same = c.of_octets.ensures ∙ parts_held c.in_ok-rtype.rtype c.from_secs.result (parts_of c.len-owner_len.ensures.name c.len-owner_len.ensures.octets
+    (c.in_ok-append_rdata.ensures.ok.whole ∙ ap (λ l. l ++ c.in_ok-append_rdata.ensures.ok.appended) c.into_octets-octets.ensures)) in
+    subst (λ (r : Held). RecordWords c.args.class (texts_of c.args.words.now) (record_of c.args.class r)) (sym same) made

@@ -6,4 +6,4 @@ use Rattle.zone_core.proofs.text.rdata.compose_soa.Given as goal
 
 abbrev pub invariant-loop-number : goal.invariant-loop-number
 invariant-loop-number l =
-    l.data.items ≡ wire l.mname ++ wire l.rname ++ flat_map (to_be_bytes w32) (take l.number-index l.number-items)
+    l.octets.items ≡ l.fn.octets.items ++ (wire l.mname ++ wire l.rname ++ flat_map (to_be_bytes w32) (take l.number-index l.number-items))

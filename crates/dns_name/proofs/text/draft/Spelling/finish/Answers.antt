@@ -5,8 +5,8 @@ use Rattle.dns_name.proofs.Flat.{flat-written}
 use Rattle.dns_name.proofs.Drafts.{draft-name, draft-some, draft-wire, holds_one}
 use Rattle.dns_name.proofs.text.draft.Spelling.finish.Goals as goal
 
-pub of_octets-requires : goal.of_octets-requires
-of_octets-requires g c =
+pub from_octets_unchecked-requires : goal.from_octets_unchecked-requires
+from_octets_unchecked-requires g c =
     let s = c.args.self in
     let whole = s.whole in
     let few = s.few in
@@ -20,7 +20,7 @@ returns-clause-ok g c =
     let whole = s.whole in
     let few = s.few in
     let holds = c.requires.1 in
-    let is = holds_one s c.requires.0 c.of_octets.result holds (sym c.of_octets.ensures ∙ c.in_ok-octets.ensures.octets) in
+    let is = holds_one s c.requires.0 c.from_octets_unchecked.result holds (sym c.from_octets_unchecked.ensures ∙ c.in_ok-octets.ensures.octets) in
     let P : List (List ℕ) → Type 0 = λ n. IsName n × Holds s n [] × (0 < length n) in
     subst P (sym is) (
       draft-name s.octets s.len c.requires.0 (omega arith) few holds.written holds.labels,

@@ -1,4 +1,4 @@
-use Rattle.std.proofs.Common.{List, ℕ, [], inl, inr, refl, subst}
+use Rattle.std.proofs.Common.{[], inl, inr, refl, subst}
 use Rattle.std.specs.Prelude.{Option}
 use Rattle.std.proofs.lemmas.Result.{err_from_is_err_and}
 use Rattle.dns_label.specs.NameText.{IsAbsoluteText}

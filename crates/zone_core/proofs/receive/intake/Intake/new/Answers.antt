@@ -1,7 +1,6 @@
 use Rattle.std.proofs.Common.{◌≡◌, ℕ, List, [], refl, ap, sym, subst}
 use Rattle.std.specs.List.{AllByRecursion}
-use Rattle.zone_core.specs.declared.record.Record.{Record}
-use Rattle.zone_core.specs.Owned.{records_of}
+use Rattle.zone_core.specs.Owned.{Held, records_of}
 use Rattle.zone_core.specs.Records.{IsRecordOf}
 use Rattle.zone_core.specs.Frames.{IsPartial}
 use Rattle.zone_core.proofs.receive.intake.Intake.new.Goals as goal
@@ -11,7 +10,7 @@ returns-clause-waits c =
     let none = c.new.ensures.items in
     let no_records = c.new-2.ensures.items in
     λ query.
-    let P : List Record → Type 0 = λ records. AllByRecursion (IsRecordOf query.class) (records_of query.class records) in
+    let P : List Held → Type 0 = λ records. AllByRecursion (IsRecordOf query.class) (records_of query.class records) in
     record {
       judged = record {
         messages = [];

@@ -1,8 +1,0 @@
-//! Headers, questions and records tried on octets that are written out.
-
-mod counts;
-mod flags;
-mod header;
-mod question;
-mod record;
-mod section;

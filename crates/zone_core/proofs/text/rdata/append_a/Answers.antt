@@ -1,0 +1,13 @@
+use Rattle.std.proofs.Common.{◌∙◌, refl}
+use Rattle.zone_core.proofs.RecordData.{a_none, a_made}
+use Rattle.zone_core.proofs.text.rdata.append_a.Goals as goal
+
+pub returns-in_default-parse_ascii-clause-err : goal.returns-in_default-parse_ascii-clause-err
+returns-in_default-parse_ascii-clause-err c = a_none c.args.words.now c.in_default-parse_ascii.ensures
+
+pub returns-in_ok-extend_from_slice-in-len1-clause-ok : goal.returns-in_ok-extend_from_slice-in-len1-clause-ok
+returns-in_ok-extend_from_slice-in-len1-clause-ok c = record {
+  appended = c.octets.result;
+  spells = a_made c.args.words.now _ _ c.in-len1.len_at_least c.in-len1.len_below c.in-Ok.ensures c.octets.ensures;
+  whole = c.in_ok-extend_from_slice-in-len1.ensures.items;
+}

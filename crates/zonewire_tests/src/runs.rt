@@ -1,0 +1,214 @@
+//! Runs over readers and writers that give and take few octets, and what faults show.
+
+use crate::examples::{QUERY, SOA_ROW, ZONE, one_message, receive_job, send_job, sent, zone_of};
+use dns_name::Class;
+use std::io::{self, Read, Write};
+use std::test::Fail;
+use zonewire::{
+    Fault, QueryError, ReceiveError, SendError, Sink, SinkError, Source, SourceError, StdSink,
+    StdSource, WordsFault, ZoneError, run,
+};
+
+/// More than a reader is asked for at a time.
+#[test]
+fn input_is_read_to_its_end(rt: HostRuntime) -> Result<(), Fail> {
+    let alloc = rt.alloc();
+    let mut text = Vec::from_slice(alloc, SOA_ROW)?;
+    for _ in 0..4000 {
+        text.extend_from_slice(b"a. 60 IN A 1.2.3.4\n")?;
+    }
+    assert_eq!(rt; text.len(), 76029);
+    let zone = zone_of(alloc, text.as_slice())?;
+    let stream = sent(alloc, &zone, QUERY, 512)?;
+    let mut output = Vec::with_capacity(alloc, stream.len())?;
+    let mut source = StdSource::new(text.as_slice());
+    let mut sink = StdSink::new(&mut output);
+    run(alloc, &mut source, &mut sink, send_job(512))?;
+    assert_eq!(rt; output.as_slice(), stream.as_slice());
+    let mut rest = [0u8; 4];
+    assert_eq!(rt; source.read_some(&mut rest), Ok(0));
+    Ok(())
+}
+
+/// A reader of `left` octets, at most `most` a call, whose next call is interrupted.
+#[derive(Drop)]
+struct Breaking {
+    left: usize,
+    most: usize,
+}
+
+impl Read for Breaking {
+    fn read(&mut self, buf: &mut [u8]) -> io::Result<usize> {
+        let count = self.left.min(self.most).min(buf.len());
+        if count == 0 {
+            return Err(io::Error::from(io::ErrorKind::Interrupted));
+        }
+        self.left -= count;
+        Ok(count)
+    }
+}
+
+#[test]
+fn a_read_that_fails_in_the_middle(rt: HostRuntime) -> Result<(), Fail> {
+    let alloc = rt.alloc();
+    let mut output = Vec::<u8>::with_capacity(alloc, 200)?;
+    let mut source = StdSource::new(Breaking { left: 5, most: 3 });
+    let mut sink = StdSink::new(&mut output);
+    assert_eq!(rt;
+        run(alloc, &mut source, &mut sink, send_job(512)),
+        Err(Fault::Read)
+    );
+    let mut rest = [0u8; 4];
+    assert_eq!(rt; source.read_some(&mut rest), Err(SourceError));
+    assert!(rt; output.is_empty());
+    Ok(())
+}
+
+/// A writer that keeps what it takes, at most `most` octets a call.
+#[derive(Drop)]
+struct Keeping {
+    kept: Vec<u8>,
+    most: usize,
+}
+
+impl Write for Keeping {
+    fn write(&mut self, buf: &[u8]) -> io::Result<usize> {
+        let count = self.most.min(buf.len());
+        self.kept.extend_from_slice(&buf[..count])?;
+        Ok(count)
+    }
+
+    fn flush(&mut self) -> io::Result<()> {
+        Ok(())
+    }
+}
+
+#[test]
+fn output_is_written_by_threes(rt: HostRuntime) -> Result<(), Fail> {
+    let alloc = rt.alloc();
+    let stream = one_message(alloc)?;
+    let kept = Vec::with_capacity(alloc, 200)?;
+    let mut writer = Keeping { kept, most: 3 };
+    let mut source = StdSource::new(stream.as_slice());
+    let mut sink = StdSink::new(&mut writer);
+    assert_eq!(rt; sink.write_some(b"octets"), Ok(3));
+    let job = receive_job(alloc, "a.", Class::IN)?;
+    run(alloc, &mut source, &mut sink, job)?;
+    let mut all = Vec::from_slice(alloc, b"oct")?;
+    all.extend_from_slice(ZONE)?;
+    assert_eq!(rt; writer.kept.as_slice(), all.as_slice());
+    Ok(())
+}
+
+/// It makes a run fail that has output, and no other.
+#[test]
+fn a_write_that_takes_nothing(rt: HostRuntime) -> Result<(), Fail> {
+    let alloc = rt.alloc();
+    let kept = Vec::new(alloc);
+    let mut writer = Keeping { kept, most: 0 };
+    let mut sink = StdSink::new(&mut writer);
+    let cases: [(&[u8], Fault); 2] = [(ZONE, Fault::Write), (b"", Fault::Zone(ZoneError::NoSoa))];
+    for (input, fault) in cases {
+        let mut source = StdSource::new(input);
+        assert_eq!(rt;
+            run(alloc, &mut source, &mut sink, send_job(512)),
+            Err(fault)
+        );
+    }
+    assert_eq!(rt; sink.write_some(b"octets"), Err(SinkError));
+    assert!(rt; writer.kept.is_empty());
+    Ok(())
+}
+
+#[test]
+fn texts_of_faults(rt: HostRuntime) -> Result<(), Fail> {
+    let alloc = rt.alloc();
+    let texts = [
+        (Fault::Read, "read failed"),
+        (Fault::Write, "write failed"),
+        (Fault::OutOfMemory, "out of memory"),
+        (Fault::Zone(ZoneError::ClassAny), "class ANY"),
+        (Fault::Zone(ZoneError::Text(7)), "entry 7: text"),
+        (
+            Fault::Zone(ZoneError::FirstNotSoa(1)),
+            "entry 1: first record is not SOA",
+        ),
+        (Fault::Zone(ZoneError::SecondSoa(2)), "entry 2: second SOA"),
+        (Fault::Zone(ZoneError::OutOfZone(3)), "entry 3: out of zone"),
+        (Fault::Zone(ZoneError::NoSoa), "no SOA"),
+        (Fault::Send(SendError::WrongZone), "wrong zone"),
+        (Fault::Send(SendError::Record(4)), "record 4 does not fit"),
+    ];
+    for (fault, text) in texts {
+        assert_eq!(rt; format!(in alloc; "{fault}")?.as_str(), text);
+    }
+    Ok(())
+}
+
+#[test]
+fn texts_of_query_errors(rt: HostRuntime) -> Result<(), Fail> {
+    let alloc = rt.alloc();
+    let texts = [
+        (QueryError::Short, "query: short"),
+        (QueryError::Response, "query: response"),
+        (QueryError::Opcode, "query: opcode"),
+        (QueryError::Counts, "query: counts"),
+        (QueryError::Malformed, "query: malformed"),
+        (QueryError::NotAxfr, "query: not AXFR"),
+        (QueryError::ClassAny, "query: class ANY"),
+        (QueryError::Trailing, "query: trailing"),
+    ];
+    for (error, text) in texts {
+        for fault in [
+            Fault::Send(SendError::Query(error)),
+            Fault::Receive(ReceiveError::Query(error)),
+        ] {
+            assert_eq!(rt; format!(in alloc; "{fault}")?.as_str(), text);
+        }
+    }
+    Ok(())
+}
+
+#[test]
+fn texts_of_refused_streams(rt: HostRuntime) -> Result<(), Fail> {
+    let alloc = rt.alloc();
+    let texts = [
+        (ReceiveError::Short, "short message"),
+        (ReceiveError::Id, "wrong id"),
+        (ReceiveError::NotResponse, "not a response"),
+        (ReceiveError::Opcode, "wrong opcode"),
+        (ReceiveError::Rcode(5), "rcode 5"),
+        (ReceiveError::Counts, "wrong counts"),
+        (ReceiveError::Question, "wrong question"),
+        (ReceiveError::Record(1), "record 1: malformed"),
+        (ReceiveError::FirstNotSoa, "first record is not the SOA"),
+        (ReceiveError::Class(2), "record 2: wrong class"),
+        (ReceiveError::OutOfZone(2), "record 2: out of zone"),
+        (ReceiveError::SoaDiffers(3), "record 3: SOA differs"),
+        (ReceiveError::AfterLast(4), "record 4: behind the last SOA"),
+        (ReceiveError::Trailing, "trailing octets"),
+        (ReceiveError::Unfinished, "unfinished"),
+        (ReceiveError::OutOfMemory, "out of memory"),
+    ];
+    for (error, text) in texts {
+        let fault = Fault::Receive(error);
+        assert_eq!(rt; format!(in alloc; "{fault}")?.as_str(), text);
+    }
+    Ok(())
+}
+
+#[test]
+fn texts_of_other_faults(rt: HostRuntime) -> Result<(), Fail> {
+    let alloc = rt.alloc();
+    let texts = [
+        (WordsFault::BadName, "bad name"),
+        (WordsFault::BadClass, "bad class"),
+        (WordsFault::OutOfMemory, "out of memory"),
+    ];
+    for (fault, text) in texts {
+        assert_eq!(rt; format!(in alloc; "{fault}")?.as_str(), text);
+    }
+    assert_eq!(rt; format!(in alloc; "{SourceError}")?.as_str(), "read failed");
+    assert_eq!(rt; format!(in alloc; "{SinkError}")?.as_str(), "write failed");
+    Ok(())
+}
