@@ -6,11 +6,11 @@ use std::test::Fail;
 #[test]
 fn writes_words(rt: HostRuntime) -> Result<(), Fail> {
     let mut flags = Flags::new();
-    assert_eq!(rt; flags.to_string(rt.alloc())?.as_str(), "");
+    assert!(rt; flags.to_string(rt.alloc())?.as_str() == "");
     flags.tc = true;
-    assert_eq!(rt; flags.to_string(rt.alloc())?.as_str(), "TC");
+    assert!(rt; flags.to_string(rt.alloc())?.as_str() == "TC");
     flags.cd = true;
-    assert_eq!(rt; flags.to_string(rt.alloc())?.as_str(), "TC CD");
+    assert!(rt; flags.to_string(rt.alloc())?.as_str() == "TC CD");
     let all = Flags {
         qr: true,
         aa: true,
@@ -20,7 +20,7 @@ fn writes_words(rt: HostRuntime) -> Result<(), Fail> {
         ad: true,
         cd: true,
     };
-    assert_eq!(rt; all.to_string(rt.alloc())?.as_str(), "QR AA TC RD RA AD CD");
+    assert!(rt; all.to_string(rt.alloc())?.as_str() == "QR AA TC RD RA AD CD");
     Ok(())
 }
 
@@ -31,15 +31,14 @@ fn reads_words(rt: HostRuntime) -> Result<(), Fail> {
     some.tc = true;
     some.rd = true;
     some.cd = true;
-    assert_eq!(rt; "tC Aa CD rd".parse::<Flags>(), Ok(some));
-    assert_eq!(rt; "".parse::<Flags>(), Ok(Flags::new()));
-    assert_eq!(rt; " aa  tc rd aa cd ".parse::<Flags>(), Ok(some));
-    for text in ["XXXX", "aa xx", "a a", "aa\ttc", "Z"] {
-        assert_eq!(rt; text.parse::<Flags>(), Err(FlagsFromStrError));
-    }
-    assert_eq!(rt;
-        FlagsFromStrError.to_string(rt.alloc())?.as_str(),
-        "illegal flags token"
+    assert!(rt;
+        "tC Aa CD rd".parse::<Flags>() == Ok(some)
+            && "".parse::<Flags>() == Ok(Flags::new())
+            && " aa  tc rd aa cd ".parse::<Flags>() == Ok(some)
     );
+    for text in ["XXXX", "aa xx", "a a", "aa\ttc", "Z"] {
+        assert!(rt; text.parse::<Flags>() == Err(FlagsFromStrError));
+    }
+    assert!(rt; FlagsFromStrError.to_string(rt.alloc())?.as_str() == "illegal flags token");
     Ok(())
 }

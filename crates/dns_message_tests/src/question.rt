@@ -23,18 +23,14 @@ fn parses_in_front(rt: HostRuntime) -> Result<(), Fail> {
     parser.advance(3)?;
     match Question::parse(&mut parser) {
         Ok(question) => {
-            assert_eq!(rt;
-                question.qname().to_vec(rt.alloc())?.as_slice(),
-                b"\x01b\x01a\0".as_slice()
+            assert!(rt;
+                question.qname().to_vec(rt.alloc())?.as_slice() == b"\x01b\x01a\0".as_slice()
             );
-            assert_eq!(rt; question.qtype(), Rtype::MX);
-            assert_eq!(rt; question.qclass(), Class::CH);
+            assert!(rt; question.qtype() == Rtype::MX && question.qclass() == Class::CH);
         }
         Err(_) => assert!(rt; false),
     }
-    assert_eq!(rt; parser.pos(), 11);
-    assert!(rt; Question::parse(&mut parser).is_err());
-    assert_eq!(rt; parser.pos(), 11);
+    assert!(rt; parser.pos() == 11 && Question::parse(&mut parser).is_err() && parser.pos() == 11);
     Ok(())
 }
 
@@ -44,18 +40,18 @@ fn skips_in_front(rt: HostRuntime) -> Result<(), Fail> {
     let mut parser = Parser::from_ref(&message);
     parser.advance(3)?;
     Question::skip(&mut parser)?;
-    assert_eq!(rt; parser.pos(), 11);
-    assert!(rt; Question::skip(&mut parser).is_err());
-    assert_eq!(rt; parser.pos(), 11);
+    assert!(rt; parser.pos() == 11 && Question::skip(&mut parser).is_err() && parser.pos() == 11);
     Ok(())
 }
 
 #[test]
 fn a_short_question_is_none(rt: HostRuntime) -> Result<(), Fail> {
     let mut parser = Parser::from_ref(&[0u8, 0, 1, 0]);
-    assert!(rt; Question::parse(&mut parser).is_err());
-    assert!(rt; Question::skip(&mut parser).is_err());
-    assert_eq!(rt; parser.pos(), 0);
+    assert!(rt;
+        Question::parse(&mut parser).is_err()
+            && Question::skip(&mut parser).is_err()
+            && parser.pos() == 0
+    );
     Ok(())
 }
 
@@ -67,12 +63,12 @@ fn composes(rt: HostRuntime) -> Result<(), Fail> {
     (&question()).compose_question(&mut target)?;
     (Name::root_slice(), Rtype::MX, Class::CH).compose_question(&mut target)?;
     (Name::root_slice(), Rtype::MX).compose_question(&mut target)?;
-    assert_eq!(rt;
-        target.as_slice(),
-        [
-            0u8, 0, 1, 0, 1, 0, 0, 1, 0, 1, 0, 0, 1, 0, 1, 0, 0, 15, 0, 3, 0, 0, 15, 0, 1
-        ]
-        .as_slice()
+    assert!(rt;
+        target.as_slice()
+            == [
+                0u8, 0, 1, 0, 1, 0, 0, 1, 0, 1, 0, 0, 1, 0, 1, 0, 0, 15, 0, 3, 0, 0, 15, 0, 1
+            ]
+            .as_slice()
     );
     Ok(())
 }
@@ -81,8 +77,10 @@ fn composes(rt: HostRuntime) -> Result<(), Fail> {
 fn a_refused_question_leaves_nothing(rt: HostRuntime) -> Result<(), Fail> {
     let mut target = ArrayVec::<u8, 9>::new();
     question().compose(&mut target)?;
-    assert_eq!(rt; question().compose(&mut target), Err(AppendError::ShortBuf));
-    assert_eq!(rt; target.as_slice(), [0u8, 0, 1, 0, 1].as_slice());
+    assert!(rt;
+        question().compose(&mut target) == Err(AppendError::ShortBuf)
+            && target.as_slice() == [0u8, 0, 1, 0, 1].as_slice()
+    );
     Ok(())
 }
 
@@ -90,11 +88,13 @@ fn a_refused_question_leaves_nothing(rt: HostRuntime) -> Result<(), Fail> {
 fn makes_and_takes_apart(rt: HostRuntime) {
     let short = Question::from((Name::root_slice(), Rtype::A));
     let long = Question::from((Name::root_slice(), Rtype::A, Class::IN));
-    assert_eq!(rt; short, long);
-    assert_eq!(rt; Question::new_in(Name::root_slice(), Rtype::A), long);
-    assert_eq!(rt; long.qname().as_slice(), [0u8].as_slice());
-    assert_eq!(rt; long.qclass(), Class::IN);
-    assert!(rt; long.into_qname().is_root());
+    assert!(rt;
+        short == long
+            && Question::new_in(Name::root_slice(), Rtype::A) == long
+            && long.qname().as_slice() == [0u8].as_slice()
+            && long.qclass() == Class::IN
+            && long.into_qname().is_root()
+    );
 }
 
 fn hash_of(question: &Question<Name<&[u8]>>) -> u64 {
@@ -109,16 +109,20 @@ fn compares_up_to_case(rt: HostRuntime) -> Result<(), Fail> {
     let upper = Question::new_in(Name::from_slice(b"\x01A\0")?, Rtype::A);
     let longer = Question::new_in(Name::from_slice(b"\x02aa\0")?, Rtype::A);
     let deeper = Question::new_in(Name::from_slice(b"\x01z\x01a\0")?, Rtype::A);
-    assert_eq!(rt; lower, upper);
-    assert_eq!(rt; hash_of(&lower), hash_of(&upper));
-    assert_eq!(rt; lower.cmp(&upper), Ordering::Equal);
-    assert_eq!(rt; lower.partial_cmp(&longer), Some(Ordering::Less));
-    assert_eq!(rt; deeper.cmp(&longer), Ordering::Less);
-    assert_eq!(rt; longer.canonical_cmp(&deeper), Ordering::Greater);
+    assert!(rt;
+        lower == upper
+            && hash_of(&lower) == hash_of(&upper)
+            && lower.cmp(&upper) == Ordering::Equal
+            && lower.partial_cmp(&longer) == Some(Ordering::Less)
+            && deeper.cmp(&longer) == Ordering::Less
+            && longer.canonical_cmp(&deeper) == Ordering::Greater
+    );
     let other = Question::new(Name::from_slice(b"\x01a\0")?, Rtype::A, Class::CH);
-    assert_eq!(rt; lower.cmp(&other), Ordering::Less);
-    assert_eq!(rt; other.canonical_cmp(&upper), Ordering::Greater);
-    assert_eq!(rt; lower == other, false);
+    assert!(rt;
+        lower.cmp(&other) == Ordering::Less
+            && other.canonical_cmp(&upper) == Ordering::Greater
+            && !(lower == other)
+    );
     Ok(())
 }
 
@@ -131,9 +135,9 @@ fn is_shown_and_converted(rt: HostRuntime) -> Result<(), Fail> {
     parser.advance(3)?;
     let question = Question::new(ParsedName::parse(&mut parser)?, Rtype::MX, Class::CH);
     needs_copy(&question);
-    assert_eq!(rt; question.to_string(rt.alloc())?.as_str(), "b.a.\tMX\tCH");
+    assert!(rt; question.to_string(rt.alloc())?.as_str() == "b.a.\tMX\tCH");
     let flat = Question::new(question.qname().to_vec(rt.alloc())?, Rtype::MX, Class::CH);
     let small: Question<Name<ArrayVec<u8, 5>>> = Question::try_octets_from(rt.alloc(), flat)?;
-    assert_eq!(rt; small.to_string(rt.alloc())?.as_str(), "b.a.\tMX\tCH");
+    assert!(rt; small.to_string(rt.alloc())?.as_str() == "b.a.\tMX\tCH");
     Ok(())
 }

@@ -30,17 +30,16 @@ fn heads_are_parsed_in_front_of_data(rt: HostRuntime) -> Result<(), Fail> {
     let mut parser = Parser::from_ref(&message);
     parser.advance(3)?;
     let header = RecordHeader::parse(&mut parser)?;
-    assert_eq!(rt;
-        header.owner().to_vec(rt.alloc())?.as_slice(),
-        b"\x01b\x01a\0".as_slice()
+    assert!(rt; header.owner().to_vec(rt.alloc())?.as_slice() == b"\x01b\x01a\0".as_slice());
+    assert!(rt;
+        header.rtype() == Rtype::MX
+            && header.class() == Class::CH
+            && header.ttl() == Ttl::from_secs(60)
+            && header.rdlen() == 2
+            && parser.pos() == 17
+            && RecordHeader::parse_ref(&mut parser).is_err()
+            && parser.pos() == 17
     );
-    assert_eq!(rt; header.rtype(), Rtype::MX);
-    assert_eq!(rt; header.class(), Class::CH);
-    assert_eq!(rt; header.ttl(), Ttl::from_secs(60));
-    assert_eq!(rt; header.rdlen(), 2);
-    assert_eq!(rt; parser.pos(), 17);
-    assert!(rt; RecordHeader::parse_ref(&mut parser).is_err());
-    assert_eq!(rt; parser.pos(), 17);
     Ok(())
 }
 
@@ -49,12 +48,11 @@ fn heads_are_parsed_and_data_skipped(rt: HostRuntime) -> Result<(), Fail> {
     let message = MESSAGE;
     let mut parser = Parser::from_ref(&message);
     parser.advance(3)?;
-    assert_eq!(rt; RecordHeader::parse_and_skip(&mut parser)?.rdlen(), 2);
-    assert_eq!(rt; parser.pos(), 19);
+    assert!(rt; RecordHeader::parse_and_skip(&mut parser)?.rdlen() == 2);
+    assert!(rt; parser.pos() == 19);
     let mut cut = Parser::from_ref(&message[..18]);
     cut.advance(3)?;
-    assert!(rt; RecordHeader::parse_and_skip(&mut cut).is_err());
-    assert_eq!(rt; cut.pos(), 3);
+    assert!(rt; RecordHeader::parse_and_skip(&mut cut).is_err() && cut.pos() == 3);
     Ok(())
 }
 
@@ -68,12 +66,13 @@ fn records_are_parsed_with_their_data(rt: HostRuntime) -> Result<(), Fail> {
     )?;
     match found {
         Some(record) => {
-            assert_eq!(rt; record.rtype(), Rtype::MX);
-            assert_eq!(rt; *record.data().data(), b"\x07\x08".as_slice());
+            assert!(rt;
+                record.rtype() == Rtype::MX && *record.data().data() == b"\x07\x08".as_slice()
+            );
         }
         None => assert!(rt; false),
     }
-    assert_eq!(rt; parser.pos(), 19);
+    assert!(rt; parser.pos() == 19);
     Ok(())
 }
 
@@ -83,13 +82,15 @@ fn data_is_looked_into_later(rt: HostRuntime) -> Result<(), Fail> {
     let mut parser = Parser::from_ref(&message);
     parser.advance(3)?;
     let parsed = ParsedRecord::parse(&mut parser)?;
-    assert_eq!(rt; parser.pos(), 19);
-    assert_eq!(rt; parsed.rtype(), Rtype::MX);
-    assert_eq!(rt; parsed.class(), Class::CH);
-    assert_eq!(rt; parsed.ttl(), Ttl::from_secs(60));
-    assert_eq!(rt; parsed.rdlen(), 2);
+    assert!(rt;
+        parser.pos() == 19
+            && parsed.rtype() == Rtype::MX
+            && parsed.class() == Class::CH
+            && parsed.ttl() == Ttl::from_secs(60)
+            && parsed.rdlen() == 2
+    );
     let record: Record<ParsedName<&[u8]>, UnknownRecordData<&[u8]>> = parsed.to_any_record()?;
-    assert_eq!(rt; *record.data().data(), b"\x07\x08".as_slice());
+    assert!(rt; *record.data().data() == b"\x07\x08".as_slice());
     Ok(())
 }
 
@@ -98,14 +99,10 @@ fn records_are_composed(rt: HostRuntime) -> Result<(), Fail> {
     let record = record(rt)?;
     let mut target = Vec::new(rt.alloc());
     record.compose(&mut target)?;
-    assert_eq!(rt;
-        target.as_slice(),
-        b"\x01A\0\xff\0\0\x01\0\0\0\x3c\0\x02\x07\x08".as_slice()
-    );
+    assert!(rt; target.as_slice() == b"\x01A\0\xff\0\0\x01\0\0\0\x3c\0\x02\x07\x08".as_slice());
     record.compose_canonical(&mut target)?;
-    assert_eq!(rt;
-        &target.as_slice()[15..],
-        b"\x01a\0\xff\0\0\x01\0\0\0\x3c\0\x02\x07\x08".as_slice()
+    assert!(rt;
+        &target.as_slice()[15..] == b"\x01a\0\xff\0\0\x01\0\0\0\x3c\0\x02\x07\x08".as_slice()
     );
     Ok(())
 }
@@ -114,8 +111,7 @@ fn records_are_composed(rt: HostRuntime) -> Result<(), Fail> {
 fn a_record_that_has_no_room_leaves_nothing(rt: HostRuntime) -> Result<(), Fail> {
     let record = record(rt)?;
     let mut target: ArrayVec<u8, 14> = ArrayVec::new();
-    assert_eq!(rt; record.compose(&mut target), Err(AppendError::ShortBuf));
-    assert!(rt; target.is_empty());
+    assert!(rt; record.compose(&mut target) == Err(AppendError::ShortBuf) && target.is_empty());
     Ok(())
 }
 
@@ -126,9 +122,9 @@ fn heads_are_composed(rt: HostRuntime) -> Result<(), Fail> {
     let mut target = Vec::new(rt.alloc());
     header.compose(&mut target)?;
     header.compose_canonical(&mut target)?;
-    assert_eq!(rt;
-        target.as_slice(),
-        b"\x01A\0\0\x01\0\x01\0\0\0\x3c\0\x04\x01a\0\0\x01\0\x01\0\0\0\x3c\0\x04".as_slice()
+    assert!(rt;
+        target.as_slice()
+            == b"\x01A\0\0\x01\0\x01\0\0\0\x3c\0\x04\x01a\0\0\x01\0\x01\0\0\0\x3c\0\x04".as_slice()
     );
     Ok(())
 }
@@ -137,10 +133,7 @@ fn heads_are_composed(rt: HostRuntime) -> Result<(), Fail> {
 fn tuples_are_composed_as_records(rt: HostRuntime) -> Result<(), Fail> {
     let mut target = Vec::new(rt.alloc());
     (Name::root_slice(), 60u32, record(rt)?.into_data()).compose_record(&mut target)?;
-    assert_eq!(rt;
-        target.as_slice(),
-        b"\0\xff\0\0\x01\0\0\0\x3c\0\x02\x07\x08".as_slice()
-    );
+    assert!(rt; target.as_slice() == b"\0\xff\0\0\x01\0\0\0\x3c\0\x02\x07\x08".as_slice());
     Ok(())
 }
 
@@ -149,21 +142,16 @@ fn the_ttl_does_not_count(rt: HostRuntime) -> Result<(), Fail> {
     let one = record(rt)?;
     let mut other = record(rt)?;
     other.set_ttl(Ttl::from_secs(61));
-    assert!(rt; one == other);
-    assert_eq!(rt; one.cmp(&other), Ordering::Equal);
+    assert!(rt; one == other && one.cmp(&other) == Ordering::Equal);
     other.set_class(Class::CH);
-    assert!(rt; one != other);
-    assert_eq!(rt; one.canonical_cmp(&other), Ordering::Less);
+    assert!(rt; one != other && one.canonical_cmp(&other) == Ordering::Less);
     Ok(())
 }
 
 #[test]
 fn records_are_shown(rt: HostRuntime) -> Result<(), Fail> {
     let record = record(rt)?;
-    assert_eq!(rt;
-        record.to_string(rt.alloc())?.as_str(),
-        "A. 60 IN TYPE65280 \\# 2 0708"
-    );
+    assert!(rt; record.to_string(rt.alloc())?.as_str() == "A. 60 IN TYPE65280 \\# 2 0708");
     Ok(())
 }
 
@@ -178,11 +166,11 @@ fn parts_make_a_record(rt: HostRuntime) -> Result<(), Fail> {
     match found {
         Some(record) => {
             let (_, rdata) = record.into_owner_and_data();
-            assert_eq!(rt; *rdata.data(), b"\x07\x08".as_slice());
+            assert!(rt; *rdata.data() == b"\x07\x08".as_slice());
         }
         None => assert!(rt; false),
     }
-    assert_eq!(rt; parser.pos(), 19);
+    assert!(rt; parser.pos() == 19);
     Ok(())
 }
 
@@ -195,8 +183,7 @@ fn data_of_any_type_makes_a_record(rt: HostRuntime) -> Result<(), Fail> {
     let record: Record<ParsedName<&[u8]>, UnknownRecordData<&[u8]>> = header.parse_into_any_record(
         &mut parser,
     )?;
-    assert_eq!(rt; record.ttl(), Ttl::from_secs(60));
-    assert_eq!(rt; parser.pos(), 19);
+    assert!(rt; record.ttl() == Ttl::from_secs(60) && parser.pos() == 19);
     Ok(())
 }
 

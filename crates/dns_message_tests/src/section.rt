@@ -11,16 +11,19 @@ const OCTETS: [u8; 12] = [
 #[test]
 fn has_header_and_counts(rt: HostRuntime) {
     let section = HeaderSection::for_message_slice(&OCTETS);
-    assert_eq!(rt; section.as_slice(), OCTETS.as_slice());
-    assert_eq!(rt; section.header().as_slice(), &OCTETS[..4]);
-    assert_eq!(rt; section.counts().as_slice(), &OCTETS[4..]);
+    assert!(rt;
+        section.as_slice() == OCTETS.as_slice()
+            && section.header().as_slice() == &OCTETS[..4]
+            && section.counts().as_slice() == &OCTETS[4..]
+    );
     let mut other = HeaderSection::new();
-    assert_eq!(rt; other, HeaderSection::default());
+    assert!(rt; other == HeaderSection::default());
     other.set_header(section.header());
-    assert_eq!(rt; other.header(), section.header());
-    assert_eq!(rt; other.counts().as_slice(), [0u8; 8].as_slice());
+    assert!(rt;
+        other.header() == section.header() && other.counts().as_slice() == [0u8; 8].as_slice()
+    );
     other.set_counts(section.counts());
-    assert_eq!(rt; other, section);
+    assert!(rt; other == section);
 }
 
 #[test]
@@ -28,13 +31,15 @@ fn parses_and_composes(rt: HostRuntime) -> Result<(), Fail> {
     let octets = OCTETS;
     let mut parser = Parser::from_ref(&octets);
     let section = HeaderSection::for_message_slice(&OCTETS);
-    assert_eq!(rt; HeaderSection::parse(&mut parser), Ok(section));
-    assert_eq!(rt; section.header().id(), 0x0102);
-    assert_eq!(rt; parser.pos(), 12);
-    assert!(rt; HeaderSection::parse(&mut parser).is_err());
-    assert_eq!(rt; parser.pos(), 12);
+    assert!(rt;
+        HeaderSection::parse(&mut parser) == Ok(section)
+            && section.header().id() == 0x0102
+            && parser.pos() == 12
+            && HeaderSection::parse(&mut parser).is_err()
+            && parser.pos() == 12
+    );
     let mut target = Vec::new(rt.alloc());
     section.compose(&mut target)?;
-    assert_eq!(rt; target.as_slice(), OCTETS.as_slice());
+    assert!(rt; target.as_slice() == OCTETS.as_slice());
     Ok(())
 }

@@ -22,13 +22,15 @@ fn full_name(alloc: Global) -> Result<NameBuilder<Vec<u8>>, PushError> {
 #[test]
 fn names_have_254_octets_in_front_of_the_root(rt: HostRuntime) -> Result<(), Fail> {
     let mut name = full_name(rt.alloc())?;
-    assert_eq!(rt; name.len(), 254);
-    assert_eq!(rt; name.push(b'a'), Err(PushError::LongName));
-    assert_eq!(rt; name.append_slice(b"a"), Err(PushError::LongName));
-    assert_eq!(rt; name.append_label(b"a"), Err(PushError::LongName));
-    assert_eq!(rt; name.len(), 254);
-    assert!(rt; !name.in_label());
-    assert_eq!(rt; name.into_name()?.len(), 255);
+    assert!(rt;
+        name.len() == 254
+            && name.push(b'a') == Err(PushError::LongName)
+            && name.append_slice(b"a") == Err(PushError::LongName)
+            && name.append_label(b"a") == Err(PushError::LongName)
+            && name.len() == 254
+            && !name.in_label()
+    );
+    assert!(rt; name.into_name()?.len() == 255);
     Ok(())
 }
 
@@ -38,11 +40,13 @@ fn labels_have_63_octets(rt: HostRuntime) -> Result<(), Fail> {
     for _ in 0..63 {
         name.push(b'a')?;
     }
-    assert_eq!(rt; name.push(b'a'), Err(PushError::LongLabel));
-    assert_eq!(rt; name.append_label(&[b'a'; 64]), Err(PushError::LongLabel));
-    assert_eq!(rt; name.len(), 64);
-    assert!(rt; name.in_label());
-    assert_eq!(rt; name.as_slice().first(), Some(&63));
+    assert!(rt;
+        name.push(b'a') == Err(PushError::LongLabel)
+            && name.append_label(&[b'a'; 64]) == Err(PushError::LongLabel)
+            && name.len() == 64
+            && name.in_label()
+            && name.as_slice().first() == Some(&63)
+    );
     Ok(())
 }
 
@@ -60,19 +64,14 @@ fn labels_are_put_one_behind_the_other(rt: HostRuntime) -> Result<(), Fail> {
     name.append_hex_digit_label(0xfb)?;
     name.append_hex_digit_label(7)?;
     name.append_label(b"")?;
-    assert_eq!(rt;
-        name.as_slice(),
-        b"\x03abc\x01d\x010\x0242\x03205\x01b\x017".as_slice()
-    );
+    assert!(rt; name.as_slice() == b"\x03abc\x01d\x010\x0242\x03205\x01b\x017".as_slice());
     let origin = Name::from_slice(b"\x01z\x00")?;
     let whole = name.append_origin(&origin)?;
-    assert_eq!(rt;
-        whole.as_slice(),
-        b"\x03abc\x01d\x010\x0242\x03205\x01b\x017\x01z\x00".as_slice()
+    assert!(rt;
+        whole.as_slice() == b"\x03abc\x01d\x010\x0242\x03205\x01b\x017\x01z\x00".as_slice()
     );
-    assert_eq!(rt;
-        full_name(rt.alloc())?.append_origin(&origin).err(),
-        Some(PushNameError::LongName)
+    assert!(rt;
+        full_name(rt.alloc())?.append_origin(&origin).err() == Some(PushNameError::LongName)
     );
     Ok(())
 }
@@ -81,15 +80,17 @@ fn labels_are_put_one_behind_the_other(rt: HostRuntime) -> Result<(), Fail> {
 fn fixed_octets_have_no_more_room(rt: HostRuntime) -> Result<(), Fail> {
     let mut name = NameBuilder::<ArrayVec<u8, 2>>::new(rt.alloc());
     name.push(b'a')?;
-    assert_eq!(rt; name.push(b'b'), Err(PushError::ShortBuf));
-    assert_eq!(rt; name.as_slice(), b"\x01a".as_slice());
-    assert_eq!(rt; name.into_name().err(), Some(PushNameError::ShortBuf));
+    assert!(rt;
+        name.push(b'b') == Err(PushError::ShortBuf)
+            && name.as_slice() == b"\x01a".as_slice()
+            && name.into_name().err() == Some(PushNameError::ShortBuf)
+    );
     let refused = NameBuilder::<ArrayVec<u8, 2>>::with_capacity(rt.alloc(), 3);
-    assert_eq!(rt; refused.err(), Some(AppendError::ShortBuf));
+    assert!(rt; refused.err() == Some(AppendError::ShortBuf));
     let name = NameBuilder::<ArrayVec<u8, 2>>::with_capacity(rt.alloc(), 2)?;
     assert!(rt; name.into_name()?.is_root());
     let text = format!(in rt.alloc(); "{}, {}", PushError::LongLabel, PushNameError::LongName)?;
-    assert_eq!(rt; text.as_str(), "long label, long domain name");
+    assert!(rt; text.as_str() == "long label, long domain name");
     Ok(())
 }
 
@@ -103,17 +104,15 @@ fn text_is_put_behind_labels(rt: HostRuntime) -> Result<(), Fail> {
         Symbol::DecimalEscape(7),
     ];
     name.append_symbols(symbols.iter().copied())?;
-    assert_eq!(rt; name.as_slice(), b"\x03a.b\x02cd\x01\x07".as_slice());
-    assert!(rt; name.in_label());
+    assert!(rt; name.as_slice() == b"\x03a.b\x02cd\x01\x07".as_slice() && name.in_label());
     let empty = FromStrError::Presentation(PresentationError::EmptyLabel);
-    assert_eq!(rt; name.append_chars("..".chars()), Err(empty));
+    assert!(rt; name.append_chars("..".chars()) == Err(empty));
     let bad = FromStrError::Presentation(PresentationError::BadSymbol);
-    assert_eq!(rt; name.append_chars("x\u{e9}".chars()), Err(bad));
-    assert_eq!(rt; name.as_slice(), b"\x03a.b\x02cd\x01\x07\x01x".as_slice());
-    let mut small = NameBuilder::<ArrayVec<u8, 2>>::new(rt.alloc());
-    assert_eq!(rt;
-        small.append_chars("ab".chars()),
-        Err(FromStrError::ShortBuf)
+    assert!(rt;
+        name.append_chars("x\u{e9}".chars()) == Err(bad)
+            && name.as_slice() == b"\x03a.b\x02cd\x01\x07\x01x".as_slice()
     );
+    let mut small = NameBuilder::<ArrayVec<u8, 2>>::new(rt.alloc());
+    assert!(rt; small.append_chars("ab".chars()) == Err(FromStrError::ShortBuf));
     Ok(())
 }

@@ -23,64 +23,52 @@ fn compose_twice<Target: Composer>(target: &mut Target) -> Result<bool, AppendEr
 #[test]
 fn vectors_take_names_in_full(rt: HostRuntime) -> Result<(), Fail> {
     let mut target = Vec::new(rt.alloc());
-    assert_eq!(rt; compose_twice(&mut target)?, false);
+    assert!(rt; !compose_twice(&mut target)?);
     if target.len() > 1 {
         target.patch(0, &[7, 8]);
     }
-    assert_eq!(rt;
-        target.as_slice(),
-        b"\x07\x08\x01a\x01b\x00\x01a\x01b\x00".as_slice()
-    );
+    assert!(rt; target.as_slice() == b"\x07\x08\x01a\x01b\x00\x01a\x01b\x00".as_slice());
     let mut lent = &mut target;
-    assert_eq!(rt; compose_twice(&mut lent)?, false);
+    assert!(rt; !compose_twice(&mut lent)?);
     if lent.octets().len() > 1 {
         lent.patch(1, &[9]);
     }
-    assert_eq!(rt;
-        target.as_slice(),
-        b"\x00\x09\x01a\x01b\x00\x01a\x01b\x00".as_slice()
-    );
+    assert!(rt; target.as_slice() == b"\x00\x09\x01a\x01b\x00\x01a\x01b\x00".as_slice());
     Ok(())
 }
 
 #[test]
 fn a_refused_name_leaves_nothing(rt: HostRuntime) -> Result<(), Fail> {
     let mut target = ArrayVec::<u8, 12>::new();
-    assert_eq!(rt; compose_twice(&mut target)?, false);
+    assert!(rt; !compose_twice(&mut target)?);
     if target.octets().len() > 1 {
         target.patch(0, &[7, 8]);
     }
-    assert_eq!(rt;
-        target.octets(),
-        b"\x07\x08\x01a\x01b\x00\x01a\x01b\x00".as_slice()
-    );
+    assert!(rt; target.octets() == b"\x07\x08\x01a\x01b\x00\x01a\x01b\x00".as_slice());
     let mut short = ArrayVec::<u8, 11>::new();
-    assert_eq!(rt; compose_twice(&mut short), Err(AppendError::ShortBuf));
-    assert_eq!(rt; short.octets(), b"\x00\x00\x01a\x01b\x00".as_slice());
+    assert!(rt;
+        compose_twice(&mut short) == Err(AppendError::ShortBuf)
+            && short.octets() == b"\x00\x00\x01a\x01b\x00".as_slice()
+    );
     Ok(())
 }
 
 #[test]
 fn a_remembered_name_becomes_a_pointer(rt: HostRuntime) -> Result<(), Fail> {
     let mut target = OneSuffix::new(rt.alloc());
-    assert_eq!(rt; compose_twice(&mut target)?, true);
-    assert_eq!(rt;
-        target.octets(),
-        b"\x00\x00\x01a\x01b\x00\xc0\x02".as_slice()
-    );
+    assert!(rt; compose_twice(&mut target)?);
+    assert!(rt; target.octets() == b"\x00\x00\x01a\x01b\x00\xc0\x02".as_slice());
     target.truncate(7);
-    assert_eq!(rt; compose_name(&mut target, b"\x01b\x00"), Ok(()));
-    assert_eq!(rt; compose_name(&mut target, NAME), Ok(()));
-    assert_eq!(rt;
-        target.octets(),
-        b"\x00\x00\x01a\x01b\x00\x01b\x00\xc0\x02".as_slice()
+    assert!(rt;
+        compose_name(&mut target, b"\x01b\x00") == Ok(())
+            && compose_name(&mut target, NAME) == Ok(())
+            && target.octets() == b"\x00\x00\x01a\x01b\x00\x01b\x00\xc0\x02".as_slice()
     );
     target.truncate(6);
-    assert_eq!(rt; compose_name(&mut target, b"\x01b\x00"), Ok(()));
-    assert_eq!(rt; compose_name(&mut target, b"\x01b\x00"), Ok(()));
-    assert_eq!(rt;
-        target.octets(),
-        b"\x00\x00\x01a\x01b\x01b\x00\xc0\x06".as_slice()
+    assert!(rt;
+        compose_name(&mut target, b"\x01b\x00") == Ok(())
+            && compose_name(&mut target, b"\x01b\x00") == Ok(())
+            && target.octets() == b"\x00\x00\x01a\x01b\x01b\x00\xc0\x06".as_slice()
     );
     Ok(())
 }

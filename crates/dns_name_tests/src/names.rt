@@ -36,27 +36,19 @@ fn name_with_pointers_is_read(rt: HostRuntime) -> Result<(), Fail> {
     let mut parser = Parser::from_ref(WWW);
     parser.seek(15)?;
     let name = ParsedName::parse(&mut parser)?;
-    assert_eq!(rt; parser.pos(), 21);
-    assert_eq!(rt; name.compose_len(), 17);
-    assert_eq!(rt; name.label_count(), 4);
-    assert!(rt; !name.is_root());
-    assert_eq!(rt;
-        labels_of(rt.alloc(), &name)?.as_slice(),
-        b"www/example/com//".as_slice()
+    assert!(rt;
+        parser.pos() == 21 && name.compose_len() == 17 && name.label_count() == 4 && !name.is_root()
     );
+    assert!(rt; labels_of(rt.alloc(), &name)?.as_slice() == b"www/example/com//".as_slice());
     let flat = name.to_vec(rt.alloc())?;
-    assert_eq!(rt;
-        flat.as_slice(),
-        b"\x03www\x07example\x03com\x00".as_slice()
-    );
+    assert!(rt; flat.as_slice() == b"\x03www\x07example\x03com\x00".as_slice());
     Ok(())
 }
 
 #[test]
 fn pointer_to_its_own_place_is_refused(rt: HostRuntime) {
     let mut parser = Parser::from_ref(b"\xc0\x00");
-    assert!(rt; ParsedName::parse(&mut parser).is_err());
-    assert_eq!(rt; parser.pos(), 0);
+    assert!(rt; ParsedName::parse(&mut parser).is_err() && parser.pos() == 0);
 }
 
 /// A name of 127 labels of one octet at 0, and then pointers, each to the one before, the first to 0.
@@ -81,11 +73,13 @@ fn chain_of_255_pointers_is_read(rt: HostRuntime) -> Result<(), Fail> {
     let mut parser = Parser::from_ref(message.as_slice());
     parser.seek(763)?;
     let name = ParsedName::parse(&mut parser)?;
-    assert_eq!(rt; name.compose_len(), 255);
-    assert_eq!(rt; name.label_count(), 128);
-    assert_eq!(rt; parser.pos(), 765);
-    assert!(rt; ParsedName::parse(&mut parser).is_err());
-    assert_eq!(rt; parser.pos(), 765);
+    assert!(rt;
+        name.compose_len() == 255
+            && name.label_count() == 128
+            && parser.pos() == 765
+            && ParsedName::parse(&mut parser).is_err()
+            && parser.pos() == 765
+    );
     Ok(())
 }
 
@@ -102,26 +96,19 @@ fn label_before_a_name_of_255_octets_is_refused(rt: HostRuntime) -> Result<(), F
 #[test]
 fn flat_names_are_taken_whole(rt: HostRuntime) -> Result<(), Fail> {
     let name = Name::from_slice(b"\x01a\x01b\x00")?;
-    assert_eq!(rt; name.len(), 5);
-    assert_eq!(rt; name.label_count(), 3);
-    assert!(rt; !name.is_root());
+    assert!(rt; name.len() == 5 && name.label_count() == 3 && !name.is_root());
     assert!(rt; Name::from_slice(b"\x00")?.is_root());
-    assert_eq!(rt; name.iter().count(), 3);
-    assert_eq!(rt; name.iter_labels().count(), 3);
-    assert_eq!(rt; name.for_ref().into_octets(), b"\x01a\x01b\x00".as_slice());
-    assert_eq!(rt; *name.as_octets(), b"\x01a\x01b\x00".as_slice());
-    assert_eq!(rt; name.to_vec(rt.alloc())?.as_slice(), name.as_slice());
-    assert_eq!(rt;
-        Name::from_slice(b"\x01a\x00\x00").err(),
-        Some(NameError::TrailingData)
+    assert!(rt;
+        name.iter().count() == 3
+            && name.iter_labels().count() == 3
+            && name.for_ref().into_octets() == b"\x01a\x01b\x00".as_slice()
+            && *name.as_octets() == b"\x01a\x01b\x00".as_slice()
     );
-    assert_eq!(rt;
-        Name::from_slice(b"\xc0\x00").err(),
-        Some(NameError::CompressedName)
-    );
-    assert_eq!(rt;
-        Name::from_slice(b"\x01a").err(),
-        Some(NameError::ShortInput)
+    assert!(rt; name.to_vec(rt.alloc())?.as_slice() == name.as_slice());
+    assert!(rt;
+        Name::from_slice(b"\x01a\x00\x00").err() == Some(NameError::TrailingData)
+            && Name::from_slice(b"\xc0\x00").err() == Some(NameError::CompressedName)
+            && Name::from_slice(b"\x01a").err() == Some(NameError::ShortInput)
     );
     Ok(())
 }
@@ -130,10 +117,12 @@ fn flat_names_are_taken_whole(rt: HostRuntime) -> Result<(), Fail> {
 fn flat_name_is_read_without_pointers(rt: HostRuntime) -> Result<(), Fail> {
     let mut parser = Parser::from_ref(WWW);
     let name = Name::parse(&mut parser)?;
-    assert_eq!(rt; name.as_slice(), b"\x03com\x00".as_slice());
-    assert_eq!(rt; parser.pos(), 5);
-    assert!(rt; Name::parse(&mut parser).is_err());
-    assert_eq!(rt; parser.pos(), 5);
+    assert!(rt;
+        name.as_slice() == b"\x03com\x00".as_slice()
+            && parser.pos() == 5
+            && Name::parse(&mut parser).is_err()
+            && parser.pos() == 5
+    );
     Ok(())
 }
 
@@ -157,19 +146,20 @@ fn why_not_passed(octets: &[u8]) -> Option<ParseError> {
 fn short_input_is_a_message_that_ends_too_early(rt: HostRuntime) -> Result<(), Fail> {
     let long = vec![in rt.alloc(); 1u8; 300]?;
     for cut in [b"".as_slice(), b"\x01", b"\x02a", b"\x01a", b"\x01a\xc0"] {
-        assert_eq!(rt; why_unread(cut), Some(ParseError::ShortInput));
-        assert_eq!(rt; why_not_parsed(cut), Some(ParseError::ShortInput));
-        assert_eq!(rt; why_not_passed(cut), Some(ParseError::ShortInput));
+        assert!(rt;
+            why_unread(cut) == Some(ParseError::ShortInput)
+                && why_not_parsed(cut) == Some(ParseError::ShortInput)
+                && why_not_passed(cut) == Some(ParseError::ShortInput)
+        );
     }
-    assert_eq!(rt;
-        why_unread(b"\x01a\xc0\x00"),
-        form("compressed domain name")
+    assert!(rt;
+        why_unread(b"\x01a\xc0\x00") == form("compressed domain name")
+            && why_unread(long.as_slice()) == form("long domain name")
+            && why_not_parsed(long.as_slice()) == form("long domain name")
+            && why_not_passed(long.as_slice()) == form("long domain name")
+            && why_not_parsed(b"\x01a\xc0\x02") == form("forward pointer")
+            && why_not_passed(b"\x01a\x40") == form("bad label type")
     );
-    assert_eq!(rt; why_unread(long.as_slice()), form("long domain name"));
-    assert_eq!(rt; why_not_parsed(long.as_slice()), form("long domain name"));
-    assert_eq!(rt; why_not_passed(long.as_slice()), form("long domain name"));
-    assert_eq!(rt; why_not_parsed(b"\x01a\xc0\x02"), form("forward pointer"));
-    assert_eq!(rt; why_not_passed(b"\x01a\x40"), form("bad label type"));
     Ok(())
 }
 
@@ -186,49 +176,39 @@ fn texts_spell_names(rt: HostRuntime) -> Result<(), Fail> {
     assert!(rt; spelled(rt.alloc(), ".", b"\x00")?);
     assert!(rt; spelled(rt.alloc(), "@", b"\x01@\x00")?);
     let name = Name::absolute_from_text(rt.alloc(), b"a.")?;
-    assert_eq!(rt; name.as_slice(), b"\x01a\x00".as_slice());
+    assert!(rt; name.as_slice() == b"\x01a\x00".as_slice());
     Ok(())
 }
 
 #[test]
 fn characters_and_symbols_spell_names(rt: HostRuntime) -> Result<(), Fail> {
     let name: Name<Vec<u8>> = Name::from_chars(rt.alloc(), "foo\\112".chars())?;
-    assert_eq!(rt; name.as_slice(), b"\x04foop\x00".as_slice());
+    assert!(rt; name.as_slice() == b"\x04foop\x00".as_slice());
     let foreign = Name::<Vec<u8>>::from_chars(rt.alloc(), "a\u{e9}.".chars());
-    assert_eq!(rt;
-        foreign.err(),
-        Some(FromStrError::Presentation(PresentationError::BadSymbol))
-    );
+    assert!(rt; foreign.err() == Some(FromStrError::Presentation(PresentationError::BadSymbol)));
     let small: Name<ArrayVec<u8, 3>> = Name::from_str(rt.alloc(), "a.")?;
-    assert_eq!(rt; small.as_slice(), b"\x01a\x00".as_slice());
+    assert!(rt; small.as_slice() == b"\x01a\x00".as_slice());
     let long = Name::<ArrayVec<u8, 3>>::from_chars(rt.alloc(), "ab".chars());
-    assert_eq!(rt; long.err(), Some(FromStrError::ShortBuf));
+    assert!(rt; long.err() == Some(FromStrError::ShortBuf));
     let symbols = [
         Symbol::Char('a'),
         Symbol::SimpleEscape(b'.'),
         Symbol::Char('.'),
     ];
     let name: Name<Vec<u8>> = Name::from_symbols(rt.alloc(), symbols.iter().copied())?;
-    assert_eq!(rt; name.as_slice(), b"\x02a.\x00".as_slice());
+    assert!(rt; name.as_slice() == b"\x02a.\x00".as_slice());
     let bare = [Symbol::Char('\\')];
     let refused = Name::<Vec<u8>>::from_symbols(rt.alloc(), bare.iter().copied());
-    assert_eq!(rt;
-        refused.err(),
-        Some(FromStrError::Presentation(PresentationError::BadSymbol))
-    );
+    assert!(rt; refused.err() == Some(FromStrError::Presentation(PresentationError::BadSymbol)));
     Ok(())
 }
 
 #[test]
 fn the_root_is_one_octet(rt: HostRuntime) -> Result<(), Fail> {
-    assert!(rt; Name::root_ref().is_root());
-    assert!(rt; Name::root_slice().is_root());
+    assert!(rt; Name::root_ref().is_root() && Name::root_slice().is_root());
     assert!(rt; Name::root_vec(rt.alloc())?.is_root());
     assert!(rt; Name::<ArrayVec<u8, 1>>::root(rt.alloc())?.is_root());
-    assert_eq!(rt;
-        Name::<ArrayVec<u8, 0>>::root(rt.alloc()).err(),
-        Some(AppendError::ShortBuf)
-    );
+    assert!(rt; Name::<ArrayVec<u8, 0>>::root(rt.alloc()).err() == Some(AppendError::ShortBuf));
     Ok(())
 }
 
@@ -240,28 +220,15 @@ fn why_not(alloc: Global, text: &str) -> Option<FromStrError> {
 fn other_texts_are_refused(rt: HostRuntime) {
     let long = "aaaaaaaaaaaaaaaaaaaaaaaaaaaaaaaaaaaaaaaaaaaaaaaaaaaaaaaaaaaaaaaa";
     let refused = |reason| Some(FromStrError::Presentation(reason));
-    assert_eq!(rt;
-        why_not(rt.alloc(), ""),
-        refused(PresentationError::EmptyLabel)
-    );
-    assert_eq!(rt;
-        why_not(rt.alloc(), "a..b"),
-        refused(PresentationError::EmptyLabel)
-    );
-    assert_eq!(rt;
-        why_not(rt.alloc(), ".a"),
-        refused(PresentationError::EmptyLabel)
-    );
-    assert_eq!(rt;
-        why_not(rt.alloc(), long),
-        refused(PresentationError::LongLabel)
-    );
-    assert_eq!(rt;
-        why_not(rt.alloc(), "\\256"),
-        refused(PresentationError::BadSymbol)
+    assert!(rt;
+        why_not(rt.alloc(), "") == refused(PresentationError::EmptyLabel)
+            && why_not(rt.alloc(), "a..b") == refused(PresentationError::EmptyLabel)
+            && why_not(rt.alloc(), ".a") == refused(PresentationError::EmptyLabel)
+            && why_not(rt.alloc(), long) == refused(PresentationError::LongLabel)
+            && why_not(rt.alloc(), "\\256") == refused(PresentationError::BadSymbol)
     );
     let relative = Name::absolute_from_text(rt.alloc(), b"a").err();
-    assert_eq!(rt; relative, refused(PresentationError::RelativeName));
+    assert!(rt; relative == refused(PresentationError::RelativeName));
 }
 
 #[test]
@@ -292,9 +259,6 @@ fn errors_show_what_is_wrong(rt: HostRuntime) -> Result<(), Fail> {
         FromStrError::ShortBuf,
         ParseError::ShortInput
     )?;
-    assert_eq!(rt;
-        shown.as_str(),
-        "long domain name, short buffer, unexpected end of input"
-    );
+    assert!(rt; shown.as_str() == "long domain name, short buffer, unexpected end of input");
     Ok(())
 }

@@ -45,23 +45,21 @@ fn parsed_as_any<'a, Data: ParseAnyRecordData<'a>>(octets: &'a [u8]) -> Option<D
 #[test]
 fn data_is_composed_as_it_is(rt: HostRuntime) -> Result<(), Fail> {
     let rdata = UnknownRecordData::from_octets(Rtype::from_int(65280), b"\xc0\x0c".as_slice())?;
-    assert_eq!(rt;
-        composed(rt.alloc(), &rdata)?.as_slice(),
-        b"\xc0\x0c\xc0\x0c\x00\x02\xc0\x0c\x00\x02\xc0\x0c".as_slice()
+    assert!(rt;
+        composed(rt.alloc(), &rdata)?.as_slice()
+            == b"\xc0\x0c\xc0\x0c\x00\x02\xc0\x0c\x00\x02\xc0\x0c".as_slice()
     );
-    assert_eq!(rt; rdata.rdlen(true), Some(2));
-    assert_eq!(rt; rdata.rtype(), Rtype::from_int(65280));
-    assert_eq!(rt; *rdata.data(), b"\xc0\x0c".as_slice());
+    assert!(rt;
+        rdata.rdlen(true) == Some(2)
+            && rdata.rtype() == Rtype::from_int(65280)
+            && *rdata.data() == b"\xc0\x0c".as_slice()
+    );
     let mut short = ArrayVec::<u8, 3>::new();
-    assert_eq!(rt;
-        rdata.compose_len_rdata(&mut short),
-        Err(AppendError::ShortBuf)
+    assert!(rt;
+        rdata.compose_len_rdata(&mut short) == Err(AppendError::ShortBuf)
+            && rdata.compose_canonical_len_rdata(&mut short) == Err(AppendError::ShortBuf)
+            && short.len() == 0
     );
-    assert_eq!(rt;
-        rdata.compose_canonical_len_rdata(&mut short),
-        Err(AppendError::ShortBuf)
-    );
-    assert_eq!(rt; short.len(), 0);
     Ok(())
 }
 
@@ -71,10 +69,12 @@ fn data_of_65535_octets_is_taken(rt: HostRuntime) -> Result<(), Fail> {
     let all = octets.as_slice();
     assert!(rt; UnknownRecordData::from_octets(Rtype::from_int(10), all).is_err());
     let most = UnknownRecordData::from_octets(Rtype::from_int(10), &all[1..])?;
-    assert_eq!(rt; composed(rt.alloc(), &most)?.len(), 262_144);
-    assert!(rt; parsed::<UnknownRecordData<&[u8]>>(Rtype::from_int(10), all, 0).is_none());
-    assert!(rt; parsed_as_any::<UnknownRecordData<&[u8]>>(all).is_none());
-    assert!(rt; matches!(parsed_as_any(&all[1..]), Some(rdata) if most == rdata));
+    assert!(rt; composed(rt.alloc(), &most)?.len() == 262_144);
+    assert!(rt;
+        parsed::<UnknownRecordData<&[u8]>>(Rtype::from_int(10), all, 0).is_none()
+            && parsed_as_any::<UnknownRecordData<&[u8]>>(all).is_none()
+            && matches!(parsed_as_any(&all[1..]), Some(rdata) if most == rdata)
+    );
     let found = parsed::<UnknownRecordData<&[u8]>>(Rtype::from_int(10), all, 1);
     assert!(rt; matches!(found, Some((rdata, 65_536)) if rdata == most));
     Ok(())
@@ -83,28 +83,29 @@ fn data_of_65535_octets_is_taken(rt: HostRuntime) -> Result<(), Fail> {
 #[test]
 fn data_moves_to_other_octets(rt: HostRuntime) -> Result<(), Fail> {
     let rdata = UnknownRecordData::from_octets(Rtype::from_int(10), b"ab".as_slice())?;
-    assert_eq!(rt;
-        composed(rt.alloc(), &&rdata)?.as_slice(),
-        b"abab\x00\x02ab\x00\x02ab".as_slice()
+    assert!(rt;
+        composed(rt.alloc(), &&rdata)?.as_slice() == b"abab\x00\x02ab\x00\x02ab".as_slice()
     );
-    assert_eq!(rt; RecordData::rtype(&&rdata), Rtype::from_int(10));
-    assert_eq!(rt; (&rdata).rdlen(false), Some(2));
+    assert!(rt;
+        RecordData::rtype(&&rdata) == Rtype::from_int(10) && (&rdata).rdlen(false) == Some(2)
+    );
     let vec = UnknownRecordData::<Vec<u8>>::try_octets_from(rt.alloc(), rdata)?;
-    assert_eq!(rt; vec.data().as_slice(), b"ab".as_slice());
+    assert!(rt; vec.data().as_slice() == b"ab".as_slice());
     let array = UnknownRecordData::<ArrayVec<u8, 2>>::try_octets_from(rt.alloc(), vec)?;
-    assert_eq!(rt; array.data().as_slice(), b"ab".as_slice());
-    assert_eq!(rt; array.rtype(), Rtype::from_int(10));
+    assert!(rt;
+        array.data().as_slice() == b"ab".as_slice() && array.rtype() == Rtype::from_int(10)
+    );
     let short = UnknownRecordData::<ArrayVec<u8, 1>>::try_octets_from(rt.alloc(), array);
-    assert_eq!(rt; short.err(), Some(AppendError::ShortBuf));
+    assert!(rt; short.err() == Some(AppendError::ShortBuf));
     Ok(())
 }
 
 #[test]
 fn data_prints_its_octets(rt: HostRuntime) -> Result<(), Fail> {
     let rdata = UnknownRecordData::from_octets(Rtype::from_int(10), b"\xc0\x0c".as_slice())?;
-    assert_eq!(rt; rdata.to_string(rt.alloc())?.as_str(), "\\# 2 C00C");
+    assert!(rt; rdata.to_string(rt.alloc())?.as_str() == "\\# 2 C00C");
     let empty = UnknownRecordData::from_octets(Rtype::from_int(10), b"".as_slice())?;
-    assert_eq!(rt; empty.to_string(rt.alloc())?.as_str(), "\\# 0");
+    assert!(rt; empty.to_string(rt.alloc())?.as_str() == "\\# 0");
     Ok(())
 }
 
@@ -120,15 +121,17 @@ fn data_is_ordered_by_type_and_octets(rt: HostRuntime) -> Result<(), Fail> {
     let longer = UnknownRecordData::from_octets(Rtype::from_int(10), b"ab".as_slice())?;
     let shorter = UnknownRecordData::from_octets(Rtype::from_int(10), b"a".as_slice())?;
     let same = UnknownRecordData::from_octets(Rtype::from_int(10), b"a".as_slice())?;
-    assert_eq!(rt; one.cmp(&longer), Ordering::Less);
-    assert_eq!(rt; longer.canonical_cmp(&shorter), Ordering::Greater);
-    assert!(rt; shorter.canonical_lt(&longer));
-    assert!(rt; shorter.canonical_le(&same));
-    assert!(rt; longer.canonical_gt(&one));
-    assert!(rt; same.canonical_ge(&shorter));
-    assert_eq!(rt; same.partial_cmp(&shorter), Some(Ordering::Equal));
-    assert!(rt; same == shorter);
-    assert!(rt; longer != shorter);
-    assert_eq!(rt; hashed(&same), hashed(&shorter));
+    assert!(rt;
+        one.cmp(&longer) == Ordering::Less
+            && longer.canonical_cmp(&shorter) == Ordering::Greater
+            && shorter.canonical_lt(&longer)
+            && shorter.canonical_le(&same)
+            && longer.canonical_gt(&one)
+            && same.canonical_ge(&shorter)
+            && same.partial_cmp(&shorter) == Some(Ordering::Equal)
+            && same == shorter
+            && longer != shorter
+            && hashed(&same) == hashed(&shorter)
+    );
     Ok(())
 }

@@ -33,17 +33,11 @@ fn hashed<R: Row>(row: &R) -> u64 {
 #[test]
 fn rows_end_with_a_rest(rt: HostRuntime) -> Result<(), Fail> {
     let ds = (1u16, (8u8, (2u8, Last(Rest16(b"\xab".as_slice())))));
-    assert_eq!(rt;
-        composed(rt.alloc(), &ds)?.as_slice(),
-        b"\x00\x01\x08\x02\xab".as_slice()
-    );
-    assert_eq!(rt; row_len(&ds, true), Some(5));
+    assert!(rt; composed(rt.alloc(), &ds)?.as_slice() == b"\x00\x01\x08\x02\xab".as_slice());
+    assert!(rt; row_len(&ds, true) == Some(5));
     let key = (256u16, (3u8, (8u8, Last(Rest64(b"\x01".as_slice())))));
-    assert_eq!(rt;
-        canonical(rt.alloc(), &key)?.as_slice(),
-        b"\x01\x00\x03\x08\x01".as_slice()
-    );
-    assert_eq!(rt; key.fields_cmp(&key), Ordering::Equal);
+    assert!(rt; canonical(rt.alloc(), &key)?.as_slice() == b"\x01\x00\x03\x08\x01".as_slice());
+    assert!(rt; key.fields_cmp(&key) == Ordering::Equal);
     let caa = (
         0u8,
         (
@@ -51,15 +45,11 @@ fn rows_end_with_a_rest(rt: HostRuntime) -> Result<(), Fail> {
             Last(RestText(b"ca.b".as_slice())),
         ),
     );
-    assert_eq!(rt;
-        composed(rt.alloc(), &caa)?.as_slice(),
-        b"\x00\x05issueca.b".as_slice()
-    );
+    assert!(rt; composed(rt.alloc(), &caa)?.as_slice() == b"\x00\x05issueca.b".as_slice());
     let long = [7u8; 65_535];
-    assert_eq!(rt; row_len(&(1u8, Last(Rest16(long.as_slice()))), false), None);
-    assert_eq!(rt;
-        row_len(&Last(Rest16(long.as_slice())), false),
-        Some(65_535)
+    assert!(rt;
+        row_len(&(1u8, Last(Rest16(long.as_slice()))), false) == None
+            && row_len(&Last(Rest16(long.as_slice())), false) == Some(65_535)
     );
     Ok(())
 }
@@ -75,20 +65,18 @@ fn strings_are_compared_up_to_case(rt: HostRuntime) -> Result<(), Fail> {
         (CharStr::from_slice(b"unix")?, ()),
     );
     let shorter = (CharStr::from_slice(b"z")?, (CharStr::from_slice(b"")?, ()));
-    assert_eq!(rt;
-        composed(rt.alloc(), &one)?.as_slice(),
-        b"\x06PDP-11\x04UNIX".as_slice()
+    assert!(rt; composed(rt.alloc(), &one)?.as_slice() == b"\x06PDP-11\x04UNIX".as_slice());
+    assert!(rt;
+        one.fields_eq(&other)
+            && !one.fields_eq(&shorter)
+            && hashed(&one) == hashed(&other)
+            && one.fields_cmp(&other) == Ordering::Equal
+            && one.canonical_fields_cmp(&other) == Ordering::Less
+            && shorter.canonical_fields_cmp(&one) == Ordering::Less
     );
-    assert!(rt; one.fields_eq(&other));
-    assert!(rt; !one.fields_eq(&shorter));
-    assert_eq!(rt; hashed(&one), hashed(&other));
-    assert_eq!(rt; one.fields_cmp(&other), Ordering::Equal);
-    assert_eq!(rt; one.canonical_fields_cmp(&other), Ordering::Less);
-    assert_eq!(rt; shorter.canonical_fields_cmp(&one), Ordering::Less);
     let tag = (Tag(CharStr::from_slice(b"Issue")?), ());
     let small = (Tag(CharStr::from_slice(b"issue")?), ());
-    assert!(rt; tag.fields_eq(&small));
-    assert_eq!(rt; tag.canonical_fields_cmp(&small), Ordering::Less);
+    assert!(rt; tag.fields_eq(&small) && tag.canonical_fields_cmp(&small) == Ordering::Less);
     Ok(())
 }
 
@@ -98,16 +86,9 @@ fn names_are_written_with_and_without_pointers(rt: HostRuntime) -> Result<(), Fa
         Compressible(Name::from_slice(b"\x01A\x00")?),
         (Uncompressed(Name::from_slice(b"\x01B\x00")?), ()),
     );
-    assert_eq!(rt;
-        composed(rt.alloc(), &row)?.as_slice(),
-        b"\x01A\x00\x01B\x00".as_slice()
-    );
-    assert_eq!(rt;
-        canonical(rt.alloc(), &row)?.as_slice(),
-        b"\x01a\x00\x01b\x00".as_slice()
-    );
-    assert_eq!(rt; row_len(&row, true), None);
-    assert_eq!(rt; row_len(&row, false), Some(6));
+    assert!(rt; composed(rt.alloc(), &row)?.as_slice() == b"\x01A\x00\x01B\x00".as_slice());
+    assert!(rt; canonical(rt.alloc(), &row)?.as_slice() == b"\x01a\x00\x01b\x00".as_slice());
+    assert!(rt; row_len(&row, true) == None && row_len(&row, false) == Some(6));
     Ok(())
 }
 
@@ -115,46 +96,33 @@ fn names_are_written_with_and_without_pointers(rt: HostRuntime) -> Result<(), Fa
 fn addresses_are_read(rt: HostRuntime) -> Result<(), Fail> {
     let mut parser = Parser::from_ref(b"\x01\x02\x03\x04");
     let (address, ()) = parse_row::<(Ipv4Addr, ()), 1>(&mut parser)?;
-    assert_eq!(rt; address, Ipv4Addr::new(1, 2, 3, 4));
-    assert_eq!(rt;
-        composed(rt.alloc(), &(address, ()))?.as_slice(),
-        b"\x01\x02\x03\x04".as_slice()
-    );
+    assert!(rt; address == Ipv4Addr::new(1, 2, 3, 4));
+    assert!(rt; composed(rt.alloc(), &(address, ()))?.as_slice() == b"\x01\x02\x03\x04".as_slice());
     let mut longer = Parser::from_ref(b"\0\0\0\0\0\0\0\0\0\0\0\0\0\0\0\x01");
     let (address, ()) = parse_row::<(Ipv6Addr, ()), 28>(&mut longer)?;
-    assert_eq!(rt; address, Ipv6Addr::new(0, 0, 0, 0, 0, 0, 0, 1));
+    assert!(rt; address == Ipv6Addr::new(0, 0, 0, 0, 0, 0, 0, 1));
     let mut trailing = Parser::from_ref(b"\x01\x02\x03\x04\x05");
-    assert_eq!(rt;
-        parse_row::<(Ipv4Addr, ()), 1>(&mut trailing).err(),
-        Some(ReadError::TrailingData)
+    assert!(rt;
+        parse_row::<(Ipv4Addr, ()), 1>(&mut trailing).err() == Some(ReadError::TrailingData)
+            && trailing.pos() == 0
     );
-    assert_eq!(rt; trailing.pos(), 0);
     let mut short = Parser::from_ref(b"\x01\x02\x03");
-    assert_eq!(rt;
-        parse_row::<(Ipv4Addr, ()), 1>(&mut short).err(),
-        Some(ReadError::ShortInput)
-    );
+    assert!(rt; parse_row::<(Ipv4Addr, ()), 1>(&mut short).err() == Some(ReadError::ShortInput));
     let mut pointer = Parser::from_ref(b"\xc0\x00");
     let name = parse_row::<(Compressible<ParsedName<&[u8]>>, ()), 2>(&mut pointer);
-    assert_eq!(rt; name.err(), Some(ReadError::BadName));
+    assert!(rt; name.err() == Some(ReadError::BadName));
     Ok(())
 }
 
 #[test]
 fn errors_say_what_is_wrong(rt: HostRuntime) -> Result<(), Fail> {
-    assert_eq!(rt;
-        ReadError::TrailingData.to_string(rt.alloc())?.as_str(),
-        "trailing data"
-    );
-    assert_eq!(rt;
-        ParseError::from(ReadError::ShortInput),
-        ParseError::ShortInput
-    );
-    assert_eq!(rt;
+    assert!(rt; ReadError::TrailingData.to_string(rt.alloc())?.as_str() == "trailing data");
+    assert!(rt; ParseError::from(ReadError::ShortInput) == ParseError::ShortInput);
+    assert!(rt;
         ParseError::from(ReadError::LongRecordData)
             .to_string(rt.alloc())?
-            .as_str(),
-        "record data too long"
+            .as_str()
+            == "record data too long"
     );
     Ok(())
 }
@@ -164,18 +132,18 @@ fn strings_and_rests_are_read(rt: HostRuntime) -> Result<(), Fail> {
     let octets = b"\x00\x05issueca.b".as_slice();
     let mut parser = Parser::from_ref(octets);
     let caa = parse_row::<(u8, (Tag<&[u8]>, Last<RestText<&[u8]>>)), 257>(&mut parser)?;
-    assert_eq!(rt; composed(rt.alloc(), &caa)?.as_slice(), octets);
+    assert!(rt; composed(rt.alloc(), &caa)?.as_slice() == octets);
     let octets = b"\x03CPU\x02os".as_slice();
     let mut parser = Parser::from_ref(octets);
     let hinfo = parse_row::<(CharStr<&[u8]>, (CharStr<&[u8]>, ())), 13>(&mut parser)?;
-    assert_eq!(rt; composed(rt.alloc(), &hinfo)?.as_slice(), octets);
+    assert!(rt; composed(rt.alloc(), &hinfo)?.as_slice() == octets);
     let octets = b"\x00\x01\x08\x02\xab".as_slice();
     let mut parser = Parser::from_ref(octets);
     let ds = parse_row::<(u16, (u8, (u8, Last<Rest16<&[u8]>>))), 43>(&mut parser)?;
-    assert_eq!(rt; composed(rt.alloc(), &ds)?.as_slice(), octets);
+    assert!(rt; composed(rt.alloc(), &ds)?.as_slice() == octets);
     let mut parser = Parser::from_ref(octets);
     let key = parse_row::<(u16, (u8, (u8, Last<Rest64<&[u8]>>))), 48>(&mut parser)?;
-    assert_eq!(rt; composed(rt.alloc(), &key)?.as_slice(), octets);
+    assert!(rt; composed(rt.alloc(), &key)?.as_slice() == octets);
     Ok(())
 }
 
@@ -190,11 +158,10 @@ fn over(alloc: Global, words: &str) -> Result<IterScanner<'_>, StrError> {
 fn a_number_and_a_name_are_scanned(rt: HostRuntime) -> Result<(), Fail> {
     let mut scanner = over(rt.alloc(), "10 mail.Example. next")?;
     let mx = scan_row::<_, (u16, (Compressible<Name<Vec<u8>>>, ())), 15>(&mut scanner)?;
-    assert_eq!(rt;
-        composed(rt.alloc(), &mx)?.as_slice(),
-        b"\x00\x0a\x04mail\x07Example\x00".as_slice()
+    assert!(rt;
+        composed(rt.alloc(), &mx)?.as_slice() == b"\x00\x0a\x04mail\x07Example\x00".as_slice()
     );
-    assert_eq!(rt; scanner.peek_text()?, b"next".as_slice());
+    assert!(rt; scanner.peek_text()? == b"next".as_slice());
     Ok(())
 }
 
@@ -204,9 +171,9 @@ fn numbers_and_a_name_are_scanned(rt: HostRuntime) -> Result<(), Fail> {
     let srv = scan_row::<_, (u16, (u16, (u16, (Uncompressed<Name<Vec<u8>>>, ())))), 33>(
         &mut scanner,
     )?;
-    assert_eq!(rt;
-        composed(rt.alloc(), &srv)?.as_slice(),
-        b"\x00\x01\x00\x02\xff\xff\x01a\x01b\x00".as_slice()
+    assert!(rt;
+        composed(rt.alloc(), &srv)?.as_slice()
+            == b"\x00\x01\x00\x02\xff\xff\x01a\x01b\x00".as_slice()
     );
     Ok(())
 }
@@ -215,9 +182,9 @@ fn numbers_and_a_name_are_scanned(rt: HostRuntime) -> Result<(), Fail> {
 fn addresses_are_scanned(rt: HostRuntime) -> Result<(), Fail> {
     let mut scanner = over(rt.alloc(), "192.0.2.1 2001:db8::1")?;
     let (address, ()) = scan_row::<_, (Ipv4Addr, ()), 1>(&mut scanner)?;
-    assert_eq!(rt; address, Ipv4Addr::new(192, 0, 2, 1));
+    assert!(rt; address == Ipv4Addr::new(192, 0, 2, 1));
     let (address, ()) = scan_row::<_, (Ipv6Addr, ()), 28>(&mut scanner)?;
-    assert_eq!(rt; address, Ipv6Addr::new(0x2001, 0xdb8, 0, 0, 0, 0, 0, 1));
+    assert!(rt; address == Ipv6Addr::new(0x2001, 0xdb8, 0, 0, 0, 0, 0, 1));
     Ok(())
 }
 
@@ -225,10 +192,7 @@ fn addresses_are_scanned(rt: HostRuntime) -> Result<(), Fail> {
 fn strings_are_scanned(rt: HostRuntime) -> Result<(), Fail> {
     let mut scanner = over(rt.alloc(), "PDP\\04511 \\117nix")?;
     let hinfo = scan_row::<_, (CharStr<Vec<u8>>, (CharStr<Vec<u8>>, ())), 13>(&mut scanner)?;
-    assert_eq!(rt;
-        composed(rt.alloc(), &hinfo)?.as_slice(),
-        b"\x06PDP-11\x04unix".as_slice()
-    );
+    assert!(rt; composed(rt.alloc(), &hinfo)?.as_slice() == b"\x06PDP-11\x04unix".as_slice());
     Ok(())
 }
 
@@ -236,10 +200,7 @@ fn strings_are_scanned(rt: HostRuntime) -> Result<(), Fail> {
 fn tags_and_rests_as_text_are_scanned(rt: HostRuntime) -> Result<(), Fail> {
     let mut scanner = over(rt.alloc(), "0 issue ca.b")?;
     let caa = scan_row::<_, (u8, (Tag<Vec<u8>>, Last<RestText<Vec<u8>>>)), 257>(&mut scanner)?;
-    assert_eq!(rt;
-        composed(rt.alloc(), &caa)?.as_slice(),
-        b"\x00\x05issueca.b".as_slice()
-    );
+    assert!(rt; composed(rt.alloc(), &caa)?.as_slice() == b"\x00\x05issueca.b".as_slice());
     Ok(())
 }
 
@@ -247,10 +208,7 @@ fn tags_and_rests_as_text_are_scanned(rt: HostRuntime) -> Result<(), Fail> {
 fn rests_in_base_16_are_scanned(rt: HostRuntime) -> Result<(), Fail> {
     let mut scanner = over(rt.alloc(), "1 8 2 a bC d")?;
     let ds = scan_row::<_, (u16, (u8, (u8, Last<Rest16<Vec<u8>>>))), 43>(&mut scanner)?;
-    assert_eq!(rt;
-        composed(rt.alloc(), &ds)?.as_slice(),
-        b"\x00\x01\x08\x02\xab\xcd".as_slice()
-    );
+    assert!(rt; composed(rt.alloc(), &ds)?.as_slice() == b"\x00\x01\x08\x02\xab\xcd".as_slice());
     Ok(())
 }
 
@@ -258,29 +216,22 @@ fn rests_in_base_16_are_scanned(rt: HostRuntime) -> Result<(), Fail> {
 fn rests_in_base_64_are_scanned(rt: HostRuntime) -> Result<(), Fail> {
     let mut scanner = over(rt.alloc(), "256 3 8 Zm 9v")?;
     let key = scan_row::<_, (u16, (u8, (u8, Last<Rest64<Vec<u8>>>))), 48>(&mut scanner)?;
-    assert_eq!(rt;
-        composed(rt.alloc(), &key)?.as_slice(),
-        b"\x01\x00\x03\x08foo".as_slice()
-    );
+    assert!(rt; composed(rt.alloc(), &key)?.as_slice() == b"\x01\x00\x03\x08foo".as_slice());
     Ok(())
 }
 
 #[test]
 fn other_numbers_and_addresses_are_not_scanned(rt: HostRuntime) -> Result<(), Fail> {
     let mut scanner = over(rt.alloc(), "10 65536 256.0.2.1 ::x")?;
-    assert_eq!(rt;
+    assert!(rt;
         scan_row::<_, (u16, (u16, (u16, (Uncompressed<Name<Vec<u8>>>, ())))), 33>(
             &mut scanner
-        ).err(),
-        Some(StrError::Custom("invalid word"))
-    );
-    assert_eq!(rt;
-        scan_row::<_, (Ipv4Addr, ()), 1>(&mut scanner).err(),
-        Some(StrError::Custom("invalid word"))
-    );
-    assert_eq!(rt;
-        scan_row::<_, (Ipv6Addr, ()), 28>(&mut scanner).err(),
-        Some(StrError::Custom("invalid word"))
+        ).err()
+            == Some(StrError::Custom("invalid word"))
+            && scan_row::<_, (Ipv4Addr, ()), 1>(&mut scanner).err()
+                == Some(StrError::Custom("invalid word"))
+            && scan_row::<_, (Ipv6Addr, ()), 28>(&mut scanner).err()
+                == Some(StrError::Custom("invalid word"))
     );
     Ok(())
 }
@@ -288,13 +239,11 @@ fn other_numbers_and_addresses_are_not_scanned(rt: HostRuntime) -> Result<(), Fa
 #[test]
 fn other_names_are_not_scanned(rt: HostRuntime) -> Result<(), Fail> {
     let mut scanner = over(rt.alloc(), "a..b 10")?;
-    assert_eq!(rt;
-        scan_row::<_, (Compressible<Name<Vec<u8>>>, ()), 2>(&mut scanner).err(),
-        Some(StrError::Custom("invalid name"))
-    );
-    assert_eq!(rt;
-        scan_row::<_, (u16, (Compressible<Name<Vec<u8>>>, ())), 15>(&mut scanner).err(),
-        Some(StrError::EndOfEntry)
+    assert!(rt;
+        scan_row::<_, (Compressible<Name<Vec<u8>>>, ()), 2>(&mut scanner).err()
+            == Some(StrError::Custom("invalid name"))
+            && scan_row::<_, (u16, (Compressible<Name<Vec<u8>>>, ())), 15>(&mut scanner).err()
+                == Some(StrError::EndOfEntry)
     );
     Ok(())
 }

@@ -65,23 +65,25 @@ fn is_kept<'a, Data: ParseRecordData<'a> + ComposeRecordData + Drop>(
 fn a_is_an_address(rt: HostRuntime) -> Result<(), Fail> {
     let mut a = A::from_octets(1, 2, 3, 4);
     let message = b"\x00\x04\x01\x02\x03\x04".as_slice();
-    assert_eq!(rt; a.addr(), Ipv4Addr::new(1, 2, 3, 4));
-    assert_eq!(rt; a.rtype(), Rtype::from_int(1));
-    assert_eq!(rt; a.rdlen(true), Some(4));
-    assert_eq!(rt;
-        composed(rt.alloc(), &a)?.as_slice(),
-        b"\x00\x04\x01\x02\x03\x04\x01\x02\x03\x04".as_slice()
+    assert!(rt;
+        a.addr() == Ipv4Addr::new(1, 2, 3, 4)
+            && a.rtype() == Rtype::from_int(1)
+            && a.rdlen(true) == Some(4)
     );
-    assert!(rt; is_kept::<A>(rt.alloc(), 1, message));
-    assert!(rt; !is_kept::<A>(rt.alloc(), 2, message));
+    assert!(rt;
+        composed(rt.alloc(), &a)?.as_slice()
+            == b"\x00\x04\x01\x02\x03\x04\x01\x02\x03\x04".as_slice()
+    );
+    assert!(rt; is_kept::<A>(rt.alloc(), 1, message) && !is_kept::<A>(rt.alloc(), 2, message));
     let same = A::new(Ipv4Addr::new(1, 2, 3, 4));
-    assert!(rt; a == same);
-    assert_eq!(rt; hashed(&a), hashed(&same));
+    assert!(rt; a == same && hashed(&a) == hashed(&same));
     a.set_addr(Ipv4Addr::new(1, 2, 3, 5));
-    assert!(rt; a != same);
-    assert_eq!(rt; a.cmp(&same), Ordering::Greater);
-    assert_eq!(rt; same.partial_cmp(&a), Some(Ordering::Less));
-    assert_eq!(rt; a.canonical_cmp(&same), Ordering::Greater);
+    assert!(rt;
+        a != same
+            && a.cmp(&same) == Ordering::Greater
+            && same.partial_cmp(&a) == Some(Ordering::Less)
+            && a.canonical_cmp(&same) == Ordering::Greater
+    );
     Ok(())
 }
 
@@ -89,19 +91,20 @@ fn a_is_an_address(rt: HostRuntime) -> Result<(), Fail> {
 fn aaaa_is_a_longer_address(rt: HostRuntime) -> Result<(), Fail> {
     let mut aaaa = Aaaa::new(Ipv6Addr::new(0, 0, 0, 0, 0, 0, 0, 1));
     let message = b"\x00\x10\0\0\0\0\0\0\0\0\0\0\0\0\0\0\0\x01".as_slice();
-    assert_eq!(rt; aaaa.rtype(), Rtype::from_int(28));
-    assert_eq!(rt; aaaa.rdlen(false), Some(16));
+    assert!(rt; aaaa.rtype() == Rtype::from_int(28) && aaaa.rdlen(false) == Some(16));
     assert!(rt; composed(rt.alloc(), &aaaa)?.as_slice().starts_with(message));
-    assert!(rt; is_kept::<Aaaa>(rt.alloc(), 28, message));
-    assert!(rt; !is_kept::<Aaaa>(rt.alloc(), 1, message));
+    assert!(rt;
+        is_kept::<Aaaa>(rt.alloc(), 28, message) && !is_kept::<Aaaa>(rt.alloc(), 1, message)
+    );
     let same = Aaaa::new(Ipv6Addr::new(0, 0, 0, 0, 0, 0, 0, 1));
-    assert!(rt; aaaa == same);
-    assert_eq!(rt; hashed(&aaaa), hashed(&same));
+    assert!(rt; aaaa == same && hashed(&aaaa) == hashed(&same));
     aaaa.set_addr(Ipv6Addr::new(0, 0, 0, 0, 0, 0, 1, 0));
-    assert_eq!(rt; aaaa.addr(), Ipv6Addr::new(0, 0, 0, 0, 0, 0, 1, 0));
-    assert_eq!(rt; aaaa.cmp(&same), Ordering::Greater);
-    assert_eq!(rt; same.partial_cmp(&aaaa), Some(Ordering::Less));
-    assert_eq!(rt; same.canonical_cmp(&aaaa), Ordering::Less);
+    assert!(rt;
+        aaaa.addr() == Ipv6Addr::new(0, 0, 0, 0, 0, 0, 1, 0)
+            && aaaa.cmp(&same) == Ordering::Greater
+            && same.partial_cmp(&aaaa) == Some(Ordering::Less)
+            && same.canonical_cmp(&aaaa) == Ordering::Less
+    );
     Ok(())
 }
 
@@ -116,21 +119,25 @@ fn hinfo_has_two_strings(rt: HostRuntime) -> Result<(), Fail> {
         CharStr::from_slice(b"unix")?,
     );
     let message = b"\x00\x0c\x06PDP-11\x04UNIX".as_slice();
-    assert_eq!(rt; hinfo.rtype(), Rtype::from_int(13));
-    assert_eq!(rt; hinfo.rdlen(true), Some(12));
-    assert_eq!(rt; hinfo.cpu().as_slice(), b"PDP-11".as_slice());
-    assert_eq!(rt; hinfo.os().as_slice(), b"UNIX".as_slice());
-    assert_eq!(rt;
-        composed(rt.alloc(), &hinfo)?.as_slice(),
-        b"\x00\x0c\x06PDP-11\x04UNIX\x06PDP-11\x04UNIX".as_slice()
+    assert!(rt;
+        hinfo.rtype() == Rtype::from_int(13)
+            && hinfo.rdlen(true) == Some(12)
+            && hinfo.cpu().as_slice() == b"PDP-11".as_slice()
+            && hinfo.os().as_slice() == b"UNIX".as_slice()
     );
-    assert!(rt; is_kept::<Hinfo<&[u8]>>(rt.alloc(), 13, message));
-    assert!(rt; !is_kept::<Hinfo<&[u8]>>(rt.alloc(), 13, b"\x00\x02\x01a"));
-    assert!(rt; hinfo == small);
-    assert_eq!(rt; hashed(&hinfo), hashed(&small));
-    assert_eq!(rt; hinfo.cmp(&small), Ordering::Equal);
-    assert_eq!(rt; hinfo.partial_cmp(&small), Some(Ordering::Equal));
-    assert_eq!(rt; hinfo.canonical_cmp(&small), Ordering::Less);
+    assert!(rt;
+        composed(rt.alloc(), &hinfo)?.as_slice()
+            == b"\x00\x0c\x06PDP-11\x04UNIX\x06PDP-11\x04UNIX".as_slice()
+    );
+    assert!(rt;
+        is_kept::<Hinfo<&[u8]>>(rt.alloc(), 13, message)
+            && !is_kept::<Hinfo<&[u8]>>(rt.alloc(), 13, b"\x00\x02\x01a")
+            && hinfo == small
+            && hashed(&hinfo) == hashed(&small)
+            && hinfo.cmp(&small) == Ordering::Equal
+            && hinfo.partial_cmp(&small) == Some(Ordering::Equal)
+            && hinfo.canonical_cmp(&small) == Ordering::Less
+    );
     Ok(())
 }
 
@@ -139,21 +146,25 @@ fn ds_ends_with_a_digest(rt: HostRuntime) -> Result<(), Fail> {
     let ds = Ds::new(1, 8, 2, b"\xab".as_slice())?;
     let other = Ds::new(1, 8, 2, b"\xac".as_slice())?;
     let message = b"\x00\x05\x00\x01\x08\x02\xab".as_slice();
-    assert_eq!(rt; ds.rtype(), Rtype::from_int(43));
-    assert_eq!(rt; ds.rdlen(true), Some(5));
-    assert_eq!(rt; ds.key_tag(), 1);
-    assert_eq!(rt; ds.algorithm(), 8);
-    assert_eq!(rt; ds.digest_type(), 2);
-    assert_eq!(rt; *ds.digest(), b"\xab".as_slice());
+    assert!(rt;
+        ds.rtype() == Rtype::from_int(43)
+            && ds.rdlen(true) == Some(5)
+            && ds.key_tag() == 1
+            && ds.algorithm() == 8
+            && ds.digest_type() == 2
+            && *ds.digest() == b"\xab".as_slice()
+    );
     assert!(rt; composed(rt.alloc(), &ds)?.as_slice().starts_with(message));
-    assert!(rt; is_kept::<Ds<&[u8]>>(rt.alloc(), 43, message));
-    assert!(rt; !is_kept::<Ds<&[u8]>>(rt.alloc(), 43, b"\x00\x03\x00\x01\x08"));
-    assert!(rt; ds != other);
-    assert_eq!(rt; hashed(&ds), hashed(&ds));
-    assert_eq!(rt; ds.cmp(&other), Ordering::Less);
-    assert_eq!(rt; ds.partial_cmp(&ds), Some(Ordering::Equal));
-    assert_eq!(rt; other.canonical_cmp(&ds), Ordering::Greater);
-    assert_eq!(rt; ds.into_digest(), b"\xab".as_slice());
+    assert!(rt;
+        is_kept::<Ds<&[u8]>>(rt.alloc(), 43, message)
+            && !is_kept::<Ds<&[u8]>>(rt.alloc(), 43, b"\x00\x03\x00\x01\x08")
+            && ds != other
+            && hashed(&ds) == hashed(&ds)
+            && ds.cmp(&other) == Ordering::Less
+            && ds.partial_cmp(&ds) == Some(Ordering::Equal)
+            && other.canonical_cmp(&ds) == Ordering::Greater
+            && ds.into_digest() == b"\xab".as_slice()
+    );
     Ok(())
 }
 
@@ -162,15 +173,12 @@ fn rests_end_where_data_may(rt: HostRuntime) -> Result<(), Fail> {
     let octets = vec![in rt.alloc(); 7u8; 65_532]?;
     let all = octets.as_slice();
     assert!(rt; Ds::new(1, 8, 2, all).is_err());
-    assert_eq!(rt; Ds::new(1, 8, 2, &all[1..])?.rdlen(false), Some(65_535));
+    assert!(rt; Ds::new(1, 8, 2, &all[1..])?.rdlen(false) == Some(65_535));
     assert!(rt; Dnskey::new(1, 3, 8, all).is_err());
-    assert_eq!(rt; Dnskey::new(1, 3, 8, &all[1..])?.rdlen(false), Some(65_535));
+    assert!(rt; Dnskey::new(1, 3, 8, &all[1..])?.rdlen(false) == Some(65_535));
     let tag = b"ab".as_slice();
     assert!(rt; Caa::new(0, CharStr::from_slice(tag)?, all).is_err());
-    assert_eq!(rt;
-        Caa::new(0, CharStr::from_slice(tag)?, &all[1..])?.rdlen(false),
-        Some(65_535)
-    );
+    assert!(rt; Caa::new(0, CharStr::from_slice(tag)?, &all[1..])?.rdlen(false) == Some(65_535));
     Ok(())
 }
 
@@ -179,20 +187,24 @@ fn dnskey_ends_with_a_key(rt: HostRuntime) -> Result<(), Fail> {
     let key = Dnskey::new(256, 3, 8, b"\x01\x02".as_slice())?;
     let other = Dnskey::new(257, 3, 8, b"\x01".as_slice())?;
     let message = b"\x00\x06\x01\x00\x03\x08\x01\x02".as_slice();
-    assert_eq!(rt; key.rtype(), Rtype::from_int(48));
-    assert_eq!(rt; key.rdlen(true), Some(6));
-    assert_eq!(rt; key.flags(), 256);
-    assert_eq!(rt; key.protocol(), 3);
-    assert_eq!(rt; key.algorithm(), 8);
-    assert_eq!(rt; *key.public_key(), b"\x01\x02".as_slice());
+    assert!(rt;
+        key.rtype() == Rtype::from_int(48)
+            && key.rdlen(true) == Some(6)
+            && key.flags() == 256
+            && key.protocol() == 3
+            && key.algorithm() == 8
+            && *key.public_key() == b"\x01\x02".as_slice()
+    );
     assert!(rt; composed(rt.alloc(), &key)?.as_slice().starts_with(message));
-    assert!(rt; is_kept::<Dnskey<&[u8]>>(rt.alloc(), 48, message));
-    assert!(rt; !is_kept::<Dnskey<&[u8]>>(rt.alloc(), 43, message));
-    assert!(rt; key != other);
-    assert_eq!(rt; hashed(&key), hashed(&key));
-    assert_eq!(rt; key.cmp(&other), Ordering::Less);
-    assert_eq!(rt; other.partial_cmp(&key), Some(Ordering::Greater));
-    assert_eq!(rt; key.canonical_cmp(&other), Ordering::Less);
+    assert!(rt;
+        is_kept::<Dnskey<&[u8]>>(rt.alloc(), 48, message)
+            && !is_kept::<Dnskey<&[u8]>>(rt.alloc(), 43, message)
+            && key != other
+            && hashed(&key) == hashed(&key)
+            && key.cmp(&other) == Ordering::Less
+            && other.partial_cmp(&key) == Some(Ordering::Greater)
+            && key.canonical_cmp(&other) == Ordering::Less
+    );
     Ok(())
 }
 
@@ -202,19 +214,23 @@ fn caa_is_a_tag_and_a_value(rt: HostRuntime) -> Result<(), Fail> {
     let upper = Caa::new(0, CharStr::from_slice(b"ISSUE")?, b"ca.b".as_slice())?;
     let other = Caa::new(0, CharStr::from_slice(b"issue")?, b"ca.c".as_slice())?;
     let message = b"\x00\x0b\x00\x05issueca.b".as_slice();
-    assert_eq!(rt; caa.rtype(), Rtype::from_int(257));
-    assert_eq!(rt; caa.rdlen(true), Some(11));
-    assert_eq!(rt; caa.flags(), 0);
-    assert_eq!(rt; caa.tag().as_slice(), b"issue".as_slice());
-    assert_eq!(rt; *caa.value(), b"ca.b".as_slice());
+    assert!(rt;
+        caa.rtype() == Rtype::from_int(257)
+            && caa.rdlen(true) == Some(11)
+            && caa.flags() == 0
+            && caa.tag().as_slice() == b"issue".as_slice()
+            && *caa.value() == b"ca.b".as_slice()
+    );
     assert!(rt; composed(rt.alloc(), &caa)?.as_slice().starts_with(message));
-    assert!(rt; is_kept::<Caa<&[u8]>>(rt.alloc(), 257, message));
-    assert!(rt; !is_kept::<Caa<&[u8]>>(rt.alloc(), 257, b"\x00\x03\x00\x05i"));
-    assert!(rt; caa == upper);
-    assert!(rt; caa != other);
-    assert_eq!(rt; hashed(&caa), hashed(&upper));
-    assert_eq!(rt; caa.cmp(&other), Ordering::Less);
-    assert_eq!(rt; caa.partial_cmp(&upper), Some(Ordering::Equal));
-    assert_eq!(rt; caa.canonical_cmp(&upper), Ordering::Greater);
+    assert!(rt;
+        is_kept::<Caa<&[u8]>>(rt.alloc(), 257, message)
+            && !is_kept::<Caa<&[u8]>>(rt.alloc(), 257, b"\x00\x03\x00\x05i")
+            && caa == upper
+            && caa != other
+            && hashed(&caa) == hashed(&upper)
+            && caa.cmp(&other) == Ordering::Less
+            && caa.partial_cmp(&upper) == Some(Ordering::Equal)
+            && caa.canonical_cmp(&upper) == Ordering::Greater
+    );
     Ok(())
 }

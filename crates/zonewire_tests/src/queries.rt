@@ -73,7 +73,7 @@ fn other_bits_of_the_header_are_ignored(rt: HostRuntime) -> Result<(), Fail> {
     let cases: [(usize, u8); 2] = [(2, 7), (3, 255)];
     for (place, octet) in cases {
         let query = changed(rt.alloc(), QUERY, place, octet)?;
-        assert_eq!(rt; query_error(query.as_slice()), None);
+        assert!(rt; query_error(query.as_slice()) == None);
     }
     Ok(())
 }
@@ -87,12 +87,14 @@ fn what_a_query_asks(rt: HostRuntime) -> Result<(), Fail> {
         let Ok(query) = check_query(octets.as_slice()) else {
             panic!(rt; "refused");
         };
-        assert_eq!(rt; query.id(), 0x1234);
-        assert_eq!(rt; query.rd(), recursive);
-        assert_eq!(rt; query.class(), Class::IN);
-        assert_eq!(rt; query.name().label_count(), 2);
+        assert!(rt;
+            query.id() == 0x1234
+                && query.rd() == recursive
+                && query.class() == Class::IN
+                && query.name().label_count() == 2
+        );
         let name = query.name().to_vec(alloc)?;
-        assert_eq!(rt; name.as_slice(), b"\x01a\x00".as_slice());
+        assert!(rt; name.as_slice() == b"\x01a\x00".as_slice());
     }
     Ok(())
 }
@@ -104,10 +106,7 @@ fn queries_for_another_zone(rt: HostRuntime) -> Result<(), Fail> {
     let cases: [(usize, u8); 2] = [(13, b'b'), (18, 3)];
     for (place, octet) in cases {
         let query = changed(alloc, QUERY, place, octet)?;
-        assert_eq!(rt;
-            sent(alloc, &zone, query.as_slice(), 512).err(),
-            Some(SendError::WrongZone)
-        );
+        assert!(rt; sent(alloc, &zone, query.as_slice(), 512).err() == Some(SendError::WrongZone));
     }
     Ok(())
 }
@@ -121,7 +120,7 @@ fn answers_repeat_the_query(rt: HostRuntime) -> Result<(), Fail> {
     for (place, octet, answer_place, answer) in cases {
         let query = changed(alloc, QUERY, place, octet)?;
         let stream = sent(alloc, &zone, query.as_slice(), 512)?;
-        assert_eq!(rt; stream.get(answer_place).copied(), Some(answer));
+        assert!(rt; stream.get(answer_place).copied() == Some(answer));
     }
     Ok(())
 }

@@ -74,12 +74,14 @@ fn check_send(rt: &impl Abort, job: Job, id: u16, max: u16) {
         assert!(rt; false);
         return;
     };
-    assert!(rt; origin.is_none());
-    assert!(rt; class == Class::IN);
-    assert_eq!(rt; job_id, id);
-    assert!(rt; apex.is_none());
-    assert_eq!(rt; job_max, max);
-    assert!(rt; spelling == Spelling::Plain);
+    assert!(rt;
+        origin.is_none()
+            && class == Class::IN
+            && job_id == id
+            && apex.is_none()
+            && job_max == max
+            && spelling == Spelling::Plain
+    );
 }
 
 #[test]
@@ -139,10 +141,12 @@ fn check_receive(rt: &impl Abort, job: Job, apex: &[u8], id: u16, class: u16) {
         assert!(rt; false);
         return;
     };
-    assert!(rt; job_class == Class::from_int(class));
-    assert_eq!(rt; job_id, id);
-    assert_eq!(rt; job_apex.as_slice(), apex);
-    assert!(rt; layout == DisplayKind::Simple);
+    assert!(rt;
+        job_class == Class::from_int(class)
+            && job_id == id
+            && job_apex.as_slice() == apex
+            && layout == DisplayKind::Simple
+    );
 }
 
 #[test]
@@ -275,7 +279,7 @@ fn a_refused_line_shows_how_lines_are(rt: HostRuntime) -> Result<(), Fail> {
     assert!(rt;
         text.as_str()
             .starts_with("error: unrecognized subcommand 'check'")
+            && text.as_str().contains("Usage: zonewire <COMMAND>")
     );
-    assert!(rt; text.as_str().contains("Usage: zonewire <COMMAND>"));
     Ok(())
 }

@@ -13,13 +13,13 @@ fn octets_are_built_further(rt: HostRuntime) -> Result<(), Fail> {
     let mut name = NameBuilder::from_builder(octets)?;
     assert!(rt; !name.in_label());
     name.push(b'c')?;
-    assert_eq!(rt; name.as_slice(), b"\x03www\x02ab\x01c".as_slice());
+    assert!(rt; name.as_slice() == b"\x03www\x02ab\x01c".as_slice());
     let relative = name.finish();
-    assert_eq!(rt; relative.as_slice(), b"\x03www\x02ab\x01c".as_slice());
+    assert!(rt; relative.as_slice() == b"\x03www\x02ab\x01c".as_slice());
     let mut more = relative.into_builder();
     assert!(rt; !more.in_label());
     more.append_label(b"d")?;
-    assert_eq!(rt; more.as_slice(), b"\x03www\x02ab\x01c\x01d".as_slice());
+    assert!(rt; more.as_slice() == b"\x03www\x02ab\x01c\x01d".as_slice());
     Ok(())
 }
 
@@ -32,16 +32,12 @@ fn octets_of_no_relative_name_are_not_built_further(rt: HostRuntime) -> Result<(
         }
         NameBuilder::from_builder(array).err()
     };
-    assert_eq!(rt; refused(b""), None);
-    assert_eq!(rt; refused(b"\x01a"), None);
-    assert_eq!(rt;
-        refused(b"\x01a\x00"),
-        Some(RelativeNameError::AbsoluteName)
-    );
-    assert_eq!(rt; refused(b"\x02a"), Some(RelativeNameError::ShortInput));
-    assert_eq!(rt;
-        refused(b"\x01a\xc0\x00"),
-        Some(RelativeNameError::CompressedName)
+    assert!(rt;
+        refused(b"") == None
+            && refused(b"\x01a") == None
+            && refused(b"\x01a\x00") == Some(RelativeNameError::AbsoluteName)
+            && refused(b"\x02a") == Some(RelativeNameError::ShortInput)
+            && refused(b"\x01a\xc0\x00") == Some(RelativeNameError::CompressedName)
     );
     Ok(())
 }
@@ -58,7 +54,7 @@ fn relative_names_are_put_behind_labels(rt: HostRuntime) -> Result<(), Fail> {
     let pair = RelativeName::from_slice(b"\x01f")?.chain(RelativeName::from_slice(b"\x01g")?)?;
     name.append_name(&pair)?;
     let made = b"\x01a\x01b\x02cd\x01e\x01f\x01g";
-    assert_eq!(rt; name.finish().as_slice(), made.as_slice());
+    assert!(rt; name.finish().as_slice() == made.as_slice());
     Ok(())
 }
 
@@ -76,16 +72,20 @@ fn a_refused_name_leaves_the_open_label(rt: HostRuntime) -> Result<(), Fail> {
     let mut name = labels(rt.alloc(), 125)?;
     name.push(b'b')?;
     let two = RelativeName::from_slice(b"\x02cd")?;
-    assert_eq!(rt; name.append_name(&two), Err(PushNameError::LongName));
-    assert_eq!(rt; name.len(), 252);
-    assert!(rt; name.in_label());
+    assert!(rt;
+        name.append_name(&two) == Err(PushNameError::LongName)
+            && name.len() == 252
+            && name.in_label()
+    );
     name.append_name(&RelativeName::from_slice(b"\x01c")?)?;
-    assert_eq!(rt; name.finish().len(), 254);
+    assert!(rt; name.finish().len() == 254);
     let mut small = NameBuilder::<ArrayVec<u8, 4>>::new(rt.alloc());
     small.push(b'b')?;
-    assert_eq!(rt; small.append_name(&two), Err(PushNameError::ShortBuf));
-    assert!(rt; small.in_label());
-    assert_eq!(rt; small.as_slice(), b"\x01b".as_slice());
+    assert!(rt;
+        small.append_name(&two) == Err(PushNameError::ShortBuf)
+            && small.in_label()
+            && small.as_slice() == b"\x01b".as_slice()
+    );
     Ok(())
 }
 
@@ -96,13 +96,13 @@ fn origins_of_every_kind_are_put_behind_labels(rt: HostRuntime) -> Result<(), Fa
     parser.seek(3)?;
     let compressed = ParsedName::parse(&mut parser)?;
     let whole = labels(rt.alloc(), 1)?.append_origin(&compressed)?;
-    assert_eq!(rt; whole.as_slice(), b"\x01a\x01y\x01z\x00".as_slice());
+    assert!(rt; whole.as_slice() == b"\x01a\x01y\x01z\x00".as_slice());
     let pair = RelativeName::from_slice(b"\x01x")?.chain_root();
     let whole = labels(rt.alloc(), 1)?.append_origin(&pair)?;
-    assert_eq!(rt; whole.as_slice(), b"\x01a\x01x\x00".as_slice());
+    assert!(rt; whole.as_slice() == b"\x01a\x01x\x00".as_slice());
     let longest = labels(rt.alloc(), 126)?.append_origin(&Name::from_slice(b"\x01z\x00")?)?;
-    assert_eq!(rt; longest.len(), 255);
+    assert!(rt; longest.len() == 255);
     let long = labels(rt.alloc(), 126)?.append_origin(&Name::from_slice(b"\x02zz\x00")?);
-    assert_eq!(rt; long.err(), Some(PushNameError::LongName));
+    assert!(rt; long.err() == Some(PushNameError::LongName));
     Ok(())
 }

@@ -8,10 +8,12 @@ use std::test::Fail;
 fn a_label_has_at_most_63_octets(rt: HostRuntime) -> Result<(), Fail> {
     let octets = [b'a'; 64];
     let label = Label::from_slice(&octets[..63])?;
-    assert_eq!(rt; label.len(), 63);
-    assert_eq!(rt; label.as_slice(), &octets[..63]);
-    assert!(rt; !label.is_root());
-    assert_eq!(rt; Label::from_slice(&octets).is_err(), true);
+    assert!(rt;
+        label.len() == 63
+            && label.as_slice() == &octets[..63]
+            && !label.is_root()
+            && Label::from_slice(&octets).is_err()
+    );
     Ok(())
 }
 
@@ -20,24 +22,15 @@ fn what_stands_in_a_labels_place_is_told_apart(rt: HostRuntime) {
     let short = Err(SplitLabelError::ShortInput);
     assert!(rt;
         matches!(Label::split_from(b"\x03wwwrest"), Ok((label, b"rest")) if label.as_slice() == b"www".as_slice())
+            && matches!(Label::split_from(b"\x00"), Ok((label, b"")) if label.is_root())
+            && split_error(b"\xc0\x0c") == Err(SplitLabelError::Pointer(12))
+            && split_error(b"\xff\xff") == Err(SplitLabelError::Pointer(16383))
+            && split_error(b"\x41") == Err(SplitLabelError::BadType(LabelTypeError::Extended))
+            && split_error(b"\x80") == Err(SplitLabelError::BadType(LabelTypeError::Undefined))
+            && split_error(b"") == short
+            && split_error(b"\x03ww") == short
+            && split_error(b"\xc0") == short
     );
-    assert!(rt; matches!(Label::split_from(b"\x00"), Ok((label, b"")) if label.is_root()));
-    assert_eq!(rt; split_error(b"\xc0\x0c"), Err(SplitLabelError::Pointer(12)));
-    assert_eq!(rt;
-        split_error(b"\xff\xff"),
-        Err(SplitLabelError::Pointer(16383))
-    );
-    assert_eq!(rt;
-        split_error(b"\x41"),
-        Err(SplitLabelError::BadType(LabelTypeError::Extended))
-    );
-    assert_eq!(rt;
-        split_error(b"\x80"),
-        Err(SplitLabelError::BadType(LabelTypeError::Undefined))
-    );
-    assert_eq!(rt; split_error(b""), short);
-    assert_eq!(rt; split_error(b"\x03ww"), short);
-    assert_eq!(rt; split_error(b"\xc0"), short);
 }
 
 #[test]
@@ -45,17 +38,19 @@ fn labels_are_compared_up_to_case(rt: HostRuntime) -> Result<(), Fail> {
     let upper = Label::from_slice(b"Www")?;
     let lower = Label::from_slice(b"wwW")?;
     let short = Label::from_slice(b"x")?;
-    assert!(rt; upper == lower);
-    assert!(rt; upper < short);
-    assert!(rt; matches!(upper.cmp(&lower), Ordering::Equal));
-    assert!(rt; matches!(upper.composed_cmp(&lower), Ordering::Less));
-    assert!(rt; matches!(upper.lowercase_composed_cmp(&lower), Ordering::Equal));
-    assert!(rt; matches!(upper.lowercase_composed_cmp(&short), Ordering::Greater));
+    assert!(rt;
+        upper == lower
+            && upper < short
+            && matches!(upper.cmp(&lower), Ordering::Equal)
+            && matches!(upper.composed_cmp(&lower), Ordering::Less)
+            && matches!(upper.lowercase_composed_cmp(&lower), Ordering::Equal)
+            && matches!(upper.lowercase_composed_cmp(&short), Ordering::Greater)
+    );
     let mut first = FoldHasher::default();
     upper.hash(&mut first);
     let mut second = FoldHasher::default();
     lower.hash(&mut second);
-    assert_eq!(rt; first.finish(), second.finish());
+    assert!(rt; first.finish() == second.finish());
     Ok(())
 }
 
@@ -65,13 +60,16 @@ fn labels_are_composed_and_printed(rt: HostRuntime) -> Result<(), Fail> {
     let mut octets = Vec::new(rt.alloc());
     label.compose(&mut octets)?;
     label.compose_canonical(&mut octets)?;
-    assert_eq!(rt; octets.as_slice(), b"\x06A.b c\x07\x06a.b c\x07".as_slice());
-    assert_eq!(rt; label.compose_len(), 7);
+    assert!(rt;
+        octets.as_slice() == b"\x06A.b c\x07\x06a.b c\x07".as_slice() && label.compose_len() == 7
+    );
     let text = format!(in rt.alloc(); "{label}")?;
-    assert_eq!(rt; text.as_str(), "A\\.b\\ c\\007");
-    assert!(rt; Label::root().is_empty());
-    assert!(rt; Label::wildcard().is_wildcard());
-    assert!(rt; !label.is_wildcard());
+    assert!(rt;
+        text.as_str() == "A\\.b\\ c\\007"
+            && Label::root().is_empty()
+            && Label::wildcard().is_wildcard()
+            && !label.is_wildcard()
+    );
     Ok(())
 }
 

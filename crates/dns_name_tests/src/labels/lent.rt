@@ -10,13 +10,14 @@ fn a_label_is_lowered_where_it_stands(rt: HostRuntime) -> Result<(), Fail> {
     let mut octets = *b"xWWwx";
     let mut label = LabelMut::from_slice(&mut octets[1..4])?;
     label.make_canonical();
-    assert_eq!(rt; label.as_slice(), b"www".as_slice());
+    assert!(rt; label.as_slice() == b"www".as_slice());
     assert!(rt; label.as_label() == Label::from_slice(b"WWW")?);
-    assert_eq!(rt; octets.as_slice(), b"xwwwx".as_slice());
-    assert!(rt; LabelMut::from_slice(&mut [0; 64]).is_err());
+    assert!(rt;
+        octets.as_slice() == b"xwwwx".as_slice() && LabelMut::from_slice(&mut [0; 64]).is_err()
+    );
     let mut octets = *b"WWw";
     lower(&mut octets);
-    assert_eq!(rt; octets.as_slice(), b"www".as_slice());
+    assert!(rt; octets.as_slice() == b"www".as_slice());
     Ok(())
 }
 
@@ -27,18 +28,14 @@ fn a_label_is_split_off_and_lowered(rt: HostRuntime) -> Result<(), Fail> {
     label.make_canonical();
     let (mut label, rest) = LabelMut::split_from(rest)?;
     label.make_canonical();
-    assert_eq!(rt; label.as_slice(), b"b".as_slice());
-    assert_eq!(rt; &rest[..], b"C".as_slice());
-    assert_eq!(rt; octets.as_slice(), b"\x01a\x01bC".as_slice());
-    assert_eq!(rt;
-        refusal(&mut [0xc0, 0x0c]),
-        Some(SplitLabelError::Pointer(12))
+    assert!(rt;
+        label.as_slice() == b"b".as_slice()
+            && &rest[..] == b"C".as_slice()
+            && octets.as_slice() == b"\x01a\x01bC".as_slice()
+            && refusal(&mut [0xc0, 0x0c]) == Some(SplitLabelError::Pointer(12))
+            && refusal(&mut [0x41]) == Some(SplitLabelError::BadType(LabelTypeError::Extended))
+            && refusal(&mut [2, 0]) == Some(SplitLabelError::ShortInput)
     );
-    assert_eq!(rt;
-        refusal(&mut [0x41]),
-        Some(SplitLabelError::BadType(LabelTypeError::Extended))
-    );
-    assert_eq!(rt; refusal(&mut [2, 0]), Some(SplitLabelError::ShortInput));
     Ok(())
 }
 

@@ -8,16 +8,17 @@ use std::test::Fail;
 fn a_label_holds_its_octets(rt: HostRuntime) -> Result<(), Fail> {
     let octets = [b'A'; 63];
     let mut label = OwnedLabel::from_label(Label::from_slice(&octets)?);
-    assert_eq!(rt; label.as_label().as_slice(), &octets[..]);
-    assert_eq!(rt; label.as_wire_slice().len(), 64);
-    assert_eq!(rt; label.as_wire_slice().first().copied(), Some(63));
+    assert!(rt;
+        label.as_label().as_slice() == &octets[..]
+            && label.as_wire_slice().len() == 64
+            && label.as_wire_slice().first().copied() == Some(63)
+    );
     let copy = label;
     label.make_canonical();
-    assert_eq!(rt; label.as_label().as_slice(), [b'a'; 63].as_slice());
-    assert_eq!(rt; copy.clone()?.as_label().as_slice(), &octets[..]);
+    assert!(rt; label.as_label().as_slice() == [b'a'; 63].as_slice());
+    assert!(rt; copy.clone()?.as_label().as_slice() == &octets[..]);
     let root = OwnedLabel::from_label(Label::root());
-    assert!(rt; root.as_label().is_root());
-    assert_eq!(rt; root.as_wire_slice(), b"\x00".as_slice());
+    assert!(rt; root.as_label().is_root() && root.as_wire_slice() == b"\x00".as_slice());
     Ok(())
 }
 
@@ -26,34 +27,33 @@ fn labels_that_hold_their_octets_are_compared_up_to_case(rt: HostRuntime) -> Res
     let upper: OwnedLabel = "Www".parse()?;
     let lower: OwnedLabel = "wwW".parse()?;
     let short: OwnedLabel = "x".parse()?;
-    assert!(rt; upper == lower);
-    assert!(rt; upper < short);
-    assert!(rt; matches!(upper.cmp(&lower), Ordering::Equal));
+    assert!(rt; upper == lower && upper < short && matches!(upper.cmp(&lower), Ordering::Equal));
     let mut first = FoldHasher::default();
     upper.hash(&mut first);
     let mut second = FoldHasher::default();
     lower.hash(&mut second);
-    assert_eq!(rt; first.finish(), second.finish());
+    assert!(rt; first.finish() == second.finish());
     Ok(())
 }
 
 #[test]
 fn a_text_is_one_label(rt: HostRuntime) -> Result<(), Fail> {
     let label = OwnedLabel::from_chars("A\\.b\\ c\\007".chars())?;
-    assert_eq!(rt; label.as_wire_slice(), b"\x06A.b c\x07".as_slice());
+    assert!(rt; label.as_wire_slice() == b"\x06A.b c\x07".as_slice());
     let text = format!(in rt.alloc(); "{label}")?;
-    assert_eq!(rt; text.as_str(), "A\\.b\\ c\\007");
+    assert!(rt; text.as_str() == "A\\.b\\ c\\007");
     let again: OwnedLabel = text.parse()?;
-    assert_eq!(rt; again.as_wire_slice(), label.as_wire_slice());
-    assert_eq!(rt; refusal("a.b"), Some(LabelFromStrError::Dot));
-    assert_eq!(rt; refusal("\u{e9}"), Some(LabelFromStrError::BadSymbol));
-    assert_eq!(rt; refusal("a\\256"), Some(LabelFromStrError::BadSymbol));
-    assert_eq!(rt; refusal(""), Some(LabelFromStrError::EmptyLabel));
+    assert!(rt;
+        again.as_wire_slice() == label.as_wire_slice()
+            && refusal("a.b") == Some(LabelFromStrError::Dot)
+            && refusal("\u{e9}") == Some(LabelFromStrError::BadSymbol)
+            && refusal("a\\256") == Some(LabelFromStrError::BadSymbol)
+            && refusal("") == Some(LabelFromStrError::EmptyLabel)
+    );
     let long = "0123456789012345678901234567890123456789012345678901234567890123";
-    assert_eq!(rt; refusal(long), Some(LabelFromStrError::LongLabel));
-    assert_eq!(rt; refusal(&long[1..]), None);
+    assert!(rt; refusal(long) == Some(LabelFromStrError::LongLabel) && refusal(&long[1..]) == None);
     let text = format!(in rt.alloc(); "{}", LabelFromStrError::Dot)?;
-    assert_eq!(rt; text.as_str(), "dot in a label");
+    assert!(rt; text.as_str() == "dot in a label");
     Ok(())
 }
 

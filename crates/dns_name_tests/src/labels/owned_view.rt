@@ -9,12 +9,9 @@ use std::test::Fail;
 #[test]
 fn a_label_that_holds_its_octets_is_lowered_by_a_view(rt: HostRuntime) -> Result<(), Fail> {
     let mut label: OwnedLabel = "WwW".parse()?;
-    assert_eq!(rt;
-        label.as_label_mut().as_label().as_slice(),
-        b"WwW".as_slice()
-    );
+    assert!(rt; label.as_label_mut().as_label().as_slice() == b"WwW".as_slice());
     lower(&mut label);
-    assert_eq!(rt; label.as_wire_slice(), b"\x03www".as_slice());
+    assert!(rt; label.as_wire_slice() == b"\x03www".as_slice());
     Ok(())
 }
 

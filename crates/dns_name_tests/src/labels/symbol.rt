@@ -4,11 +4,13 @@ use std::test::Fail;
 
 #[test]
 fn symbols_stand_for_octets(rt: HostRuntime) {
-    assert_eq!(rt; front(b"ab"), Some((Symbol::Char('a'), 1)));
-    assert_eq!(rt; front(b"\\;b"), Some((Symbol::SimpleEscape(b';'), 1)));
-    assert_eq!(rt; front(b"\\\\"), Some((Symbol::SimpleEscape(b'\\'), 0)));
-    assert_eq!(rt; front(b"\\112"), Some((Symbol::DecimalEscape(112), 0)));
-    assert_eq!(rt; front(b"\\2550"), Some((Symbol::DecimalEscape(255), 1)));
+    assert!(rt;
+        front(b"ab") == Some((Symbol::Char('a'), 1))
+            && front(b"\\;b") == Some((Symbol::SimpleEscape(b';'), 1))
+            && front(b"\\\\") == Some((Symbol::SimpleEscape(b'\\'), 0))
+            && front(b"\\112") == Some((Symbol::DecimalEscape(112), 0))
+            && front(b"\\2550") == Some((Symbol::DecimalEscape(255), 1))
+    );
     for text in [
         b"".as_slice(),
         b"\x1f",
@@ -20,31 +22,24 @@ fn symbols_stand_for_octets(rt: HostRuntime) {
         b"\\256",
         b"\\1a2",
     ] {
-        assert_eq!(rt; front(text), None);
+        assert!(rt; front(text) == None);
     }
 }
 
 #[test]
 fn symbols_are_read_off_characters(rt: HostRuntime) -> Result<(), Fail> {
     let mut chars = "a\\;\\1129\\".chars();
-    assert_eq!(rt; Symbol::from_chars(&mut chars)?, Some(Symbol::Char('a')));
-    assert_eq!(rt;
-        Symbol::from_chars(&mut chars)?,
-        Some(Symbol::SimpleEscape(b';'))
+    assert!(rt; Symbol::from_chars(&mut chars)? == Some(Symbol::Char('a')));
+    assert!(rt; Symbol::from_chars(&mut chars)? == Some(Symbol::SimpleEscape(b';')));
+    assert!(rt; Symbol::from_chars(&mut chars)? == Some(Symbol::DecimalEscape(112)));
+    assert!(rt; Symbol::from_chars(&mut chars)? == Some(Symbol::Char('9')));
+    assert!(rt; Symbol::from_chars(&mut chars) == Err(SymbolCharsError::ShortInput));
+    assert!(rt; Symbol::from_chars(&mut chars)? == None);
+    assert!(rt;
+        no_symbol("\u{e9}") == Some(SymbolCharsError::BadChar)
+            && no_symbol("\\256") == Some(SymbolCharsError::BadEscape)
+            && no_symbol("\\25") == Some(SymbolCharsError::ShortInput)
     );
-    assert_eq!(rt;
-        Symbol::from_chars(&mut chars)?,
-        Some(Symbol::DecimalEscape(112))
-    );
-    assert_eq!(rt; Symbol::from_chars(&mut chars)?, Some(Symbol::Char('9')));
-    assert_eq!(rt;
-        Symbol::from_chars(&mut chars),
-        Err(SymbolCharsError::ShortInput)
-    );
-    assert_eq!(rt; Symbol::from_chars(&mut chars)?, None);
-    assert_eq!(rt; no_symbol("\u{e9}"), Some(SymbolCharsError::BadChar));
-    assert_eq!(rt; no_symbol("\\256"), Some(SymbolCharsError::BadEscape));
-    assert_eq!(rt; no_symbol("\\25"), Some(SymbolCharsError::ShortInput));
     Ok(())
 }
 
@@ -54,11 +49,13 @@ fn no_symbol(text: &str) -> Option<SymbolCharsError> {
 
 #[test]
 fn symbols_of_a_text_stand_for_octets(rt: HostRuntime) {
-    assert_eq!(rt; Symbol::Char('a').into_octet(), Ok(b'a'));
-    assert_eq!(rt; Symbol::SimpleEscape(b'.').into_octet(), Ok(b'.'));
-    assert_eq!(rt; Symbol::DecimalEscape(200).into_octet(), Ok(200));
-    assert_eq!(rt; Symbol::Char('\\').into_octet(), Err(BadSymbol));
-    assert_eq!(rt; Symbol::SimpleEscape(b'1').into_octet(), Err(BadSymbol));
+    assert!(rt;
+        Symbol::Char('a').into_octet() == Ok(b'a')
+            && Symbol::SimpleEscape(b'.').into_octet() == Ok(b'.')
+            && Symbol::DecimalEscape(200).into_octet() == Ok(200)
+            && Symbol::Char('\\').into_octet() == Err(BadSymbol)
+            && Symbol::SimpleEscape(b'1').into_octet() == Err(BadSymbol)
+    );
 }
 
 /// The symbol in front, and how many octets are behind it.

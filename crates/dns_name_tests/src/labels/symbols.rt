@@ -4,25 +4,31 @@ use dns_label::{Symbol, SymbolCharsError, Symbols};
 #[test]
 fn symbols_end_with_the_characters_or_at_an_error(rt: HostRuntime) {
     let mut symbols = Symbols::new("a\\.".chars());
-    assert_eq!(rt; symbols.next(), Some(Symbol::Char('a')));
-    assert_eq!(rt; symbols.next(), Some(Symbol::SimpleEscape(b'.')));
-    assert_eq!(rt; symbols.next(), None);
-    assert_eq!(rt; symbols.ok(), Ok(()));
+    assert!(rt;
+        symbols.next() == Some(Symbol::Char('a'))
+            && symbols.next() == Some(Symbol::SimpleEscape(b'.'))
+            && symbols.next() == None
+            && symbols.ok() == Ok(())
+    );
     let mut symbols = Symbols::new("\u{e9}a".chars());
-    assert_eq!(rt; symbols.next(), None);
-    assert_eq!(rt; symbols.next(), None);
-    assert_eq!(rt; symbols.ok(), Err(SymbolCharsError::BadChar));
+    assert!(rt;
+        symbols.next() == None
+            && symbols.next() == None
+            && symbols.ok() == Err(SymbolCharsError::BadChar)
+    );
 }
 
 #[test]
 fn a_closure_takes_the_symbols(rt: HostRuntime) {
-    assert_eq!(rt; first("a\u{e9}"), Ok(Some(Symbol::Char('a'))));
-    assert_eq!(rt; first("\u{e9}"), Err(SymbolCharsError::BadChar));
+    assert!(rt;
+        first("a\u{e9}") == Ok(Some(Symbol::Char('a')))
+            && first("\u{e9}") == Err(SymbolCharsError::BadChar)
+    );
     let refused: Result<Symbol, SymbolCharsError> = Symbols::with(
         "a".chars(),
         |_| Err(SymbolCharsError::ShortInput),
     );
-    assert_eq!(rt; refused, Err(SymbolCharsError::ShortInput));
+    assert!(rt; refused == Err(SymbolCharsError::ShortInput));
 }
 
 fn first(text: &str) -> Result<Option<Symbol>, SymbolCharsError> {

@@ -21,9 +21,9 @@ fn flat(octets: &[u8]) -> Result<Name<&[u8]>, Fail> {
 fn names_of_both_kinds_begin_and_end_alike(rt: HostRuntime) -> Result<(), Fail> {
     let name = www()?;
     let base = flat(b"\x07EXAMPLE\x03com\x00")?;
-    assert!(rt; name.ends_with(&base));
-    assert!(rt; ToLabelIter::ends_with(&name, &base));
-    assert!(rt; !base.ends_with(&name));
+    assert!(rt;
+        name.ends_with(&base) && ToLabelIter::ends_with(&name, &base) && !base.ends_with(&name)
+    );
     assert!(rt; flat(FLAT)?.ends_with(&name));
     assert!(rt; name.starts_with(&flat(FLAT)?));
     assert!(rt; !name.starts_with(&base));
@@ -61,14 +61,16 @@ fn names_are_ordered_from_the_right(rt: HostRuntime) -> Result<(), Fail> {
     for i in 1..9 {
         let lesser = flat(names[i - 1])?;
         let greater = flat(names[i])?;
-        assert_eq!(rt; lesser.name_cmp(&greater), Ordering::Less);
-        assert_eq!(rt; greater.cmp(&lesser), Ordering::Greater);
-        assert!(rt; lesser.canonical_lt(&greater));
-        assert!(rt; lesser < greater);
+        assert!(rt;
+            lesser.name_cmp(&greater) == Ordering::Less
+                && greater.cmp(&lesser) == Ordering::Greater
+                && lesser.canonical_lt(&greater)
+                && lesser < greater
+        );
     }
     let name = www()?;
-    assert_eq!(rt; name.name_cmp(&flat(FLAT)?), Ordering::Equal);
-    assert_eq!(rt; name.cmp(&name.deref_octets()), Ordering::Equal);
+    assert!(rt; name.name_cmp(&flat(FLAT)?) == Ordering::Equal);
+    assert!(rt; name.cmp(&name.deref_octets()) == Ordering::Equal);
     let com = ParsedName::parse(&mut Parser::from_ref(WWW))?;
     assert!(rt; com < name);
     Ok(())
@@ -78,10 +80,12 @@ fn names_are_ordered_from_the_right(rt: HostRuntime) -> Result<(), Fail> {
 fn octets_are_ordered(rt: HostRuntime) -> Result<(), Fail> {
     let name = www()?;
     let upper = flat(FLAT)?;
-    assert_eq!(rt; name.composed_cmp(&upper), Ordering::Greater);
-    assert_eq!(rt; name.lowercase_composed_cmp(&upper), Ordering::Equal);
+    assert!(rt;
+        name.composed_cmp(&upper) == Ordering::Greater
+            && name.lowercase_composed_cmp(&upper) == Ordering::Equal
+    );
     let short = flat(b"\x01z\x00")?;
-    assert_eq!(rt; short.lowercase_composed_cmp(&name), Ordering::Less);
+    assert!(rt; short.lowercase_composed_cmp(&name) == Ordering::Less);
     Ok(())
 }
 
@@ -89,15 +93,12 @@ fn octets_are_ordered(rt: HostRuntime) -> Result<(), Fail> {
 fn names_are_composed(rt: HostRuntime) -> Result<(), Fail> {
     let mut octets = Vec::from_slice(rt.alloc(), b"x")?;
     www()?.compose(&mut octets)?;
-    assert_eq!(rt;
-        octets.as_slice(),
-        b"x\x03www\x07example\x03com\x00".as_slice()
-    );
+    assert!(rt; octets.as_slice() == b"x\x03www\x07example\x03com\x00".as_slice());
     let mut lowered = Vec::new(rt.alloc());
     flat(FLAT)?.compose_canonical(&mut lowered)?;
-    assert_eq!(rt; lowered.as_slice(), LOWERED);
+    assert!(rt; lowered.as_slice() == LOWERED);
     let mut small = ArrayVec::<u8, 16>::new();
-    assert_eq!(rt; www()?.compose(&mut small), Err(AppendError::ShortBuf));
+    assert!(rt; www()?.compose(&mut small) == Err(AppendError::ShortBuf));
     assert!(rt; small.is_empty());
     Ok(())
 }
@@ -106,33 +107,30 @@ fn names_are_composed(rt: HostRuntime) -> Result<(), Fail> {
 fn names_are_made_flat(rt: HostRuntime) -> Result<(), Fail> {
     let name = www()?;
     assert!(rt; name.as_flat_slice().is_none());
-    assert_eq!(rt; flat(FLAT)?.as_flat_slice(), Some(FLAT));
+    assert!(rt; flat(FLAT)?.as_flat_slice() == Some(FLAT));
     let com = ParsedName::parse(&mut Parser::from_ref(WWW))?;
-    assert_eq!(rt; com.as_flat_slice(), Some(b"\x03com\x00".as_slice()));
+    assert!(rt; com.as_flat_slice() == Some(b"\x03com\x00".as_slice()));
     let made: Name<Vec<u8>> = name.try_to_name(rt.alloc())?;
-    assert_eq!(rt; made.as_slice(), LOWERED);
+    assert!(rt; made.as_slice() == LOWERED);
     let made: Name<ArrayVec<u8, 17>> = name.to_name(rt.alloc())?;
-    assert_eq!(rt; made.as_slice(), LOWERED);
+    assert!(rt; made.as_slice() == LOWERED);
     let made: Result<Name<ArrayVec<u8, 16>>, AppendError> = name.to_name(rt.alloc());
-    assert_eq!(rt; made.err(), Some(AppendError::ShortBuf));
+    assert!(rt; made.err() == Some(AppendError::ShortBuf));
     let made: Name<Vec<u8>> = flat(FLAT)?.try_to_canonical_name(rt.alloc())?;
-    assert_eq!(rt; made.as_slice(), LOWERED);
+    assert!(rt; made.as_slice() == LOWERED);
     let made: Name<Vec<u8>> = flat(FLAT)?.to_canonical_name(rt.alloc())?;
-    assert_eq!(rt; made.as_slice(), LOWERED);
-    assert_eq!(rt; name.to_cow(rt.alloc())?.as_slice(), LOWERED);
-    assert_eq!(rt;
-        com.to_cow(rt.alloc())?.as_slice(),
-        b"\x03com\x00".as_slice()
-    );
+    assert!(rt; made.as_slice() == LOWERED);
+    assert!(rt; name.to_cow(rt.alloc())?.as_slice() == LOWERED);
+    assert!(rt; com.to_cow(rt.alloc())?.as_slice() == b"\x03com\x00".as_slice());
     Ok(())
 }
 
 #[test]
 fn signatures_count_neither_root_nor_asterisk(rt: HostRuntime) -> Result<(), Fail> {
-    assert_eq!(rt; www()?.rrsig_label_count(), 3);
-    assert_eq!(rt; flat(b"\x01*\x07example\x00")?.rrsig_label_count(), 1);
-    assert_eq!(rt; flat(b"\x02**\x07example\x00")?.rrsig_label_count(), 2);
-    assert_eq!(rt; flat(b"\x00")?.rrsig_label_count(), 0);
+    assert!(rt; www()?.rrsig_label_count() == 3);
+    assert!(rt; flat(b"\x01*\x07example\x00")?.rrsig_label_count() == 1);
+    assert!(rt; flat(b"\x02**\x07example\x00")?.rrsig_label_count() == 2);
+    assert!(rt; flat(b"\x00")?.rrsig_label_count() == 0);
     Ok(())
 }
 
@@ -150,10 +148,10 @@ fn name_hash_of<N: ToName>(name: &N) -> u64 {
 
 #[test]
 fn equal_names_hash_alike(rt: HostRuntime) -> Result<(), Fail> {
-    assert_eq!(rt; name_hash_of(&www()?), name_hash_of(&flat(FLAT)?));
+    assert!(rt; name_hash_of(&www()?) == name_hash_of(&flat(FLAT)?));
     assert!(rt; name_hash_of(&www()?) != name_hash_of(&flat(b"\x00")?));
-    assert_eq!(rt; hash_of(&www()?), hash_of(&flat(FLAT)?));
-    assert_eq!(rt; hash_of(&flat(LOWERED)?), hash_of(&flat(FLAT)?));
+    assert!(rt; hash_of(&www()?) == hash_of(&flat(FLAT)?));
+    assert!(rt; hash_of(&flat(LOWERED)?) == hash_of(&flat(FLAT)?));
     assert!(rt; hash_of(&www()?) != hash_of(&flat(b"\x00")?));
     Ok(())
 }

@@ -19,17 +19,17 @@ fn owned_relative(alloc: Global, octets: &[u8]) -> Result<RelativeName<Vec<u8>>,
 #[test]
 fn relative_names_are_labels_without_the_roots(rt: HostRuntime) -> Result<(), Fail> {
     let name = RelativeName::from_slice(RELATIVE)?;
-    assert_eq!(rt; name.len(), 16);
-    assert_eq!(rt; name.label_count(), 3);
-    assert!(rt; !name.is_empty());
+    assert!(rt; name.len() == 16 && name.label_count() == 3 && !name.is_empty());
     assert!(rt; RelativeName::from_slice(b"")?.is_empty());
-    assert_eq!(rt; name.iter().count(), 3);
-    assert_eq!(rt; name.compose_len(), 16);
-    assert_eq!(rt; name.iter_labels().count(), 3);
-    assert_eq!(rt; *name.as_octets(), RELATIVE);
-    assert_eq!(rt; name.for_ref().into_octets(), RELATIVE);
-    assert!(rt; matches!(name.label(1), Some(label) if label.as_slice() == b"example".as_slice()));
-    assert!(rt; name.label(3).is_none());
+    assert!(rt;
+        name.iter().count() == 3
+            && name.compose_len() == 16
+            && name.iter_labels().count() == 3
+            && *name.as_octets() == RELATIVE
+            && name.for_ref().into_octets() == RELATIVE
+            && matches!(name.label(1), Some(label) if label.as_slice() == b"example".as_slice())
+            && name.label(3).is_none()
+    );
     Ok(())
 }
 
@@ -39,15 +39,14 @@ fn why_not(octets: &[u8]) -> Option<RelativeNameError> {
 
 #[test]
 fn other_octets_are_no_relative_names(rt: HostRuntime) {
-    assert_eq!(rt; why_not(NAME), Some(RelativeNameError::AbsoluteName));
-    assert_eq!(rt; why_not(b"\x02a"), Some(RelativeNameError::ShortInput));
-    assert_eq!(rt;
-        why_not(b"\xc0\x00"),
-        Some(RelativeNameError::CompressedName)
+    assert!(rt;
+        why_not(NAME) == Some(RelativeNameError::AbsoluteName)
+            && why_not(b"\x02a") == Some(RelativeNameError::ShortInput)
+            && why_not(b"\xc0\x00") == Some(RelativeNameError::CompressedName)
+            && matches!(why_not(b"\x80"), Some(RelativeNameError::BadLabel(_)))
     );
-    assert!(rt; matches!(why_not(b"\x80"), Some(RelativeNameError::BadLabel(_))));
     let mut long = [1u8; 256];
-    assert_eq!(rt; why_not(&long), Some(RelativeNameError::LongName));
+    assert!(rt; why_not(&long) == Some(RelativeNameError::LongName));
     long[0] = 1;
     assert!(rt; why_not(&long[..254]).is_none());
 }
@@ -55,12 +54,13 @@ fn other_octets_are_no_relative_names(rt: HostRuntime) {
 #[test]
 fn ends_of_names_are_labels(rt: HostRuntime) -> Result<(), Fail> {
     let name = Name::from_slice(NAME)?;
-    assert_eq!(rt; name.first().as_slice(), b"www".as_slice());
-    assert!(rt; name.last().is_root());
+    assert!(rt; name.first().as_slice() == b"www".as_slice() && name.last().is_root());
     assert!(rt; Name::from_slice(b"\x00")?.first().is_root());
     let relative = RelativeName::from_slice(RELATIVE)?;
-    assert!(rt; matches!(relative.first(), Some(label) if label.as_slice() == b"www".as_slice()));
-    assert!(rt; matches!(relative.last(), Some(label) if label.as_slice() == b"com".as_slice()));
+    assert!(rt;
+        matches!(relative.first(), Some(label) if label.as_slice() == b"www".as_slice())
+            && matches!(relative.last(), Some(label) if label.as_slice() == b"com".as_slice())
+    );
     assert!(rt; RelativeName::from_slice(b"")?.first().is_none());
     assert!(rt; RelativeName::from_slice(b"")?.last().is_none());
     assert!(rt; name.starts_with(&relative));
@@ -77,8 +77,9 @@ fn labels_begin_at_places(rt: HostRuntime) -> Result<(), Fail> {
     let starts: [usize; 4] = [0, 4, 12, 16];
     for place in 0..18usize {
         let begins = starts.contains(&place);
-        assert_eq!(rt; name.is_label_start(place), begins);
-        assert_eq!(rt; relative.is_label_start(place), begins);
+        assert!(rt;
+            name.is_label_start(place) == begins && relative.is_label_start(place) == begins
+        );
     }
     Ok(())
 }
@@ -90,18 +91,19 @@ fn absolute_names_are_cut(rt: HostRuntime) -> Result<(), Fail> {
         assert!(rt; false);
         return Ok(());
     }
-    assert_eq!(rt; name.slice(4, 12).as_slice(), b"\x07example".as_slice());
-    assert_eq!(rt; name.range(4, 4).as_slice(), b"".as_slice());
-    assert_eq!(rt; name.slice_from(12).as_slice(), b"\x03com\x00".as_slice());
+    assert!(rt;
+        name.slice(4, 12).as_slice() == b"\x07example".as_slice()
+            && name.range(4, 4).as_slice() == b"".as_slice()
+            && name.slice_from(12).as_slice() == b"\x03com\x00".as_slice()
+    );
     let (front, back) = name.split(4);
-    assert_eq!(rt; front.as_slice(), b"\x03www".as_slice());
-    assert_eq!(rt; back.as_slice(), b"\x07example\x03com\x00".as_slice());
-    assert_eq!(rt;
-        name.truncate(12).as_slice(),
-        b"\x03www\x07example".as_slice()
+    assert!(rt;
+        front.as_slice() == b"\x03www".as_slice()
+            && back.as_slice() == b"\x07example\x03com\x00".as_slice()
+            && name.truncate(12).as_slice() == b"\x03www\x07example".as_slice()
     );
     let relative = owned(rt.alloc(), NAME)?.into_relative();
-    assert_eq!(rt; relative.as_slice(), RELATIVE);
+    assert!(rt; relative.as_slice() == RELATIVE);
     Ok(())
 }
 
@@ -112,13 +114,17 @@ fn relative_names_are_cut(rt: HostRuntime) -> Result<(), Fail> {
         assert!(rt; false);
         return Ok(());
     }
-    assert_eq!(rt; name.slice(4, 12).as_slice(), b"\x07example".as_slice());
-    assert_eq!(rt; name.range(4, 4).as_slice(), b"".as_slice());
+    assert!(rt;
+        name.slice(4, 12).as_slice() == b"\x07example".as_slice()
+            && name.range(4, 4).as_slice() == b"".as_slice()
+    );
     let (front, back) = name.split(4);
-    assert_eq!(rt; front.as_slice(), b"\x03www".as_slice());
-    assert_eq!(rt; back.as_slice(), b"\x07example\x03com".as_slice());
+    assert!(rt;
+        front.as_slice() == b"\x03www".as_slice()
+            && back.as_slice() == b"\x07example\x03com".as_slice()
+    );
     name.truncate(12);
-    assert_eq!(rt; name.as_slice(), b"\x03www\x07example".as_slice());
+    assert!(rt; name.as_slice() == b"\x03www\x07example".as_slice());
     Ok(())
 }
 
@@ -127,14 +133,14 @@ fn first_labels_are_split_off(rt: HostRuntime) -> Result<(), Fail> {
     let name = Name::from_slice(b"\x01a\x01b\x00")?;
     assert!(rt;
         matches!(name.split_first(), Some((label, parent)) if label.as_slice() == b"a".as_slice() && parent.as_slice() == b"\x01b\x00".as_slice())
+            && matches!(name.parent(), Some(parent) if parent.len() == 3)
     );
-    assert!(rt; matches!(name.parent(), Some(parent) if parent.len() == 3));
     assert!(rt; Name::from_slice(b"\x00")?.parent().is_none());
     let relative = RelativeName::from_slice(b"\x01a\x01b")?;
     assert!(rt;
         matches!(relative.split_first(), Some((label, parent)) if label.as_slice() == b"a".as_slice() && parent.as_slice() == b"\x01b".as_slice())
+            && matches!(relative.parent(), Some(parent) if parent.len() == 2)
     );
-    assert!(rt; matches!(relative.parent(), Some(parent) if parent.len() == 2));
     assert!(rt; RelativeName::from_slice(b"")?.split_first().is_none());
     Ok(())
 }
@@ -150,10 +156,12 @@ fn suffixes_are_stripped(rt: HostRuntime) -> Result<(), Fail> {
     assert!(rt; matches!(&other, Err(name) if name.len() == 3));
     let mut relative = owned_relative(rt.alloc(), RELATIVE)?;
     let end = RelativeName::from_slice(b"\x03COM")?;
-    assert_eq!(rt; relative.strip_suffix(&end), Ok(()));
-    assert_eq!(rt; relative.as_slice(), b"\x03www\x07example".as_slice());
-    assert_eq!(rt; relative.strip_suffix(&end), Err(StripSuffixError));
-    assert_eq!(rt; relative.len(), 12);
+    assert!(rt;
+        relative.strip_suffix(&end) == Ok(())
+            && relative.as_slice() == b"\x03www\x07example".as_slice()
+            && relative.strip_suffix(&end) == Err(StripSuffixError)
+            && relative.len() == 12
+    );
     Ok(())
 }
 
@@ -165,9 +173,6 @@ fn errors_of_relative_names_show(rt: HostRuntime) -> Result<(), AllocError> {
         RelativeNameError::LongName,
         StripSuffixError
     )?;
-    assert_eq!(rt;
-        shown.as_str(),
-        "absolute domain name, long domain name, suffix not found"
-    );
+    assert!(rt; shown.as_str() == "absolute domain name, long domain name, suffix not found");
     Ok(())
 }

@@ -15,55 +15,33 @@ fn presentation(reason: PresentationError) -> Option<RelativeFromStrError> {
 #[test]
 fn texts_without_a_last_dot_spell_relative_names(rt: HostRuntime) -> Result<(), Fail> {
     let name = RelativeName::vec_from_str(rt.alloc(), "www.example")?;
-    assert_eq!(rt; name.as_slice(), b"\x03www\x07example".as_slice());
+    assert!(rt; name.as_slice() == b"\x03www\x07example".as_slice());
     let escaped = RelativeName::vec_from_str(rt.alloc(), "foo\\112.a\\.")?;
-    assert_eq!(rt; escaped.as_slice(), b"\x04foop\x02a.".as_slice());
+    assert!(rt; escaped.as_slice() == b"\x04foop\x02a.".as_slice());
     let back = RelativeName::vec_from_str(rt.alloc(), escaped.to_string(rt.alloc())?.as_str())?;
-    assert_eq!(rt; back.as_slice(), escaped.as_slice());
+    assert!(rt; back.as_slice() == escaped.as_slice());
     assert!(rt; RelativeName::vec_from_str(rt.alloc(), "")?.is_empty());
     let small: RelativeName<ArrayVec<u8, 2>> = RelativeName::from_str(rt.alloc(), "a")?;
-    assert_eq!(rt; small.as_slice(), b"\x01a".as_slice());
+    assert!(rt; small.as_slice() == b"\x01a".as_slice());
     let chars: RelativeName<Vec<u8>> = RelativeName::from_chars(rt.alloc(), "a.b".chars())?;
-    assert_eq!(rt; chars.as_slice(), b"\x01a\x01b".as_slice());
+    assert!(rt; chars.as_slice() == b"\x01a\x01b".as_slice());
     Ok(())
 }
 
 #[test]
 fn absolute_and_broken_texts_spell_no_relative_name(rt: HostRuntime) {
     let alloc = rt.alloc();
-    assert_eq!(rt;
-        refused(alloc, "."),
-        Some(RelativeFromStrError::AbsoluteName)
-    );
-    assert_eq!(rt;
-        refused(alloc, "a.b."),
-        Some(RelativeFromStrError::AbsoluteName)
-    );
-    assert_eq!(rt;
-        refused(alloc, "a\\\\."),
-        Some(RelativeFromStrError::AbsoluteName)
-    );
-    assert_eq!(rt;
-        refused(alloc, "a.."),
-        presentation(PresentationError::EmptyLabel)
-    );
-    assert_eq!(rt;
-        refused(alloc, ".a"),
-        presentation(PresentationError::EmptyLabel)
-    );
-    assert_eq!(rt;
-        refused(alloc, "a\\"),
-        presentation(PresentationError::BadSymbol)
-    );
-    assert_eq!(rt;
-        refused(alloc, "\\256"),
-        presentation(PresentationError::BadSymbol)
+    assert!(rt;
+        refused(alloc, ".") == Some(RelativeFromStrError::AbsoluteName)
+            && refused(alloc, "a.b.") == Some(RelativeFromStrError::AbsoluteName)
+            && refused(alloc, "a\\\\.") == Some(RelativeFromStrError::AbsoluteName)
+            && refused(alloc, "a..") == presentation(PresentationError::EmptyLabel)
+            && refused(alloc, ".a") == presentation(PresentationError::EmptyLabel)
+            && refused(alloc, "a\\") == presentation(PresentationError::BadSymbol)
+            && refused(alloc, "\\256") == presentation(PresentationError::BadSymbol)
     );
     let small = RelativeName::<ArrayVec<u8, 2>>::from_chars(alloc, "ab".chars());
-    assert_eq!(rt;
-        small.err(),
-        Some(RelativeFromStrError::FromStr(FromStrError::ShortBuf))
-    );
+    assert!(rt; small.err() == Some(RelativeFromStrError::FromStr(FromStrError::ShortBuf)));
 }
 
 /// So many labels of 63 octets, and behind them one of so many, with the end.
@@ -86,17 +64,11 @@ fn long_text(alloc: Global, full: u8, last: u8, end: &str) -> Result<String, All
 fn relative_names_from_text_have_at_most_254_octets(rt: HostRuntime) -> Result<(), Fail> {
     let alloc = rt.alloc();
     let name = RelativeName::vec_from_str(alloc, long_text(alloc, 3, 61, "")?.as_str())?;
-    assert_eq!(rt; name.len(), 254);
+    assert!(rt; name.len() == 254);
     let long = long_text(alloc, 3, 62, "")?;
-    assert_eq!(rt;
-        refused(alloc, long.as_str()),
-        presentation(PresentationError::LongName)
-    );
+    assert!(rt; refused(alloc, long.as_str()) == presentation(PresentationError::LongName));
     let absolute = long_text(alloc, 3, 61, ".")?;
-    assert_eq!(rt;
-        refused(alloc, absolute.as_str()),
-        Some(RelativeFromStrError::AbsoluteName)
-    );
+    assert!(rt; refused(alloc, absolute.as_str()) == Some(RelativeFromStrError::AbsoluteName));
     Ok(())
 }
 
@@ -104,12 +76,9 @@ fn relative_names_from_text_have_at_most_254_octets(rt: HostRuntime) -> Result<(
 fn labels_of_relative_names_from_text_have_at_most_63_octets(rt: HostRuntime) -> Result<(), Fail> {
     let alloc = rt.alloc();
     let label = RelativeName::vec_from_str(alloc, long_text(alloc, 0, 63, "")?.as_str())?;
-    assert_eq!(rt; label.len(), 64);
+    assert!(rt; label.len() == 64);
     let long = long_text(alloc, 0, 64, "")?;
-    assert_eq!(rt;
-        refused(alloc, long.as_str()),
-        presentation(PresentationError::LongLabel)
-    );
+    assert!(rt; refused(alloc, long.as_str()) == presentation(PresentationError::LongLabel));
     Ok(())
 }
 
@@ -121,9 +90,6 @@ fn errors_of_relative_texts_show(rt: HostRuntime) -> Result<(), AllocError> {
         RelativeFromStrError::FromStr(FromStrError::ShortBuf),
         RelativeFromStrError::FromStr(FromStrError::Presentation(PresentationError::EmptyLabel))
     )?;
-    assert_eq!(rt;
-        text.as_str(),
-        "absolute domain name, short buffer, empty label"
-    );
+    assert!(rt; text.as_str() == "absolute domain name, short buffer, empty label");
     Ok(())
 }

@@ -7,12 +7,11 @@ use std::test::Fail;
 fn octets(rt: HostRuntime) -> Result<(), Fail> {
     let mut target = Vec::new(rt.alloc());
     OptionCode::from_int(0x0102).compose(&mut target)?;
-    assert_eq!(rt; target.as_slice(), [1u8, 2].as_slice());
+    assert!(rt; target.as_slice() == [1u8, 2].as_slice());
     let mut parser = Parser::from_ref(target.as_slice());
-    assert_eq!(rt;
-        OptionCode::parse(&mut parser),
-        Ok(OptionCode::from_int(0x0102))
+    assert!(rt;
+        OptionCode::parse(&mut parser) == Ok(OptionCode::from_int(0x0102))
+            && OptionCode::from_int(3).to_int() == 3
     );
-    assert_eq!(rt; OptionCode::from_int(3).to_int(), 3);
     Ok(())
 }

@@ -34,11 +34,11 @@ fn text<R: ShowRow + Drop>(alloc: Global, row: R) -> Result<String, AllocError> 
 #[test]
 fn numbers_are_shown_in_decimal(rt: HostRuntime) -> Result<(), Fail> {
     let alloc = rt.alloc();
-    assert_eq!(rt; text(alloc, ())?.as_str(), "");
-    assert_eq!(rt; text(alloc, (0u8, ()))?.as_str(), "0");
-    assert_eq!(rt;
-        text(alloc, (255u8, (65_535u16, (4_294_967_295u32, ()))))?.as_str(),
-        "255 65535 4294967295"
+    assert!(rt; text(alloc, ())?.as_str() == "");
+    assert!(rt; text(alloc, (0u8, ()))?.as_str() == "0");
+    assert!(rt;
+        text(alloc, (255u8, (65_535u16, (4_294_967_295u32, ()))))?.as_str()
+            == "255 65535 4294967295"
     );
     Ok(())
 }
@@ -47,11 +47,11 @@ fn numbers_are_shown_in_decimal(rt: HostRuntime) -> Result<(), Fail> {
 fn addresses_are_shown(rt: HostRuntime) -> Result<(), Fail> {
     let alloc = rt.alloc();
     let four = Ipv4Addr::new(192, 0, 2, 1);
-    assert_eq!(rt; text(alloc, (four, ()))?.as_str(), "192.0.2.1");
+    assert!(rt; text(alloc, (four, ()))?.as_str() == "192.0.2.1");
     let six = Ipv6Addr::new(0x2001, 0xdb8, 0, 0, 0, 0, 0, 1);
-    assert_eq!(rt; text(alloc, (six, ()))?.as_str(), "2001:db8::1");
+    assert!(rt; text(alloc, (six, ()))?.as_str() == "2001:db8::1");
     let mapped = Ipv6Addr::new(0, 0, 0, 0, 0, 0xffff, 0x102, 0x304);
-    assert_eq!(rt; text(alloc, (mapped, ()))?.as_str(), "::ffff:102:304");
+    assert!(rt; text(alloc, (mapped, ()))?.as_str() == "::ffff:102:304");
     Ok(())
 }
 
@@ -62,11 +62,11 @@ fn names_and_strings_are_shown(rt: HostRuntime) -> Result<(), Fail> {
         Compressible(Name::from_slice(b"\x01a\x00")?),
         (Uncompressed(Name::from_slice(b"\x00")?), ()),
     );
-    assert_eq!(rt; text(alloc, names)?.as_str(), "a. .");
+    assert!(rt; text(alloc, names)?.as_str() == "a. .");
     let string = (CharStr::from_slice(b"f;\"o\\\x07")?, ());
-    assert_eq!(rt; text(alloc, string)?.as_str(), "\"f;\\\"o\\\\\\007\"");
+    assert!(rt; text(alloc, string)?.as_str() == "\"f;\\\"o\\\\\\007\"");
     let tag = (Tag(CharStr::from_slice(b"f;o")?), ());
-    assert_eq!(rt; text(alloc, tag)?.as_str(), "f\\;o");
+    assert!(rt; text(alloc, tag)?.as_str() == "f\\;o");
     Ok(())
 }
 
@@ -75,16 +75,16 @@ fn rests_are_shown(rt: HostRuntime) -> Result<(), Fail> {
     let alloc = rt.alloc();
     let none = b"".as_slice();
     let digest = (2u8, Last(Rest16(b"\xab\x01".as_slice())));
-    assert_eq!(rt; text(alloc, digest)?.as_str(), "2 AB01");
-    assert_eq!(rt; text(alloc, (2u8, Last(Rest16(none))))?.as_str(), "2");
+    assert!(rt; text(alloc, digest)?.as_str() == "2 AB01");
+    assert!(rt; text(alloc, (2u8, Last(Rest16(none))))?.as_str() == "2");
     let key = (8u8, Last(Rest64(b"foob".as_slice())));
-    assert_eq!(rt; text(alloc, key)?.as_str(), "8 Zm9vYg==");
-    assert_eq!(rt; text(alloc, (8u8, Last(Rest64(none))))?.as_str(), "8");
+    assert!(rt; text(alloc, key)?.as_str() == "8 Zm9vYg==");
+    assert!(rt; text(alloc, (8u8, Last(Rest64(none))))?.as_str() == "8");
     let value = Last(RestText(b"a \";\\\xff~\x7f".as_slice()));
-    assert_eq!(rt; text(alloc, value)?.as_str(), "\"a \\\";\\\\\\255~\\127\"");
-    assert_eq!(rt; text(alloc, Last(RestText(none)))?.as_str(), "\"\"");
+    assert!(rt; text(alloc, value)?.as_str() == "\"a \\\";\\\\\\255~\\127\"");
+    assert!(rt; text(alloc, Last(RestText(none)))?.as_str() == "\"\"");
     if let Some(strings) = Strings::from_octets(b"\x03a b\x00".as_slice()) {
-        assert_eq!(rt; text(alloc, Last(strings))?.as_str(), "\"a b\" \"\"");
+        assert!(rt; text(alloc, Last(strings))?.as_str() == "\"a b\" \"\"");
     }
     Ok(())
 }

@@ -39,8 +39,9 @@ fn mx_is_flattened(rt: HostRuntime) -> Result<(), Fail> {
     let mut parser = Parser::from_ref(b"\x01a\x00\x00\x0a\x01B\xc0\x00");
     parser.advance(3)?;
     let flat: Mx<Own> = Mx::parse(&mut parser)?.try_flatten_into(rt.alloc())?;
-    assert_eq!(rt; flat.preference(), 10);
-    assert_eq!(rt; flat.exchange().as_slice(), b"\x01B\x01a\x00".as_slice());
+    assert!(rt;
+        flat.preference() == 10 && flat.exchange().as_slice() == b"\x01B\x01a\x00".as_slice()
+    );
     Ok(())
 }
 
@@ -50,13 +51,15 @@ fn soa_is_flattened(rt: HostRuntime) -> Result<(), Fail> {
     let mut parser = Parser::from_ref(message);
     parser.advance(3)?;
     let flat: Soa<Own> = Soa::parse(&mut parser)?.flatten_into(rt.alloc())?;
-    assert_eq!(rt; flat.mname().as_slice(), b"\x01B\x01a\x00".as_slice());
-    assert_eq!(rt; flat.rname().as_slice(), b"\x01B\x01a\x00".as_slice());
-    assert_eq!(rt; flat.serial(), Serial(1));
-    assert_eq!(rt; flat.minimum(), Ttl::from_secs(5));
-    assert_eq!(rt;
-        composed(rt.alloc(), &flat)?.as_slice(),
-        b"\0\x1e\x01B\x01a\0\x01B\x01a\0\0\0\0\x01\0\0\0\x02\0\0\0\x03\0\0\0\x04\0\0\0\x05\x01b\x01a\0\x01b\x01a\0\0\0\0\x01\0\0\0\x02\0\0\0\x03\0\0\0\x04\0\0\0\x05".as_slice()
+    assert!(rt;
+        flat.mname().as_slice() == b"\x01B\x01a\x00".as_slice()
+            && flat.rname().as_slice() == b"\x01B\x01a\x00".as_slice()
+            && flat.serial() == Serial(1)
+            && flat.minimum() == Ttl::from_secs(5)
+    );
+    assert!(rt;
+        composed(rt.alloc(), &flat)?.as_slice()
+            == b"\0\x1e\x01B\x01a\0\x01B\x01a\0\0\0\0\x01\0\0\0\x02\0\0\0\x03\0\0\0\x04\0\0\0\x05\x01b\x01a\0\x01b\x01a\0\0\0\0\x01\0\0\0\x02\0\0\0\x03\0\0\0\x04\0\0\0\x05".as_slice()
     );
     Ok(())
 }
@@ -66,14 +69,16 @@ fn types_of_one_name_are_flattened(rt: HostRuntime) -> Result<(), Fail> {
     let alloc = rt.alloc();
     let name = b"\x01a\x00\x01B\xc0\x00".as_slice();
     let whole = b"\x00\x05\x01B\x01a\x00".as_slice();
-    assert!(rt; is_flattened::<Ns<Read<'_>>, Ns<Own>>(alloc, 2, name, whole));
-    assert!(rt; is_flattened::<Md<Read<'_>>, Md<Own>>(alloc, 3, name, whole));
-    assert!(rt; is_flattened::<Mf<Read<'_>>, Mf<Own>>(alloc, 4, name, whole));
-    assert!(rt; is_flattened::<Cname<Read<'_>>, Cname<Own>>(alloc, 5, name, whole));
-    assert!(rt; is_flattened::<Mb<Read<'_>>, Mb<Own>>(alloc, 7, name, whole));
-    assert!(rt; is_flattened::<Mg<Read<'_>>, Mg<Own>>(alloc, 8, name, whole));
-    assert!(rt; is_flattened::<Mr<Read<'_>>, Mr<Own>>(alloc, 9, name, whole));
-    assert!(rt; is_flattened::<Ptr<Read<'_>>, Ptr<Own>>(alloc, 12, name, whole));
+    assert!(rt;
+        is_flattened::<Ns<Read<'_>>, Ns<Own>>(alloc, 2, name, whole)
+            && is_flattened::<Md<Read<'_>>, Md<Own>>(alloc, 3, name, whole)
+            && is_flattened::<Mf<Read<'_>>, Mf<Own>>(alloc, 4, name, whole)
+            && is_flattened::<Cname<Read<'_>>, Cname<Own>>(alloc, 5, name, whole)
+            && is_flattened::<Mb<Read<'_>>, Mb<Own>>(alloc, 7, name, whole)
+            && is_flattened::<Mg<Read<'_>>, Mg<Own>>(alloc, 8, name, whole)
+            && is_flattened::<Mr<Read<'_>>, Mr<Own>>(alloc, 9, name, whole)
+            && is_flattened::<Ptr<Read<'_>>, Ptr<Own>>(alloc, 12, name, whole)
+    );
     Ok(())
 }
 
@@ -82,15 +87,15 @@ fn types_of_more_fields_are_flattened(rt: HostRuntime) -> Result<(), Fail> {
     let alloc = rt.alloc();
     let two = b"\x01a\x00\xc0\x00\x01b\x00".as_slice();
     let both = b"\x00\x06\x01a\x00\x01b\x00".as_slice();
-    assert!(rt; is_flattened::<Minfo<Read<'_>>, Minfo<Own>>(alloc, 14, two, both));
-    assert!(rt; is_flattened::<Rp<Read<'_>>, Rp<Own>>(alloc, 17, two, both));
     assert!(rt;
-        is_flattened::<Srv<Read<'_>>, Srv<Own>>(
-            alloc,
-            33,
-            b"\x01a\x00\0\x01\0\x02\0\x03\xc0\0",
-            b"\0\x09\0\x01\0\x02\0\x03\x01a\0"
-        )
+        is_flattened::<Minfo<Read<'_>>, Minfo<Own>>(alloc, 14, two, both)
+            && is_flattened::<Rp<Read<'_>>, Rp<Own>>(alloc, 17, two, both)
+            && is_flattened::<Srv<Read<'_>>, Srv<Own>>(
+                alloc,
+                33,
+                b"\x01a\x00\0\x01\0\x02\0\x03\xc0\0",
+                b"\0\x09\0\x01\0\x02\0\x03\x01a\0"
+            )
     );
     Ok(())
 }
@@ -107,11 +112,11 @@ fn octets_are_of_another_kind_where_they_fit(rt: HostRuntime) -> Result<(), Fail
         alloc,
         Mx::new(10, name(b"\x01A\x01b\x00")?),
     );
-    assert_eq!(rt; less.err(), Some(AppendError::ShortBuf));
+    assert!(rt; less.err() == Some(AppendError::ShortBuf));
     let ns: Ns<Name<Vec<u8>>> = OctetsFrom::try_octets_from(
         alloc,
         Ns::new(name(b"\x01A\x01b\x00")?),
     )?;
-    assert_eq!(rt; ns.nsdname().as_slice(), b"\x01A\x01b\x00".as_slice());
+    assert!(rt; ns.nsdname().as_slice() == b"\x01A\x01b\x00".as_slice());
     Ok(())
 }

@@ -25,7 +25,7 @@ fn is_pointed(found: &ParsedName<&[u8]>) -> bool {
 fn hosts_are_parsed(rt: HostRuntime) -> Result<(), Fail> {
     let mut parser = at_data(POINTED)?;
     assert!(rt; is_pointed(Ns::parse(&mut parser)?.nsdname()));
-    assert_eq!(rt; parser.remaining(), 0);
+    assert!(rt; parser.remaining() == 0);
     assert!(rt; is_pointed(Md::parse(&mut at_data(POINTED)?)?.madname()));
     assert!(rt; is_pointed(Mf::parse(&mut at_data(POINTED)?)?.madname()));
     Ok(())
@@ -44,8 +44,7 @@ fn other_names_are_parsed(rt: HostRuntime) -> Result<(), Fail> {
     assert!(rt; is_pointed(Cname::parse(&mut at_data(POINTED)?)?.cname()));
     assert!(rt; is_pointed(Ptr::parse(&mut at_data(POINTED)?)?.ptrdname()));
     let mut trailing = Parser::from_ref(b"\x00\x00");
-    assert!(rt; Ptr::parse(&mut trailing).is_err());
-    assert_eq!(rt; trailing.pos(), 0);
+    assert!(rt; Ptr::parse(&mut trailing).is_err() && trailing.pos() == 0);
     Ok(())
 }
 
@@ -53,11 +52,9 @@ fn other_names_are_parsed(rt: HostRuntime) -> Result<(), Fail> {
 fn pairs_of_names_are_parsed(rt: HostRuntime) -> Result<(), Fail> {
     let message = b"\x01a\x00\x00\x01B\xc0\x00".as_slice();
     let minfo = Minfo::parse(&mut at_data(message)?)?;
-    assert!(rt; is_pointed(minfo.emailbx()));
-    assert!(rt; !is_pointed(minfo.rmailbx()));
+    assert!(rt; is_pointed(minfo.emailbx()) && !is_pointed(minfo.rmailbx()));
     let rp = Rp::parse(&mut at_data(message)?)?;
-    assert!(rt; is_pointed(rp.txt()));
-    assert!(rt; !is_pointed(rp.mbox()));
+    assert!(rt; is_pointed(rp.txt()) && !is_pointed(rp.mbox()));
     Ok(())
 }
 
@@ -65,9 +62,8 @@ fn pairs_of_names_are_parsed(rt: HostRuntime) -> Result<(), Fail> {
 fn services_are_parsed(rt: HostRuntime) -> Result<(), Fail> {
     let message = b"\x01a\x00\x00\x01\x00\x02\x00\x03\x01B\xc0\x00".as_slice();
     let srv = Srv::parse(&mut at_data(message)?)?;
-    assert_eq!(rt; srv.priority(), 1);
-    assert_eq!(rt; srv.weight(), 2);
-    assert_eq!(rt; srv.port(), 3);
-    assert!(rt; is_pointed(srv.target()));
+    assert!(rt;
+        srv.priority() == 1 && srv.weight() == 2 && srv.port() == 3 && is_pointed(srv.target())
+    );
     Ok(())
 }

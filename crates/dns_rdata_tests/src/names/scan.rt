@@ -18,19 +18,16 @@ fn ns_is_scanned(rt: HostRuntime) -> Result<(), Fail> {
     let mut scanner = over(rt.alloc(), "A.b. next")?;
     let ns = Ns::scan(&mut scanner)?;
     assert!(rt; is_written(rt.alloc(), &ns, b"\x00\x05\x01A\x01b\x00"));
-    assert_eq!(rt; scanner.peek_text()?, b"next".as_slice());
+    assert!(rt; scanner.peek_text()? == b"next".as_slice());
     Ok(())
 }
 
 #[test]
 fn what_is_no_name_is_not_scanned(rt: HostRuntime) -> Result<(), Fail> {
     let mut missing = over(rt.alloc(), "")?;
-    assert_eq!(rt; Ns::scan(&mut missing).err(), Some(StrError::EndOfEntry));
+    assert!(rt; Ns::scan(&mut missing).err() == Some(StrError::EndOfEntry));
     let mut other = over(rt.alloc(), "a..b")?;
-    assert_eq!(rt;
-        Ns::scan(&mut other).err(),
-        Some(StrError::Custom("invalid name"))
-    );
+    assert!(rt; Ns::scan(&mut other).err() == Some(StrError::Custom("invalid name")));
     Ok(())
 }
 
@@ -45,7 +42,7 @@ fn types_of_one_name_are_scanned(rt: HostRuntime) -> Result<(), Fail> {
     assert!(rt; is_written(rt.alloc(), &Mg::scan(&mut scanner)?, octets));
     assert!(rt; is_written(rt.alloc(), &Mr::scan(&mut scanner)?, octets));
     assert!(rt; is_written(rt.alloc(), &Ptr::scan(&mut scanner)?, octets));
-    assert_eq!(rt; scanner.peek_text()?, b"next".as_slice());
+    assert!(rt; scanner.peek_text()? == b"next".as_slice());
     Ok(())
 }
 
@@ -55,16 +52,12 @@ fn soa_is_scanned(rt: HostRuntime) -> Result<(), Fail> {
     let soa = Soa::scan(&mut scanner)?;
     assert!(rt; soa.mname().name_eq(&name(b"\x01b\x00")?));
     assert!(rt; soa.rname().name_eq(&name(b"\x01c\x00")?));
-    assert_eq!(rt; soa.serial(), Serial(1));
-    assert_eq!(rt; soa.minimum(), Ttl::MAX);
-    assert_eq!(rt; scanner.peek_text()?, b"next".as_slice());
+    assert!(rt; soa.serial() == Serial(1) && soa.minimum() == Ttl::MAX);
+    assert!(rt; scanner.peek_text()? == b"next".as_slice());
     let mut missing = over(rt.alloc(), "b. c. 1 2 3 4")?;
-    assert_eq!(rt; Soa::scan(&mut missing).err(), Some(StrError::EndOfEntry));
+    assert!(rt; Soa::scan(&mut missing).err() == Some(StrError::EndOfEntry));
     let mut large = over(rt.alloc(), "b. c. 4294967296 2 3 4 5")?;
-    assert_eq!(rt;
-        Soa::scan(&mut large).err(),
-        Some(StrError::Custom("invalid word"))
-    );
+    assert!(rt; Soa::scan(&mut large).err() == Some(StrError::Custom("invalid word")));
     Ok(())
 }
 
@@ -73,15 +66,15 @@ fn types_of_two_fields_are_scanned(rt: HostRuntime) -> Result<(), Fail> {
     let mut scanner = over(rt.alloc(), "10 mail.a. next")?;
     let mx = Mx::scan(&mut scanner)?;
     assert!(rt; is_written(rt.alloc(), &mx, b"\x00\x0a\x00\x0a\x04mail\x01a\x00"));
-    assert_eq!(rt; scanner.peek_text()?, b"next".as_slice());
+    assert!(rt; scanner.peek_text()? == b"next".as_slice());
     let mut missing = over(rt.alloc(), "10")?;
-    assert_eq!(rt; Mx::scan(&mut missing).err(), Some(StrError::EndOfEntry));
+    assert!(rt; Mx::scan(&mut missing).err() == Some(StrError::EndOfEntry));
     let mut scanner = over(rt.alloc(), "a. b. a\\.b. c. next")?;
     let minfo = Minfo::scan(&mut scanner)?;
     assert!(rt; is_written(rt.alloc(), &minfo, b"\x00\x06\x01a\x00\x01b\x00"));
     let rp = Rp::scan(&mut scanner)?;
     assert!(rt; is_written(rt.alloc(), &rp, b"\x00\x08\x03a.b\x00\x01c\x00"));
-    assert_eq!(rt; scanner.peek_text()?, b"next".as_slice());
+    assert!(rt; scanner.peek_text()? == b"next".as_slice());
     Ok(())
 }
 
@@ -96,13 +89,10 @@ fn srv_is_scanned(rt: HostRuntime) -> Result<(), Fail> {
             b"\x00\x09\x00\x01\x00\x02\xff\xff\x01A\x00"
         )
     );
-    assert_eq!(rt; scanner.peek_text()?, b"next".as_slice());
+    assert!(rt; scanner.peek_text()? == b"next".as_slice());
     let mut missing = over(rt.alloc(), "1 2 3")?;
-    assert_eq!(rt; Srv::scan(&mut missing).err(), Some(StrError::EndOfEntry));
+    assert!(rt; Srv::scan(&mut missing).err() == Some(StrError::EndOfEntry));
     let mut large = over(rt.alloc(), "1 2 65536 a.")?;
-    assert_eq!(rt;
-        Srv::scan(&mut large).err(),
-        Some(StrError::Custom("invalid word"))
-    );
+    assert!(rt; Srv::scan(&mut large).err() == Some(StrError::Custom("invalid word")));
     Ok(())
 }

@@ -10,12 +10,14 @@ use std::test::Fail;
 fn text_is_cut_behind_255_octets(rt: HostRuntime) -> Result<(), Fail> {
     let text = vec![in rt.alloc(); 97u8; 511]?;
     let txt: Txt<Vec<u8>> = Txt::build_from_slice(rt.alloc(), text.as_slice())?;
-    assert_eq!(rt; txt.len(), 514);
+    assert!(rt; txt.len() == 514);
     let mut strings = txt.iter();
-    assert!(rt; strings.next().is_some_and(|string| string.len() == 255));
-    assert!(rt; strings.next().is_some_and(|string| string.len() == 255));
-    assert!(rt; strings.next().is_some_and(|string| string.len() == 1));
-    assert!(rt; strings.next().is_none());
+    assert!(rt;
+        strings.next().is_some_and(|string| string.len() == 255)
+            && strings.next().is_some_and(|string| string.len() == 255)
+            && strings.next().is_some_and(|string| string.len() == 1)
+            && strings.next().is_none()
+    );
     let joined: Vec<u8> = txt.text(rt.alloc())?;
     assert!(rt; joined.as_slice() == text.as_slice());
     Ok(())
@@ -24,17 +26,14 @@ fn text_is_cut_behind_255_octets(rt: HostRuntime) -> Result<(), Fail> {
 #[test]
 fn no_text_is_an_empty_string(rt: HostRuntime) -> Result<(), Fail> {
     let txt: Txt<Vec<u8>> = Txt::build_from_slice(rt.alloc(), b"")?;
-    assert_eq!(rt;
-        composed(rt.alloc(), &txt)?.as_slice(),
-        b"\x00\x01\x00\x00".as_slice()
-    );
+    assert!(rt; composed(rt.alloc(), &txt)?.as_slice() == b"\x00\x01\x00\x00".as_slice());
     let built = TxtBuilder::new_vec(rt.alloc()).finish()?;
     assert!(rt; built == txt);
     let full: Result<Txt<ArrayVec<u8, 2>>, TxtAppendError> = Txt::build_from_slice(
         rt.alloc(),
         b"ab",
     );
-    assert_eq!(rt; full.err(), Some(TxtAppendError::ShortBuf));
+    assert!(rt; full.err() == Some(TxtAppendError::ShortBuf));
     Ok(())
 }
 
@@ -46,9 +45,9 @@ fn text_has_room_up_to_65535_octets(rt: HostRuntime) -> Result<(), Fail> {
         rt.alloc(),
         text.as_slice(),
     );
-    assert_eq!(rt; long.err(), Some(TxtAppendError::LongRecordData));
+    assert!(rt; long.err() == Some(TxtAppendError::LongRecordData));
     let txt: Txt<Vec<u8>> = Txt::build_from_slice(rt.alloc(), &text.as_slice()[1..])?;
-    assert_eq!(rt; txt.len(), 65_535);
+    assert!(rt; txt.len() == 65_535);
     Ok(())
 }
 
@@ -56,9 +55,9 @@ fn text_has_room_up_to_65535_octets(rt: HostRuntime) -> Result<(), Fail> {
 fn text_is_joined_where_it_fits(rt: HostRuntime) -> Result<(), Fail> {
     let txt = Txt::from_octets(b"\x01a\x00\x02bc".as_slice())?;
     let text: Vec<u8> = txt.text(rt.alloc())?;
-    assert_eq!(rt; text.as_slice(), b"abc".as_slice());
+    assert!(rt; text.as_slice() == b"abc".as_slice());
     let less: Result<ArrayVec<u8, 2>, AppendError> = txt.text(rt.alloc());
-    assert_eq!(rt; less.err(), Some(AppendError::ShortBuf));
+    assert!(rt; less.err() == Some(AppendError::ShortBuf));
     Ok(())
 }
 
@@ -89,9 +88,11 @@ fn a_full_string_is_closed(rt: HostRuntime) -> Result<(), Fail> {
     builder.append_slice(text.as_slice())?;
     let txt = builder.finish()?;
     let mut strings = txt.iter();
-    assert!(rt; strings.next().is_some_and(|string| string.len() == 255));
-    assert!(rt; strings.next().is_some_and(|string| string.len() == 47));
-    assert!(rt; strings.next().is_none());
+    assert!(rt;
+        strings.next().is_some_and(|string| string.len() == 255)
+            && strings.next().is_some_and(|string| string.len() == 47)
+            && strings.next().is_none()
+    );
     Ok(())
 }
 
@@ -100,10 +101,7 @@ fn a_refused_append_changes_nothing(rt: HostRuntime) -> Result<(), Fail> {
     let text = vec![in rt.alloc(); 97u8; 300]?;
     let mut builder: TxtBuilder<ArrayVec<u8, 260>> = TxtBuilder::new(rt.alloc());
     builder.append_slice(b"ab")?;
-    assert_eq!(rt;
-        builder.append_slice(text.as_slice()).err(),
-        Some(TxtAppendError::ShortBuf)
-    );
+    assert!(rt; builder.append_slice(text.as_slice()).err() == Some(TxtAppendError::ShortBuf));
     builder.append_u8(99)?;
     let txt = builder.finish()?;
     assert!(rt;
@@ -119,33 +117,21 @@ fn built_data_has_at_most_65535_octets(rt: HostRuntime) -> Result<(), Fail> {
     let text = vec![in rt.alloc(); 0u8; 65_278]?;
     let mut builder = TxtBuilder::new_vec(rt.alloc());
     builder.append_slice(text.as_slice())?;
-    assert_eq!(rt;
-        builder.append_slice(b"ab").err(),
-        Some(TxtAppendError::LongRecordData)
-    );
-    assert_eq!(rt;
-        builder.append_charstr(&CharStr::from_slice(b"")?).err(),
-        None
-    );
-    assert_eq!(rt;
-        builder.append_u8(0).err(),
-        Some(TxtAppendError::LongRecordData)
-    );
-    assert_eq!(rt; builder.finish()?.len(), 65_535);
+    assert!(rt; builder.append_slice(b"ab").err() == Some(TxtAppendError::LongRecordData));
+    assert!(rt; builder.append_charstr(&CharStr::from_slice(b"")?).err() == None);
+    assert!(rt; builder.append_u8(0).err() == Some(TxtAppendError::LongRecordData));
+    assert!(rt; builder.finish()?.len() == 65_535);
     Ok(())
 }
 
 #[test]
 fn faults_of_appends_are_shown(rt: HostRuntime) -> Result<(), Fail> {
-    assert_eq!(rt;
+    assert!(rt;
         TxtAppendError::LongRecordData
             .to_string(rt.alloc())?
-            .as_str(),
-        "record data too long"
+            .as_str()
+            == "record data too long"
     );
-    assert_eq!(rt;
-        TxtAppendError::ShortBuf.to_string(rt.alloc())?.as_str(),
-        "short buffer"
-    );
+    assert!(rt; TxtAppendError::ShortBuf.to_string(rt.alloc())?.as_str() == "short buffer");
     Ok(())
 }

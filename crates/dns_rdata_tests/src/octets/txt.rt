@@ -10,19 +10,16 @@ use std::test::Fail;
 fn txt_is_one_string_or_more(rt: HostRuntime) -> Result<(), Fail> {
     let txt = Txt::from_octets(b"\x01A\x00\x02bc".as_slice())?;
     let message = b"\x00\x06\x01A\x00\x02bc".as_slice();
-    assert_eq!(rt; txt.rtype(), Rtype::from_int(16));
-    assert_eq!(rt; txt.rdlen(true), Some(6));
-    assert_eq!(rt; txt.len(), 6);
+    assert!(rt; txt.rtype() == Rtype::from_int(16) && txt.rdlen(true) == Some(6) && txt.len() == 6);
     assert!(rt; composed(rt.alloc(), &txt)?.as_slice().starts_with(message));
-    assert!(rt; is_kept::<Txt<&[u8]>>(rt.alloc(), 16, message));
-    assert!(rt; !is_kept::<Txt<&[u8]>>(rt.alloc(), 16, b"\x00\x00"));
-    assert!(rt; !is_kept::<Txt<&[u8]>>(rt.alloc(), 13, b"\x00\x02\x01a"));
-    assert_eq!(rt; Txt::from_octets(b"".as_slice()).err(), Some(TxtError));
-    assert_eq!(rt; Txt::from_octets(b"\x02a".as_slice()).err(), Some(TxtError));
-    assert_eq!(rt;
-        TxtError.to_string(rt.alloc())?.as_str(),
-        "invalid TXT data"
+    assert!(rt;
+        is_kept::<Txt<&[u8]>>(rt.alloc(), 16, message)
+            && !is_kept::<Txt<&[u8]>>(rt.alloc(), 16, b"\x00\x00")
+            && !is_kept::<Txt<&[u8]>>(rt.alloc(), 13, b"\x00\x02\x01a")
+            && Txt::from_octets(b"".as_slice()).err() == Some(TxtError)
+            && Txt::from_octets(b"\x02a".as_slice()).err() == Some(TxtError)
     );
+    assert!(rt; TxtError.to_string(rt.alloc())?.as_str() == "invalid TXT data");
     Ok(())
 }
 
@@ -30,7 +27,7 @@ fn txt_is_one_string_or_more(rt: HostRuntime) -> Result<(), Fail> {
 fn txt_has_at_most_65535_octets(rt: HostRuntime) -> Result<(), Fail> {
     let octets = vec![in rt.alloc(); 0u8; 65_536]?;
     assert!(rt; Txt::from_octets(octets.as_slice()).is_err());
-    assert_eq!(rt; Txt::from_octets(&octets.as_slice()[1..])?.len(), 65_535);
+    assert!(rt; Txt::from_octets(&octets.as_slice()[1..])?.len() == 65_535);
     Ok(())
 }
 
@@ -38,14 +35,18 @@ fn txt_has_at_most_65535_octets(rt: HostRuntime) -> Result<(), Fail> {
 fn txt_gives_its_strings(rt: HostRuntime) -> Result<(), Fail> {
     let txt = Txt::from_octets(b"\x01A\x00".as_slice())?;
     let mut strings = txt.iter();
-    assert_eq!(rt; strings.next(), Some(b"A".as_slice()));
-    assert_eq!(rt; strings.next(), Some(b"".as_slice()));
-    assert_eq!(rt; strings.next(), None);
+    assert!(rt;
+        strings.next() == Some(b"A".as_slice())
+            && strings.next() == Some(b"".as_slice())
+            && strings.next() == None
+    );
     let mut strings = txt.iter_charstrs();
-    assert!(rt; strings.next().is_some());
-    assert!(rt; strings.next().is_some());
-    assert!(rt; strings.next().is_none());
-    assert!(rt; txt.as_flat_slice().is_none());
+    assert!(rt;
+        strings.next().is_some()
+            && strings.next().is_some()
+            && strings.next().is_none()
+            && txt.as_flat_slice().is_none()
+    );
     let flat = Txt::from_octets(b"\x02ab".as_slice())?;
     assert!(rt; flat.as_flat_slice().is_some_and(|octets| octets.len() == 2));
     Ok(())
@@ -56,12 +57,14 @@ fn txt_is_compared_by_its_octets(rt: HostRuntime) -> Result<(), Fail> {
     let upper = Txt::from_octets(b"\x01A".as_slice())?;
     let lower = Txt::from_octets(b"\x01a".as_slice())?;
     let same = Txt::from_octets(b"\x01A".as_slice())?;
-    assert!(rt; upper != lower);
-    assert!(rt; upper == same);
-    assert_eq!(rt; hashed(&upper), hashed(&same));
-    assert_eq!(rt; upper.cmp(&lower), Ordering::Less);
-    assert_eq!(rt; lower.partial_cmp(&upper), Some(Ordering::Greater));
-    assert_eq!(rt; upper.canonical_cmp(&lower), Ordering::Less);
+    assert!(rt;
+        upper != lower
+            && upper == same
+            && hashed(&upper) == hashed(&same)
+            && upper.cmp(&lower) == Ordering::Less
+            && lower.partial_cmp(&upper) == Some(Ordering::Greater)
+            && upper.canonical_cmp(&lower) == Ordering::Less
+    );
     Ok(())
 }
 
@@ -69,12 +72,12 @@ fn txt_is_compared_by_its_octets(rt: HostRuntime) -> Result<(), Fail> {
 fn txt_is_shown_and_scanned(rt: HostRuntime) -> Result<(), Fail> {
     let alloc = rt.alloc();
     let txt = Txt::from_octets(b"\x03a b\x00".as_slice())?;
-    assert_eq!(rt; txt.to_string(alloc)?.as_str(), "\"a b\" \"\"");
-    assert_eq!(rt;
+    assert!(rt; txt.to_string(alloc)?.as_str() == "\"a b\" \"\"");
+    assert!(rt;
         txt.display_zonefile(DisplayKind::Multiline)
             .to_string(alloc)?
-            .as_str(),
-        "(\n        \"a b\"\n        \"\"\n        )"
+            .as_str()
+            == "(\n        \"a b\"\n        \"\"\n        )"
     );
     let mut scanner = IterScanner::new(alloc, "a \\;b".split_whitespace())?;
     let scanned = Txt::scan(&mut scanner)?;
@@ -83,7 +86,8 @@ fn txt_is_shown_and_scanned(rt: HostRuntime) -> Result<(), Fail> {
             .as_slice()
             .starts_with(b"\x00\x05\x01a\x02;b")
     );
-    assert_eq!(rt; Txt::scan(&mut scanner).err(), Some(StrError::EndOfEntry));
-    assert!(rt; !scanner.continues());
+    assert!(rt;
+        Txt::scan(&mut scanner).err() == Some(StrError::EndOfEntry) && !scanner.continues()
+    );
     Ok(())
 }

@@ -23,15 +23,17 @@ fn read_u8(alloc: Global, word: &str) -> Result<u8, StrError> {
 #[test]
 fn numbers_are_digits_within_their_range(rt: HostRuntime) -> Result<(), Fail> {
     let refused = Err(StrError::Custom("invalid word"));
-    assert_eq!(rt; read_u8(rt.alloc(), "0"), Ok(0));
-    assert_eq!(rt; read_u8(rt.alloc(), "12"), Ok(12));
-    assert_eq!(rt; read_u8(rt.alloc(), "255"), Ok(255));
-    assert_eq!(rt; read_u8(rt.alloc(), "0255"), Ok(255));
-    assert_eq!(rt; read_u8(rt.alloc(), "256"), refused);
-    assert_eq!(rt; read_u8(rt.alloc(), "4030002"), refused);
-    assert_eq!(rt; read_u8(rt.alloc(), "+1"), refused);
-    assert_eq!(rt; read_u8(rt.alloc(), "\\049"), refused);
-    assert_eq!(rt; read_u8(rt.alloc(), ""), Err(StrError::EndOfEntry));
+    assert!(rt;
+        read_u8(rt.alloc(), "0") == Ok(0)
+            && read_u8(rt.alloc(), "12") == Ok(12)
+            && read_u8(rt.alloc(), "255") == Ok(255)
+            && read_u8(rt.alloc(), "0255") == Ok(255)
+            && read_u8(rt.alloc(), "256") == refused
+            && read_u8(rt.alloc(), "4030002") == refused
+            && read_u8(rt.alloc(), "+1") == refused
+            && read_u8(rt.alloc(), "\\049") == refused
+            && read_u8(rt.alloc(), "") == Err(StrError::EndOfEntry)
+    );
     Ok(())
 }
 
@@ -39,112 +41,96 @@ fn numbers_are_digits_within_their_range(rt: HostRuntime) -> Result<(), Fail> {
 fn values_of_each_type(rt: HostRuntime) -> Result<(), Fail> {
     let words = "65535 4294967295 18446744073709551615 340282366920938463463374607431768211455";
     let mut scanner = over(rt.alloc(), words)?;
-    assert_eq!(rt; u16::scan(&mut scanner), Ok(65_535));
-    assert_eq!(rt; u32::scan(&mut scanner), Ok(4_294_967_295));
-    assert_eq!(rt; u64::scan(&mut scanner), Ok(18_446_744_073_709_551_615));
-    assert_eq!(rt; u128::scan(&mut scanner), Ok(u128::MAX));
-    assert!(rt; scanner.is_exhausted());
+    assert!(rt;
+        u16::scan(&mut scanner) == Ok(65_535)
+            && u32::scan(&mut scanner) == Ok(4_294_967_295)
+            && u64::scan(&mut scanner) == Ok(18_446_744_073_709_551_615)
+            && u128::scan(&mut scanner) == Ok(u128::MAX)
+            && scanner.is_exhausted()
+    );
     let mut scanner = over(rt.alloc(), "7 3600 soa type257 IN a.B.")?;
-    assert_eq!(rt; Serial::scan(&mut scanner), Ok(Serial(7)));
-    assert_eq!(rt; Ttl::scan(&mut scanner), Ok(Ttl::from_secs(3600)));
-    assert_eq!(rt; Rtype::scan(&mut scanner), Ok(Rtype::from_int(6)));
-    assert_eq!(rt; Rtype::scan(&mut scanner), Ok(Rtype::from_int(257)));
-    assert_eq!(rt; Class::scan(&mut scanner), Ok(Class::IN));
+    assert!(rt;
+        Serial::scan(&mut scanner) == Ok(Serial(7))
+            && Ttl::scan(&mut scanner) == Ok(Ttl::from_secs(3600))
+            && Rtype::scan(&mut scanner) == Ok(Rtype::from_int(6))
+            && Rtype::scan(&mut scanner) == Ok(Rtype::from_int(257))
+            && Class::scan(&mut scanner) == Ok(Class::IN)
+    );
     let name = Name::<Vec<u8>>::scan(&mut scanner)?;
-    assert_eq!(rt; name.as_slice(), b"\x01a\x01B\x00".as_slice());
-    assert!(rt; !scanner.continues());
+    assert!(rt; name.as_slice() == b"\x01a\x01B\x00".as_slice() && !scanner.continues());
     Ok(())
 }
 
 #[test]
 fn tokens_are_scanned(rt: HostRuntime) -> Result<(), Fail> {
     let mut scanner = over(rt.alloc(), "a\\032b \\# x \\195\\169")?;
-    assert!(rt; !scanner.has_space());
-    assert_eq!(rt; scanner.scan_opt_unknown_marker(), Ok(false));
-    assert_eq!(rt; scanner.scan_octets()?.as_slice(), b"a b".as_slice());
-    assert_eq!(rt; scanner.scan_opt_unknown_marker(), Ok(true));
-    assert_eq!(rt; scanner.scan_charstr()?.as_slice(), b"x".as_slice());
-    assert_eq!(rt; scanner.scan_string()?.as_str(), "\u{e9}");
-    assert_eq!(rt; scanner.scan_octets().err(), Some(StrError::EndOfEntry));
+    assert!(rt; !scanner.has_space() && scanner.scan_opt_unknown_marker() == Ok(false));
+    assert!(rt; scanner.scan_octets()?.as_slice() == b"a b".as_slice());
+    assert!(rt; scanner.scan_opt_unknown_marker() == Ok(true));
+    assert!(rt; scanner.scan_charstr()?.as_slice() == b"x".as_slice());
+    assert!(rt; scanner.scan_string()?.as_str() == "\u{e9}");
+    assert!(rt; scanner.scan_octets().err() == Some(StrError::EndOfEntry));
     let mut builder = scanner.octets_builder()?;
     builder.append_slice(b"a")?;
-    assert_eq!(rt; builder.as_slice(), b"a".as_slice());
+    assert!(rt; builder.as_slice() == b"a".as_slice());
     Ok(())
 }
 
 #[test]
 fn a_word_is_handed_to_a_closure(rt: HostRuntime) -> Result<(), Fail> {
     let mut scanner = over(rt.alloc(), "abc def \\100 ghi")?;
-    assert_eq!(rt; scanner.scan_ascii_str(|word| Some(word.len())), Ok(3));
+    assert!(rt; scanner.scan_ascii_str(|word| Some(word.len())) == Ok(3));
     let refused = Err(StrError::Custom("invalid word"));
-    assert_eq!(rt; scanner.scan_ascii_str(|_| None::<usize>), refused);
-    assert_eq!(rt; scanner.scan_ascii_str(|word| Some(word.len())), refused);
-    assert_eq!(rt; scanner.scan_ascii_str(|word| Some(word.len())), Ok(3));
+    assert!(rt;
+        scanner.scan_ascii_str(|_| None::<usize>) == refused
+            && scanner.scan_ascii_str(|word| Some(word.len())) == refused
+            && scanner.scan_ascii_str(|word| Some(word.len())) == Ok(3)
+    );
     Ok(())
 }
 
 #[test]
 fn other_tokens_are_refused(rt: HostRuntime) -> Result<(), Fail> {
     let mut scanner = over(rt.alloc(), "\\256 \\1 a..b \\255")?;
-    assert_eq!(rt;
-        scanner.scan_octets().err(),
-        Some(StrError::Custom("bad symbol"))
-    );
+    assert!(rt; scanner.scan_octets().err() == Some(StrError::Custom("bad symbol")));
     let string = StrError::Custom("invalid character string");
-    assert_eq!(rt; scanner.scan_charstr().err(), Some(string));
-    assert_eq!(rt;
-        scanner.scan_name().err(),
-        Some(StrError::Custom("invalid name"))
+    assert!(rt;
+        scanner.scan_charstr().err() == Some(string)
+            && scanner.scan_name().err() == Some(StrError::Custom("invalid name"))
+            && scanner.scan_string().err() == Some(StrError::Custom("invalid UTF-8"))
+            && scanner.is_exhausted()
     );
-    assert_eq!(rt;
-        scanner.scan_string().err(),
-        Some(StrError::Custom("invalid UTF-8"))
-    );
-    assert!(rt; scanner.is_exhausted());
     Ok(())
 }
 
 #[test]
 fn the_rest_of_an_entry(rt: HostRuntime) -> Result<(), Fail> {
     let mut scanner = over(rt.alloc(), "ab \\099 d")?;
-    assert_eq!(rt;
-        scanner.scan_charstr_entry()?.as_slice(),
-        b"\x02ab\x01c\x01d".as_slice()
-    );
+    assert!(rt; scanner.scan_charstr_entry()?.as_slice() == b"\x02ab\x01c\x01d".as_slice());
     assert!(rt; scanner.scan_charstr_entry()?.is_empty());
     let mut scanner = over(rt.alloc(), "666F 6F")?;
-    assert_eq!(rt; scanner.scan_ascii_entry()?.as_str(), "666F6F");
-    assert_eq!(rt; scanner.scan_ascii_entry()?.as_str(), "");
+    assert!(rt; scanner.scan_ascii_entry()?.as_str() == "666F6F");
+    assert!(rt; scanner.scan_ascii_entry()?.as_str() == "");
     let mut scanner = over(rt.alloc(), "ab \\099 d")?;
-    assert_eq!(rt;
-        scanner.scan_ascii_entry().err(),
-        Some(StrError::Custom("invalid word"))
+    assert!(rt;
+        scanner.scan_ascii_entry().err() == Some(StrError::Custom("invalid word"))
+            && scanner.continues()
     );
-    assert!(rt; scanner.continues());
     Ok(())
 }
 
 #[test]
 fn the_rest_of_an_entry_is_decoded(rt: HostRuntime) -> Result<(), Fail> {
     let mut scanner = over(rt.alloc(), "666F 6 F62")?;
-    assert_eq!(rt;
-        base16::scan_entry(&mut scanner)?.as_slice(),
-        b"foob".as_slice()
-    );
+    assert!(rt; base16::scan_entry(&mut scanner)?.as_slice() == b"foob".as_slice());
     assert!(rt; base16::scan_entry(&mut scanner)?.is_empty());
     let mut scanner = over(rt.alloc(), "CPN MUOG")?;
-    assert_eq!(rt;
-        base32::scan_entry(&mut scanner)?.as_slice(),
-        b"foob".as_slice()
-    );
+    assert!(rt; base32::scan_entry(&mut scanner)?.as_slice() == b"foob".as_slice());
     let mut scanner = over(rt.alloc(), "Zm9vYg =")?;
     let short = StrError::Custom("incomplete input");
-    assert_eq!(rt; base64::scan_entry(&mut scanner).err(), Some(short));
+    assert!(rt; base64::scan_entry(&mut scanner).err() == Some(short));
     let mut scanner = over(rt.alloc(), "Zm9vYg = =")?;
-    assert_eq!(rt;
-        base64::scan_entry(&mut scanner)?.as_slice(),
-        b"foob".as_slice()
-    );
+    assert!(rt; base64::scan_entry(&mut scanner)?.as_slice() == b"foob".as_slice());
     Ok(())
 }
 
@@ -157,16 +143,14 @@ fn unknown_octets(alloc: Global, words: &str) -> Result<Vec<u8>, StrError> {
 #[test]
 fn data_of_unknown_types(rt: HostRuntime) -> Result<(), Fail> {
     let number = Some(StrError::Custom("another number of octets"));
-    assert_eq!(rt;
-        unknown_octets(rt.alloc(), "4 0A00 0001")?.as_slice(),
-        b"\x0a\x00\x00\x01".as_slice()
+    assert!(rt;
+        unknown_octets(rt.alloc(), "4 0A00 0001")?.as_slice() == b"\x0a\x00\x00\x01".as_slice()
     );
     assert!(rt; unknown_octets(rt.alloc(), "0")?.is_empty());
-    assert_eq!(rt; unknown_octets(rt.alloc(), "3 0A000001").err(), number);
-    assert_eq!(rt; unknown_octets(rt.alloc(), "5 0A000001").err(), number);
-    assert_eq!(rt;
-        unknown_octets(rt.alloc(), "").err(),
-        Some(StrError::EndOfEntry)
+    assert!(rt;
+        unknown_octets(rt.alloc(), "3 0A000001").err() == number
+            && unknown_octets(rt.alloc(), "5 0A000001").err() == number
+            && unknown_octets(rt.alloc(), "").err() == Some(StrError::EndOfEntry)
     );
     Ok(())
 }
@@ -176,23 +160,24 @@ fn data_of_unknown_types(rt: HostRuntime) -> Result<(), Fail> {
 fn records_of_unknown_types(rt: HostRuntime) -> Result<(), Fail> {
     let mut scanner = over(rt.alloc(), "4 010 20304")?;
     let rdata = scan_without_marker(Rtype::from_int(1), &mut scanner)?;
-    assert_eq!(rt; rdata.rtype(), Rtype::from_int(1));
-    assert_eq!(rt; rdata.data().as_slice(), b"\x01\x02\x03\x04".as_slice());
+    assert!(rt;
+        rdata.rtype() == Rtype::from_int(1)
+            && rdata.data().as_slice() == b"\x01\x02\x03\x04".as_slice()
+    );
     let number = StrError::Custom("another number of octets");
     let mut scanner = over(rt.alloc(), "4 010203")?;
     let refused = scan_without_marker(Rtype::from_int(1), &mut scanner);
-    assert_eq!(rt; refused.err(), Some(number));
+    assert!(rt; refused.err() == Some(number));
     let mut scanner = over(rt.alloc(), "TYPE731 \\# 6 abcdef 01 23 45")?;
     let rdata = UnknownRecordData::<Vec<u8>>::scan(&mut scanner)?;
-    assert_eq!(rt; rdata.rtype(), Rtype::from_int(731));
-    assert_eq!(rt;
-        rdata.data().as_slice(),
-        b"\xab\xcd\xef\x01\x23\x45".as_slice()
+    assert!(rt;
+        rdata.rtype() == Rtype::from_int(731)
+            && rdata.data().as_slice() == b"\xab\xcd\xef\x01\x23\x45".as_slice()
     );
     let marker = StrError::Custom("'\\#' expected");
     let mut scanner = over(rt.alloc(), "TYPE731 6 abcdef012345")?;
     let refused = UnknownRecordData::<Vec<u8>>::scan(&mut scanner);
-    assert_eq!(rt; refused.err(), Some(marker));
+    assert!(rt; refused.err() == Some(marker));
     Ok(())
 }
 
@@ -202,7 +187,7 @@ fn decoders_over_a_scanners_builder(rt: HostRuntime) -> Result<(), Fail> {
     let mut decoder_16 = base16::Decoder::from_builder(scanner.octets_builder()?);
     decoder_16.push('6')?;
     decoder_16.push('F')?;
-    assert_eq!(rt; decoder_16.finalize()?.as_slice(), b"o".as_slice());
+    assert!(rt; decoder_16.finalize()?.as_slice() == b"o".as_slice());
     let decoder_32 = base32::Decoder::from_builder(scanner.octets_builder()?);
     assert!(rt; decoder_32.finalize()?.is_empty());
     let decoder_64 = base64::Decoder::from_builder(scanner.octets_builder()?);
@@ -219,9 +204,8 @@ fn scanner_errors_show_what_is_wrong(rt: HostRuntime) -> Result<(), Fail> {
         <StrError as ScannerError>::short_buf(),
         <StrError as ScannerError>::trailing_tokens()
     )?;
-    assert_eq!(rt;
-        text.as_str(),
-        "bad word, unexpected end of entry, short buffer, trailing tokens"
+    assert!(rt;
+        text.as_str() == "bad word, unexpected end of entry, short buffer, trailing tokens"
     );
     Ok(())
 }
