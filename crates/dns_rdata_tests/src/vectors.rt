@@ -1,5 +1,5 @@
-//! Examples that stand in the standards themselves.
-use dns_name::{ComposeRecordData, Name, Rtype};
+//! Examples that stand in the standards themselves, and others of data that is scanned, composed and printed.
+use dns_name::{ComposeRecordData, Name, ParseAnyRecordData, ParsedName, Parser, Rtype};
 use dns_rdata::ZoneRecordData;
 use dns_text::{IterScanner, StrError};
 use std::alloc::Global;
@@ -8,13 +8,36 @@ use std::test::Fail;
 /// Data that owns its octets.
 type Owned = ZoneRecordData<Vec<u8>, Name<Vec<u8>>>;
 
-/// The data that the words with a bar between them spell.
-fn scanned(alloc: Global, rtype: Rtype, words: &str) -> Result<Owned, StrError> {
-    let Ok(mut scanner) = IterScanner::new(alloc, words.split('|')) else {
-        return Err(StrError::ShortBuf)
-    };
-    ZoneRecordData::scan(rtype, &mut scanner)
+/// The number of a type, the words of its data with bars between them, and the octets and the text of the data.
+type Row = (u16, &'static str, &'static [u8], &'static str);
+
+/// The data that the words with bars between them spell.
+fn scanned(alloc: Global, number: u16, words: &str) -> Result<Owned, Fail> {
+    let mut scanner = IterScanner::new(alloc, words.split('|'))?;
+    Ok(ZoneRecordData::scan(Rtype::from_int(number), &mut scanner)?)
 }
+
+/// Whether the words spell data of these octets, which is printed as this text.
+fn is_data(alloc: Global, row: Row) -> Result<bool, Fail> {
+    let (number, words, octets, text) = row;
+    let rdata = scanned(alloc, number, words)?;
+    let mut target = Vec::new(alloc);
+    rdata.compose_rdata(&mut target)?;
+    Ok(target.as_slice() == octets && rdata.to_string(alloc)?.as_str() == text)
+}
+
+/// The octets of the RSA key of the example of a DNSKEY record (RFC 4034 2.3).
+const SIGNER: [u8; 134] = [
+    0x01, 0x00, 0x03, 0x05, 0x01, 0x03, 0xd2, 0x2a, 0x6c, 0xa7, 0x7f, 0x35, 0xb8, 0x93, 0x20, 0x6f,
+    0xd3, 0x5e, 0x4c, 0x50, 0x6d, 0x83, 0x78, 0x84, 0x37, 0x09, 0xb9, 0x7e, 0x04, 0x16, 0x47, 0xe1,
+    0xbf, 0xf4, 0x3d, 0x8d, 0x64, 0xc6, 0x49, 0xaf, 0x1e, 0x37, 0x19, 0x73, 0xc9, 0xe8, 0x91, 0xfc,
+    0xe3, 0xdf, 0x51, 0x9a, 0x8c, 0x84, 0x0a, 0x63, 0xee, 0x42, 0xa6, 0xd2, 0xeb, 0xdd, 0xbb, 0x97,
+    0x03, 0x5d, 0x21, 0x5a, 0xa4, 0xe4, 0x17, 0xb1, 0xfa, 0x45, 0xfa, 0x11, 0xa9, 0x74, 0x1e, 0xa2,
+    0x09, 0x8c, 0x1d, 0xfa, 0x5f, 0xb5, 0xfe, 0xb3, 0x32, 0xfd, 0x4b, 0xc8, 0x15, 0x20, 0x89, 0xae,
+    0xf3, 0x6b, 0xa6, 0x44, 0xcc, 0xe2, 0x41, 0x3b, 0x3b, 0x72, 0xbe, 0x18, 0xcb, 0xef, 0x8d, 0xa2,
+    0x53, 0xf4, 0xe9, 0x3d, 0x21, 0x03, 0x86, 0x6d, 0x92, 0x34, 0xa2, 0xe2, 0x8d, 0xf5, 0x29, 0xa6,
+    0x7d, 0x54, 0x68, 0xdb, 0xef, 0xe3,
+];
 
 /// The octets of the RSA key of the example of a DS record (RFC 4034 5.4).
 const KEY: [u8; 134] = [
@@ -30,105 +53,139 @@ const KEY: [u8; 134] = [
 ];
 
 #[test]
-fn the_key_of_rfc_4034_2_3_reads_back(rt: HostRuntime) -> Result<(), Fail> {
-    let alloc = rt.alloc();
-    let words =
-        "256|3|5|AQPSKmynfzW4kyBv015MUG2DeIQ3|Cbl+BBZH4b/0PY1kxkmvHjcZc8no|kfzj31GajIQKY+5CptLr3buXA10h|WqTkF7H6RfoRqXQeogmMHfpftf6z|Mv1LyBUgia7za6ZEzOJBOztyvhjL|742iU/TpPSEDhm2SNKLijfUppn1U|aNvv4w==";
-    let rdata = scanned(alloc, Rtype::DNSKEY, words)?;
-    assert!(rt; rdata.rdlen(false) == Some(134));
-    assert!(rt;
-        rdata.to_string(alloc)?.as_str()
-            == "256 3 5 AQPSKmynfzW4kyBv015MUG2DeIQ3Cbl+BBZH4b/0PY1kxkmvHjcZc8nokfzj31GajIQKY+5CptLr3buXA10hWqTkF7H6RfoRqXQeogmMHfpftf6zMv1LyBUgia7za6ZEzOJBOztyvhjL742iU/TpPSEDhm2SNKLijfUppn1UaNvv4w=="
-    );
-    Ok(())
-}
-
-#[test]
-fn the_key_of_rfc_4034_5_4_is_its_octets(rt: HostRuntime) -> Result<(), Fail> {
-    let alloc = rt.alloc();
-    let words =
-        "256|3|5|AQOeiiR0GOMYkDshWoSKz9Xz|fwJr1AYtsmx3TGkJaNXVbfi/|2pHm822aJ5iI9BMzNXxeYCmZ|DRD99WYwYqUSdjMmmAphXdvx|egXd/M5+X7OrzKBaMbCVdFLU|Uh6DhweJBjEVv5f2wwjM9Xzc|nOf+EPbtG9DMBmADjFDc2w/r|ljwvFw==";
-    let rdata = scanned(alloc, Rtype::DNSKEY, words)?;
-    let mut target = Vec::new(alloc);
-    rdata.compose_rdata(&mut target)?;
-    assert!(rt; target.as_slice() == KEY.as_slice());
-    Ok(())
-}
-
-/// The words of the digest of a key (RFC 4034 5.4).
-const DIGEST: &str = "60485|5|1|2BB183AF5F22588179A53B0A|98631FAD1A292118";
-
-#[test]
-fn the_digest_of_rfc_4034_5_4_is_its_octets(rt: HostRuntime) -> Result<(), Fail> {
-    let alloc = rt.alloc();
-    let rdata = scanned(alloc, Rtype::DS, DIGEST)?;
-    let mut target = Vec::new(alloc);
-    rdata.compose_rdata(&mut target)?;
-    assert!(rt;
-        target.as_slice()
-            == b"\xec\x45\x05\x01\x2b\xb1\x83\xaf\x5f\x22\x58\x81\x79\xa5\x3b\x0a\x98\x63\x1f\xad\x1a\x29\x21\x18".as_slice()
-    );
-    Ok(())
-}
-
-#[test]
-fn the_digest_of_rfc_4034_5_4_is_printed_as_one_word(rt: HostRuntime) -> Result<(), Fail> {
-    let alloc = rt.alloc();
-    let rdata = scanned(alloc, Rtype::DS, DIGEST)?;
-    assert!(rt;
-        rdata.to_string(alloc)?.as_str() == "60485 5 1 2BB183AF5F22588179A53B0A98631FAD1A292118"
-    );
-    Ok(())
-}
-
-/// Whether the property that the words spell is printed as it stands in RFC 8659.
-fn is_printed(alloc: Global, words: &str, text: &str) -> bool {
-    let Ok(rdata) = scanned(alloc, Rtype::CAA, words) else {
-        return false
-    };
-    match rdata.to_string(alloc) {
-        Ok(shown) => shown.as_str() == text,
-        Err(_) => false,
+fn keys_of_rfc_4034_are_their_octets(rt: HostRuntime) -> Result<(), Fail> {
+    let rows: [Row; 2] = [
+        (
+            48,
+            "256|3|5|AQPSKmynfzW4kyBv015MUG2DeIQ3|Cbl+BBZH4b/0PY1kxkmvHjcZc8no|kfzj31GajIQKY+5CptLr3buXA10h|WqTkF7H6RfoRqXQeogmMHfpftf6z|Mv1LyBUgia7za6ZEzOJBOztyvhjL|742iU/TpPSEDhm2SNKLijfUppn1U|aNvv4w==",
+            &SIGNER,
+            "256 3 5 AQPSKmynfzW4kyBv015MUG2DeIQ3Cbl+BBZH4b/0PY1kxkmvHjcZc8nokfzj31GajIQKY+5CptLr3buXA10hWqTkF7H6RfoRqXQeogmMHfpftf6zMv1LyBUgia7za6ZEzOJBOztyvhjL742iU/TpPSEDhm2SNKLijfUppn1UaNvv4w==",
+        ),
+        (
+            48,
+            "256|3|5|AQOeiiR0GOMYkDshWoSKz9Xz|fwJr1AYtsmx3TGkJaNXVbfi/|2pHm822aJ5iI9BMzNXxeYCmZ|DRD99WYwYqUSdjMmmAphXdvx|egXd/M5+X7OrzKBaMbCVdFLU|Uh6DhweJBjEVv5f2wwjM9Xzc|nOf+EPbtG9DMBmADjFDc2w/r|ljwvFw==",
+            &KEY,
+            "256 3 5 AQOeiiR0GOMYkDshWoSKz9XzfwJr1AYtsmx3TGkJaNXVbfi/2pHm822aJ5iI9BMzNXxeYCmZDRD99WYwYqUSdjMmmAphXdvxegXd/M5+X7OrzKBaMbCVdFLUUh6DhweJBjEVv5f2wwjM9XzcnOf+EPbtG9DMBmADjFDc2w/rljwvFw==",
+        ),
+    ];
+    for row in rows {
+        assert!(rt; is_data(rt.alloc(), row)?);
     }
+    Ok(())
 }
 
+/// The digest of RFC 4034 5.4 stands there in two words.
 #[test]
-fn the_issuers_of_rfc_8659_are_printed(rt: HostRuntime) -> Result<(), Fail> {
-    let alloc = rt.alloc();
-    assert!(rt;
-        is_printed(
-            alloc,
-            "0|issue|ca1.example.net",
-            "0 issue \"ca1.example.net\""
-        ) && is_printed(alloc, "0|issue|;", "0 issue \";\"")
-            && is_printed(
-                alloc,
-                "0|issue|ca1.example.net; account=230123",
-                "0 issue \"ca1.example.net; account=230123\""
-            )
-            && is_printed(alloc, "0|issue|%%%%%", "0 issue \"%%%%%\"")
-            && is_printed(
-                alloc,
-                "0|issuewild|ca2.example.org",
-                "0 issuewild \"ca2.example.org\""
-            )
-    );
+fn digests_are_one_word(rt: HostRuntime) -> Result<(), Fail> {
+    let rows: [Row; 3] = [
+        (
+            43,
+            "60485|5|1|2BB183AF5F22588179A53B0A|98631FAD1A292118",
+            b"\xec\x45\x05\x01\x2b\xb1\x83\xaf\x5f\x22\x58\x81\x79\xa5\x3b\x0a\x98\x63\x1f\xad\x1a\x29\x21\x18",
+            "60485 5 1 2BB183AF5F22588179A53B0A98631FAD1A292118",
+        ),
+        (43, "1|8|2|AB", b"\x00\x01\x08\x02\xab", "1 8 2 AB"),
+        (43, "1|8|2", b"\x00\x01\x08\x02", "1 8 2"),
+    ];
+    for row in rows {
+        assert!(rt; is_data(rt.alloc(), row)?);
+    }
+    Ok(())
+}
+
+/// All but the first stand in RFC 8659.
+#[test]
+fn properties_are_a_tag_and_a_value(rt: HostRuntime) -> Result<(), Fail> {
+    let rows: [Row; 7] = [
+        (
+            257,
+            "0|issue|ca.b",
+            b"\x00\x05issueca.b",
+            "0 issue \"ca.b\"",
+        ),
+        (257, "0|issue|;", b"\x00\x05issue;", "0 issue \";\""),
+        (
+            257,
+            "0|issue|ca1.example.net; account=230123",
+            b"\x00\x05issueca1.example.net; account=230123",
+            "0 issue \"ca1.example.net; account=230123\"",
+        ),
+        (
+            257,
+            "0|issue|%%%%%",
+            b"\x00\x05issue%%%%%",
+            "0 issue \"%%%%%\"",
+        ),
+        (
+            257,
+            "0|issuewild|ca2.example.org",
+            b"\x00\x09issuewildca2.example.org",
+            "0 issuewild \"ca2.example.org\"",
+        ),
+        (
+            257,
+            "0|iodef|mailto:security@example.com",
+            b"\x00\x05iodefmailto:security@example.com",
+            "0 iodef \"mailto:security@example.com\"",
+        ),
+        (
+            257,
+            "128|tbs|Unknown",
+            b"\x80\x03tbsUnknown",
+            "128 tbs \"Unknown\"",
+        ),
+    ];
+    for row in rows {
+        assert!(rt; is_data(rt.alloc(), row)?);
+    }
     Ok(())
 }
 
 #[test]
-fn the_other_properties_of_rfc_8659_are_printed(rt: HostRuntime) -> Result<(), Fail> {
-    let alloc = rt.alloc();
+fn words_spell_octets_and_are_printed_again(rt: HostRuntime) -> Result<(), Fail> {
+    let rows: [Row; 5] = [
+        (
+            28,
+            "::FFFF:1.2.3.4",
+            b"\0\0\0\0\0\0\0\0\0\0\xff\xff\x01\x02\x03\x04",
+            "::ffff:102:304",
+        ),
+        (15, "10|MAIL.A.", b"\x00\x0a\x04MAIL\x01A\x00", "10 MAIL.A."),
+        (
+            17,
+            "a\\.b.example.|txt.",
+            b"\x03a.b\x07example\x00\x03txt\x00",
+            "a\\.b.example. txt.",
+        ),
+        (65280, "\\#|0", b"", "\\# 0"),
+        (1, "\\#|4|010|20304", b"\x01\x02\x03\x04", "\\# 4 01020304"),
+    ];
+    for row in rows {
+        assert!(rt; is_data(rt.alloc(), row)?);
+    }
+    Ok(())
+}
+
+#[test]
+fn canonical_names_of_words_are_in_lower_case(rt: HostRuntime) -> Result<(), Fail> {
+    let rdata = scanned(rt.alloc(), 15, "10|MAIL.A.")?;
+    let mut target = Vec::new(rt.alloc());
+    rdata.compose_canonical_rdata(&mut target)?;
+    assert!(rt; target.as_slice() == b"\x00\x0a\x04mail\x01a\x00".as_slice());
+    Ok(())
+}
+
+#[test]
+fn a_tag_may_have_no_octets(rt: HostRuntime) -> Result<(), Fail> {
+    let mut parser = Parser::from_ref(b"\x00\x00v");
+    let rdata: ZoneRecordData<&[u8], ParsedName<&[u8]>> = ZoneRecordData::parse_any_rdata(
+        Rtype::from_int(257),
+        &mut parser,
+    )?;
+    let mut target = Vec::new(rt.alloc());
+    rdata.compose_rdata(&mut target)?;
     assert!(rt;
-        is_printed(
-            alloc,
-            "0|iodef|mailto:security@example.com",
-            "0 iodef \"mailto:security@example.com\""
-        ) && is_printed(
-            alloc,
-            "0|iodef|https://iodef.example.com/",
-            "0 iodef \"https://iodef.example.com/\""
-        ) && is_printed(alloc, "128|tbs|Unknown", "128 tbs \"Unknown\"")
+        matches!(rdata, ZoneRecordData::Caa(_)) && target.as_slice() == b"\x00\x00v".as_slice()
     );
     Ok(())
 }

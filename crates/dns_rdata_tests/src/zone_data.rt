@@ -1,7 +1,7 @@
 //! Data of any type.
 use arrayvec::ArrayVec;
 use dns_name::{
-    AppendError, CanonicalOrd, ComposeRecordData, FlattenInto, Name, OctetsFrom,
+    AppendError, CanonicalOrd, ComposeRecordData, FlattenInto, LongRecordData, Name, OctetsFrom,
     ParseAnyRecordData, ParseError, ParsedName, Parser, RecordData, Rtype, UnknownRecordData,
 };
 use dns_rdata::{A, Mx, Ns, Txt, ZoneRecordData};
@@ -33,11 +33,9 @@ fn scanned(alloc: Global, number: u16, words: &str) -> Result<Owned, StrError> {
 }
 
 /// Data of the type as these octets.
-fn unknown<'a>(number: u16, octets: &'a [u8]) -> Option<Read<'a>> {
-    match UnknownRecordData::from_octets(Rtype::from_int(number), octets) {
-        Ok(rdata) => Some(ZoneRecordData::Unknown(rdata)),
-        Err(_) => None,
-    }
+fn unknown<'a>(number: u16, octets: &'a [u8]) -> Result<Read<'a>, LongRecordData> {
+    let rdata = UnknownRecordData::from_octets(Rtype::from_int(number), octets)?;
+    Ok(ZoneRecordData::Unknown(rdata))
 }
 
 fn hashed<T: Hash>(value: &T) -> u64 {
@@ -120,9 +118,7 @@ fn marked_data_of_any_type_is_not_looked_into(rt: HostRuntime) -> Result<(), Fai
 
 #[test]
 fn tokens_behind_the_last_field_stay(rt: HostRuntime) -> Result<(), Fail> {
-    let Ok(mut scanner) = IterScanner::new(rt.alloc(), "1.2.3.4 next".split_whitespace()) else {
-        return Ok(())
-    };
+    let mut scanner = IterScanner::new(rt.alloc(), "1.2.3.4 next".split_whitespace())?;
     let a: Owned = ZoneRecordData::scan(Rtype::A, &mut scanner)?;
     assert!(rt; matches!(a, ZoneRecordData::A(_)));
     assert!(rt; scanner.peek_text()? == b"next".as_slice());
@@ -157,9 +153,7 @@ fn names_are_equal_up_to_case(rt: HostRuntime) -> Result<(), Fail> {
 fn fields_stand_in_front_of_octets(rt: HostRuntime) -> Result<(), Fail> {
     let octets = b"\x01\x02\x03\x04".as_slice();
     let typed = parsed(1, octets, 0)?;
-    let Some(untyped) = unknown(1, octets) else {
-        return Ok(())
-    };
+    let untyped = unknown(1, octets)?;
     assert!(rt;
         typed != untyped
             && typed.cmp(&untyped) == Ordering::Less
@@ -172,12 +166,8 @@ fn fields_stand_in_front_of_octets(rt: HostRuntime) -> Result<(), Fail> {
 #[test]
 fn canonical_order_is_that_of_the_octets(rt: HostRuntime) -> Result<(), Fail> {
     let typed = parsed(15, b"\x00\x0A\x01B\x00", 0)?;
-    let (Some(less), Some(more)) = (
-        unknown(15, b"\x00\x0A\x01a\xFF"),
-        unknown(15, b"\x00\x0A\x01b\x00\x00"),
-    ) else {
-        return Ok(())
-    };
+    let less = unknown(15, b"\x00\x0A\x01a\xFF")?;
+    let more = unknown(15, b"\x00\x0A\x01b\x00\x00")?;
     assert!(rt;
         typed.canonical_cmp(&less) == Ordering::Greater
             && less.canonical_cmp(&typed) == Ordering::Less

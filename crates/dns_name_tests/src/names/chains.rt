@@ -71,31 +71,54 @@ fn chains_have_at_most_254_octets_before_any_root(rt: HostRuntime) -> Result<(),
 }
 
 #[test]
+fn relative_names_of_any_kind_are_made(rt: HostRuntime) -> Result<(), Fail> {
+    let alloc = rt.alloc();
+    let chain = Chain::new(relative(b"\x01A")?, relative(b"\x01b")?)?;
+    let octets = b"\x01A\x01b".as_slice();
+    assert!(rt; chain.try_to_relative_name::<Vec<u8>>(alloc)?.as_slice() == octets);
+    assert!(rt; chain.to_relative_name::<ArrayVec<u8, 4>>(alloc)?.as_slice() == octets);
+    let refused = chain.to_relative_name::<ArrayVec<u8, 3>>(alloc).err();
+    assert!(rt; refused == Some(AppendError::ShortBuf));
+    let octets = b"\x01a\x01b".as_slice();
+    assert!(rt;
+        chain
+            .try_to_canonical_relative_name::<Vec<u8>>(alloc)?
+            .as_slice()
+            == octets
+    );
+    assert!(rt;
+        chain
+            .to_canonical_relative_name::<Vec<u8>>(alloc)?
+            .as_slice()
+            == octets
+    );
+    Ok(())
+}
+
+#[test]
 fn relative_names_of_any_kind_are_written(rt: HostRuntime) -> Result<(), Fail> {
     let chain = Chain::new(relative(b"\x01A")?, relative(b"\x01b")?)?;
-    assert!(rt;
-        ToRelativeName::as_flat_slice(&chain).is_none() && !ToRelativeName::is_empty(&chain)
-    );
-    assert!(rt; ToRelativeName::is_empty(&relative(b"")?));
-    let made: RelativeName<Vec<u8>> = chain.try_to_relative_name(rt.alloc())?;
-    assert!(rt; made.as_slice() == b"\x01A\x01b".as_slice());
-    let made: RelativeName<ArrayVec<u8, 4>> = chain.to_relative_name(rt.alloc())?;
-    assert!(rt; made.as_slice() == b"\x01A\x01b".as_slice());
-    let made: Result<RelativeName<ArrayVec<u8, 3>>, AppendError> = chain.to_relative_name(
-        rt.alloc(),
-    );
-    assert!(rt; made.err() == Some(AppendError::ShortBuf));
-    let made: RelativeName<Vec<u8>> = chain.try_to_canonical_relative_name(rt.alloc())?;
-    assert!(rt; made.as_slice() == b"\x01a\x01b".as_slice());
-    let made: RelativeName<Vec<u8>> = chain.to_canonical_relative_name(rt.alloc())?;
-    assert!(rt; made.as_slice() == b"\x01a\x01b".as_slice());
     let mut octets = Vec::new(rt.alloc());
     ToRelativeName::compose(&chain, &mut octets)?;
     ToRelativeName::compose_canonical(&chain, &mut octets)?;
-    assert!(rt; octets.as_slice() == b"\x01A\x01b\x01a\x01b".as_slice());
+    assert!(rt;
+        octets.as_slice() == b"\x01A\x01b\x01a\x01b".as_slice()
+            && ToRelativeName::as_flat_slice(&chain).is_none()
+            && !ToRelativeName::is_empty(&chain)
+    );
+    Ok(())
+}
+
+#[test]
+fn relative_names_are_lent_where_they_are_flat(rt: HostRuntime) -> Result<(), Fail> {
+    let chain = Chain::new(relative(b"\x01A")?, relative(b"\x01b")?)?;
     assert!(rt; ToRelativeName::to_cow(&chain, rt.alloc())?.as_slice() == b"\x01A\x01b".as_slice());
-    assert!(rt; relative(b"\x01a")?.to_cow(rt.alloc())?.as_slice() == b"\x01a".as_slice());
-    assert!(rt; relative(b"\x01a")?.as_flat_slice() == Some(b"\x01a".as_slice()));
+    let flat = relative(b"\x01a")?;
+    assert!(rt; flat.to_cow(rt.alloc())?.as_slice() == b"\x01a".as_slice());
+    let empty = relative(b"")?;
+    assert!(rt;
+        flat.as_flat_slice() == Some(b"\x01a".as_slice()) && ToRelativeName::is_empty(&empty)
+    );
     Ok(())
 }
 

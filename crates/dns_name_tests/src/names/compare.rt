@@ -105,21 +105,28 @@ fn names_are_composed(rt: HostRuntime) -> Result<(), Fail> {
 
 #[test]
 fn names_are_made_flat(rt: HostRuntime) -> Result<(), Fail> {
+    let alloc = rt.alloc();
     let name = www()?;
-    assert!(rt; name.as_flat_slice().is_none());
-    assert!(rt; flat(FLAT)?.as_flat_slice() == Some(FLAT));
+    assert!(rt; name.try_to_name::<Vec<u8>>(alloc)?.as_slice() == LOWERED);
+    assert!(rt; name.to_name::<ArrayVec<u8, 17>>(alloc)?.as_slice() == LOWERED);
+    let refused = name.to_name::<ArrayVec<u8, 16>>(alloc).err();
+    assert!(rt; refused == Some(AppendError::ShortBuf));
+    let upper = flat(FLAT)?;
+    assert!(rt; upper.try_to_canonical_name::<Vec<u8>>(alloc)?.as_slice() == LOWERED);
+    assert!(rt; upper.to_canonical_name::<Vec<u8>>(alloc)?.as_slice() == LOWERED);
+    Ok(())
+}
+
+#[test]
+fn flat_names_are_lent(rt: HostRuntime) -> Result<(), Fail> {
+    let name = www()?;
     let com = ParsedName::parse(&mut Parser::from_ref(WWW))?;
-    assert!(rt; com.as_flat_slice() == Some(b"\x03com\x00".as_slice()));
-    let made: Name<Vec<u8>> = name.try_to_name(rt.alloc())?;
-    assert!(rt; made.as_slice() == LOWERED);
-    let made: Name<ArrayVec<u8, 17>> = name.to_name(rt.alloc())?;
-    assert!(rt; made.as_slice() == LOWERED);
-    let made: Result<Name<ArrayVec<u8, 16>>, AppendError> = name.to_name(rt.alloc());
-    assert!(rt; made.err() == Some(AppendError::ShortBuf));
-    let made: Name<Vec<u8>> = flat(FLAT)?.try_to_canonical_name(rt.alloc())?;
-    assert!(rt; made.as_slice() == LOWERED);
-    let made: Name<Vec<u8>> = flat(FLAT)?.to_canonical_name(rt.alloc())?;
-    assert!(rt; made.as_slice() == LOWERED);
+    let upper = flat(FLAT)?;
+    assert!(rt;
+        name.as_flat_slice().is_none()
+            && upper.as_flat_slice() == Some(FLAT)
+            && com.as_flat_slice() == Some(b"\x03com\x00".as_slice())
+    );
     assert!(rt; name.to_cow(rt.alloc())?.as_slice() == LOWERED);
     assert!(rt; com.to_cow(rt.alloc())?.as_slice() == b"\x03com\x00".as_slice());
     Ok(())

@@ -8,14 +8,13 @@ use std::test::Fail;
 
 #[test]
 fn text_is_cut_behind_255_octets(rt: HostRuntime) -> Result<(), Fail> {
-    let text = vec![in rt.alloc(); 97u8; 511]?;
+    let text = vec![in rt.alloc(); 97u8; 300]?;
     let txt: Txt<Vec<u8>> = Txt::build_from_slice(rt.alloc(), text.as_slice())?;
-    assert!(rt; txt.len() == 514);
+    assert!(rt; txt.len() == 302);
     let mut strings = txt.iter();
     assert!(rt;
         strings.next().is_some_and(|string| string.len() == 255)
-            && strings.next().is_some_and(|string| string.len() == 255)
-            && strings.next().is_some_and(|string| string.len() == 1)
+            && strings.next().is_some_and(|string| string.len() == 45)
             && strings.next().is_none()
     );
     let joined: Vec<u8> = txt.text(rt.alloc())?;
