@@ -254,4 +254,5 @@ pub data_back : ((text : List ℕ) → AllByRecursion IsOctet text → SpellsOnl
 data_back in_quotes in_words names rtype row tokens is small named writes = record {
   kinds = is.kinds;
   scanned = row_back in_quotes in_words names named row tokens is.each (subst Fit is.kinds (fits rtype)) small writes;
+  short = omega (arith, is.short);
 }

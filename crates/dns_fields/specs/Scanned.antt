@@ -1,5 +1,5 @@
 -- Data as text: the tokens of a row (RFC 1035 5.1).
-use Rattle.std.specs.Prelude.{◌≡◌, ◌<◌, ◌^◌, ℕ, List, [], ◌∷◌, length, map, Some, ⊤}
+use Rattle.std.specs.Prelude.{◌≡◌, ◌<◌, ◌≤◌, ◌^◌, ℕ, List, [], ◌∷◌, length, map, Some, ⊤}
 use Rattle.std.specs.Str.{chars}
 use Rattle.std.specs.Net.Grammar.{IsDotted, IsColonHex}
 use Rattle.std.specs.Net.Addr.{octets_of}
@@ -7,7 +7,7 @@ use Rattle.dns_values.specs.Mnemonic.{number_spelled}
 use Rattle.dns_scan.specs.Encodings.{Decodes16, Decodes64}
 use Rattle.dns_scan.specs.Scans.{ScansWord}
 use Rattle.dns_scan.specs.Token.{Token, Takes, IsWord, IsEntry, SpellsOctets, SpellsString, unquoted}
-use Rattle.dns_fields.specs.Fields.{Kind, Field, number8, number16, number32, ipv4, ipv6, compressible, uncompressed, string, strings, tag, rest_text, rest16, rest64, kind_of, kinds_of}
+use Rattle.dns_fields.specs.Fields.{Kind, Field, number8, number16, number32, ipv4, ipv6, compressible, uncompressed, string, strings, tag, rest_text, rest16, rest64, kind_of, kinds_of, octets}
 
 -- the first token spells the name where `names` says so
 abbrev pub TakesName : (List ℕ → List (List ℕ) → Type 0) → List (List ℕ) → List Token → List Token → Type 0
@@ -46,12 +46,21 @@ ScansRow names [] tokens left = left ≡ tokens
 ScansRow names (field ∷ row) tokens left =
     (behind : List Token) × ScansField names field tokens behind × ScansRow names row behind left
 
--- the tokens begin with the text of data of the type
+-- The tokens begin with the text of data of the type, which has at most 65,535 octets (RFC 1035 3.2.1).
 pub record ScansData (names : List ℕ → List (List ℕ) → Type 0) (rtype : ℕ) (row : List Field) (tokens left : List Token) : Type 0 where
   pub kinds : kinds_of rtype ≡ Some (map kind_of row)
   pub scanned : ScansRow names row tokens left
+  pub short : length (octets row) ≤ 65535
 
--- no text of a field of the kind stands in front, none of fields of the kinds, none of data of the type
+-- they begin with the texts of a type's fields, which have more octets than that
+pub record ScansLong (names : List ℕ → List (List ℕ) → Type 0) (rtype : ℕ) (tokens : List Token) : Type 0 where
+  pub row : List Field
+  pub left : List Token
+  pub kinds : kinds_of rtype ≡ Some (map kind_of row)
+  pub scanned : ScansRow names row tokens left
+  pub long : 65535 < length (octets row)
+
+-- no text of a field of the kind stands in front, none of fields of the kinds
 abbrev pub NoFieldScans : (List ℕ → List (List ℕ) → Type 0) → Kind → List Token → Type 0
 NoFieldScans names kind tokens = (field : Field) (left : List Token) → kind_of field ≡ kind → ScansField names field tokens left → ⊥
 
@@ -59,5 +68,7 @@ abbrev pub NoRowScans : (List ℕ → List (List ℕ) → Type 0) → List Kind 
 NoRowScans names kinds tokens =
     (row : List Field) (left : List Token) → map kind_of row ≡ kinds → ScansRow names row tokens left → ⊥
 
+-- Where such a text of too many octets does not stand in front, none of data of the type does.
 abbrev pub NoDataScans : (List ℕ → List (List ℕ) → Type 0) → ℕ → List Token → Type 0
-NoDataScans names rtype tokens = (row : List Field) (left : List Token) → ScansData names rtype row tokens left → ⊥
+NoDataScans names rtype tokens =
+    (ScansLong names rtype tokens → ⊥) → (row : List Field) (left : List Token) → ScansData names rtype row tokens left → ⊥

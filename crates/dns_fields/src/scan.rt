@@ -1,5 +1,5 @@
 //! Fields and rows that are read from the tokens of an entry (RFC 1035 5.1).
-ghost use Rattle.std.specs.Prelude.{◌≡◌, ◌≤◌, false, length, Some, IfOk, IfErr, OnErr};
+ghost use Rattle.std.specs.Prelude.{◌≡◌, ◌≤◌, ◌<◌, false, length, Some, IfOk, IfErr, IfSome, IfNone, OnErr};
 ghost use Rattle.dns_scan.specs.Token.{IsEnding, SameNames};
 ghost use Rattle.dns_fields.specs.Fields.{kinds_of, octets};
 ghost use Rattle.dns_fields.specs.Scanned.{ScansField, ScansRow, ScansData, NoFieldScans, NoRowScans, NoDataScans};
@@ -8,6 +8,7 @@ mod leaves;
 mod rests;
 
 use crate::{FieldValue, Row};
+use dns_name::LongRecordData;
 use dns_text::{Scanner, ScannerError};
 
 /// A field that is read from tokens.
@@ -53,21 +54,33 @@ impl<S: Scanner, A: ScanField<S>, B: ScanRow<S>> ScanRow<S> for (A, B) {
 
 /// Reads data of a type, as a row of its kinds, from the tokens in front, and takes these. Tokens behind the last field stay.
 ///
-/// Refused with an error other than `short_buf` only where there is no such data in front, and with `short_buf` where the data
-/// has more than 65,535 octets; the tokens left are then an ending of those left before.
+/// Refused with an error other than `short_buf` only where there is no such data in front, as where its fields have more than
+/// 65,535 octets, which is `custom` by the text of `LongRecordData`; the tokens left are then an ending of those left before.
 pub fn scan_row<S: Scanner, R: ScanRow<S>, const RTYPE: u16>(scanner: &mut S) -> Result<R, S::Error>
     requires { kinds_of RTYPE ≡ Some R.kinds }
     ensures ok { IfOk result (λ row. ScansData (S.names scanner.old) RTYPE (R.fields row) (S.tokens scanner.old)
         (S.tokens scanner.new)) }
-    ensures fits { IfOk result (λ row. length (octets (R.fields row)) ≤ 65535) }
     ensures err { IfErr result (λ error. S.Error.is_short error ≡ false
         → NoDataScans (S.names scanner.old) RTYPE (S.tokens scanner.old)) }
     ensures left { OnErr result (IsEnding (S.tokens scanner.new) (S.tokens scanner.old)) }
     ensures names { SameNames (S.names scanner.old) (S.names scanner.new) }
 {
     let row = R::scan_fields(scanner)?;
-    if row.fields_len().is_none() {
-        return Err(S::Error::short_buf());
+    match fitting(row) {
+        Some(row) => Ok(row),
+        None => Err(S::Error::custom(LongRecordData.as_str())),
     }
-    Ok(row)
+}
+
+/// The row, where its fields fit into a record: they have at most 65,535 octets (RFC 1035 3.2.1).
+fn fitting<R: Row + Drop>(row: R) -> Option<R>
+    ensures same { IfSome result (λ it. it ≡ row) }
+    ensures fits { IfSome result (λ _. length (octets (R.fields row)) ≤ 65535) }
+    ensures none { IfNone result (65535 < length (octets (R.fields row))) }
+{
+    if row.fields_len().is_some() {
+        Some(row)
+    } else {
+        None
+    }
 }

@@ -4,8 +4,8 @@ use Rattle.std.specs.Bool.{IsTrue}
 use Rattle.dns_scan.specs.Token.{Token, IsEnding, SameNames, marker}
 use Rattle.dns_scan.specs.UnknownData.{IsUnknownData}
 use Rattle.dns_fields.specs.Fields.{Field, number8, number16, number32, ipv4, ipv6, compressible, uncompressed, string, strings, tag, rest_text, rest16, rest64}
-use Rattle.dns_fields.specs.Scanned.{ScansField, ScansRow}
-use Rattle.dns_rdata.specs.Data.{Data, typed, untyped, ScansAnyData}
+use Rattle.dns_fields.specs.Scanned.{ScansField, ScansRow, ScansLong}
+use Rattle.dns_rdata.specs.Data.{Data, typed, untyped, NoAnyDataScans, ScansAnyData}
 
 pub is_false : {b : Bool} → b ≡ false → IsTrue b → ⊥
 is_false is has = cc
@@ -49,7 +49,7 @@ row_same old new same (field ∷ row) tokens left scans =
 data_same : (old new : List ℕ → List (List ℕ) → Type 0) → SameNames old new → (rtype : ℕ) (rdata : Data) (tokens left : List Token)
     → ScansAnyData old rtype rdata tokens left → ScansAnyData new rtype rdata tokens left
 data_same old new same rtype (typed number row) tokens left scans =
-    (scans.0, scans.1, record { kinds = scans.2.kinds; scanned = row_same old new same row tokens left scans.2.scanned })
+    (scans.0, scans.1, record { kinds = scans.2.kinds; scanned = row_same old new same row tokens left scans.2.scanned; short = scans.2.short })
 data_same old new same rtype (untyped unknown) tokens left scans = scans
 
 -- the same data, where the tokens and what names are spelled are the same
@@ -66,13 +66,25 @@ ok_same (Ok rdata) view old new same rtype before after left is scans =
     text_same old new same rtype before after is (view rdata) left scans
 ok_same (Err error) view old new same rtype before after left is scans = tt
 
-pub err_same : {T E : Type 0} (result : Result T E) (Long : E → Type 0) (old new : List ℕ → List (List ℕ) → Type 0) → SameNames old new
-    → (rtype : ℕ) (before after : List Token) → before ≡ after
-    → IfErr result (λ error. Long error → (rdata : Data) (left : List Token) → ScansAnyData new rtype rdata after left → ⊥)
-    → IfErr result (λ error. Long error → (rdata : Data) (left : List Token) → ScansAnyData old rtype rdata before left → ⊥)
-err_same (Ok rdata) Long old new same rtype before after is none = tt
-err_same (Err error) Long old new same rtype before after is none =
-    λ long rdata left scans. none long rdata left (text_same old new same rtype before after is rdata left scans)
+long_same : (old new : List ℕ → List (List ℕ) → Type 0) → SameNames old new → (rtype : ℕ) (tokens : List Token)
+    → ScansLong old rtype tokens → ScansLong new rtype tokens
+long_same old new same rtype tokens scans = record {
+  row = scans.row;
+  left = scans.left;
+  kinds = scans.kinds;
+  scanned = row_same old new same scans.row tokens scans.left scans.scanned;
+  long = scans.long;
+}
+
+pub err_same : {T E : Type 0} (result : Result T E) (Other : E → Type 0) (old new : List ℕ → List (List ℕ) → Type 0) → SameNames old new
+    → (rtype : ℕ) (before after : List Token) → before ≡ after → IfErr result (λ error. Other error → NoAnyDataScans new rtype after)
+    → IfErr result (λ error. Other error → NoAnyDataScans old rtype before)
+err_same (Ok rdata) Other old new same rtype before after is none = tt
+err_same (Err error) Other old new same rtype before after is none =
+    λ other fits rdata left scans.
+    none other
+    (λ long. fits (long_same new old (same_back old new same) rtype before (subst (λ tokens. ScansLong new rtype tokens) (sym is) long)))
+    rdata left (text_same old new same rtype before after is rdata left scans)
 
 pub left_behind_marker : {T E : Type 0} (result : Result T E) (before tokens left : List Token) → before ≡ marker ∷ tokens
     → OnErr result (IsEnding left tokens) → OnErr result (IsEnding left before)

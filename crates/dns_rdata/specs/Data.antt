@@ -17,7 +17,7 @@ use Rattle.dns_fields.specs.Fields.{Field, kinds_of, canonical_octets}
 use Rattle.dns_fields.specs.Alike.{keys}
 use Rattle.dns_fields.specs.Held.{OneIsPast}
 use Rattle.dns_fields.specs.Reading.{ReadsRow}
-use Rattle.dns_fields.specs.Scanned.{ScansData}
+use Rattle.dns_fields.specs.Scanned.{ScansData, ScansLong}
 use Rattle.dns_fields.specs.Shown.{data_pieces}
 use Rattle.dns_fields.specs.Written.{written_parts}
 
@@ -84,6 +84,11 @@ ScansAnyData names rtype (typed number row) tokens left =
 ScansAnyData names rtype (untyped unknown) tokens left =
     (unknown.number ≡ rtype) × (words : List Token) × (tokens ≡ marker ∷ words) × IsUnknownData words unknown.octets
     × (left ≡ [])
+
+-- Where no text of its fields that has too many octets stands in front, none of data of the type does.
+abbrev pub NoAnyDataScans : (List ℕ → List (List ℕ) → Type 0) → ℕ → List Token → Type 0
+NoAnyDataScans names rtype tokens =
+    (ScansLong names rtype tokens → ⊥) → (rdata : Data) (left : List Token) → ScansAnyData names rtype rdata tokens left → ⊥
 
 -- how the data is printed
 abbrev pub document_of : Data → List Piece

@@ -1,7 +1,7 @@
 //! Data of any type out of text.
-ghost use Rattle.std.specs.Prelude.{◌≡◌, ◌∷◌, List, false, IfOk, IfErr, OnErr};
-ghost use Rattle.dns_scan.specs.Token.{Token, IsEnding, SameNames, marker};
-ghost use Rattle.dns_rdata.specs.Data.{Data, IsUnmarked, ScansAnyData};
+ghost use Rattle.std.specs.Prelude.{◌≡◌, ◌∷◌, false, IfOk, IfErr, OnErr};
+ghost use Rattle.dns_scan.specs.Token.{IsEnding, SameNames, marker};
+ghost use Rattle.dns_rdata.specs.Data.{IsUnmarked, NoAnyDataScans, ScansAnyData};
 ghost use Rattle.dns_rdata.specs.ZoneData.{data_of};
 
 use super::ZoneRecordData;
@@ -17,16 +17,16 @@ impl<Octs: FromBuilder + Drop, N: ToName + Drop> ZoneRecordData<Octs, N> {
     /// `\#`, this is data of any type as its octets (RFC 3597 5), which takes all tokens, and is not judged by the fields that the
     /// type has; a type without fields has this form alone. Tokens behind the last field stay.
     ///
-    /// Refused with an error other than `short_buf` only where no data of the type stands in front; the tokens left are then
-    /// an ending of those left before.
+    /// Refused with an error other than `short_buf` only where no data of the type stands in front, of at most 65,535 octets; the
+    /// tokens left are then an ending of those left before.
     pub fn scan<S: Scanner<Octets = Octs, Name = N>>(
         rtype: Rtype,
         scanner: &mut S,
     ) -> Result<Self, S::Error>
         ensures ok { IfOk result (λ rdata. ScansAnyData (S.names scanner.old) rtype (data_of rdata) (S.tokens scanner.old)
             (S.tokens scanner.new)) }
-        ensures err { IfErr result (λ error. S.Error.is_short error ≡ false → (rdata : Data) (left : List Token)
-            → ScansAnyData (S.names scanner.old) rtype rdata (S.tokens scanner.old) left → ⊥) }
+        ensures err { IfErr result (λ error. S.Error.is_short error ≡ false
+            → NoAnyDataScans (S.names scanner.old) rtype (S.tokens scanner.old)) }
         ensures left { OnErr result (IsEnding (S.tokens scanner.new) (S.tokens scanner.old)) }
         ensures names { SameNames (S.names scanner.old) (S.names scanner.new) }
     {
@@ -44,8 +44,8 @@ impl<Octs: FromBuilder + Drop, N: ToName + Drop> ZoneRecordData<Octs, N> {
     ) -> Result<Self, S::Error>
         ensures ok { IfOk result (λ rdata. ScansAnyData (S.names scanner.old) rtype (data_of rdata)
             (marker ∷ S.tokens scanner.old) (S.tokens scanner.new)) }
-        ensures err { IfErr result (λ error. S.Error.is_short error ≡ false → (rdata : Data) (left : List Token)
-            → ScansAnyData (S.names scanner.old) rtype rdata (marker ∷ S.tokens scanner.old) left → ⊥) }
+        ensures err { IfErr result (λ error. S.Error.is_short error ≡ false
+            → NoAnyDataScans (S.names scanner.old) rtype (marker ∷ S.tokens scanner.old)) }
         ensures left { OnErr result (IsEnding (S.tokens scanner.new) (S.tokens scanner.old)) }
         ensures names { SameNames (S.names scanner.old) (S.names scanner.new) }
     {
@@ -63,8 +63,8 @@ impl<Octs: FromBuilder + Drop, N: ToName + Drop> ZoneRecordData<Octs, N> {
         requires { IsUnmarked (S.tokens scanner.old) }
         ensures ok { IfOk result (λ rdata. ScansAnyData (S.names scanner.old) rtype (data_of rdata) (S.tokens scanner.old)
             (S.tokens scanner.new)) }
-        ensures err { IfErr result (λ error. S.Error.is_short error ≡ false → (rdata : Data) (left : List Token)
-            → ScansAnyData (S.names scanner.old) rtype rdata (S.tokens scanner.old) left → ⊥) }
+        ensures err { IfErr result (λ error. S.Error.is_short error ≡ false
+            → NoAnyDataScans (S.names scanner.old) rtype (S.tokens scanner.old)) }
         ensures left { OnErr result (IsEnding (S.tokens scanner.new) (S.tokens scanner.old)) }
         ensures names { SameNames (S.names scanner.old) (S.names scanner.new) }
     {

@@ -84,22 +84,36 @@ fn other_texts_are_refused(rt: HostRuntime) {
     );
 }
 
+fn decoded_16(alloc: Global, text: &str) -> Result<Vec<u8>, DecodeError> {
+    let mut decoder: base16::Decoder<Vec<u8>> = base16::Decoder::new(alloc);
+    for character in text.chars() {
+        decoder.push(character)?;
+    }
+    decoder.finalize()
+}
+
+fn decoded_32(alloc: Global, text: &str) -> Result<Vec<u8>, DecodeError> {
+    let mut decoder: base32::Decoder<Vec<u8>> = base32::Decoder::new(alloc);
+    for character in text.chars() {
+        decoder.push(character)?;
+    }
+    decoder.finalize()
+}
+
+fn decoded_64(alloc: Global, text: &str) -> Result<Vec<u8>, DecodeError> {
+    let mut decoder: base64::Decoder<Vec<u8>> = base64::Decoder::new(alloc);
+    for character in text.chars() {
+        decoder.push(character)?;
+    }
+    decoder.finalize()
+}
+
 #[test]
 fn decoders_take_characters(rt: HostRuntime) -> Result<(), Fail> {
-    let mut decoder_16: base16::Decoder<Vec<u8>> = base16::Decoder::new(rt.alloc());
-    let mut decoder_32: base32::Decoder<Vec<u8>> = base32::Decoder::new(rt.alloc());
-    let mut decoder_64: base64::Decoder<Vec<u8>> = base64::Decoder::new(rt.alloc());
-    decoder_16.push('6')?;
-    decoder_16.push('f')?;
-    decoder_32.push('D')?;
-    decoder_32.push('s')?;
-    decoder_64.push('b')?;
-    decoder_64.push('w')?;
-    decoder_64.push('=')?;
-    decoder_64.push('=')?;
-    assert!(rt; decoder_16.finalize()?.as_slice() == b"o".as_slice());
-    assert!(rt; decoder_32.finalize()?.as_slice() == b"o".as_slice());
-    assert!(rt; decoder_64.finalize()?.as_slice() == b"o".as_slice());
+    let alloc = rt.alloc();
+    assert!(rt; decoded_16(alloc, "6f")?.as_slice() == b"o".as_slice());
+    assert!(rt; decoded_32(alloc, "Ds")?.as_slice() == b"o".as_slice());
+    assert!(rt; decoded_64(alloc, "bw==")?.as_slice() == b"o".as_slice());
     Ok(())
 }
 
