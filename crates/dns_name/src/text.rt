@@ -8,7 +8,6 @@ ghost use Rattle.dns_name.specs.declared.text.FromStrError.TheVariants.{Presenta
 ghost use Rattle.dns_name.specs.declared.text.PresentationError.TheVariants as presentation;
 
 mod draft;
-mod octet_chars;
 mod relative;
 mod spelled;
 
