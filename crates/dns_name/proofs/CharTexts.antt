@@ -34,13 +34,13 @@ of_symbols text name (relative is is_name) =
     record { symbols = is.parts.symbols; each = is.parts.each; written = is.parts.written }
 
 -- a readable text that begins with the text of symbols goes on with symbols
-record More (taken : List Symbol) (rest : List ℕ) : Type 0 where
+pub record More (taken : List Symbol) (rest : List ℕ) : Type 0 where
   pub more : List Symbol
   pub each : AllByRecursion IsSymbol more
   pub written : rest ≡ flat_map spelled more
   pub readable : AreReadable (taken ++ more)
 
-more_of : (taken : List Symbol) (rest : List ℕ) → AllByRecursion IsSymbol taken → IsReadable (flat_map spelled taken ++ rest) → More taken rest
+pub more_of : (taken : List Symbol) (rest : List ℕ) → AllByRecursion IsSymbol taken → IsReadable (flat_map spelled taken ++ rest) → More taken rest
 more_of [] rest each (inl none) = record { more = []; each = tt; written = none; readable = inl refl }
 more_of (symbol ∷ taken) rest each (inl none) =
     absurd (spelled_some symbol (flat_map spelled taken ++ rest) (sym (append_assoc (spelled symbol) (flat_map spelled taken) rest) ∙ none))

@@ -11,6 +11,7 @@ pub mod Drafts
 pub mod Texts
 mod Readings
 mod CharTexts
+mod OctetTexts
 mod LastDots
 mod Refusals
 mod Builds

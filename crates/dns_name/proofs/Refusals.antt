@@ -2,12 +2,11 @@
 use Rattle.std.proofs.Common.{◌≡◌, ℕ, true, List, ◌++◌, refl, sym, subst, append-nil}
 use Rattle.std.specs.Prelude.{Option, Result, Ok, Err, IfOk, IfErr}
 use Rattle.std.specs.List.{AllByRecursion, flat_map}
-use Rattle.std.specs.Iterator.{Drains, YieldsFirst}
+use Rattle.std.specs.Iterator.{Drains}
 use Rattle.dns_label.specs.declared.symbol.Symbol.{Symbol}
 use Rattle.dns_label.specs.Symbol.{IsSymbol, spelled}
 use Rattle.dns_label.specs.Taken.{RulesOut}
 use Rattle.dns_label.specs.NameText.{IsNameText}
-use Rattle.dns_label.proofs.Taken.{first_drains, first_rules}
 use Rattle.dns_name.specs.Text.{SpellName, IsRefused, IsRefusedBy}
 use Rattle.dns_name.specs.declared.text.FromStrError.{FromStrError}
 use Rattle.dns_name.specs.declared.text.FromStrError.TheVariants.{Presentation, ShortBuf}
@@ -35,25 +34,6 @@ module _ {S A T : Type 0} (steps : S → Option A → S → Type 0) (Spells : Li
   ruled_out start (Err error) is out =
       let P : FromStrError → Type 0 = λ e. IsRefusedBy steps start Spells e in
       subst P (sym is.1) out
-
--- of an iterator that shows what it has left
-module _ {S A T : Type 0} (left : S → List A) (Spells : List A → List (List ℕ) → Type 0) where
-  pub first_refused : (start : S) (result : Result T FromStrError)
-      → IfErr result (IsRefusedBy (YieldsFirst left) start Spells) → IfErr result (IsRefused Spells (left start))
-  first_refused start (Ok value) refused = tt
-  first_refused start (Err (Presentation error)) refused =
-      λ name is. first_rules left {P = λ (l : List A). (n : List (List ℕ)) × Spells l n} start refused (name, is)
-  first_refused start (Err ShortBuf) refused =
-      let P : List A → Type 0 = λ l. (name : List (List ℕ)) × Spells l name in
-      subst P (first_drains left refused.0 start refused.1) refused.2
-
-pub first_spelled : {S A E : Type 0} (left : S → List A) (Spells : List A → List (List ℕ) → Type 0) (start : S)
-    (result : Result (List (List ℕ)) E)
-    → IfOk result (λ name. (items : List A) × Drains (YieldsFirst left) start items × Spells items name)
-    → IfOk result (λ name. Spells (left start) name)
-first_spelled {A = A} left Spells start (Ok name) told =
-    let P : List A → Type 0 = λ l. Spells l name in subst P (first_drains left told.0 start told.1) told.2
-first_spelled left Spells start (Err error) told = tt
 
 -- symbols are refused as their text is
 pub symbols_refused : {T : Type 0} (symbols : List Symbol) (result : Result T FromStrError) → AllByRecursion IsSymbol symbols

@@ -1,8 +1,7 @@
 -- Why no relative name was made of what an iterator gave.
 use Rattle.std.proofs.Common.{ℕ, true, List, ◌++◌, refl, subst, append-nil, inl, inr}
 use Rattle.std.specs.Prelude.{Option, Result, Ok, Err, IfErr}
-use Rattle.std.specs.Iterator.{Drains, YieldsFirst}
-use Rattle.dns_label.proofs.Taken.{first_drains, first_rules}
+use Rattle.std.specs.Iterator.{Drains}
 use Rattle.dns_label.specs.NameText.IsNameText.{absolute, relative}
 use Rattle.dns_name.specs.Draft.{IsReadable}
 use Rattle.dns_name.specs.RelativeText.{SpellsRelative, SpellsAbsolute, SpellsEither, IsNoRelative, IsNoRelativeBy}
@@ -32,14 +31,3 @@ drained_relative steps R start text (Err (FromStr (Presentation error))) gave is
       let Q : List ℕ → Type 0 = λ t. SpellsEither t in
       refused text is (subst Q (append-nil text) (subst P (ends refl) spells));
 }
-
--- an iterator that shows what it has left
-pub first_relative : {C T : Type 0} (left : C → List ℕ) (start : C) (result : Result T RelativeFromStrError)
-    → IfErr result (IsNoRelativeBy (YieldsFirst left) start) → IfErr result (IsNoRelative (left start))
-first_relative left start (Ok value) refused = tt
-first_relative left start (Err AbsoluteName) refused =
-    let P : List ℕ → Type 0 = λ t. SpellsAbsolute t in subst P (first_drains left refused.0 start refused.1) refused.2
-first_relative left start (Err (FromStr ShortBuf)) refused =
-    let P : List ℕ → Type 0 = λ t. SpellsRelative t in subst P (first_drains left refused.0 start refused.1) refused.2
-first_relative left start (Err (FromStr (Presentation error))) refused =
-    λ is. first_rules left {P = λ (l : List ℕ). SpellsEither l} start refused is

@@ -8,7 +8,6 @@ ghost use Rattle.dns_name.specs.declared.text.FromStrError.TheVariants.{Presenta
 ghost use Rattle.dns_name.specs.declared.text.PresentationError.TheVariants as presentation;
 
 mod draft;
-mod octet_chars;
 mod relative;
 mod spelled;
 
@@ -16,7 +15,6 @@ use crate::{Name, PushError};
 use dns_label::{BadSymbol, Symbol, SymbolCharsError};
 use dns_octets::{AppendError, EmptyBuilder, FromBuilder};
 use draft::Spelling;
-use octet_chars::OctetChars;
 pub use relative::RelativeFromStrError;
 pub use spelled::SpelledName;
 use std::alloc::Global;
@@ -147,7 +145,7 @@ where
         ensures err { IfErr result (IsRefused IsNameText text.now) }
         ensures other { result ≡ Err (Presentation presentation.RelativeName) → ⊥ }
     {
-        Name::from_chars(alloc, OctetChars(text.as_bytes()))
+        Name::of_read(alloc, Spelling::read_text(text.as_bytes())?)
     }
 
     /// The name that was read, the last label of which may be open.
@@ -188,7 +186,7 @@ impl Name<Vec<u8>> {
         ensures err { IfErr result (IsRefused IsAbsoluteText text.now) }
         ensures relative { IfErr result (λ error. (error ≡ Presentation presentation.RelativeName) ↔ LacksLastDot text.now) }
     {
-        let Some(spelling) = Spelling::read_chars(OctetChars(text))? else {
+        let Some(spelling) = Spelling::read_text(text)? else {
             return Ok(Name::root(alloc)?);
         };
         if spelling.has_open_label() {

@@ -1,8 +1,9 @@
 //! A name while its text is read.
-ghost use Rattle.std.specs.Prelude.{◌≡◌, ◌+◌, ◌≤◌, ◌<◌, ◌⊎◌, ◌↔◌, List, ℕ, [], ◌∷◌, ◌++◌, length, true, false, Some, None, Err, IsTrue, IfOk, IfErr, OnOk, OnErr, IfSome, IfNone};
+ghost use Rattle.std.specs.Prelude.{◌≡◌, ◌≢◌, ◌+◌, ◌≤◌, ◌<◌, ◌⊎◌, ◌↔◌, List, ℕ, [], ◌∷◌, ◌++◌, length, true, false, Some, None, Err, IsTrue, IfOk, IfErr, OnOk, OnErr, IfSome, IfNone};
 ghost use Rattle.std.specs.Iterator.{IsFinite, YieldsThen, Drains};
 ghost use Rattle.std.specs.List.{AllByRecursion, flat_map};
 ghost use Rattle.dns_label.specs.declared.symbol.Symbol.{Symbol};
+ghost use Rattle.dns_label.specs.declared.symbol.Symbol.TheVariants.{Char};
 ghost use Rattle.dns_label.specs.Name.{IsName};
 ghost use Rattle.dns_label.specs.Symbol.{IsSymbol, spelled};
 ghost use Rattle.dns_label.specs.Taken.{RulesOut};
@@ -36,6 +37,38 @@ pub(super) struct Spelling {
 impl Spelling {
     ghost use Rattle.dns_name.specs.Draft.{Holds, IsReadBy, IsReadable, AreReadable};
 
+    /// What octets of text spell, the last label still open; None where they are the root's dot alone.
+    ///
+    /// Refused where they spell no name though there are some.
+    pub(super) fn read_text(text: &[u8]) -> Result<Option<Spelling>, PresentationError>
+        ensures ok { IfOk result (λ read. IsReadBy text.now read) }
+        ensures err { OnErr result (IsReadable text.now → ⊥) }
+        ensures other { result ≡ Err presentation.RelativeName → ⊥ }
+    {
+        let mut spelling = Spelling::new();
+        let mut rest = text;
+        while let Some((&octet, behind)) = rest.split_first() {
+            if is_plain(octet) {
+                spelling.push(octet)?;
+                rest = behind;
+            } else if octet != b'.' {
+                let Some((symbol, next)) = Symbol::split_from(rest) else {
+                    return Err(PresentationError::BadSymbol);
+                };
+                spelling.push(symbol.into_octet()?)?;
+                rest = next;
+            } else if spelling.len > 1 {
+                spelling.end_label()?;
+                rest = behind;
+            } else if behind.is_empty() {
+                return Ok(None);
+            } else {
+                return Err(PresentationError::EmptyLabel);
+            }
+        }
+        Ok(Some(spelling))
+    }
+
     /// What characters spell, the last label still open; None where they are the root's dot alone.
     ///
     /// Refused where they spell no name though there are some, and maybe before all of them are taken.
@@ -66,11 +99,7 @@ impl Spelling {
         ensures err { OnErr result (RulesOut S.next_gives symbols.old AreReadable) }
         ensures other { result ≡ Err presentation.RelativeName → ⊥ }
     {
-        let mut spelling = Spelling {
-            octets: [0; 255],
-            len: 1,
-            start: 0,
-        };
+        let mut spelling = Spelling::new();
         'symbols: while let Some(symbol) = symbols.next() {
             let octet = symbol.into_octet()?;
             if !is_dot(symbol) {
@@ -82,6 +111,17 @@ impl Spelling {
             }
         }
         Ok(Some(spelling))
+    }
+
+    /// An open label without octets.
+    fn new() -> Spelling
+        ensures { Holds result [] [] }
+    {
+        Spelling {
+            octets: [0; 255],
+            len: 1,
+            start: 0,
+        }
     }
 
     /// Whether the open label has an octet.
@@ -161,6 +201,13 @@ impl Spelling {
     {
         Ok(copied_relative(alloc, &self.octets[..self.start])?)
     }
+}
+
+/// Whether the octet by itself is a symbol other than a dot.
+fn is_plain(octet: u8) -> bool
+    ensures { IsTrue result ↔ (IsSymbol (Char octet) × (octet ≢ 46)) }
+{
+    matches!(octet, b' '..=b'~') && octet != b'.' && octet != b'\\'
 }
 
 /// What a dot at the start spells: the root, if no symbol comes behind it, and else nothing.

@@ -7,7 +7,6 @@ ghost use Rattle.dns_name.specs.declared.text.FromStrError.TheVariants.{Presenta
 ghost use Rattle.dns_name.specs.declared.text.relative.RelativeFromStrError.TheVariants.{FromStr};
 
 use super::draft::Spelling;
-use super::octet_chars::OctetChars;
 use super::{FromStrError, PresentationError};
 use crate::RelativeName;
 use dns_octets::{AppendError, EmptyBuilder, FromBuilder};
@@ -79,7 +78,7 @@ where
         ensures ok { IfOk result (λ name. IsRelativeNameText text.now name) }
         ensures err { IfErr result (IsNoRelative text.now) }
     {
-        RelativeName::from_chars(alloc, OctetChars(text.as_bytes()))
+        RelativeName::of_read(alloc, Spelling::read_text(text.as_bytes())?)
     }
 
     /// The relative name that was read, the last label of which may be open.

@@ -1,18 +1,11 @@
-use Rattle.std.proofs.Common.{List, ℕ, subst}
-use Rattle.std.specs.Prelude.{IfOk, IfErr}
-use Rattle.dns_name.specs.declared.text.octet_chars.OctetChars.{OctetChars}
-use Rattle.dns_name.specs.RelativeText.{IsRelativeNameText, IsNoRelative}
-use Rattle.dns_name.proofs.Refusals.{first_spelled}
-use Rattle.dns_name.proofs.RelativeRefusals.{first_relative}
+use Rattle.std.proofs.Common.{List, ℕ, sym, subst}
+use Rattle.std.proofs.lemmas.Result.{err_from_is_err_and}
+use Rattle.dns_name.specs.Draft.{IsReadable}
+use Rattle.dns_name.proofs.RelativeRefusals.{either_readable}
 use Rattle.dns_name.proofs.relative.RelativeName.from_str.Goals as goal
 
-pub returns-clause-ok : goal.returns-clause-ok
-returns-clause-ok g c =
-    let P : List ℕ → Type 0 = λ text. IfOk c.from_chars.result (IsRelativeNameText text) in
-    subst P c.as_bytes.ensures.value
-    (first_spelled (λ (chars : OctetChars). chars.0.now) IsRelativeNameText _ c.from_chars.result c.from_chars.ensures.ok)
-
-pub returns-clause-err : goal.returns-clause-err
-returns-clause-err g c =
-    let P : List ℕ → Type 0 = λ text. IfErr c.from_chars.result (IsNoRelative text) in
-    subst P c.as_bytes.ensures.value (first_relative (λ (chars : OctetChars). chars.0.now) _ c.from_chars.result c.from_chars.ensures.err)
+pub returns-in_err-read_text-clause-err : goal.returns-in_err-read_text-clause-err
+returns-in_err-read_text-clause-err g c =
+    let p = err_from_is_err_and c.from_residual.result c.from_residual.ensures.1 in
+    let P : List ℕ → Type 0 = λ t. IsReadable t in
+    rw (p.1, p.2) (λ spells. c.in_err-read_text.ensures.err (subst P (sym c.as_bytes.ensures.value) (either_readable c.args.text.now spells)))

@@ -9,7 +9,7 @@ pub symbols-init : goal.symbols-init
 symbols-init g c = record {
   can = c.requires.can;
   ends = c.requires.ends;
-  read = ([], [], [], refl, reading_here, record { written = refl; place = refl; labels = tt });
+  read = ([], [], [], refl, reading_here, c.new-spelling.ensures);
 }
 
 pub returns-in_err-octet-clause-err : goal.returns-in_err-octet-clause-err
