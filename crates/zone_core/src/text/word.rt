@@ -1,6 +1,7 @@
 //! Words, which are unquoted tokens, and rows of them (RFC 1035 5.1).
 ghost use Rattle.std.specs.Prelude.{◌≡◌, ◌<◌, ◌≤◌, ◌↔◌, List, ℕ, false, length, IsTrue, IfSome, IfNone};
-ghost use Rattle.dns_text.specs.Tokens.{EndsToken, IsRun, Stands};
+ghost use Rattle.dns_label.specs.declared.symbol.Symbol.TheVariants.{Char};
+ghost use Rattle.dns_text.specs.Tokens.{EndsToken, IsIn, IsRun};
 ghost use Rattle.dns_zonefile.specs.PlainRow.{Words};
 ghost use Rattle.zone_core.specs.Entry.{texts_of, StartsWithSymbol, StartsWithSpaces};
 
@@ -50,23 +51,28 @@ pub(crate) fn split_word(text: &[u8]) -> Option<(&[u8], &[u8])>
 }
 
 /// The text behind a symbol that may stand in a word.
+#[inline]
 fn skip_symbol(text: &[u8]) -> Option<&[u8]>
     ensures found { IfSome result (λ rest. StartsWithSymbol text.now rest.now) }
     ensures none { IfNone result (EndsToken false text.now) }
 {
-    let (symbol, rest) = Symbol::split_from(text)?;
-    if stands_in_word(symbol) {
+    let (&octet, behind) = text.split_first()?;
+    if is_plain(octet) {
+        Some(behind)
+    } else if octet == b'\\' {
+        let (_, rest) = Symbol::split_from(text)?;
         Some(rest)
     } else {
         None
     }
 }
 
-/// Whether the symbol may stand in a word: a space, a quote, parentheses and a semicolon stand only escaped.
-fn stands_in_word(symbol: Symbol) -> bool
-    ensures { IsTrue result ↔ Stands false symbol }
+/// Whether the octet by itself is a symbol that may stand in a word: a space, a quote, parentheses and a semicolon stand only
+/// escaped.
+fn is_plain(octet: u8) -> bool
+    ensures { IsTrue result ↔ IsIn false (Char octet) }
 {
-    !matches!(symbol, Symbol::Char(' ' | '"' | '(' | ')' | ';'))
+    octet.is_ascii_graphic() && !matches!(octet, b'"' | b'(' | b')' | b';' | b'\\')
 }
 
 /// The text behind the spaces in front.
