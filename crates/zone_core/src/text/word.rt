@@ -1,7 +1,7 @@
 //! Words, which are unquoted tokens, and rows of them (RFC 1035 5.1).
 ghost use Rattle.std.specs.Prelude.{◌≡◌, ◌<◌, ◌≤◌, ◌↔◌, List, ℕ, false, length, IsTrue, IfSome, IfNone};
 ghost use Rattle.dns_label.specs.declared.symbol.Symbol.TheVariants.{Char};
-ghost use Rattle.dns_text.specs.Tokens.{EndsToken, IsIn, IsRun};
+ghost use Rattle.dns_text.specs.Tokens.{EndsToken, IsIn, IsRun, Stands};
 ghost use Rattle.dns_zonefile.specs.PlainRow.{Words};
 ghost use Rattle.zone_core.specs.Entry.{texts_of, StartsWithSymbol, StartsWithSpaces};
 
@@ -39,8 +39,14 @@ pub(crate) fn split_word(text: &[u8]) -> Option<(&[u8], &[u8])>
     ensures none { IfNone result (EndsToken false text.now) }
 {
     let mut rest = text;
-    while let Some(behind) = skip_symbol(rest) {
-        rest = behind;
+    while let Some((&octet, behind)) = rest.split_first() {
+        if is_plain(octet) {
+            rest = behind;
+        } else if let Some(after) = skip_symbol(rest) {
+            rest = after;
+        } else {
+            break;
+        }
     }
     let len = text.len() - rest.len();
     if len == 0 {
@@ -50,29 +56,31 @@ pub(crate) fn split_word(text: &[u8]) -> Option<(&[u8], &[u8])>
     }
 }
 
+/// Whether the octet is from the asterisk on, and stands in a word by itself, as letters and digits do.
+fn is_plain(octet: u8) -> bool
+    ensures { IsTrue result ↔ (IsIn false (Char octet) × (42 ≤ octet)) }
+{
+    matches!(octet, b'*'..=b'~') && octet != b';' && octet != b'\\'
+}
+
 /// The text behind a symbol that may stand in a word.
-#[inline]
 fn skip_symbol(text: &[u8]) -> Option<&[u8]>
     ensures found { IfSome result (λ rest. StartsWithSymbol text.now rest.now) }
     ensures none { IfNone result (EndsToken false text.now) }
 {
-    let (&octet, behind) = text.split_first()?;
-    if is_plain(octet) {
-        Some(behind)
-    } else if octet == b'\\' {
-        let (_, rest) = Symbol::split_from(text)?;
+    let (symbol, rest) = Symbol::split_from(text)?;
+    if stands_in_word(symbol) {
         Some(rest)
     } else {
         None
     }
 }
 
-/// Whether the octet by itself is a symbol that may stand in a word: a space, a quote, parentheses and a semicolon stand only
-/// escaped.
-fn is_plain(octet: u8) -> bool
-    ensures { IsTrue result ↔ IsIn false (Char octet) }
+/// Whether the symbol may stand in a word: a space, a quote, parentheses and a semicolon stand only escaped.
+fn stands_in_word(symbol: Symbol) -> bool
+    ensures { IsTrue result ↔ Stands false symbol }
 {
-    octet.is_ascii_graphic() && !matches!(octet, b'"' | b'(' | b')' | b';' | b'\\')
+    !matches!(symbol, Symbol::Char(' ' | '"' | '(' | ')' | ';'))
 }
 
 /// The text behind the spaces in front.
