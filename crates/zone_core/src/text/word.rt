@@ -1,6 +1,7 @@
 //! Words, which are unquoted tokens, and rows of them (RFC 1035 5.1).
 ghost use Rattle.std.specs.Prelude.{◌≡◌, ◌<◌, ◌≤◌, ◌↔◌, List, ℕ, false, length, IsTrue, IfSome, IfNone};
-ghost use Rattle.dns_text.specs.Tokens.{EndsToken, IsRun, Stands};
+ghost use Rattle.dns_label.specs.declared.symbol.Symbol.TheVariants.{Char};
+ghost use Rattle.dns_text.specs.Tokens.{EndsToken, IsIn, IsRun, Stands};
 ghost use Rattle.dns_zonefile.specs.PlainRow.{Words};
 ghost use Rattle.zone_core.specs.Entry.{texts_of, StartsWithSymbol, StartsWithSpaces};
 
@@ -38,8 +39,14 @@ pub(crate) fn split_word(text: &[u8]) -> Option<(&[u8], &[u8])>
     ensures none { IfNone result (EndsToken false text.now) }
 {
     let mut rest = text;
-    while let Some(behind) = skip_symbol(rest) {
-        rest = behind;
+    while let Some((&octet, behind)) = rest.split_first() {
+        if is_plain(octet) {
+            rest = behind;
+        } else if let Some(after) = skip_symbol(rest) {
+            rest = after;
+        } else {
+            break;
+        }
     }
     let len = text.len() - rest.len();
     if len == 0 {
@@ -47,6 +54,13 @@ pub(crate) fn split_word(text: &[u8]) -> Option<(&[u8], &[u8])>
     } else {
         Some(text.split_at(len))
     }
+}
+
+/// Whether the octet is from the asterisk on, and stands in a word by itself, as letters and digits do.
+fn is_plain(octet: u8) -> bool
+    ensures { IsTrue result ↔ (IsIn false (Char octet) × (42 ≤ octet)) }
+{
+    matches!(octet, b'*'..=b'~') && octet != b';' && octet != b'\\'
 }
 
 /// The text behind a symbol that may stand in a word.
