@@ -9,7 +9,7 @@ use Rattle.zone_core.specs.Zone.{IsUnder, IsBehindSoa, soa_type}
 use Rattle.zone_core.specs.Query.{AxfrQuery}
 use Rattle.zone_core.specs.Records.{AreRecordsOf, AreSendable, IsQueryFor, IsRecordOf, IsSendable}
 use Rattle.zone_core.specs.Sent.{AsksFor, IsSent, message, size}
-use Rattle.zone_core.specs.Transfer.{Form, Standard, WrittenOut, IsTypeToday, IsInZoneOf, SameSoa, IsTransfer, IsTransferIn}
+use Rattle.zone_core.specs.Transfer.{Form, Standard, WrittenOut, IsTypeToday, IsInZoneOf, SameSoa, IsTransferIn, IsExactTransfer, IsExactTransferIn}
 use Rattle.zone_core.proofs.LastRecord.{all_append, all_joined, ends_with}
 use Rattle.zone_core.proofs.WrittenAnswers.{Allows, all_allowed, answers-written, framable-written}
 use Rattle.zone_core.proofs.OneTransfer.{transfer_one}
@@ -58,7 +58,7 @@ all_small query max (group ∷ groups) fits small = (omega (arith, small.0), all
 -- What is sent is a transfer in each form that has room for its records, and of the very same records.
 pub sent_in_form : (form : Form) (records : List Record) (class : ℕ) (query : AxfrQuery) (max : ℕ) (stream : List ℕ) → max < 2 ^ 16
     → AreSendable class records → IsQueryFor records class query → AllByRecursion (Allows form) records
-    → IsSent records query max stream → IsTransferIn form query stream records
+    → IsSent records query max stream → IsExactTransferIn form query stream records
 sent_in_form form [] class query max stream fits are asks allowed sent = absurd are.zone
 sent_in_form form (soa ∷ others) class query max stream fits are asks allowed sent =
     let cut = sent.cut.fits in
@@ -76,7 +76,7 @@ sent_in_form form (soa ∷ others) class query max stream fits are asks allowed 
       under = ([], sym asks.asks.name);
       spellable = are.each.0.spellable;
     } in
-    record {
+    let transfer : IsTransferIn form query stream (soa ∷ others) = record {
       messages = map (message query) sent.groups;
       each = framable-written query sent.groups small;
       whole = sent.framed;
@@ -89,11 +89,12 @@ sent_in_form form (soa ∷ others) class query max stream fits are asks allowed 
       joins = ends.joins;
       transferred = (are.zone.0, sym asks.asks.name, (first, rest.0), rest.1);
       closed = (are.zone.0, same_soa soa are.zone.0 are.each.0.data_is);
-    }
+    } in
+    record { transfer = transfer; again = refl }
 
 -- What is sent is a transfer as the standard has it.
 pub sendable_is_transfer : (records : List Record) (class : ℕ) (query : AxfrQuery) (max : ℕ) (stream : List ℕ) → max < 2 ^ 16
-    → AreSendable class records → IsQueryFor records class query → IsSent records query max stream → IsTransfer query stream records
+    → AreSendable class records → IsQueryFor records class query → IsSent records query max stream → IsExactTransfer query stream records
 sendable_is_transfer records class query max stream fits are asks sent =
     sent_in_form Standard records class query max stream fits are asks (all_allowed records) sent
 
@@ -106,14 +107,14 @@ each_sendable class (r ∷ records) each = (
 )
 
 pub sent_is_transfer : (records : List Record) (class : ℕ) (query : AxfrQuery) (max : ℕ) (stream : List ℕ) → max < 2 ^ 16
-    → AreRecordsOf class records → IsQueryFor records class query → IsSent records query max stream → IsTransfer query stream records
+    → AreRecordsOf class records → IsQueryFor records class query → IsSent records query max stream → IsExactTransfer query stream records
 sent_is_transfer records class query max stream fits are asks sent =
     sendable_is_transfer records class query max stream fits (record { each = each_sendable class records are.each; zone = are.zone }) asks sent
 
 -- Where its records are of the types that are received today, it is a transfer that is received.
 pub sent_is_received : (records : List Record) (class : ℕ) (query : AxfrQuery) (max : ℕ) (stream : List ℕ) → max < 2 ^ 16
     → AreSendable class records → IsQueryFor records class query → AllByRecursion (λ r. IsTypeToday r.rtype) records
-    → IsSent records query max stream → IsTransferIn WrittenOut query stream records
+    → IsSent records query max stream → IsExactTransferIn WrittenOut query stream records
 sent_is_received = sent_in_form WrittenOut
 
 -- What is sent and then received as a transfer of records is what is sent for these.
@@ -121,7 +122,7 @@ pub received_is_sent_again : (records others : List Record) (class : ℕ) (query
     → AreSendable class records → IsQueryFor records class query → IsSent records query max stream
     → IsTransferIn WrittenOut query stream others → (records ≡ others) × IsSent others query max stream
 received_is_sent_again records others class query max stream fits are asks sent received =
-    let same = transfer_one query stream records others (sendable_is_transfer records class query max stream fits are asks sent)
+    let same = transfer_one query stream records others (sendable_is_transfer records class query max stream fits are asks sent).transfer
     (written_transfer query stream others received) in
     let P : List Record → Type 0 = λ records. IsSent records query max stream in
     (same, subst P same sent)

@@ -60,4 +60,4 @@ sent = record {
 }
 
 is_transfer : IsTransfer query (frames (message query (with_soa_again (soa ∷ address ∷ [])) ∷ [])) (soa ∷ address ∷ [])
-is_transfer = sent_is_transfer (soa ∷ address ∷ []) 1 query 512 _ (omega arith) are_records asks sent
+is_transfer = (sent_is_transfer (soa ∷ address ∷ []) 1 query 512 _ (omega arith) are_records asks sent).transfer

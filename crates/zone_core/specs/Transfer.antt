@@ -131,6 +131,19 @@ pub record IsTransferIn (form : Form) (query : AxfrQuery) (stream : List ℕ) (r
   pub transferred : IsTransferred query records
   pub closed : ClosesTransfer records last
 
+-- the record is the first of these, octet for octet
+abbrev pub IsFirst : List Record → Record → Type 0
+IsFirst [] last = ⊥
+IsFirst (soa ∷ others) last = last ≡ soa
+
+-- A transfer whose last SOA is the first record again octet for octet, and not only up to the case of its names.
+pub record IsExactTransferIn (form : Form) (query : AxfrQuery) (stream : List ℕ) (records : List Record) : Type 0 where
+  pub transfer : IsTransferIn form query stream records
+  pub again : IsFirst records transfer.last
+
 -- a transfer as the standard has it
 abbrev pub IsTransfer : AxfrQuery → List ℕ → List Record → Type 0
 IsTransfer query stream records = IsTransferIn Standard query stream records
+
+abbrev pub IsExactTransfer : AxfrQuery → List ℕ → List Record → Type 0
+IsExactTransfer query stream records = IsExactTransferIn Standard query stream records

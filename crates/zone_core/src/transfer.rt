@@ -5,7 +5,7 @@ ghost use Rattle.zone_core.specs.Owned.{records_of};
 ghost use Rattle.zone_core.specs.Query.{AxfrQuery, IsQuery};
 ghost use Rattle.zone_core.specs.Sent.{AsksFor, IsSent, IsSendFault};
 ghost use Rattle.zone_core.specs.Sending.{Holds, IsRefusedBy};
-ghost use Rattle.zone_core.specs.Transfer.{IsTransfer};
+ghost use Rattle.zone_core.specs.Transfer.{IsExactTransfer};
 ghost use Rattle.zone_core.specs.View.{apex_of};
 
 use crate::query::{Query, check_query};
@@ -38,7 +38,7 @@ pub fn send(
     ensures ok { IfOk result (λ stream. (q : AxfrQuery) × IsQuery query.now q × AsksFor q (apex_of zone.now.records) zone.now.class ×
         IsSent zone.now.records q max stream.items) }
     ensures err { IfErr result (IsSendFault zone.now.records (apex_of zone.now.records) zone.now.class query.now max) }
-    ensures transfer { IfOk result (λ stream. (q : AxfrQuery) × IsQuery query.now q × IsTransfer q stream.items zone.now.records) }
+    ensures transfer { IfOk result (λ stream. (q : AxfrQuery) × IsQuery query.now q × IsExactTransfer q stream.items zone.now.records) }
 {
     let query = match check_query(query) {
         Ok(query) => query,

@@ -136,10 +136,7 @@ fn push_record(records: &mut Vec<Record>, next: Record) -> Result<(), ZoneError>
     ensures ok { OnOk result (records.new.items ≡ records.old.items ++ next ∷ []) }
     ensures err { IfErr result (λ error. error ≡ ZoneError.OutOfMemory) }
 {
-    match records.push(next) {
-        Ok(()) => Ok(()),
-        Err(_) => Err(ZoneError::OutOfMemory),
-    }
+    Ok(records.push(next).map_err(AllocError::from)?)
 }
 
 /// The next record behind so many, and the text behind it.

@@ -1,4 +1,8 @@
 //! Why a text is no zone's.
+ghost use Rattle.std.specs.Prelude.{◌≡◌};
+ghost use Rattle.zone_core.specs.declared.zone_error.ZoneError.TheVariants as zone_error;
+
+use std::alloc::AllocError;
 use thiserror::Error;
 
 /// The first rule that a text breaks, in this order. An entry's number counts the rows with tokens from 1.
@@ -25,4 +29,12 @@ pub enum ZoneError {
     /// A growth was refused.
     #[error("out of memory")]
     OutOfMemory,
+}
+
+impl From<AllocError> for ZoneError {
+    ghost from_gives = { λ _ error. error ≡ zone_error.OutOfMemory };
+
+    fn from(_: AllocError) -> ZoneError {
+        ZoneError::OutOfMemory
+    }
 }

@@ -1,8 +1,11 @@
 //! The program `zonewire`: zone files to the streams of their transfers, and back.
 #![tactic(auto)]
 
+mod unasked;
+
 use std::alloc::AllocError;
 use std::process::ExitCode;
+use unasked::Unasked;
 use zonewire::{Job, StdSink, StdSource, WordsFault, job, run};
 
 fn main(rt: HostRuntime) -> ExitCode {
@@ -16,11 +19,8 @@ fn main(rt: HostRuntime) -> ExitCode {
 }
 
 /// The job that the program's words name.
-fn asked(rt: &HostRuntime) -> Result<Job, WordsFault> {
-    let given = match std::env::args(rt) {
-        Ok(words) => words,
-        Err(_) => return Err(WordsFault::OutOfMemory),
-    };
+fn asked(rt: &HostRuntime) -> Result<Job, Unasked> {
+    let given = std::env::args(rt).map_err(Unasked::of_words)?;
     let mut owned = Vec::new(rt.alloc());
     for word in given {
         owned.push(word).map_err(AllocError::from)?;
@@ -29,7 +29,7 @@ fn asked(rt: &HostRuntime) -> Result<Job, WordsFault> {
     for word in owned.iter() {
         words.push(word.as_str()).map_err(AllocError::from)?;
     }
-    job(rt.alloc(), words.as_slice())
+    Ok(job(rt.alloc(), words.as_slice())?)
 }
 
 /// Runs the job from standard input to standard output.
@@ -46,9 +46,10 @@ fn perform(rt: &HostRuntime, job: Job) -> ExitCode {
 }
 
 /// Says why the words were refused: by the parser's own text, or by the fault's.
-fn refuse(rt: &HostRuntime, fault: WordsFault) {
+fn refuse(rt: &HostRuntime, fault: Unasked) {
     let _ = match fault {
-        WordsFault::Line(error) => error.print(rt),
-        fault => eprintln!(rt; "zonewire: {fault}"),
+        Unasked::NotText => eprintln!(rt; "zonewire: a word is not UTF-8"),
+        Unasked::Refused(WordsFault::Line(error)) => error.print(rt),
+        Unasked::Refused(fault) => eprintln!(rt; "zonewire: {fault}"),
     };
 }

@@ -32,6 +32,9 @@ pub fn run<R: Source, W: Sink>(
     ensures faults { IfErr result (λ error. error ≢ fault.Read → error ≢ fault.Write →
         IfSome (R.remaining source.old) (λ input. IsJobFault job input error)) }
     ensures silent { IfErr result (λ error. error ≢ fault.Write → sink.new ≡ sink.old) }
+
+    // The source is read to its end before a job is refused too.
+    ensures drained { IfErr result (λ error. error ≢ fault.Read → error ≢ fault.OutOfMemory → IsAtEnd (R.remaining source.new)) }
 {
     let input = read_all(alloc, source)?;
     let output = output(alloc, input, &job)?;

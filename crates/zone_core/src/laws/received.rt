@@ -7,7 +7,7 @@ ghost use Rattle.zone_core.specs.Query.{AxfrQuery};
 ghost use Rattle.zone_core.specs.Records.{AreSendable, IsQueryFor};
 ghost use Rattle.zone_core.specs.Receiving.{IsBegun, HasBadMessage};
 ghost use Rattle.zone_core.specs.Sent.{IsSent};
-ghost use Rattle.zone_core.specs.Transfer.{Standard, WrittenOut, IsTypeToday, IsAnswer, IsTransfer, IsTransferIn};
+ghost use Rattle.zone_core.specs.Transfer.{Standard, WrittenOut, IsTypeToday, IsAnswer, IsTransfer, IsTransferIn, IsExactTransferIn};
 ghost use Rattle.zone_core.specs.declared.receive.error.ReceiveError.{ReceiveError};
 
 /// A stream is a transfer of at most one list of records to a query, and each of its messages an answer with at most one.
@@ -30,12 +30,12 @@ pub fn written_out_is_standard()
 {}
 
 /// What is sent for a zone whose records are of the types that are received today, SOA and A, is a transfer that is
-/// received, and of the very same records.
+/// received, and of the very same records, with the last SOA the first again octet for octet.
 pub fn sent_is_received()
     ensures { (records : List Record) (class : ℕ) (query : AxfrQuery) (max : ℕ) (stream : List ℕ) →
         max < 2 ^ 16 → AreSendable class records → IsQueryFor records class query →
         AllByRecursion (λ r. IsTypeToday r.rtype) records →
-        IsSent records query max stream → IsTransferIn WrittenOut query stream records }
+        IsSent records query max stream → IsExactTransferIn WrittenOut query stream records }
 {}
 
 /// What is sent for a zone and received as a transfer is received as the zone's records, and what is sent for these is

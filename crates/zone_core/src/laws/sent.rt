@@ -5,12 +5,13 @@ ghost use Rattle.zone_core.specs.Record.{Record};
 ghost use Rattle.zone_core.specs.Query.{AxfrQuery};
 ghost use Rattle.zone_core.specs.Records.{AreSendable, IsQueryFor};
 ghost use Rattle.zone_core.specs.Sent.{IsSent};
-ghost use Rattle.zone_core.specs.Transfer.{IsTransfer};
+ghost use Rattle.zone_core.specs.Transfer.{IsExactTransfer};
 
 /// What is sent for a zone and a query that asks for it is a transfer to that query, and of the very same records: their
-/// octets are those of the zone, names included. No message has more octets than its length in front can say.
+/// octets are those of the zone, names included, and so are those of the last SOA. No message has more octets than its
+/// length in front can say.
 pub fn sent_is_a_transfer()
     ensures { (records : List Record) (class : ℕ) (query : AxfrQuery) (max : ℕ) (stream : List ℕ) →
         max < 2 ^ 16 → AreSendable class records → IsQueryFor records class query →
-        IsSent records query max stream → IsTransfer query stream records }
+        IsSent records query max stream → IsExactTransfer query stream records }
 {}

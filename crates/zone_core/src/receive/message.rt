@@ -154,8 +154,5 @@ fn take_record(
 fn hold(records: &mut Vec<Record>, next: Record) -> Result<(), AllocError>
     ensures { OnOk result (records.new.items ≡ records.old.items ++ next ∷ []) }
 {
-    match records.push(next) {
-        Ok(()) => Ok(()),
-        Err(_) => Err(AllocError),
-    }
+    records.push(next).map_err(AllocError::from)
 }
