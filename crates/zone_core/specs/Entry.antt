@@ -1,4 +1,4 @@
--- What the reader of entries gives.
+-- What the reader of entries gives. Only contracts inside the crate speak of it.
 use Rattle.std.specs.Prelude.{◌≡◌, ◌≢◌, ◌++◌, ℕ, true, false, List, [], map, slice_index, ⊤}
 use Rattle.std.specs.Borrow.{Bor}
 use Rattle.std.specs.List.{AllByRecursion}

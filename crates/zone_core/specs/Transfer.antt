@@ -12,8 +12,9 @@ use Rattle.zone_core.specs.Query.{AxfrQuery}
 use Rattle.zone_core.specs.Frames.{frames, IsFramable}
 use Rattle.zone_core.specs.Cutting.{joined}
 
--- The forms of messages that are spoken of: what the standard lets a server send, and what is received today, which is
--- messages with every name written out and with records of the types SOA and A alone.
+-- The forms of messages that are spoken of: the standard's, in which names may have pointers (at most 255 each, a bound of
+-- our own), and what is received today, which is messages with every name written out and with records of the types SOA and
+-- A alone.
 pub data Form : Type 0 where
   Standard : Form
   WrittenOut : Form
@@ -82,7 +83,7 @@ AreAnswers form query first (message ∷ messages) [] = ⊥
 AreAnswers form query first (message ∷ messages) (group ∷ groups) =
     IsAnswer form query first message group × AreAnswers form query false messages groups
 
--- A CAA record (257) can be spelled in text only where its tag, whose length is the second octet, is not empty.
+-- A CAA record (257) can be spelled in text only where its tag, whose length is the second octet, is not empty (RFC 8659 4.1).
 abbrev pub IsSpellable : Record → Type 0
 IsSpellable r = r.rtype ≡ 257 → slice_index r.rdata 1 ≢ 0
 

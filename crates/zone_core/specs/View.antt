@@ -7,7 +7,7 @@ pub record Contents : Type 0 where
   pub records : List Record
   pub class : ℕ
 
--- the zone's name: the owner of its first record, the SOA
+-- The zone's name: the owner of its first record, the SOA. That of no records stands for nothing.
 abbrev pub apex_of : List Record → List (List ℕ)
 apex_of [] = []
 apex_of (soa ∷ others) = soa.owner

@@ -4,7 +4,7 @@ use Rattle.std.specs.List.{AllByRecursion}
 use Rattle.dns_label.specs.Name.{low}
 use Rattle.zone_core.specs.Record.{Record}
 
--- the numbers of the types and classes that the rules speak of
+-- the numbers of the types and classes that the rules speak of (RFC 1035 3.2.2; 3.2.3 for AXFR, 3.2.5 for any class)
 abbrev pub soa_type : ℕ
 soa_type = 6
 
@@ -17,7 +17,7 @@ axfr_type = 252
 abbrev pub any_class : ℕ
 any_class = 255
 
--- the name is the apex or a name under it, up to ASCII case
+-- the name is the apex or a name under it (RFC 1034 3.1), names compared up to ASCII case (RFC 4343)
 abbrev pub IsUnder : List (List ℕ) → List (List ℕ) → Type 0
 IsUnder apex name = (front : List (List ℕ)) × (low name ≡ front ++ low apex)
 
@@ -26,6 +26,7 @@ pub record IsBehindSoa (soa r : Record) : Type 0 where
   pub no_soa : r.rtype ≢ soa_type
   pub under : IsUnder soa.owner r.owner
 
+-- the records are a zone: its SOA, and then those that may stand behind it
 abbrev pub IsZone : List Record → Type 0
 IsZone [] = ⊥
 IsZone (soa ∷ others) = (soa.rtype ≡ soa_type) × AllByRecursion (IsBehindSoa soa) others

@@ -1,4 +1,4 @@
-//! Text of a zone, read in its plainest form (RFC 1035 5.1): each row is an SOA or an A record with all its parts.
+//! Text of a zone, whose rows are read in their plainest form, as `PlainRow` has it (RFC 1035 5.1).
 pub(crate) mod blank;
 pub(crate) mod entry;
 pub(crate) mod number;

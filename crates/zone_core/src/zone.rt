@@ -40,9 +40,8 @@ impl Model for Zone {
 impl Zone {
     /// Reads the zone of this class from the text of its zone file (RFC 1035 5.1).
     ///
-    /// Today only records of the types SOA and A in their plainest form are read, and the origin is not used.
-    /// The class ANY is refused first; then the first entry that breaks a rule is, by the first rule of `ZoneError`
-    /// that it breaks; and then a text without a record.
+    /// Today only rows in their plainest form are read (`PlainRow`, `RecordWords`), and the origin is not used. Refused by
+    /// the first rule that is broken, as `ZoneError` orders them.
     pub fn read(
         alloc: Global,
         text: &[u8],

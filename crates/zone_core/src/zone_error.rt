@@ -5,7 +5,9 @@ ghost use Rattle.zone_core.specs.declared.zone_error.ZoneError.TheVariants as zo
 use std::alloc::AllocError;
 use thiserror::Error;
 
-/// The first rule that a text breaks, in this order. An entry's number counts the rows with tokens from 1.
+/// The first rule that a text breaks. The class is judged first; then the first entry that breaks a rule counts, by the
+/// first of the rules `Text` to `OutOfZone` that it breaks; then that there is a record. An entry's number counts the rows
+/// with tokens from 1.
 #[derive(Clone, Copy, Debug, PartialEq, Eq, Error)]
 pub enum ZoneError {
     /// The class handed in is ANY, which no zone has.

@@ -31,7 +31,8 @@ abbrev pub query_octets : AxfrQuery → List ℕ
 query_octets query =
     to_be_bytes w16 query.id ++ 0 ∷ 0 ∷ 0 ∷ 1 ∷ 0 ∷ 0 ∷ 0 ∷ 0 ∷ 0 ∷ 0 ∷ [] ++ question_octets (question_of query)
 
--- The input is a zone's text, the job's query asks for that zone, and the output is what is sent for it.
+-- The input is a zone's text, the job's query asks for that zone, and the output is what is sent for it. `query` is what is
+-- read from the octets of the job's query.
 pub record IsSendOutput (class id : ℕ) (apex : Option (List (List ℕ))) (max : ℕ) (input output : List ℕ) : Type 0 where
   pub records : List Record
   pub text : IsZoneText input class records
@@ -58,7 +59,8 @@ IsSendJobFault class id apex max input (fault.Receive error) = ⊥
 IsSendJobFault class id apex max input fault.Read = ⊥
 IsSendJobFault class id apex max input fault.Write = ⊥
 
--- The octets are a query, and the input begins with a transfer of these records for it. Whatever is behind that is ignored.
+-- The octets are read as the query, and the input begins with a transfer of these records for it. Whatever is behind that is
+-- ignored.
 pub record IsReceived (asking input : List ℕ) (records : List Record) : Type 0 where
   pub query : AxfrQuery
   pub asked : IsQuery asking query
@@ -74,7 +76,7 @@ IsNotReceived asking input receive_error.Unfinished = (query : AxfrQuery) × IsQ
 IsNotReceived asking input receive_error.OutOfMemory = ⊤
 IsNotReceived asking input error = (query : AxfrQuery) × IsQuery asking query × IsStreamFault query input error
 
--- the octets of a job's query for the zone of this name
+-- the octets of a job's query for the zone of this name; no records are needed for it
 abbrev pub asking_for : ℕ → ℕ → List (List ℕ) → List ℕ
 asking_for class id apex = query_octets (query_of id class (Some apex) [])
 

@@ -20,7 +20,7 @@ use Rattle.zonewire.specs.declared.jobs.Job.TheVariants.{Send, Receive}
 use Rattle.zonewire.specs.declared.words.WordsFault.{WordsFault}
 use Rattle.zonewire.specs.declared.words.WordsFault.TheVariants.{Line, BadName, BadClass, OutOfMemory}
 
--- the decimal number of a text of digits
+-- the number of decimal digits, perhaps behind a plus sign
 abbrev pub number : Text → ℕ
 number text = digits_value 10 (without_leading_plus text)
 
@@ -72,7 +72,7 @@ IsValueFault (name, rows) BadClass = (name ≡ codes "receive")
     × ((labels : List (List ℕ)) × HasName (codes "apex") rows labels) × (class_in rows ≡ None)
 IsValueFault (name, rows) OutOfMemory = ⊤
 
--- the command takes the words, and this holds of the subcommand that they name and its matches
+-- the command takes the words: no kind of error may come; and this holds of the subcommand that they name and its matches
 abbrev pub TakesAs : App → List Text → (Text × List Row → Type 0) → Type 0
 TakesAs a words Holds = (fault_of a words ≡ [])
     × ((met : Text × List Row) × (subcommand_of a words ≡ Some met) × Holds met)

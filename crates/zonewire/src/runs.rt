@@ -15,8 +15,7 @@ use zone_core::{DisplayKind, ReceiveError, Receiver, Spelling, Zone, ZoneError, 
 
 /// Reads all the input, and writes what the job makes of it.
 ///
-/// Nothing is written before the output is whole. `Read` comes where a read was refused, `Write` where a write was, and
-/// then a beginning of the output was written; the other faults are those of the job.
+/// A fault other than `Read` and `Write` is the job's, and nothing is written where a fault other than `Write` comes.
 pub fn run<R: Source, W: Sink>(
     alloc: Global,
     source: &mut R,

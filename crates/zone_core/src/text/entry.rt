@@ -47,8 +47,7 @@ impl From<FromStrError> for EntryError {
 
 /// The next record of the text, of the class, and the text behind its row; None where the text ends.
 ///
-/// Rows without tokens are no entries. Any other row has to be a record in its plainest form: its owner, TTL, class, type
-/// and data, in this order and with spaces between them, names with their last dot, and a line feed behind.
+/// Rows without tokens are no entries. Any other row has to be a record in its plainest form (`PlainRow`, `RecordWords`).
 pub(crate) fn next_record(
     alloc: Global,
     text: &[u8],
