@@ -58,7 +58,8 @@ kind_of (rest16 octets) = Rest16
 kind_of (rest64 octets) = Rest64
 
 -- The table: which fields the data of a type has, from the left (RFC 1035 3.3 and 3.4, RFC 3596 2.2, RFC 1183 2.2,
--- RFC 2782, RFC 8659 4.1, RFC 4034 2.1 and 5.1). A type that is not in it has opaque data.
+-- RFC 2782, RFC 8659 4.1, RFC 4034 2.1 and 5.1). A type that is not in it has opaque data. The rows are A, NS, MD, MF, CNAME,
+-- SOA, MB, MG, MR, PTR, HINFO, MINFO, MX, TXT, RP, AAAA, SRV, DS, DNSKEY and CAA.
 abbrev pub kinds_of : ℕ → Option (List Kind)
 kinds_of rtype =
     if rtype == 1 then Some (Ipv4 ∷ [])

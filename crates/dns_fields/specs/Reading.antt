@@ -52,8 +52,9 @@ NoFields message place kinds = (row : List Field) → map kind_of row ≡ kinds 
 abbrev pub NoRow : ℕ → List ℕ → ℕ → Type 0
 NoRow rtype message place = (row : List Field) → ReadsRow rtype message place row → ⊥
 
--- The octets end too early for a field of the kind at the place: for a name, behind labels and pointers that begin one. A field
--- of another kind is missing for no other reason; strings have all octets that are left.
+-- The octets end too early for a field of the kind at the place: for a name, behind labels and pointers that begin one (RFC 1035
+-- 3.1, 4.1.4), of at most 255 octets and 255 pointers. A field of another kind is missing for no other reason; strings have all
+-- octets that are left, so that they are cut where these are not whole strings.
 abbrev pub IsCutField : List ℕ → ℕ → Kind → Type 0
 IsCutField message place Compressible = IsCut message 255 255 place
 IsCutField message place Uncompressed = IsCut message 255 255 place

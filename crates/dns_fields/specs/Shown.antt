@@ -15,8 +15,9 @@ abbrev pub one_unless_empty : List ℕ → List (List ℕ)
 one_unless_empty [] = []
 one_unless_empty (c ∷ text) = (c ∷ text) ∷ []
 
--- The tokens of a field: numbers in decimal; addresses as usual, those of sixteen octets in groups alone (RFC 5952 4);
--- names with their last dot; strings in quotes, a tag without; base 16 in capitals.
+-- The tokens of a field: numbers in decimal; an address of four octets as these in decimal with dots between (RFC 1035 3.4.1),
+-- one of sixteen in groups alone (RFC 5952 4); names with their last dot; strings in quotes, a tag without; base 16 in capitals
+-- and base 64 (RFC 4648).
 abbrev pub field_tokens : Field → List (List ℕ)
 field_tokens (number8 n) = decimal n ∷ []
 field_tokens (number16 n) = decimal n ∷ []

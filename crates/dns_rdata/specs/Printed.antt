@@ -1,4 +1,4 @@
--- How data is printed: a block with its fields' tokens.
+-- How data of the types that zones have today, SOA and A, is printed: a block with its fields' tokens.
 use Rattle.std.specs.Prelude.{◌≡◌, ◌==◌, ℕ, List, [], ◌∷◌, ◌++◌, Option, Some, None, codes, decimal, if◌then◌else◌}
 use Rattle.std.specs.Net.Text.{ipv4_text}
 use Rattle.dns_label.specs.Printed.{printed_name}
@@ -6,8 +6,8 @@ use Rattle.dns_text.specs.Document.{Piece}
 use Rattle.dns_text.specs.Document.Piece.{Token, Comment, Open, Close}
 use Rattle.dns_rdata.specs.Fields.{Field, number32, ipv4, compressible, octets, IsRow}
 
--- How a field is printed: a number in decimal, an address as four of them with dots between, a name with its last dot.
--- Fields of the other kinds have no printed form yet.
+-- How a field of these types is printed: a number in decimal, an address as four of them with dots between, a name with its
+-- last dot.
 pub data FieldText : Field → List ℕ → Type 0 where
   number : (n : ℕ) → FieldText (number32 n) (decimal n)
   address : (address : List ℕ) → FieldText (ipv4 address) (ipv4_text address)

@@ -58,7 +58,7 @@ impl<N: ToName> Mx<N> {
         }
     }
 
-    /// How the host is preferred; less is more.
+    /// How the host is preferred: the lowest number comes first.
     pub fn preference(&self) -> u16
         ensures { field_at 0 self.now ≡ Some (number16 result) }
     {

@@ -90,6 +90,6 @@ abbrev pub is_end : List ℕ → Bool
 is_end [] = true
 is_end (octet ∷ rest) = if is_gap octet then is_end rest else (if octet == 59 then not (has_feed rest) else false)
 
--- A row without tokens is no entry.
+-- A row without tokens, which is no entry; `rest` is behind its line feed.
 abbrev pub IsEmptyRow : List ℕ → List ℕ → Type 0
 IsEmptyRow text rest = Row false text [] rest

@@ -1,5 +1,5 @@
 -- Rows in their plainest form, the only one that is read today: owner, TTL, class, type and data of an SOA or an A record,
--- each an unquoted token, with spaces between them and nothing else. Names have their last dot.
+-- each an unquoted token, with spaces between them and nothing else (RFC 1035 5.1). Names have their last dot.
 use Rattle.std.specs.Prelude.{◌≡◌, ◌≢◌, ◌<◌, ◌^◌, ℕ, List, [], ◌∷◌, ◌++◌, length, Some, slice_index, false}
 use Rattle.std.specs.List.{AllByRecursion, flat_map}
 use Rattle.std.specs.Int.{to_be_bytes, w32}
@@ -31,7 +31,7 @@ pub data Words : List ℕ → List (List ℕ) → List ℕ → Type 0 where
   more : {text word rest : List ℕ} {words : List (List ℕ)} (spaces behind : List ℕ) → IsWord word → AreSpaces spaces
       → text ≡ word ++ spaces ++ behind → Words behind words rest → Words text (word ∷ words) rest
 
--- A row that begins with a plain dollar sign is a directive, which is not read yet.
+-- A row of these words. One that begins with a plain dollar sign is a directive, which is not read yet.
 pub record PlainRow (text : List ℕ) (words : List (List ℕ)) (rest : List ℕ) : Type 0 where
   pub words_of : Words text words rest
   pub no_directive : slice_index text 0 ≢ 36
