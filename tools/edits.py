@@ -1,13 +1,13 @@
 #!/usr/bin/env python3
 """edits.py [CRATE..]: shows that the prover refuses each single change of must-fail/, and not only each file of them.
 
-The changes of must-fail/changes.edit are tried, which the gate puts on a crate all at once, and those of must-fail/changes.md and
-must-fail/others.md, which it leaves out. Each function that a change is in has to be refused by itself: a contract is all that one function knows
-of another, so a changed function is judged as if the others were as they stand. A round has changes of different functions. It
-is put on a copy of the crate, and one check names the functions that it does not prove. What is not refused in a round, or
-stands in one that is no program, comes again in a smaller one, and in the end alone: a function that waits for a changed one
-is not judged beside it. Run `rt check` in the crate first, so that the copy finds its work done. The exit status is 1 where a
-change is not refused, or is no program by itself."""
+The changes of must-fail/changes.edit are tried, which the gate puts on a crate all at once, and those of must-fail/changes.md
+and must-fail/others.md, which it leaves out. Each function that a change is in has to be refused by itself: a contract is all
+that one function knows of another, so a changed function is judged as if the others were as they stand. A round has changes of
+different functions. It is put on a copy of the crate, and one check names the functions that it does not prove. What is not
+refused in a round, or stands in one that is no program, comes again in a smaller one, and in the end alone: a function that
+waits for a changed one is not judged beside it. Run `rt check` in the crate first, so that the copy finds its work done. The
+exit status is 1 where a change is not refused, or is no program by itself."""
 import re
 import shutil
 import subprocess

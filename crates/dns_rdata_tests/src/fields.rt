@@ -154,6 +154,7 @@ fn over(alloc: Global, words: &str) -> Result<IterScanner<'_>, StrError> {
     }
 }
 
+/// The other kinds are scanned in the tests of the types that have them.
 #[test]
 fn a_number_and_a_name_are_scanned(rt: HostRuntime) -> Result<(), Fail> {
     let mut scanner = over(rt.alloc(), "10 mail.Example. next")?;
@@ -162,88 +163,5 @@ fn a_number_and_a_name_are_scanned(rt: HostRuntime) -> Result<(), Fail> {
         composed(rt.alloc(), &mx)?.as_slice() == b"\x00\x0a\x04mail\x07Example\x00".as_slice()
     );
     assert!(rt; scanner.peek_text()? == b"next".as_slice());
-    Ok(())
-}
-
-#[test]
-fn numbers_and_a_name_are_scanned(rt: HostRuntime) -> Result<(), Fail> {
-    let mut scanner = over(rt.alloc(), "1 2 65535 a.b.")?;
-    let srv = scan_row::<_, (u16, (u16, (u16, (Uncompressed<Name<Vec<u8>>>, ())))), 33>(
-        &mut scanner,
-    )?;
-    assert!(rt;
-        composed(rt.alloc(), &srv)?.as_slice()
-            == b"\x00\x01\x00\x02\xff\xff\x01a\x01b\x00".as_slice()
-    );
-    Ok(())
-}
-
-#[test]
-fn addresses_are_scanned(rt: HostRuntime) -> Result<(), Fail> {
-    let mut scanner = over(rt.alloc(), "192.0.2.1 2001:db8::1")?;
-    let (address, ()) = scan_row::<_, (Ipv4Addr, ()), 1>(&mut scanner)?;
-    assert!(rt; address == Ipv4Addr::new(192, 0, 2, 1));
-    let (address, ()) = scan_row::<_, (Ipv6Addr, ()), 28>(&mut scanner)?;
-    assert!(rt; address == Ipv6Addr::new(0x2001, 0xdb8, 0, 0, 0, 0, 0, 1));
-    Ok(())
-}
-
-#[test]
-fn strings_are_scanned(rt: HostRuntime) -> Result<(), Fail> {
-    let mut scanner = over(rt.alloc(), "PDP\\04511 \\117nix")?;
-    let hinfo = scan_row::<_, (CharStr<Vec<u8>>, (CharStr<Vec<u8>>, ())), 13>(&mut scanner)?;
-    assert!(rt; composed(rt.alloc(), &hinfo)?.as_slice() == b"\x06PDP-11\x04unix".as_slice());
-    Ok(())
-}
-
-#[test]
-fn tags_and_rests_as_text_are_scanned(rt: HostRuntime) -> Result<(), Fail> {
-    let mut scanner = over(rt.alloc(), "0 issue ca.b")?;
-    let caa = scan_row::<_, (u8, (Tag<Vec<u8>>, Last<RestText<Vec<u8>>>)), 257>(&mut scanner)?;
-    assert!(rt; composed(rt.alloc(), &caa)?.as_slice() == b"\x00\x05issueca.b".as_slice());
-    Ok(())
-}
-
-#[test]
-fn rests_in_base_16_are_scanned(rt: HostRuntime) -> Result<(), Fail> {
-    let mut scanner = over(rt.alloc(), "1 8 2 a bC d")?;
-    let ds = scan_row::<_, (u16, (u8, (u8, Last<Rest16<Vec<u8>>>))), 43>(&mut scanner)?;
-    assert!(rt; composed(rt.alloc(), &ds)?.as_slice() == b"\x00\x01\x08\x02\xab\xcd".as_slice());
-    Ok(())
-}
-
-#[test]
-fn rests_in_base_64_are_scanned(rt: HostRuntime) -> Result<(), Fail> {
-    let mut scanner = over(rt.alloc(), "256 3 8 Zm 9v")?;
-    let key = scan_row::<_, (u16, (u8, (u8, Last<Rest64<Vec<u8>>>))), 48>(&mut scanner)?;
-    assert!(rt; composed(rt.alloc(), &key)?.as_slice() == b"\x01\x00\x03\x08foo".as_slice());
-    Ok(())
-}
-
-#[test]
-fn other_numbers_and_addresses_are_not_scanned(rt: HostRuntime) -> Result<(), Fail> {
-    let mut scanner = over(rt.alloc(), "10 65536 256.0.2.1 ::x")?;
-    assert!(rt;
-        scan_row::<_, (u16, (u16, (u16, (Uncompressed<Name<Vec<u8>>>, ())))), 33>(
-            &mut scanner
-        ).err()
-            == Some(StrError::Custom("invalid word"))
-            && scan_row::<_, (Ipv4Addr, ()), 1>(&mut scanner).err()
-                == Some(StrError::Custom("invalid word"))
-            && scan_row::<_, (Ipv6Addr, ()), 28>(&mut scanner).err()
-                == Some(StrError::Custom("invalid word"))
-    );
-    Ok(())
-}
-
-#[test]
-fn other_names_are_not_scanned(rt: HostRuntime) -> Result<(), Fail> {
-    let mut scanner = over(rt.alloc(), "a..b 10")?;
-    assert!(rt;
-        scan_row::<_, (Compressible<Name<Vec<u8>>>, ()), 2>(&mut scanner).err()
-            == Some(StrError::Custom("invalid name"))
-            && scan_row::<_, (u16, (Compressible<Name<Vec<u8>>>, ())), 15>(&mut scanner).err()
-                == Some(StrError::EndOfEntry)
-    );
     Ok(())
 }

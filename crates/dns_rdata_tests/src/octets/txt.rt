@@ -91,3 +91,17 @@ fn txt_is_shown_and_scanned(rt: HostRuntime) -> Result<(), Fail> {
     );
     Ok(())
 }
+
+/// 257 strings of 255 octets have 65,792 octets with their lengths.
+#[test]
+fn more_than_65535_octets_are_not_scanned(rt: HostRuntime) -> Result<(), Fail> {
+    let mut words = Vec::with_capacity(rt.alloc(), 65_792)?;
+    for place in 0..65_792u32 {
+        words.push(if place % 256 == 255 { b'|' } else { b'a' })?;
+    }
+    let words = str::from_utf8(words.as_slice())?;
+    let mut scanner = IterScanner::new(rt.alloc(), words.trim_end_matches('|').split('|'))?;
+    let refused = Txt::scan(&mut scanner).err();
+    assert!(rt; refused == Some(StrError::Custom("record data too long")));
+    Ok(())
+}
