@@ -3,7 +3,7 @@
 use arrayvec::ArrayVec;
 use dns_header::{ComposeRecord, ParsedRecord, Record, RecordHeader};
 use dns_name::{
-    AppendError, CanonicalOrd, Class, Name, ParsedName, Parser, Rtype, ToName, Ttl,
+    AppendError, CanonicalOrd, Class, Name, ParseError, ParsedName, Parser, Rtype, ToName, Ttl,
     UnknownRecordData,
 };
 use std::cmp::Ordering;
@@ -195,8 +195,36 @@ fn data_that_is_looked_into_later_is_taken_or_not(rt: HostRuntime) -> Result<(),
     let parsed = ParsedRecord::parse(&mut parser)?;
     let found: Option<Record<ParsedName<&[u8]>, UnknownRecordData<&[u8]>>> = parsed.into_record()?;
     match found {
-        Some(record) => assert_eq!(rt; record.class(), Class::CH),
+        Some(record) => assert!(rt; record.class() == Class::CH),
         None => assert!(rt; false),
     }
+    Ok(())
+}
+
+#[test]
+fn a_head_and_its_data_are_a_record(rt: HostRuntime) -> Result<(), Fail> {
+    let message = MESSAGE;
+    let mut parser = Parser::from_ref(&message);
+    parser.advance(3)?;
+    let header = RecordHeader::parse(&mut parser)?;
+    let parsed = ParsedRecord::new(header, parser.parse_parser(2)?);
+    let found: Option<Record<ParsedName<&[u8]>, UnknownRecordData<&[u8]>>> = parsed.to_record()?;
+    assert!(rt; found.is_some());
+    let record: Record<ParsedName<&[u8]>, UnknownRecordData<&[u8]>> = parsed.into_any_record()?;
+    assert!(rt; *record.data().data() == b"\x07\x08".as_slice());
+    Ok(())
+}
+
+#[test]
+fn records_that_are_cut_are_told_from_others(rt: HostRuntime) -> Result<(), Fail> {
+    let message = MESSAGE;
+    for end in [4usize, 8, 12, 16, 18] {
+        let mut cut = Parser::from_ref(&message[..end]);
+        cut.advance(3)?;
+        assert!(rt; ParsedRecord::parse(&mut cut).err() == Some(ParseError::ShortInput));
+    }
+    let mut bad = Parser::from_ref(b"\x80\0\0\x01\0\x01\0\0\0\0\0\0");
+    let refused = ParsedRecord::parse(&mut bad).err();
+    assert!(rt; refused.is_some() && refused != Some(ParseError::ShortInput));
     Ok(())
 }

@@ -4,8 +4,8 @@ use Rattle.std.specs.Bool.{IsTrue}
 use Rattle.dns_scan.specs.Token.{Token, IsEnding, SameNames, marker}
 use Rattle.dns_scan.specs.UnknownData.{IsUnknownData}
 use Rattle.dns_fields.specs.Fields.{Field, number8, number16, number32, ipv4, ipv6, compressible, uncompressed, string, strings, tag, rest_text, rest16, rest64}
-use Rattle.dns_fields.specs.Scanned.{ScansField, ScansRow, ScansLong}
-use Rattle.dns_rdata.specs.Data.{Data, typed, untyped, NoAnyDataScans, ScansAnyData}
+use Rattle.dns_fields.specs.Scanned.{ScansField, ScansRow, ScansData, ScansLong, NoDataScans}
+use Rattle.dns_rdata.specs.Data.{Data, typed, untyped, IsUnmarked, NoAnyDataScans, ScansAnyData}
 
 pub is_false : {b : Bool} → b ≡ false → IsTrue b → ⊥
 is_false is has = cc
@@ -20,6 +20,13 @@ pub none_untyped : (names : List ℕ → List (List ℕ) → Type 0) (rtype : �
 none_untyped names rtype tokens none (typed number row) left scans = scans.0 tokens refl
 none_untyped names rtype tokens none (untyped unknown) left scans =
     none unknown.octets (subst (λ words. IsUnknownData words unknown.octets) (behind scans.2) scans.3)
+
+-- where nothing marks untyped data, data is of the type's fields
+pub none_typed : (names : List ℕ → List (List ℕ) → Type 0) (rtype n : ℕ) (tokens : List Token) → rtype ≡ n → IsUnmarked tokens
+    → NoDataScans names n tokens → NoAnyDataScans names rtype tokens
+none_typed names rtype n tokens is unmarked none fits (typed number row) left scans =
+    none (λ long. fits (subst (λ n. ScansLong names n tokens) (sym is) long)) row left (subst (λ n. ScansData names n row tokens left) is scans.2)
+none_typed names rtype n tokens is unmarked none fits (untyped unknown) left scans = unmarked scans.1 scans.2
 
 pub same_back : (old new : List ℕ → List (List ℕ) → Type 0) → SameNames old new → SameNames new old
 same_back old new same text name = ((same text name).1, (same text name).0)
