@@ -146,5 +146,6 @@ pub record IsExactTransferIn (form : Form) (query : AxfrQuery) (stream : List �
 abbrev pub IsTransfer : AxfrQuery → List ℕ → List Record → Type 0
 IsTransfer query stream records = IsTransferIn Standard query stream records
 
+-- and one with the last SOA octet for octet
 abbrev pub IsExactTransfer : AxfrQuery → List ℕ → List Record → Type 0
 IsExactTransfer query stream records = IsExactTransferIn Standard query stream records
