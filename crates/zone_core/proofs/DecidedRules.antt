@@ -20,24 +20,25 @@ use Rattle.zone_core.proofs.NameFronts.{AreOctets}
 use Rattle.zone_core.proofs.RowFronts.{row_one, are_plain, ArePlain, lowered_decided}
 use Rattle.zone_core.proofs.RecordFronts.{HasSomeQuestion, question_decided, question_one}
 use Rattle.zone_core.proofs.LawfulRecords.{IsLawful, closed_not_open, lawful_record}
-use Rattle.zone_core.proofs.MessageFaults.{Rules, FirstBroken, AllKept, record_rules, head_rules}
-use Rattle.zone_core.proofs.MessageFaults.Rules.{no_more, rule}
+use Rattle.zone_core.proofs.MessageFaults.{record_rules, head_rules}
+use Rattle.zone_core.proofs.OrderedRules.{Rules, FirstBroken, AllKept}
+use Rattle.zone_core.proofs.OrderedRules.Rules.{no_more, rule}
 
 -- rules that are each kept or broken
-abbrev pub DecidedRules : Rules → Type 0
+abbrev pub DecidedRules : Rules ReceiveError → Type 0
 DecidedRules no_more = ⊤
 DecidedRules (rule P error rules) = Decided P × DecidedRules rules
 
 -- the first that is broken, or all are kept
-abbrev pub Judged : Rules → Type 0
+abbrev pub Judged : Rules ReceiveError → Type 0
 Judged rules = ((e : ReceiveError) × FirstBroken rules e) ⊎ AllKept rules
 
-judged_more : (P : Type 0) (error : ReceiveError) (rules : Rules) → Decided P → Judged rules → Judged (rule P error rules)
+judged_more : (P : Type 0) (error : ReceiveError) (rules : Rules ReceiveError) → Decided P → Judged rules → Judged (rule P error rules)
 judged_more P error rules (inr broken) rest = inl (error, inl (broken, refl))
 judged_more P error rules (inl kept) (inl rest) = inl (rest.0, inr (kept, rest.1))
 judged_more P error rules (inl kept) (inr rest) = inr (kept, rest)
 
-pub judged : (rules : Rules) → DecidedRules rules → Judged rules
+pub judged : (rules : Rules ReceiveError) → DecidedRules rules → Judged rules
 judged no_more decided = inr tt
 judged (rule P error rules) decided = judged_more P error rules decided.0 (judged rules decided.1)
 

@@ -15,7 +15,8 @@ use Rattle.zone_core.proofs.LastRecord.{all_append}
 use Rattle.zone_core.proofs.NameFronts.{AreOctets}
 use Rattle.zone_core.proofs.SpelledRecords.{spelled_push}
 use Rattle.zone_core.proofs.LawfulRecords.{IsLawful, closed_not_open}
-use Rattle.zone_core.proofs.MessageFaults.{FirstBroken, AllKept, record_rules, head_rules}
+use Rattle.zone_core.proofs.MessageFaults.{record_rules, head_rules}
+use Rattle.zone_core.proofs.OrderedRules.{FirstBroken, AllKept}
 use Rattle.zone_core.proofs.RecordFronts.{record_decided}
 use Rattle.zone_core.proofs.DecidedRules.{HasData, judged, record_rules_decided, head_rules_decided}
 

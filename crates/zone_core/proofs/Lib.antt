@@ -36,8 +36,10 @@ pub mod SpelledRecords
 pub mod FrontFrames
 pub mod AnswerGroups
 pub mod LawfulRecords
+pub mod OrderedRules
 pub mod MessageFaults
 pub mod OneMessageFault
+pub mod OneQuery
 pub mod OneOfThree
 pub mod Decided
 pub mod NameFronts

@@ -13,35 +13,11 @@ use Rattle.zone_core.proofs.OneTransfer.{asked_one}
 use Rattle.zone_core.proofs.WrittenForms.{written_asked}
 use Rattle.zone_core.proofs.SpelledRecords.{SpelledPast, written_one, spelled_one, spelled_past}
 use Rattle.zone_core.proofs.LawfulRecords.{IsLawful, KeepsRecordRules, lawful_record}
-
--- rules in an order, each with the error of what breaks it
-pub data Rules : Type 1 where
-  no_more : Rules
-  rule : Type 0 → ReceiveError → Rules → Rules
-
--- the first rule that is broken is one of this error
-abbrev pub FirstBroken : Rules → ReceiveError → Type 0
-FirstBroken no_more e = ⊥
-FirstBroken (rule P error rules) e = ((P → ⊥) × (e ≡ error)) ⊎ (P × FirstBroken rules e)
-
-abbrev pub AllKept : Rules → Type 0
-AllKept no_more = ⊤
-AllKept (rule P error rules) = P × AllKept rules
-
-pub first_one : (rules : Rules) (e d : ReceiveError) → FirstBroken rules e → FirstBroken rules d → e ≡ d
-first_one no_more e d broken broken' = absurd broken
-first_one (rule P error rules) e d (inl broken) (inl broken') = broken.1 ∙ sym broken'.1
-first_one (rule P error rules) e d (inl broken) (inr kept) = absurd (broken.0 kept.0)
-first_one (rule P error rules) e d (inr kept) (inl broken) = absurd (broken.0 kept.0)
-first_one (rule P error rules) e d (inr kept) (inr kept') = first_one rules e d kept.1 kept'.1
-
-pub broken_not_kept : (rules : Rules) (e : ReceiveError) → FirstBroken rules e → AllKept rules → ⊥
-broken_not_kept no_more e broken kept = broken
-broken_not_kept (rule P error rules) e (inl broken) kept = broken.0 kept.0
-broken_not_kept (rule P error rules) e (inr goes_on) kept = broken_not_kept rules e goes_on.1 kept.1
+use Rattle.zone_core.proofs.OrderedRules.{Rules, FirstBroken, AllKept, broken_not_kept}
+use Rattle.zone_core.proofs.OrderedRules.Rules.{no_more, rule}
 
 -- the rules of a record behind others
-abbrev pub record_rules : AxfrQuery → List Record → Record → Rules
+abbrev pub record_rules : AxfrQuery → List Record → Record → Rules ReceiveError
 record_rules query front r =
     rule (KeepsFirstRule query front r) receive_error.FirstNotSoa
     (rule (r.class ≡ query.class) (receive_error.Class (length front + 1))
@@ -98,7 +74,7 @@ record_kind query front message place (receive_error.AfterLast n) fault = inr (r
 record_kind query front message place e fault = absurd fault
 
 -- the rules of a message up to its records
-abbrev pub head_rules : AxfrQuery → Bool → List ℕ → Rules
+abbrev pub head_rules : AxfrQuery → Bool → List ℕ → Rules ReceiveError
 head_rules query first message =
     rule (12 ≤ length message) receive_error.Short
     (rule (id_of message ≡ query.id) receive_error.Id

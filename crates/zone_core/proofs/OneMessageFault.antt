@@ -8,7 +8,8 @@ use Rattle.zone_core.specs.Receiving.{KeepsRulesTo}
 use Rattle.zone_core.specs.declared.receive.error.ReceiveError.{ReceiveError}
 use Rattle.zone_core.proofs.SpelledRecords.{written_one, spelled_one, spelled_past}
 use Rattle.zone_core.proofs.LawfulRecords.{IsLawful}
-use Rattle.zone_core.proofs.MessageFaults.{RecordBroken, HasMore, HasBadRecord, MessageBroken, FirstBroken, record_rules, head_rules, first_one, broken_not_kept, head_is_kept, same_start, bad_no_more}
+use Rattle.zone_core.proofs.MessageFaults.{RecordBroken, HasMore, HasBadRecord, MessageBroken, record_rules, head_rules, head_is_kept, same_start, bad_no_more}
+use Rattle.zone_core.proofs.OrderedRules.{FirstBroken, first_one, broken_not_kept}
 use Rattle.zone_core.proofs.MessageFaults.MessageBroken.{head, trailing, at_record}
 
 -- of a record at a place

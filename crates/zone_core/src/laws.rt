@@ -4,6 +4,7 @@
 mod cutting;
 mod framing;
 mod printed;
+mod query;
 mod received;
 mod sent;
 mod text;
@@ -14,6 +15,7 @@ pub use cutting::{
 };
 pub use framing::two_splits_are_one;
 pub use printed::{printed_text_is_the_zones, records_have_one_printed_text};
+pub use query::{one_query_fault, query_asks_one_thing, query_breaks_no_rule};
 pub use received::{
     at_most_one_of_three, one_of_three, received_is_sent_again, sent_is_received,
     transfers_are_one, written_out_is_standard,
