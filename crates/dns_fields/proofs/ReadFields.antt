@@ -124,7 +124,7 @@ ipv6_fixed = record {
 }
 
 -- names
-name_opened : {message : List ℕ} {place next : ℕ} {name : List (List ℕ)} → Spells message place (Named name End) next → Reads message place name next
+pub name_opened : {message : List ℕ} {place next : ℕ} {name : List (List ℕ)} → Spells message place (Named name End) next → Reads message place name next
 name_opened (named behind reads (nothing fits)) = reads
 
 pub name_read : {message : List ℕ} {place next : ℕ} {name : List (List ℕ)} → Reads message place name next → next ≤ length message

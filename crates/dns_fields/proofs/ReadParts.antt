@@ -99,12 +99,13 @@ row_read {field = field} first others = record {
   spelled = join field first.spelled others.spelled;
 }
 
-record SplitRow (message : List ℕ) (place : ℕ) (field : Field) (row : List Field) : Type 0 where
-  middle : ℕ
-  first : ReadsField message place field middle
-  others : ReadsFields message middle row
+-- and taken apart so
+pub record SplitRow (message : List ℕ) (place : ℕ) (field : Field) (row : List Field) : Type 0 where
+  pub middle : ℕ
+  pub first : ReadsField message place field middle
+  pub others : ReadsFields message middle row
 
-split_row : {message : List ℕ} {place : ℕ} {field : Field} {row : List Field} → ReadsFields message place (field ∷ row)
+pub split_row : {message : List ℕ} {place : ℕ} {field : Field} {row : List Field} → ReadsFields message place (field ∷ row)
     → SplitRow message place field row
 split_row {field = field} reads =
     let both = split field reads.spelled in

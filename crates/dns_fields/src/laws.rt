@@ -28,6 +28,12 @@ pub fn composed_data_parses_back()
         → (row : List Field) × ReadsRow rtype (front ++ all) (length front) row × (octets row ≡ all) }
 {}
 
+/// Data of a type stands at a place of a message in one way, pointers in its names followed: it is read as one row.
+pub fn data_is_read_as_one_row()
+    ensures { (rtype : ℕ) (message : List ℕ) (place : ℕ) (row other : List Field) → ReadsRow rtype message place row
+        → ReadsRow rtype message place other → row ≡ other }
+{}
+
 /// The tokens whose texts a row of a type is printed as are scanned as this row, with none left, where a name is spelled for
 /// the scanner by the text that it is printed as (RFC 1035 5.1). There are such tokens unless the row has an empty tag, which is
 /// printed as no text.
