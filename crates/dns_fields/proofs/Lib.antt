@@ -19,3 +19,4 @@ mod ComposedRows
 mod PrintedTexts
 mod PrintedRows
 mod PrintedTokens
+mod ScannedOnce

@@ -6,7 +6,7 @@ use Rattle.dns_fields.specs.Fields.{Field, number8, number16, number32, ipv4, ip
 use Rattle.dns_fields.specs.Scanned.{ScansField, ScansRow, NoFieldScans, NoRowScans}
 
 -- what is left behind a field of the kind
-abbrev left_behind : Kind → List Token → List Token
+abbrev pub left_behind : Kind → List Token → List Token
 left_behind Number8 tokens = drop 1 tokens
 left_behind Number16 tokens = drop 1 tokens
 left_behind Number32 tokens = drop 1 tokens
@@ -24,7 +24,7 @@ left_behind Rest64 tokens = []
 taken : {tokens left : List Token} {token : Token} → tokens ≡ token ∷ left → left ≡ drop 1 tokens
 taken is = sym (ap (drop {A = Token} 1) is)
 
-leaves : (names : List ℕ → List (List ℕ) → Type 0) (field : Field) (tokens left : List Token) → ScansField names field tokens left
+pub leaves : (names : List ℕ → List (List ℕ) → Type 0) (field : Field) (tokens left : List Token) → ScansField names field tokens left
     → left ≡ left_behind (kind_of field) tokens
 leaves names (number8 n) tokens left scans = taken scans.takes.is
 leaves names (number16 n) tokens left scans = taken scans.takes.is
