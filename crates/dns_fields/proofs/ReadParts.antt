@@ -1,13 +1,12 @@
 -- What a message spells, taken apart and put together field by field.
-use Rattle.std.proofs.Common.{◌≡◌, ◌+◌, ◌-◌, ◌≤◌, ◌<◌, ℕ, List, [], ◌∷◌, ◌++◌, length, drop, map, refl, sym, ◌∙◌, ap, subst, arith, length-drop, length-append}
+use Rattle.std.proofs.Common.{◌≡◌, ◌+◌, ◌≤◌, ◌<◌, ℕ, List, [], ◌∷◌, length, drop, map, refl, sym, ap, subst, arith, length-drop}
 use Rattle.std.specs.Prelude.{Result, Ok, Err, OnErr}
-use Rattle.std.specs.List.{AllByRecursion}
 use Rattle.dns_label.specs.Spelled as names
 use Rattle.dns_name.specs.Page.{Parts}
-use Rattle.dns_name.specs.Page.Parts.{End, Octets, Named, Counted}
+use Rattle.dns_name.specs.Page.Parts.{End, Octets, Named}
 use Rattle.dns_name.specs.SpelledParts.{Spells, nothing, octets, named, counted}
 use Rattle.dns_fields.specs.Fields.{Kind, Field, number8, number16, number32, ipv4, ipv6, compressible, uncompressed, string, strings, tag, rest_text, rest16, rest64, kind_of, field_octets}
-use Rattle.dns_fields.specs.Reading.{read_field, read_parts, ReadsField, ReadsFields, IsSoleField, AreSoleFields, NoField, NoFields}
+use Rattle.dns_fields.specs.Reading.{read_field, ReadsField, ReadsFields, IsSoleField, AreSoleFields, NoField, NoFields}
 
 -- octets in front of a list are a place in front of its end
 pub some_left : (message : List ℕ) (place : ℕ) {first : ℕ} {rest : List ℕ} → drop place message ≡ first ∷ rest → place < length message

@@ -22,10 +22,13 @@ module _ {tokens left rest : List Token} where
   same_token : {Fits Also : Token → Type 0} (takes : Takes Fits tokens left) (also : Takes Also tokens rest) → takes.token ≡ also.token
   same_token takes also = let both : takes.token ∷ left ≡ also.token ∷ rest = sym takes.is ∙ also.is in cc
 
+  pub left_one : {Fits Also : Token → Type 0} → Takes Fits tokens left → Takes Also tokens rest → left ≡ rest
+  left_one takes also = let both : takes.token ∷ left ≡ also.token ∷ rest = sym takes.is ∙ also.is in cc
+
   word_one : {text other : List ℕ} → Takes (IsWord text) tokens left → Takes (IsWord other) tokens rest → text ≡ other
   word_one takes also = ap (λ (t : Token). t.text) (sym takes.fits.0 ∙ same_token takes also ∙ also.fits.0)
 
-  pub scanned_one : {V : Type 0} {reads : List ℕ → Option V} {value other : V} → ScansWord reads tokens value left
+  scanned_one : {V : Type 0} {reads : List ℕ → Option V} {value other : V} → ScansWord reads tokens value left
       → ScansWord reads tokens other rest → ◌≡◌ {A = Option V} (Some value) (Some other)
   scanned_one {reads = reads} scans also = sym scans.reads_as ∙ ap reads (word_one scans.takes also.takes) ∙ also.reads_as
 
