@@ -95,8 +95,7 @@ unquoted_spells : ((text : List ℕ) → AllByRecursion IsOctet text → SpellsO
 unquoted_spells spelled {token} text each writes =
     subst (λ (t : Token). Spells t.text text) (sym (bare_token writes (tag_no_quote text))) (spelled text each).spells
 
--- words of base 16 or 64, joined, of which there may be none
-pub rest_back : (text : List ℕ) (tokens : List Token) → AllByRecursion IsSafe text → AllZip WritesToken tokens (one_unless_empty text ++ [])
+rest_back : (text : List ℕ) (tokens : List Token) → AllByRecursion IsSafe text → AllZip WritesToken tokens (one_unless_empty text ++ [])
     → IsEntry IsWord tokens text
 rest_back [] [] safe writes = refl
 rest_back [] (token ∷ tokens) safe writes = absurd writes

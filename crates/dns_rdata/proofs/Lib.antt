@@ -1,3 +1,4 @@
 pub mod Delimited
 pub mod Fronts
 pub mod ScanAny
+mod PrintedData
