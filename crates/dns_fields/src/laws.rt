@@ -3,6 +3,7 @@ ghost use Rattle.std.specs.Prelude.{◌≡◌, ◌++◌, [], Some, ℕ, List, Is
 ghost use Rattle.std.specs.Cmp.Lexicographic.{slice_cmp};
 ghost use Rattle.std.specs.List.{AllByRecursion, AllZip};
 ghost use Rattle.std.specs.Ordering.{is_eq, nat_cmp};
+ghost use Rattle.dns_label.specs.NameText.{IsNameText};
 ghost use Rattle.dns_scan.specs.StringText.{IsOctet};
 ghost use Rattle.dns_scan.specs.Token.{Token};
 ghost use Rattle.dns_text.specs.DocumentRows.{WritesToken};
@@ -13,6 +14,7 @@ ghost use Rattle.dns_fields.specs.Scanned.{ScansData};
 ghost use Rattle.dns_fields.specs.Shown.{row_tokens};
 ghost use Rattle.dns_fields.specs.SpelledNames.{SpellOne, SpellPrinted};
 
+use dns_name::laws::{dotted_text_reads_back, text_spells_one_name};
 use dns_scan::Scanner;
 use dns_scan::laws::texts_read_back;
 
@@ -57,6 +59,15 @@ pub fn tokens_scan_as_one_row<S: Scanner>(scanner: &S)
         → ScansData (S.names scanner.now) rtype row tokens left → ScansData (S.names scanner.now) rtype other tokens rest
         → (row ≡ other) × (left ≡ rest) }
 {}
+
+/// The names that `IterScanner` takes are so: each is spelled by the text that it is printed as, and a text is one name at most.
+pub fn iter_scanner_spells_names()
+    ensures printed { SpellPrinted IsNameText }
+    ensures one { SpellOne IsNameText }
+{
+    dotted_text_reads_back();
+    text_spells_one_name();
+}
 
 /// Rows are equal exactly where their order ties them, and rows that are equal are hashed alike.
 pub fn data_equality_order_and_hash_agree()

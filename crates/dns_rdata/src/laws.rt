@@ -11,13 +11,14 @@ ghost use Rattle.dns_rdata.specs.DataTokens.{HasNoEmptyTag, IsAnyData, tokens_of
 
 pub use dns_fields::laws::{
     canonical_order_is_octet_order, composed_data_parses_back, data_equality_order_and_hash_agree,
-    data_is_read_as_one_row, printed_data_scans_back, tokens_scan_as_one_row,
+    data_is_read_as_one_row, iter_scanner_spells_names, printed_data_scans_back,
+    tokens_scan_as_one_row,
 };
 use dns_text::Scanner;
 use dns_text::laws::printed_documents_split;
 
 /// What data of any type is printed as, in fields or as octets that are not looked into (RFC 3597 5), scans back as this data
-/// and as no other.
+/// and as no other. It is the document of a `ZoneRecordData`.
 ///
 /// `written`: it has tokens, unless a tag in it is empty, which is printed as no text. `splits`: under each layout its text, with
 /// a line end behind it, is one row of these tokens, and splits in no other way. `scans`: they are scanned as this data, with
