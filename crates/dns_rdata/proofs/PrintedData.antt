@@ -1,5 +1,5 @@
 -- What data of any type is printed as: rows of a text, and tokens that are scanned as this data alone.
-use Rattle.std.proofs.Common.{◌≡◌, ◌<◌, ◌^◌, ◌==◌, ℕ, Bool, true, false, List, [], ◌∷◌, ◌++◌, length, map, decimal, Option, Some, None, inl, inr, refl, sym, ◌∙◌, ap, subst, arith, append_assoc, append-nil}
+use Rattle.std.proofs.Common.{◌≡◌, ◌<◌, ◌^◌, ◌==◌, ℕ, Bool, true, false, List, [], ◌∷◌, ◌++◌, length, map, decimal, Option, Some, None, inl, refl, sym, ◌∙◌, ap, subst, arith, append_assoc, append-nil}
 use Rattle.std.specs.Prelude.{if◌then◌else◌, ⊤}
 use Rattle.std.specs.List.{AllByRecursion, AllZip}
 use Rattle.dns_label.specs.declared.symbol.Symbol.TheVariants.{SimpleEscape}
@@ -12,7 +12,7 @@ use Rattle.dns_scan.specs.Token.{Token, IsEntry, IsWord, marker}
 use Rattle.dns_scan.specs.UnknownData.{IsUnknownData}
 use Rattle.dns_scan.proofs.Encodings.{encoded_decodes, decodes_one, text_decodes_only}
 use Rattle.dns_text.specs.Document.{Piece}
-use Rattle.dns_text.specs.Document.Piece.{Token as token_piece, Comment, Open, Close, Newline}
+use Rattle.dns_text.specs.Document.Piece.{Token as token_piece, Comment, Close, Newline}
 use Rattle.dns_text.specs.DocumentRows.{HasRows, WritesToken}
 use Rattle.dns_text.specs.DocumentRows.HasRows.{none, token, comment, open', close, newline}
 use Rattle.dns_text.specs.Documents.{word_of}
@@ -21,12 +21,12 @@ use Rattle.dns_fields.specs.Fields.{Field, octets, IsRow}
 use Rattle.dns_fields.specs.Scanned.{ScansData}
 use Rattle.dns_fields.specs.Shown.{comments_of, commented, field_tokens, row_tokens, one_unless_empty}
 use Rattle.dns_fields.specs.SpelledNames.{SpellOne, SpellPrinted}
-use Rattle.dns_fields.proofs.PrintedTexts.{IsSafe, bare_token, word_token, safe_decimal, number_back}
+use Rattle.dns_fields.proofs.PrintedTexts.{bare_token, word_token, safe_decimal, number_back}
 use Rattle.dns_fields.proofs.PrintedRows.{safe_16}
 use Rattle.dns_fields.proofs.PrintedTokens.{IsWritten, bare_written, no_symbols, one_more, number_written, rest_written, collected}
 use Rattle.dns_fields.proofs.ScannedOnce.{left_one, decoded_one}
 use Rattle.dns_fields.proofs.Unmarked.{row_first, unmarked}
-use Rattle.dns_rdata.specs.Data.{Data, typed, untyped, number_of, document_of, IsUnmarked, ScansAnyData}
+use Rattle.dns_rdata.specs.Data.{Data, typed, untyped, number_of, document_of, ScansAnyData}
 use Rattle.dns_rdata.specs.DataTokens.{IsAnyData, HasNoEmptyTag, words_of, tokens_of}
 
 -- There are tokens that are written so.

@@ -3,7 +3,7 @@ use Rattle.std.specs.Prelude.{◌≡◌, ◌<◌, ◌^◌, ⊤, ℕ, List, [], �
 use Rattle.std.specs.List.{AllByRecursion}
 use Rattle.dns_scan.specs.Encodings.{encoded_16}
 use Rattle.dns_scan.specs.StringText.{IsOctet}
-use Rattle.dns_fields.specs.Fields.{Field, tag, octets, IsRow}
+use Rattle.dns_fields.specs.Fields.{tag, octets, IsRow}
 use Rattle.dns_fields.specs.Shown.{row_tokens}
 use Rattle.dns_rdata.specs.Data.{Data, typed, untyped}
 
