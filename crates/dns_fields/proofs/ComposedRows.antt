@@ -11,10 +11,10 @@ use Rattle.dns_name.specs.SpelledParts.{Spells, nothing, octets}
 use Rattle.dns_fields.specs.Fields as fields
 use Rattle.dns_fields.specs.Fields.{Kind, Number8, Number16, Number32, Ipv4, Ipv6, Compressible, Uncompressed, String, Strings, Tag, RestText, Rest16, Rest64}
 use Rattle.dns_fields.specs.Fields.{Field, number8, number16, number32, ipv4, ipv6, compressible, uncompressed, string, strings, tag, rest_text, rest16, rest64, kind_of, kinds_of, field_octets, string_octets, IsField, IsRow, IsData, typed, opaque}
-use Rattle.dns_fields.specs.Reading.{ReadsField, ReadsFields, ReadsRow, IsSoleField, AreSoleFields}
-use Rattle.dns_fields.proofs.ReadFields.{IsFixed, fixed_sole, number8_fixed, number16_fixed, number32_fixed, ipv4_fixed, ipv6_fixed, compressible_sole, uncompressed_sole, name_read}
-use Rattle.dns_fields.proofs.ReadParts.{row_read, nothing_read, sole_row, sole_nothing}
-use Rattle.dns_fields.proofs.ReadStrings.{string_sole, tag_sole, rest_text_sole, rest16_sole, rest64_sole}
+use Rattle.dns_fields.specs.Reading.{ReadsField, ReadsFields, ReadsRow, AreSoleFields}
+use Rattle.dns_fields.proofs.ReadFields.{fixed_sole, number8_fixed, number16_fixed, number32_fixed, ipv4_fixed, ipv6_fixed, compressible_sole, uncompressed_sole, name_opened, name_read}
+use Rattle.dns_fields.proofs.ReadParts.{row_read, split_row, nothing_read, sole_row, sole_nothing}
+use Rattle.dns_fields.proofs.ReadStrings.{all_one, string_sole, tag_sole, rest_text_sole, rest16_sole, rest64_sole}
 use Rattle.dns_fields.proofs.ReadEach.{strings_sole}
 
 module _ (front rest : List ℕ) where
@@ -90,58 +90,58 @@ fits rtype =
     (either (rtype == 15) _ _ tt (either (rtype == 16) _ _ tt (either (rtype == 17) _ _ tt (either (rtype == 28) _ _ tt
     (either (rtype == 33) _ _ tt (either (rtype == 43) _ _ tt (either (rtype == 48) _ _ tt (either (rtype == 257) _ _ tt tt)))))))))))))))))))
 
-module _ (front : List ℕ) where
-  fixed_first : {its : Kind} {size : ℕ} (field : Field) (row : List Field) → IsFixed its size → kind_of field ≡ its → IsField field
-      → IsSoleField (front ++ (field_octets field ++ fields.octets row)) (length front) field (length front + length (field_octets field))
-  fixed_first field row fixed kind is = fixed_sole fixed kind (field_stands front (fields.octets row) field is)
+-- text up to the end of a message is all that is left of it
+all_left : {message text : List ℕ} {place : ℕ} → Spells message place (Octets text End) (length message) → text ≡ drop place message
+all_left {message} {text} {place} spelled = all_one message (drop place message) text place refl spelled
 
-  all_left : (text : List ℕ) → text ≡ drop (length front) (front ++ (text ++ []))
-  all_left text = sym (drop-append_seam front (text ++ []) ∙ append-nil text)
+-- Fields that stand in a message, pointers in names followed, are alone of their kinds where only the last may take all that is left.
+pub sole_fields : (message : List ℕ) (row : List Field) (place : ℕ) → EndWell (map kind_of row) → ReadsFields message place row
+    → AreSoleFields message place row
+sole_fields message [] place well reads = sole_nothing
+sole_fields message (strings each ∷ []) place well reads = strings_sole message each place (all_left reads.spelled)
+sole_fields message (rest_text text ∷ []) place well reads = rest_text_sole message text place (all_left reads.spelled)
+sole_fields message (rest16 text ∷ []) place well reads = rest16_sole message text place (all_left reads.spelled)
+sole_fields message (rest64 text ∷ []) place well reads = rest64_sole message text place (all_left reads.spelled)
+sole_fields message (strings each ∷ (field ∷ row)) place well reads = absurd well
+sole_fields message (rest_text text ∷ (field ∷ row)) place well reads = absurd well
+sole_fields message (rest16 text ∷ (field ∷ row)) place well reads = absurd well
+sole_fields message (rest64 text ∷ (field ∷ row)) place well reads = absurd well
+sole_fields message (number8 n ∷ row) place well reads =
+    let both = split_row reads in
+    sole_row (fixed_sole number8_fixed refl both.first) (sole_fields message row both.middle well both.others)
+sole_fields message (number16 n ∷ row) place well reads =
+    let both = split_row reads in
+    sole_row (fixed_sole number16_fixed refl both.first) (sole_fields message row both.middle well both.others)
+sole_fields message (number32 n ∷ row) place well reads =
+    let both = split_row reads in
+    sole_row (fixed_sole number32_fixed refl both.first) (sole_fields message row both.middle well both.others)
+sole_fields message (ipv4 text ∷ row) place well reads =
+    let both = split_row reads in
+    sole_row (fixed_sole ipv4_fixed refl both.first) (sole_fields message row both.middle well both.others)
+sole_fields message (ipv6 text ∷ row) place well reads =
+    let both = split_row reads in
+    sole_row (fixed_sole ipv6_fixed refl both.first) (sole_fields message row both.middle well both.others)
+sole_fields message (compressible name ∷ row) place well reads =
+    let both = split_row reads in
+    sole_row (compressible_sole (name_opened both.first.spelled)) (sole_fields message row both.middle well both.others)
+sole_fields message (uncompressed name ∷ row) place well reads =
+    let both = split_row reads in
+    sole_row (uncompressed_sole (name_opened both.first.spelled)) (sole_fields message row both.middle well both.others)
+sole_fields message (string text ∷ row) place well reads =
+    let both = split_row reads in
+    sole_row (string_sole both.first.spelled) (sole_fields message row both.middle well both.others)
+sole_fields message (tag text ∷ row) place well reads =
+    let both = split_row reads in
+    sole_row (tag_sole both.first.spelled) (sole_fields message row both.middle well both.others)
 
-on : (front first : List ℕ) (row : List Field) → AreSoleFields ((front ++ first) ++ fields.octets row) (length (front ++ first)) row
-    → AreSoleFields (front ++ (first ++ fields.octets row)) (length front + length first) row
-on front first row = behind (λ message place. AreSoleFields message place row) front first (fields.octets row)
-
--- and it alone
-sole_rows : (front : List ℕ) (row : List Field) → AllByRecursion IsField row → EndWell (map kind_of row)
-    → AreSoleFields (front ++ fields.octets row) (length front) row
-sole_rows front [] each well = sole_nothing
-sole_rows front (strings each' ∷ []) each well =
-    strings_sole (front ++ fields.octets (strings each' ∷ [])) each' (length front) (all_left front (field_octets (strings each')))
-sole_rows front (rest_text text ∷ []) each well = rest_text_sole (front ++ (text ++ [])) text (length front) (all_left front text)
-sole_rows front (rest16 text ∷ []) each well = rest16_sole (front ++ (text ++ [])) text (length front) (all_left front text)
-sole_rows front (rest64 text ∷ []) each well = rest64_sole (front ++ (text ++ [])) text (length front) (all_left front text)
-sole_rows front (strings text ∷ (field ∷ row)) each well = absurd well
-sole_rows front (rest_text text ∷ (field ∷ row)) each well = absurd well
-sole_rows front (rest16 text ∷ (field ∷ row)) each well = absurd well
-sole_rows front (rest64 text ∷ (field ∷ row)) each well = absurd well
-sole_rows front (number8 n ∷ row) each well =
-    sole_row (fixed_first front (number8 n) row number8_fixed refl each.0)
-    (on front (field_octets (number8 n)) row (sole_rows (front ++ field_octets (number8 n)) row each.1 well))
-sole_rows front (number16 n ∷ row) each well =
-    sole_row (fixed_first front (number16 n) row number16_fixed refl each.0)
-    (on front (field_octets (number16 n)) row (sole_rows (front ++ field_octets (number16 n)) row each.1 well))
-sole_rows front (number32 n ∷ row) each well =
-    sole_row (fixed_first front (number32 n) row number32_fixed refl each.0)
-    (on front (field_octets (number32 n)) row (sole_rows (front ++ field_octets (number32 n)) row each.1 well))
-sole_rows front (ipv4 text ∷ row) each well =
-    sole_row (fixed_first front (ipv4 text) row ipv4_fixed refl each.0)
-    (on front (field_octets (ipv4 text)) row (sole_rows (front ++ field_octets (ipv4 text)) row each.1 well))
-sole_rows front (ipv6 text ∷ row) each well =
-    sole_row (fixed_first front (ipv6 text) row ipv6_fixed refl each.0)
-    (on front (field_octets (ipv6 text)) row (sole_rows (front ++ field_octets (ipv6 text)) row each.1 well))
-sole_rows front (compressible name ∷ row) each well =
-    sole_row (compressible_sole (name_stands front (fields.octets row) name each.0))
-    (on front (wire name) row (sole_rows (front ++ wire name) row each.1 well))
-sole_rows front (uncompressed name ∷ row) each well =
-    sole_row (uncompressed_sole (name_stands front (fields.octets row) name each.0))
-    (on front (wire name) row (sole_rows (front ++ wire name) row each.1 well))
-sole_rows front (string text ∷ row) each well =
-    sole_row (string_sole (octets_stand front (fields.octets row) (string_octets text)))
-    (on front (string_octets text) row (sole_rows (front ++ string_octets text) row each.1 well))
-sole_rows front (tag text ∷ row) each well =
-    sole_row (tag_sole (octets_stand front (fields.octets row) (string_octets text)))
-    (on front (string_octets text) row (sole_rows (front ++ string_octets text) row each.1 well))
+-- Data of a type stands at a place of a message as one row.
+pub row_read_once : (rtype : ℕ) (message : List ℕ) (place : ℕ) (row other : List Field) → ReadsRow rtype message place row
+    → ReadsRow rtype message place other → row ≡ other
+row_read_once rtype message place row other reads also =
+    let kinds : Some (map kind_of row) ≡ Some (map kind_of other) = sym reads.is_row.kinds ∙ also.is_row.kinds in
+    let same : map kind_of row ≡ map kind_of other = cc in
+    (sole_fields message other place (subst Fit also.is_row.kinds (fits rtype)) (record { each = also.is_row.each; spelled = also.spelled })).sole row same
+    (record { each = reads.is_row.each; spelled = reads.spelled })
 
 pub row_parses : (rtype : ℕ) (front : List ℕ) (row : List Field) → IsRow rtype row → ReadsRow rtype (front ++ fields.octets row) (length front) row
 row_parses rtype front row is = record { is_row = is; spelled = (row_stands front row is.each).spelled }
@@ -149,10 +149,7 @@ row_parses rtype front row is = record { is_row = is; spelled = (row_stands fron
 pub row_parses_only : (rtype : ℕ) (front : List ℕ) (row other : List Field) → IsRow rtype row
     → ReadsRow rtype (front ++ fields.octets row) (length front) other → other ≡ row
 row_parses_only rtype front row other is reads =
-    let kinds : Some (map kind_of other) ≡ Some (map kind_of row) = sym reads.is_row.kinds ∙ is.kinds in
-    let same : map kind_of other ≡ map kind_of row = cc in
-    (sole_rows front row is.each (subst Fit is.kinds (fits rtype))).sole other same
-    (record { each = reads.is_row.each; spelled = reads.spelled })
+    row_read_once rtype (front ++ fields.octets row) (length front) other row reads (row_parses rtype front row is)
 
 pub data_parses : (rtype : ℕ) (front data' : List ℕ) (kinds : List Kind) → kinds_of rtype ≡ Some kinds → IsData rtype data'
     → (row : List Field) × ReadsRow rtype (front ++ data') (length front) row × (fields.octets row ≡ data')

@@ -15,7 +15,9 @@ pub mod StringsOf
 pub mod TextStrings
 pub mod ReadEach
 pub mod CutFields
-mod ComposedRows
-mod PrintedTexts
-mod PrintedRows
-mod PrintedTokens
+pub mod ComposedRows
+pub mod PrintedTexts
+pub mod PrintedRows
+pub mod PrintedTokens
+pub mod ScannedOnce
+pub mod Unmarked

@@ -25,21 +25,21 @@ use Rattle.dns_fields.proofs.PrintedTexts.{IsSafe, safe_decimal, safe_dotted, sa
 use Rattle.dns_fields.proofs.PrintedRows.{escaped_in_words, each_split, wire_octets, safe_16, safe_64}
 
 -- a token is written so
-record IsWritten (text : List ℕ) : Type 0 where
-  token : Token
-  writes : WritesToken token text
+pub record IsWritten (text : List ℕ) : Type 0 where
+  pub token : Token
+  pub writes : WritesToken token text
 
-bare_written : (text : List ℕ) → AreSymbols false text → 0 < length text → IsWritten text
+pub bare_written : (text : List ℕ) → AreSymbols false text → 0 < length text → IsWritten text
 bare_written text are some = record { token = _; writes = bare are some }
 
 between_written : (text : List ℕ) → AreSymbols true text → IsWritten (34 ∷ text ++ 34 ∷ [])
 between_written text are = record { token = _; writes = between are }
 
 -- symbols one behind the other
-no_symbols : {quoted : Bool} → AreSymbols quoted []
+pub no_symbols : {quoted : Bool} → AreSymbols quoted []
 no_symbols = record { symbols = []; each = tt; written = refl }
 
-one_more : {quoted : Bool} {rest : List ℕ} (symbol : Symbol) → IsIn quoted symbol → AreSymbols quoted rest → AreSymbols quoted (spelled symbol ++ rest)
+pub one_more : {quoted : Bool} {rest : List ℕ} (symbol : Symbol) → IsIn quoted symbol → AreSymbols quoted rest → AreSymbols quoted (spelled symbol ++ rest)
 one_more symbol is are = record {
   symbols = symbol ∷ are.symbols;
   each = (is, are.each);
@@ -179,11 +179,11 @@ strings_written (text ∷ texts) small =
     let both = each_split IsOctet (string_octets text) (flat_map string_octets texts) small in
     (quoted_written text both.0.1, strings_written texts both.1)
 
-rest_written : (text : List ℕ) → AllByRecursion IsSafe text → AllByRecursion IsWritten (one_unless_empty text)
+pub rest_written : (text : List ℕ) → AllByRecursion IsSafe text → AllByRecursion IsWritten (one_unless_empty text)
 rest_written [] each = tt
 rest_written (c ∷ text) each = (safe_written (c ∷ text) each (omega arith), tt)
 
-number_written : (n : ℕ) → n < 2 ^ 64 → IsWritten (decimal n)
+pub number_written : (n : ℕ) → n < 2 ^ 64 → IsWritten (decimal n)
 number_written n wide = safe_written (decimal n) (safe_decimal n wide) (decimal_nonempty n wide)
 
 field_written : (field : Field) → IsField field → (field ≡ tag [] → ⊥) → AllByRecursion IsOctet (field_octets field)
@@ -222,7 +222,7 @@ row_written (field ∷ row) each some small =
     let both = each_split IsOctet (field_octets field) (octets row) small in
     all_written (field_tokens field) (row_tokens row) (field_written field each.0 some.0 both.0) (row_written row each.1 some.1 both.1)
 
-collected : (texts : List (List ℕ)) → AllByRecursion IsWritten texts → (tokens : List Token) × AllZip WritesToken tokens texts
+pub collected : (texts : List (List ℕ)) → AllByRecursion IsWritten texts → (tokens : List Token) × AllZip WritesToken tokens texts
 collected [] each = ([], tt)
 collected (text ∷ texts) each = let others = collected texts each.1 in (each.0.token ∷ others.0, (each.0.writes, others.1))
 

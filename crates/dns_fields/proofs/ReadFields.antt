@@ -1,6 +1,6 @@
 -- A field of a kind that stands at a place, and that it alone does.
-use Rattle.std.proofs.Common.{◌≡◌, ◌+◌, ◌-◌, ◌≤◌, ◌<◌, ◌^◌, ℕ, w16, w32, List, [], ◌∷◌, ◌++◌, length, take, drop, refl, sym, ◌∙◌, ap, subst, arith, length-drop, length-append, length-take}
-use Rattle.std.specs.Int.{to_be_bytes, from_be_bytes}
+use Rattle.std.proofs.Common.{◌≡◌, ◌+◌, ◌≤◌, ◌<◌, ℕ, w16, w32, List, ◌++◌, length, take, drop, refl, sym, ◌∙◌, ap, subst, arith, length-drop, length-append, length-take}
+use Rattle.std.specs.Int.{from_be_bytes}
 use Rattle.std.proofs.lemmas.List.{take-append-drop}
 use Rattle.std.proofs.lemmas.Nat.{from_be_bytes-to_be_bytes_2, from_be_bytes-to_be_bytes_4}
 use Rattle.dns_label.specs.Spelled.{Reads}
@@ -124,7 +124,7 @@ ipv6_fixed = record {
 }
 
 -- names
-name_opened : {message : List ℕ} {place next : ℕ} {name : List (List ℕ)} → Spells message place (Named name End) next → Reads message place name next
+pub name_opened : {message : List ℕ} {place next : ℕ} {name : List (List ℕ)} → Spells message place (Named name End) next → Reads message place name next
 name_opened (named behind reads (nothing fits)) = reads
 
 pub name_read : {message : List ℕ} {place next : ℕ} {name : List (List ℕ)} → Reads message place name next → next ≤ length message

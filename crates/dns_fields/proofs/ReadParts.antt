@@ -1,13 +1,12 @@
 -- What a message spells, taken apart and put together field by field.
-use Rattle.std.proofs.Common.{◌≡◌, ◌+◌, ◌-◌, ◌≤◌, ◌<◌, ℕ, List, [], ◌∷◌, ◌++◌, length, drop, map, refl, sym, ◌∙◌, ap, subst, arith, length-drop, length-append}
+use Rattle.std.proofs.Common.{◌≡◌, ◌+◌, ◌≤◌, ◌<◌, ℕ, List, [], ◌∷◌, length, drop, map, refl, sym, ap, subst, arith, length-drop}
 use Rattle.std.specs.Prelude.{Result, Ok, Err, OnErr}
-use Rattle.std.specs.List.{AllByRecursion}
 use Rattle.dns_label.specs.Spelled as names
 use Rattle.dns_name.specs.Page.{Parts}
-use Rattle.dns_name.specs.Page.Parts.{End, Octets, Named, Counted}
+use Rattle.dns_name.specs.Page.Parts.{End, Octets, Named}
 use Rattle.dns_name.specs.SpelledParts.{Spells, nothing, octets, named, counted}
 use Rattle.dns_fields.specs.Fields.{Kind, Field, number8, number16, number32, ipv4, ipv6, compressible, uncompressed, string, strings, tag, rest_text, rest16, rest64, kind_of, field_octets}
-use Rattle.dns_fields.specs.Reading.{read_field, read_parts, ReadsField, ReadsFields, IsSoleField, AreSoleFields, NoField, NoFields}
+use Rattle.dns_fields.specs.Reading.{read_field, ReadsField, ReadsFields, IsSoleField, AreSoleFields, NoField, NoFields}
 
 -- octets in front of a list are a place in front of its end
 pub some_left : (message : List ℕ) (place : ℕ) {first : ℕ} {rest : List ℕ} → drop place message ≡ first ∷ rest → place < length message
@@ -99,12 +98,13 @@ row_read {field = field} first others = record {
   spelled = join field first.spelled others.spelled;
 }
 
-record SplitRow (message : List ℕ) (place : ℕ) (field : Field) (row : List Field) : Type 0 where
-  middle : ℕ
-  first : ReadsField message place field middle
-  others : ReadsFields message middle row
+-- and taken apart so
+pub record SplitRow (message : List ℕ) (place : ℕ) (field : Field) (row : List Field) : Type 0 where
+  pub middle : ℕ
+  pub first : ReadsField message place field middle
+  pub others : ReadsFields message middle row
 
-split_row : {message : List ℕ} {place : ℕ} {field : Field} {row : List Field} → ReadsFields message place (field ∷ row)
+pub split_row : {message : List ℕ} {place : ℕ} {field : Field} {row : List Field} → ReadsFields message place (field ∷ row)
     → SplitRow message place field row
 split_row {field = field} reads =
     let both = split field reads.spelled in

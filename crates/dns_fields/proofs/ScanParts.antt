@@ -1,12 +1,12 @@
 -- A row's tokens, taken apart and put together field by field.
-use Rattle.std.proofs.Common.{◌≡◌, ℕ, List, [], ◌∷◌, ◌++◌, drop, map, refl, sym, ◌∙◌, ap, subst, append_assoc, append-nil}
+use Rattle.std.proofs.Common.{◌≡◌, ℕ, List, [], ◌∷◌, ◌++◌, drop, refl, sym, ◌∙◌, ap, subst, append_assoc, append-nil}
 use Rattle.dns_scan.specs.Token.{Token, IsEnding, SameNames}
 use Rattle.dns_fields.specs.Fields.{Kind, Number8, Number16, Number32, Ipv4, Ipv6, Compressible, Uncompressed, String, Strings, Tag, RestText, Rest16, Rest64}
 use Rattle.dns_fields.specs.Fields.{Field, number8, number16, number32, ipv4, ipv6, compressible, uncompressed, string, strings, tag, rest_text, rest16, rest64, kind_of}
 use Rattle.dns_fields.specs.Scanned.{ScansField, ScansRow, NoFieldScans, NoRowScans}
 
 -- what is left behind a field of the kind
-abbrev left_behind : Kind → List Token → List Token
+abbrev pub left_behind : Kind → List Token → List Token
 left_behind Number8 tokens = drop 1 tokens
 left_behind Number16 tokens = drop 1 tokens
 left_behind Number32 tokens = drop 1 tokens
@@ -24,7 +24,7 @@ left_behind Rest64 tokens = []
 taken : {tokens left : List Token} {token : Token} → tokens ≡ token ∷ left → left ≡ drop 1 tokens
 taken is = sym (ap (drop {A = Token} 1) is)
 
-leaves : (names : List ℕ → List (List ℕ) → Type 0) (field : Field) (tokens left : List Token) → ScansField names field tokens left
+pub leaves : (names : List ℕ → List (List ℕ) → Type 0) (field : Field) (tokens left : List Token) → ScansField names field tokens left
     → left ≡ left_behind (kind_of field) tokens
 leaves names (number8 n) tokens left scans = taken scans.takes.is
 leaves names (number16 n) tokens left scans = taken scans.takes.is

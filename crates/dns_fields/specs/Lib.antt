@@ -6,6 +6,7 @@ pub mod Last
 pub mod Written
 pub mod Reading
 pub mod Scanned
+pub mod SpelledNames
 pub mod Shown
 pub mod Strings
 pub mod Held

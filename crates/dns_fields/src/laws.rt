@@ -3,9 +3,7 @@ ghost use Rattle.std.specs.Prelude.{◌≡◌, ◌++◌, [], Some, ℕ, List, Is
 ghost use Rattle.std.specs.Cmp.Lexicographic.{slice_cmp};
 ghost use Rattle.std.specs.List.{AllByRecursion, AllZip};
 ghost use Rattle.std.specs.Ordering.{is_eq, nat_cmp};
-ghost use Rattle.dns_label.specs.Name.{IsName};
-ghost use Rattle.dns_label.specs.Printed.{printed_name};
-ghost use Rattle.dns_name.specs.PrintedLabels.{AreOctets};
+ghost use Rattle.dns_label.specs.NameText.{IsNameText};
 ghost use Rattle.dns_scan.specs.StringText.{IsOctet};
 ghost use Rattle.dns_scan.specs.Token.{Token};
 ghost use Rattle.dns_text.specs.DocumentRows.{WritesToken};
@@ -14,7 +12,9 @@ ghost use Rattle.dns_fields.specs.Fields.{Kind, Field, tag, octets, canonical_oc
 ghost use Rattle.dns_fields.specs.Reading.{ReadsRow};
 ghost use Rattle.dns_fields.specs.Scanned.{ScansData};
 ghost use Rattle.dns_fields.specs.Shown.{row_tokens};
+ghost use Rattle.dns_fields.specs.SpelledNames.{SpellOne, SpellPrinted};
 
+use dns_name::laws::{dotted_text_reads_back, text_spells_one_name};
 use dns_scan::Scanner;
 use dns_scan::laws::texts_read_back;
 
@@ -28,18 +28,45 @@ pub fn composed_data_parses_back()
         → (row : List Field) × ReadsRow rtype (front ++ all) (length front) row × (octets row ≡ all) }
 {}
 
+/// Data of a type stands at a place of a message in one way, pointers in its names followed: it is read as one row.
+pub fn data_is_read_as_one_row()
+    ensures { (rtype : ℕ) (message : List ℕ) (place : ℕ) (row other : List Field) → ReadsRow rtype message place row
+        → ReadsRow rtype message place other → row ≡ other }
+{}
+
 /// The tokens whose texts a row of a type is printed as are scanned as this row, with none left, where a name is spelled for
-/// the scanner by the text that it is printed as (RFC 1035 5.1). There are such tokens unless the row has an empty tag, which is
-/// printed as no text.
+/// the scanner by the text that it is printed as (RFC 1035 5.1); and as no other row of the type, nor with tokens left, where a
+/// text is one name at most. There are such tokens unless the row has an empty tag, which is printed as no text.
 pub fn printed_data_scans_back<S: Scanner>(scanner: &S)
     ensures written { (rtype : ℕ) (row : List Field) → IsRow rtype row → AllByRecursion IsOctet (octets row)
         → AllByRecursion (λ field. field ≡ tag [] → ⊥) row → (tokens : List Token) × AllZip WritesToken tokens (row_tokens row) }
     ensures scans { (rtype : ℕ) (row : List Field) (tokens : List Token) → IsRow rtype row
         → AllByRecursion IsOctet (octets row)
-        → ((name : List (List ℕ)) → IsName name → AllByRecursion AreOctets name → S.names scanner.now (printed_name name) name)
+        → SpellPrinted (S.names scanner.now)
         → AllZip WritesToken tokens (row_tokens row) → ScansData (S.names scanner.now) rtype row tokens [] }
+    ensures alone { (rtype : ℕ) (row other : List Field) (tokens left : List Token) → IsRow rtype row
+        → AllByRecursion IsOctet (octets row) → SpellPrinted (S.names scanner.now) → SpellOne (S.names scanner.now)
+        → AllZip WritesToken tokens (row_tokens row) → ScansData (S.names scanner.now) rtype other tokens left
+        → (other ≡ row) × (left ≡ []) }
 {
     texts_read_back();
+}
+
+/// Tokens begin with data of a type in one way, where a text is one name at most to the scanner: as one row, with the same tokens
+/// left.
+pub fn tokens_scan_as_one_row<S: Scanner>(scanner: &S)
+    ensures { (rtype : ℕ) (row other : List Field) (tokens left rest : List Token) → SpellOne (S.names scanner.now)
+        → ScansData (S.names scanner.now) rtype row tokens left → ScansData (S.names scanner.now) rtype other tokens rest
+        → (row ≡ other) × (left ≡ rest) }
+{}
+
+/// The names that `IterScanner` takes are so: each is spelled by the text that it is printed as, and a text is one name at most.
+pub fn iter_scanner_spells_names()
+    ensures printed { SpellPrinted IsNameText }
+    ensures one { SpellOne IsNameText }
+{
+    dotted_text_reads_back();
+    text_spells_one_name();
 }
 
 /// Rows are equal exactly where their order ties them, and rows that are equal are hashed alike.

@@ -1,5 +1,4 @@
 pub mod Written
 pub mod WrittenRecords
 pub mod Opened
-pub mod ReadRows
 pub mod ReadRecords

@@ -1,5 +1,5 @@
 -- What is spelled, by what its first part is.
-use Rattle.std.proofs.Common.{◌≡◌, ℕ, ◌+◌, ◌<◌, ◌^◌, List, ◌++◌, length, take, drop, refl}
+use Rattle.std.proofs.Common.{◌≡◌, ℕ, ◌+◌, ◌<◌, ◌≤◌, ◌^◌, List, ◌++◌, length, take, drop, refl}
 use Rattle.std.specs.Int.{to_be_bytes, w16}
 use Rattle.dns_label.specs.Spelled.{Reads}
 use Rattle.dns_name.specs.SpelledParts.{Spells}
@@ -25,6 +25,7 @@ pub record BeginsCounted (message : List ℕ) (place : ℕ) (inner parts : Parts
   pub rest : List ℕ
   pub at : drop place message ≡ to_be_bytes w16 count ++ rest
   pub small : count < 2 ^ 16
+  pub within : place + 2 + count ≤ length message
   pub held : Spells (take (place + 2 + count) message) (place + 2) inner (place + 2 + count)
   pub behind : Spells message (place + 2 + count) parts next
 
@@ -43,6 +44,7 @@ opened (counted count rest at small within held behind) = record {
   rest = rest;
   at = at;
   small = small;
+  within = within;
   held = held;
   behind = behind;
 }

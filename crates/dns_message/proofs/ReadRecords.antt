@@ -2,16 +2,16 @@
 use Rattle.std.proofs.Common.{◌≡◌, ℕ, ◌+◌, List, ◌++◌, length, take, map, refl, sym, ap, ◌∙◌, subst, arith, Some, None}
 use Rattle.std.specs.Int.{to_be_bytes, w16, w32}
 use Rattle.dns_label.proofs.Spelling.{reads_one}
-use Rattle.dns_rdata.specs.Fields.{kind_of, kinds_of}
+use Rattle.dns_rdata.specs.Fields.{Field, kind_of, kinds_of, octets, IsRow}
+use Rattle.std.proofs.lemmas.List.{length-take-le}
+use Rattle.dns_rdata.proofs.ComposedRows.{row_read_once}
 use Rattle.dns_rdata.proofs.Fronts.{same_fronts, same_number16, same_number32}
-use Rattle.dns_rdata.proofs.Delimited.{kinds_delimited}
 use Rattle.dns_name.specs.SpelledParts.{Spells}
 use Rattle.dns_name.specs.Page.{Parts}
 use Rattle.dns_name.specs.Page.Parts.{End, Octets, Counted}
 use Rattle.dns_message.specs.Record.{Record, IsRecord, IsRead, read_parts, record_parts}
 use Rattle.dns_message.specs.Record.IsRead.{typed, opaque}
 use Rattle.dns_message.proofs.Opened.{opened}
-use Rattle.dns_message.proofs.ReadRows.{rows_one}
 
 -- the type, class and time to live of a record
 abbrev numbers : Record → List ℕ
@@ -29,6 +29,7 @@ record SameHead (r other : Record) (parts parts' : Parts) (next next' : ℕ) : T
   end : ℕ
   held : Spells message place parts end
   held' : Spells message place parts' end
+  whole : end ≡ length message
 
 record SameNumbers (r other : Record) : Type 0 where
   rtype : r.rtype ≡ other.rtype
@@ -74,6 +75,7 @@ heads_one {message} {place} {next} {next'} r other parts parts' good good' spell
       end = named.end + 8 + 2 + counted.count;
       held = counted.held;
       held' = subst Q counts counted'.held;
+      whole = sym (length-take-le (named.end + 8 + 2 + counted.count) message counted.within);
     }
 
 -- opaque data at one place
@@ -98,10 +100,11 @@ pub record_one : {message : List ℕ} {place next next' : ℕ} {parts parts' : P
     → (r ≡ other) × (next ≡ next')
 record_one r other good good' (typed row is_row octets_are) (typed row' is_row' octets_are') spelled spelled' =
     let heads = heads_one r other (read_parts row) (read_parts row') good good' spelled spelled' in
-    let some : Some (map kind_of row) ≡ Some (map kind_of row') = sym is_row.kinds ∙ ap kinds_of heads.rtype ∙ is_row'.kinds in
-    let kinds : map kind_of row ≡ map kind_of row' = cc some in
-    let one = rows_one heads.message row row' heads.place heads.end kinds is_row.each is_row'.each (kinds_delimited r.rtype (map kind_of row) is_row.kinds) heads.held heads.held' in
-    (same_record r other heads.owner heads.rtype heads.class heads.ttl (octets_are ∙ one ∙ sym octets_are'), heads.ends)
+    let P : List Field → ℕ → Type 0 = λ fields end. Spells heads.message heads.place (read_parts fields) end in
+    let one = row_read_once r.rtype heads.message heads.place row row'
+    (record { is_row = is_row; spelled = subst (P row) heads.whole heads.held })
+    (record { is_row = subst (λ n. IsRow n row') (sym heads.rtype) is_row'; spelled = subst (P row') heads.whole heads.held' }) in
+    (same_record r other heads.owner heads.rtype heads.class heads.ttl (octets_are ∙ ap octets one ∙ sym octets_are'), heads.ends)
 record_one r other good good' (typed row is_row octets_are) (opaque none) spelled spelled' =
     let heads = heads_one r other (read_parts row) (Octets other.rdata End) good good' spelled spelled' in
     let no : Some (map kind_of row) ≡ None = sym is_row.kinds ∙ ap kinds_of heads.rtype ∙ none in absurd cc

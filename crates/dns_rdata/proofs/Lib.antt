@@ -1,3 +1,4 @@
-pub mod Delimited
+pub use Rattle.dns_fields.proofs.ComposedRows
 pub mod Fronts
 pub mod ScanAny
+mod PrintedData

@@ -5,6 +5,7 @@ pub use Rattle.dns_fields.specs.Reading
 pub use Rattle.dns_fields.specs.Scanned
 pub use Rattle.dns_fields.specs.Shown
 pub mod Data
+pub mod DataTokens
 pub mod DataLaws
 pub mod Printed
 pub mod Tried
