@@ -15,7 +15,9 @@ pub mod StringsOf
 pub mod TextStrings
 pub mod ReadEach
 pub mod CutFields
+mod LongRows
 mod ComposedRows
+pub mod DataDocuments
 mod PrintedTexts
 mod PrintedRows
 mod PrintedTokens

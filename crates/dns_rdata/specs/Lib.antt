@@ -6,6 +6,5 @@ pub use Rattle.dns_fields.specs.Scanned
 pub use Rattle.dns_fields.specs.Shown
 pub mod Data
 pub mod DataLaws
-pub mod Printed
 pub mod Tried
 pub mod ZoneData
