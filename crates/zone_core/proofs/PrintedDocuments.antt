@@ -1,11 +1,9 @@
 -- The documents of A and SOA records.
 use Rattle.std.proofs.Common.{◌≡◌, ℕ, List, [], ◌∷◌, sym, ◌∙◌, ap, subst, append-nil}
 use Rattle.dns_text.specs.Document.{Piece}
-use Rattle.dns_text.specs.Documents.{block_of}
 use Rattle.dns_header.specs.Shown.{record_document}
 use Rattle.dns_rdata.specs.Fields.{Field, IsRow, octets}
 use Rattle.dns_rdata.specs.Fields.Field.{ipv4}
-use Rattle.dns_rdata.specs.Shown.{data_pieces}
 use Rattle.dns_message.specs.Printed.{IsDocument}
 use Rattle.zone_core.specs.Record.{Record}
 use Rattle.zone_core.specs.Printing.{soa_row}
