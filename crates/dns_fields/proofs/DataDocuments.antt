@@ -1,6 +1,6 @@
 -- Data of a type that has fields has one document.
 use Rattle.std.proofs.Common.{◌≡◌, ℕ, List, refl, sym, ◌∙◌, ap}
-use Rattle.std.specs.Prelude.{Option, Some, None}
+use Rattle.std.specs.Prelude.{Some, None}
 use Rattle.dns_text.specs.Document.{Piece}
 use Rattle.dns_text.specs.Documents.{block_of}
 use Rattle.dns_fields.specs.Fields.{Kind, kinds_of, IsData, typed, opaque}

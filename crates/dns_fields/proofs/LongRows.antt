@@ -1,7 +1,7 @@
 -- A row of at most 65,535 octets is no long one.
-use Rattle.std.proofs.Common.{◌≡◌, ◌<◌, ◌^◌, ◌↔◌, ℕ, List, length, map, sym, ◌∙◌, ap, subst, arith}
+use Rattle.std.proofs.Common.{◌≡◌, ◌<◌, ◌^◌, ◌↔◌, ℕ, List, length, map, sym, ◌∙◌, ap, arith}
 use Rattle.std.specs.Prelude.{Some, Ok, IsErrOf}
-use Rattle.dns_fields.specs.Fields.{Kind, Field, kind_of, kinds_of, octets}
+use Rattle.dns_fields.specs.Fields.{Field, kind_of, kinds_of, octets}
 use Rattle.dns_fields.specs.Reading.{AreSoleFields, IsLongRow}
 
 short_row : {rtype : ℕ} {message : List ℕ} {place : ℕ} (row : List Field) → kinds_of rtype ≡ Some (map kind_of row)

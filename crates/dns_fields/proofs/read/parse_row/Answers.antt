@@ -1,4 +1,4 @@
-use Rattle.std.proofs.Common.{◌≡◌, ◌<◌, ◌^◌, length, sym, ◌∙◌, ap, rules}
+use Rattle.std.proofs.Common.{◌<◌, ◌^◌, length, sym, ◌∙◌, ap, rules}
 use Rattle.std.specs.Prelude.{Some}
 use Rattle.dns_fields.specs.Fields.{octets}
 use Rattle.dns_fields.proofs.LongRows.{row_read}
