@@ -156,3 +156,9 @@ pub data_parses : (rtype : ℕ) (front data' : List ℕ) (kinds : List Kind) →
 data_parses rtype front data' kinds has (typed row is same) =
     (row, subst (λ d. ReadsRow rtype (front ++ d) (length front) row) (sym same) (row_parses rtype front row is), sym same)
 data_parses rtype front data' kinds has (opaque none short) = absurd (let both : None ≡ Some kinds = sym none ∙ has in cc)
+
+-- rows of a type that take the same octets are one
+pub same_octets : (rtype : ℕ) (row other : List Field) → IsRow rtype row → IsRow rtype other → fields.octets row ≡ fields.octets other
+    → other ≡ row
+same_octets rtype row other is is' same =
+    row_parses_only rtype [] row other is (subst (λ l. ReadsRow rtype l 0 other) (sym same) (row_parses rtype [] other is'))

@@ -15,7 +15,9 @@ pub mod StringsOf
 pub mod TextStrings
 pub mod ReadEach
 pub mod CutFields
+mod LongRows
 pub mod ComposedRows
+pub mod DataDocuments
 pub mod PrintedTexts
 pub mod PrintedRows
 pub mod PrintedTokens

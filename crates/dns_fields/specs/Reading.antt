@@ -1,11 +1,11 @@
 -- Data as a reader takes it out of a message: fields one behind another, up to where the octets end (RFC 1035 3.2.1).
-use Rattle.std.specs.Prelude.{◌≡◌, ◌⊎◌, ℕ, List, [], ◌∷◌, length, map, IsSomeAnd}
+use Rattle.std.specs.Prelude.{◌≡◌, ◌≤◌, ◌^◌, ◌⊎◌, ℕ, List, [], ◌∷◌, length, map, Some, IsSomeAnd}
 use Rattle.std.specs.List.{AllByRecursion}
 use Rattle.dns_name.specs.Cut.{IsCut}
 use Rattle.dns_name.specs.Page.{Parts}
 use Rattle.dns_name.specs.Page.Parts.{End, Octets, Named}
 use Rattle.dns_name.specs.SpelledParts.{Spells}
-use Rattle.dns_fields.specs.Fields.{Kind, Compressible, Uncompressed, Strings, Field, compressible, uncompressed, kind_of, kinds_of, field_octets, IsField, IsRow}
+use Rattle.dns_fields.specs.Fields.{Kind, Compressible, Uncompressed, Strings, Field, compressible, uncompressed, kind_of, kinds_of, field_octets, octets, IsField, IsRow}
 
 -- a field in front of parts: any name may have a pointer (RFC 3597 4 asks readers for that)
 abbrev pub read_field : Field → Parts → Parts
@@ -71,3 +71,11 @@ AreCutFields message place (kind ∷ kinds) =
 -- for data of the type
 abbrev pub IsCutRow : ℕ → List ℕ → ℕ → Type 0
 IsCutRow rtype message place = IsSomeAnd (kinds_of rtype) (AreCutFields message place)
+
+-- What stands from the place on would be data of the type, if it had not more than 65,535 octets with its names in full (RFC 1035
+-- 3.2.1): with pointers the octets themselves may be few.
+pub record IsLongRow (rtype : ℕ) (message : List ℕ) (place : ℕ) : Type 0 where
+  pub row : List Field
+  pub kinds : kinds_of rtype ≡ Some (map kind_of row)
+  pub reads : ReadsFields message place row
+  pub long : 2 ^ 16 ≤ length (octets row)

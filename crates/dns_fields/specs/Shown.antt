@@ -1,5 +1,5 @@
 -- How data is printed: a block with its fields' texts.
-use Rattle.std.specs.Prelude.{◌==◌, ℕ, List, [], ◌∷◌, ◌++◌, Option, Some, None, codes, decimal, map, if◌then◌else◌}
+use Rattle.std.specs.Prelude.{◌≡◌, ◌==◌, ℕ, List, [], ◌∷◌, ◌++◌, Option, Some, None, codes, decimal, map, if◌then◌else◌}
 use Rattle.std.specs.List.{flat_map}
 use Rattle.std.specs.Net.Text.{ipv4_text, hex_groups_text}
 use Rattle.std.specs.Net.Addr.{segments_of}
@@ -7,8 +7,9 @@ use Rattle.dns_label.specs.Printed.{printed_name}
 use Rattle.dns_scan.specs.Encodings.{encoded_16, encoded_64}
 use Rattle.dns_scan.specs.StringText.{quoted_text, unquoted_text}
 use Rattle.dns_text.specs.Document.{Piece}
-use Rattle.dns_text.specs.Document.Piece.{Token, Comment, Open, Close}
-use Rattle.dns_fields.specs.Fields.{Field, number8, number16, number32, ipv4, ipv6, compressible, uncompressed, string, strings, tag, rest_text, rest16, rest64}
+use Rattle.dns_text.specs.Document.Piece.{Token, Comment}
+use Rattle.dns_text.specs.Documents.{block_of}
+use Rattle.dns_fields.specs.Fields.{Field, number8, number16, number32, ipv4, ipv6, compressible, uncompressed, string, strings, tag, rest_text, rest16, rest64, octets, IsRow}
 
 -- one token, or none where it would be empty
 abbrev pub one_unless_empty : List ℕ → List (List ℕ)
@@ -61,3 +62,10 @@ commented (Some comment ∷ comments) (field ∷ row) = field_pieces field ++ Co
 -- the pieces of a type's data
 abbrev pub data_pieces : ℕ → List Field → List Piece
 data_pieces rtype row = commented (comments_of rtype) row
+
+-- data of a type that has fields, and its document: a block with the pieces of its row
+pub record IsDataDocument (rtype : ℕ) (data' : List ℕ) (document : List Piece) : Type 0 where
+  pub row : List Field
+  pub is_row : IsRow rtype row
+  pub octets_are : data' ≡ octets row
+  pub is : document ≡ block_of (data_pieces rtype row)

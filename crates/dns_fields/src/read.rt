@@ -3,8 +3,8 @@ ghost use Rattle.std.specs.Prelude.{◌≡◌, ◌<◌, ◌≤◌, ◌↔◌, �
 ghost use Rattle.dns_octets.specs.Parser.{octets_of, place_of};
 ghost use Rattle.dns_name.specs.RecordData.{IsAtEnd};
 ghost use Rattle.dns_fields.specs.Fields.{kinds_of};
-ghost use Rattle.dns_fields.specs.Reading.{ReadsField, ReadsFields, ReadsRow, IsSoleField, AreSoleFields, NoField, NoFields, NoRow, IsCutField, AreCutFields, IsCutRow};
-ghost use Rattle.dns_fields.specs.declared.read.error.ReadError.TheVariants.{ShortInput};
+ghost use Rattle.dns_fields.specs.Reading.{ReadsField, ReadsFields, ReadsRow, IsSoleField, AreSoleFields, NoField, NoFields, NoRow, IsCutField, AreCutFields, IsCutRow, IsLongRow};
+ghost use Rattle.dns_fields.specs.declared.read.error.ReadError.TheVariants.{ShortInput, LongRecordData};
 
 mod error;
 mod leaves;
@@ -17,7 +17,8 @@ pub use error::ReadError;
 /// A field that is read from a message.
 pub trait ReadField<'a>: FieldValue + Sized + Drop {
     /// Reads the field at the parser's place, and leaves the parser behind it. Refused where no such field stands there:
-    /// with `ShortInput` exactly where the octets end too early for it. The parser then stays where it is.
+    /// with `ShortInput` exactly where the octets end too early for it, and never with `LongRecordData`. The parser then stays
+    /// where it is.
     fn read_field(parser: &mut Parser<'a>) -> Result<Self, ReadError>
         ensures ok { IfOk result (λ value. ReadsField (octets_of parser.old) (place_of parser.old) (Self.field value)
             (place_of parser.new)) }
@@ -26,19 +27,21 @@ pub trait ReadField<'a>: FieldValue + Sized + Drop {
         ensures same { octets_of parser.new ≡ octets_of parser.old }
         ensures err { OnErr result (NoField (octets_of parser.old) (place_of parser.old) Self.kind) }
         ensures short { IsErrOf result ShortInput ↔ IsCutField (octets_of parser.old) (place_of parser.old) Self.kind }
+        ensures not_long { IsErrOf result LongRecordData → ⊥ }
         ensures stays { OnErr result (parser.new ≡ parser.old) };
 }
 
 /// A row that is read from a message.
 pub trait ReadRow<'a>: Row + Sized + Drop {
     /// Reads the fields up to the end of the parser. Refused where no such fields stand there, or more than they: with
-    /// `ShortInput` exactly where the octets end too early for them.
+    /// `ShortInput` exactly where the octets end too early for them, and never with `LongRecordData`.
     fn read_fields(parser: &mut Parser<'a>) -> Result<Self, ReadError>
         ensures ok { IfOk result (λ row. ReadsFields (octets_of parser.old) (place_of parser.old) (Self.fields row)) }
         ensures sole { IfOk result (λ row. AreSoleFields (octets_of parser.old) (place_of parser.old) (Self.fields row)) }
         ensures end { OnOk result (IsAtEnd parser.old parser.new) }
         ensures err { OnErr result (NoFields (octets_of parser.old) (place_of parser.old) Self.kinds) }
-        ensures short { IsErrOf result ShortInput ↔ AreCutFields (octets_of parser.old) (place_of parser.old) Self.kinds };
+        ensures short { IsErrOf result ShortInput ↔ AreCutFields (octets_of parser.old) (place_of parser.old) Self.kinds }
+        ensures not_long { IsErrOf result LongRecordData → ⊥ };
 }
 
 impl<'a> ReadRow<'a> for () {
@@ -60,8 +63,9 @@ impl<'a, A: ReadField<'a>, B: ReadRow<'a>> ReadRow<'a> for (A, B) {
 
 /// Reads data of a type, as a row of its kinds, up to the end of the parser.
 ///
-/// Refused exactly where what is left is no such data, data of more than 65,535 octets with its names in full among it: with
-/// `ShortInput` exactly where the octets end too early for it. The parser then stays where it is.
+/// Refused exactly where what is left is no such data: with `ShortInput` exactly where the octets end too early for it, and with
+/// `LongRecordData` exactly where its fields are all there, with nothing behind them, but have more than 65,535 octets with their
+/// names in full. The parser then stays where it is.
 pub fn parse_row<'a, R: ReadRow<'a>, const RTYPE: u16>(
     parser: &mut Parser<'a>,
 ) -> Result<R, ReadError>
@@ -70,6 +74,7 @@ pub fn parse_row<'a, R: ReadRow<'a>, const RTYPE: u16>(
     ensures end { OnOk result (IsAtEnd parser.old parser.new) }
     ensures no_data { OnErr result (NoRow RTYPE (octets_of parser.old) (place_of parser.old)) }
     ensures short { IsErrOf result ShortInput ↔ IsCutRow RTYPE (octets_of parser.old) (place_of parser.old) }
+    ensures long { IsErrOf result LongRecordData ↔ IsLongRow RTYPE (octets_of parser.old) (place_of parser.old) }
     ensures err { OnErr result (parser.new ≡ parser.old) }
 {
     let mut reader = *parser;

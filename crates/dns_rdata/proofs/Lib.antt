@@ -1,4 +1,5 @@
 pub use Rattle.dns_fields.proofs.ComposedRows
+pub use Rattle.dns_fields.proofs.DataDocuments
 pub mod Fronts
 pub mod ScanAny
 mod PrintedData

@@ -7,6 +7,5 @@ pub use Rattle.dns_fields.specs.Shown
 pub mod Data
 pub mod DataTokens
 pub mod DataLaws
-pub mod Printed
 pub mod Tried
 pub mod ZoneData

@@ -7,12 +7,11 @@ use Rattle.dns_label.specs.Printed.{printed_name}
 use Rattle.dns_values.specs.Mnemonic.{types, text_of, text_written, type_written, class_written}
 use Rattle.dns_text.specs.Document.{Piece, document_text}
 use Rattle.dns_text.specs.Document.Layout.{Simple}
-use Rattle.dns_text.specs.Document.Piece.{Token, Open, Close, Newline}
-use Rattle.dns_rdata.specs.Fields.{IsRow}
+use Rattle.dns_text.specs.Document.Piece.{Token, Comment, Newline}
+use Rattle.dns_text.specs.Documents.{block_of}
+use Rattle.dns_rdata.specs.Fields.{Field, IsRow}
 use Rattle.dns_rdata.specs.Fields.Field.{ipv4}
-use Rattle.dns_rdata.specs.Printed.{RowTexts, comments_of, commented}
-use Rattle.dns_rdata.specs.Printed.FieldText.{number, address, name}
-use Rattle.dns_rdata.specs.Printed.RowTexts.{none, more}
+use Rattle.dns_rdata.specs.Shown.{data_pieces}
 use Rattle.zone_core.specs.Record.{Record}
 use Rattle.zone_core.specs.Printing.{AddsData, IsLine, IsSoaText, soa_row, spaced_numbers}
 use Rattle.zone_core.specs.Printing.AddsData.{address as adds_address, soa as adds_soa}
@@ -32,11 +31,16 @@ fronted old owner ttl class_text type_text =
 
 abbrev pub document_of : List ℕ → List ℕ → List ℕ → List ℕ → List Piece → List Piece
 document_of owner ttl class_text type_text pieces =
-    Token owner ∷ Token ttl ∷ Token class_text ∷ Token type_text ∷ Open ∷ pieces ++ Close ∷ []
+    Token owner ∷ Token ttl ∷ Token class_text ∷ Token type_text ∷ block_of pieces
+
+-- the document of a record whose data is the row
+abbrev pub row_document : Record → List Field → List Piece
+row_document r row =
+    document_of (printed_name r.owner) (decimal r.ttl) (class_written r.class) (type_written r.rtype) (data_pieces r.rtype row)
 
 one_text : (old owner ttl class_text type_text text : List ℕ)
     → (fronted old owner ttl class_text type_text ++ text) ++ 10 ∷ []
-    ≡ old ++ document_text Simple (document_of owner ttl class_text type_text (commented (text ∷ []) (comments_of 1)) ++ Newline ∷ [])
+    ≡ old ++ document_text Simple (document_of owner ttl class_text type_text (Token text ∷ []) ++ Newline ∷ [])
 one_text old owner ttl class_text type_text text = simp append_assoc
 
 -- texts, each behind a space, and then an end
@@ -56,11 +60,17 @@ front_is : (old owner ttl class_text type_text rest : List ℕ) → fronted old 
     ≡ old ++ (owner ++ 32 ∷ (ttl ++ 32 ∷ (class_text ++ 32 ∷ (type_text ++ 32 ∷ rest))))
 front_is old owner ttl class_text type_text rest = simp append_assoc
 
+-- the pieces of an SOA record's data, by their texts
+abbrev soa_pieces : List ℕ → List ℕ → List ℕ → List ℕ → List ℕ → List ℕ → List ℕ → List Piece
+soa_pieces mname rname serial refresh retry expire minimum =
+    Token mname ∷ Token rname ∷ Token serial ∷ Comment (codes "serial") ∷ Token refresh ∷ Comment (codes "refresh") ∷ Token retry
+    ∷ Comment (codes "retry") ∷ Token expire ∷ Comment (codes "expire") ∷ Token minimum ∷ Comment (codes "minimum") ∷ []
+
 soa_text : (old owner ttl class_text type_text mname rname serial refresh retry expire minimum : List ℕ)
     → (fronted old owner ttl class_text type_text
     ++ ((mname ++ 32 ∷ rname) ++ flat_map (λ text. 32 ∷ text) (serial ∷ refresh ∷ retry ∷ expire ∷ minimum ∷ []))) ++ 10 ∷ []
     ≡ old ++ document_text Simple (document_of owner ttl class_text type_text
-    (commented (mname ∷ rname ∷ serial ∷ refresh ∷ retry ∷ expire ∷ minimum ∷ []) (comments_of 6)) ++ Newline ∷ [])
+    (soa_pieces mname rname serial refresh retry expire minimum) ++ Newline ∷ [])
 soa_text old owner ttl class_text type_text mname rname serial refresh retry expire minimum =
     let front = fronted old owner ttl class_text type_text in
     let names = mname ++ 32 ∷ rname in
@@ -71,12 +81,6 @@ soa_text old owner ttl class_text type_text mname rname serial refresh retry exp
     ∙ two_names front mname rname (spaced texts (10 ∷ []))
     ∙ front_is old owner ttl class_text type_text (mname ++ 32 ∷ (rname ++ spaced texts (10 ∷ [])))
 
-soa_texts : (m r : List (List ℕ)) (n1 n2 n3 n4 n5 : ℕ)
-    → RowTexts (soa_row m r n1 n2 n3 n4 n5)
-    (printed_name m ∷ printed_name r ∷ decimal n1 ∷ decimal n2 ∷ decimal n3 ∷ decimal n4 ∷ decimal n5 ∷ [])
-soa_texts m r n1 n2 n3 n4 n5 =
-    more (name m) (more (name r) (more (number n1) (more (number n2) (more (number n3) (more (number n4) (more (number n5) none))))))
-
 abbrev pub behind_class : Record → List ℕ → List ℕ
 behind_class r old =
     (((((old ++ printed_name r.owner) ++ 32 ∷ []) ++ decimal r.ttl) ++ 32 ∷ []) ++ class_written r.class) ++ 32 ∷ []
@@ -84,48 +88,33 @@ behind_class r old =
 -- an A record and an SOA record
 address_line : (r : Record) (old new : List ℕ) → IsRow 1 (ipv4 r.rdata ∷ [])
     → new ≡ (behind_class r old ++ (codes "A " ++ ipv4_text r.rdata)) ++ 10 ∷ [] → IsLine (record r { rtype = 1 }) old new
-address_line r old new row_is added = record {
-  document = document_of (printed_name r.owner) (decimal r.ttl) (class_written r.class) (type_written 1)
-      (commented (ipv4_text r.rdata ∷ []) (comments_of 1));
-  is_document = record {
-    data_document = Open ∷ commented (ipv4_text r.rdata ∷ []) (comments_of 1) ++ Close ∷ [];
-    data_is = record {
-      row = ipv4 r.rdata ∷ [];
-      is_row = row_is;
-      octets_are = sym (append-nil r.rdata);
-      texts = ipv4_text r.rdata ∷ [];
-      texts_are = more (address r.rdata) none;
-      is = refl;
-    };
-    is = refl;
-  };
-  added =
-      added ∙ ap (λ l. l ++ 10 ∷ []) (sym (append_assoc (behind_class r old) (codes "A ") (ipv4_text r.rdata)))
-      ∙ ap (λ l. ((behind_class r old ++ (l ++ 32 ∷ [])) ++ ipv4_text r.rdata) ++ 10 ∷ []) (sym a_written)
-      ∙ one_text old (printed_name r.owner) (decimal r.ttl) (class_written r.class) (type_written 1) (ipv4_text r.rdata);
-}
+address_line r old new row_is added =
+    let row : List Field = ipv4 r.rdata ∷ [] in
+    record {
+      document = row_document (record r { rtype = 1 }) row;
+      is_document = record {
+        data_document = block_of (data_pieces 1 row);
+        data_is = record { row = row; is_row = row_is; octets_are = sym (append-nil r.rdata); is = refl };
+        is = refl;
+      };
+      added =
+          added ∙ ap (λ l. l ++ 10 ∷ []) (sym (append_assoc (behind_class r old) (codes "A ") (ipv4_text r.rdata)))
+          ∙ ap (λ l. ((behind_class r old ++ (l ++ 32 ∷ [])) ++ ipv4_text r.rdata) ++ 10 ∷ []) (sym a_written)
+          ∙ one_text old (printed_name r.owner) (decimal r.ttl) (class_written r.class) (type_written 1) (ipv4_text r.rdata);
+    }
 
 soa_line : (r : Record) (old text new : List ℕ) → IsSoaText r.rdata (behind_class r old ++ codes "SOA ") text → new ≡ text ++ 10 ∷ []
     → IsLine (record r { rtype = 6 }) old new
 soa_line r old text new soa added =
-    let texts : List (List ℕ) =
-    printed_name soa.mname ∷ printed_name soa.rname ∷ decimal soa.serial ∷ decimal soa.refresh ∷ decimal soa.retry
-    ∷ decimal soa.expire ∷ decimal soa.minimum ∷ [] in
+    let row : List Field = soa_row soa.mname soa.rname soa.serial soa.refresh soa.retry soa.expire soa.minimum in
     let parts : List ℕ =
     printed_name soa.mname ++ 32 ∷ printed_name soa.rname
     ++ spaced_numbers (soa.serial ∷ soa.refresh ∷ soa.retry ∷ soa.expire ∷ soa.minimum ∷ []) in
     record {
-      document = document_of (printed_name r.owner) (decimal r.ttl) (class_written r.class) (type_written 6) (commented texts (comments_of 6));
+      document = row_document (record r { rtype = 6 }) row;
       is_document = record {
-        data_document = Open ∷ commented texts (comments_of 6) ++ Close ∷ [];
-        data_is = record {
-          row = soa_row soa.mname soa.rname soa.serial soa.refresh soa.retry soa.expire soa.minimum;
-          is_row = soa.row_is;
-          octets_are = soa.data_is;
-          texts = texts;
-          texts_are = soa_texts soa.mname soa.rname soa.serial soa.refresh soa.retry soa.expire soa.minimum;
-          is = refl;
-        };
+        data_document = block_of (data_pieces 6 row);
+        data_is = record { row = row; is_row = soa.row_is; octets_are = soa.data_is; is = refl };
         is = refl;
       };
       added =

@@ -1,8 +1,7 @@
 -- A zone's printed text is the zone's.
-use Rattle.std.proofs.Common.{◌≡◌, ◌≢◌, ◌⊎◌, ◌<◌, ◌^◌, ℕ, List, [], ◌∷◌, ◌++◌, length, slice_index, Some, inl, inr, refl, sym, ◌∙◌, ap, subst, arith, append_assoc, append-nil}
+use Rattle.std.proofs.Common.{◌≡◌, ◌≢◌, ◌⊎◌, ◌<◌, ◌^◌, ℕ, List, [], ◌∷◌, ◌++◌, length, slice_index, Some, inl, inr, refl, sym, ◌∙◌, ap, subst, arith, append_assoc}
 use Rattle.std.specs.Fmt.{decimal}
 use Rattle.std.specs.List.{AllByRecursion}
-use Rattle.std.specs.Net.Text.{ipv4_text}
 use Rattle.dns_label.specs.Name.{wire}
 use Rattle.dns_label.specs.Printed.{printed_name}
 use Rattle.dns_values.specs.Mnemonic.{class_read, class_written, type_written}
@@ -12,7 +11,7 @@ use Rattle.dns_text.specs.Document.Layout.{Simple}
 use Rattle.dns_text.specs.Document.Piece.{Newline}
 use Rattle.dns_rdata.specs.Fields.{Field, IsRow, octets}
 use Rattle.dns_rdata.specs.Fields.Field.{ipv4}
-use Rattle.dns_rdata.specs.Printed.{comments_of, commented}
+use Rattle.dns_rdata.specs.Shown.{row_tokens}
 use Rattle.dns_message.specs.Printed.{IsDocument}
 use Rattle.dns_zonefile.specs.PlainRow.{AreSpaces, DataWords, IsWord, PlainRow, RecordWords, Words}
 use Rattle.dns_zonefile.specs.PlainRow.DataWords.{a as a_words, soa as soa_words}
@@ -27,8 +26,8 @@ use Rattle.zone_core.specs.Zone.{any_class}
 use Rattle.zone_core.specs.ZoneText.{Entries, IsZoneText}
 use Rattle.zone_core.specs.ZoneText.Entries.{none as no_entry, entry}
 use Rattle.zone_core.proofs.LastRecord.{all_fronts}
-use Rattle.zone_core.proofs.PrintedLines.{a_written, soa_written, document_of}
-use Rattle.zone_core.proofs.PrintedDocuments.{address_document, soa_document, soa_printed}
+use Rattle.zone_core.proofs.PrintedLines.{a_written, soa_written, row_document}
+use Rattle.zone_core.proofs.PrintedDocuments.{HasRow, address_document, soa_document}
 use Rattle.zone_core.proofs.PrintedWords.{name_text, name_word, name_no_dollar, class_word, a_word, soa_word, address_word, number_text, number_word}
 
 -- words with one space between two of them, a line feed and a rest
@@ -69,71 +68,65 @@ record ReadsBack (class : ℕ) (r : Record) (document : List Piece) : Type 0 whe
   pub no_dollar : (more : List ℕ) → slice_index (document_text Simple (document ++ Newline ∷ []) ++ more) 0 ≡ 36 → ⊥
   pub spelled : RecordWords class words r
 
-abbrev line_of : Record → List (List ℕ) → List (List ℕ)
-line_of r texts = printed_name r.owner ∷ decimal r.ttl ∷ class_written r.class ∷ type_written r.rtype ∷ texts
+abbrev line_of : Record → List Field → List (List ℕ)
+line_of r row = printed_name r.owner ∷ decimal r.ttl ∷ class_written r.class ∷ type_written r.rtype ∷ row_tokens row
 
--- what a record's text is, where its data's texts are known
-record Known (class : ℕ) (r : Record) (texts : List (List ℕ)) : Type 0 where
+-- what a record's text is, where its data's row is known
+record Known (class : ℕ) (r : Record) (row : List Field) : Type 0 where
   pub type_is_word : IsWord (type_written r.rtype)
-  pub each : AllByRecursion IsWord texts
-  pub written : document_text Simple (document_of (printed_name r.owner) (decimal r.ttl) (class_written r.class) (type_written r.rtype)
-      (commented texts (comments_of r.rtype)) ++ Newline ∷ []) ≡ row_text (line_of r texts) []
-  pub row : List Field
-  pub octets_are : r.rdata ≡ octets row
-  pub spelled : DataWords r.rtype texts row
+  pub each : AllByRecursion IsWord (row_tokens row)
+  pub written : document_text Simple (row_document r row ++ Newline ∷ []) ≡ row_text (line_of r row) []
+  pub spelled : DataWords r.rtype (row_tokens row) row
 
-spelled_record : (class : ℕ) (r : Record) (texts : List (List ℕ)) → IsRecordOf class r → Known class r texts
-    → RecordWords class (line_of r texts) r
-spelled_record class r texts is known =
+spelled_record : (class : ℕ) (r : Record) (row : List Field) → IsRecordOf class r → r.rdata ≡ octets row → Known class r row
+    → RecordWords class (line_of r row) r
+spelled_record class r row is octets_are known =
     let lawful = is.lawful in
-    let P : ℕ → Type 0 = λ c. RecordWords class (line_of r texts) (record r { class = c }) in
-    let Q : List ℕ → Type 0 = λ l. RecordWords class (line_of r texts) (record r { class = class; rdata = l }) in
+    let P : ℕ → Type 0 = λ c. RecordWords class (line_of r row) (record r { class = c }) in
+    let Q : List ℕ → Type 0 = λ l. RecordWords class (line_of r row) (record r { class = class; rdata = l }) in
     let read : class_read (class_written r.class) ≡ Some class =
     class_reads_back r.class (omega (arith, lawful.class)) ∙ ap Some is.class_is in
-    let made : RecordWords class (line_of r texts) (record r { class = class; rdata = octets known.row }) =
+    let made : RecordWords class (line_of r row) (record r { class = class; rdata = octets row }) =
     spells (name_text r.owner lawful.owner is.owner_octets) (number_text r.ttl lawful.ttl) read
     (type_reads_back r.rtype (omega (arith, lawful.rtype))) known.spelled in
-    subst P (sym is.class_is) (subst Q (sym known.octets_are) made)
+    subst P (sym is.class_is) (subst Q (sym octets_are) made)
 
-reads_back : (class : ℕ) (r : Record) (texts : List (List ℕ)) (document : List Piece) → IsRecordOf class r → Known class r texts
-    → document ≡ document_of (printed_name r.owner) (decimal r.ttl) (class_written r.class) (type_written r.rtype)
-    (commented texts (comments_of r.rtype)) → ReadsBack class r document
-reads_back class r texts document is known document_is =
+reads_back : (class : ℕ) (r : Record) (row : List Field) (document : List Piece) → IsRecordOf class r → HasRow r row document
+    → Known class r row → ReadsBack class r document
+reads_back class r row document is has known =
     let lawful = is.lawful in
-    let written : document_text Simple (document ++ Newline ∷ []) ≡ row_text (line_of r texts) [] =
-    ap (λ d. document_text Simple (d ++ Newline ∷ [])) document_is ∙ known.written in
+    let behind : List (List ℕ) = decimal r.ttl ∷ class_written r.class ∷ type_written r.rtype ∷ row_tokens row in
+    let written : document_text Simple (document ++ Newline ∷ []) ≡ row_text (line_of r row) [] =
+    ap (λ d. document_text Simple (d ++ Newline ∷ [])) has.is ∙ known.written in
     record {
-      words = line_of r texts;
+      words = line_of r row;
       some = omega arith;
       each = (name_word r.owner is.owner_octets, (number_word r.ttl lawful.ttl, (class_word r.class lawful.class, (known.type_is_word, known.each))));
       written = written;
       no_dollar = λ more dollar.
-          name_no_dollar r.owner (32 ∷ (row_text (decimal r.ttl ∷ class_written r.class ∷ type_written r.rtype ∷ texts) [] ++ more))
-          lawful.owner is.owner_octets
-          (ap (λ l. slice_index l 0) (sym (append_assoc (printed_name r.owner) (32 ∷ row_text (decimal r.ttl ∷ class_written r.class ∷ type_written r.rtype ∷ texts) []) more)
+          name_no_dollar r.owner (32 ∷ (row_text behind [] ++ more)) lawful.owner is.owner_octets
+          (ap (λ l. slice_index l 0) (sym (append_assoc (printed_name r.owner) (32 ∷ row_text behind []) more)
           ∙ ap (λ l. l ++ more) (sym written)) ∙ dollar);
-      spelled = spelled_record class r texts is known;
+      spelled = spelled_record class r row is has.octets_are known;
     }
 
 -- an A record
 address_back : (class : ℕ) (r : Record) (document : List Piece) → IsRecordOf class (record r { rtype = 1 })
     → IsDocument (record r { rtype = 1 }) document → ReadsBack class (record r { rtype = 1 }) document
 address_back class r document is printed =
-    let d = address_document r document printed in
-    let words = address_word r.rdata d.row_is.each.0 is.data_octets in
-    let known : Known class (record r { rtype = 1 }) (ipv4_text r.rdata ∷ []) = record {
+    let has = address_document r document printed in
+    let words = address_word r.rdata has.row_is.each.0 is.data_octets in
+    let known : Known class (record r { rtype = 1 }) (ipv4 r.rdata ∷ []) = record {
       type_is_word = subst IsWord (sym a_written) a_word;
       each = (words.0, tt);
       written = refl;
-      row = ipv4 r.rdata ∷ [];
-      octets_are = sym (append-nil r.rdata);
       spelled = a_words words.1;
     } in
-    reads_back class (record r { rtype = 1 }) (ipv4_text r.rdata ∷ []) document is known d.is
+    reads_back class (record r { rtype = 1 }) (ipv4 r.rdata ∷ []) document is has known
 
 -- an SOA record
 soa_known : (class : ℕ) (r : Record) (m n : List (List ℕ)) (n1 n2 n3 n4 n5 : ℕ) → AreOctets r.rdata → IsRow 6 (soa_row m n n1 n2 n3 n4 n5)
-    → r.rdata ≡ octets (soa_row m n n1 n2 n3 n4 n5) → Known class (record r { rtype = 6 }) (soa_printed m n n1 n2 n3 n4 n5)
+    → r.rdata ≡ octets (soa_row m n n1 n2 n3 n4 n5) → Known class (record r { rtype = 6 }) (soa_row m n n1 n2 n3 n4 n5)
 soa_known class r m n n1 n2 n3 n4 n5 data_octets row_is octets_are =
     let P : ℕ → Type 0 = λ octet. octet < 2 ^ 8 in
     let all : AreOctets (octets (soa_row m n n1 n2 n3 n4 n5)) = subst AreOctets octets_are data_octets in
@@ -161,8 +154,6 @@ soa_known class r m n n1 n2 n3 n4 n5 data_octets row_is octets_are =
         ),
       );
       written = refl;
-      row = soa_row m n n1 n2 n3 n4 n5;
-      octets_are = octets_are;
       spelled =
           soa_words (name_text m row_is.each.0 m_octets) (name_text n row_is.each.1.0 n_octets) (number_text n1 fits.0)
           (number_text n2 fits.1.0) (number_text n3 fits.1.1.0) (number_text n4 fits.1.1.1.0) (number_text n5 fits.1.1.1.1.0);
@@ -172,8 +163,8 @@ soa_back : (class : ℕ) (r : Record) (document : List Piece) → IsRecordOf cla
     → IsDocument (record r { rtype = 6 }) document → ReadsBack class (record r { rtype = 6 }) document
 soa_back class r document is printed =
     let d = soa_document r document printed in
-    reads_back class (record r { rtype = 6 }) (soa_printed d.mname d.rname d.serial d.refresh d.retry d.expire d.minimum) document is
-    (soa_known class r d.mname d.rname d.serial d.refresh d.retry d.expire d.minimum is.data_octets d.row_is d.octets_are) d.is
+    reads_back class (record r { rtype = 6 }) (soa_row d.mname d.rname d.serial d.refresh d.retry d.expire d.minimum) document is d.has
+    (soa_known class r d.mname d.rname d.serial d.refresh d.retry d.expire d.minimum is.data_octets d.has.row_is d.has.octets_are)
 
 record_back : (class : ℕ) (r : Record) (document : List Piece) → IsRecordOf class r → IsDocument r document
     → (r.rtype ≡ 6) ⊎ (r.rtype ≡ 1) → ReadsBack class r document

@@ -1,5 +1,5 @@
 //! Why data was not read.
-ghost use Rattle.std.specs.Prelude.{◌≡◌, ◌↔◌};
+ghost use Rattle.std.specs.Prelude.{◌≡◌, ◌≢◌, ◌↔◌};
 ghost use Rattle.dns_fields.specs.declared.read.error.ReadError.TheVariants as read_error;
 ghost use Rattle.dns_octets.specs.declared.error.ParseError.TheVariants as parse_error;
 
@@ -26,7 +26,8 @@ pub enum ReadError {
 impl ReadError {
     /// The error of a name that was not read.
     pub(crate) fn of_name(error: ParseError) -> Self
-        ensures { (result ≡ read_error.ShortInput) ↔ (error ≡ parse_error.ShortInput) }
+        ensures short { (result ≡ read_error.ShortInput) ↔ (error ≡ parse_error.ShortInput) }
+        ensures not_long { result ≢ read_error.LongRecordData }
     {
         match error {
             ParseError::ShortInput => ReadError::ShortInput,

@@ -8,11 +8,11 @@ ghost use Rattle.zone_core.specs.Records.{AreRecordsOf};
 ghost use Rattle.zone_core.specs.Zone.{any_class};
 ghost use Rattle.zone_core.specs.ZoneText.{IsZoneText};
 
-/// The records of a zone have one printed text under each layout.
+/// The records of a zone have a printed text under each layout. Records of any types have one at most.
 pub fn records_have_one_printed_text()
     ensures some { (layout : Layout) (class : ℕ) (records : List Record) → AreRecordsOf class records →
         (text : List ℕ) × IsPrinted layout records text }
-    ensures one { (layout : Layout) (class : ℕ) (records : List Record) (a b : List ℕ) → AreRecordsOf class records →
+    ensures one { (layout : Layout) (records : List Record) (a b : List ℕ) →
         IsPrinted layout records a → IsPrinted layout records b → a ≡ b }
 {}
 

@@ -5,4 +5,4 @@ pub returns-clause-some : goal.returns-clause-some
 returns-clause-some c layout class records are = some_printed layout class records are.each
 
 pub returns-clause-one : goal.returns-clause-one
-returns-clause-one c layout class records a b are printed other = one_printed layout class are.each printed other
+returns-clause-one c layout records a b printed other = one_printed layout printed other
