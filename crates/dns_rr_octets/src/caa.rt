@@ -88,9 +88,10 @@ impl<Octs: Octets> Caa<Octs> {
         &tag.0
     }
 
-    /// The value of the property.
+    /// The value of the property. The data has at most 65,535 octets, so it fits into a record.
     pub fn value(&self) -> &Octs
-        ensures { field_at 2 self.now ≡ Some (rest_text (Octs.list result.now)) }
+        ensures field { field_at 2 self.now ≡ Some (rest_text (Octs.list result.now)) }
+        ensures short { length (octets self.now) ≤ 65535 }
     {
         let (_, (_, value)) = &self.row;
         &value.0.0

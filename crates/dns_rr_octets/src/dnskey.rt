@@ -100,9 +100,10 @@ impl<Octs: Octets> Dnskey<Octs> {
         *algorithm
     }
 
-    /// The key.
+    /// The key. The data has at most 65,535 octets, so it fits into a record.
     pub fn public_key(&self) -> &Octs
-        ensures { field_at 3 self.now ≡ Some (rest64 (Octs.list result.now)) }
+        ensures field { field_at 3 self.now ≡ Some (rest64 (Octs.list result.now)) }
+        ensures short { length (octets self.now) ≤ 65535 }
     {
         let (_, (_, (_, public_key))) = &self.row;
         &public_key.0.0

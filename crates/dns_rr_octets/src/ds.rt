@@ -100,17 +100,19 @@ impl<Octs: Octets> Ds<Octs> {
         *digest_type
     }
 
-    /// The digest of the key.
+    /// The digest of the key. The data has at most 65,535 octets, so it fits into a record.
     pub fn digest(&self) -> &Octs
-        ensures { field_at 3 self.now ≡ Some (rest16 (Octs.list result.now)) }
+        ensures field { field_at 3 self.now ≡ Some (rest16 (Octs.list result.now)) }
+        ensures short { length (octets self.now) ≤ 65535 }
     {
         let (_, (_, (_, digest))) = &self.row;
         &digest.0.0
     }
 
-    /// The digest of the key alone.
+    /// The digest of the key alone. The data had at most 65,535 octets.
     pub fn into_digest(self) -> Octs
-        ensures { field_at 3 self ≡ Some (rest16 (Octs.list result)) }
+        ensures field { field_at 3 self ≡ Some (rest16 (Octs.list result)) }
+        ensures short { length (octets self) ≤ 65535 }
     {
         let (_, (_, (_, digest))) = self.row;
         digest.0.0

@@ -141,16 +141,18 @@ impl<Octs: Octets> Txt<Octs> {
         Ok(Text::from_builder(builder))
     }
 
-    /// The octets of the strings, one string after another.
+    /// The octets of the strings, one string after another. The data has at most 65,535 octets, so it fits into a record.
     pub fn iter(&self) -> TxtIter<'_>
-        ensures { self.now ≡ strings result ∷ [] }
+        ensures row { self.now ≡ strings result ∷ [] }
+        ensures short { length (fields.octets self.now) ≤ 65535 }
     {
         TxtIter::over(self.row.0.iter())
     }
 
-    /// The strings, one after another.
+    /// The strings, one after another. The data has at most 65,535 octets, so it fits into a record.
     pub fn iter_charstrs(&self) -> TxtCharStrIter<'_>
-        ensures { self.now ≡ strings result ∷ [] }
+        ensures row { self.now ≡ strings result ∷ [] }
+        ensures short { length (fields.octets self.now) ≤ 65535 }
     {
         TxtCharStrIter::over(self.row.0.iter())
     }
@@ -168,9 +170,10 @@ impl<Octs: Octets> Txt<Octs> {
         }
     }
 
-    /// How many octets the data has.
+    /// How many octets the data has: at most 65,535, so it fits into a record.
     pub fn len(&self) -> usize
-        ensures { result ≡ length (fields.octets self.now) }
+        ensures octets { result ≡ length (fields.octets self.now) }
+        ensures short { result ≤ 65535 }
     {
         self.row.0.as_slice().len()
     }
