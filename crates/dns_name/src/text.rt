@@ -186,13 +186,27 @@ impl Name<Vec<u8>> {
         ensures err { IfErr result (IsRefused IsAbsoluteText text.now) }
         ensures relative { IfErr result (λ error. (error ≡ Presentation presentation.RelativeName) ↔ LacksLastDot text.now) }
     {
+        Name::absolute_from_text_with_room(alloc, text, 0)
+    }
+
+    /// The same in a vector that has room for so many octets behind the name, so that they are appended without another
+    /// growth.
+    pub fn absolute_from_text_with_room(
+        alloc: Global,
+        text: &[u8],
+        room: usize,
+    ) -> Result<Self, FromStrError>
+        ensures ok { IfOk result (λ name. IsAbsoluteText text.now name) }
+        ensures err { IfErr result (IsRefused IsAbsoluteText text.now) }
+        ensures relative { IfErr result (λ error. (error ≡ Presentation presentation.RelativeName) ↔ LacksLastDot text.now) }
+    {
         let Some(spelling) = Spelling::read_text(text)? else {
             return Ok(Name::root(alloc)?);
         };
         if spelling.has_open_label() {
             return Err(FromStrError::Presentation(PresentationError::RelativeName));
         }
-        spelling.finish(alloc)
+        spelling.finish_with_room(alloc, room)
     }
 }
 
