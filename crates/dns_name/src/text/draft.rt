@@ -11,6 +11,7 @@ ghost use Rattle.dns_name.specs.Text.{IsFault};
 ghost use Rattle.dns_name.specs.declared.text.FromStrError.TheVariants.{Presentation, ShortBuf};
 ghost use Rattle.dns_name.specs.declared.text.PresentationError.TheVariants as presentation;
 
+use super::unescaped::is_plain;
 use super::{FromStrError, PresentationError, is_dot};
 use crate::copies::{octets_from, octets_with_room};
 use crate::relative::copied_relative;
@@ -226,13 +227,6 @@ impl Spelling {
     {
         Ok(copied_relative(alloc, &self.octets[..self.start])?)
     }
-}
-
-/// Whether the octet by itself is a symbol other than a dot.
-fn is_plain(octet: u8) -> bool
-    ensures { IsTrue result ↔ (IsSymbol (Char octet) × (octet ≢ 46)) }
-{
-    matches!(octet, b' '..=b'~') && octet != b'.' && octet != b'\\'
 }
 
 /// What a dot at the start spells: the root, if no symbol comes behind it, and else nothing.
