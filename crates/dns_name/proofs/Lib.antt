@@ -12,6 +12,7 @@ pub mod Texts
 mod Readings
 mod CharTexts
 mod OctetTexts
+pub mod UnescapedTexts
 mod LastDots
 mod Refusals
 mod Builds

@@ -35,7 +35,7 @@ whole_more text rest behind symbols symbol whole is =
     ∙ sym (append_assoc (flat_map spelled symbols) (spelled symbol) behind)
     ∙ ap (λ l. l ++ behind) (flat_map_more spelled [] symbols symbol)
 
-dot_symbol : IsSymbol (Char 46)
+pub dot_symbol : IsSymbol (Char 46)
 dot_symbol = ((omega arith, omega arith), λ (e : 46 ≡ 92). omega arith)
 
 -- an octet that is no dot begins no dot

@@ -20,6 +20,7 @@ pub mod Suffix
 pub mod Suffixes
 pub mod Text
 pub mod Draft
+pub mod Unescaped
 pub mod Spelling
 pub mod Remembered
 pub mod RecordData

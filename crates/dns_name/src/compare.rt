@@ -1,5 +1,6 @@
 //! Comparing names of any kind, label by label and up to ASCII case (RFC 4343).
-ghost use Rattle.std.specs.Prelude.{◌≡◌, ◌≤◌, ◌↔◌, IsTrue, length, drop};
+ghost use Rattle.std.specs.Prelude.{◌≡◌, ◌≤◌, ◌↔◌, IsTrue, length, drop, map};
+ghost use Rattle.std.specs.Char.{to_ascii_lowercase};
 ghost use Rattle.std.specs.Ordering.{ordering_then};
 ghost use Rattle.dns_label.specs.Labels.{labels_at};
 ghost use Rattle.dns_label.specs.Name.{low};
@@ -57,7 +58,14 @@ pub fn flat_ends_with(octets: &[u8], end: &[u8]) -> bool
         };
         rest = behind;
     }
-    rest.eq_ignore_ascii_case(end)
+    is_same_text(rest, end)
+}
+
+/// Whether octets are the same up to ASCII case. Most that are so are the same in case too, which is seen sooner.
+fn is_same_text(octets: &[u8], other: &[u8]) -> bool
+    ensures { IsTrue result ↔ (map to_ascii_lowercase octets.now ≡ map to_ascii_lowercase other.now) }
+{
+    octets == other || octets.eq_ignore_ascii_case(other)
 }
 
 /// How many labels there are.

@@ -10,6 +10,7 @@ ghost use Rattle.dns_name.specs.declared.text.PresentationError.TheVariants as p
 mod draft;
 mod relative;
 mod spelled;
+mod unescaped;
 
 use crate::{Name, PushError};
 use dns_label::{BadSymbol, Symbol, SymbolCharsError};
@@ -19,6 +20,7 @@ pub use relative::RelativeFromStrError;
 pub use spelled::SpelledName;
 use std::alloc::Global;
 use thiserror::Error;
+use unescaped::read_unescaped;
 
 /// Why a text spells no name.
 #[derive(Clone, Copy, Debug, PartialEq, Eq, Error)]
@@ -186,13 +188,30 @@ impl Name<Vec<u8>> {
         ensures err { IfErr result (IsRefused IsAbsoluteText text.now) }
         ensures relative { IfErr result (λ error. (error ≡ Presentation presentation.RelativeName) ↔ LacksLastDot text.now) }
     {
+        Name::absolute_from_text_with_room(alloc, text, 0)
+    }
+
+    /// The same in a vector that has room for so many octets behind the name, so that they are appended without another
+    /// growth.
+    pub fn absolute_from_text_with_room(
+        alloc: Global,
+        text: &[u8],
+        room: usize,
+    ) -> Result<Self, FromStrError>
+        ensures ok { IfOk result (λ name. IsAbsoluteText text.now name) }
+        ensures err { IfErr result (IsRefused IsAbsoluteText text.now) }
+        ensures relative { IfErr result (λ error. (error ≡ Presentation presentation.RelativeName) ↔ LacksLastDot text.now) }
+    {
+        if let Ok(Some(name)) = read_unescaped(alloc, text, room) {
+            return Ok(name);
+        }
         let Some(spelling) = Spelling::read_text(text)? else {
             return Ok(Name::root(alloc)?);
         };
         if spelling.has_open_label() {
             return Err(FromStrError::Presentation(PresentationError::RelativeName));
         }
-        spelling.finish(alloc)
+        spelling.finish_with_room(alloc, room)
     }
 }
 

@@ -1,5 +1,5 @@
 //! A name while its text is read.
-ghost use Rattle.std.specs.Prelude.{◌≡◌, ◌≢◌, ◌+◌, ◌≤◌, ◌<◌, ◌⊎◌, ◌↔◌, List, ℕ, [], ◌∷◌, ◌++◌, length, true, false, Some, None, Err, IsTrue, IfOk, IfErr, OnOk, OnErr, IfSome, IfNone};
+ghost use Rattle.std.specs.Prelude.{◌≡◌, ◌≢◌, ◌+◌, ◌≤◌, ◌<◌, ◌⊎◌, ◌↔◌, List, ℕ, [], ◌∷◌, ◌++◌, length, take, true, false, Some, None, Err, IsTrue, IfOk, IfErr, OnOk, OnErr, IfSome, IfNone};
 ghost use Rattle.std.specs.Iterator.{IsFinite, YieldsThen, Drains};
 ghost use Rattle.std.specs.List.{AllByRecursion, flat_map};
 ghost use Rattle.dns_label.specs.declared.symbol.Symbol.{Symbol};
@@ -11,8 +11,9 @@ ghost use Rattle.dns_name.specs.Text.{IsFault};
 ghost use Rattle.dns_name.specs.declared.text.FromStrError.TheVariants.{Presentation, ShortBuf};
 ghost use Rattle.dns_name.specs.declared.text.PresentationError.TheVariants as presentation;
 
+use super::unescaped::is_plain;
 use super::{FromStrError, PresentationError, is_dot};
-use crate::copies::octets_from;
+use crate::copies::{octets_from, octets_with_room};
 use crate::relative::copied_relative;
 use crate::{Name, RelativeName};
 use dns_label::{Symbol, Symbols};
@@ -181,11 +182,36 @@ impl Spelling {
         ensures err { IfErr result (λ error. IsFault error ↔ (self.len ≡ 1)) }
         ensures other { result ≡ Err (Presentation presentation.RelativeName) → ⊥ }
     {
-        if self.len == 1 {
-            return Err(FromStrError::Presentation(PresentationError::EmptyLabel));
-        }
-        let octets = octets_from(alloc, &self.octets[..self.len])?;
+        let octets = octets_from(alloc, self.finished()?)?;
         Ok(Name::from_octets_unchecked(octets))
+    }
+
+    /// The same in a vector that has room for so many octets more.
+    pub(super) fn finish_with_room(
+        self,
+        alloc: Global,
+        room: usize,
+    ) -> Result<Name<Vec<u8>>, FromStrError>
+        requires { (done : List (List ℕ)) × Holds self done [] }
+        ensures ok { IfOk result (λ name. IsName name × Holds self name [] × (0 < length name)) }
+        ensures err { IfErr result (λ error. IsFault error ↔ (self.len ≡ 1)) }
+        ensures other { result ≡ Err (Presentation presentation.RelativeName) → ⊥ }
+    {
+        let octets = octets_with_room(alloc, self.finished()?, room)?;
+        Ok(Name::from_octets_unchecked(octets))
+    }
+
+    /// The octets of the finished labels and the root's. Refused where there is no label.
+    fn finished(&self) -> Result<&[u8], PresentationError>
+        ensures ok { IfOk result (λ octets. octets.now ≡ take self.now.len self.now.octets) }
+        ensures some { OnOk result (self.now.len ≢ 1) }
+        ensures err { OnErr result (self.now.len ≡ 1) }
+        ensures other { result ≡ Err presentation.RelativeName → ⊥ }
+    {
+        if self.len == 1 {
+            return Err(PresentationError::EmptyLabel);
+        }
+        Ok(&self.octets[..self.len])
     }
 
     /// The relative name of the finished labels.
@@ -201,13 +227,6 @@ impl Spelling {
     {
         Ok(copied_relative(alloc, &self.octets[..self.start])?)
     }
-}
-
-/// Whether the octet by itself is a symbol other than a dot.
-fn is_plain(octet: u8) -> bool
-    ensures { IsTrue result ↔ (IsSymbol (Char octet) × (octet ≢ 46)) }
-{
-    matches!(octet, b' '..=b'~') && octet != b'.' && octet != b'\\'
 }
 
 /// What a dot at the start spells: the root, if no symbol comes behind it, and else nothing.

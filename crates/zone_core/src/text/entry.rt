@@ -15,6 +15,9 @@ use dns_name::{Class, FromStrError, Name, Rtype, Ttl};
 use std::alloc::{AllocError, Global};
 use thiserror::Error;
 
+/// How many octets of data most records have: those of an address (RFC 1035 3.4.1).
+const ADDRESS_OCTETS: usize = 4;
+
 /// Why no entry was read.
 #[derive(Clone, Copy, Debug, PartialEq, Eq, Error)]
 pub(crate) enum EntryError {
@@ -94,7 +97,7 @@ fn parse_record(alloc: Global, words: &[&[u8]], class: Class) -> Result<Record, 
     }
     let ttl = parse_number(front[1]).ok_or(EntryError::Text)?;
     let rtype = Rtype::from_bytes(front[3]).ok_or(EntryError::Text)?;
-    let owner = Name::absolute_from_text(alloc, front[0])?;
+    let owner = Name::absolute_from_text_with_room(alloc, front[0], ADDRESS_OCTETS)?;
     let owner_len = owner.len();
     let mut octets = owner.into_octets();
     append_rdata(&mut octets, alloc, rtype, data_words)?;

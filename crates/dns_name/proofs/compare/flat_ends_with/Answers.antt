@@ -20,5 +20,5 @@ loop-rest-preserved c =
 
 pub returns : goal.returns
 returns c =
-    remains_told c.eq_ignore_ascii_case.result c.loop-rest.invariant c.requires.end c.loop-rest-test.false
-    c.eq_ignore_ascii_case.ensures.test.0 c.eq_ignore_ascii_case.ensures.test.1
+    remains_told c.is_same_text.result c.loop-rest.invariant c.requires.end c.loop-rest-test.false
+    c.is_same_text.ensures.0 c.is_same_text.ensures.1

@@ -12,7 +12,7 @@ from_octets_unchecked-requires g c =
     let few = s.few in
     let holds = c.requires.1 in
     flat-written _ c.requires.0 (draft-name s.octets s.len c.requires.0 (omega arith) few holds.written holds.labels)
-    (c.in_ok-octets.ensures.octets ∙ draft-wire s.octets s.len c.requires.0 holds.written)
+    (c.in_ok-octets.ensures.octets ∙ c.in_ok-finished.ensures.ok ∙ draft-wire s.octets s.len c.requires.0 holds.written)
 
 pub returns-clause-ok : goal.returns-clause-ok
 returns-clause-ok g c =
@@ -20,10 +20,10 @@ returns-clause-ok g c =
     let whole = s.whole in
     let few = s.few in
     let holds = c.requires.1 in
-    let is = holds_one s c.requires.0 c.from_octets_unchecked.result holds (sym c.from_octets_unchecked.ensures ∙ c.in_ok-octets.ensures.octets) in
+    let is = holds_one s c.requires.0 c.from_octets_unchecked.result holds (sym c.from_octets_unchecked.ensures ∙ c.in_ok-octets.ensures.octets ∙ c.in_ok-finished.ensures.ok) in
     let P : List (List ℕ) → Type 0 = λ n. IsName n × Holds s n [] × (0 < length n) in
     subst P (sym is) (
       draft-name s.octets s.len c.requires.0 (omega arith) few holds.written holds.labels,
       holds,
-      draft-some s.octets s.len c.requires.0 (omega arith) c.if-self-eq1.false holds.written,
+      draft-some s.octets s.len c.requires.0 (omega arith) c.in_ok-finished.ensures.some holds.written,
     )

@@ -7,7 +7,7 @@ use Rattle.dns_name.specs.declared.text.draft.Spelling.{Spelling}
 use Rattle.dns_name.specs.Draft.{IsReadBy}
 use Rattle.dns_name.proofs.LastDots.{open_lacks, dotted_lacks, root_lacks, told_other, told_short, told_read}
 use Rattle.dns_name.proofs.Texts.{whole-absolute, open_label, whole-result, whole-err, begun_some, begun_none}
-use Rattle.dns_name.proofs.text.Name+Vec+u8.absolute_from_text.Goals as goal
+use Rattle.dns_name.proofs.text.Name+Vec+u8.absolute_from_text_with_room.Goals as goal
 
 read_by : (text : List ℕ) (read of : Option Spelling) → read ≡ of → IsReadBy text read → IsReadBy text of
 read_by text read of is given = let P : Option Spelling → Type 0 = λ r. IsReadBy text r in subst P is given
@@ -31,8 +31,8 @@ returns-then-has_open_label-clause-err c =
     let given = read_by c.args.text.now _ _ c.in-Some.is c.in_ok-spelling.ensures.ok in
     open_label c.args.text.now c.in-Some.spelling given.0 given.1 (begun_some _ _ given.1 (c.if-has_open_label.ensures.0 refl))
 
-pub finish-requires : goal.finish-requires
-finish-requires c =
+pub finish_with_room-requires : goal.finish_with_room-requires
+finish_with_room-requires c =
     let given = read_by c.args.text.now _ _ c.in-Some.is c.in_ok-spelling.ensures.ok in
     let whole = whole-absolute c.args.text.now c.in-Some.spelling given.0 given.1
     (begun_none _ _ given.1 (λ more. let bad = c.if-has_open_label.ensures.1 more in cc)) in
@@ -43,14 +43,14 @@ returns-clause-ok c =
     let given = read_by c.args.text.now _ _ c.in-Some.is c.in_ok-spelling.ensures.ok in
     let whole = whole-absolute c.args.text.now c.in-Some.spelling given.0 given.1
     (begun_none _ _ given.1 (λ more. let bad = c.if-has_open_label.ensures.1 more in cc)) in
-    whole-result _ _ _ c.finish.result whole c.finish.ensures.ok
+    whole-result _ _ _ c.finish_with_room.result whole c.finish_with_room.ensures.ok
 
 pub returns-clause-err : goal.returns-clause-err
 returns-clause-err c =
     let given = read_by c.args.text.now _ _ c.in-Some.is c.in_ok-spelling.ensures.ok in
     let whole = whole-absolute c.args.text.now c.in-Some.spelling given.0 given.1
     (begun_none _ _ given.1 (λ more. let bad = c.if-has_open_label.ensures.1 more in cc)) in
-    whole-err _ _ _ c.finish.result whole c.finish.ensures.err
+    whole-err _ _ _ c.finish_with_room.result whole c.finish_with_room.ensures.err
 
 pub returns-in_err-spelling-clause-relative : goal.returns-in_err-spelling-clause-relative
 returns-in_err-spelling-clause-relative c =
@@ -76,4 +76,4 @@ pub returns-clause-relative : goal.returns-clause-relative
 returns-clause-relative c =
     let given = read_by c.args.text.now _ _ c.in-Some.is c.in_ok-spelling.ensures.ok in
     let none = begun_none _ _ given.1 (λ more. let bad = c.if-has_open_label.ensures.1 more in cc) in
-    told_other c.args.text.now c.finish.result (dotted_lacks c.args.text.now c.in-Some.spelling given.1 none) c.finish.ensures.other
+    told_other c.args.text.now c.finish_with_room.result (dotted_lacks c.args.text.now c.in-Some.spelling given.1 none) c.finish_with_room.ensures.other
