@@ -61,21 +61,72 @@ first_broken message query_error.Malformed fault =
 first_broken message query_error.NotAxfr fault =
     let kept = fault.0 in
     let asks : AsksWith message OfAny = (fault.1, fault.2, fault.3, tt) in
-    inr (kept.long, inr (kept.query, inr (kept.opcode, inr (kept.counts, inr (asks,
-    inl (asks_not OfAxfr fault.3 fault.4, refl))))))
+    inr (
+      kept.long,
+      inr (
+        kept.query,
+        inr (
+          kept.opcode,
+          inr (
+            kept.counts,
+            inr (
+              asks,
+              inl (asks_not OfAxfr fault.3 fault.4, refl),
+            ),
+          ),
+        ),
+      ),
+    )
 first_broken message query_error.ClassAny fault =
     let kept = fault.0 in
     let asks : AsksWith message OfAny = (fault.1, fault.2, fault.3, tt) in
     let axfr : AsksWith message OfAxfr = (fault.1, fault.2, fault.3, fault.4) in
-    inr (kept.long, inr (kept.query, inr (kept.opcode, inr (kept.counts, inr (asks, inr (axfr,
-    inl (asks_not OfOneClass fault.3 (λ not. not fault.5), refl)))))))
+    inr (
+      kept.long,
+      inr (
+        kept.query,
+        inr (
+          kept.opcode,
+          inr (
+            kept.counts,
+            inr (
+              asks,
+              inr (
+                axfr,
+                inl (asks_not OfOneClass fault.3 (λ not. not fault.5), refl),
+              ),
+            ),
+          ),
+        ),
+      ),
+    )
 first_broken message query_error.Trailing fault =
     let kept = fault.0 in
     let asks : AsksWith message OfAny = (fault.1, fault.2, fault.3, tt) in
     let axfr : AsksWith message OfAxfr = (fault.1, fault.2, fault.3, fault.4) in
     let one_class : AsksWith message OfOneClass = (fault.1, fault.2, fault.3, fault.5) in
-    inr (kept.long, inr (kept.query, inr (kept.opcode, inr (kept.counts, inr (asks, inr (axfr, inr (one_class,
-    inl (asks_not (λ q next. next ≡ length message) fault.3 fault.6, refl))))))))
+    inr (
+      kept.long,
+      inr (
+        kept.query,
+        inr (
+          kept.opcode,
+          inr (
+            kept.counts,
+            inr (
+              asks,
+              inr (
+                axfr,
+                inr (
+                  one_class,
+                  inl (asks_not (λ q next. next ≡ length message) fault.3 fault.6, refl),
+                ),
+              ),
+            ),
+          ),
+        ),
+      ),
+    )
 
 all_kept : (message : List ℕ) (query : AxfrQuery) → IsQuery message query → AllKept (query_rules message)
 all_kept message query is =

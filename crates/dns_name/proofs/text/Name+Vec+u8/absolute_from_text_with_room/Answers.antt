@@ -20,11 +20,11 @@ returns-in_err-spelling-clause-err c =
 pub returns-in_err-root-clause-err : goal.returns-in_err-root-clause-err
 returns-in_err-root-clause-err c =
     let p = err_from_is_err_and c.from_residual-in_err-root.result c.from_residual-in_err-root.ensures.1 in
-    rw (p.1, p.2) ([], root (read_by c.args.text.now _ _ c.in_default.is c.in_ok-spelling.ensures.ok))
+    rw (p.1, p.2) ([], root (read_by c.args.text.now _ _ c.in_default-2.is c.in_ok-spelling.ensures.ok))
 
-pub returns-in_default-clause-ok : goal.returns-in_default-clause-ok
-returns-in_default-clause-ok c =
-    rw c.in_ok-root.ensures.root (root (read_by c.args.text.now _ _ c.in_default.is c.in_ok-spelling.ensures.ok))
+pub returns-in_default-2-clause-ok : goal.returns-in_default-2-clause-ok
+returns-in_default-2-clause-ok c =
+    rw c.in_ok-root.ensures.root (root (read_by c.args.text.now _ _ c.in_default-2.is c.in_ok-spelling.ensures.ok))
 
 pub returns-then-has_open_label-clause-err : goal.returns-then-has_open_label-clause-err
 returns-then-has_open_label-clause-err c =
@@ -63,7 +63,7 @@ pub returns-in_err-root-clause-relative : goal.returns-in_err-root-clause-relati
 returns-in_err-root-clause-relative c =
     let p = err_from_is_err_and c.from_residual-in_err-root.result c.from_residual-in_err-root.ensures.1 in
     told_short c.args.text.now c.from_residual-in_err-root.result
-    (root_lacks c.args.text.now (read_by c.args.text.now _ _ c.in_default.is c.in_ok-spelling.ensures.ok)) (p.1 ∙ ap (λ e. Err e) p.2)
+    (root_lacks c.args.text.now (read_by c.args.text.now _ _ c.in_default-2.is c.in_ok-spelling.ensures.ok)) (p.1 ∙ ap (λ e. Err e) p.2)
 
 pub returns-then-has_open_label-clause-relative : goal.returns-then-has_open_label-clause-relative
 returns-then-has_open_label-clause-relative c =
