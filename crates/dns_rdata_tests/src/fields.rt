@@ -115,19 +115,6 @@ fn addresses_are_read(rt: HostRuntime) -> Result<(), Fail> {
 }
 
 #[test]
-fn data_that_is_too_long_is_refused_as_that(rt: HostRuntime) -> Result<(), Fail> {
-    let long = [7u8; 65_536];
-    let mut parser = Parser::from_ref(long.as_slice());
-    let ds = parse_row::<(u16, (u8, (u8, Last<Rest16<&[u8]>>))), 43>(&mut parser);
-    assert!(rt; ds.err() == Some(ReadError::LongRecordData) && parser.pos() == 0);
-    let most = [7u8; 65_535];
-    let mut parser = Parser::from_ref(most.as_slice());
-    let ds = parse_row::<(u16, (u8, (u8, Last<Rest16<&[u8]>>))), 43>(&mut parser);
-    assert!(rt; ds.is_ok() && parser.pos() == 65_535);
-    Ok(())
-}
-
-#[test]
 fn errors_say_what_is_wrong(rt: HostRuntime) -> Result<(), Fail> {
     assert!(rt; ReadError::TrailingData.to_string(rt.alloc())?.as_str() == "trailing data");
     assert!(rt; ParseError::from(ReadError::ShortInput) == ParseError::ShortInput);

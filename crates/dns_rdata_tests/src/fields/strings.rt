@@ -32,6 +32,18 @@ fn one_string_or_more_is_read(rt: HostRuntime) -> Result<(), Fail> {
 }
 
 #[test]
+fn data_that_is_too_long_is_refused_as_that(rt: HostRuntime) -> Result<(), Fail> {
+    let octets = [0u8; 65_536];
+    let mut long = Parser::from_ref(octets.as_slice());
+    let mut most = Parser::from_ref(&octets[1..]);
+    assert!(rt;
+        parse_row::<Last<Strings<&[u8]>>, 16>(&mut long).err() == Some(ReadError::LongRecordData)
+            && parse_row::<Last<Strings<&[u8]>>, 16>(&mut most).is_ok()
+    );
+    Ok(())
+}
+
+#[test]
 fn strings_are_written_as_they_are(rt: HostRuntime) -> Result<(), Fail> {
     let octets = b"\x01A\x00".as_slice();
     let Some(strings) = Strings::from_octets(octets) else {
