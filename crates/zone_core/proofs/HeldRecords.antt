@@ -1,10 +1,8 @@
 -- Records in one piece of memory: the owner's octets, and the data behind them.
-use Rattle.std.proofs.Common.{◌≡◌, ◌++◌, ◌≤◌, ◌∙◌, ℕ, List, length, length-append, ap, sym, subst, arith}
+use Rattle.std.proofs.Common.{◌≡◌, ◌++◌, ◌≤◌, ◌∙◌, ℕ, List, length, length-append, ap, arith}
 use Rattle.std.specs.Prelude.{take, drop}
 use Rattle.std.proofs.Math.Seq.{take-append_seam, drop-append_seam}
 use Rattle.dns_label.specs.Name.{IsName, wire}
-use Rattle.dns_label.specs.Labels.{labels_at}
-use Rattle.dns_name.specs.Flat.{IsWritten}
 use Rattle.dns_name.proofs.Flat.{flat-labels, flat-written}
 use Rattle.zone_core.specs.Owned.{AreOwned, Held, held}
 

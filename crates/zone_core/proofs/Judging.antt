@@ -1,5 +1,5 @@
 -- A frame is judged behind those that are.
-use Rattle.std.proofs.Common.{◌≡◌, ℕ, ◌+◌, ◌-◌, ◌<◌, Bool, true, false, List, [], ◌∷◌, ◌++◌, length, take, drop, refl, sym, ap, ◌∙◌, subst, arith, append_assoc, append-nil, length-append}
+use Rattle.std.proofs.Common.{◌≡◌, ℕ, ◌+◌, ◌-◌, Bool, true, false, List, [], ◌∷◌, ◌++◌, length, take, drop, refl, sym, ap, ◌∙◌, subst, arith, append_assoc, append-nil, length-append}
 use Rattle.std.proofs.Math.Seq.{take-append_seam}
 use Rattle.std.proofs.lemmas.List.{same_from_push}
 use Rattle.std.proofs.lemmas.List.Concat.{flat_map-append}
@@ -23,7 +23,7 @@ use Rattle.zone_core.specs.declared.receive.error.ReceiveError.{ReceiveError}
 use Rattle.zone_core.specs.declared.receive.error.ReceiveError.TheVariants as receive_error
 use Rattle.zone_core.proofs.LastRecord.{all_append}
 use Rattle.zone_core.proofs.LawfulRecords.{closed_not_open}
-use Rattle.zone_core.proofs.AnswerGroups.{answers_push, first_behind, first_of_stream}
+use Rattle.zone_core.proofs.AnswerGroups.{answers_push, first_of_stream}
 use Rattle.zone_core.proofs.Intakes.{rest_is}
 
 -- the message within its frame

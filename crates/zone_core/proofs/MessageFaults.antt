@@ -1,6 +1,5 @@
 -- A message breaks one rule first, and one that carries records of a transfer breaks none.
 use Rattle.std.proofs.Common.{◌≡◌, ◌≢◌, ◌⊎◌, ℕ, ◌+◌, ◌<◌, ◌≤◌, Bool, true, false, List, ◌∷◌, ◌++◌, length, refl, sym, ap, ◌∙◌, subst, arith, append_assoc, inl, inr}
-use Rattle.std.specs.Prelude.{⊤}
 use Rattle.dns_header.specs.Header.{is_response, opcode_of, rcode_of, answer_count, id_of}
 use Rattle.zone_core.specs.Record.{Record}
 use Rattle.zone_core.specs.Zone.{IsUnder}

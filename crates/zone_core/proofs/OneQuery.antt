@@ -1,5 +1,5 @@
 -- Octets are one query, or break one rule first.
-use Rattle.std.proofs.Common.{◌≡◌, ◌≢◌, ◌+◌, ◌≤◌, ℕ, Bool, true, false, List, length, refl, sym, ap, ◌∙◌, subst, arith, inl, inr}
+use Rattle.std.proofs.Common.{◌≡◌, ◌≢◌, ◌+◌, ◌≤◌, ℕ, false, List, length, refl, sym, ap, ◌∙◌, subst, arith, inl, inr}
 use Rattle.dns_label.proofs.Spelling.{reads_one}
 use Rattle.dns_header.specs.Header.{number_at, is_response, opcode_of}
 use Rattle.dns_header.specs.Question.{Question, ReadsQuestion}

@@ -1,15 +1,12 @@
 -- The reading of a zone's text, entry by entry.
-use Rattle.std.proofs.Common.{◌≡◌, ◌≢◌, ℕ, ◌+◌, ◌<◌, ◌≤◌, ◌^◌, Bool, true, false, List, [], ◌∷◌, ◌++◌, length, map, refl, sym, ◌∙◌, ap, subst, arith, append-nil, length-append}
-use Rattle.std.specs.Prelude.{⊤}
+use Rattle.std.proofs.Common.{◌≡◌, ◌≢◌, ℕ, ◌+◌, ◌<◌, ◌^◌, List, [], ◌∷◌, ◌++◌, length, sym, ◌∙◌, subst, arith, append-nil}
 use Rattle.std.specs.List.{AllByRecursion}
-use Rattle.std.proofs.lemmas.List.{map-append}
-use Rattle.dns_text.specs.Tokens.{is_end}
 use Rattle.zone_core.specs.Record.{Record}
 use Rattle.zone_core.specs.Records.{IsRecordOf, AreRecordsOf}
-use Rattle.zone_core.specs.Zone.{IsUnder, IsZone, IsZoneFront, any_class, soa_type}
-use Rattle.zone_core.specs.ZoneText.{Entries, IsZoneText, IsZoneFault, IsRefused, StopsAt, Reaches}
+use Rattle.zone_core.specs.Zone.{IsZoneFront, any_class}
+use Rattle.zone_core.specs.ZoneText.{Entries, IsZoneText, IsZoneFault, Reaches}
 use Rattle.zone_core.specs.ZoneText.Entries.{none}
-use Rattle.zone_core.specs.Entry.{EndsBehindRows, RefusedBehindRows}
+use Rattle.zone_core.specs.Entry.{EndsBehindRows}
 use Rattle.zone_core.specs.Rules.{BreaksRule}
 use Rattle.zone_core.specs.Reading.{BeginsWith, IsWhole, StopsReading}
 use Rattle.zone_core.specs.declared.zone_error.ZoneError.{ZoneError}

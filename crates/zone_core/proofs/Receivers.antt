@@ -1,5 +1,5 @@
 -- How far a receiver is.
-use Rattle.std.proofs.Common.{◌≡◌, Some, None, refl}
+use Rattle.std.proofs.Common.{◌≡◌, None, refl}
 use Rattle.zone_core.specs.Query.{AxfrQuery}
 use Rattle.zone_core.specs.Receiving.{IsWholeTransfer}
 use Rattle.zone_core.specs.Received.{IsAt, kept_in}

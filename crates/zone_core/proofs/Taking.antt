@@ -1,5 +1,5 @@
 -- A piece is taken behind what was.
-use Rattle.std.proofs.Common.{◌≡◌, ℕ, Vec, Global, ◌+◌, ◌-◌, ◌<◌, ◌≤◌, List, [], ◌∷◌, ◌++◌, length, take, drop, refl, sym, ap, ◌∙◌, subst, arith, append_assoc, append-nil, length-append, length-drop, ◌⊎◌, inl, inr}
+use Rattle.std.proofs.Common.{◌≡◌, ℕ, Vec, Global, ◌+◌, ◌-◌, ◌<◌, ◌≤◌, List, [], ◌∷◌, ◌++◌, length, take, drop, sym, ap, ◌∙◌, subst, arith, length-append, length-drop, ◌⊎◌, inl, inr}
 use Rattle.std.proofs.Math.Seq.{take-append-add}
 use Rattle.std.proofs.lemmas.List.{drop-append-le}
 use Rattle.std.specs.Int.{to_be_bytes, from_be_bytes, w16}
@@ -10,7 +10,7 @@ use Rattle.std.specs.List.{AllByRecursion}
 use Rattle.zone_core.specs.Owned.{Held, records_of}
 use Rattle.zone_core.specs.Records.{IsRecordOf}
 use Rattle.zone_core.specs.Transfer.{WrittenOut, IsTransferIn}
-use Rattle.zone_core.specs.Intake.{BeginsWithFrame, EndsTransfer, HasFrame, IsEnded, IsWaiting, Judged}
+use Rattle.zone_core.specs.Intake.{BeginsWithFrame, EndsTransfer, IsEnded, Judged}
 use Rattle.zone_core.specs.declared.receive.intake.Intake.{Intake}
 
 -- a place that is judged is within the octets

@@ -1,18 +1,18 @@
 -- What a receiver holds while a stream comes in. Only contracts inside the crate speak of it.
-use Rattle.std.specs.Prelude.{◌≡◌, ◌+◌, ◌<◌, ◌≤◌, ◌⊎◌, ℕ, Bool, true, false, Option, Some, None, List, [], ◌∷◌, ◌++◌, length, take, drop, ⊤}
+use Rattle.std.specs.Prelude.{◌≡◌, ◌+◌, ℕ, Bool, true, false, List, ◌++◌, length, take, drop, ⊤}
 use Rattle.std.specs.List.{AllByRecursion, push}
 use Rattle.dns_octets.specs.declared.parser.Parser.{Parser}
 use Rattle.dns_octets.specs.Parser.{octets_of, place_of}
-use Rattle.dns_label.specs.Name.{IsName, wire, low}
+use Rattle.dns_label.specs.Name.{IsName, wire}
 use Rattle.dns_header.specs.Question.{Question}
 use Rattle.zone_core.specs.Record as spec
 use Rattle.zone_core.specs.Query.{AxfrQuery}
 use Rattle.zone_core.specs.Frames.{frame, frames, IsFramable, IsPartial}
 use Rattle.zone_core.specs.Cutting.{joined}
-use Rattle.zone_core.specs.Owned.{record_of, records_of}
+use Rattle.zone_core.specs.Owned.{records_of}
 use Rattle.zone_core.specs.Records.{IsRecordOf}
 use Rattle.zone_core.specs.Transfer.{WrittenOut, HasRecord, IsAnswer, AreAnswers, IsTransferred, ClosesTransfer, IsTransferIn}
-use Rattle.zone_core.specs.Receiving.{IsOpen, IsRecordFault, IsMessageFault, IsStreamFault, KeepsRulesTo}
+use Rattle.zone_core.specs.Receiving.{IsOpen, KeepsRulesTo}
 use Rattle.zone_core.specs.declared.receive.error.ReceiveError.{ReceiveError}
 use Rattle.zone_core.specs.declared.receive.error.ReceiveError.TheVariants as receive_error
 use Rattle.zone_core.specs.declared.receive.record.RecordError.{RecordError}

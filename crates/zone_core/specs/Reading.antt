@@ -1,5 +1,5 @@
 -- How far the reading of a zone's text has come. Only contracts inside the crate speak of it.
-use Rattle.std.specs.Prelude.{◌≡◌, ◌≢◌, ℕ, true, List, ⊤}
+use Rattle.std.specs.Prelude.{◌≡◌, ℕ, true, List, ⊤}
 use Rattle.std.specs.List.{AllByRecursion}
 use Rattle.dns_text.specs.Tokens.{is_end}
 use Rattle.zone_core.specs.Record.{Record}

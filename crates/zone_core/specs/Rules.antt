@@ -1,5 +1,5 @@
 -- Which rule of a zone a record breaks behind those in front of it. Only contracts inside the crate speak of it.
-use Rattle.std.specs.Prelude.{◌≡◌, ◌≢◌, ◌+◌, ℕ, List, [], ◌∷◌, length}
+use Rattle.std.specs.Prelude.{◌≡◌, ◌≢◌, ◌+◌, List, [], ◌∷◌, length}
 use Rattle.zone_core.specs.Record.{Record}
 use Rattle.zone_core.specs.Zone.{IsUnder, soa_type}
 use Rattle.zone_core.specs.declared.zone_error.ZoneError.{ZoneError}

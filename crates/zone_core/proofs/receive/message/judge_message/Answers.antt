@@ -1,6 +1,6 @@
-use Rattle.std.proofs.Common.{◌≡◌, ◌+◌, ◌<◌, ℕ, Bool, List, length, refl, arith, ap, sym, ◌∙◌, subst}
+use Rattle.std.proofs.Common.{◌≡◌, List, arith, ap, sym, ◌∙◌, subst}
 use Rattle.std.proofs.lemmas.Result.{err_from_is_err_and}
-use Rattle.dns_octets.specs.Parser.{octets_of, place_of}
+use Rattle.dns_octets.specs.Parser.{octets_of}
 use Rattle.zone_core.specs.Record as spec
 use Rattle.zone_core.specs.Asked.{asked_of}
 use Rattle.zone_core.specs.Owned.{records_of}

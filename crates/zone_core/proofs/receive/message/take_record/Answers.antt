@@ -1,11 +1,10 @@
-use Rattle.std.proofs.Common.{◌≡◌, ◌+◌, ℕ, List, length, arith, ap, sym, ◌∙◌, subst}
+use Rattle.std.proofs.Common.{List, arith, ap, sym, ◌∙◌, subst}
 use Rattle.std.proofs.lemmas.Result.{err_from_is_err_and}
 use Rattle.dns_octets.specs.Parser.{octets_of, place_of}
 use Rattle.zone_core.specs.Record as spec
 use Rattle.zone_core.specs.declared.receive.error.ReceiveError.{ReceiveError}
 use Rattle.zone_core.specs.Asked.{asked_of}
 use Rattle.zone_core.specs.Owned.{Held, record_of, records_of}
-use Rattle.zone_core.specs.Transfer.{WrittenOut, HasRecord}
 use Rattle.zone_core.specs.Receiving.{IsRecordFault}
 use Rattle.zone_core.specs.Intake.{StandsAt}
 use Rattle.zone_core.proofs.TakenRecords.{fault_or, stands_counted, records_length, records_push, takes_last, takes_inner}

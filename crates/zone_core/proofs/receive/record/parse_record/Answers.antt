@@ -1,8 +1,7 @@
-use Rattle.std.proofs.Common.{◌≡◌, ℕ, List, ◌++◌, ◌<◌, ◌^◌, ap, ◌∙◌, sym, length, arith, refl, subst}
+use Rattle.std.proofs.Common.{◌≡◌, ℕ, ◌++◌, ◌<◌, ◌^◌, ap, ◌∙◌, sym, length, arith, refl, subst}
 use Rattle.std.specs.Prelude.{take}
 use Rattle.std.specs.Int.{to_be_bytes, w16, w32}
 use Rattle.dns_octets.specs.Parser.{octets_of, place_of, rest_of}
-use Rattle.dns_rdata.specs.Fields.{IsData}
 use Rattle.dns_message.specs.Record.{ReadsPlainRecord}
 use Rattle.zone_core.specs.Record as spec
 use Rattle.zone_core.specs.Records.{IsRecordOf}

@@ -1,4 +1,3 @@
-use Rattle.std.proofs.Common.{◌∙◌, refl}
 use Rattle.zone_core.proofs.RecordData.{a_none, a_made}
 use Rattle.zone_core.proofs.text.rdata.append_a.Goals as goal
 

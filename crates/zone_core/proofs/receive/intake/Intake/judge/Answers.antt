@@ -1,12 +1,7 @@
-use Rattle.std.proofs.Common.{◌≡◌, ◌+◌, ◌-◌, ℕ, Bool, true, false, List, take, drop, refl, ap, sym, ◌∙◌, subst}
+use Rattle.std.proofs.Common.{refl}
 use Rattle.std.proofs.lemmas.Bool.Decides.{Decides-eqb}
 use Rattle.std.proofs.lemmas.Result.{err_from_is_err_and}
-use Rattle.zone_core.specs.Record as spec
 use Rattle.zone_core.specs.Asked.{asked_of}
-use Rattle.zone_core.specs.Owned.{records_of}
-use Rattle.zone_core.specs.Receiving.{IsMessageFault}
-use Rattle.zone_core.specs.Intake.{IsFaultOr, TakesMessage}
-use Rattle.zone_core.specs.declared.receive.error.ReceiveError.{ReceiveError}
 use Rattle.zone_core.proofs.Judging.{first_where, framed_message, judged_bad, judged_last, judged_on, next_judged, on_false, on_true}
 use Rattle.zone_core.proofs.receive.intake.Intake.judge.Goals as goal
 

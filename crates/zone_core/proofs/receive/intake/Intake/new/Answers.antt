@@ -1,4 +1,4 @@
-use Rattle.std.proofs.Common.{◌≡◌, ℕ, List, [], refl, ap, sym, subst}
+use Rattle.std.proofs.Common.{List, [], refl, ap, sym, subst}
 use Rattle.std.specs.List.{AllByRecursion}
 use Rattle.zone_core.specs.Owned.{Held, records_of}
 use Rattle.zone_core.specs.Records.{IsRecordOf}

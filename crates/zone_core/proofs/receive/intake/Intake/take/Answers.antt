@@ -1,4 +1,4 @@
-use Rattle.std.proofs.Common.{◌≡◌, ◌+◌, ◌-◌, ◌<◌, ◌≤◌, ℕ, List, ◌++◌, length, take, refl, arith, ap, sym, ◌∙◌, length-append}
+use Rattle.std.proofs.Common.{◌≡◌, ◌-◌, ℕ, List, ◌++◌, length, take, refl, arith, ap, sym, ◌∙◌, length-append}
 use Rattle.zone_core.specs.Asked.{asked_of}
 use Rattle.zone_core.proofs.Streams.{at_true}
 use Rattle.zone_core.proofs.Taking.{ended_here, ends_past, ends_within, judged_within, taken_front}

@@ -1,6 +1,6 @@
-use Rattle.std.proofs.Common.{◌≡◌, ◌+◌, ◌<◌, ◌≤◌, ◌^◌, ℕ, List, length, arith, ap, refl, ◌∙◌}
+use Rattle.std.proofs.Common.{◌≡◌, length, arith, ap, refl, ◌∙◌}
 use Rattle.std.specs.Int.{to_be_bytes, w16}
-use Rattle.dns_octets.specs.Parser.{octets_of, place_of, rest_of}
+use Rattle.dns_octets.specs.Parser.{octets_of}
 use Rattle.dns_name.proofs.Flat.{always_on_err}
 use Rattle.zone_core.proofs.Questions.{too_few}
 use Rattle.zone_core.proofs.PlainFronts.{question_read, no_question_read}

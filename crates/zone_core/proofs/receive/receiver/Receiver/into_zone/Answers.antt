@@ -1,4 +1,4 @@
-use Rattle.std.proofs.Common.{◌≡◌, List, Vec, Global, sym, subst}
+use Rattle.std.proofs.Common.{Vec, Global, sym, subst}
 use Rattle.zone_core.specs.Asked.{asked_of}
 use Rattle.zone_core.specs.Owned.{Held, records_of}
 use Rattle.zone_core.specs.Records.{AreRecordsOf}
