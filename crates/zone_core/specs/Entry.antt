@@ -1,5 +1,6 @@
 -- What the reader of entries gives. Only contracts inside the crate speak of it.
-use Rattle.std.specs.Prelude.{◌≡◌, ◌≢◌, ◌++◌, ℕ, true, false, List, [], map, slice_index, ⊤}
+use Rattle.std.specs.Prelude.{◌≡◌, ◌≢◌, ◌++◌, ◌<◌, ◌^◌, ℕ, true, false, List, [], length, map, slice_index, ⊤}
+use Rattle.std.specs.Int.{to_be_bytes, w16}
 use Rattle.std.specs.Borrow.{Bor}
 use Rattle.std.specs.List.{AllByRecursion}
 use Rattle.dns_label.specs.declared.symbol.Symbol.{Symbol}
@@ -11,7 +12,6 @@ use Rattle.dns_name.specs.declared.text.FromStrError.{FromStrError}
 use Rattle.dns_name.specs.declared.text.FromStrError.TheVariants.{Presentation, ShortBuf}
 use Rattle.zone_core.specs.Record as spec
 use Rattle.zone_core.specs.ZoneText.{Entries, IsRefused}
-pub use Rattle.zone_core.specs.Owned.{record_of}
 use Rattle.zone_core.specs.declared.text.blank.RowStart.{RowStart}
 use Rattle.zone_core.specs.declared.text.blank.RowStart.TheVariants.{Empty, End, Tokens}
 use Rattle.zone_core.specs.declared.text.entry.EntryError.{EntryError}
@@ -46,11 +46,16 @@ pub record SpellsData (rtype : ℕ) (words : List (List ℕ)) (data' : List ℕ)
   pub spelled : DataWords rtype words row
   pub is : data' ≡ octets row
 
--- so much was appended as the words spell of data of the type
+-- data behind its length, as a record has it (RFC 1035 3.2.1)
+abbrev pub behind_length : List ℕ → List ℕ
+behind_length data' = to_be_bytes w16 (length data') ++ data'
+
+-- the data was appended that the words spell of the type, behind its length
 pub record AppendsData (rtype : ℕ) (words : List (List ℕ)) (old new : List ℕ) : Type 0 where
   pub appended : List ℕ
   pub spells : SpellsData rtype words appended
-  pub whole : new ≡ old ++ appended
+  pub whole : new ≡ old ++ behind_length appended
+  pub few : length appended < 2 ^ 16
 
 -- what an error for the text says. An error for want of memory says nothing.
 abbrev pub OnText : EntryError → Type 0 → Type 0

@@ -9,14 +9,11 @@ use Rattle.zone_core.specs.Record as spec
 use Rattle.zone_core.specs.Query.{AxfrQuery}
 use Rattle.zone_core.specs.Frames.{frame, frames, IsFramable, IsPartial}
 use Rattle.zone_core.specs.Cutting.{joined}
-use Rattle.zone_core.specs.Owned.{records_of}
 use Rattle.zone_core.specs.Records.{IsRecordOf}
 use Rattle.zone_core.specs.Transfer.{WrittenOut, HasRecord, IsAnswer, AreAnswers, IsTransferred, ClosesTransfer, IsTransferIn}
 use Rattle.zone_core.specs.Receiving.{IsOpen, KeepsRulesTo}
 use Rattle.zone_core.specs.declared.receive.error.ReceiveError.{ReceiveError}
 use Rattle.zone_core.specs.declared.receive.error.ReceiveError.TheVariants as receive_error
-use Rattle.zone_core.specs.declared.receive.record.RecordError.{RecordError}
-use Rattle.zone_core.specs.declared.receive.record.RecordError.TheVariants as record_error
 use Rattle.zone_core.specs.declared.receive.rules.Placing.{Placing}
 use Rattle.zone_core.specs.declared.receive.rules.Placing.TheVariants as placing
 use Rattle.zone_core.specs.declared.receive.question.PlainQuestion.{PlainQuestion}
@@ -36,11 +33,6 @@ IsSoaData octets soa = IsSoaOf octets soa.mname soa.rname soa.numbers.now
 -- the question as the standard has it
 abbrev pub question_in : PlainQuestion → Question
 question_in q = record { name = q.name; qtype = q.qtype; qclass = q.qclass }
-
--- what a refused record says of the place. Want of memory says nothing.
-abbrev pub OnMalformed : RecordError → Type 0 → Type 0
-OnMalformed record_error.Malformed P = P
-OnMalformed record_error.OutOfMemory P = ⊤
 
 -- a fault by a rule, or want of memory
 abbrev pub IsFaultOr : (ReceiveError → Type 0) → ReceiveError → Type 0
@@ -90,9 +82,9 @@ pub record Judged (intake : Intake) (query : AxfrQuery) : Type 0 where
   pub place : intake.judged ≡ length (frames messages)
   pub groups : List (List spec.Record)
   pub answers : AreAnswers WrittenOut query true messages groups
-  pub joins : joined groups ≡ records_of query.class intake.records.items
+  pub joins : joined groups ≡ intake.records
   pub still_open : IsOpen query (joined groups)
-  pub known : AllByRecursion (IsRecordOf query.class) (records_of query.class intake.records.items)
+  pub known : AllByRecursion (IsRecordOf query.class) intake.records
 
 -- and what stands behind them is less than a whole one
 pub record IsWaiting (intake : Intake) (query : AxfrQuery) : Type 0 where
@@ -101,8 +93,8 @@ pub record IsWaiting (intake : Intake) (query : AxfrQuery) : Type 0 where
 
 -- The octets are a transfer, and its records are held.
 pub record IsEnded (intake : Intake) (query : AxfrQuery) : Type 0 where
-  pub transfer : IsTransferIn WrittenOut query intake.octets.items (records_of query.class intake.records.items)
-  pub known : AllByRecursion (IsRecordOf query.class) (records_of query.class intake.records.items)
+  pub transfer : IsTransferIn WrittenOut query intake.octets.items intake.records
+  pub known : AllByRecursion (IsRecordOf query.class) intake.records
 
 -- The stream begins with a whole frame, of so many octets.
 pub record BeginsWithFrame (stream : List ℕ) (len : ℕ) : Type 0 where
@@ -120,5 +112,5 @@ pub record HasFrame (intake : Intake) (end : ℕ) : Type 0 where
 
 -- the message that ends there ends the transfer
 pub record EndsTransfer (intake : Intake) (query : AxfrQuery) (end : ℕ) : Type 0 where
-  pub transfer : IsTransferIn WrittenOut query (take end intake.octets.items) (records_of query.class intake.records.items)
-  pub known : AllByRecursion (IsRecordOf query.class) (records_of query.class intake.records.items)
+  pub transfer : IsTransferIn WrittenOut query (take end intake.octets.items) intake.records
+  pub known : AllByRecursion (IsRecordOf query.class) intake.records

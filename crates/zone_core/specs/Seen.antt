@@ -1,7 +1,8 @@
 -- The record that a caller sees one by one.
+use Rattle.std.specs.Prelude.{List, [], get_or}
 use Rattle.zone_core.specs.Record.{Record}
-use Rattle.zone_core.specs.Owned.{record_of}
-use Rattle.zone_core.specs.declared.zone.ZoneRecord.{ZoneRecord}
+use Rattle.zone_core.specs.declared.zone_records.ZoneRecord.{ZoneRecord}
 
+-- it stands in the list; the other that is named here is never seen
 abbrev pub seen_record : ZoneRecord → Record
-seen_record r = record_of r.class r.record.now
+seen_record r = get_or r.list.now r.index (record { owner = []; rtype = 0; class = 0; ttl = 0; rdata = [] })

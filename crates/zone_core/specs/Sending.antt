@@ -32,7 +32,6 @@ pub record IsFor (sender : Sender) (query : AxfrQuery) : Type 0 where
   pub small : sender.max < 2 ^ 16
   pub name : IsName query.name
   pub opening : sender.opening.items ≡ message query []
-  pub class_is : sender.class ≡ query.class
 
 -- The last message begins at `start` with this group of records, behind the frames of these groups. Its length and its
 -- count of answers may still be wrong.

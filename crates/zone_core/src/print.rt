@@ -2,7 +2,6 @@
 ghost use Rattle.std.specs.Prelude.{IfOk};
 ghost use Rattle.std.specs.List.{AllByRecursion};
 ghost use Rattle.dns_text.specs.Document.Layout.{Simple as simple_layout};
-ghost use Rattle.zone_core.specs.Owned.{records_of};
 ghost use Rattle.zone_core.specs.Printed.{IsPrinted};
 ghost use Rattle.zone_core.specs.Records.{IsRecordOf};
 
@@ -12,7 +11,7 @@ mod number;
 mod record;
 
 use crate::print::record::print_record;
-use crate::record::Record;
+use crate::record_list::RecordList;
 use dns_name::Class;
 use std::alloc::{AllocError, Global};
 
@@ -26,16 +25,16 @@ pub enum DisplayKind {
 /// The text of the records of the class, one on each line.
 pub(crate) fn print_records(
     alloc: Global,
-    records: &[Record],
+    records: &RecordList,
     class: Class,
 ) -> Result<Vec<u8>, AllocError>
-    requires { AllByRecursion (IsRecordOf class) (records_of class records.now) }
-    ensures { IfOk result (λ text. IsPrinted simple_layout (records_of class records.now) text.items) }
+    requires { AllByRecursion (IsRecordOf class) records.now }
+    ensures { IfOk result (λ text. IsPrinted simple_layout records.now text.items) }
 {
     let class_text = class.to_string(alloc)?;
     let mut text = Vec::new(alloc);
-    for record in records {
-        print_record(&mut text, class_text.as_bytes(), record)?;
+    for i in 0..records.len() {
+        print_record(&mut text, class_text.as_bytes(), &records.record_at(i))?;
     }
     Ok(text)
 }

@@ -5,13 +5,11 @@ ghost use Rattle.dns_label.specs.Name.{IsName};
 ghost use Rattle.dns_message.specs.Record.{record_octets};
 ghost use Rattle.zone_core.specs.Record as spec;
 ghost use Rattle.zone_core.specs.Asked.{asked_by};
-ghost use Rattle.zone_core.specs.Owned.{record_of};
 ghost use Rattle.zone_core.specs.Query.{AxfrQuery};
 ghost use Rattle.zone_core.specs.Sent.{message};
 
 use crate::query::Query;
-use crate::record::Record;
-use dns_name::{Class, Name, Rtype};
+use dns_name::{Name, Rtype};
 use std::alloc::{AllocError, Global};
 
 /// The octets of a message's length on a stream.
@@ -20,16 +18,12 @@ const LENGTH_OCTETS: usize = 2;
 /// The place of the count of answers in a message (RFC 1035 4.1.1).
 const ANSWER_COUNT: usize = 6;
 
-/// The octets of a record besides its owner and its data (RFC 1035 3.2.1).
-const FIXED_OCTETS: usize = 10;
-
 /// A stream of whole frames, to whose last message records are still added.
 #[derive(Debug, Drop)]
 pub(crate) struct Sender {
     stream: Vec<u8>,
     /// A message without answers: header and question.
     opening: Vec<u8>,
-    class: Class,
     max: usize,
     /// Where the last message begins, behind its length; None before the first.
     last: Option<usize>,
@@ -57,24 +51,24 @@ impl Sender {
         Ok(Sender {
             stream: Vec::new(alloc),
             opening: opening(alloc, query, name)?,
-            class: query.class(),
             max: usize::from(max),
             last: None,
             answers: 0,
         })
     }
 
-    /// Adds a record to the last message, or where it has no room there to a new one. False where it has none there
-    /// either.
-    pub(crate) fn put(&mut self, record: &Record) -> Result<bool, AllocError>
-        requires { (query : AxfrQuery) × (records : List spec.Record) × Holds self.old query records }
-        ensures placed { IfOk result (λ placed. OnTrue placed ((query : AxfrQuery) (records : List spec.Record) →
-            Holds self.old query records → Holds self.new query (push records (record_of query.class «record».now)))) }
-        ensures refused { IfOk result (λ placed. OnFalse placed ((query : AxfrQuery) (records : List spec.Record) →
-            Holds self.old query records → FitsNowhere self.old query records (record_of query.class «record».now))) }
+    /// Adds a record, written out, to the last message, or where it has no room there to a new one. False where it has none
+    /// there either.
+    pub(crate) fn put(&mut self, record: &[u8]) -> Result<bool, AllocError>
+        requires holds { (query : AxfrQuery) × (records : List spec.Record) × Holds self.old query records }
+        requires is_record { (r : spec.Record) × («record».now ≡ record_octets r) }
+        ensures placed { IfOk result (λ placed. OnTrue placed ((query : AxfrQuery) (records : List spec.Record) (r : spec.Record) →
+            «record».now ≡ record_octets r → Holds self.old query records → Holds self.new query (push records r))) }
+        ensures refused { IfOk result (λ placed. OnFalse placed ((query : AxfrQuery) (records : List spec.Record) (r : spec.Record) →
+            «record».now ≡ record_octets r → Holds self.old query records → FitsNowhere self.old query records r)) }
         ensures max { OnOk result (self.new.max ≡ self.old.max) }
     {
-        let len = record_len(record);
+        let len = record.len();
         if let Some(start) = self.last_with_room(len) {
             self.append(start, record)?;
             return Ok(true);
@@ -124,16 +118,16 @@ impl Sender {
     }
 
     /// Adds a record to the last message, which begins at `start` and has room, and counts it.
-    fn append(&mut self, start: usize, record: &Record) -> Result<(), AllocError>
+    fn append(&mut self, start: usize, record: &[u8]) -> Result<(), AllocError>
         requires { (query : AxfrQuery) × (front : List (List spec.Record)) × (group : List spec.Record) × (mark count : List ℕ) ×
-            Stands self.old query start front group mark count ×
-            (size query group + length (record_octets (record_of query.class «record».now)) ≤ self.old.max) }
-        ensures whole { OnOk result ((query : AxfrQuery) (front : List (List spec.Record)) (group : List spec.Record) (mark count : List ℕ) →
-            Stands self.old query start front group mark count →
-            StandsWhole self.new query start front (push group (record_of query.class «record».now))) }
+            Stands self.old query start front group mark count × (size query group + length «record».now ≤ self.old.max)
+            × (r : spec.Record) × («record».now ≡ record_octets r) }
+        ensures whole { OnOk result ((query : AxfrQuery) (front : List (List spec.Record)) (group : List spec.Record) (mark count : List ℕ)
+            (r : spec.Record) → «record».now ≡ record_octets r → Stands self.old query start front group mark count →
+            StandsWhole self.new query start front (push group r)) }
         ensures max { OnOk result (self.new.max ≡ self.old.max) }
     {
-        append_record(&mut self.stream, self.class, record)?;
+        self.stream.extend_from_slice(record)?;
         self.answers += 1;
         let len = (self.stream.len() - start) as u16;
         patch(&mut self.stream, start - LENGTH_OCTETS, len);
@@ -157,30 +151,6 @@ fn opening(alloc: Global, query: &Query<'_>, name: &Name<Vec<u8>>) -> Result<Vec
     opening.extend_from_slice(&Rtype::AXFR.to_int().to_be_bytes())?;
     opening.extend_from_slice(&query.class().to_int().to_be_bytes())?;
     Ok(opening)
-}
-
-/// How many octets a record takes with every name written out (RFC 1035 3.2.1).
-fn record_len(record: &Record) -> usize
-    ensures octets { (class : ℕ) → result ≡ length (record_octets (record_of class «record».now)) }
-    ensures small { result < 2 ^ 63 + 2 ^ 16 }
-{
-    record.owner().len() + FIXED_OCTETS + record.data().len()
-}
-
-/// Appends a record with every name written out (RFC 1035 3.2.1).
-fn append_record(stream: &mut Vec<u8>, class: Class, record: &Record) -> Result<(), AllocError>
-    requires { length «record».now.rdata < 2 ^ 16 }
-    ensures { OnOk result (stream.new.items ≡ stream.old.items ++ record_octets (record_of class «record».now)) }
-{
-    let [type_high, type_low] = record.rtype().to_int().to_be_bytes();
-    let [class_high, class_low] = class.to_int().to_be_bytes();
-    let [a, b, c, d] = record.ttl().as_secs().to_be_bytes();
-    let [len_high, len_low] = (record.data().len() as u16).to_be_bytes();
-    stream.extend_from_slice(record.owner().as_slice())?;
-    stream.extend_from_slice(&[
-        type_high, type_low, class_high, class_low, a, b, c, d, len_high, len_low,
-    ])?;
-    stream.extend_from_slice(record.data())
 }
 
 /// Writes a number over the two octets at a place.

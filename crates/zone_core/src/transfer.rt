@@ -1,7 +1,6 @@
 //! A zone as the stream of its transfer.
 ghost use Rattle.std.specs.Prelude.{◌≡◌, ◌↔◌, [], IsTrue, IfOk, IfErr};
 ghost use Rattle.zone_core.specs.Asked.{asked_by};
-ghost use Rattle.zone_core.specs.Owned.{records_of};
 ghost use Rattle.zone_core.specs.Query.{AxfrQuery, IsQuery};
 ghost use Rattle.zone_core.specs.Sent.{AsksFor, IsSent, IsSendFault};
 ghost use Rattle.zone_core.specs.Sending.{Holds, IsRefusedBy};
@@ -9,7 +8,7 @@ ghost use Rattle.zone_core.specs.Transfer.{IsExactTransfer};
 ghost use Rattle.zone_core.specs.View.{apex_of};
 
 use crate::query::{Query, check_query};
-use crate::record::Record;
+use crate::record_list::RecordList;
 use crate::send_error::SendError;
 use crate::sender::Sender;
 use crate::zone::Zone;
@@ -51,7 +50,7 @@ pub fn send(
     match spelling {
         Spelling::Plain => {
             let sender = Sender::new(alloc, &query, &name, max)?;
-            send_records(sender, zone.owned_records())
+            send_records(sender, zone.list())
         }
     }
 }
@@ -65,22 +64,20 @@ fn asks_for(query: &Query<'_>, name: &Name<Vec<u8>>, zone: &Zone) -> bool
 }
 
 /// The stream of these records and the first of them again.
-fn send_records(mut sender: Sender, records: &[Record]) -> Result<Vec<u8>, SendError>
+fn send_records(mut sender: Sender, records: &RecordList) -> Result<Vec<u8>, SendError>
     requires { (query : AxfrQuery) × Holds sender query [] }
     ensures ok { IfOk result (λ stream. (query : AxfrQuery) → Holds sender query [] →
-        IsSent (records_of query.class records.now) query sender.max stream.items) }
+        IsSent records.now query sender.max stream.items) }
     ensures err { IfErr result (λ error. (query : AxfrQuery) → Holds sender query [] →
-        IsRefusedBy query sender.max (records_of query.class records.now) error) }
+        IsRefusedBy query sender.max records.now error) }
 {
-    for (i, record) in records.iter().enumerate() {
-        if !sender.put(record)? {
+    for i in 0..records.len() {
+        if !sender.put(records.octets_at(i))? {
             return Err(SendError::Record(i + 1));
         }
     }
-    if let Some(soa) = records.first() {
-        if !sender.put(soa)? {
-            return Err(SendError::Record(records.len() + 1));
-        }
+    if !records.is_empty() && !sender.put(records.octets_at(0))? {
+        return Err(SendError::Record(records.len() + 1));
     }
     Ok(sender.into_stream())
 }

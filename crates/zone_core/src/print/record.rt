@@ -6,7 +6,6 @@ ghost use Rattle.std.specs.Net.Text.{ipv4_text};
 ghost use Rattle.dns_octets.specs.Parser.{rest_of};
 ghost use Rattle.dns_values.specs.Mnemonic.{class_written};
 ghost use Rattle.dns_rdata.specs.Fields.{IsData};
-ghost use Rattle.zone_core.specs.Owned.{record_of};
 ghost use Rattle.zone_core.specs.Printing.{AddsData, IsLine, IsSoaText, spaced_numbers};
 ghost use Rattle.zone_core.specs.Records.{IsRecordOf};
 
@@ -20,11 +19,11 @@ use std::alloc::AllocError;
 pub(crate) fn print_record(
     text: &mut Vec<u8>,
     class_text: &[u8],
-    record: &Record,
+    record: &Record<'_>,
 ) -> Result<(), AllocError>
-    requires { (class : ℕ) × IsRecordOf class (record_of class «record».now) }
-    ensures { OnOk result ((class : ℕ) → IsRecordOf class (record_of class «record».now) → class_text.now ≡ class_written class →
-        IsLine (record_of class «record».now) text.old.items text.new.items) }
+    requires { (class : ℕ) × IsRecordOf class «record».now }
+    ensures { OnOk result ((class : ℕ) → IsRecordOf class «record».now → class_text.now ≡ class_written class →
+        IsLine «record».now text.old.items text.new.items) }
 {
     print_name(text, &record.owner())?;
     text.push(b' ')?;

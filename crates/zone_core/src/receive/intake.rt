@@ -9,7 +9,7 @@ use crate::header::number_at;
 use crate::query::OwnedQuery;
 use crate::receive::error::ReceiveError;
 use crate::receive::message::judge_message;
-use crate::record::Record;
+use crate::record_list::RecordList;
 use std::alloc::Global;
 
 /// The octets of a message's length on a stream (RFC 1035 4.2.2).
@@ -18,12 +18,11 @@ const LENGTH_OCTETS: usize = 2;
 /// All octets that came, of which the whole messages are judged.
 #[derive(Debug, Drop)]
 pub(crate) struct Intake {
-    alloc: Global,
     octets: Vec<u8>,
     /// Where the first message begins that is not judged.
     judged: usize,
     /// The records of the messages that are judged, without the last SOA.
-    records: Vec<Record>,
+    records: RecordList,
 }
 
 impl Intake {
@@ -37,10 +36,9 @@ impl Intake {
         ensures octets { result.octets.items ≡ [] }
     {
         Intake {
-            alloc,
             octets: Vec::new(alloc),
             judged: 0,
-            records: Vec::new(alloc),
+            records: RecordList::new(alloc),
         }
     }
 
@@ -70,7 +68,7 @@ impl Intake {
     }
 
     /// The records that came.
-    pub(crate) fn into_records(self) -> Vec<Record>
+    pub(crate) fn into_records(self) -> RecordList
         ensures { result ≡ self.records }
     {
         self.records
@@ -96,13 +94,7 @@ impl Intake {
         ensures err { IfErr result (IsStreamFault (asked_of query.now) self.old.octets.items) }
     {
         let message = &self.octets.as_slice()[self.judged + LENGTH_OCTETS..end];
-        let ends = judge_message(
-            self.alloc,
-            query,
-            self.judged == 0,
-            message,
-            &mut self.records,
-        )?;
+        let ends = judge_message(query, self.judged == 0, message, &mut self.records)?;
         self.judged = end;
         Ok(ends)
     }

@@ -5,7 +5,6 @@ ghost use Rattle.dns_octets.specs.Parser.{octets_of, place_of};
 ghost use Rattle.dns_header.specs.Header.{answer_count};
 ghost use Rattle.zone_core.specs.Record as spec;
 ghost use Rattle.zone_core.specs.Asked.{asked_of};
-ghost use Rattle.zone_core.specs.Owned.{records_of};
 ghost use Rattle.zone_core.specs.Records.{AreOctets, IsRecordOf};
 ghost use Rattle.zone_core.specs.Transfer.{WrittenOut, AsksAgain, CountsAnswers, HasAnswerHeader};
 ghost use Rattle.zone_core.specs.Receiving.{IsOpen, IsMessageFault, IsRecordFault};
@@ -15,27 +14,25 @@ use crate::header::number_at;
 use crate::query::OwnedQuery;
 use crate::receive::error::ReceiveError;
 use crate::receive::question::PlainQuestion;
-use crate::receive::record::{RecordError, parse_record};
+use crate::receive::record::parse_record;
 use crate::receive::rules::{Placing, place_record};
-use crate::record::Record;
+use crate::record_list::RecordList;
 use dns_name::Parser;
-use std::alloc::{AllocError, Global};
 
 /// Judges a message behind others with these records, and adds its own to them. True where it has the last SOA, which is
 /// not added.
 pub(crate) fn judge_message(
-    alloc: Global,
     query: &OwnedQuery,
     is_first: bool,
     message: &[u8],
-    records: &mut Vec<Record>,
+    records: &mut RecordList,
 ) -> Result<bool, ReceiveError>
-    requires lawful { IsOpen (asked_of query.now) (records_of query.now.class records.old.items) }
-    requires known { AllByRecursion (IsRecordOf query.now.class) (records_of query.now.class records.old.items) }
-    ensures ok { IfOk result (TakesMessage (asked_of query.now) (records_of query.now.class records.old.items) is_first message.now
-        (records_of query.now.class records.new.items)) }
-    ensures known { OnOk result (AllByRecursion (IsRecordOf query.now.class) (records_of query.now.class records.new.items)) }
-    ensures err { IfErr result (IsFaultOr (IsMessageFault (asked_of query.now) (records_of query.now.class records.old.items) is_first message.now)) }
+    requires lawful { IsOpen (asked_of query.now) records.old }
+    requires known { AllByRecursion (IsRecordOf query.now.class) records.old }
+    ensures ok { IfOk result (TakesMessage (asked_of query.now) records.old is_first message.now
+        records.new) }
+    ensures known { OnOk result (AllByRecursion (IsRecordOf query.now.class) records.new) }
+    ensures err { IfErr result (IsFaultOr (IsMessageFault (asked_of query.now) records.old is_first message.now)) }
 {
     check_header(query, message)?;
     let Some(start) = behind_question(query, is_first, message) else {
@@ -47,7 +44,7 @@ pub(crate) fn judge_message(
     };
     let mut closed = false;
     for _ in 0..number_at(message, 6) {
-        closed = take_record(alloc, query, &mut parser, records, closed)?;
+        closed = take_record(query, &mut parser, records, closed)?;
     }
     if parser.remaining() != 0 {
         return Err(ReceiveError::Trailing);
@@ -118,41 +115,31 @@ fn behind_question(query: &OwnedQuery, is_first: bool, message: &[u8]) -> Option
 /// Reads the next record, holds it against the rules, and adds it to those in front of it. `closed` says whether the last
 /// SOA stands in front, and the answer whether it stands in front of the next one.
 fn take_record(
-    alloc: Global,
     query: &OwnedQuery,
     parser: &mut Parser<'_>,
-    records: &mut Vec<Record>,
+    records: &mut RecordList,
     closed: bool,
 ) -> Result<bool, ReceiveError>
     requires octets { AreOctets (octets_of parser.old) }
-    requires stands { (front : List spec.Record) × StandsAt (asked_of query.now) (records_of query.now.class records.old.items) closed front }
-    requires known { AllByRecursion (IsRecordOf query.now.class) (records_of query.now.class records.old.items) }
-    ensures ok { IfOk result (λ ends. (front : List spec.Record) → StandsAt (asked_of query.now) (records_of query.now.class records.old.items) closed front
-        → TakesRecord (asked_of query.now) (octets_of parser.old) (place_of parser.old) (place_of parser.new) (records_of query.now.class records.new.items) ends front) }
+    requires stands { (front : List spec.Record) × StandsAt (asked_of query.now) records.old closed front }
+    requires known { AllByRecursion (IsRecordOf query.now.class) records.old }
+    ensures ok { IfOk result (λ ends. (front : List spec.Record) → StandsAt (asked_of query.now) records.old closed front
+        → TakesRecord (asked_of query.now) (octets_of parser.old) (place_of parser.old) (place_of parser.new) records.new ends front) }
     ensures same { OnOk result (octets_of parser.new ≡ octets_of parser.old) }
-    ensures known { OnOk result (AllByRecursion (IsRecordOf query.now.class) (records_of query.now.class records.new.items)) }
+    ensures known { OnOk result (AllByRecursion (IsRecordOf query.now.class) records.new) }
     ensures err { IfErr result (IsFaultOr (λ error. (front : List spec.Record)
-        → StandsAt (asked_of query.now) (records_of query.now.class records.old.items) closed front
+        → StandsAt (asked_of query.now) records.old closed front
         → IsRecordFault (asked_of query.now) front (octets_of parser.old) (place_of parser.old) error)) }
 {
     let number = records.len() + usize::from(closed) + 1;
-    let (record, class) = match parse_record(alloc, parser) {
-        Ok(found) => found,
-        Err(RecordError::Malformed) => return Err(ReceiveError::Record(number)),
-        Err(RecordError::OutOfMemory) => return Err(ReceiveError::OutOfMemory),
+    let Ok(record) = parse_record(parser) else {
+        return Err(ReceiveError::Record(number));
     };
-    match place_record(query, records.as_slice(), closed, &record, class, number)? {
+    match place_record(query, records, closed, &record, number)? {
         Placing::Last => Ok(true),
         Placing::Inner => {
-            hold(records, record)?;
+            records.push(&record)?;
             Ok(false)
         }
     }
-}
-
-/// Adds a record to those that are held.
-fn hold(records: &mut Vec<Record>, next: Record) -> Result<(), AllocError>
-    ensures { OnOk result (records.new.items ≡ records.old.items ++ next ∷ []) }
-{
-    records.push(next).map_err(AllocError::from)
 }

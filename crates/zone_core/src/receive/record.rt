@@ -1,77 +1,51 @@
 //! Records as messages have them, with every name written out.
-ghost use Rattle.std.specs.Prelude.{◌≡◌, ◌↔◌, ℕ, IsTrue, IfOk, IfErr};
+ghost use Rattle.std.specs.Prelude.{◌≡◌, ◌↔◌, ℕ, IsTrue, IfOk, OnErr};
 ghost use Rattle.dns_octets.specs.Parser.{octets_of, place_of};
 ghost use Rattle.dns_rdata.specs.Fields.{IsData};
 ghost use Rattle.zone_core.specs.Record as spec;
-ghost use Rattle.zone_core.specs.Owned.{record_of};
 ghost use Rattle.zone_core.specs.Records.{AreOctets, IsRecordOf};
 ghost use Rattle.zone_core.specs.Transfer.{WrittenOut, HasRecord, IsTypeToday};
-ghost use Rattle.zone_core.specs.Intake.{OnMalformed};
-ghost use Rattle.zone_core.specs.declared.receive.record.RecordError.TheVariants as record_error;
 
 use crate::receive::soa::SoaData;
 use crate::record::Record;
-use dns_name::{Class, Name, ParseError, Parser, Rtype, ShortInput, Ttl};
-use std::alloc::{AllocError, Global};
+use dns_name::{Name, ParseError, Parser, Rtype, ShortInput};
 
-/// Why no record is read.
+/// No record stands there.
 #[derive(Clone, Copy, Debug, PartialEq, Eq)]
-pub(crate) enum RecordError {
-    /// No record stands there.
-    Malformed,
-    /// A growth was refused.
-    OutOfMemory,
-}
+pub(crate) struct MalformedRecord;
 
-impl From<ParseError> for RecordError {
-    ghost from_gives = { λ _ error. error ≡ record_error.Malformed };
-
-    fn from(_: ParseError) -> RecordError {
-        RecordError::Malformed
+impl From<ParseError> for MalformedRecord {
+    fn from(_: ParseError) -> MalformedRecord {
+        MalformedRecord
     }
 }
 
-impl From<ShortInput> for RecordError {
-    ghost from_gives = { λ _ error. error ≡ record_error.Malformed };
-
-    fn from(_: ShortInput) -> RecordError {
-        RecordError::Malformed
+impl From<ShortInput> for MalformedRecord {
+    fn from(_: ShortInput) -> MalformedRecord {
+        MalformedRecord
     }
 }
 
-impl From<AllocError> for RecordError {
-    ghost from_gives = { λ _ error. error ≡ record_error.OutOfMemory };
-
-    fn from(_: AllocError) -> RecordError {
-        RecordError::OutOfMemory
-    }
-}
-
-/// Reads a record of the types SOA and A, and its class (RFC 1035 3.2.1).
-pub(crate) fn parse_record(
-    alloc: Global,
-    parser: &mut Parser<'_>,
-) -> Result<(Record, Class), RecordError>
+/// Reads a record of the types SOA and A, which is lent from the message (RFC 1035 3.2.1).
+pub(crate) fn parse_record<'a>(parser: &mut Parser<'a>) -> Result<Record<'a>, MalformedRecord>
     requires { AreOctets (octets_of parser.old) }
-    ensures ok { IfOk result (λ found. HasRecord WrittenOut (octets_of parser.old) (place_of parser.old) (record_of found.1 found.0) (place_of parser.new)) }
-    ensures known { IfOk result (λ found. IsRecordOf found.1 (record_of found.1 found.0)) }
-    ensures same { IfOk result (λ found. octets_of parser.new ≡ octets_of parser.old) }
-    ensures err { IfErr result (λ error. OnMalformed error ((r : spec.Record) (next : ℕ)
-        → HasRecord WrittenOut (octets_of parser.old) (place_of parser.old) r next → ⊥)) }
+    ensures ok { IfOk result (λ r. HasRecord WrittenOut (octets_of parser.old) (place_of parser.old) r (place_of parser.new)) }
+    ensures known { IfOk result (λ r. IsRecordOf r.class r) }
+    ensures same { IfOk result (λ r. octets_of parser.new ≡ octets_of parser.old) }
+    ensures err { OnErr result ((r : spec.Record) (next : ℕ) → HasRecord WrittenOut (octets_of parser.old) (place_of parser.old) r next → ⊥) }
 {
+    let start = parser.pos();
     let owner = Name::parse(parser)?;
     let rtype = Rtype::from_int(parser.parse_u16_be()?);
-    let class = Class::from_int(parser.parse_u16_be()?);
-    let ttl = Ttl::from_secs(parser.parse_u32_be()?);
+    parser.parse_u16_be()?;
+    parser.parse_u32_be()?;
     let len = parser.parse_u16_be()?;
     let data = parser.parse_octets(usize::from(len))?;
     if !is_data(rtype, data) {
-        return Err(RecordError::Malformed);
+        return Err(MalformedRecord);
     }
-    let mut octets = Vec::with_capacity(alloc, owner.len() + data.len())?;
-    octets.extend_from_slice(owner.as_slice())?;
-    octets.extend_from_slice(data)?;
-    Ok((Record::of_octets(octets, owner.len(), rtype, ttl), class))
+    let octets = &parser.as_slice()[start..parser.pos()];
+    Ok(Record::of_octets(octets, owner.len()))
 }
 
 /// Whether the octets are data of the type, which has to be SOA or A.

@@ -4,7 +4,6 @@ ghost use Rattle.std.specs.List.{AllByRecursion};
 ghost use Rattle.dns_label.specs.Name.{low};
 ghost use Rattle.zone_core.specs.Record as spec;
 ghost use Rattle.zone_core.specs.Asked.{asked_of};
-ghost use Rattle.zone_core.specs.Owned.{record_of, records_of};
 ghost use Rattle.zone_core.specs.Records.{IsRecordOf};
 ghost use Rattle.zone_core.specs.Transfer.{WrittenOut, HasRecord, SameSoa};
 ghost use Rattle.zone_core.specs.Receiving.{IsRecordFault, KeepsFirstRule};
@@ -15,7 +14,7 @@ use crate::query::OwnedQuery;
 use crate::receive::error::ReceiveError;
 use crate::receive::soa::SoaData;
 use crate::record::Record;
-use dns_name::Class;
+use crate::record_list::RecordList;
 
 /// What a record is in a transfer.
 #[derive(Clone, Copy, Debug, PartialEq, Eq)]
@@ -26,43 +25,40 @@ pub(crate) enum Placing {
     Last,
 }
 
-/// Holds a record of this class and number against the rules, behind these records and perhaps the last SOA.
+/// Holds a record of this number against the rules, behind these records and perhaps the last SOA.
 pub(crate) fn place_record(
     query: &OwnedQuery,
-    front: &[Record],
+    front: &RecordList,
     closed: bool,
-    next: &Record,
-    class: Class,
+    next: &Record<'_>,
     number: usize,
 ) -> Result<Placing, ReceiveError>
-    requires stands { (xs : List spec.Record) × StandsAt (asked_of query.now) (records_of query.now.class front.now) closed xs × (number ≡ length xs + 1) }
-    requires known { AllByRecursion (IsRecordOf query.now.class) (records_of query.now.class front.now) }
-    requires next { IsRecordOf class (record_of class next.now) }
-    ensures ok { IfOk result (IsPlacing (asked_of query.now) (records_of query.now.class front.now) (record_of class next.now)) }
-    ensures inside { OnOk result ((closed ≡ false) × (class ≡ query.now.class)) }
+    requires stands { (xs : List spec.Record) × StandsAt (asked_of query.now) front.now closed xs × (number ≡ length xs + 1) }
+    requires known { AllByRecursion (IsRecordOf query.now.class) front.now }
+    requires next { (class : ℕ) × IsRecordOf class next.now }
+    ensures ok { IfOk result (IsPlacing (asked_of query.now) front.now next.now) }
+    ensures inside { OnOk result ((closed ≡ false) × (next.now.class ≡ query.now.class)) }
     ensures err { IfErr result (λ error. (xs : List spec.Record) (message : List ℕ) (place end : ℕ)
-        → StandsAt (asked_of query.now) (records_of query.now.class front.now) closed xs → number ≡ length xs + 1
-        → HasRecord WrittenOut message place (record_of class next.now) end
+        → StandsAt (asked_of query.now) front.now closed xs → number ≡ length xs + 1
+        → HasRecord WrittenOut message place next.now end
         → IsRecordFault (asked_of query.now) xs message place error) }
 {
-    let soa = front.first();
-    if soa.is_none() && !is_first_soa(query, next) {
+    if front.is_empty() && !is_first_soa(query, next) {
         return Err(ReceiveError::FirstNotSoa);
     }
-    if class != query.class {
+    if next.class() != query.class {
         return Err(ReceiveError::Class(number));
     }
     if !next.is_under(&query.name) {
         return Err(ReceiveError::OutOfZone(number));
     }
-    let placing = match soa {
-        Some(soa) if next.is_soa() => {
-            if !is_same_soa(soa, next) {
-                return Err(ReceiveError::SoaDiffers(number));
-            }
-            Placing::Last
+    let placing = if front.is_empty() || !next.is_soa() {
+        Placing::Inner
+    } else {
+        if !is_same_soa(&front.record_at(0), next) {
+            return Err(ReceiveError::SoaDiffers(number));
         }
-        _ => Placing::Inner,
+        Placing::Last
     };
     if closed {
         return Err(ReceiveError::AfterLast(number));
@@ -71,17 +67,18 @@ pub(crate) fn place_record(
 }
 
 /// Whether a record is an SOA of the query's name.
-fn is_first_soa(query: &OwnedQuery, next: &Record) -> bool
-    ensures { (class : ℕ) → IsTrue result ↔ KeepsFirstRule (asked_of query.now) [] (record_of class next.now) }
+fn is_first_soa(query: &OwnedQuery, next: &Record<'_>) -> bool
+    ensures { IsTrue result ↔ KeepsFirstRule (asked_of query.now) [] next.now }
 {
     next.is_soa() && next.is_at(&query.name)
 }
 
 /// Whether two SOA records of one class are equal, names up to ASCII case.
-fn is_same_soa(soa: &Record, other: &Record) -> bool
-    requires first { (class : ℕ) × IsRecordOf class (record_of class soa.now) × (soa.now.rtype ≡ soa_type) }
-    requires second { (class : ℕ) × IsRecordOf class (record_of class other.now) × (other.now.rtype ≡ soa_type) }
-    ensures { (class : ℕ) → IsTrue result ↔ SameSoa (record_of class soa.now) (record_of class other.now) }
+fn is_same_soa(soa: &Record<'_>, other: &Record<'_>) -> bool
+    requires first { (class : ℕ) × IsRecordOf class soa.now × (soa.now.rtype ≡ soa_type) }
+    requires second { (class : ℕ) × IsRecordOf class other.now × (other.now.rtype ≡ soa_type) }
+    requires class { soa.now.class ≡ other.now.class }
+    ensures { IsTrue result ↔ SameSoa soa.now other.now }
 {
     let Some(data) = SoaData::from_slice(soa.data()) else {
         return false;

@@ -1,17 +1,19 @@
 //! The entries of a zone's text: rows that are records, among rows without tokens (RFC 1035 5.1).
-ghost use Rattle.std.specs.Prelude.{◌≡◌, ◌++◌, List, ℕ, [], ◌∷◌, IfOk, IfErr, IfSome, IfNone};
+ghost use Rattle.std.specs.Prelude.{◌≡◌, ◌++◌, List, ℕ, [], ◌∷◌, IfOk, IfErr, IfSome, IfNone, OnOk};
+ghost use Rattle.std.specs.Int.{to_be_bytes, w16, w32};
 ghost use Rattle.dns_zonefile.specs.PlainRow.{RecordWords};
 ghost use Rattle.zone_core.specs.Record as spec;
 ghost use Rattle.zone_core.specs.ZoneText.{Entries};
-ghost use Rattle.zone_core.specs.Entry.{record_of, texts_of, OnText, error_of_name, StartsWithRecord, EndsBehindRows, RefusedBehindRows};
+ghost use Rattle.zone_core.specs.Entry.{texts_of, OnText, error_of_name, StartsWithRecord, EndsBehindRows, RefusedBehindRows};
 ghost use Rattle.zone_core.specs.declared.text.entry.EntryError.TheVariants as entry_error;
 
-use crate::record::Record;
+use crate::owned_record::OwnedRecord;
+use crate::record::FIXED_OCTETS;
 use crate::text::blank::{RowStart, skip_row};
 use crate::text::number::parse_number;
 use crate::text::rdata::append_rdata;
 use crate::text::word::split_words;
-use dns_name::{Class, FromStrError, Name, Rtype, Ttl};
+use dns_name::{Class, FromStrError, Name, Rtype};
 use std::alloc::{AllocError, Global};
 use thiserror::Error;
 
@@ -55,8 +57,8 @@ pub(crate) fn next_record(
     alloc: Global,
     text: &[u8],
     class: Class,
-) -> Result<Option<(Record, &[u8])>, EntryError>
-    ensures record { IfOk result (λ next. IfSome next (λ found. Entries class text.now (record_of class found.0 ∷ []) found.1.now)) }
+) -> Result<Option<(OwnedRecord, &[u8])>, EntryError>
+    ensures record { IfOk result (λ next. IfSome next (λ found. Entries class text.now (found.0 ∷ []) found.1.now)) }
     ensures end { IfOk result (λ next. IfNone next (EndsBehindRows class text.now)) }
     ensures err { IfErr result (λ e. OnText e (RefusedBehindRows class text.now)) }
 {
@@ -71,8 +73,12 @@ pub(crate) fn next_record(
 }
 
 /// The record at the front of the text, and the text behind its row.
-fn split_record(alloc: Global, text: &[u8], class: Class) -> Result<(Record, &[u8]), EntryError>
-    ensures ok { IfOk result (λ found. StartsWithRecord class text.now (record_of class found.0) found.1.now) }
+fn split_record(
+    alloc: Global,
+    text: &[u8],
+    class: Class,
+) -> Result<(OwnedRecord, &[u8]), EntryError>
+    ensures ok { IfOk result (λ found. StartsWithRecord class text.now found.0 found.1.now) }
     ensures err { IfErr result (λ e. OnText e ((r : spec.Record) (rest : List ℕ) → StartsWithRecord class text.now r rest → ⊥)) }
 {
     if text.first() == Some(&b'$') {
@@ -84,8 +90,8 @@ fn split_record(alloc: Global, text: &[u8], class: Class) -> Result<(Record, &[u
 }
 
 /// The record of the class that the words spell.
-fn parse_record(alloc: Global, words: &[&[u8]], class: Class) -> Result<Record, EntryError>
-    ensures ok { IfOk result (λ r. RecordWords class (texts_of words.now) (record_of class r)) }
+fn parse_record(alloc: Global, words: &[&[u8]], class: Class) -> Result<OwnedRecord, EntryError>
+    ensures ok { IfOk result (λ r. RecordWords class (texts_of words.now) r) }
     ensures err { IfErr result (λ e. OnText e ((r : spec.Record) → RecordWords class (texts_of words.now) r → ⊥)) }
 {
     if words.len() < 4 {
@@ -97,9 +103,26 @@ fn parse_record(alloc: Global, words: &[&[u8]], class: Class) -> Result<Record, 
     }
     let ttl = parse_number(front[1]).ok_or(EntryError::Text)?;
     let rtype = Rtype::from_bytes(front[3]).ok_or(EntryError::Text)?;
-    let owner = Name::absolute_from_text_with_room(alloc, front[0], ADDRESS_OCTETS)?;
+    let room = FIXED_OCTETS + ADDRESS_OCTETS;
+    let owner = Name::absolute_from_text_with_room(alloc, front[0], room)?;
     let owner_len = owner.len();
     let mut octets = owner.into_octets();
+    append_fields(&mut octets, rtype, class, ttl)?;
     append_rdata(&mut octets, alloc, rtype, data_words)?;
-    Ok(Record::of_octets(octets, owner_len, rtype, Ttl::from_secs(ttl)))
+    Ok(OwnedRecord::of_octets(octets, owner_len))
+}
+
+/// Appends what stands between a record's owner and the length of its data: type, class and TTL (RFC 1035 3.2.1).
+fn append_fields(
+    octets: &mut Vec<u8>,
+    rtype: Rtype,
+    class: Class,
+    ttl: u32,
+) -> Result<(), AllocError>
+    ensures { OnOk result (octets.new.items ≡ octets.old.items ++ (to_be_bytes w16 rtype ++ to_be_bytes w16 class ++ to_be_bytes w32 ttl)) }
+{
+    let [type_high, type_low] = rtype.to_int().to_be_bytes();
+    let [class_high, class_low] = class.to_int().to_be_bytes();
+    let [a, b, c, d] = ttl.to_be_bytes();
+    octets.extend_from_slice(&[type_high, type_low, class_high, class_low, a, b, c, d])
 }

@@ -1,0 +1,101 @@
+//! Many records in one piece of memory.
+ghost use Rattle.std.specs.Prelude.{◌≡◌, ◌==◌, ◌<◌, ◌++◌, ◌∷◌, [], length, slice_get, Some, OnOk, OnErr};
+ghost use Rattle.dns_message.specs.Record.{record_octets};
+ghost use Rattle.zone_core.specs.Record as spec;
+
+use crate::record::Record;
+use std::alloc::{AllocError, Global};
+use std::marker::Model;
+
+/// Records in order, one behind the other in one vector, so that many of them need not a piece of memory each.
+#[derive(Debug, Drop)]
+pub(crate) struct RecordList {
+    /// The records, with every name written out (RFC 1035 3.2.1).
+    octets: Vec<u8>,
+    /// Where in the octets each of them begins.
+    places: Vec<usize>,
+}
+
+impl Model for RecordList {
+    ghost use Rattle.std.specs.Prelude.{List};
+    ghost use Rattle.zone_core.specs.Record.{Record};
+    ghost use Rattle.zone_core.specs.Stored.{AreStored, records_at};
+
+    ghost Value = { List Record };
+
+    ghost view = { λ list. records_at list.octets.items list.places.items };
+
+    ghost invariant = { λ list. AreStored list.octets.items list.places.items (records_at list.octets.items list.places.items) };
+}
+
+impl RecordList {
+    /// No records.
+    pub(crate) fn new(alloc: Global) -> RecordList
+        ensures { result ≡ [] }
+    {
+        RecordList {
+            octets: Vec::new(alloc),
+            places: Vec::new(alloc),
+        }
+    }
+
+    /// Adds a record behind the others. Refused where a growth is, and then nothing is changed.
+    pub(crate) fn push(&mut self, next: &Record<'_>) -> Result<(), AllocError>
+        ensures ok { OnOk result (self.new ≡ self.old ++ next.now ∷ []) }
+        ensures err { OnErr result (self.new ≡ self.old) }
+    {
+        let place = self.octets.len();
+        self.octets.extend_from_slice(next.as_octets())?;
+        if let Err(error) = self.places.push(place) {
+            self.octets.truncate(place);
+            return Err(error.into());
+        }
+        Ok(())
+    }
+
+    /// How many records there are.
+    pub(crate) fn len(&self) -> usize
+        ensures { result ≡ length self.now }
+    {
+        self.places.len()
+    }
+
+    /// Whether there is no record.
+    pub(crate) fn is_empty(&self) -> bool
+        ensures { result ≡ (length self.now == 0) }
+    {
+        self.places.is_empty()
+    }
+
+    /// The octets of the record at an index.
+    pub(crate) fn octets_at(&self, index: usize) -> &[u8]
+        requires { index < length self.now }
+        ensures { (r : spec.Record) → slice_get self.now index ≡ Some r → result.now ≡ record_octets r }
+    {
+        let start = self.places[index];
+        let octets = self.octets.as_slice();
+        match self.places.as_slice().get(index + 1) {
+            Some(&end) => &octets[start..end],
+            None => &octets[start..],
+        }
+    }
+
+    /// The record at an index.
+    pub(crate) fn record_at(&self, index: usize) -> Record<'_>
+        requires { index < length self.now }
+        ensures { slice_get self.now index ≡ Some result }
+    {
+        Record::from_octets(self.octets_at(index))
+    }
+
+    /// The first record.
+    pub(crate) fn first(&self) -> Option<Record<'_>>
+        ensures { result ≡ slice_get self.now 0 }
+    {
+        if self.is_empty() {
+            None
+        } else {
+            Some(self.record_at(0))
+        }
+    }
+}
