@@ -1,16 +1,19 @@
 -- Records as octets: what is found in them is what was written.
-use Rattle.std.proofs.Common.{◌≡◌, ℕ, ◌+◌, ◌<◌, ◌≤◌, zero, suc, Some, None, List, [], ◌∷◌, ◌++◌, length, take, drop, refl, sym, ap, ◌∙◌, subst, arith, append_assoc, append-nil, length-append}
+use Rattle.std.proofs.Common.{◌≡◌, ℕ, ◌+◌, ◌-◌, ◌<◌, ◌≤◌, zero, suc, Option, Some, List, [], ◌∷◌, ◌++◌, length, take, drop, get_or, refl, sym, ap, ◌∙◌, subst, arith, append_assoc, append-nil, length-append, add-one}
 use Rattle.std.specs.Prelude.{slice_get}
 use Rattle.std.specs.Int.{to_be_bytes, from_be_bytes, w16, w32}
 use Rattle.std.specs.List.{AllByRecursion, flat_map}
 use Rattle.std.proofs.Math.Seq.{take-append_seam, drop-append_seam}
 use Rattle.std.proofs.lemmas.Nat.{from_be_bytes-to_be_bytes_2, from_be_bytes-to_be_bytes_4}
-use Rattle.dns_label.specs.Name.{wire}
+use Rattle.dns_label.specs.Name.{IsName, wire}
 use Rattle.dns_label.specs.Labels.{labels_at}
 use Rattle.dns_label.proofs.Spelling.{labels_at-reads, spelled-written}
+use Rattle.dns_name.specs.Flat.{IsWritten}
+use Rattle.dns_name.proofs.Flat.{flat-written}
 use Rattle.dns_message.specs.Record.{IsRecord, record_octets}
 use Rattle.zone_core.specs.Record.{Record}
 use Rattle.zone_core.specs.Stored.{IsStored, AreStored, record_in, record_with, records_at, starts}
+use Rattle.zone_core.proofs.NameFronts.{wire_fronts}
 use Rattle.zone_core.proofs.RecordFronts.{behind_owner, record_regrouped}
 
 abbrev fields_of : List (List ℕ) → ℕ → ℕ → ℕ → List ℕ → Record
@@ -105,7 +108,7 @@ stored_more octets places octets' places' records r are is whole at = record {
   whole = whole ∙ ap (λ l. l ++ record_octets r) are.whole ∙ octets_more records r;
   begin =
       at ∙ ap (λ l. places ++ length l ∷ []) are.whole ∙ ap (λ l. l ++ length (flat_map record_octets records) ∷ []) are.begin
-      ∙ sym (starts_more 0 records r);
+      ∙ ap (λ n. starts 0 records ++ n ∷ []) (omega arith) ∙ sym (starts_more 0 records r);
 }
 
 pub stored_none : (octets places : List ℕ) → octets ≡ [] → places ≡ [] → AreStored octets places []
@@ -125,9 +128,9 @@ pub record StandsIn (octets places : List ℕ) (index : ℕ) (r : Record) : Type
   pub behind : List ℕ
   pub is : IsRecord r
   pub whole : octets ≡ front ++ (record_octets r ++ behind)
-  pub place : slice_get places index ≡ Some (length front)
-  pub next : (place : ℕ) → slice_get places (index + 1) ≡ Some place → place ≡ length front + length (record_octets r)
-  pub last : slice_get places (index + 1) ≡ None → behind ≡ []
+  pub place : (d : ℕ) → get_or places index d ≡ length front
+  pub next : (d : ℕ) → suc index < length places → get_or places (suc index) d ≡ length front + length (record_octets r)
+  pub last : length places ≤ suc index → behind ≡ []
 
 stands_from : (octets front : List ℕ) (place : ℕ) (records : List Record) (index : ℕ) (r : Record) → AllByRecursion IsRecord records
     → octets ≡ front ++ flat_map record_octets records → place ≡ length front → slice_get records index ≡ Some r
@@ -141,8 +144,8 @@ stands_from octets front place (x ∷ []) zero r each whole at found =
       behind = [];
       is = each.0;
       whole = whole;
-      place = ap Some at;
-      next = λ p none. absurd cc;
+      place = λ d. at;
+      next = λ d more. absurd (omega (arith, more));
       last = λ none. refl;
     })
 stands_from octets front place (x ∷ (y ∷ records)) zero r each whole at found =
@@ -153,9 +156,9 @@ stands_from octets front place (x ∷ (y ∷ records)) zero r each whole at foun
       behind = flat_map record_octets (y ∷ records);
       is = each.0;
       whole = whole;
-      place = ap Some at;
-      next = λ p is. let there : place + length (record_octets x) ≡ p = cc in omega (arith, there, at);
-      last = λ none. absurd cc;
+      place = λ d. at;
+      next = λ d more. ap (λ n. n + length (record_octets x)) at;
+      last = λ none. absurd (omega (arith, none));
     })
 stands_from octets front place (x ∷ records) (suc index) r each whole at found =
     let more = stands_from octets (front ++ record_octets x) (place + length (record_octets x)) records index r each.1
@@ -165,9 +168,9 @@ stands_from octets front place (x ∷ records) (suc index) r each whole at found
       behind = more.behind;
       is = more.is;
       whole = more.whole;
-      place = more.place;
-      next = more.next;
-      last = more.last;
+      place = λ d. more.place d;
+      next = λ d within. more.next d (omega (arith, within));
+      last = λ none. more.last (omega (arith, none));
     }
 
 pub stands_in : (octets places : List ℕ) (records : List Record) (index : ℕ) (r : Record) → AreStored octets places records
@@ -175,3 +178,84 @@ pub stands_in : (octets places : List ℕ) (records : List Record) (index : ℕ)
 stands_in octets places records index r are found =
     let P : List ℕ → Type 0 = λ l. StandsIn octets l index r in
     subst P (sym are.begin) (stands_from octets [] 0 records index r are.each are.whole refl found)
+
+-- the record at an index
+pub record ItemAt (records : List Record) (index : ℕ) : Type 0 where
+  pub item : Record
+  pub is : slice_get records index ≡ Some item
+
+pub item_at : (records : List Record) (index : ℕ) → index < length records → ItemAt records index
+item_at [] index within = absurd (omega (arith, within))
+item_at (r ∷ records) zero within = record { item = r; is = refl }
+item_at (r ∷ records) (suc index) within =
+    let more = item_at records index (omega (arith, within)) in record { item = more.item; is = more.is }
+
+pub lawful_at : (records : List Record) (index : ℕ) (r : Record) → AllByRecursion IsRecord records → slice_get records index ≡ Some r
+    → IsRecord r
+lawful_at [] index r each found = absurd cc
+lawful_at (x ∷ records) zero r each found =
+    let same : x ≡ r = cc in
+    let P : Record → Type 0 = λ y. IsRecord y in subst P same each.0
+lawful_at (x ∷ records) (suc index) r each found = lawful_at records index r each.1 found
+
+-- the octets from its place to the next one's, or to the end, are its own
+pub record IsPart (octets : List ℕ) (start end : ℕ) (records : List Record) (index : ℕ) : Type 0 where
+  pub ordered : start ≤ end
+  pub within : end ≤ length octets
+  pub is : (r : Record) → slice_get records index ≡ Some r → take (end - start) (drop start octets) ≡ record_octets r
+
+part_of : (octets front own behind : List ℕ) (start end : ℕ) → octets ≡ front ++ (own ++ behind) → start ≡ length front
+    → end ≡ length front + length own → (start ≤ end) × (end ≤ length octets) × (take (end - start) (drop start octets) ≡ own)
+part_of octets front own behind start end whole at to =
+    let long = ap (length {A = ℕ}) whole in
+    let count : end - start ≡ length own = omega (arith, at, to) in
+    let tail : drop start octets ≡ own ++ behind = ap (λ n. drop n octets) at ∙ ap (λ l. drop (length front) l) whole ∙ drop-append_seam front (own ++ behind) in (
+      omega (arith, at, to),
+      omega (arith, to, long, length-append front (own ++ behind), length-append own behind),
+      ap (λ n. take n (drop start octets)) count ∙ ap (λ l. take (length own) l) tail ∙ take-append_seam own behind,
+    )
+
+one_item : (records : List Record) (index : ℕ) (r other : Record) → slice_get records index ≡ Some r → slice_get records index ≡ Some other
+    → r ≡ other
+one_item records index r other is is' = let same : ◌≡◌ {A = Option Record} (Some r) (Some other) = sym is ∙ is' in cc
+
+pub part_to_next : (octets places : List ℕ) (records : List Record) (index start end : ℕ) → AreStored octets places records
+    → index < length records → index + 1 < length places → start ≡ get_or places index start → end ≡ get_or places (index + 1) end
+    → IsPart octets start end records index
+part_to_next octets places records index start end are within more start_is end_is =
+    let at = item_at records index within in
+    let stands = stands_in octets places records index at.item are at.is in
+    let end_is' : end ≡ get_or places (suc index) end = rw add-one at end_is in
+    let part = part_of octets stands.front (record_octets at.item) stands.behind start end stands.whole (start_is ∙ stands.place start)
+    (end_is' ∙ stands.next end (omega (arith, more))) in
+    record { ordered = part.0; within = part.1; is = λ r is. part.2 ∙ ap record_octets (one_item records index at.item r at.is is) }
+
+pub part_to_end : (octets places : List ℕ) (records : List Record) (index start : ℕ) → AreStored octets places records
+    → index < length records → length places ≤ index + 1 → start ≡ get_or places index start
+    → IsPart octets start (length octets) records index
+part_to_end octets places records index start are within last start_is =
+    let at = item_at records index within in
+    let stands = stands_in octets places records index at.item are at.is in
+    let whole : octets ≡ stands.front ++ (record_octets at.item ++ []) =
+    stands.whole ∙ ap (λ l. stands.front ++ (record_octets at.item ++ l)) (stands.last (omega (arith, last))) in
+    let long = ap (length {A = ℕ}) whole in
+    let part = part_of octets stands.front (record_octets at.item) [] start (length octets) whole (start_is ∙ stands.place start)
+    (omega (arith, long, length-append stands.front (record_octets at.item ++ []), length-append (record_octets at.item) [])) in
+    record { ordered = part.0; within = part.1; is = λ r is. part.2 ∙ ap record_octets (one_item records index at.item r at.is is) }
+
+-- the owner's octets are a name, which is the record's
+pub owner_front : (octets : List ℕ) (len : ℕ) → IsStored octets len → take len octets ≡ wire (record_in octets).owner
+owner_front octets len stored =
+    let r : Record = record_in octets in
+    let at : octets ≡ wire r.owner ++ behind_owner r [] = stored.whole ∙ sym (append-nil (record_octets r)) ∙ record_regrouped r [] in
+    ap (λ n. take n octets) stored.owner ∙ ap (λ l. take (length (wire r.owner)) l) at ∙ take-append_seam (wire r.owner) (behind_owner r [])
+
+pub owner_written : (octets : List ℕ) (len : ℕ) → IsStored octets len → IsWritten (take len octets)
+owner_written octets len stored = flat-written (take len octets) (record_in octets).owner stored.lawful.owner (owner_front octets len stored)
+
+-- a name that a record begins with is its owner
+pub owner_found : (octets read rest : List ℕ) (name : List (List ℕ)) (r : Record) → IsRecord r → octets ≡ record_octets r → IsName name
+    → read ≡ wire name ++ rest → read ≡ octets → name ≡ r.owner
+owner_found octets read rest name r is whole is_name at same =
+    let regrouped : octets ≡ wire r.owner ++ behind_owner r [] = whole ∙ sym (append-nil (record_octets r)) ∙ record_regrouped r [] in
+    (wire_fronts name r.owner rest (behind_owner r []) is_name.labels is.owner.labels (sym at ∙ same ∙ regrouped)).0
