@@ -259,3 +259,16 @@ pub owner_found : (octets read rest : List ℕ) (name : List (List ℕ)) (r : Re
 owner_found octets read rest name r is whole is_name at same =
     let regrouped : octets ≡ wire r.owner ++ behind_owner r [] = whole ∙ sym (append-nil (record_octets r)) ∙ record_regrouped r [] in
     (wire_fronts name r.owner rest (behind_owner r []) is_name.labels is.owner.labels (sym at ∙ same ∙ regrouped)).0
+
+joined : (a b c d e f : List ℕ) → (a ++ (b ++ c ++ d)) ++ (e ++ f) ≡ a ++ b ++ c ++ d ++ e ++ f
+joined a b c d e f = simp append_assoc
+
+-- a record that is written part by part: its owner, its numbers, and its data behind their length
+pub written_record : (first second third : List ℕ) (r : Record) → first ≡ wire r.owner
+    → second ≡ first ++ (to_be_bytes w16 r.rtype ++ to_be_bytes w16 r.class ++ to_be_bytes w32 r.ttl)
+    → third ≡ second ++ (to_be_bytes w16 (length r.rdata) ++ r.rdata) → third ≡ record_octets r
+written_record first second third r owner numbers data' =
+    let tail = to_be_bytes w16 (length r.rdata) ++ r.rdata in
+    let middle = to_be_bytes w16 r.rtype ++ to_be_bytes w16 r.class ++ to_be_bytes w32 r.ttl in
+    data' ∙ ap (λ l. l ++ tail) (numbers ∙ ap (λ l. l ++ middle) owner)
+    ∙ joined (wire r.owner) (to_be_bytes w16 r.rtype) (to_be_bytes w16 r.class) (to_be_bytes w32 r.ttl) (to_be_bytes w16 (length r.rdata)) r.rdata
