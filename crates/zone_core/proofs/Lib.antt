@@ -14,6 +14,7 @@ pub mod Tried
 pub mod WordSymbols
 pub mod EmptyRows
 pub mod WordRows
+pub mod PlainOctets
 pub mod HeldWords
 pub mod NumberTexts
 pub mod RecordData
