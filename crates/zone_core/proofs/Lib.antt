@@ -69,5 +69,5 @@ pub mod PrintedSymbols
 pub mod PrintedWords
 pub mod PrintedDocuments
 pub mod PrintedTexts
-pub mod HeldRecords
+pub mod StoredRecords
 pub mod PrintedOnce

@@ -21,15 +21,14 @@ returns-in_err-append_rdata-clause-err c =
     handed_exit _ _ c.from_residual-in_err-append_rdata.ensures.1 c.in_err-append_rdata.ensures.err
     (λ none. no_data c.args.words.now _ _ _ c.split_at.ensures.front c.split_at.ensures.back (sym c.from_bytes-2.ensures ∙ is_some _ _ _ c.in_ok-rtype.ensures.value) none)
 
+-- the record that the words spell
+made : (c : goal.After-of_octets) → RecordWords c.args.class (texts_of c.args.words.now) (spelled_record c.in_ok-owner.owner c.in_ok-rtype.rtype c.args.class c.in_ok-ttl.ttl c.in_ok-append_rdata.ensures.ok.appended)
+made c = record_made _ c.args.words.now _ _ _ _ _ _ _ c.if-words-lt4.false c.split_at.ensures.front c.split_at.ensures.back c.in_ok-owner.ensures.ok
+    (number_of _ _ _ _ c.in_ok-ttl.ensures.value c.parse_number.ensures.found) refl
+    (sym c.from_bytes.ensures ∙ class_found c.from_bytes.result c.args.class c.if-ne.ensures) (sym c.from_bytes-2.ensures ∙ is_some _ _ _ c.in_ok-rtype.ensures.value) c.in_ok-append_rdata.ensures.ok.spells
+
 pub of_octets-requires : goal.of_octets-requires
-of_octets-requires c = parts_owned (parts_of c.len-owner_len.ensures.name c.len-owner_len.ensures.octets
-    (c.in_ok-append_rdata.ensures.ok.whole ∙ ap (λ l. l ++ c.in_ok-append_rdata.ensures.ok.appended) c.into_octets-octets.ensures))
+of_octets-requires c = ?
 
 pub returns-clause-ok : goal.returns-clause-ok
-returns-clause-ok c =
-    let made = record_made _ c.args.words.now _ _ _ _ _ _ _ c.if-words-lt4.false c.split_at.ensures.front c.split_at.ensures.back c.in_ok-owner.ensures.ok
-    (number_of _ _ _ _ c.in_ok-ttl.ensures.value c.parse_number.ensures.found) c.from_secs.ensures
-    (sym c.from_bytes.ensures ∙ class_found c.from_bytes.result c.args.class c.if-ne.ensures) (sym c.from_bytes-2.ensures ∙ is_some _ _ _ c.in_ok-rtype.ensures.value) c.in_ok-append_rdata.ensures.ok.spells in
-    let same = c.of_octets.ensures ∙ parts_held c.in_ok-rtype.rtype c.from_secs.result (parts_of c.len-owner_len.ensures.name c.len-owner_len.ensures.octets
-    (c.in_ok-append_rdata.ensures.ok.whole ∙ ap (λ l. l ++ c.in_ok-append_rdata.ensures.ok.appended) c.into_octets-octets.ensures)) in
-    subst (λ (r : Held). RecordWords c.args.class (texts_of c.args.words.now) (record_of c.args.class r)) (sym same) made
+returns-clause-ok c = ?
