@@ -146,9 +146,13 @@ placed_last {query} held soa r placing is stands first rtype same =
     subst P (sym is) (closes_here held soa r stands first rtype same)
 
 -- what a comparison of numbers says
-not_false : (b : Bool) → not b ≡ false → b ≡ true
+pub not_false : (b : Bool) → not b ≡ false → b ≡ true
 not_false true is = refl
 not_false false is = cc
+
+pub not_true : (b : Bool) → not b ≡ true → b ≡ false
+not_true true is = cc
+not_true false is = refl
 
 pub told_equal : (n m : ℕ) (result : Bool) → result ≡ not (nat_eq n m) → result ≡ false → n ≡ m
 told_equal n m result told is = eqb-true n m (not_false (nat_eq n m) (sym told ∙ is))

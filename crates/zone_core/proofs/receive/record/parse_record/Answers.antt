@@ -10,6 +10,7 @@ use Rattle.zone_core.specs.Transfer.{WrittenOut, HasRecord, IsTypeToday}
 use Rattle.zone_core.proofs.PlainRecords.{behind_owner, record_parts, taken_off, left_few, parts_taken, no_room, same_parts, no_data, typed_parts, not_typed, taken_long, read_record, record_between}
 use Rattle.zone_core.proofs.RecordFronts.{octets_from}
 use Rattle.zone_core.proofs.StoredRecords.{record_in_written, stored_of}
+use Rattle.zone_core.proofs.receive.record.parse_record.Goals.{After-len}
 use Rattle.zone_core.proofs.receive.record.parse_record.Goals as goal
 
 pub returns-in_err-owner-clause-err : goal.returns-in_err-owner-clause-err
@@ -118,7 +119,7 @@ returns-then-not-is_data-clause-err c =
     c.is_data.ensures.1 c.if-not-is_data.true typed
 
 -- the record that is made
-abbrev found : goal.After-len → spec.Record
+abbrev found : After-len → spec.Record
 found c = record {
   owner = c.in_ok-owner.owner;
   rtype = c.from_int-rtype.result;
@@ -127,7 +128,7 @@ found c = record {
   rdata = c.in_ok-data.data.now;
 }
 
-made : (c : goal.After-len)
+made : (c : After-len)
     → (ReadsPlainRecord (octets_of c.args.parser.now) (place_of c.args.parser.now) (found c) (place_of c.parse_octets.new.self)
     × IsTypeToday (found c).rtype)
     × IsRecordOf (found c).class (found c)
@@ -168,7 +169,7 @@ made c =
     (omega (arith, q0, q1, q2, q3, q4, q5, c.from.ensures)) (octets_from (octets_of c.args.parser.now) (place_of c.args.parser.now) c.requires)
 
 -- its octets, which are lent
-octets_are : (c : goal.After-len) → take (c.pos.result - c.pos-start.result) (drop c.pos-start.result c.as_slice.result.now) ≡ record_octets (found c)
+octets_are : (c : After-len) → take (c.pos.result - c.pos-start.result) (drop c.pos-start.result c.as_slice.result.now) ≡ record_octets (found c)
 octets_are c =
     let same : c.as_slice.result.now ≡ octets_of c.args.parser.now = c.as_slice.ensures ∙ ap (λ b. b.now) (c.in_ok-data.ensures.place.octets
     ∙ c.in_ok-len.ensures.place.octets ∙ c.in_ok-parse_u32_be.ensures.place.octets ∙ c.in_ok-parse_u16_be-2.ensures.place.octets
@@ -179,7 +180,7 @@ octets_are c =
 pub of_octets-requires : goal.of_octets-requires
 of_octets-requires c = stored_of _ c.len.result (found c) (made c).0.0.is_record (octets_are c) c.len.ensures.octets
 
-found_is : (c : goal.After-len) → record_in (take (c.pos.result - c.pos-start.result) (drop c.pos-start.result c.as_slice.result.now)) ≡ found c
+found_is : (c : After-len) → record_in (take (c.pos.result - c.pos-start.result) (drop c.pos-start.result c.as_slice.result.now)) ≡ found c
 found_is c = record_in_written _ [] (found c) (made c).0.0.is_record (octets_are c ∙ sym (append-nil (record_octets (found c))))
 
 pub returns-clause-ok : goal.returns-clause-ok
