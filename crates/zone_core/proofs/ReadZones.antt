@@ -140,8 +140,8 @@ follows-lawful soa next records others are lawful is =
 pub follows-more : {class : ℕ} {text rest behind : List ℕ} (soa next : Record) (records all : List Record) → class < 2 ^ 16
     → FollowsSoa class text soa records rest → Entries class rest (next ∷ []) behind → IsBehindSoa soa next → all ≡ records ++ next ∷ []
     → FollowsSoa class text soa all behind
-follows-more soa next records all fits follows entry is are = record {
-  begins = begins-more records all next fits follows.begins entry
+follows-more soa next records all fits follows found is are = record {
+  begins = begins-more records all next fits follows.begins found
       (follows-lawful soa next records follows.others follows.are follows.begins.lawful is) are;
   others = follows.others ++ next ∷ [];
   are = are ∙ ap (λ rs. rs ++ next ∷ []) follows.are;
@@ -151,9 +151,9 @@ follows-more soa next records all fits follows entry is are = record {
 pub follows-breaks : {class : ℕ} {text rest behind : List ℕ} (soa next : Record) (records : List Record) (number : ℕ) (error : ZoneError)
     → class ≢ any_class → FollowsSoa class text soa records rest → Entries class rest (next ∷ []) behind → number ≡ length records + 1
     → ((others : List Record) → number ≡ length others + 2 → BreaksRule (soa ∷ others) next error) → IsZoneFault text class error
-follows-breaks {class} {text} {rest} soa next records number error known follows entry counted breaks =
+follows-breaks {class} {text} {rest} soa next records number error known follows found counted breaks =
     let P : List Record → Type 0 = λ rs. BeginsWith class text rs rest in
-    breaks-fault (soa ∷ follows.others) next error known (subst P follows.are follows.begins) entry
+    breaks-fault (soa ∷ follows.others) next error known (subst P follows.are follows.begins) found
     (breaks follows.others (omega (arith, counted, ap length follows.are)))
 
 -- where the text ends, it is a zone's
@@ -167,13 +167,13 @@ pub follows-records : {class : ℕ} {text rest : List ℕ} (soa : Record) (recor
 follows-records soa records follows end' = whole-records records (whole-end follows.begins end') (omega (arith, ap length follows.are))
 
 -- a text whose first entry is none, or no SOA
-pub first-stops : {class : ℕ} {text : List ℕ} (n : ℕ) (error : ZoneError) → class ≢ any_class → n ≡ 1 → StopsReading class text n error
+pub first-stops : (class : ℕ) (text : List ℕ) (n : ℕ) (error : ZoneError) → class ≢ any_class → n ≡ 1 → StopsReading class text n error
     → IsZoneFault text class error
-first-stops {class} {text} n error known is stops = stops-fault [] n error known (begins-none class text [] refl) is stops
+first-stops class text n error known is stops = stops-fault [] n error known (begins-none class text [] refl) is stops
 
-pub first-none : {class : ℕ} {text : List ℕ} → class ≢ any_class → EndsBehindRows class text → IsZoneFault text class NoSoa
-first-none known end' = (known, end'.rest, end'.rows, end'.ends)
+pub first-none : (class : ℕ) (text : List ℕ) → class ≢ any_class → EndsBehindRows class text → IsZoneFault text class NoSoa
+first-none class text known end' = (known, end'.rest, end'.rows, end'.ends)
 
-pub first-other : {class : ℕ} {text rest : List ℕ} (r : Record) → class ≢ any_class → Entries class text (r ∷ []) rest
+pub first-other : {class : ℕ} {rest : List ℕ} (text : List ℕ) (r : Record) → class ≢ any_class → Entries class text (r ∷ []) rest
     → r.rtype ≢ soa_type → IsZoneFault text class (FirstNotSoa 1)
-first-other {class} {text} r known next other = breaks-fault [] r (FirstNotSoa 1) known (begins-none class text [] refl) next (refl, other)
+first-other {class} text r known next other = breaks-fault [] r (FirstNotSoa 1) known (begins-none class text [] refl) next (refl, other)

@@ -3,7 +3,7 @@ use Rattle.zone_core.proofs.ReadZones.{FollowsSoa}
 use Rattle.zone_core.proofs.zone.read_records.Given as goal
 
 abbrev pub invariant-loop-records : goal.invariant-loop-records
-invariant-loop-records l = FollowsSoa l.class l.text l.first l.records l.rest
+invariant-loop-records l = FollowsSoa l.class l.text l.soa l.records l.rest
 
 abbrev pub decreases-loop-records : goal.decreases-loop-records
 decreases-loop-records l = length l.rest

@@ -1,8 +1,9 @@
-use Rattle.std.proofs.Common.{◌∙◌, ◌++◌, ap, subst, sym}
+use Rattle.std.proofs.Common.{◌<◌, ◌^◌, ◌∙◌, arith, subst, sym, refl}
 use Rattle.dns_zonefile.specs.PlainRow.{RecordWords}
 use Rattle.zone_core.specs.Entry.{texts_of}
-use Rattle.zone_core.specs.Owned.{Held, record_of}
-use Rattle.zone_core.proofs.HeldRecords.{parts_of, parts_owned, parts_held}
+use Rattle.zone_core.specs.Record.{Record}
+use Rattle.zone_core.proofs.ReadEntries.{record-lawful}
+use Rattle.zone_core.proofs.StoredRecords.{stored_of, record_in_whole, written_record}
 use Rattle.zone_core.proofs.RecordData.{text_exit, name_exit, number_of}
 use Rattle.zone_core.proofs.EntryRows.{is_none, is_some, no_type, no_owner, no_data, handed_exit, record_made, class_found}
 use Rattle.zone_core.proofs.text.entry.parse_record.Goals as goal
@@ -21,14 +22,24 @@ returns-in_err-append_rdata-clause-err c =
     handed_exit _ _ c.from_residual-in_err-append_rdata.ensures.1 c.in_err-append_rdata.ensures.err
     (λ none. no_data c.args.words.now _ _ _ c.split_at.ensures.front c.split_at.ensures.back (sym c.from_bytes-2.ensures ∙ is_some _ _ _ c.in_ok-rtype.ensures.value) none)
 
--- the record that the words spell
-made : (c : goal.After-of_octets) → RecordWords c.args.class (texts_of c.args.words.now) (spelled_record c.in_ok-owner.owner c.in_ok-rtype.rtype c.args.class c.in_ok-ttl.ttl c.in_ok-append_rdata.ensures.ok.appended)
-made c = record_made _ c.args.words.now _ _ _ _ _ _ _ c.if-words-lt4.false c.split_at.ensures.front c.split_at.ensures.back c.in_ok-owner.ensures.ok
-    (number_of _ _ _ _ c.in_ok-ttl.ensures.value c.parse_number.ensures.found) refl
-    (sym c.from_bytes.ensures ∙ class_found c.from_bytes.result c.args.class c.if-ne.ensures) (sym c.from_bytes-2.ensures ∙ is_some _ _ _ c.in_ok-rtype.ensures.value) c.in_ok-append_rdata.ensures.ok.spells
-
 pub of_octets-requires : goal.of_octets-requires
-of_octets-requires c = ?
+of_octets-requires c =
+    let made = record_made _ c.args.words.now _ _ _ _ _ _ _ c.if-words-lt4.false c.split_at.ensures.front c.split_at.ensures.back c.in_ok-owner.ensures.ok
+    (number_of _ _ _ _ c.in_ok-ttl.ensures.value c.parse_number.ensures.found) refl
+    (sym c.from_bytes.ensures ∙ class_found c.from_bytes.result c.args.class c.if-ne.ensures) (sym c.from_bytes-2.ensures ∙ is_some _ _ _ c.in_ok-rtype.ensures.value)
+    c.in_ok-append_rdata.ensures.ok.spells in
+    let fits : c.args.class < 2 ^ 16 = omega arith in
+    let lawful = (record-lawful made fits).lawful in
+    let whole = written_record _ _ c.append_rdata.new.octets.items _ c.into_octets-octets.ensures c.in_ok-append_fields.ensures c.in_ok-append_rdata.ensures.ok.whole in
+    stored_of _ _ _ lawful whole c.len-owner_len.ensures.octets
 
 pub returns-clause-ok : goal.returns-clause-ok
-returns-clause-ok c = ?
+returns-clause-ok c =
+    let made = record_made _ c.args.words.now _ _ _ _ _ _ _ c.if-words-lt4.false c.split_at.ensures.front c.split_at.ensures.back c.in_ok-owner.ensures.ok
+    (number_of _ _ _ _ c.in_ok-ttl.ensures.value c.parse_number.ensures.found) refl
+    (sym c.from_bytes.ensures ∙ class_found c.from_bytes.result c.args.class c.if-ne.ensures) (sym c.from_bytes-2.ensures ∙ is_some _ _ _ c.in_ok-rtype.ensures.value)
+    c.in_ok-append_rdata.ensures.ok.spells in
+    let fits : c.args.class < 2 ^ 16 = omega arith in
+    let lawful = (record-lawful made fits).lawful in
+    let whole = written_record _ _ c.append_rdata.new.octets.items _ c.into_octets-octets.ensures c.in_ok-append_fields.ensures c.in_ok-append_rdata.ensures.ok.whole in
+    subst (λ (r : Record). RecordWords c.args.class (texts_of c.args.words.now) r) (sym (c.of_octets.ensures ∙ record_in_whole _ _ lawful whole)) made
