@@ -50,6 +50,7 @@ pub mod DecidedRules
 pub mod JudgedMessages
 pub mod JudgedStreams
 pub mod Questions
+pub mod Indexed
 pub mod Patched
 pub mod Placing
 pub mod Streams
