@@ -11,12 +11,12 @@ use Rattle.zone_core.proofs.receive.message.take_record.Goals as goal
 
 pub returns-in_default-clause-err : goal.returns-in_default-clause-err
 returns-in_default-clause-err c =
-    λ front stands. (omega (arith, stands_counted c.from.result stands c.from.ensures, c.len.ensures), c.in_default.ensures.err)
+    λ front stands. (omega (arith, stands_counted c.from.result stands c.from.ensures), c.in_default.ensures.err)
 
 pub place_record-requires-clause-stands : goal.place_record-requires-clause-stands
 place_record-requires-clause-stands c =
     let stands = c.requires.stands.1 in
-    (c.requires.stands.0, stands, omega (arith, stands_counted c.from.result stands c.from.ensures, c.len.ensures))
+    (c.requires.stands.0, stands, omega (arith, stands_counted c.from.result stands c.from.ensures))
 
 pub place_record-requires-clause-next : goal.place_record-requires-clause-next
 place_record-requires-clause-next c = (c.in-Ok.record.class, c.in-Ok.ensures.known)
@@ -29,7 +29,7 @@ returns-in_err-place_record-clause-err c =
     → IsRecordFault (asked_of c.args.query.now) front (octets_of c.args.parser.now) (place_of c.args.parser.now) error in
     rw (p.1, p.2) (fault_or Fault c.in_err-place_record.field-0.0 (λ front stands. c.in_err-place_record.ensures.err front
     (octets_of c.args.parser.now) (place_of c.args.parser.now) (place_of c.parse_record.new.parser) stands
-    (omega (arith, stands_counted c.from.result stands c.from.ensures, c.len.ensures)) c.in-Ok.ensures.ok))
+    (omega (arith, stands_counted c.from.result stands c.from.ensures)) c.in-Ok.ensures.ok))
 
 pub returns-in-Last-clause-ok : goal.returns-in-Last-clause-ok
 returns-in-Last-clause-ok c =
