@@ -14,6 +14,7 @@ pub mod Tried
 pub mod WordSymbols
 pub mod EmptyRows
 pub mod WordRows
+pub mod PlainOctets
 pub mod HeldWords
 pub mod NumberTexts
 pub mod RecordData
@@ -49,6 +50,7 @@ pub mod DecidedRules
 pub mod JudgedMessages
 pub mod JudgedStreams
 pub mod Questions
+pub mod Indexed
 pub mod Patched
 pub mod Placing
 pub mod Streams

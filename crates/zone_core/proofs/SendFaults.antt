@@ -5,52 +5,46 @@ use Rattle.std.specs.Cmp.Lexicographic.{pointwise}
 use lib.Pointwise.{pointwise_decides, bytes_decides}
 use Rattle.dns_label.specs.Name.{low}
 use Rattle.dns_header.specs.Header.{id_of}
-use Rattle.zone_core.specs.Record as spec
+use Rattle.zone_core.specs.Record.{Record}
 use Rattle.zone_core.specs.declared.send_error.SendError.{SendError}
 use Rattle.zone_core.specs.declared.send_error.SendError.TheVariants as send_error
-use Rattle.zone_core.specs.Owned.{Held, records_of}
 use Rattle.zone_core.specs.Query.{AxfrQuery, IsQuery}
 use Rattle.zone_core.specs.Records.{AreRecordsOf, IsQueryFor}
 use Rattle.zone_core.specs.Sent.{AsksFor, IsSent, IsSendFault}
 use Rattle.zone_core.specs.Sending.{IsRefusedBy}
 use Rattle.zone_core.specs.View.{apex_of}
 
--- the records that are held are the zone's
-same_records : (query : AxfrQuery) (class : ℕ) (held : List Held) (records : List spec.Record) → query.class ≡ class
-    → records_of class held ≡ records → records_of query.class held ≡ records
-same_records query class held records same are = ap (λ n. records_of n held) same ∙ are
-
-pub sent_for : (query : AxfrQuery) (class : ℕ) (held : List Held) (records : List spec.Record) (within max : ℕ) (stream : List ℕ)
-    → AsksFor query (apex_of records) class → records_of class held ≡ records → within ≡ max
-    → IsSent (records_of query.class held) query within stream → IsSent records query max stream
-sent_for query class held records within max stream asks are same sent =
-    let P : List spec.Record → Type 0 = λ rs. IsSent rs query within stream in
+-- what is said of records that are the zone's
+pub sent_for : (query : AxfrQuery) (held records : List Record) (within max : ℕ) (stream : List ℕ) → held ≡ records → within ≡ max
+    → IsSent held query within stream → IsSent records query max stream
+sent_for query held records within max stream are same sent =
+    let P : List Record → Type 0 = λ rs. IsSent rs query within stream in
     let Q : ℕ → Type 0 = λ m. IsSent records query m stream in
-    subst Q same (subst P (same_records query class held records asks.class_is are) sent)
+    subst Q same (subst P are sent)
 
-fault_of : (query : AxfrQuery) (class : ℕ) (records : List spec.Record) (octets : List ℕ) (max : ℕ) (error : SendError) → IsQuery octets query
+fault_of : (query : AxfrQuery) (class : ℕ) (records : List Record) (octets : List ℕ) (max : ℕ) (error : SendError) → IsQuery octets query
     → AsksFor query (apex_of records) class → IsRefusedBy query max records error → IsSendFault records (apex_of records) class octets max error
 fault_of query class records octets max (send_error.Query fault) is asks refused = absurd refused
 fault_of query class records octets max send_error.WrongZone is asks refused = absurd refused
 fault_of query class records octets max (send_error.Record n) is asks refused = (query, is, asks, refused)
 fault_of query class records octets max send_error.OutOfMemory is asks refused = tt
 
-pub fault_for : (query : AxfrQuery) (class : ℕ) (held : List Held) (records : List spec.Record) (octets : List ℕ) (within max : ℕ)
-    (error : SendError) → IsQuery octets query → AsksFor query (apex_of records) class → records_of class held ≡ records → within ≡ max
-    → IsRefusedBy query within (records_of query.class held) error → IsSendFault records (apex_of records) class octets max error
+pub fault_for : (query : AxfrQuery) (class : ℕ) (held records : List Record) (octets : List ℕ) (within max : ℕ) (error : SendError)
+    → IsQuery octets query → AsksFor query (apex_of records) class → held ≡ records → within ≡ max
+    → IsRefusedBy query within held error → IsSendFault records (apex_of records) class octets max error
 fault_for query class held records octets within max error is asks are same refused =
-    let P : List spec.Record → Type 0 = λ rs. IsRefusedBy query within rs error in
+    let P : List Record → Type 0 = λ rs. IsRefusedBy query within rs error in
     let Q : ℕ → Type 0 = λ m. IsRefusedBy query m records error in
-    fault_of query class records octets max error is asks (subst Q same (subst P (same_records query class held records asks.class_is are) refused))
+    fault_of query class records octets max error is asks (subst Q same (subst P are refused))
 
 -- the class of a zone is one that a message can say
-class_small : (class : ℕ) (records : List spec.Record) → AreRecordsOf class records → class < 2 ^ 16
+class_small : (class : ℕ) (records : List Record) → AreRecordsOf class records → class < 2 ^ 16
 class_small class [] are = absurd are.zone
 class_small class (soa ∷ others) are =
     let first = are.each.0 in
     omega (arith, first.lawful.class, first.class_is)
 
-pub query_for : (query : AxfrQuery) (class : ℕ) (records : List spec.Record) (octets : List ℕ) → IsQuery octets query → query.id < 2 ^ 16
+pub query_for : (query : AxfrQuery) (class : ℕ) (records : List Record) (octets : List ℕ) → IsQuery octets query → query.id < 2 ^ 16
     → AsksFor query (apex_of records) class → AreRecordsOf class records → IsQueryFor records class query
 query_for query class records octets is small asks are = record {
   id = small;
