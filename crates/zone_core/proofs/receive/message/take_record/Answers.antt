@@ -6,7 +6,7 @@ use Rattle.zone_core.specs.declared.receive.error.ReceiveError.{ReceiveError}
 use Rattle.zone_core.specs.Asked.{asked_of}
 use Rattle.zone_core.specs.Receiving.{IsRecordFault}
 use Rattle.zone_core.specs.Intake.{StandsAt}
-use Rattle.zone_core.proofs.TakenRecords.{fault_or, stands_counted, takes_last, takes_inner, known_more}
+use Rattle.zone_core.proofs.TakenRecords.{fault_or, stands_counted, takes_last, takes_inner}
 use Rattle.zone_core.proofs.receive.message.take_record.Goals as goal
 
 pub returns-in_default-clause-err : goal.returns-in_default-clause-err
@@ -17,9 +17,6 @@ pub place_record-requires-clause-stands : goal.place_record-requires-clause-stan
 place_record-requires-clause-stands c =
     let stands = c.requires.stands.1 in
     (c.requires.stands.0, stands, omega (arith, stands_counted c.from.result stands c.from.ensures))
-
-pub place_record-requires-clause-next : goal.place_record-requires-clause-next
-place_record-requires-clause-next c = (c.in-Ok.record.class, c.in-Ok.ensures.known)
 
 pub returns-in_err-place_record-clause-err : goal.returns-in_err-place_record-clause-err
 returns-in_err-place_record-clause-err c =
@@ -42,8 +39,3 @@ returns-in_ok-push-in-Inner-clause-ok c =
     let places = c.in_ok-place_record.ensures in
     let is = rw c.in-Inner.is at places.ok in
     λ front stands. takes_inner c.in-Ok.record c.in-Ok.ensures.ok places.inside.0 c.in_ok-push-in-Inner.ensures.ok is stands
-
-pub returns-in_ok-push-in-Inner-clause-known : goal.returns-in_ok-push-in-Inner-clause-known
-returns-in_ok-push-in-Inner-clause-known c =
-    known_more c.args.query.now.class c.args.records.now c.push.new.self c.in-Ok.record c.in_ok-push-in-Inner.ensures.ok c.requires.known
-    c.in-Ok.ensures.known c.in_ok-place_record.ensures.inside.1
