@@ -1,5 +1,5 @@
 //! Many records in one piece of memory.
-ghost use Rattle.std.specs.Prelude.{◌≡◌, ◌==◌, ◌<◌, ◌++◌, ◌∷◌, [], length, slice_get, Some, OnOk, OnErr};
+ghost use Rattle.std.specs.Prelude.{◌≡◌, ◌==◌, ◌<◌, ◌^◌, ◌++◌, ◌∷◌, [], length, slice_get, Some, OnOk, OnErr};
 ghost use Rattle.dns_message.specs.Record.{IsRecord, record_octets};
 ghost use Rattle.zone_core.specs.Record as spec;
 
@@ -55,7 +55,8 @@ impl RecordList {
 
     /// How many records there are.
     pub(crate) fn len(&self) -> usize
-        ensures { result ≡ length self.now }
+        ensures count { result ≡ length self.now }
+        ensures few { result < 2 ^ 63 }
     {
         self.places.len()
     }

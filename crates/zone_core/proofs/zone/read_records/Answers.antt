@@ -18,7 +18,7 @@ loop-records-init c =
 pub returns-in_err-found-clause-err : goal.returns-in_err-found-clause-err
 returns-in_err-found-clause-err c =
     let p = err_from_is_err_and c.from_residual-in_err-found.result c.from_residual-in_err-found.ensures.1 in
-    rw (p.1, p.2) (stops-fault _ (c.len.result + 1) _ c.requires.known c.loop-records.invariant.begins (omega (arith, c.len.ensures))
+    rw (p.1, p.2) (stops-fault _ (c.len.result + 1) _ c.requires.known c.loop-records.invariant.begins (omega (arith, c.len.ensures.count))
     c.in_err-found.ensures.err)
 
 pub returns-in_err-check_rules-clause-err : goal.returns-in_err-check_rules-clause-err
@@ -27,7 +27,7 @@ returns-in_err-check_rules-clause-err c =
     let found = rw c.in-Some-2.is at c.in_ok-found.ensures.found in
     let P : Record → Type 0 = λ r. Entries c.args.class c.loop-records.rest.now (r ∷ []) c.in-Some-2.behind.now in
     rw (p.1, p.2) (follows-breaks c.as_record-soa.result c.as_record-next.result c.loop-records.records (c.len-in-Some-2.result + 1) _ c.requires.known
-    c.loop-records.invariant (subst P (sym c.as_record-next.ensures) found) (omega (arith, c.len-in-Some-2.ensures)) c.in_err-check_rules.ensures.err)
+    c.loop-records.invariant (subst P (sym c.as_record-next.ensures) found) (omega (arith, c.len-in-Some-2.ensures.count)) c.in_err-check_rules.ensures.err)
 
 pub loop-records-smaller : goal.loop-records-smaller
 loop-records-smaller c = let found = rw c.in-Some-2.is at c.in_ok-found.ensures.found in entry-shorter found
