@@ -9,7 +9,7 @@ use Rattle.zone_core.specs.Query.{AxfrQuery}
 use Rattle.zone_core.specs.Transfer.{WrittenOut, HasRecord, AsksAgain, HasAnswerHeader, SpellsRecords}
 use Rattle.zone_core.specs.Transfer.SpellsRecords.{none, one}
 use Rattle.zone_core.specs.Receiving.{IsOpen, IsClosed, IsRecordFault, IsMessageFault, KeepsRulesTo}
-use Rattle.zone_core.specs.Intake.{IsFaultOr, StandsAt, TakesRecord, HasTaken, TakesMessage}
+use Rattle.zone_core.specs.Intake.{IsFaultOr, StandsAt, TakesRecord, HasTaken}
 use Rattle.zone_core.specs.Intake.StandsAt.{begun, ended}
 use Rattle.zone_core.specs.declared.receive.error.ReceiveError.{ReceiveError}
 use Rattle.zone_core.specs.declared.receive.error.ReceiveError.TheVariants as receive_error
@@ -131,28 +131,3 @@ taken_fault query front first message count parser held closed error taken few f
     record_fault query front first message taken.group (place_of parser) e taken.rules (omega (arith, few, taken.counted))
     (subst P taken.octets (why (front ++ taken.group) taken.stands)) in
     fault_on Fault (IsMessageFault query front first message) error here fault
-
--- all records are taken, and octets are left
-pub taken_trailing : (query : AxfrQuery) (front : List Record) (first : Bool) (message : List ℕ) (count : ℕ) (parser : Parser)
-    (held : List Record) (closed : Bool) → HasTaken query front first message count parser held closed → count ≡ answer_count message
-    → (place_of parser ≡ length message → ⊥) → IsMessageFault query front first message receive_error.Trailing
-taken_trailing query front first message count parser held closed taken all left =
-    (taken.group, place_of parser, taken.rules, taken.counted ∙ all, left)
-
--- all records are taken, and nothing is left
-pub taken_whole : (query : AxfrQuery) (front : List Record) (first : Bool) (message : List ℕ) (count : ℕ) (parser : Parser)
-    (held : List Record) (closed : Bool) → HasTaken query front first message count parser held closed → count ≡ answer_count message
-    → place_of parser ≡ length message → TakesMessage query front first message held closed
-taken_whole query front first message count parser held closed taken all ends =
-    let P : ℕ → Type 0 = λ end. SpellsRecords WrittenOut message taken.rules.start taken.group end in
-    record {
-      group = taken.group;
-      answer = record {
-        header = taken.rules.header;
-        place = taken.rules.start;
-        asked = taken.rules.asked;
-        counted = sym (taken.counted ∙ all);
-        spelled = subst P ends taken.rules.spelled;
-      };
-      stands = taken.stands;
-    }

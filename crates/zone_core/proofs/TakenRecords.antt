@@ -1,17 +1,15 @@
 -- The records of a transfer, one behind the other.
 use Rattle.std.proofs.Common.{◌≡◌, ℕ, ◌+◌, Bool, true, false, List, [], ◌∷◌, length, refl, sym, subst, arith, length-append}
 use mir.Val.{bool_byte}
-use Rattle.std.specs.List.{AllByRecursion, push}
+use Rattle.std.specs.List.{push}
 use Rattle.zone_core.specs.Record.{Record}
 use Rattle.zone_core.specs.Query.{AxfrQuery}
-use Rattle.zone_core.specs.Records.{IsRecordOf}
 use Rattle.zone_core.specs.Transfer.{WrittenOut, HasRecord, IsTransferred, ClosesTransfer}
 use Rattle.zone_core.specs.Receiving.{IsOpen}
 use Rattle.zone_core.specs.Intake.{IsFaultOr, StandsAt, TakesRecord}
 use Rattle.zone_core.specs.Intake.StandsAt.{begun, ended}
 use Rattle.zone_core.specs.declared.receive.error.ReceiveError.{ReceiveError}
 use Rattle.zone_core.specs.declared.receive.error.ReceiveError.TheVariants as receive_error
-use Rattle.zone_core.proofs.LastRecord.{all_append}
 
 -- a fault of either kind
 pub fault_or : (Fault : ReceiveError → Type 0) (error : ReceiveError) → Fault error → IsFaultOr Fault error
@@ -60,11 +58,3 @@ takes_inner {query} {held = held} {new} {front} r has not_closed is still stands
     let P : List Record → Type 0 = λ new. StandsAt query new false (push held r) in
     let Q : List Record → Type 0 = λ front. StandsAt query new false (push front r) in
     record { r = r; has = has; stands = subst Q (sym (stands_same stands not_closed)) (subst P (sym is) (begun still)) }
-
--- what is known of the records that are held, with one more
-pub known_more : (class : ℕ) (held new : List Record) (r : Record) → new ≡ push held r → AllByRecursion (IsRecordOf class) held
-    → IsRecordOf r.class r → r.class ≡ class → AllByRecursion (IsRecordOf class) new
-known_more class held new r is each known same =
-    let P : ℕ → Type 0 = λ c. IsRecordOf c r in
-    let Q : List Record → Type 0 = λ l. AllByRecursion (IsRecordOf class) l in
-    subst Q (sym is) (all_append (IsRecordOf class) held (r ∷ []) each (subst P same known, tt))

@@ -40,8 +40,8 @@ returns-else-eq c =
     let no_is = c.if-eq.false in
     elim c.if-is_at.branch [
       | then-is_at w ↦ (
-          λ told. absurd cc,
-          λ same. w.value-is ∙ w.eq.ensures ∙ eq-eqb w.ttl.result w.ttl-then-is_at.result (w.ttl.ensures ∙ same.ttl ∙ sym w.ttl-then-is_at.ensures),
-        )
+        λ told. absurd cc,
+        λ same. w.value-is ∙ w.eq.ensures ∙ eq-eqb w.ttl.result w.ttl-then-is_at.result (w.ttl.ensures ∙ same.ttl ∙ sym w.ttl-then-is_at.ensures),
+      )
       | else-is_at w ↦ (λ told. absurd cc, λ same. w.value-is ∙ c.is_at.ensures.1 (same.owner ∙ sym (ap low c.owner.ensures.owner)))
     ]
