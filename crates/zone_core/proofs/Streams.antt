@@ -1,10 +1,11 @@
 -- The stream of all records of a zone.
-use Rattle.std.proofs.Common.{◌≡◌, ℕ, ◌+◌, ◌<◌, ◌≤◌, ◌^◌, Bool, true, false, Option, Some, None, List, [], ◌∷◌, ◌++◌, length, map, take, refl, sym, ap, ◌∙◌, subst, arith, append-nil, length-append}
-use Rattle.std.specs.Prelude.{slice_get}
+use Rattle.std.proofs.Common.{◌≡◌, ℕ, ◌+◌, ◌<◌, ◌≤◌, ◌^◌, zero, suc, Bool, true, false, Option, Some, None, List, [], ◌∷◌, ◌++◌, length, map, take, refl, sym, ap, ◌∙◌, subst, arith, append-nil, length-append}
+use Rattle.std.specs.Prelude.{slice_get, ◌==◌}
 use Rattle.std.specs.Bool.{OnTrue, OnFalse}
 use Rattle.std.specs.List.{push}
 use Rattle.std.proofs.lemmas.List.{map-append, take_all, take-append-le}
 use Rattle.std.proofs.lemmas.List.Concat.{flat_map-append}
+use Rattle.std.proofs.lemmas.Bool.Decides.{Decides-eqb}
 use Rattle.std.proofs.lemmas.Option.{slice_get_within}
 use Rattle.zone_core.specs.Record.{Record}
 use Rattle.zone_core.specs.declared.sender.Sender.{Sender}
@@ -110,6 +111,14 @@ soa_blocked sender query records i soa max nowhere all first same =
 pub none_again : (records : List Record) (i : ℕ) → length records ≡ 0 → take i records ≡ with_soa_again records
 none_again [] i empty = take_all i [] (omega arith)
 none_again (r ∷ records) i empty = absurd (omega arith)
+
+-- whether there are records
+pub some_of : (n : ℕ) (none : Bool) → none ≡ (n == 0) → none ≡ false → 0 < n
+some_of zero none is false_is = absurd cc
+some_of (suc n) none is false_is = omega arith
+
+pub none_of : (n : ℕ) (none : Bool) → none ≡ (n == 0) → none ≡ true → n ≡ 0
+none_of n none is true_is = (Decides-eqb n 0).0 (sym is ∙ true_is)
 
 pub at_true : {P : Type 0} (b : Bool) → b ≡ true → OnTrue b P → P
 at_true true is p = p

@@ -2,7 +2,7 @@ use Rattle.std.proofs.Common.{◌≡◌, ◌<◌, ◌≤◌, ◌∙◌, ap, sym,
 use Rattle.zone_core.specs.Record.{Record}
 use Rattle.zone_core.specs.Sending.{Holds}
 use Rattle.zone_core.proofs.Indexed.{element_at, take-next}
-use Rattle.zone_core.proofs.Streams.{sent, few_held, record_blocked, all_again, soa_blocked, none_again, at_true, at_false}
+use Rattle.zone_core.proofs.Streams.{sent, few_held, some_of, none_of, record_blocked, all_again, soa_blocked, none_again, at_true, at_false}
 use Rattle.zone_core.proofs.transfer.send_records.Goals as goal
 use Rattle.zone_core.proofs.transfer.send_records.Goals.{else-not-is_empty-via-then-not-is_empty+in_ok-put-2+else-not-branch-2, else-not-is_empty-via-else-not-is_empty}
 
@@ -18,7 +18,7 @@ put-requires c =
 pub put-requires-then-not-is_empty : goal.put-requires-then-not-is_empty
 put-requires-then-not-is_empty c =
     let query = c.requires.0 in
-    let soa = element_at c.args.records.now 0 (omega arith) in
+    let soa = element_at c.args.records.now 0 (some_of _ _ c.is_empty.ensures c.if-not-is_empty.true) in
     record {
       holds = (query, take c.loop-i.i c.args.records.now, c.loop-i.invariant.holds query c.requires.1);
       is_record = (soa.0, c.octets_at-then-not-is_empty.ensures soa.0 soa.1);
@@ -43,25 +43,26 @@ loop-i-preserved c =
       max = c.in_ok-put.ensures.max ∙ c.loop-i.invariant.max;
     }
 
-pub overflow_add-len : goal.overflow_add-len
-overflow_add-len c =
+pub overflow_add-result-then-not-branch-2 : goal.overflow_add-result-then-not-branch-2
+overflow_add-result-then-not-branch-2 c =
     let query = c.requires.0 in
     omega (arith, few_held c.loop-i.sender query c.args.records.now c.loop-i.i (c.loop-i.invariant.holds query c.requires.1) (omega arith))
 
 pub returns-then-not-branch-2-clause-err : goal.returns-then-not-branch-2-clause-err
 returns-then-not-branch-2-clause-err c = λ query holds.
-    let soa = element_at c.args.records.now 0 (omega arith) in
+    let soa = element_at c.args.records.now 0 (some_of _ _ c.is_empty.ensures c.if-not-is_empty.true) in
     let refused = at_false _ c.if-not-branch-2.true c.in_ok-put-2.ensures.refused in
     let nowhere =
     refused query (take c.loop-i.i c.args.records.now) soa.0 (c.octets_at-then-not-is_empty.ensures soa.0 soa.1) (c.loop-i.invariant.holds query holds) in
-    soa_blocked c.loop-i.sender query c.args.records.now c.loop-i.i soa.0 c.args.sender.max nowhere (omega arith) soa.1 c.loop-i.invariant.max
+    rw c.len.ensures
+    (soa_blocked c.loop-i.sender query c.args.records.now c.loop-i.i soa.0 c.args.sender.max nowhere (omega arith) soa.1 c.loop-i.invariant.max)
 
 pub returns-clause-ok : goal.returns-clause-ok
 returns-clause-ok c = λ query holds.
     let front = c.loop-i.invariant.holds query holds in
     elim c.else-not-is_empty.branch [
       | else-not-is_empty-via-then-not-is_empty+in_ok-put-2+else-not-branch-2 w ↦
-          let soa = element_at c.args.records.now 0 (omega arith) in
+          let soa = element_at c.args.records.now 0 (some_of _ _ c.is_empty.ensures w.if-not-is_empty.true) in
           let placed = at_true _ w.if-not-branch-2.false w.in_ok-put-2.ensures.placed in
           let whole = placed query (take c.loop-i.i c.args.records.now) soa.0 (w.octets_at-then-not-is_empty.ensures soa.0 soa.1) front in
           sent w.put-then-not-is_empty.new.self query c.args.records.now _ c.into_stream.result.items c.args.sender.max whole
@@ -70,6 +71,6 @@ returns-clause-ok c = λ query holds.
           (c.into_stream.ensures ∙ ap (λ s. s.stream.items) w.sender-is)
       | else-not-is_empty-via-else-not-is_empty w ↦
           sent c.loop-i.sender query c.args.records.now _ c.into_stream.result.items c.args.sender.max front
-          (none_again c.args.records.now c.loop-i.i (omega arith)) c.loop-i.invariant.max
+          (none_again c.args.records.now c.loop-i.i (none_of _ _ c.is_empty.ensures w.if-not-is_empty.false)) c.loop-i.invariant.max
           (c.into_stream.ensures ∙ ap (λ s. s.stream.items) w.sender-is)
     ]

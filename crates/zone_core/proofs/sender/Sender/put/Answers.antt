@@ -4,8 +4,8 @@ use Rattle.zone_core.proofs.sender.Sender.put.Goals as goal
 
 pub returns-in-Some-clause-placed : goal.returns-in-Some-clause-placed
 returns-in-Some-clause-placed c = λ query records r is holds.
-    placed_behind c.args.self.now c.append.new.self query records r c.in-Some.start c.len-len.result
-    holds c.in-Some.ensures.0 c.in-Some.ensures.1 (omega (arith, ap length is)) c.in_ok-append.ensures.max
+    placed_behind c.args.self.now c.append.new.self query records r c.in-Some.start (length c.args.record.now)
+    holds c.in-Some.ensures.0 c.in-Some.ensures.1 (ap length is) c.in_ok-append.ensures.max
     (λ front group mark count. c.in_ok-append.ensures.whole query front group mark count r is)
 
 pub overflow_add-len : goal.overflow_add-len
@@ -13,7 +13,7 @@ overflow_add-len c = omega (arith, opening_short c.args.self.now c.requires.hold
 
 pub returns-then-len-self-clause-refused : goal.returns-then-len-self-clause-refused
 returns-then-len-self-clause-refused c = λ query records r is holds.
-    placed_nowhere c.args.self.now query records r c.len-len.result holds c.in_default.ensures (omega (arith, ap length is)) (omega arith)
+    placed_nowhere c.args.self.now query records r (length c.args.record.now) holds c.in_default.ensures (ap length is) (omega arith)
 
 pub append-requires-2 : goal.append-requires-2
 append-requires-2 c =
@@ -34,7 +34,7 @@ append-requires-2 c =
 
 pub returns-clause-placed : goal.returns-clause-placed
 returns-clause-placed c = λ query records r is holds.
-    placed_alone c.args.self.now c.append-2.new.self query records r c.in_ok-start.start c.len-len.result
-    holds c.in_default.ensures (omega (arith, ap length is)) (omega arith)
+    placed_alone c.args.self.now c.append-2.new.self query records r c.in_ok-start.start (length c.args.record.now)
+    holds c.in_default.ensures (ap length is) (omega arith)
     (c.in_ok-append-2.ensures.max ∙ c.in_ok-start.ensures.max)
     (c.in_ok-append-2.ensures.whole query holds.groups [] _ _ r is (c.in_ok-start.ensures.stands query holds.groups holds.holds))
