@@ -8,7 +8,6 @@ use Rattle.std.specs.Int.{to_be_bytes, w16}
 use Rattle.std.specs.List.{AllByRecursion, push}
 use Rattle.dns_label.proofs.Spelling.{drop_behind}
 use Rattle.zone_core.specs.Record.{Record}
-use Rattle.zone_core.specs.Owned.{records_of}
 use Rattle.zone_core.specs.Records.{IsRecordOf}
 use Rattle.zone_core.specs.Query.{AxfrQuery}
 use Rattle.zone_core.specs.Frames.{frame, frames, IsFramable}
@@ -99,11 +98,11 @@ stands_open (ended last all closes) is = absurd cc
 pub judged_on : (intake new : Intake) (query : AxfrQuery) (judged : Judged intake query) (message behind : List ℕ) (end : ℕ) (first : Bool)
     → NextJudged intake query judged message behind end → new.octets.items ≡ intake.octets.items → new.judged ≡ end
     → first ≡ is_first judged.messages
-    → TakesMessage query (records_of query.class intake.records.items) first message (records_of query.class new.records.items) false
-    → AllByRecursion (IsRecordOf query.class) (records_of query.class new.records.items) → Judged new query
+    → TakesMessage query intake.records first message new.records false → AllByRecursion (IsRecordOf query.class) new.records
+    → Judged new query
 judged_on intake new query judged message behind end first next same place is takes known =
     let open' = stands_open takes.stands refl in
-    let joins : joined (push judged.groups takes.group) ≡ records_of query.class new.records.items =
+    let joins : joined (push judged.groups takes.group) ≡ new.records =
     joined_push judged.groups takes.group ∙ ap (λ l. l ++ takes.group) judged.joins ∙ open'.same in
     record {
       messages = push judged.messages message;
@@ -162,13 +161,12 @@ last_group query held old (r ∷ group) last still same all closes =
 pub judged_last : (intake new : Intake) (query : AxfrQuery) (judged : Judged intake query) (message behind : List ℕ) (end : ℕ) (first : Bool)
     → NextJudged intake query judged message behind end → new.octets.items ≡ intake.octets.items
     → first ≡ is_first judged.messages
-    → TakesMessage query (records_of query.class intake.records.items) first message (records_of query.class new.records.items) true
-    → AllByRecursion (IsRecordOf query.class) (records_of query.class new.records.items) → EndsTransfer new query end
+    → TakesMessage query intake.records first message new.records true → AllByRecursion (IsRecordOf query.class) new.records
+    → EndsTransfer new query end
 judged_last intake new query judged message behind end first next same is takes known =
-    let old : List Record = records_of query.class intake.records.items in
-    let held : List Record = records_of query.class new.records.items in
     let closed = stands_closed takes.stands refl in
-    let group = last_group query held old takes.group closed.last (subst (IsOpen query) judged.joins judged.still_open) closed.same closed.transferred closed.closes in
+    let still = subst (IsOpen query) judged.joins judged.still_open in
+    let group = last_group query new.records intake.records takes.group closed.last still closed.same closed.transferred closed.closes in
     let all : List ℕ = frames (push judged.messages message) in
     record {
       transfer = record {
@@ -213,11 +211,9 @@ fault_in_stream query stream Fault bad not_query finished receive_error.OutOfMem
 -- the message is refused
 pub judged_bad : (intake : Intake) (query : AxfrQuery) (judged : Judged intake query) (len : ℕ)
     (framed : BeginsWithFrame (drop intake.judged intake.octets.items) len) (first : Bool) (error : ReceiveError) → first ≡ is_first judged.messages
-    → IsFaultOr (IsMessageFault query (records_of query.class intake.records.items) first framed.message) error
-    → IsStreamFault query intake.octets.items error
+    → IsFaultOr (IsMessageFault query intake.records first framed.message) error → IsStreamFault query intake.octets.items error
 judged_bad intake query judged len framed first error is fault =
-    let old : List Record = records_of query.class intake.records.items in
-    let Fault : ReceiveError → Type 0 = λ e. IsMessageFault query old first framed.message e in
+    let Fault : ReceiveError → Type 0 = λ e. IsMessageFault query intake.records first framed.message e in
     let bad : (e : ReceiveError) → Fault e → HasBadMessage query intake.octets.items e = λ e why.
     let P : List Record → Type 0 = λ records. IsMessageFault query records first framed.message e in
     let Q : Bool → Type 0 = λ first. IsMessageFault query (joined judged.groups) first framed.message e in

@@ -14,6 +14,7 @@ pub mod Tried
 pub mod WordSymbols
 pub mod EmptyRows
 pub mod WordRows
+pub mod PlainOctets
 pub mod HeldWords
 pub mod NumberTexts
 pub mod RecordData
@@ -70,5 +71,5 @@ pub mod PrintedSymbols
 pub mod PrintedWords
 pub mod PrintedDocuments
 pub mod PrintedTexts
-pub mod HeldRecords
+pub mod StoredRecords
 pub mod PrintedOnce

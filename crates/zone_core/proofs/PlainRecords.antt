@@ -1,6 +1,5 @@
 -- Records that stand written out at a place, by what a parser takes off one after another.
-use Rattle.std.proofs.Common.{◌≡◌, ℕ, ◌+◌, ◌<◌, ◌≤◌, ◌^◌, List, ◌++◌, length, take, drop, Result, Ok, Err, refl, sym, ap, ◌∙◌, subst, arith, append_assoc, length-append, length-drop, Bool, false, true, IsTrue, inl, inr}
-use Rattle.std.specs.Result.{IfErr}
+use Rattle.std.proofs.Common.{◌≡◌, ℕ, ◌+◌, ◌-◌, ◌<◌, ◌≤◌, ◌^◌, List, ◌++◌, length, take, drop, refl, sym, ap, ◌∙◌, subst, arith, append_assoc, length-append, length-drop, Bool, false, true, IsTrue, inl, inr}
 use Rattle.std.specs.Int.{to_be_bytes, w16, w32}
 use Rattle.std.specs.List.{AllByRecursion}
 use Rattle.std.proofs.Math.Seq.{take-append_seam}
@@ -14,19 +13,10 @@ use Rattle.dns_message.specs.Record.{ReadsPlainRecord, record_octets}
 use Rattle.zone_core.specs.Record.{Record}
 use Rattle.zone_core.specs.Records.{AreOctets, IsRecordOf}
 use Rattle.zone_core.specs.Transfer.{IsTypeToday}
-use Rattle.zone_core.specs.Intake.{OnMalformed}
-use Rattle.zone_core.specs.declared.receive.record.RecordError.{RecordError}
-use Rattle.zone_core.specs.declared.receive.record.RecordError.TheVariants.{Malformed, OutOfMemory}
 use Rattle.zone_core.proofs.SoaOctets.{front_one}
 use Rattle.zone_core.proofs.Questions.{too_few}
 use Rattle.zone_core.proofs.NameFronts.{octets_behind, octets_front}
 use Rattle.zone_core.proofs.PrintedTexts.{wire_back}
-
--- what a refusal has to say, where it is known
-pub malformed_exit : {T P : Type 0} (result : Result T RecordError) → P → IfErr result (λ error. OnMalformed error P)
-malformed_exit (Ok found) always = tt
-malformed_exit (Err Malformed) always = always
-malformed_exit (Err OutOfMemory) always = tt
 
 -- octets that a parser takes off
 pub taken_off : (old new : Parser) (count : ℕ) (front : List ℕ) → GoesOn old new count → front ≡ take count (rest_of old)
@@ -207,3 +197,11 @@ read_record message place next r owner rtype class ttl len behind rest is_name f
     let more = octets_behind (drop place message) (wire r.owner) behind' whole all in
     let data_octets = octets_front (r.rdata ++ rest) r.rdata rest refl (octets_behind behind' numbers (r.rdata ++ rest) parts more) in
     ((reads, today), known_record r.class r name g1 g2 g3 g4 today data_is refl owner_octets data_octets)
+
+-- the octets from one place to the other, which are the record
+pub record_between : (octets message : List ℕ) (start end place next : ℕ) (r : Record) → octets ≡ message → start ≡ place → end ≡ next
+    → ReadsPlainRecord message place r next → take (end - start) (drop start octets) ≡ record_octets r
+record_between octets message start end place next r same from to reads =
+    let long : end - start ≡ length (record_octets r) = omega (arith, from, to, reads.ends) in
+    let there : drop start octets ≡ record_octets r ++ reads.rest = ap (λ l. drop start l) same ∙ ap (λ n. drop n message) from ∙ reads.at in
+    ap (λ n. take n (drop start octets)) long ∙ ap (take (length (record_octets r))) there ∙ take-append_seam (record_octets r) reads.rest

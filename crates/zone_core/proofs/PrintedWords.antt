@@ -22,7 +22,7 @@ use Rattle.dns_zonefile.specs.PlainRow.{IsWord}
 use Rattle.zone_core.specs.Records.{AreOctets}
 use Rattle.zone_core.proofs.LastRecord.{all_append}
 use Rattle.zone_core.proofs.NumberTexts.{number_of_digits}
-use Rattle.zone_core.proofs.WordSymbols.{differs}
+use Rattle.zone_core.proofs.WordSymbols.{chars_written, differs}
 use Rattle.zone_core.proofs.PrintedSymbols.{StandsFor, plain_in, printed_stands}
 
 -- characters that stand for themselves
@@ -32,10 +32,6 @@ ArePlain text = AllByRecursion (λ c. IsIn false (Char c)) text
 chars_each : (text : List ℕ) → ArePlain text → AllByRecursion (IsIn false) (map Char text)
 chars_each [] plain = tt
 chars_each (c ∷ text) plain = (plain.0, chars_each text plain.1)
-
-chars_written : (text : List ℕ) → text ≡ flat_map spelled (map Char text)
-chars_written [] = refl
-chars_written (c ∷ text) = ap (λ l. c ∷ l) (chars_written text)
 
 plain_word : (text : List ℕ) → ArePlain text → 0 < length text → IsWord text
 plain_word text plain some = record {

@@ -12,7 +12,7 @@ use Rattle.dns_text.specs.Tokens.Next.{ended, goes, comment, quoted, unquoted}
 use Rattle.dns_text.specs.Tokens.Row.{end}
 use Rattle.dns_rdata.specs.Fields.{Field, ipv4, compressible, number32, octets, IsRow}
 use Rattle.dns_rdata.specs.Fields.IsData.{typed}
-use Rattle.dns_zonefile.specs.PlainRow.{Words, RecordWords}
+use Rattle.dns_zonefile.specs.PlainRow.{DataWords, Words, RecordWords}
 use Rattle.dns_zonefile.specs.PlainRow.Words.{last, more}
 use Rattle.dns_zonefile.specs.PlainRow.DataWords.{a, soa}
 use Rattle.dns_zonefile.specs.PlainRow.RecordWords.{words}
@@ -20,6 +20,7 @@ use Rattle.zone_core.specs.Record.{Record}
 use Rattle.zone_core.specs.Records.{AreOctets, IsRecordOf}
 use Rattle.zone_core.specs.Zone.{soa_type}
 use Rattle.zone_core.specs.ZoneText.{Entries}
+use Rattle.zone_core.specs.Entry.{SpellsData}
 use Rattle.zone_core.specs.ZoneText.Entries.{none, empty, entry}
 use Rattle.zone_core.proofs.LastRecord.{all_append}
 use Rattle.zone_core.proofs.ReadOctets.{absolute_octets, wire_octets, address_octets, numbers_octets}
@@ -127,3 +128,17 @@ record-lawful {class} (words {name = name} {seconds = seconds} {row = row} owner
 pub entry-lawful : {class : ℕ} {text rest : List ℕ} {r : Record} → Entries class text (r ∷ []) rest → class < 2 ^ 16 → IsRecordOf class r
 entry-lawful (empty next row more') fits = entry-lawful more' fits
 entry-lawful (entry ws next row is more') fits = record-lawful is fits
+
+row-few : {rtype : ℕ} {each : List (List ℕ)} {row : List Field} {v : List ℕ} → DataWords rtype each row → v ≡ octets row → length v < 2 ^ 16
+row-few (a {address = address} dotted) is =
+    omega (arith, ap (length {A = ℕ}) is, (address-row address (ap (length {A = ℕ}) dotted.value)).short)
+row-few (soa {m = m} {r = r} {n1 = n1} {n2 = n2} {n3 = n3} {n4 = n4} {n5 = n5} m_is r_is f1 f2 f3 f4 f5) is =
+    omega (
+      arith,
+      ap (length {A = ℕ}) is,
+      (soa-row m r n1 n2 n3 n4 n5 (absolute-is-name m_is) (absolute-is-name r_is) f1.fits f2.fits f3.fits f4.fits f5.fits).short,
+    )
+
+-- data that words spell is as long as a record's may be
+pub spelled-few : {rtype : ℕ} {each : List (List ℕ)} {v : List ℕ} → SpellsData rtype each v → length v < 2 ^ 16
+spelled-few spells = row-few spells.spelled spells.is

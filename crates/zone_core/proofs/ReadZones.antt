@@ -1,9 +1,9 @@
 -- The reading of a zone's text, entry by entry.
-use Rattle.std.proofs.Common.{◌≡◌, ◌≢◌, ℕ, ◌+◌, ◌<◌, ◌^◌, List, [], ◌∷◌, ◌++◌, length, sym, ◌∙◌, subst, arith, append-nil}
+use Rattle.std.proofs.Common.{◌≡◌, ◌≢◌, ℕ, ◌+◌, ◌<◌, ◌^◌, List, [], ◌∷◌, ◌++◌, length, refl, sym, ap, ◌∙◌, subst, arith, append-nil}
 use Rattle.std.specs.List.{AllByRecursion}
 use Rattle.zone_core.specs.Record.{Record}
 use Rattle.zone_core.specs.Records.{IsRecordOf, AreRecordsOf}
-use Rattle.zone_core.specs.Zone.{IsZoneFront, any_class}
+use Rattle.zone_core.specs.Zone.{IsBehindSoa, IsZoneFront, any_class, soa_type}
 use Rattle.zone_core.specs.ZoneText.{Entries, IsZoneText, IsZoneFault, Reaches}
 use Rattle.zone_core.specs.ZoneText.Entries.{none}
 use Rattle.zone_core.specs.Entry.{EndsBehindRows}
@@ -116,8 +116,64 @@ pub whole-records : {class : ℕ} {text : List ℕ} (records : List Record) → 
 whole-records [] whole some = absurd (omega arith)
 whole-records (soa ∷ others) whole some = record { each = whole.begins.each; zone = whole.begins.lawful }
 
--- a whole text without a record has no SOA
-pub whole-none : {class : ℕ} {text : List ℕ} (records : List Record) → class ≢ any_class → IsWhole class text records → length records ≡ 0
-    → IsZoneFault text class NoSoa
-whole-none [] known whole none' = (known, whole.rest, whole.begins.entries, whole.ends)
-whole-none (soa ∷ others) known whole none' = absurd (omega arith)
+-- the text begins with the SOA and perhaps others, which are these records
+pub record FollowsSoa (class : ℕ) (text : List ℕ) (soa : Record) (records : List Record) (rest : List ℕ) : Type 0 where
+  pub begins : BeginsWith class text records rest
+  pub others : List Record
+  pub are : records ≡ soa ∷ others
+
+pub follows-first : {class : ℕ} {text rest : List ℕ} (soa : Record) (records : List Record) → class < 2 ^ 16
+    → Entries class text (soa ∷ []) rest → soa.rtype ≡ soa_type → records ≡ soa ∷ [] → FollowsSoa class text soa records rest
+follows-first {class} {text} {rest} soa records fits next is are = record {
+  begins = begins-more [] records soa fits (begins-none class text [] refl) next (is, tt) are;
+  others = [];
+  are = are;
+}
+
+follows-lawful : (soa next : Record) (records others : List Record) → records ≡ soa ∷ others → IsZoneFront records → IsBehindSoa soa next
+    → IsZoneFront (records ++ next ∷ [])
+follows-lawful soa next records others are lawful is =
+    let P : List Record → Type 0 = λ rs. IsZoneFront rs in
+    let zone : IsZoneFront (soa ∷ others) = subst P are lawful in
+    subst P (ap (λ rs. rs ++ next ∷ []) (sym are)) (zone.0, all-push (IsBehindSoa soa) others next zone.1 is)
+
+pub follows-more : {class : ℕ} {text rest behind : List ℕ} (soa next : Record) (records all : List Record) → class < 2 ^ 16
+    → FollowsSoa class text soa records rest → Entries class rest (next ∷ []) behind → IsBehindSoa soa next → all ≡ records ++ next ∷ []
+    → FollowsSoa class text soa all behind
+follows-more soa next records all fits follows found is are = record {
+  begins = begins-more records all next fits follows.begins found
+      (follows-lawful soa next records follows.others follows.are follows.begins.lawful is) are;
+  others = follows.others ++ next ∷ [];
+  are = are ∙ ap (λ rs. rs ++ next ∷ []) follows.are;
+}
+
+-- where the next record may not stand behind the SOA, that is the fault
+pub follows-breaks : {class : ℕ} {text rest behind : List ℕ} (soa next : Record) (records : List Record) (number : ℕ) (error : ZoneError)
+    → class ≢ any_class → FollowsSoa class text soa records rest → Entries class rest (next ∷ []) behind → number ≡ length records + 1
+    → ((others : List Record) → number ≡ length others + 2 → BreaksRule (soa ∷ others) next error) → IsZoneFault text class error
+follows-breaks {class} {text} {rest} soa next records number error known follows found counted breaks =
+    let P : List Record → Type 0 = λ rs. BeginsWith class text rs rest in
+    breaks-fault (soa ∷ follows.others) next error known (subst P follows.are follows.begins) found
+    (breaks follows.others (omega (arith, counted, ap length follows.are)))
+
+-- where the text ends, it is a zone's
+pub follows-zone : {class : ℕ} {text rest : List ℕ} (soa : Record) (records : List Record) → class ≢ any_class
+    → FollowsSoa class text soa records rest → EndsBehindRows class rest → IsZoneText text class records
+follows-zone soa records known follows end' =
+    whole-zone records known (whole-end follows.begins end') (omega (arith, ap length follows.are))
+
+pub follows-records : {class : ℕ} {text rest : List ℕ} (soa : Record) (records : List Record) → FollowsSoa class text soa records rest
+    → EndsBehindRows class rest → AreRecordsOf class records
+follows-records soa records follows end' = whole-records records (whole-end follows.begins end') (omega (arith, ap length follows.are))
+
+-- a text whose first entry is none, or no SOA
+pub first-stops : (class : ℕ) (text : List ℕ) (n : ℕ) (error : ZoneError) → class ≢ any_class → n ≡ 1 → StopsReading class text n error
+    → IsZoneFault text class error
+first-stops class text n error known is stops = stops-fault [] n error known (begins-none class text [] refl) is stops
+
+pub first-none : (class : ℕ) (text : List ℕ) → class ≢ any_class → EndsBehindRows class text → IsZoneFault text class NoSoa
+first-none class text known end' = (known, end'.rest, end'.rows, end'.ends)
+
+pub first-other : {class : ℕ} {rest : List ℕ} (text : List ℕ) (r : Record) → class ≢ any_class → Entries class text (r ∷ []) rest
+    → r.rtype ≢ soa_type → IsZoneFault text class (FirstNotSoa 1)
+first-other {class} text r known next other = breaks-fault [] r (FirstNotSoa 1) known (begins-none class text [] refl) next (refl, other)

@@ -1,8 +1,8 @@
 -- Data of records in text, and what is known where the program refuses it.
-use Rattle.std.proofs.Common.{◌≡◌, ◌<◌, ◌≤◌, ◌^◌, ℕ, zero, suc, List, [], ◌∷◌, ◌++◌, length, get_or, Option, Some, None, Result, Ok, Err, refl, sym, ◌∙◌, subst, arith, append-nil, append_assoc}
+use Rattle.std.proofs.Common.{◌≡◌, ◌+◌, ◌*◌, ◌<◌, ◌≤◌, ◌^◌, ℕ, zero, suc, List, [], ◌∷◌, ◌++◌, length, get_or, Option, Some, None, Result, Ok, Err, refl, sym, ap, ◌∙◌, subst, arith, append-nil, append_assoc, length-append}
 use Rattle.std.specs.Borrow.{Bor}
 use Rattle.std.specs.List.{flat_map}
-use Rattle.std.specs.Int.{to_be_bytes, w32}
+use Rattle.std.specs.Int.{to_be_bytes, w16, w32}
 use Rattle.std.specs.Option.{IfNone, IfSome, ok_or}
 use Rattle.std.specs.Result.{IfErr, IsErrAnd}
 use Rattle.std.specs.declared.net.ipv4_addr.Ipv4Addr.{Ipv4Addr}
@@ -16,7 +16,7 @@ use Rattle.dns_zonefile.specs.PlainRow.DataWords.{a as a_data, soa as soa_data}
 use Rattle.dns_name.specs.declared.text.FromStrError.{FromStrError}
 use Rattle.dns_name.specs.declared.text.FromStrError.TheVariants.{Presentation, ShortBuf}
 use Rattle.dns_name.specs.Text.{IsRefused}
-use Rattle.zone_core.specs.Entry.{texts_of, SpellsData, OnText, error_of_name}
+use Rattle.zone_core.specs.Entry.{texts_of, behind_length, SpellsData, OnText, error_of_name}
 use Rattle.zone_core.specs.declared.text.entry.EntryError.{EntryError}
 use Rattle.zone_core.specs.declared.text.entry.EntryError.TheVariants.{Text, OutOfMemory}
 
@@ -75,6 +75,36 @@ a_made [] address v some few dotted is = absurd (omega arith)
 a_made (word ∷ []) address v some few dotted is =
     record { row = ipv4 address ∷ []; spelled = a_data dotted; is = is ∙ sym (append-nil address) }
 a_made (word ∷ other ∷ words) address v some few dotted is = absurd (omega arith)
+
+-- an address behind its length
+pub address_behind_length : (address : List ℕ) (d : ℕ) → length address ≡ 4
+    → 0 ∷ 4 ∷ get_or address 0 d ∷ get_or address 1 d ∷ get_or address 2 d ∷ get_or address 3 d ∷ [] ≡ behind_length address
+address_behind_length [] d four = absurd (omega (arith, four))
+address_behind_length (a ∷ []) d four = absurd (omega (arith, four))
+address_behind_length (a ∷ b ∷ []) d four = absurd (omega (arith, four))
+address_behind_length (a ∷ b ∷ c ∷ []) d four = absurd (omega (arith, four))
+address_behind_length (a ∷ b ∷ c ∷ e ∷ []) d four = refl
+address_behind_length (a ∷ b ∷ c ∷ e ∷ f ∷ address) d four = absurd (omega (arith, four))
+
+numbers_length : (numbers : List ℕ) → length (flat_map (to_be_bytes w32) numbers) ≡ 4 * length numbers
+numbers_length [] = refl
+numbers_length (n ∷ numbers) = let rest = numbers_length numbers in omega (arith, rest)
+
+three_behind : (a b c d : List ℕ) → ((a ++ b) ++ c) ++ d ≡ a ++ (b ++ (c ++ d ++ []))
+three_behind a b c d = simp (append_assoc, append-nil)
+
+-- the data of an SOA record as it is written behind its length
+pub soa_behind_length : (mname rname : List (List ℕ)) (numbers old first second third : List ℕ) (m r len : ℕ)
+    → m ≡ length (wire mname) → r ≡ length (wire rname) → m ≤ 255 → r ≤ 255 → length numbers ≡ 5 → len ≡ m + r + 20
+    → first ≡ old ++ to_be_bytes w16 len → second ≡ first ++ wire mname → third ≡ second ++ wire rname
+    → third ≡ old ++ (to_be_bytes w16 (length (wire mname ++ wire rname ++ flat_map (to_be_bytes w32) numbers)) ++ (wire mname ++ wire rname ++ []))
+soa_behind_length mname rname numbers old first second third m r len m_is r_is m_few r_few five len_is first_is second_is third_is =
+    let data' = flat_map (to_be_bytes w32) numbers in
+    let long : len ≡ length (wire mname ++ wire rname ++ data') =
+    omega (arith, len_is, m_is, r_is, five, numbers_length numbers, length-append (wire mname ++ wire rname) data', length-append (wire mname) (wire rname)) in
+    let P = ap (λ l. old ++ to_be_bytes w16 l) long in
+    third_is ∙ ap (λ l. l ++ wire rname) (second_is ∙ ap (λ l. l ++ wire mname) (first_is ∙ P))
+    ∙ three_behind old (to_be_bytes w16 (length (wire mname ++ wire rname ++ data'))) (wire mname) (wire rname)
 
 -- the data of an SOA record: two names and five numbers
 pub record SoaWords (words : List (List ℕ)) : Type 0 where

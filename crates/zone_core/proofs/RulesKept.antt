@@ -1,14 +1,11 @@
 -- Which rules of a transfer a record keeps behind those that are held.
-use Rattle.std.proofs.Common.{◌≡◌, ◌≢◌, ℕ, Bool, true, false, List, [], ◌∷◌, Option, Some, None, nat_eq, refl, sym, ap, ◌∙◌, subst}
+use Rattle.std.proofs.Common.{◌≡◌, ◌≢◌, ℕ, Bool, true, false, List, [], ◌∷◌, Some, nat_eq, length, refl, sym, ap, ◌∙◌, subst, arith, ◌⊎◌, inl, inr}
 use Rattle.std.specs.Prelude.{not}
-use Rattle.std.specs.Borrow.{Bor}
-use Rattle.std.specs.Option.{option_copied, is_some}
 use Rattle.std.specs.List.{AllByRecursion, slice_get, push}
 use Rattle.std.proofs.lemmas.Bool.{eqb-true, eq-eqb}
-use Rattle.zone_core.specs.Record as spec
-use Rattle.zone_core.specs.Zone.{IsUnder, soa_type}
+use Rattle.zone_core.specs.Record.{Record}
+use Rattle.zone_core.specs.Zone.{soa_type}
 use Rattle.zone_core.specs.Query.{AxfrQuery}
-use Rattle.zone_core.specs.Owned.{Held, record_of, records_of}
 use Rattle.zone_core.specs.Records.{IsRecordOf}
 use Rattle.zone_core.specs.Transfer.{IsInZoneOf, SameSoa, IsTransferred, ClosesTransfer}
 use Rattle.zone_core.specs.Receiving.{IsOpen, IsClosed, KeepsFirstRule, KeepsLastRule}
@@ -18,133 +15,144 @@ use Rattle.zone_core.specs.declared.receive.rules.Placing.{Placing}
 use Rattle.zone_core.specs.declared.receive.rules.Placing.TheVariants.{Inner, Last}
 use Rattle.zone_core.proofs.LastRecord.{all_append}
 
--- the first of the records, where there is one
-pub no_first : {T : Type 0} (front : List T) (first : Option (Bor T)) → option_copied first ≡ slice_get front 0
-    → is_some first ≡ false → front ≡ []
-no_first [] first is none = refl
-no_first (x ∷ front) None is none = cc
-no_first (x ∷ front) (Some soa) is none = cc
+-- whether a record is held
+pub none_held : (held : List Record) (empty : Bool) → empty ≡ nat_eq (length held) 0 → empty ≡ true → held ≡ []
+none_held [] empty told is = refl
+none_held (r ∷ held) empty told is =
+    let none : length (r ∷ held) ≡ 0 = eqb-true (length (r ∷ held)) 0 (sym told ∙ is) in absurd (omega (arith, none))
 
-pub first_some : {T : Type 0} (front : List T) (first : Option (Bor T)) → option_copied first ≡ slice_get front 0
-    → is_some first ≡ true → (x : T) × (rest : List T) × (front ≡ x ∷ rest)
-first_some [] None is some = cc
-first_some [] (Some soa) is some = cc
-first_some (x ∷ front) first is some = (x, front, refl)
-
-pub first_is : {T : Type 0} (front : List T) (first : Option (Bor T)) (soa : Bor T) → option_copied first ≡ slice_get front 0
-    → first ≡ Some soa → (rest : List T) × (front ≡ soa.now ∷ rest)
-first_is [] None soa is some = cc
-first_is [] (Some x) soa is some = cc
-first_is (y ∷ front) None soa is some = cc
-first_is (y ∷ front) (Some x) soa is some =
-    let same : x ≡ soa = cc in
-    let there : x.now ≡ y = cc in
-    (front, ap (λ z. z ∷ front) (sym there ∙ ap (λ (b : Bor _). b.now) same))
+pub some_held : (held : List Record) (empty : Bool) → empty ≡ nat_eq (length held) 0 → empty ≡ false
+    → (r : Record) × (others : List Record) × (held ≡ r ∷ others)
+some_held [] empty told is = let none : true ≡ false = sym told ∙ is in absurd cc
+some_held (r ∷ held) empty told is = (r, held, refl)
 
 -- the records of the transfer so far begin as those that are held
-pub stands_empty : {query : AxfrQuery} {held xs : List spec.Record} {closed : Bool} → StandsAt query held closed xs → held ≡ [] → xs ≡ []
+stands_empty : {query : AxfrQuery} {held xs : List Record} {closed : Bool} → StandsAt query held closed xs → held ≡ [] → xs ≡ []
 stands_empty (begun so_far) is = is
 stands_empty {query} (ended last transferred closes) is =
-    let P : List spec.Record → Type 0 = λ l. IsTransferred query l in absurd (subst P is transferred)
+    let P : List Record → Type 0 = λ l. IsTransferred query l in absurd (subst P is transferred)
 
-pub stands_behind : {query : AxfrQuery} {held xs : List spec.Record} {closed : Bool} (soa : spec.Record) (others : List spec.Record)
-    → StandsAt query held closed xs → held ≡ soa ∷ others → (rest : List spec.Record) × (xs ≡ soa ∷ rest)
+stands_behind : {query : AxfrQuery} {held xs : List Record} {closed : Bool} (soa : Record) (others : List Record)
+    → StandsAt query held closed xs → held ≡ soa ∷ others → (rest : List Record) × (xs ≡ soa ∷ rest)
 stands_behind soa others (begun so_far) is = (others, is)
 stands_behind soa others (ended last transferred closes) is = (push others last, ap (λ l. push l last) is)
 
-pub stands_transferred : {query : AxfrQuery} {held xs : List spec.Record} {closed : Bool} (soa : spec.Record) (others : List spec.Record)
+stands_transferred : {query : AxfrQuery} {held xs : List Record} {closed : Bool} (soa : Record) (others : List Record)
     → StandsAt query held closed xs → held ≡ soa ∷ others → IsTransferred query (soa ∷ others)
 stands_transferred {query} soa others (begun so_far) is =
-    let P : List spec.Record → Type 0 = λ l. IsOpen query l in subst P is so_far
+    let P : List Record → Type 0 = λ l. IsOpen query l in subst P is so_far
 stands_transferred {query} soa others (ended last transferred closes) is =
-    let P : List spec.Record → Type 0 = λ l. IsTransferred query l in subst P is transferred
+    let P : List Record → Type 0 = λ l. IsTransferred query l in subst P is transferred
+
+-- the first record that is held is an SOA of the class
+pub first_known : (class : ℕ) (held : List Record) (soa : Record) → slice_get held 0 ≡ Some soa → AllByRecursion (IsRecordOf class) held
+    → IsRecordOf class soa
+first_known class [] soa first each = absurd cc
+first_known class (r ∷ held) soa first each =
+    let there : r ≡ soa = cc in
+    let P : Record → Type 0 = λ x. IsRecordOf class x in
+    subst P there each.0
+
+pub first_is_soa : {query : AxfrQuery} {xs : List Record} {closed : Bool} (held : List Record) (soa : Record) → StandsAt query held closed xs
+    → slice_get held 0 ≡ Some soa → soa.rtype ≡ soa_type
+first_is_soa [] soa stands first = absurd cc
+first_is_soa (r ∷ held) soa stands first =
+    let there : soa ≡ r = cc in ap (λ (x : Record). x.rtype) there ∙ (stands_transferred r held stands refl).0
 
 -- the rule of the first record
-pub kept_first : (query : AxfrQuery) (xs : List spec.Record) (r : spec.Record) → xs ≡ [] → KeepsFirstRule query [] r
-    → KeepsFirstRule query xs r
-kept_first query xs r is keeps =
-    let P : List spec.Record → Type 0 = λ l. KeepsFirstRule query l r in subst P (sym is) keeps
+pub first_kept : {query : AxfrQuery} {held xs : List Record} {closed : Bool} (r : Record) → StandsAt query held closed xs → held ≡ []
+    → KeepsFirstRule query [] r → KeepsFirstRule query xs r
+first_kept {query} r stands empty keeps =
+    let P : List Record → Type 0 = λ l. KeepsFirstRule query l r in subst P (sym (stands_empty stands empty)) keeps
 
-pub kept_behind : (query : AxfrQuery) (xs : List spec.Record) (soa r : spec.Record) (rest : List spec.Record) → xs ≡ soa ∷ rest
-    → KeepsFirstRule query xs r
-kept_behind query xs soa r rest is =
-    let P : List spec.Record → Type 0 = λ l. KeepsFirstRule query l r in subst P (sym is) tt
+pub first_broken : {query : AxfrQuery} {held xs : List Record} {closed : Bool} (r : Record) → StandsAt query held closed xs → held ≡ []
+    → KeepsFirstRule query xs r → KeepsFirstRule query [] r
+first_broken {query} r stands empty keeps =
+    let P : List Record → Type 0 = λ l. KeepsFirstRule query l r in subst P (stands_empty stands empty) keeps
 
-pub kept_where_none : {query : AxfrQuery} {xs : List spec.Record} {closed : Bool} (class : ℕ) (front : List Held)
-    (first : Option (Bor Held)) (none : Bool) (r : spec.Record) → option_copied first ≡ slice_get front 0 → is_some first ≡ not none
-    → none ≡ true → StandsAt query (records_of class front) closed xs → KeepsFirstRule query [] r → KeepsFirstRule query xs r
-kept_where_none {query} {xs} class front first none r is told is_none stands keeps =
-    let empty = no_first front first is (told ∙ ap not is_none) in
-    kept_first query xs r (stands_empty stands (ap (records_of class) empty)) keeps
-
-pub kept_where_some : {query : AxfrQuery} {xs : List spec.Record} {closed : Bool} (class : ℕ) (front : List Held)
-    (first : Option (Bor Held)) (none : Bool) (r : spec.Record) → option_copied first ≡ slice_get front 0 → is_some first ≡ not none
-    → none ≡ false → StandsAt query (records_of class front) closed xs → KeepsFirstRule query xs r
-kept_where_some {query} {xs} class front first none r is told is_some stands =
-    let there = first_some front first is (told ∙ ap not is_some) in
-    let behind = stands_behind (record_of class there.0) (records_of class there.1) stands (ap (records_of class) there.2) in
-    kept_behind query xs (record_of class there.0) r behind.0 behind.1
+pub first_behind : {query : AxfrQuery} {held xs : List Record} {closed : Bool} (r soa : Record) (others : List Record)
+    → StandsAt query held closed xs → held ≡ soa ∷ others → KeepsFirstRule query xs r
+first_behind {query} r soa others stands is =
+    let behind = stands_behind soa others stands is in
+    let P : List Record → Type 0 = λ l. KeepsFirstRule query l r in
+    subst P (sym behind.1) tt
 
 -- the rule of a later SOA
-pub kept_last : (xs : List spec.Record) (soa r : spec.Record) (rest : List spec.Record) → xs ≡ soa ∷ rest
-    → (r.rtype ≡ soa_type → SameSoa soa r) → KeepsLastRule xs r
-kept_last xs soa r rest is keeps = let P : List spec.Record → Type 0 = λ l. KeepsLastRule l r in subst P (sym is) keeps
+pub last_kept : {query : AxfrQuery} {xs : List Record} {closed : Bool} (held : List Record) (soa r : Record) → StandsAt query held closed xs
+    → slice_get held 0 ≡ Some soa → SameSoa soa r → KeepsLastRule xs r
+last_kept [] soa r stands first same = absurd cc
+last_kept (x ∷ held) soa r stands first same =
+    let there : soa ≡ x = cc in
+    let behind = stands_behind x held stands refl in
+    let P : List Record → Type 0 = λ l. KeepsLastRule l r in
+    let Q : Record → Type 0 = λ y. SameSoa y r in
+    subst P (sym behind.1) (λ is. subst Q there same)
 
-pub broken_last : (xs : List spec.Record) (soa r : spec.Record) (rest : List spec.Record) → xs ≡ soa ∷ rest → KeepsLastRule xs r
-    → r.rtype ≡ soa_type → SameSoa soa r
-broken_last xs soa r rest is keeps = let P : List spec.Record → Type 0 = λ l. KeepsLastRule l r in subst P is keeps
+pub last_broken : {query : AxfrQuery} {xs : List Record} {closed : Bool} (held : List Record) (soa r : Record) → StandsAt query held closed xs
+    → slice_get held 0 ≡ Some soa → KeepsLastRule xs r → r.rtype ≡ soa_type → SameSoa soa r
+last_broken [] soa r stands first keeps is = absurd cc
+last_broken (x ∷ held) soa r stands first keeps is =
+    let there : x ≡ soa = cc in
+    let behind = stands_behind x held stands refl in
+    let P : List Record → Type 0 = λ l. KeepsLastRule l r in
+    let Q : Record → Type 0 = λ y. SameSoa y r in
+    subst Q there (subst P behind.1 keeps is)
+
+pub last_free : {query : AxfrQuery} {held : List Record} {closed : Bool} (xs : List Record) (r : Record) → StandsAt query held closed xs
+    → (held ≡ []) ⊎ (r.rtype ≡ soa_type → ⊥) → KeepsLastRule xs r
+last_free [] r stands either = tt
+last_free (soa ∷ others) r stands (inl empty) = let none = stands_empty stands empty in absurd cc
+last_free (soa ∷ others) r stands (inr no_soa) = λ is. absurd (no_soa is)
 
 -- the records of the transfer where the last SOA has come
-pub stands_closed : {query : AxfrQuery} {held xs : List spec.Record} {closed : Bool} → StandsAt query held closed xs → closed ≡ true
+pub stands_closed : {query : AxfrQuery} {held xs : List Record} {closed : Bool} → StandsAt query held closed xs → closed ≡ true
     → IsClosed query xs
 stands_closed (begun so_far) is = absurd cc
 stands_closed {held = held} (ended last transferred closes) is =
     record { front = held; last = last; splits = refl; transferred = transferred; closes = closes }
 
-pub closed_some : {query : AxfrQuery} {held xs : List spec.Record} {closed : Bool} → StandsAt query held closed xs → closed ≡ true
-    → held ≡ [] → ⊥
-closed_some (begun so_far) is empty = absurd cc
-closed_some {query} (ended last transferred closes) is empty =
-    let P : List spec.Record → Type 0 = λ l. IsTransferred query l in subst P empty transferred
-
 -- a record of the zone behind those that are held
-in_zone : (query : AxfrQuery) (r : spec.Record) (class : ℕ) → IsRecordOf class r → r.class ≡ query.class
-    → IsUnder query.name r.owner → IsInZoneOf query r
-in_zone query r class known class_is under = record { class = class_is; under = under; spellable = known.spellable }
-
-pub placed_first : (query : AxfrQuery) (held : List spec.Record) (r : spec.Record) (class : ℕ) (placing : Placing) → held ≡ []
-    → placing ≡ Inner → KeepsFirstRule query [] r → IsRecordOf class r → r.class ≡ query.class → IsUnder query.name r.owner
-    → IsPlacing query held r placing
-placed_first query held r class placing empty is keeps known class_is under =
-    let P : List spec.Record → Type 0 = λ l. IsOpen query (push l r) in
-    let Q : Placing → Type 0 = λ p. IsPlacing query held r p in
-    let zone = in_zone query r class known class_is under in
-    subst Q (sym is) (subst P (sym empty) (keeps.0, keeps.1, (zone, tt), tt))
-
-pub placed_inner : (query : AxfrQuery) (held : List spec.Record) (soa : spec.Record) (others : List spec.Record) (r : spec.Record)
-    (class : ℕ) (placing : Placing) → held ≡ soa ∷ others → placing ≡ Inner → IsTransferred query (soa ∷ others)
-    → (r.rtype ≡ soa_type → ⊥) → IsRecordOf class r → r.class ≡ query.class → IsUnder query.name r.owner
-    → IsPlacing query held r placing
-placed_inner query held soa others r class placing held_is is transferred no_soa known class_is under =
-    let P : List spec.Record → Type 0 = λ l. IsOpen query (push l r) in
-    let Q : Placing → Type 0 = λ p. IsPlacing query held r p in
-    let zone = in_zone query r class known class_is under in
+still_open : {query : AxfrQuery} {xs : List Record} {closed : Bool} (held : List Record) (r : Record) → StandsAt query held closed xs
+    → KeepsFirstRule query xs r → (held ≡ []) ⊎ (r.rtype ≡ soa_type → ⊥) → IsInZoneOf query r → IsOpen query (push held r)
+still_open [] r stands keeps either zone = let first = first_broken r stands refl keeps in (first.0, first.1, (zone, tt), tt)
+still_open (soa ∷ others) r stands keeps (inl empty) zone = absurd cc
+still_open {query} (soa ∷ others) r stands keeps (inr no_soa) zone =
+    let transferred = stands_transferred soa others stands refl in
     let each = all_append (IsInZoneOf query) (soa ∷ others) (r ∷ []) transferred.2 (zone, tt) in
     let no_others = all_append (λ x. x.rtype ≢ soa_type) others (r ∷ []) transferred.3 (no_soa, tt) in
-    subst Q (sym is) (subst P (sym held_is) (transferred.0, transferred.1, each, no_others))
+    (transferred.0, transferred.1, each, no_others)
 
-pub placed_last : (query : AxfrQuery) (held : List spec.Record) (soa : spec.Record) (others : List spec.Record) (r : spec.Record)
-    (placing : Placing) → held ≡ soa ∷ others → placing ≡ Last → IsTransferred query (soa ∷ others) → r.rtype ≡ soa_type
-    → SameSoa soa r → IsPlacing query held r placing
-placed_last query held soa others r placing held_is is transferred rtype same =
-    let P : List spec.Record → Type 0 = λ l. IsTransferred query l × ClosesTransfer l r in
-    let Q : Placing → Type 0 = λ p. IsPlacing query held r p in
-    subst Q (sym is) (subst P (sym held_is) (transferred, (rtype, same)))
+pub placed_inner : {query : AxfrQuery} {xs : List Record} {closed : Bool} (held : List Record) (r : Record) (placing : Placing)
+    → placing ≡ Inner → StandsAt query held closed xs → KeepsFirstRule query xs r → (held ≡ []) ⊎ (r.rtype ≡ soa_type → ⊥)
+    → IsInZoneOf query r → IsPlacing query held r placing
+placed_inner {query} held r placing is stands keeps either zone =
+    let P : Placing → Type 0 = λ p. IsPlacing query held r p in
+    subst P (sym is) (still_open held r stands keeps either zone)
+
+-- and the last SOA
+closes_here : {query : AxfrQuery} {xs : List Record} {closed : Bool} (held : List Record) (soa r : Record) → StandsAt query held closed xs
+    → slice_get held 0 ≡ Some soa → r.rtype ≡ soa_type → SameSoa soa r → IsTransferred query held × ClosesTransfer held r
+closes_here [] soa r stands first rtype same = absurd cc
+closes_here (x ∷ held) soa r stands first rtype same =
+    let there : soa ≡ x = cc in
+    let P : Record → Type 0 = λ y. SameSoa y r in
+    (stands_transferred x held stands refl, (rtype, subst P there same))
+
+pub placed_last : {query : AxfrQuery} {xs : List Record} {closed : Bool} (held : List Record) (soa r : Record) (placing : Placing)
+    → placing ≡ Last → StandsAt query held closed xs → slice_get held 0 ≡ Some soa → r.rtype ≡ soa_type → SameSoa soa r
+    → IsPlacing query held r placing
+placed_last {query} held soa r placing is stands first rtype same =
+    let P : Placing → Type 0 = λ p. IsPlacing query held r p in
+    subst P (sym is) (closes_here held soa r stands first rtype same)
 
 -- what a comparison of numbers says
 pub not_false : (b : Bool) → not b ≡ false → b ≡ true
 not_false true is = refl
 not_false false is = cc
+
+pub not_true : (b : Bool) → not b ≡ true → b ≡ false
+not_true true is = cc
+not_true false is = refl
 
 pub told_equal : (n m : ℕ) (result : Bool) → result ≡ not (nat_eq n m) → result ≡ false → n ≡ m
 told_equal n m result told is = eqb-true n m (not_false (nat_eq n m) (sym told ∙ is))
@@ -153,22 +161,6 @@ pub told_other : (n m : ℕ) (result : Bool) → result ≡ not (nat_eq n m) →
 told_other n m result told is same =
     let equal = eq-eqb n m same in
     let none : true ≡ false = sym is ∙ told ∙ ap not equal in cc
-
--- one record where two classes are equal
-pub same_in_class : (class other : ℕ) (soa r : Held) → class ≡ other → SameSoa (record_of other soa) (record_of class r)
-    → SameSoa (record_of other soa) (record_of other r)
-same_in_class class other soa r is same =
-    let P : ℕ → Type 0 = λ n. SameSoa (record_of other soa) (record_of n r) in subst P is same
-
-pub known_first : (class : ℕ) (held : List spec.Record) (soa : spec.Record) (others : List spec.Record) → held ≡ soa ∷ others
-    → AllByRecursion (IsRecordOf class) held → IsRecordOf class soa
-known_first class held soa others is each =
-    let P : List spec.Record → Type 0 = λ l. AllByRecursion (IsRecordOf class) l in (subst P is each).0
-
-pub in_own_class : (class other : ℕ) (soa r : Held) → class ≡ other → SameSoa (record_of other soa) (record_of other r)
-    → SameSoa (record_of other soa) (record_of class r)
-in_own_class class other soa r is same =
-    let P : ℕ → Type 0 = λ n. SameSoa (record_of other soa) (record_of n r) in subst P (sym is) same
 
 pub told_no : (n m : ℕ) (result : Bool) → result ≡ nat_eq n m → result ≡ false → n ≡ m → ⊥
 told_no n m result told is same =

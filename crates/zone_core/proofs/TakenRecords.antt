@@ -1,17 +1,17 @@
 -- The records of a transfer, one behind the other.
-use Rattle.std.proofs.Common.{◌≡◌, ℕ, ◌+◌, Bool, true, false, List, [], ◌∷◌, ◌++◌, length, refl, sym, subst, arith, length-append}
-use Rattle.std.proofs.lemmas.List.{map-append, length-map}
+use Rattle.std.proofs.Common.{◌≡◌, ℕ, ◌+◌, Bool, true, false, List, [], ◌∷◌, length, refl, sym, subst, arith, length-append}
 use mir.Val.{bool_byte}
-use Rattle.std.specs.List.{push}
-use Rattle.zone_core.specs.Record as spec
-use Rattle.zone_core.specs.Owned.{Held, record_of, records_of}
+use Rattle.std.specs.List.{AllByRecursion, push}
+use Rattle.zone_core.specs.Record.{Record}
 use Rattle.zone_core.specs.Query.{AxfrQuery}
+use Rattle.zone_core.specs.Records.{IsRecordOf}
 use Rattle.zone_core.specs.Transfer.{WrittenOut, HasRecord, IsTransferred, ClosesTransfer}
 use Rattle.zone_core.specs.Receiving.{IsOpen}
 use Rattle.zone_core.specs.Intake.{IsFaultOr, StandsAt, TakesRecord}
 use Rattle.zone_core.specs.Intake.StandsAt.{begun, ended}
 use Rattle.zone_core.specs.declared.receive.error.ReceiveError.{ReceiveError}
 use Rattle.zone_core.specs.declared.receive.error.ReceiveError.TheVariants as receive_error
+use Rattle.zone_core.proofs.LastRecord.{all_append}
 
 -- a fault of either kind
 pub fault_or : (Fault : ReceiveError → Type 0) (error : ReceiveError) → Fault error → IsFaultOr Fault error
@@ -34,36 +34,37 @@ fault_or Fault receive_error.Unfinished is = is
 fault_or Fault receive_error.OutOfMemory is = tt
 
 -- how many records there are, the last SOA counted
-pub stands_counted : {query : AxfrQuery} {held front : List spec.Record} {closed : Bool} (last : ℕ) → StandsAt query held closed front
+pub stands_counted : {query : AxfrQuery} {held front : List Record} {closed : Bool} (last : ℕ) → StandsAt query held closed front
     → last ≡ bool_byte closed → length front ≡ length held + last
 stands_counted {held = held} last (begun still) is = omega (arith, is)
 stands_counted {held = held} last (ended soa all closes) is = omega (arith, is, length-append held (soa ∷ []))
 
 -- no record stands behind the last SOA
-stands_same : {query : AxfrQuery} {held front : List spec.Record} {closed : Bool} → StandsAt query held closed front → closed ≡ false → front ≡ held
+stands_same : {query : AxfrQuery} {held front : List Record} {closed : Bool} → StandsAt query held closed front → closed ≡ false → front ≡ held
 stands_same (begun is) not_closed = refl
 stands_same (ended last is closes) not_closed = absurd cc
 
 -- the last SOA
-pub takes_last : {query : AxfrQuery} {message : List ℕ} {place next : ℕ} {held front : List spec.Record} {closed : Bool} (r : spec.Record)
+pub takes_last : {query : AxfrQuery} {message : List ℕ} {place next : ℕ} {held front : List Record} {closed : Bool} (r : Record)
     → HasRecord WrittenOut message place r next → closed ≡ false → IsTransferred query held → ClosesTransfer held r
     → StandsAt query held closed front → TakesRecord query message place next held true front
 takes_last {query} {held = held} {front} r has not_closed is closes stands =
-    let P : List spec.Record → Type 0 = λ front. StandsAt query held true (push front r) in
+    let P : List Record → Type 0 = λ front. StandsAt query held true (push front r) in
     record { r = r; has = has; stands = subst P (sym (stands_same stands not_closed)) (ended r is closes) }
 
 -- a record of the zone
-pub takes_inner : {query : AxfrQuery} {message : List ℕ} {place next : ℕ} {held new front : List spec.Record} {closed : Bool} (r : spec.Record)
+pub takes_inner : {query : AxfrQuery} {message : List ℕ} {place next : ℕ} {held new front : List Record} {closed : Bool} (r : Record)
     → HasRecord WrittenOut message place r next → closed ≡ false → new ≡ push held r → IsOpen query (push held r)
     → StandsAt query held closed front → TakesRecord query message place next new false front
 takes_inner {query} {held = held} {new} {front} r has not_closed is still stands =
-    let P : List spec.Record → Type 0 = λ new. StandsAt query new false (push held r) in
-    let Q : List spec.Record → Type 0 = λ front. StandsAt query new false (push front r) in
+    let P : List Record → Type 0 = λ new. StandsAt query new false (push held r) in
+    let Q : List Record → Type 0 = λ front. StandsAt query new false (push front r) in
     record { r = r; has = has; stands = subst Q (sym (stands_same stands not_closed)) (subst P (sym is) (begun still)) }
 
--- records that are held, with one more
-pub records_push : (class : ℕ) (records : List Held) (r : Held) → records_of class (records ++ r ∷ []) ≡ push (records_of class records) (record_of class r)
-records_push class records r = map-append (record_of class) records (r ∷ [])
-
-pub records_length : (class : ℕ) (records : List Held) → length (records_of class records) ≡ length records
-records_length class records = length-map records (record_of class)
+-- what is known of the records that are held, with one more
+pub known_more : (class : ℕ) (held new : List Record) (r : Record) → new ≡ push held r → AllByRecursion (IsRecordOf class) held
+    → IsRecordOf r.class r → r.class ≡ class → AllByRecursion (IsRecordOf class) new
+known_more class held new r is each known same =
+    let P : ℕ → Type 0 = λ c. IsRecordOf c r in
+    let Q : List Record → Type 0 = λ l. AllByRecursion (IsRecordOf class) l in
+    subst Q (sym is) (all_append (IsRecordOf class) held (r ∷ []) each (subst P same known, tt))

@@ -1,5 +1,5 @@
 -- A piece is taken behind what was.
-use Rattle.std.proofs.Common.{◌≡◌, ℕ, Vec, Global, ◌+◌, ◌-◌, ◌<◌, ◌≤◌, List, [], ◌∷◌, ◌++◌, length, take, drop, sym, ap, ◌∙◌, subst, arith, length-append, length-drop, ◌⊎◌, inl, inr}
+use Rattle.std.proofs.Common.{◌≡◌, ℕ, ◌+◌, ◌-◌, ◌<◌, ◌≤◌, List, [], ◌∷◌, ◌++◌, length, take, drop, sym, ap, ◌∙◌, subst, arith, length-append, length-drop, ◌⊎◌, inl, inr}
 use Rattle.std.proofs.Math.Seq.{take-append-add}
 use Rattle.std.proofs.lemmas.List.{drop-append-le}
 use Rattle.std.specs.Int.{to_be_bytes, from_be_bytes, w16}
@@ -7,7 +7,7 @@ use Rattle.std.proofs.lemmas.Nat.{from_be_bytes-to_be_bytes_2}
 use Rattle.zone_core.specs.Query.{AxfrQuery}
 use Rattle.zone_core.specs.Frames.{frame, frames, IsPartial}
 use Rattle.std.specs.List.{AllByRecursion}
-use Rattle.zone_core.specs.Owned.{Held, records_of}
+use Rattle.zone_core.specs.Record.{Record}
 use Rattle.zone_core.specs.Records.{IsRecordOf}
 use Rattle.zone_core.specs.Transfer.{WrittenOut, IsTransferIn}
 use Rattle.zone_core.specs.Intake.{BeginsWithFrame, EndsTransfer, IsEnded, Judged}
@@ -62,7 +62,7 @@ taken_front old piece end past =
 pub ended_here : (intake new : Intake) (query : AxfrQuery) (end : ℕ) → EndsTransfer intake query end → new.octets.items ≡ take end intake.octets.items
     → new.records ≡ intake.records → IsEnded new query
 ended_here intake new query end ends octets records =
-    let P : List ℕ → Type 0 = λ l. IsTransferIn WrittenOut query l (records_of query.class intake.records.items) in
-    let Q : Vec Held Global → Type 0 = λ v. IsTransferIn WrittenOut query new.octets.items (records_of query.class v.items) in
-    let R : Vec Held Global → Type 0 = λ v. AllByRecursion (IsRecordOf query.class) (records_of query.class v.items) in
+    let P : List ℕ → Type 0 = λ l. IsTransferIn WrittenOut query l intake.records in
+    let Q : List Record → Type 0 = λ records. IsTransferIn WrittenOut query new.octets.items records in
+    let R : List Record → Type 0 = λ records. AllByRecursion (IsRecordOf query.class) records in
     record { transfer = subst Q (sym records) (subst P (sym octets) ends.transfer); known = subst R (sym records) ends.known }

@@ -1,13 +1,19 @@
 -- The symbols of words: a word at the front of a text is one.
-use Rattle.std.proofs.Common.{◌≡◌, ℕ, ◌<◌, ◌≤◌, List, [], ◌∷◌, ◌++◌, true, false, sym, ◌∙◌, ap}
+use Rattle.std.proofs.Common.{◌≡◌, ℕ, ◌<◌, ◌≤◌, List, [], ◌∷◌, ◌++◌, map, true, false, refl, sym, ◌∙◌, ap}
 use Rattle.std.specs.List.{flat_map}
 use Rattle.dns_label.specs.declared.symbol.Symbol.{Symbol}
+use Rattle.dns_label.specs.declared.symbol.Symbol.TheVariants.{Char}
 use Rattle.dns_label.specs.Symbol.{spelled}
 use Rattle.dns_text.specs.Tokens.{IsIn, EndsToken, stands_plain}
 pub use Rattle.dns_text.proofs.TokenSymbols.{one_symbol, differs, plain_differs, word_no_gap, word_head}
 use Rattle.dns_text.proofs.TokenSymbols.{one_run}
 use Rattle.dns_text.proofs.TokenSymbols.{symbol_first as first_of_token, ends_nil as ends_token_nil, ends_plain as ends_token_plain, ends_low as ends_token_low}
 use Rattle.dns_zonefile.specs.PlainRow.{IsWord}
+
+-- characters without escapes are written as they are
+pub chars_written : (text : List ℕ) → text ≡ flat_map spelled (map Char text)
+chars_written [] = refl
+chars_written (c ∷ text) = ap (λ l. c ∷ l) (chars_written text)
 
 -- the octet that a symbol of a word begins with
 pub symbol_first : (symbol : Symbol) (octet : ℕ) (text rest : List ℕ) → IsIn false symbol → octet ∷ text ≡ spelled symbol ++ rest

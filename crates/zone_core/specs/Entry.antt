@@ -1,9 +1,10 @@
 -- What the reader of entries gives. Only contracts inside the crate speak of it.
-use Rattle.std.specs.Prelude.{◌≡◌, ◌≢◌, ◌++◌, ◌<◌, ◌^◌, ℕ, true, false, List, [], length, map, slice_index, ⊤}
+use Rattle.std.specs.Prelude.{◌≡◌, ◌≢◌, ◌≤◌, ◌<◌, ◌^◌, ◌++◌, ℕ, true, false, List, [], length, map, slice_index, ⊤}
 use Rattle.std.specs.Int.{to_be_bytes, w16}
 use Rattle.std.specs.Borrow.{Bor}
 use Rattle.std.specs.List.{AllByRecursion}
 use Rattle.dns_label.specs.declared.symbol.Symbol.{Symbol}
+use Rattle.dns_label.specs.declared.symbol.Symbol.TheVariants.{Char}
 use Rattle.dns_label.specs.Symbol.{spelled}
 use Rattle.dns_text.specs.Tokens.{IsEmptyRow, IsIn, is_end}
 use Rattle.dns_rdata.specs.Fields.{Field, octets}
@@ -26,6 +27,16 @@ abbrev pub StartsRow : List ℕ → RowStart → Type 0
 StartsRow text (Empty rest) = IsEmptyRow text rest.now
 StartsRow text End = is_end text ≡ true
 StartsRow text Tokens = (is_end text ≡ false) × ((rest : List ℕ) → IsEmptyRow text rest → ⊥)
+
+-- an octet that stands in a word by itself, and is from the asterisk on
+abbrev pub IsPlainOctet : ℕ → Type 0
+IsPlainOctet octet = IsIn false (Char octet) × (42 ≤ octet)
+
+-- plain octets, perhaps none, in front of the rest, which may begin with more of them
+pub record StartsWithPlain (text rest : List ℕ) : Type 0 where
+  pub plain : List ℕ
+  pub each : AllByRecursion IsPlainOctet plain
+  pub whole : text ≡ plain ++ rest
 
 -- a symbol of a word in front of the rest
 pub record StartsWithSymbol (text rest : List ℕ) : Type 0 where

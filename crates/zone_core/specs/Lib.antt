@@ -10,7 +10,7 @@ pub mod Receiving
 pub mod Intake
 pub mod Received
 pub mod Sent
-pub mod Owned
+pub mod Stored
 pub mod Seen
 pub mod Entry
 pub mod Sending

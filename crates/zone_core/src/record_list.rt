@@ -1,6 +1,6 @@
 //! Many records in one piece of memory.
-ghost use Rattle.std.specs.Prelude.{◌≡◌, ◌==◌, ◌<◌, ◌++◌, ◌∷◌, [], length, slice_get, Some, OnOk, OnErr};
-ghost use Rattle.dns_message.specs.Record.{record_octets};
+ghost use Rattle.std.specs.Prelude.{◌≡◌, ◌==◌, ◌<◌, ◌^◌, ◌++◌, ◌∷◌, [], length, slice_get, Some, OnOk, OnErr};
+ghost use Rattle.dns_message.specs.Record.{IsRecord, record_octets};
 ghost use Rattle.zone_core.specs.Record as spec;
 
 use crate::record::Record;
@@ -55,7 +55,8 @@ impl RecordList {
 
     /// How many records there are.
     pub(crate) fn len(&self) -> usize
-        ensures { result ≡ length self.now }
+        ensures count { result ≡ length self.now }
+        ensures few { result < 2 ^ 63 }
     {
         self.places.len()
     }
@@ -70,13 +71,15 @@ impl RecordList {
     /// The octets of the record at an index.
     pub(crate) fn octets_at(&self, index: usize) -> &[u8]
         requires { index < length self.now }
-        ensures { (r : spec.Record) → slice_get self.now index ≡ Some r → result.now ≡ record_octets r }
+        ensures octets { (r : spec.Record) → slice_get self.now index ≡ Some r → result.now ≡ record_octets r }
+        ensures known { (r : spec.Record) → slice_get self.now index ≡ Some r → IsRecord r }
     {
         let start = self.places[index];
         let octets = self.octets.as_slice();
-        match self.places.as_slice().get(index + 1) {
-            Some(&end) => &octets[start..end],
-            None => &octets[start..],
+        if index + 1 < self.places.len() {
+            &octets[start..self.places[index + 1]]
+        } else {
+            &octets[start..]
         }
     }
 

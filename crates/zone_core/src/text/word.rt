@@ -1,9 +1,9 @@
 //! Words, which are unquoted tokens, and rows of them (RFC 1035 5.1).
-ghost use Rattle.std.specs.Prelude.{◌≡◌, ◌<◌, ◌≤◌, ◌↔◌, List, ℕ, false, length, IsTrue, IfSome, IfNone};
-ghost use Rattle.dns_label.specs.declared.symbol.Symbol.TheVariants.{Char};
-ghost use Rattle.dns_text.specs.Tokens.{EndsToken, IsIn, IsRun, Stands};
+ghost use Rattle.std.specs.Prelude.{◌<◌, ◌≤◌, ◌↔◌, List, ℕ, false, length, IsTrue, IfSome, IfNone};
+ghost use Rattle.std.specs.List.{AllByRecursion};
+ghost use Rattle.dns_text.specs.Tokens.{EndsToken, IsRun, Stands};
 ghost use Rattle.dns_zonefile.specs.PlainRow.{Words};
-ghost use Rattle.zone_core.specs.Entry.{texts_of, StartsWithSymbol, StartsWithSpaces};
+ghost use Rattle.zone_core.specs.Entry.{texts_of, IsPlainOctet, StartsWithPlain, StartsWithSymbol, StartsWithSpaces};
 
 use arrayvec::ArrayVec;
 use dns_name::Symbol;
@@ -38,7 +38,7 @@ pub(crate) fn split_word(text: &[u8]) -> Option<(&[u8], &[u8])>
     ensures found { IfSome result (λ found. IsRun false text.now found.0.now found.1.now × (0 < length found.0.now)) }
     ensures none { IfNone result (EndsToken false text.now) }
 {
-    let mut rest = text;
+    let mut rest = skip_plain_chunks(text);
     while let Some((&octet, behind)) = rest.split_first() {
         if is_plain(octet) {
             rest = behind;
@@ -56,9 +56,36 @@ pub(crate) fn split_word(text: &[u8]) -> Option<(&[u8], &[u8])>
     }
 }
 
+/// The text behind the plain octets in front, which it skips by chunks of eight. Up to seven of them may be left.
+///
+/// Most octets of a zone are plain, and LLVM judges the eight of a chunk at once.
+fn skip_plain_chunks(text: &[u8]) -> &[u8]
+    ensures { StartsWithPlain text.now result.now }
+{
+    let mut rest = text;
+    while let Some((chunk, behind)) = rest.split_first_chunk::<8>() {
+        if !are_plain(chunk) {
+            break;
+        }
+        rest = behind;
+    }
+    rest
+}
+
+/// Whether each of the octets is plain. There is no early exit, so that LLVM makes vectors of the loop.
+fn are_plain(octets: &[u8; 8]) -> bool
+    ensures { IsTrue result ↔ AllByRecursion IsPlainOctet octets.now }
+{
+    let mut plain = true;
+    for &octet in octets {
+        plain &= is_plain(octet);
+    }
+    plain
+}
+
 /// Whether the octet is from the asterisk on, and stands in a word by itself, as letters and digits do.
 fn is_plain(octet: u8) -> bool
-    ensures { IsTrue result ↔ (IsIn false (Char octet) × (42 ≤ octet)) }
+    ensures { IsTrue result ↔ IsPlainOctet octet }
 {
     matches!(octet, b'*'..=b'~') && octet != b';' && octet != b'\\'
 }

@@ -1,39 +1,44 @@
-use Rattle.std.proofs.Common.{[], ◌∷◌, map, ap, ◌∙◌, arith}
+use Rattle.std.proofs.Common.{◌+◌, ◌++◌, [], ◌∷◌, length, ap, sym, ◌∙◌, subst, arith}
+use Rattle.std.proofs.lemmas.Bool.{eqb-true}
 use Rattle.std.proofs.lemmas.Result.{err_from_is_err_and}
-use Rattle.std.proofs.lemmas.List.{map-append, length-map}
-use Rattle.zone_core.specs.Owned.{record_of}
+use Rattle.zone_core.specs.Record.{Record}
+use Rattle.zone_core.specs.ZoneText.{Entries}
 use Rattle.zone_core.proofs.ReadEntries.{entry-shorter}
-use Rattle.zone_core.proofs.ReadZones.{begins-none, begins-more, whole-end, stops-fault, breaks-fault}
+use Rattle.zone_core.proofs.ReadZones.{stops-fault, follows-first, follows-more, follows-breaks, follows-zone}
 use Rattle.zone_core.proofs.zone.read_records.Goals as goal
 
 pub loop-records-init : goal.loop-records-init
-loop-records-init c = begins-none _ _ _ (ap (map (record_of c.args.class)) c.new-records.ensures.items)
+loop-records-init c =
+    let first = rw c.in-Some.is at c.in_ok-first.ensures.found in
+    let P : Record → Type 0 = λ r. Entries c.args.class c.args.text.now (r ∷ []) c.in-Some.rest.now in
+    follows-first c.as_record-soa.result c.push.new.self c.requires.fits (subst P (sym c.as_record-soa.ensures) first)
+    (eqb-true c.as_record-soa.result.rtype 6 (sym c.is_soa.ensures ∙ c.if-not-is_soa.false))
+    (c.in_ok-push.ensures.ok ∙ ap (λ rs. rs ++ c.as_record-soa.result ∷ []) c.new-records.ensures)
 
-pub returns-in_err-record-clause-err : goal.returns-in_err-record-clause-err
-returns-in_err-record-clause-err c =
-    let p = err_from_is_err_and c.from_residual.result c.from_residual.ensures.1 in
-    rw (p.1, p.2) (stops-fault _ _ _ c.requires.known c.loop-records.invariant
-    (omega (arith, c.len.ensures, length-map c.loop-records.records.items (record_of c.args.class))) c.in_err-record.ensures.err)
+pub returns-in_err-found-clause-err : goal.returns-in_err-found-clause-err
+returns-in_err-found-clause-err c =
+    let p = err_from_is_err_and c.from_residual-in_err-found.result c.from_residual-in_err-found.ensures.1 in
+    rw (p.1, p.2) (stops-fault _ (c.len.result + 1) _ c.requires.known c.loop-records.invariant.begins (omega (arith, c.len.ensures.count))
+    c.in_err-found.ensures.err)
 
 pub returns-in_err-check_rules-clause-err : goal.returns-in_err-check_rules-clause-err
 returns-in_err-check_rules-clause-err c =
     let p = err_from_is_err_and c.from_residual-in_err-check_rules.result c.from_residual-in_err-check_rules.ensures.1 in
-    let next = rw c.in-Some.is at c.in_ok-record.ensures.found in
-    rw (p.1, p.2) (breaks-fault _ _ _ c.requires.known c.loop-records.invariant next
-    (rw c.as_slice.ensures.value at (c.in_err-check_rules.ensures.err c.args.class)))
+    let found = rw c.in-Some-2.is at c.in_ok-found.ensures.found in
+    let P : Record → Type 0 = λ r. Entries c.args.class c.loop-records.rest.now (r ∷ []) c.in-Some-2.behind.now in
+    rw (p.1, p.2) (follows-breaks c.as_record-soa.result c.as_record-next.result c.loop-records.records (c.len-in-Some-2.result + 1) _ c.requires.known
+    c.loop-records.invariant (subst P (sym c.as_record-next.ensures) found) (omega (arith, c.len-in-Some-2.ensures.count)) c.in_err-check_rules.ensures.err)
 
 pub loop-records-smaller : goal.loop-records-smaller
-loop-records-smaller c =
-    let next = rw c.in-Some.is at c.in_ok-record.ensures.found in entry-shorter next
+loop-records-smaller c = let found = rw c.in-Some-2.is at c.in_ok-found.ensures.found in entry-shorter found
 
 pub loop-records-preserved : goal.loop-records-preserved
 loop-records-preserved c =
-    let next = rw c.in-Some.is at c.in_ok-record.ensures.found in
-    begins-more _ _ _ c.requires.fits c.loop-records.invariant next
-    ((rw c.as_slice.ensures.value at (c.in_ok-check_rules.ensures.ok c.args.class)) c.loop-records.invariant.lawful)
-    (ap (map (record_of c.args.class)) c.in_ok-push_record.ensures.ok
-    ∙ map-append (record_of c.args.class) c.loop-records.records.items (c.in-Some.record ∷ []))
+    let found = rw c.in-Some-2.is at c.in_ok-found.ensures.found in
+    let P : Record → Type 0 = λ r. Entries c.args.class c.loop-records.rest.now (r ∷ []) c.in-Some-2.behind.now in
+    follows-more c.as_record-soa.result c.as_record-next.result c.loop-records.records c.push-in-Some-2.new.self c.requires.fits
+    c.loop-records.invariant (subst P (sym c.as_record-next.ensures) found) c.in_ok-check_rules.ensures.ok c.in_ok-push-2.ensures.ok
 
 pub returns-clause-ok : goal.returns-clause-ok
 returns-clause-ok c =
-    let end' = rw c.in_default.is at c.in_ok-record.ensures.end in whole-end c.loop-records.invariant end'
+    let end' = rw c.in_default-2.is at c.in_ok-found.ensures.end in follows-zone _ _ c.requires.known c.loop-records.invariant end'

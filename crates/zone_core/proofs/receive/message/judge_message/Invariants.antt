@@ -1,13 +1,11 @@
 use Rattle.std.specs.List.{AllByRecursion}
 use Rattle.zone_core.specs.Asked.{asked_of}
-use Rattle.zone_core.specs.Owned.{records_of}
 use Rattle.zone_core.specs.Records.{IsRecordOf}
 use Rattle.zone_core.specs.Intake.{HasTaken}
 use Rattle.zone_core.proofs.receive.message.judge_message.Given as given
 
 abbrev pub invariant-loop : given.invariant-loop
 invariant-loop l = record {
-  taken : HasTaken (asked_of l.query) (records_of l.query.class l.fn.records.items) l.is_first l.message l.counter l.parser
-      (records_of l.query.class l.records.items) l.closed;
-  known : AllByRecursion (IsRecordOf l.query.class) (records_of l.query.class l.records.items);
+  taken : HasTaken (asked_of l.query) l.fn.records l.is_first l.message l.counter l.parser l.records l.closed;
+  known : AllByRecursion (IsRecordOf l.query.class) l.records;
 }

@@ -6,4 +6,4 @@ pub returns-then-is_soa : goal.returns-then-is_soa
 returns-then-is_soa c =
     let told = c.is_at.ensures in
     let soa = eqb-true c.args.next.now.rtype 6 (sym c.is_soa.ensures ∙ c.if-is_soa.true) in
-    λ class. (λ same. (soa, told.0 same), λ keeps. told.1 keeps.1)
+    (λ same. (soa, told.0 same), λ keeps. told.1 keeps.1)

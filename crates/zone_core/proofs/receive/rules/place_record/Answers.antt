@@ -1,196 +1,159 @@
-use Rattle.std.proofs.Common.{◌≡◌, ℕ, List, true, ◌∙◌, sym, ap, subst}
+use Rattle.std.proofs.Common.{◌≡◌, List, [], true, false, ◌∙◌, sym, ◌⊎◌, inl, inr}
 use Rattle.std.proofs.lemmas.Bool.{eqb-true}
 use Rattle.zone_core.specs.Record as spec
-use Rattle.std.specs.Option.{is_some}
-use Rattle.zone_core.specs.Query.{AxfrQuery}
-use Rattle.zone_core.specs.Zone.{IsUnder}
 use Rattle.zone_core.specs.Asked.{asked_of}
-use Rattle.zone_core.specs.Owned.{record_of, records_of}
-use Rattle.zone_core.specs.Receiving.{KeepsFirstRule}
-use Rattle.zone_core.proofs.RulesKept.{no_first, first_is, stands_empty, stands_behind, stands_transferred, kept_behind, kept_where_none, kept_where_some, kept_last, broken_last, stands_closed, closed_some, placed_first, placed_inner, placed_last, told_equal, told_other, told_no, not_false, in_own_class, same_in_class, known_first}
-use Rattle.zone_core.proofs.receive.rules.place_record.Goals.{else-is_none-via-then-is_none+else-not-is_first_soa, else-is_none-via-else-is_none, in-Some+else-not-is_same_soa, in_default-2, in_default}
+use Rattle.zone_core.specs.Zone.{soa_type}
+use Rattle.zone_core.specs.Receiving.{KeepsFirstRule, KeepsLastRule}
+use Rattle.zone_core.specs.Intake.{StandsAt}
+use Rattle.zone_core.proofs.RulesKept.{none_held, some_held, first_known, first_is_soa, first_kept, first_broken, first_behind, last_kept, last_broken, last_free, stands_closed, placed_inner, placed_last, not_false, not_true, told_equal, told_other, told_no}
+use Rattle.zone_core.proofs.receive.rules.place_record.Goals.{else-is_empty-via-then-is_empty+else-not-is_first_soa, else-is_empty-via-else-is_empty, then-is_empty-2, else-is_empty-2, then-not-is_soa, else-not-is_soa+else-not-is_same_soa}
+use Rattle.zone_core.proofs.receive.rules.place_record.Goals.{After-class, Joined-is_empty-2}
 use Rattle.zone_core.proofs.receive.rules.place_record.Goals as goal
 
 pub returns-then-not-is_first_soa-clause-err : goal.returns-then-not-is_first_soa-clause-err
 returns-then-not-is_first_soa-clause-err c =
-    let class : ℕ = c.args.query.now.class in
-    let empty = ap (records_of class) (no_first c.args.front.now c.first-soa.result c.first-soa.ensures.value c.if-is_none.ensures) in
+    let r : spec.Record = c.args.next.now in
+    let empty = none_held c.args.front.now c.is_empty.result c.is_empty.ensures c.if-is_empty.true in
     let refused = c.if-not-is_first_soa.true in
-    let r : spec.Record = record_of c.args.class c.args.next.now in
-    λ xs message place end stands number has.
-    let P : List spec.Record → Type 0 = λ l. KeepsFirstRule (asked_of c.args.query.now) l r in (
+    λ xs message place end stands number has. (
       r,
       end,
       has,
-      λ keeps. let told = (c.is_first_soa.ensures c.args.class).1 (subst P (stands_empty stands empty) keeps) in cc,
+      λ keeps. let told = c.is_first_soa.ensures.1 (first_broken r stands empty keeps) in cc,
     )
+
+-- the rule of the first record is kept from there on
+first_rule : (c : After-class) (xs : List spec.Record) → StandsAt (asked_of c.args.query.now) c.args.front.now c.args.closed xs
+    → KeepsFirstRule (asked_of c.args.query.now) xs c.args.next.now
+first_rule c xs stands =
+    let r : spec.Record = c.args.next.now in
+    elim c.else-is_empty.branch [
+      | else-is_empty-via-then-is_empty+else-not-is_first_soa w ↦
+          first_kept r stands (none_held c.args.front.now c.is_empty.result c.is_empty.ensures w.if-is_empty.true)
+          (w.is_first_soa.ensures.0 w.if-not-is_first_soa.false)
+      | else-is_empty-via-else-is_empty w ↦
+          let there = some_held c.args.front.now c.is_empty.result c.is_empty.ensures w.if-is_empty.false in
+          first_behind r there.0 there.1 stands there.2
+    ]
 
 pub returns-then-ne-clause-err : goal.returns-then-ne-clause-err
 returns-then-ne-clause-err c =
-    let class : ℕ = c.args.query.now.class in
-    let r : spec.Record = record_of c.args.class c.args.next.now in
-    let other = told_other c.args.class class c.ne.result c.ne.ensures c.if-ne.true in
-    elim c.else-is_none.branch [
-      | else-is_none-via-then-is_none+else-not-is_first_soa w ↦
-          λ xs message place end stands number has. (
-            number,
-            r,
-            end,
-            has,
-            kept_where_none class c.args.front.now c.first-soa.result c.is_none.result r c.first-soa.ensures.value c.is_none.ensures w.if-is_none.true stands ((w.is_first_soa.ensures c.args.class).0 w.if-not-is_first_soa.false),
-            other,
-          )
-      | else-is_none-via-else-is_none w ↦
-          λ xs message place end stands number has. (
-            number,
-            r,
-            end,
-            has,
-            kept_where_some class c.args.front.now c.first-soa.result c.is_none.result r c.first-soa.ensures.value c.is_none.ensures w.if-is_none.false stands,
-            other,
-          )
-    ]
+    let there = (goal.at.returns-then-ne-clause-err c).After-class in
+    λ xs message place end stands number has. (
+      number,
+      c.args.next.now,
+      end,
+      has,
+      first_rule there xs stands,
+      λ same. told_other c.class.result c.args.query.now.class c.ne.result c.ne.ensures c.if-ne.true (c.class.ensures ∙ same),
+    )
 
 pub returns-then-not-is_under-clause-err : goal.returns-then-not-is_under-clause-err
 returns-then-not-is_under-clause-err c =
-    let class : ℕ = c.args.query.now.class in
-    let r : spec.Record = record_of c.args.class c.args.next.now in
-    let same = told_equal c.args.class class c.ne.result c.ne.ensures c.if-ne.false in
+    let there = (goal.at.returns-then-not-is_under-clause-err c).After-class in
+    let same = sym c.class.ensures ∙ told_equal c.class.result c.args.query.now.class c.ne.result c.ne.ensures c.if-ne.false in
     let refused = c.if-not-is_under.true in
-    elim c.else-is_none.branch [
-      | else-is_none-via-then-is_none+else-not-is_first_soa w ↦
-          λ xs message place end stands number has. (
-            number,
-            r,
-            end,
-            has,
-            kept_where_none class c.args.front.now c.first-soa.result c.is_none.result r c.first-soa.ensures.value c.is_none.ensures w.if-is_none.true stands ((w.is_first_soa.ensures c.args.class).0 w.if-not-is_first_soa.false),
-            same,
-            λ under. let told = c.is_under.ensures.1 (record { front = under.0; whole_is = under.1 }) in cc,
-          )
-      | else-is_none-via-else-is_none w ↦
-          λ xs message place end stands number has. (
-            number,
-            r,
-            end,
-            has,
-            kept_where_some class c.args.front.now c.first-soa.result c.is_none.result r c.first-soa.ensures.value c.is_none.ensures w.if-is_none.false stands,
-            same,
-            λ under. let told = c.is_under.ensures.1 (record { front = under.0; whole_is = under.1 }) in cc,
-          )
-    ]
+    λ xs message place end stands number has. (
+      number,
+      c.args.next.now,
+      end,
+      has,
+      first_rule there xs stands,
+      same,
+      λ under. let told = c.is_under.ensures.1 (record { front = under.0; whole_is = under.1 }) in cc,
+    )
+
+-- what the test for a later SOA says
+no_later : (c : Joined-is_empty-2) → c.if-is_empty-2.value ≡ true → (c.args.front.now ≡ []) ⊎ (c.args.next.now.rtype ≡ soa_type → ⊥)
+no_later c is = elim c.if-is_empty-2.branch [
+  | then-is_empty-2 w ↦ inl (none_held c.args.front.now c.is_empty-2.result c.is_empty-2.ensures w.if-is_empty-2.true)
+  | else-is_empty-2 w ↦ inr (told_no c.args.next.now.rtype soa_type w.is_soa.result w.is_soa.ensures (not_true w.is_soa.result (sym w.value-is ∙ is)))
+]
+
+later : (c : Joined-is_empty-2) → c.if-is_empty-2.value ≡ false → c.args.next.now.rtype ≡ soa_type
+later c is = elim c.if-is_empty-2.branch [
+  | then-is_empty-2 w ↦ let value = w.value-is in absurd cc
+  | else-is_empty-2 w ↦ eqb-true c.args.next.now.rtype soa_type (sym w.is_soa.ensures ∙ not_false w.is_soa.result (sym w.value-is ∙ is))
+]
 
 pub is_same_soa-requires-clause-first : goal.is_same_soa-requires-clause-first
 is_same_soa-requires-clause-first c =
-    let class : ℕ = c.args.query.now.class in
-    let there = first_is c.args.front.now c.first-soa.result c.in-Some.soa c.first-soa.ensures.value c.in-Some.is in
-    let soa : spec.Record = record_of class c.in-Some.soa.now in
-    let held = ap (records_of class) there.1 in
-    let transferred = stands_transferred soa (records_of class there.0) c.requires.stands.1 held in
-    (class, known_first class (records_of class c.args.front.now) soa (records_of class there.0) held c.requires.known, transferred.0)
+    let soa : spec.Record = c.record_at.result in (
+      c.args.query.now.class,
+      first_known c.args.query.now.class c.args.front.now soa c.record_at.ensures c.requires.known,
+      first_is_soa c.args.front.now soa c.requires.stands.1 c.record_at.ensures,
+    )
+
+pub is_same_soa-requires-clause-second : goal.is_same_soa-requires-clause-second
+is_same_soa-requires-clause-second c =
+    let there = (goal.at.is_same_soa-requires-clause-second c).Joined-is_empty-2 in
+    (c.requires.next.0, c.requires.next.1, later there c.if-not-is_soa.false)
+
+pub is_same_soa-requires-clause-class : goal.is_same_soa-requires-clause-class
+is_same_soa-requires-clause-class c =
+    let same = sym c.class.ensures ∙ told_equal c.class.result c.args.query.now.class c.ne.result c.ne.ensures c.if-ne.false in
+    (first_known c.args.query.now.class c.args.front.now c.record_at.result c.record_at.ensures c.requires.known).class_is ∙ sym same
 
 pub returns-then-not-is_same_soa-clause-err : goal.returns-then-not-is_same_soa-clause-err
 returns-then-not-is_same_soa-clause-err c =
-    let class : ℕ = c.args.query.now.class in
-    let r : spec.Record = record_of c.args.class c.args.next.now in
-    let same = told_equal c.args.class class c.ne.result c.ne.ensures c.if-ne.false in
+    let there = (goal.at.returns-then-not-is_same_soa-clause-err c).After-class in
+    let joined = (goal.at.returns-then-not-is_same_soa-clause-err c).Joined-is_empty-2 in
+    let r : spec.Record = c.args.next.now in
+    let same = sym c.class.ensures ∙ told_equal c.class.result c.args.query.now.class c.ne.result c.ne.ensures c.if-ne.false in
     let under = c.is_under.ensures.0 c.if-not-is_under.false in
-    let there = first_is c.args.front.now c.first-soa.result c.in-Some.soa c.first-soa.ensures.value c.in-Some.is in
-    let soa : spec.Record = record_of class c.in-Some.soa.now in
-    let held = ap (records_of class) there.1 in
-    let rtype = eqb-true c.args.next.now.rtype 6 (sym c.is_soa.ensures ∙ c.if-is_soa.true) in
+    let rtype = later joined c.if-not-is_soa.false in
     let refused = c.if-not-is_same_soa.true in
-    λ xs message place end stands number has.
-    let behind = stands_behind soa (records_of class there.0) stands held in (
+    λ xs message place end stands number has. (
       number,
       r,
       end,
       has,
-      kept_behind (asked_of c.args.query.now) xs soa r behind.0 behind.1,
+      first_rule there xs stands,
       same,
       (under.front, under.whole_is),
-      λ keeps. let told = (c.is_same_soa.ensures class).1 (same_in_class c.args.class class c.in-Some.soa.now c.args.next.now same (broken_last xs soa r behind.0 behind.1 keeps rtype)) in cc,
+      λ keeps.
+          let told = c.is_same_soa.ensures.1 (last_broken c.args.front.now c.record_at.result r stands c.record_at.ensures keeps rtype) in cc,
     )
 
 pub returns-then-closed-clause-err : goal.returns-then-closed-clause-err
 returns-then-closed-clause-err c =
-    let class : ℕ = c.args.query.now.class in
-    let r : spec.Record = record_of c.args.class c.args.next.now in
-    let same = told_equal c.args.class class c.ne.result c.ne.ensures c.if-ne.false in
+    let there = (goal.at.returns-then-closed-clause-err c).After-class in
+    let joined = (goal.at.returns-then-closed-clause-err c).Joined-is_empty-2 in
+    let r : spec.Record = c.args.next.now in
+    let same = sym c.class.ensures ∙ told_equal c.class.result c.args.query.now.class c.ne.result c.ne.ensures c.if-ne.false in
     let under = c.is_under.ensures.0 c.if-not-is_under.false in
-    let closed = c.if-closed.true in
-    elim c.match-soa.branch [
-      | in-Some+else-not-is_same_soa w ↦
-          let there = first_is c.args.front.now c.first-soa.result w.in-Some.soa c.first-soa.ensures.value w.in-Some.is in
-          let soa : spec.Record = record_of class w.in-Some.soa.now in
-          let equal = in_own_class c.args.class class w.in-Some.soa.now c.args.next.now same
-          ((w.is_same_soa.ensures class).0 w.if-not-is_same_soa.false) in
-          λ xs message place end stands number has.
-          let behind = stands_behind soa (records_of class there.0) stands (ap (records_of class) there.1) in (
-            number,
-            r,
-            end,
-            has,
-            kept_behind (asked_of c.args.query.now) xs soa r behind.0 behind.1,
-            same,
-            (under.front, under.whole_is),
-            kept_last xs soa r behind.0 behind.1 (λ rtype. equal),
-            stands_closed stands closed,
-          )
-      | in_default-2 w ↦
-          let there = first_is c.args.front.now c.first-soa.result w.in-Some.soa c.first-soa.ensures.value w.in-Some.is in
-          let soa : spec.Record = record_of class w.in-Some.soa.now in
-          let other = told_no c.args.next.now.rtype 6 w.is_soa.result w.is_soa.ensures w.if-is_soa.false in
-          λ xs message place end stands number has.
-          let behind = stands_behind soa (records_of class there.0) stands (ap (records_of class) there.1) in (
-            number,
-            r,
-            end,
-            has,
-            kept_behind (asked_of c.args.query.now) xs soa r behind.0 behind.1,
-            same,
-            (under.front, under.whole_is),
-            kept_last xs soa r behind.0 behind.1 (λ rtype. absurd (other rtype)),
-            stands_closed stands closed,
-          )
-      | in_default w ↦
-          let empty = ap (records_of class) (no_first c.args.front.now c.first-soa.result c.first-soa.ensures.value (ap is_some w.in_default.is)) in
-          λ xs message place end stands number has. absurd (closed_some stands closed empty)
-    ]
+    let last : (xs : List spec.Record) → StandsAt (asked_of c.args.query.now) c.args.front.now c.args.closed xs → KeepsLastRule xs r =
+    λ xs stands. elim c.if-not-is_soa.branch [
+      | then-not-is_soa w ↦ last_free xs r stands (no_later joined w.if-not-is_soa.true)
+      | else-not-is_soa+else-not-is_same_soa w ↦
+          last_kept c.args.front.now w.record_at.result r stands w.record_at.ensures (w.is_same_soa.ensures.0 w.if-not-is_same_soa.false)
+    ] in
+    λ xs message place end stands number has. (
+      number,
+      r,
+      end,
+      has,
+      first_rule there xs stands,
+      same,
+      (under.front, under.whole_is),
+      last xs stands,
+      stands_closed stands c.if-closed.true,
+    )
 
 pub returns-clause-ok : goal.returns-clause-ok
 returns-clause-ok c =
-    let class : ℕ = c.args.query.now.class in
-    let query : AxfrQuery = asked_of c.args.query.now in
-    let r : spec.Record = record_of c.args.class c.args.next.now in
-    let held : List spec.Record = records_of class c.args.front.now in
-    let same = told_equal c.args.class class c.ne.result c.ne.ensures c.if-ne.false in
-    let ends = c.is_under.ensures.0 c.if-not-is_under.false in
-    let under : IsUnder query.name r.owner = (ends.front, ends.whole_is) in
-    elim c.match-soa.branch [
-      | in-Some+else-not-is_same_soa w ↦
-          let there = first_is c.args.front.now c.first-soa.result w.in-Some.soa c.first-soa.ensures.value w.in-Some.is in
-          let soa : spec.Record = record_of class w.in-Some.soa.now in
-          let others = ap (records_of class) there.1 in
-          let equal = in_own_class c.args.class class w.in-Some.soa.now c.args.next.now same
-          ((w.is_same_soa.ensures class).0 w.if-not-is_same_soa.false) in
-          let rtype = eqb-true c.args.next.now.rtype 6 (sym w.is_soa.ensures ∙ w.if-is_soa.true) in
-          placed_last query held soa (records_of class there.0) r c.match-soa.placing others w.placing-is
-          (stands_transferred soa (records_of class there.0) c.requires.stands.1 others) rtype equal
-      | in_default-2 w ↦
-          let there = first_is c.args.front.now c.first-soa.result w.in-Some.soa c.first-soa.ensures.value w.in-Some.is in
-          let soa : spec.Record = record_of class w.in-Some.soa.now in
-          let others = ap (records_of class) there.1 in
-          let other = told_no c.args.next.now.rtype 6 w.is_soa.result w.is_soa.ensures w.if-is_soa.false in
-          placed_inner query held soa (records_of class there.0) r c.args.class c.match-soa.placing others w.placing-is
-          (stands_transferred soa (records_of class there.0) c.requires.stands.1 others) other c.requires.next same under
-      | in_default w ↦
-          let empty = no_first c.args.front.now c.first-soa.result c.first-soa.ensures.value (ap is_some w.in_default.is) in
-          let none : c.is_none.result ≡ true = not_false c.is_none.result (sym c.is_none.ensures ∙ ap is_some w.in_default.is) in
-          elim c.else-is_none.branch [
-            | else-is_none-via-then-is_none+else-not-is_first_soa v ↦
-                placed_first query held r c.args.class c.match-soa.placing (ap (records_of class) empty) w.placing-is
-                ((v.is_first_soa.ensures c.args.class).0 v.if-not-is_first_soa.false) c.requires.next same under
-            | else-is_none-via-else-is_none v ↦ let some = v.if-is_none.false in absurd cc
-          ]
+    let there = (goal.at.returns-clause-ok c).After-class in
+    let joined = (goal.at.returns-clause-ok c).Joined-is_empty-2 in
+    let r : spec.Record = c.args.next.now in
+    let same = sym c.class.ensures ∙ told_equal c.class.result c.args.query.now.class c.ne.result c.ne.ensures c.if-ne.false in
+    let under = c.is_under.ensures.0 c.if-not-is_under.false in
+    let stands = c.requires.stands.1 in
+    elim c.if-not-is_soa.branch [
+      | then-not-is_soa w ↦
+          placed_inner c.args.front.now r c.if-not-is_soa.placing w.placing-is stands (first_rule there c.requires.stands.0 stands)
+          (no_later joined w.if-not-is_soa.true)
+          (record { class = same; under = (under.front, under.whole_is); spellable = c.requires.next.1.spellable })
+      | else-not-is_soa+else-not-is_same_soa w ↦
+          placed_last c.args.front.now w.record_at.result r c.if-not-is_soa.placing w.placing-is stands w.record_at.ensures
+          (later joined w.if-not-is_soa.false) (w.is_same_soa.ensures.0 w.if-not-is_same_soa.false)
     ]

@@ -1,8 +1,9 @@
-use Rattle.std.proofs.Common.{◌∙◌, ◌++◌, ap, subst, sym}
+use Rattle.std.proofs.Common.{◌<◌, ◌^◌, ◌∙◌, arith, subst, sym, refl}
 use Rattle.dns_zonefile.specs.PlainRow.{RecordWords}
 use Rattle.zone_core.specs.Entry.{texts_of}
-use Rattle.zone_core.specs.Owned.{Held, record_of}
-use Rattle.zone_core.proofs.HeldRecords.{parts_of, parts_owned, parts_held}
+use Rattle.zone_core.specs.Record.{Record}
+use Rattle.zone_core.proofs.ReadEntries.{record-lawful}
+use Rattle.zone_core.proofs.StoredRecords.{stored_of, record_in_whole, written_record}
 use Rattle.zone_core.proofs.RecordData.{text_exit, name_exit, number_of}
 use Rattle.zone_core.proofs.EntryRows.{is_none, is_some, no_type, no_owner, no_data, handed_exit, record_made, class_found}
 use Rattle.zone_core.proofs.text.entry.parse_record.Goals as goal
@@ -22,14 +23,23 @@ returns-in_err-append_rdata-clause-err c =
     (λ none. no_data c.args.words.now _ _ _ c.split_at.ensures.front c.split_at.ensures.back (sym c.from_bytes-2.ensures ∙ is_some _ _ _ c.in_ok-rtype.ensures.value) none)
 
 pub of_octets-requires : goal.of_octets-requires
-of_octets-requires c = parts_owned (parts_of c.len-owner_len.ensures.name c.len-owner_len.ensures.octets
-    (c.in_ok-append_rdata.ensures.ok.whole ∙ ap (λ l. l ++ c.in_ok-append_rdata.ensures.ok.appended) c.into_octets-octets.ensures))
+of_octets-requires c =
+    let made = record_made _ c.args.words.now _ _ _ _ _ _ _ c.if-words-lt4.false c.split_at.ensures.front c.split_at.ensures.back c.in_ok-owner.ensures.ok
+    (number_of _ _ _ _ c.in_ok-ttl.ensures.value c.parse_number.ensures.found) refl
+    (sym c.from_bytes.ensures ∙ class_found c.from_bytes.result c.args.class c.if-ne.ensures) (sym c.from_bytes-2.ensures ∙ is_some _ _ _ c.in_ok-rtype.ensures.value)
+    c.in_ok-append_rdata.ensures.ok.spells in
+    let fits : c.args.class < 2 ^ 16 = omega arith in
+    let lawful = (record-lawful made fits).lawful in
+    let whole = written_record _ _ c.append_rdata.new.octets.items _ c.into_octets-octets.ensures c.in_ok-append_fields.ensures c.in_ok-append_rdata.ensures.ok.whole in
+    stored_of _ _ _ lawful whole c.len-owner_len.ensures.octets
 
 pub returns-clause-ok : goal.returns-clause-ok
 returns-clause-ok c =
     let made = record_made _ c.args.words.now _ _ _ _ _ _ _ c.if-words-lt4.false c.split_at.ensures.front c.split_at.ensures.back c.in_ok-owner.ensures.ok
-    (number_of _ _ _ _ c.in_ok-ttl.ensures.value c.parse_number.ensures.found) c.from_secs.ensures
-    (sym c.from_bytes.ensures ∙ class_found c.from_bytes.result c.args.class c.if-ne.ensures) (sym c.from_bytes-2.ensures ∙ is_some _ _ _ c.in_ok-rtype.ensures.value) c.in_ok-append_rdata.ensures.ok.spells in
-    let same = c.of_octets.ensures ∙ parts_held c.in_ok-rtype.rtype c.from_secs.result (parts_of c.len-owner_len.ensures.name c.len-owner_len.ensures.octets
-    (c.in_ok-append_rdata.ensures.ok.whole ∙ ap (λ l. l ++ c.in_ok-append_rdata.ensures.ok.appended) c.into_octets-octets.ensures)) in
-    subst (λ (r : Held). RecordWords c.args.class (texts_of c.args.words.now) (record_of c.args.class r)) (sym same) made
+    (number_of _ _ _ _ c.in_ok-ttl.ensures.value c.parse_number.ensures.found) refl
+    (sym c.from_bytes.ensures ∙ class_found c.from_bytes.result c.args.class c.if-ne.ensures) (sym c.from_bytes-2.ensures ∙ is_some _ _ _ c.in_ok-rtype.ensures.value)
+    c.in_ok-append_rdata.ensures.ok.spells in
+    let fits : c.args.class < 2 ^ 16 = omega arith in
+    let lawful = (record-lawful made fits).lawful in
+    let whole = written_record _ _ c.append_rdata.new.octets.items _ c.into_octets-octets.ensures c.in_ok-append_fields.ensures c.in_ok-append_rdata.ensures.ok.whole in
+    subst (λ (r : Record). RecordWords c.args.class (texts_of c.args.words.now) r) (sym (c.of_octets.ensures ∙ record_in_whole _ _ lawful whole)) made

@@ -1,8 +1,12 @@
 use Rattle.std.proofs.Common.{refl}
 use Rattle.dns_label.specs.declared.symbol.Symbol.TheVariants.{Char}
 use Rattle.zone_core.specs.Entry.{StartsWithSymbol}
+use Rattle.zone_core.proofs.PlainOctets.{skipped_taken}
 use Rattle.zone_core.proofs.WordRows.{taken_more}
 use Rattle.zone_core.proofs.text.word.split_word.Goals as goal
+
+pub loop-octet-init : goal.loop-octet-init
+loop-octet-init c = skipped_taken c.skip_plain_chunks-rest.ensures
 
 pub loop-octet-preserved-then-is_plain : goal.loop-octet-preserved-then-is_plain
 loop-octet-preserved-then-is_plain c =

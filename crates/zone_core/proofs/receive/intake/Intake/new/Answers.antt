@@ -1,6 +1,6 @@
-use Rattle.std.proofs.Common.{List, [], refl, ap, sym, subst}
+use Rattle.std.proofs.Common.{List, [], refl, sym, subst}
 use Rattle.std.specs.List.{AllByRecursion}
-use Rattle.zone_core.specs.Owned.{Held, records_of}
+use Rattle.zone_core.specs.Record.{Record}
 use Rattle.zone_core.specs.Records.{IsRecordOf}
 use Rattle.zone_core.specs.Frames.{IsPartial}
 use Rattle.zone_core.proofs.receive.intake.Intake.new.Goals as goal
@@ -8,9 +8,9 @@ use Rattle.zone_core.proofs.receive.intake.Intake.new.Goals as goal
 pub returns-clause-waits : goal.returns-clause-waits
 returns-clause-waits c =
     let none = c.new.ensures.items in
-    let no_records = c.new-2.ensures.items in
+    let no_records = c.new-2.ensures in
     λ query.
-    let P : List Held → Type 0 = λ records. AllByRecursion (IsRecordOf query.class) (records_of query.class records) in
+    let P : List Record → Type 0 = λ records. AllByRecursion (IsRecordOf query.class) records in
     record {
       judged = record {
         messages = [];
@@ -20,7 +20,7 @@ returns-clause-waits c =
         place = refl;
         groups = [];
         answers = tt;
-        joins = ap (records_of query.class) (sym no_records);
+        joins = sym no_records;
         still_open = tt;
         known = subst P (sym no_records) tt;
       };
