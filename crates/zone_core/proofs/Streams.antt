@@ -1,5 +1,5 @@
 -- The stream of all records of a zone.
-use Rattle.std.proofs.Common.{◌≡◌, ℕ, ◌+◌, ◌<◌, ◌≤◌, ◌^◌, zero, suc, Bool, true, false, Option, Some, None, List, [], ◌∷◌, ◌++◌, length, map, take, refl, sym, ap, ◌∙◌, subst, arith, append-nil, length-append}
+use Rattle.std.proofs.Common.{◌≡◌, ℕ, ◌+◌, ◌<◌, ◌≤◌, zero, suc, Bool, true, false, Option, Some, None, List, [], ◌∷◌, ◌++◌, length, map, take, sym, ap, ◌∙◌, subst, arith, append-nil}
 use Rattle.std.specs.Prelude.{slice_get, ◌==◌}
 use Rattle.std.specs.Bool.{OnTrue, OnFalse}
 use Rattle.std.specs.List.{push}
@@ -11,13 +11,11 @@ use Rattle.zone_core.specs.Record.{Record}
 use Rattle.zone_core.specs.declared.sender.Sender.{Sender}
 use Rattle.zone_core.specs.Query.{AxfrQuery}
 use Rattle.zone_core.specs.Frames.{frame, frames}
-use Rattle.zone_core.specs.Cutting.{joined, IsFullCut, IsBlocked}
+use Rattle.zone_core.specs.Cutting.{IsFullCut, IsBlocked}
 use Rattle.zone_core.specs.Sent.{message, size, with_soa_again, IsSent}
 use Rattle.zone_core.specs.Sending.{LastIs, HoldsGroups, Holds, FitsNowhere}
 use Rattle.zone_core.proofs.Greedy.{blocked_at, next_is_blocked}
 use Rattle.zone_core.proofs.Indexed.{slice_get-front}
-use Rattle.zone_core.proofs.Placing.{few_records}
-use Rattle.zone_core.proofs.Plain.{size_is}
 
 frames-push : (query : AxfrQuery) (front : List (List Record)) (group : List Record)
     → frames (map (message query) front) ++ frame (message query group) ≡ frames (map (message query) (push front group))
@@ -47,19 +45,6 @@ sent sender query records held stream max holds are same is =
       cut = subst Q same (subst P are holds.cut);
       framed = is ∙ whole_stream sender query holds.groups holds.holds;
     }
-
--- a sender holds no more records than octets
-few_framed : (query : AxfrQuery) (groups : List (List Record)) → length (joined groups) ≤ length (frames (map (message query) groups))
-few_framed query [] = omega arith
-few_framed query (group ∷ groups) =
-    omega (
-      arith,
-      few_framed query groups,
-      few_records group,
-      size_is query group,
-      length-append group (joined groups),
-      length-append (frame (message query group)) (frames (map (message query) groups)),
-    )
 
 -- a record is blocked that fits nowhere behind those before it
 pub record_blocked : (sender : Sender) (query : AxfrQuery) (records : List Record) (i : ℕ) (r : Record) (max : ℕ)

@@ -1,4 +1,4 @@
-use Rattle.std.proofs.Common.{◌≡◌, ◌<◌, ◌≤◌, ◌∙◌, ap, sym, subst, arith, length, take, List}
+use Rattle.std.proofs.Common.{◌∙◌, ap, sym, subst, arith, take, List}
 use Rattle.zone_core.specs.Record.{Record}
 use Rattle.zone_core.specs.Sending.{Holds}
 use Rattle.zone_core.proofs.Indexed.{element_at, take-next}
