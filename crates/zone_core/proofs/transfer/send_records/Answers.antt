@@ -28,18 +28,20 @@ pub returns-then-not-branch-clause-err : goal.returns-then-not-branch-clause-err
 returns-then-not-branch-clause-err c = λ query holds.
     let there = element_at c.args.records.now c.loop-i.i (omega arith) in
     let refused = at_false _ c.if-not-branch.true c.in_ok-put.ensures.refused in
-    let nowhere = refused query (take c.loop-i.i c.args.records.now) there.0 (c.octets_at.ensures.octets there.0 there.1) (c.loop-i.invariant.holds query holds) in
+    let is = c.octets_at.ensures.octets there.0 there.1 in
+    let nowhere = refused query (take c.loop-i.i c.args.records.now) there.0 is (c.loop-i.invariant.holds query holds) in
     record_blocked c.loop-i.sender query c.args.records.now c.loop-i.i there.0 c.args.sender.max nowhere there.1 c.loop-i.invariant.max
 
 pub loop-i-preserved : goal.loop-i-preserved
 loop-i-preserved c =
     let there = element_at c.args.records.now c.loop-i.i (omega arith) in
+    let is = c.octets_at.ensures.octets there.0 there.1 in
     let placed = at_true _ c.if-not-branch.false c.in_ok-put.ensures.placed in
     record {
       holds = λ query holds.
           let P : List Record → Type 0 = λ rs. Holds c.put.new.self query rs in
           subst P (sym (take-next c.args.records.now c.loop-i.i there.0 there.1))
-          (placed query (take c.loop-i.i c.args.records.now) there.0 (c.octets_at.ensures.octets there.0 there.1) (c.loop-i.invariant.holds query holds));
+          (placed query (take c.loop-i.i c.args.records.now) there.0 is (c.loop-i.invariant.holds query holds));
       max = c.in_ok-put.ensures.max ∙ c.loop-i.invariant.max;
     }
 
@@ -47,8 +49,8 @@ pub returns-then-not-branch-2-clause-err : goal.returns-then-not-branch-2-clause
 returns-then-not-branch-2-clause-err c = λ query holds.
     let soa = element_at c.args.records.now 0 (some_of _ _ c.is_empty.ensures c.if-not-is_empty.true) in
     let refused = at_false _ c.if-not-branch-2.true c.in_ok-put-2.ensures.refused in
-    let nowhere =
-    refused query (take c.loop-i.i c.args.records.now) soa.0 (c.octets_at-then-not-is_empty.ensures.octets soa.0 soa.1) (c.loop-i.invariant.holds query holds) in
+    let is = c.octets_at-then-not-is_empty.ensures.octets soa.0 soa.1 in
+    let nowhere = refused query (take c.loop-i.i c.args.records.now) soa.0 is (c.loop-i.invariant.holds query holds) in
     rw c.len.ensures.count
     (soa_blocked c.loop-i.sender query c.args.records.now c.loop-i.i soa.0 c.args.sender.max nowhere (omega arith) soa.1 c.loop-i.invariant.max)
 
