@@ -1,5 +1,5 @@
 -- The record that a caller sees one by one.
-use Rattle.std.specs.Prelude.{List, [], get_or}
+use Rattle.std.specs.Prelude.{[], get_or}
 use Rattle.zone_core.specs.Record.{Record}
 use Rattle.zone_core.specs.declared.zone_records.ZoneRecord.{ZoneRecord}
 

@@ -1,4 +1,4 @@
-use Rattle.std.proofs.Common.{◌≡◌, ap, sym, ◌∙◌, length, rules}
+use Rattle.std.proofs.Common.{◌≡◌, ap, ◌∙◌, length, rules}
 use Rattle.dns_octets.specs.Parser.{rest_of}
 use Rattle.dns_label.specs.Name.{wire}
 use Rattle.zone_core.proofs.StoredRecords.{owner_found, stored_of, record_in_whole}

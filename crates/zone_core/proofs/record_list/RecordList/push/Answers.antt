@@ -1,4 +1,4 @@
-use Rattle.std.proofs.Common.{◌≡◌, ◌++◌, ◌∷◌, [], length, ap, sym, ◌∙◌, rules}
+use Rattle.std.proofs.Common.{◌≡◌, ◌++◌, ◌∷◌, [], length, ap, ◌∙◌, rules}
 use Rattle.zone_core.proofs.StoredRecords.{stored_more, stored_found, stored_view}
 use Rattle.zone_core.proofs.record_list.RecordList.push.Goals as goal
 

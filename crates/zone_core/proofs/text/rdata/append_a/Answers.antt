@@ -12,7 +12,7 @@ returns-in_ok-extend_from_slice-in-len1-clause-ok c =
     record {
       appended = c.octets.result;
       spells = spells;
-      whole = 
+      whole =
           c.in_ok-extend_from_slice-in-len1.ensures.items
           ∙ ap (λ l. c.args.octets.now.items ++ l) (address_behind_length c.octets.result 0 (ap (length {A = ℕ}) (c.octets.ensures ∙ c.in-Ok.ensures.value)));
       few = spelled-few spells;

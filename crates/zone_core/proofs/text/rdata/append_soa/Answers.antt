@@ -26,11 +26,11 @@ returns-in_err-rname-in-len7-clause-err c =
 pub returns-in_ok-compose_soa-in-len7-clause-ok : goal.returns-in_ok-compose_soa-in-len7-clause-ok
 returns-in_ok-compose_soa-in-len7-clause-ok c =
     let spells =
-      soa_made c.args.words.now _ _ _ _ _ _ _ _ c.in-len7.len_at_least c.in-len7.len_below c.in_ok-mname-in-len7.ensures.ok c.in_ok-rname-in-len7.ensures.ok
-      (number_of _ _ _ _ c.in_ok-ok_or-in-len7.ensures.value c.parse_number.ensures.found)
-      (number_of _ _ _ _ c.in_ok-ok_or-in-len7-2.ensures.value c.parse_number-in-len7.ensures.found)
-      (number_of _ _ _ _ c.in_ok-ok_or-in-len7-3.ensures.value c.parse_number-in-len7-2.ensures.found)
-      (number_of _ _ _ _ c.in_ok-ok_or-in-len7-4.ensures.value c.parse_number-in-len7-3.ensures.found)
-      (number_of _ _ _ _ c.in_ok-ok_or-in-len7-5.ensures.value c.parse_number-in-len7-4.ensures.found)
-      refl in
+    soa_made c.args.words.now _ _ _ _ _ _ _ _ c.in-len7.len_at_least c.in-len7.len_below c.in_ok-mname-in-len7.ensures.ok c.in_ok-rname-in-len7.ensures.ok
+    (number_of _ _ _ _ c.in_ok-ok_or-in-len7.ensures.value c.parse_number.ensures.found)
+    (number_of _ _ _ _ c.in_ok-ok_or-in-len7-2.ensures.value c.parse_number-in-len7.ensures.found)
+    (number_of _ _ _ _ c.in_ok-ok_or-in-len7-3.ensures.value c.parse_number-in-len7-2.ensures.found)
+    (number_of _ _ _ _ c.in_ok-ok_or-in-len7-4.ensures.value c.parse_number-in-len7-3.ensures.found)
+    (number_of _ _ _ _ c.in_ok-ok_or-in-len7-5.ensures.value c.parse_number-in-len7-4.ensures.found)
+    refl in
     record { appended = _; spells = spells; whole = c.in_ok-compose_soa-in-len7.ensures; few = spelled-few spells }
