@@ -13,6 +13,7 @@ use Rattle.dns_name.proofs.Flat.{flat-written}
 use Rattle.dns_message.specs.Record.{IsRecord, record_octets}
 use Rattle.zone_core.specs.Record.{Record}
 use Rattle.zone_core.specs.Stored.{IsStored, AreStored, record_in, record_with, records_at, starts}
+use Rattle.zone_core.proofs.Indexed.{element_at}
 use Rattle.zone_core.proofs.NameFronts.{wire_fronts}
 use Rattle.zone_core.proofs.RecordFronts.{behind_owner, record_regrouped}
 
@@ -179,25 +180,6 @@ stands_in octets places records index r are found =
     let P : List ℕ → Type 0 = λ l. StandsIn octets l index r in
     subst P (sym are.begin) (stands_from octets [] 0 records index r are.each are.whole refl found)
 
--- the record at an index
-pub record ItemAt (records : List Record) (index : ℕ) : Type 0 where
-  pub item : Record
-  pub is : slice_get records index ≡ Some item
-
-pub item_at : (records : List Record) (index : ℕ) → index < length records → ItemAt records index
-item_at [] index within = absurd (omega (arith, within))
-item_at (r ∷ records) zero within = record { item = r; is = refl }
-item_at (r ∷ records) (suc index) within =
-    let more = item_at records index (omega (arith, within)) in record { item = more.item; is = more.is }
-
-pub lawful_at : (records : List Record) (index : ℕ) (r : Record) → AllByRecursion IsRecord records → slice_get records index ≡ Some r
-    → IsRecord r
-lawful_at [] index r each found = absurd cc
-lawful_at (x ∷ records) zero r each found =
-    let same : x ≡ r = cc in
-    let P : Record → Type 0 = λ y. IsRecord y in subst P same each.0
-lawful_at (x ∷ records) (suc index) r each found = lawful_at records index r each.1 found
-
 -- the octets from its place to the next one's, or to the end, are its own
 pub record IsPart (octets : List ℕ) (start end : ℕ) (records : List Record) (index : ℕ) : Type 0 where
   pub ordered : start ≤ end
@@ -223,25 +205,25 @@ pub part_to_next : (octets places : List ℕ) (records : List Record) (index sta
     → index < length records → index + 1 < length places → start ≡ get_or places index start → end ≡ get_or places (index + 1) end
     → IsPart octets start end records index
 part_to_next octets places records index start end are within more start_is end_is =
-    let at = item_at records index within in
-    let stands = stands_in octets places records index at.item are at.is in
+    let at = element_at records index within in
+    let stands = stands_in octets places records index at.0 are at.1 in
     let end_is' : end ≡ get_or places (suc index) end = rw add-one at end_is in
-    let part = part_of octets stands.front (record_octets at.item) stands.behind start end stands.whole (start_is ∙ stands.place start)
+    let part = part_of octets stands.front (record_octets at.0) stands.behind start end stands.whole (start_is ∙ stands.place start)
     (end_is' ∙ stands.next end (omega (arith, more))) in
-    record { ordered = part.0; within = part.1; is = λ r is. part.2 ∙ ap record_octets (one_item records index at.item r at.is is) }
+    record { ordered = part.0; within = part.1; is = λ r is. part.2 ∙ ap record_octets (one_item records index at.0 r at.1 is) }
 
 pub part_to_end : (octets places : List ℕ) (records : List Record) (index start : ℕ) → AreStored octets places records
     → index < length records → length places ≤ index + 1 → start ≡ get_or places index start
     → IsPart octets start (length octets) records index
 part_to_end octets places records index start are within last start_is =
-    let at = item_at records index within in
-    let stands = stands_in octets places records index at.item are at.is in
-    let whole : octets ≡ stands.front ++ (record_octets at.item ++ []) =
-    stands.whole ∙ ap (λ l. stands.front ++ (record_octets at.item ++ l)) (stands.last (omega (arith, last))) in
+    let at = element_at records index within in
+    let stands = stands_in octets places records index at.0 are at.1 in
+    let whole : octets ≡ stands.front ++ (record_octets at.0 ++ []) =
+    stands.whole ∙ ap (λ l. stands.front ++ (record_octets at.0 ++ l)) (stands.last (omega (arith, last))) in
     let long = ap (length {A = ℕ}) whole in
-    let part = part_of octets stands.front (record_octets at.item) [] start (length octets) whole (start_is ∙ stands.place start)
-    (omega (arith, long, length-append stands.front (record_octets at.item ++ []), length-append (record_octets at.item) [])) in
-    record { ordered = part.0; within = part.1; is = λ r is. part.2 ∙ ap record_octets (one_item records index at.item r at.is is) }
+    let part = part_of octets stands.front (record_octets at.0) [] start (length octets) whole (start_is ∙ stands.place start)
+    (omega (arith, long, length-append stands.front (record_octets at.0 ++ []), length-append (record_octets at.0) [])) in
+    record { ordered = part.0; within = part.1; is = λ r is. part.2 ∙ ap record_octets (one_item records index at.0 r at.1 is) }
 
 -- the owner's octets are a name, which is the record's
 pub owner_front : (octets : List ℕ) (len : ℕ) → IsStored octets len → take len octets ≡ wire (record_in octets).owner

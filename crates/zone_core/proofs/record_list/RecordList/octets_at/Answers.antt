@@ -1,6 +1,8 @@
 use Rattle.std.proofs.Common.{◌<◌, ◌≤◌, ◌+◌, length, arith, rules}
 use Rattle.zone_core.specs.Stored.{records_at}
-use Rattle.zone_core.proofs.StoredRecords.{part_to_next, part_to_end, lawful_at}
+use Rattle.dns_message.specs.Record.{IsRecord}
+use Rattle.zone_core.proofs.Indexed.{all_at}
+use Rattle.zone_core.proofs.StoredRecords.{part_to_next, part_to_end}
 use Rattle.zone_core.proofs.record_list.RecordList.octets_at.Goals as goal
 
 pub slice_bounds-result-count : goal.slice_bounds-result-count
@@ -47,7 +49,7 @@ returns-then-index-len-clause-octets c =
 
 pub returns-then-index-len-clause-known : goal.returns-then-index-len-clause-known
 returns-then-index-len-clause-known c = λ r found.
-    lawful_at _ c.args.index r c.self.invariant.each (rw (← c.self.view_is) at found)
+    all_at IsRecord _ c.args.index r (rw (← c.self.view_is) at found) c.self.invariant.each
 
 pub returns-else-index-len-clause-octets : goal.returns-else-index-len-clause-octets
 returns-else-index-len-clause-octets c =
@@ -58,4 +60,4 @@ returns-else-index-len-clause-octets c =
 
 pub returns-else-index-len-clause-known : goal.returns-else-index-len-clause-known
 returns-else-index-len-clause-known c = λ r found.
-    lawful_at _ c.args.index r c.self.invariant.each (rw (← c.self.view_is) at found)
+    all_at IsRecord _ c.args.index r (rw (← c.self.view_is) at found) c.self.invariant.each
