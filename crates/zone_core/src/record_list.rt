@@ -90,15 +90,4 @@ impl RecordList {
     {
         Record::from_octets(self.octets_at(index))
     }
-
-    /// The first record.
-    pub(crate) fn first(&self) -> Option<Record<'_>>
-        ensures { result ≡ slice_get self.now 0 }
-    {
-        if self.is_empty() {
-            None
-        } else {
-            Some(self.record_at(0))
-        }
-    }
 }
