@@ -1,4 +1,4 @@
-//! Many records in one piece of memory.
+//! Records one behind the other in memory.
 ghost use Rattle.std.specs.Prelude.{◌≡◌, ◌==◌, ◌<◌, ◌^◌, ◌++◌, ◌∷◌, [], length, slice_get, Some, OnOk, OnErr};
 ghost use Rattle.dns_message.specs.Record.{IsRecord, record_octets};
 ghost use Rattle.zone_core.specs.Record as spec;

@@ -56,7 +56,8 @@ pub(crate) fn split_word(text: &[u8]) -> Option<(&[u8], &[u8])>
     }
 }
 
-/// The text behind the plain octets in front, which it skips by chunks of eight. Up to seven of them may be left.
+/// The text behind plain octets in front, which are skipped by chunks of eight; up to seven more of them may be left. A word's
+/// end is looked for behind them, so that how many are skipped changes no answer.
 ///
 /// Most octets of a zone are plain, and LLVM judges the eight of a chunk at once.
 fn skip_plain_chunks(text: &[u8]) -> &[u8]
