@@ -5,6 +5,7 @@
 #![tactic(auto)]
 
 mod label;
+mod octet_run;
 mod symbol;
 mod symbols;
 
@@ -12,5 +13,6 @@ pub use label::{
     Label, LabelFromStrError, LabelMut, LabelTypeError, LongLabelError, OwnedLabel, OwnedLabelMut,
     SliceLabelsIter, SplitLabelError,
 };
+pub use octet_run::{OctetKind, run_end};
 pub use symbol::{BadSymbol, Symbol, SymbolCharsError};
 pub use symbols::Symbols;

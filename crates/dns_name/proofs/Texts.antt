@@ -1,10 +1,10 @@
 -- What a text that has been read spells.
 use Rattle.std.proofs.Common.{◌≡◌, ℕ, ◌+◌, ◌<◌, List, [], ◌∷◌, ◌++◌, length, refl, sym, ◌∙◌, ap, subst, arith, length-append}
-use Rattle.std.specs.Prelude.{Result, Ok, Err, IfOk, IfErr, ◌↔◌}
+use Rattle.std.specs.Prelude.{Result, Ok, Err, IfOk, IfErr, OnOk, ◌↔◌}
 use Rattle.std.specs.List.{AllByRecursion, flat_map}
 use Rattle.dns_label.specs.declared.symbol.Symbol.{Symbol}
 use Rattle.dns_label.specs.Symbol.{spelled}
-use Rattle.dns_label.specs.Name.{IsLabel, IsName}
+use Rattle.dns_label.specs.Name.{IsLabel, IsName, wire}
 use Rattle.dns_label.specs.NameText.{HasParts, IsNameText, IsAbsoluteText, parts_of}
 use Rattle.dns_label.specs.NameText.IsAbsoluteText.{root, labels}
 use Rattle.dns_label.specs.NameText.IsNameText.{absolute, relative}
@@ -17,6 +17,13 @@ use Rattle.dns_name.proofs.Wire.{last_same}
 use Rattle.dns_name.proofs.Parts.{Reading, parts_one, parts_end, has_parts}
 use Rattle.dns_name.proofs.Drafts.{draft-name, draft-some, draft-none, draft-wire, holds_one, draft-len}
 use Rattle.std.proofs.Common.{inl, inr}
+
+root_name : IsName []
+root_name = record { labels = tt; short = omega arith }
+
+pub absolute_name : (text : List ℕ) (name : List (List ℕ)) → IsAbsoluteText text name → IsName name
+absolute_name text name (root is) = root_name
+absolute_name text name (labels some has is_name) = is_name
 
 pub no_absolute : (text : List ℕ) → (text ≡ 46 ∷ [] → ⊥)
     → ((parts name : List (List ℕ)) → HasParts text parts → IsListed parts name → ⊥)
@@ -148,6 +155,16 @@ pub whole-result : (Spells : List ℕ → List (List ℕ) → Type 0) (text : Li
     → IfOk result (λ name. IsName name × Holds spelling name [] × (0 < length name)) → IfOk result (λ name. Spells text name)
 whole-result Spells text spelling (Ok name) whole made = whole-ok Spells text spelling name whole made.0 made.1 made.2
 whole-result Spells text spelling (Err error) whole made = tt
+
+-- the same where its octets were appended to others
+pub whole-appended : {T : Type 0} (text : List ℕ) (spelling : Spelling) (result : Result T FromStrError) (new before old : List ℕ)
+    → before ≡ old → Whole IsAbsoluteText text spelling
+    → OnOk result ((name : List (List ℕ)) × IsName name × Holds spelling name [] × (0 < length name) × (new ≡ before ++ wire name))
+    → OnOk result ((name : List (List ℕ)) × IsAbsoluteText text name × (new ≡ old ++ wire name))
+whole-appended text spelling (Ok made) new before old is whole appended =
+    let name = appended.0 in
+    (name, whole-ok IsAbsoluteText text spelling name whole appended.1 appended.2 appended.3, appended.4 ∙ ap (λ l. l ++ wire name) is)
+whole-appended text spelling (Err error) new before old is whole appended = tt
 
 -- symbols that were taken to the end are a text with these parts
 pub read_as : (taken : List Symbol) (spelling : Spelling) (done : List (List ℕ)) (begun : List ℕ) → Reading taken done begun

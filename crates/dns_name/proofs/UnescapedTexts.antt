@@ -1,53 +1,68 @@
 -- Names in text without escapes: labels are taken off the front, each with its dot, and written behind their lengths.
-use Rattle.std.proofs.Common.{◌≡◌, ℕ, ◌+◌, ◌<◌, ◌≤◌, List, [], ◌∷◌, ◌++◌, length, map, take, drop, refl, sym, ◌∙◌, ap, subst, arith, append_assoc, append-nil, length-append}
-use Rattle.std.specs.List.{AllByRecursion, flat_map}
-use Rattle.std.proofs.Math.Seq.{take-append_seam}
+use Rattle.std.proofs.Common.{◌≡◌, ℕ, ◌+◌, ◌-◌, ◌<◌, ◌≤◌, ◌↔◌, Bool, true, false, cond, suc, List, [], ◌∷◌, ◌++◌, length, map, take, drop, refl, sym, ◌∙◌, ap, subst, arith, append_assoc, append-nil, length-append}
+use Rattle.std.proofs.lemmas.Bool.{or_parts, or_from, not-true, not_from_false, ltb-false, le-ltb, eqb-false, ne_eqb, false_from_ne_true, false≢true}
+use Rattle.std.specs.List.{AllByRecursion, flat_map, prefix_len}
+use Rattle.std.proofs.lemmas.List.{take-append-drop, drop-drop, length-drop, length-take-le}
+use Rattle.std.proofs.lemmas.List.Sums.{prefix_len-le-length}
 use Rattle.std.proofs.lemmas.List.Concat.{flat_map-append}
 use Rattle.dns_label.specs.declared.symbol.Symbol.{Symbol}
 use Rattle.dns_label.specs.declared.symbol.Symbol.TheVariants.{Char}
 use Rattle.dns_label.specs.Name.{IsLabel, IsName, wire, labels_wire}
 use Rattle.dns_label.specs.NameText.{HasParts, IsAbsoluteText, parts_of}
 use Rattle.dns_label.specs.Symbol.{IsSymbol, spelled}
-use Rattle.dns_name.specs.Unescaped.{IsPlain, StartsWithLabel}
+use Rattle.dns_name.specs.Unescaped.{IsPlain, is_plain, StartsWithPlainLabel}
 use Rattle.dns_name.proofs.OctetTexts.{dot_symbol, plain_char}
 use Rattle.dns_name.proofs.Parts.{Reading, reading_here, reading-octet, reading-dot}
 use Rattle.dns_name.proofs.Wire.{labels_wire-append, labels_wire-with_root}
 
--- octets that stand for themselves were passed
-pub record PlainFront (text rest : List ℕ) : Type 0 where
-  pub front : List ℕ
-  pub each : AllByRecursion IsPlain front
-  pub whole : text ≡ front ++ rest
+-- the test says what the relation does
+pub plain_sound : (octet : ℕ) → is_plain octet ≡ true → IsPlain octet
+plain_sound octet is =
+    let none = or_parts _ _ (not-true _ is) in
+    let range = or_parts _ _ none.0 in
+    let marks = or_parts _ _ none.1 in
+    (((ltb-false octet 32 range.0, omega (arith, ltb-false 126 octet range.1)), eqb-false octet 92 marks.1), eqb-false octet 46 marks.0)
 
-pub front_none : (text : List ℕ) → PlainFront text text
-front_none text = record { front = []; each = tt; whole = refl }
+plain_back : (octet : ℕ) → IsPlain octet → is_plain octet ≡ true
+plain_back octet is =
+    not_from_false _ (or_from _ _ (or_from _ _ (le-ltb octet 32 is.0.0.0) (le-ltb 126 octet is.0.0.1))
+    (or_from _ _ (ne_eqb octet 46 is.1) (ne_eqb octet 92 is.0.1)))
 
-each_more : (front : List ℕ) (octet : ℕ) → AllByRecursion IsPlain front → IsPlain octet → AllByRecursion IsPlain (front ++ octet ∷ [])
-each_more [] octet each is = (is, tt)
-each_more (first ∷ front) octet each is = (each.0, each_more front octet each.1 is)
+pub plain_test : (octet : ℕ) (test : Bool) → (test ≡ true) ↔ IsPlain octet → test ≡ is_plain octet
+plain_test octet true says = sym (plain_back octet (says.0 refl))
+plain_test octet false says = sym (false_from_ne_true (is_plain octet) (λ is. false≢true (says.1 (plain_sound octet is))))
 
-pub front_more : (text rest behind : List ℕ) (octet : ℕ) → PlainFront text rest → rest ≡ octet ∷ behind → IsPlain octet
-    → PlainFront text behind
-front_more text rest behind octet passed is plain = record {
-  front = passed.front ++ octet ∷ [];
-  each = each_more passed.front octet passed.each plain;
-  whole = passed.whole ∙ ap (λ l. passed.front ++ l) is ∙ sym (append_assoc passed.front (octet ∷ []) behind);
-}
+-- the octets of a run
+each_next : (octet : ℕ) (text : List ℕ) (test : Bool) → is_plain octet ≡ test → AllByRecursion IsPlain (take (prefix_len is_plain text) text)
+    → AllByRecursion IsPlain (take (cond test (1 + prefix_len is_plain text) 0) (octet ∷ text))
+each_next octet text true is each =
+    let P : ℕ → Type 0 = λ n. AllByRecursion IsPlain (take n (octet ∷ text)) in
+    let more : suc (prefix_len is_plain text) ≡ 1 + prefix_len is_plain text = omega arith in
+    subst P more (plain_sound octet is, each)
+each_next octet text false is each = tt
 
--- they are a label where a dot stands behind them
-pub front_label : (text rest behind label : List ℕ) (len : ℕ) → PlainFront text rest → rest ≡ 46 ∷ behind
-    → len + length rest ≡ length text → label ≡ take len text → 0 < length label → length label ≤ 63
-    → StartsWithLabel text label behind
-front_label text rest behind label len passed dot counted is some short =
-    let lengths = ap (length {A = ℕ}) passed.whole ∙ length-append passed.front rest in
-    let count : len ≡ length passed.front = omega (arith, counted, lengths) in
-    let front : label ≡ passed.front =
-    is ∙ ap (λ n. take n text) count ∙ ap (take (length passed.front)) passed.whole ∙ take-append_seam passed.front rest in
+run_each : (text : List ℕ) → AllByRecursion IsPlain (take (prefix_len is_plain text) text)
+run_each [] = tt
+run_each (octet ∷ text) = each_next octet text (is_plain octet) refl (run_each text)
+
+-- A run with a dot behind it is a label.
+pub label_found : (text label behind : List ℕ) (start end : ℕ) → end ≡ start + prefix_len is_plain (drop start text) → start ≤ length text
+    → label ≡ take (end - start) (drop start text) → drop end text ≡ 46 ∷ behind → 0 < length label → length label ≤ 63
+    → StartsWithPlainLabel (drop start text) label (drop (start + length label + 1) text)
+label_found text label behind start end is_end within is dot some short =
+    let rest : List ℕ = drop start text in
+    let counted : length label ≡ end - start =
+    ap (length {A = ℕ}) is ∙ length-take-le (end - start) rest (omega (arith, length-drop start text, is_end, prefix_len-le-length is_plain rest)) in
+    let next : end + 1 ≡ start + length label + 1 = omega (arith, counted, is_end) in
+    let front : label ≡ take (prefix_len is_plain rest) rest = is ∙ ap (λ n. take n rest) (omega (arith, is_end)) in
     let P : List ℕ → Type 0 = λ l. AllByRecursion IsPlain l in
     record {
       is_label = record { some = some; short = short };
-      each = subst P (sym front) passed.each;
-      whole = passed.whole ∙ ap (λ l. passed.front ++ l) dot ∙ ap (λ l. l ++ 46 ∷ behind) (sym front);
+      each = subst P (sym front) (run_each rest);
+      whole =
+          sym (take-append-drop (prefix_len is_plain rest) rest) ∙ ap (λ l. l ++ drop (prefix_len is_plain rest) rest) (sym front)
+          ∙ ap (λ l. label ++ l) (drop-drop (prefix_len is_plain rest) start text ∙ ap (λ n. drop n text) (sym is_end)
+          ∙ dot ∙ ap (λ l. 46 ∷ l) (ap (drop 1) (sym dot) ∙ drop-drop 1 end text ∙ ap (λ n. drop n text) next));
     }
 
 -- symbols that stand for a label's octets
@@ -101,7 +116,7 @@ some_symbols [] [] some none = omega arith
 some_symbols [] (octet ∷ label) some none = cc
 some_symbols (symbol ∷ symbols) label some none = cc
 
-pub labels_next : (text rest octets label behind new : List ℕ) → LabelsTaken text rest octets → StartsWithLabel rest label behind
+pub labels_next : (text rest octets label behind new : List ℕ) → LabelsTaken text rest octets → StartsWithPlainLabel rest label behind
     → new ≡ octets ++ (length label ∷ label) → LabelsTaken text behind new
 labels_next text rest octets label behind new taken front is_new =
     let s : List Symbol = taken.symbols ++ map Char label in

@@ -1,7 +1,7 @@
 //! Octets made of others.
-ghost use Rattle.std.specs.Prelude.{◌≡◌, length, Err, IfOk, OnErr};
+ghost use Rattle.std.specs.Prelude.{◌≡◌, length, Err, IfOk};
 ghost use Rattle.dns_octets.specs.Builder.{IsPast};
-ghost use Rattle.dns_octets.specs.declared.error.AppendError.TheVariants.{ShortBuf, BadLength, OutOfMemory};
+ghost use Rattle.dns_octets.specs.declared.error.AppendError.TheVariants.{ShortBuf, BadLength};
 
 use dns_octets::{AppendError, EmptyBuilder, FromBuilder, OctetsBuilder};
 use std::alloc::Global;
@@ -20,18 +20,4 @@ where
     let mut builder = Octs::Builder::with_capacity(alloc, octets.len())?;
     builder.append_slice(octets)?;
     Ok(Octs::from_builder(builder))
-}
-
-/// The same octets in a vector that has room for so many more.
-pub(crate) fn octets_with_room(
-    alloc: Global,
-    octets: &[u8],
-    room: usize,
-) -> Result<Vec<u8>, AppendError>
-    ensures octets { IfOk result (λ made. made.items ≡ octets.now) }
-    ensures full { OnErr result (result ≡ Err OutOfMemory) }
-{
-    let mut made = Vec::with_capacity(alloc, octets.len().saturating_add(room))?;
-    made.extend_from_slice(octets)?;
-    Ok(made)
 }

@@ -34,8 +34,9 @@ pub use builder::{NameBuilder, PushError, PushNameError};
 pub use chain::{Chain, LongChainError};
 pub use composer::Composer;
 pub use dns_label::{
-    BadSymbol, Label, LabelFromStrError, LabelMut, LabelTypeError, LongLabelError, OwnedLabel,
-    OwnedLabelMut, SliceLabelsIter, SplitLabelError, Symbol, SymbolCharsError, Symbols,
+    BadSymbol, Label, LabelFromStrError, LabelMut, LabelTypeError, LongLabelError, OctetKind,
+    OwnedLabel, OwnedLabelMut, SliceLabelsIter, SplitLabelError, Symbol, SymbolCharsError, Symbols,
+    run_end,
 };
 pub use dns_octets::{
     AppendError, Compose, EmptyBuilder, FormError, FreezeBuilder, FromBuilder, Octets,

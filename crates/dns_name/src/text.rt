@@ -1,7 +1,8 @@
 //! Text to names (RFC 1035 5.1).
-ghost use Rattle.std.specs.Prelude.{◌≡◌, ◌↔◌, List, ℕ, Err, IfOk, IfErr};
+ghost use Rattle.std.specs.Prelude.{◌≡◌, ◌↔◌, ◌++◌, List, ℕ, Err, IfOk, IfErr, OnOk, OnErr};
 ghost use Rattle.std.specs.Iterator.{IsFinite, Drains};
 ghost use Rattle.dns_label.specs.declared.symbol.Symbol.{Symbol};
+ghost use Rattle.dns_label.specs.Name.{wire};
 ghost use Rattle.dns_label.specs.NameText.{IsNameText, IsAbsoluteText, is_dot as separates};
 ghost use Rattle.dns_name.specs.TextErrors.{text_error};
 ghost use Rattle.dns_name.specs.declared.text.FromStrError.TheVariants.{Presentation, ShortBuf};
@@ -18,9 +19,9 @@ use dns_octets::{AppendError, EmptyBuilder, FromBuilder};
 use draft::Spelling;
 pub use relative::RelativeFromStrError;
 pub use spelled::SpelledName;
-use std::alloc::Global;
+use std::alloc::{AllocError, Global};
 use thiserror::Error;
-use unescaped::read_unescaped;
+use unescaped::append_unescaped;
 
 /// Why a text spells no name.
 #[derive(Clone, Copy, Debug, PartialEq, Eq, Error)]
@@ -65,6 +66,14 @@ impl From<AppendError> for FromStrError {
     ghost from_gives = { λ _ error. error ≡ ShortBuf };
 
     fn from(_: AppendError) -> FromStrError {
+        FromStrError::ShortBuf
+    }
+}
+
+impl From<AllocError> for FromStrError {
+    ghost from_gives = { λ _ error. error ≡ ShortBuf };
+
+    fn from(_: AllocError) -> FromStrError {
         FromStrError::ShortBuf
     }
 }
@@ -188,30 +197,31 @@ impl Name<Vec<u8>> {
         ensures err { IfErr result (IsRefused IsAbsoluteText text.now) }
         ensures relative { IfErr result (λ error. (error ≡ Presentation presentation.RelativeName) ↔ LacksLastDot text.now) }
     {
-        Name::absolute_from_text_with_room(alloc, text, 0)
+        let mut octets = Vec::new(alloc);
+        Name::append_absolute_text(&mut octets, text)?;
+        Ok(Name::from_octets_unchecked(octets))
     }
 
-    /// The same in a vector that has room for so many octets behind the name, so that they are appended without another
-    /// growth.
-    pub fn absolute_from_text_with_room(
-        alloc: Global,
-        text: &[u8],
-        room: usize,
-    ) -> Result<Self, FromStrError>
-        ensures ok { IfOk result (λ name. IsAbsoluteText text.now name) }
+    /// Appends the octets of that name, its wire form (RFC 1035 3.1).
+    ///
+    /// Refused as `absolute_from_text` is, and then nothing is appended.
+    pub fn append_absolute_text(octets: &mut Vec<u8>, text: &[u8]) -> Result<(), FromStrError>
+        ensures ok { OnOk result ((name : List (List ℕ)) × IsAbsoluteText text.now name × (octets.new.items ≡ octets.old.items ++ wire name)) }
         ensures err { IfErr result (IsRefused IsAbsoluteText text.now) }
         ensures relative { IfErr result (λ error. (error ≡ Presentation presentation.RelativeName) ↔ LacksLastDot text.now) }
+        ensures kept { OnErr result (octets.new.items ≡ octets.old.items) }
     {
-        if let Ok(Some(name)) = read_unescaped(alloc, text, room) {
-            return Ok(name);
+        if append_unescaped(octets, text) {
+            return Ok(());
         }
         let Some(spelling) = Spelling::read_text(text)? else {
-            return Ok(Name::root(alloc)?);
+            octets.extend_from_slice(&[0])?;
+            return Ok(());
         };
         if spelling.has_open_label() {
             return Err(FromStrError::Presentation(PresentationError::RelativeName));
         }
-        spelling.finish_with_room(alloc, room)
+        spelling.append_to(octets)
     }
 }
 

@@ -20,6 +20,8 @@ mod record_data;
 #[cfg(test)]
 mod reverse;
 #[cfg(test)]
+mod runs;
+#[cfg(test)]
 mod unknown;
 #[cfg(test)]
 mod values;

@@ -1,59 +1,54 @@
--- Plain octets: each is a symbol of a word by itself. They are judged together, and skipped together.
-use Rattle.std.proofs.Common.{◌≡◌, ℕ, ◌+◌, ◌<◌, ◌≤◌, ◌↔◌, Bool, true, false, ◌&&◌, List, [], ◌∷◌, ◌++◌, length, map, take, drop, get_or, refl, sym, ◌∙◌, ap, subst, append_assoc}
-use Rattle.std.proofs.Math.ListN.{drop_of_length-le}
-use Rattle.std.proofs.lemmas.Bool.{and_from, and_parts}
-use Rattle.std.proofs.lemmas.List.{drop_more, take-append-drop}
-use Rattle.std.specs.List.{AllByRecursion}
+-- Plain octets: each is a symbol of a word by itself, and they are skipped together.
+use Rattle.std.proofs.Common.{◌≡◌, ◌==◌, ◌||◌, ℕ, ◌+◌, ◌<◌, ◌≤◌, Bool, true, false, nat_lt, cond, suc, List, [], ◌∷◌, ◌++◌, length, map, take, drop, refl, sym, ◌∙◌, ap, subst, arith, append_assoc, length-append}
+use Rattle.std.proofs.lemmas.Bool.{or_parts, or_from, not-true, ltb-false, eqb-false, ne_eqb, cond-false}
+use Rattle.std.proofs.lemmas.List.{take-append-drop}
+use Rattle.std.specs.List.{AllByRecursion, flat_map, prefix_len}
+use Rattle.std.proofs.lemmas.List.Concat.{flat_map-append}
 use Rattle.dns_label.specs.declared.symbol.Symbol.TheVariants.{Char}
+use Rattle.dns_label.specs.Symbol.{spelled}
 use Rattle.dns_text.specs.Tokens.{IsIn}
-use Rattle.zone_core.specs.Entry.{IsPlainOctet, StartsWithPlain}
+use Rattle.zone_core.specs.Entry.{IsPlainOctet, is_plain_octet, StartsWithPlain}
 use Rattle.zone_core.proofs.LastRecord.{all_append}
 use Rattle.zone_core.proofs.WordRows.{Taken}
 use Rattle.zone_core.proofs.WordSymbols.{chars_written}
 
-abbrev ArePlain : List ℕ → Type 0
-ArePlain octets = AllByRecursion IsPlainOctet octets
+apart_low : (octet other : ℕ) → 42 ≤ octet → other < 42 → (octet == other) ≡ false
+apart_low octet other low less = ne_eqb octet other (λ same. omega (arith, same, low, less))
 
--- all are plain just where those that were judged are, and those that are left
-pub record Judged (plain : Bool) (left all : List ℕ) : Type 0 where
-  pub on : AllByRecursion IsPlainOctet all → (plain ≡ true) × AllByRecursion IsPlainOctet left
-  pub back : plain ≡ true → AllByRecursion IsPlainOctet left → AllByRecursion IsPlainOctet all
+-- what the test says
+plain_sound : (octet : ℕ) → is_plain_octet octet ≡ true → IsPlainOctet octet
+plain_sound octet is =
+    let none : ((nat_lt octet 42 || nat_lt 126 octet) || ((octet == 59) || (octet == 92))) ≡ false = not-true _ is in
+    let halves : ((nat_lt octet 42 || nat_lt 126 octet) ≡ false) × (((octet == 59) || (octet == 92)) ≡ false) =
+    or_parts (nat_lt octet 42 || nat_lt 126 octet) ((octet == 59) || (octet == 92)) none in
+    let range : (nat_lt octet 42 ≡ false) × (nat_lt 126 octet ≡ false) = or_parts (nat_lt octet 42) (nat_lt 126 octet) (halves.0) in
+    let marks : ((octet == 59) ≡ false) × ((octet == 92) ≡ false) = or_parts (octet == 59) (octet == 92) (halves.1) in
+    let low : 42 ≤ octet = ltb-false octet 42 range.0 in
+    let high : octet ≤ 126 = ltb-false 126 octet range.1 in
+    let gaps = or_from _ _ (apart_low octet 32 low (omega arith)) (or_from _ _ (apart_low octet 34 low (omega arith))
+    (or_from _ _ (apart_low octet 40 low (omega arith)) (or_from _ _ (apart_low octet 41 low (omega arith)) marks.0))) in
+    ((((omega (arith, low), high), eqb-false octet 92 marks.1), cond-false _ false true gaps), low)
 
-pub judged_none : (octets : List ℕ) → Judged true octets octets
-judged_none octets = record { on = λ each. (refl, each); back = λ yes each. each }
+each_next : (octet : ℕ) (text : List ℕ) (test : Bool) → is_plain_octet octet ≡ test
+    → AllByRecursion IsPlainOctet (take (prefix_len is_plain_octet text) text)
+    → AllByRecursion IsPlainOctet (take (cond test (1 + prefix_len is_plain_octet text) 0) (octet ∷ text))
+each_next octet text true is each =
+    let P : ℕ → Type 0 = λ n. AllByRecursion IsPlainOctet (take n (octet ∷ text)) in
+    let more : suc (prefix_len is_plain_octet text) ≡ 1 + prefix_len is_plain_octet text = omega arith in
+    subst P more (plain_sound octet is, each)
+each_next octet text false is each = tt
 
-pub judged_more : (octets : List ℕ) (place octet : ℕ) (plain is : Bool) → place < length octets → octet ≡ get_or octets place 0
-    → ((is ≡ true) ↔ IsPlainOctet octet) → Judged plain (drop place octets) octets
-    → Judged (plain && is) (drop (place + 1) octets) octets
-judged_more octets place octet plain is within at means judged =
-    let here : drop place octets ≡ octet ∷ drop (place + 1) octets =
-    drop_more octets place 0 within ∙ ap (λ n. n ∷ drop (place + 1) octets) (sym at) in
+run_each : (text : List ℕ) → AllByRecursion IsPlainOctet (take (prefix_len is_plain_octet text) text)
+run_each [] = tt
+run_each (octet ∷ text) = each_next octet text (is_plain_octet octet) refl (run_each text)
+
+pub run_skipped : (text rest : List ℕ) (end : ℕ) → end ≡ prefix_len is_plain_octet text → rest ≡ drop end text → StartsWithPlain text rest
+run_skipped text rest end is_end is =
+    let run = prefix_len is_plain_octet text in
     record {
-      on = λ all.
-          let now = judged.on all in
-          let left : ArePlain (octet ∷ drop (place + 1) octets) = subst ArePlain here now.1 in
-          (and_from plain is now.0 (means.1 left.0), left.1);
-      back = λ both left.
-          let parts = and_parts plain is both in
-          judged.back parts.0 (subst ArePlain (sym here) (means.0 parts.1, left));
-    }
-
-pub judged_all : (octets : List ℕ) (place : ℕ) (plain : Bool) → length octets ≤ place → Judged plain (drop place octets) octets
-    → (plain ≡ true) ↔ AllByRecursion IsPlainOctet octets
-judged_all octets place plain end judged =
-    let none : drop place octets ≡ [] = drop_of_length-le octets end in
-    (λ yes. judged.back yes (subst ArePlain (sym none) tt), λ each. (judged.on each).0)
-
--- so many more were skipped
-pub skipped_more : (text rest chunk behind : List ℕ) (n : ℕ) → StartsWithPlain text rest → AllByRecursion IsPlainOctet chunk
-    → chunk ≡ take n rest → behind ≡ drop n rest → StartsWithPlain text behind
-skipped_more text rest chunk behind n front each first others =
-    let whole : rest ≡ chunk ++ behind =
-    sym (take-append-drop n rest) ∙ ap (λ l. l ++ drop n rest) (sym first) ∙ ap (λ l. chunk ++ l) (sym others) in
-    record {
-      plain = front.plain ++ chunk;
-      each = all_append IsPlainOctet front.plain chunk front.each each;
-      whole = front.whole ∙ ap (λ l. front.plain ++ l) whole ∙ sym (append_assoc front.plain chunk behind);
+      plain = take run text;
+      each = run_each text;
+      whole = sym (take-append-drop run text) ∙ ap (λ l. take run text ++ l) (ap (λ n. drop n text) (sym is_end) ∙ sym is);
     }
 
 -- they are symbols of a word
@@ -67,3 +62,20 @@ skipped_taken {rest = rest} front = record {
   each = each_char front.plain front.each;
   whole = front.whole ∙ ap (λ l. l ++ rest) (chars_written front.plain);
 }
+
+-- they may follow others that were taken
+pub skipped_more : (text rest behind : List ℕ) → Taken text rest → StartsWithPlain rest behind → Taken text behind
+skipped_more text rest behind taken front =
+    let more : Taken rest behind = skipped_taken front in
+    record {
+      symbols = taken.symbols ++ more.symbols;
+      each = all_append (IsIn false) taken.symbols more.symbols taken.each more.each;
+      whole =
+          taken.whole ∙ ap (λ l. flat_map spelled taken.symbols ++ l) more.whole
+          ∙ sym (append_assoc (flat_map spelled taken.symbols) (flat_map spelled more.symbols) behind)
+          ∙ ap (λ l. l ++ behind) (sym (flat_map-append spelled taken.symbols more.symbols));
+    }
+
+-- so that less is left
+pub skipped_shorter : (rest behind : List ℕ) → StartsWithPlain rest behind → length behind ≤ length rest
+skipped_shorter rest behind front = omega (arith, ap (length {A = ℕ}) front.whole, length-append front.plain behind)

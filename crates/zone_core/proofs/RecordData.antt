@@ -1,5 +1,5 @@
 -- Data of records in text, and what is known where the program refuses it.
-use Rattle.std.proofs.Common.{◌≡◌, ◌+◌, ◌*◌, ◌<◌, ◌≤◌, ◌^◌, ℕ, zero, suc, List, [], ◌∷◌, ◌++◌, length, get_or, Option, Some, None, Result, Ok, Err, refl, sym, ap, ◌∙◌, subst, arith, append-nil, append_assoc, length-append}
+use Rattle.std.proofs.Common.{◌≡◌, ◌+◌, ◌-◌, ◌*◌, ◌<◌, ◌≤◌, ◌^◌, ℕ, zero, suc, List, [], ◌∷◌, ◌++◌, length, get_or, Option, Some, None, Result, Ok, Err, refl, sym, ap, ◌∙◌, subst, arith, append-nil, append_assoc, length-append}
 use Rattle.std.specs.Borrow.{Bor}
 use Rattle.std.specs.List.{flat_map}
 use Rattle.std.specs.Int.{to_be_bytes, w16, w32}
@@ -7,7 +7,7 @@ use Rattle.std.specs.Option.{IfNone, IfSome, ok_or}
 use Rattle.std.specs.Result.{IfErr, IsErrAnd}
 use Rattle.std.specs.declared.net.ipv4_addr.Ipv4Addr.{Ipv4Addr}
 use Rattle.std.specs.Net.Grammar.{IsDotted, IsIpv4Text}
-use Rattle.dns_label.specs.Name.{wire}
+use Rattle.dns_label.specs.Name.{IsName, wire}
 use Rattle.dns_label.specs.NameText.{IsAbsoluteText}
 use Rattle.dns_text.specs.Numbers.{IsNumberText}
 use Rattle.dns_rdata.specs.Fields.{Field, ipv4, compressible, number32}
@@ -86,25 +86,41 @@ address_behind_length (a ∷ b ∷ c ∷ []) d four = absurd (omega (arith, four
 address_behind_length (a ∷ b ∷ c ∷ e ∷ []) d four = refl
 address_behind_length (a ∷ b ∷ c ∷ e ∷ f ∷ address) d four = absurd (omega (arith, four))
 
-numbers_length : (numbers : List ℕ) → length (flat_map (to_be_bytes w32) numbers) ≡ 4 * length numbers
+pub numbers_length : (numbers : List ℕ) → length (flat_map (to_be_bytes w32) numbers) ≡ 4 * length numbers
 numbers_length [] = refl
 numbers_length (n ∷ numbers) = let rest = numbers_length numbers in omega (arith, rest)
 
-three_behind : (a b c d : List ℕ) → ((a ++ b) ++ c) ++ d ≡ a ++ (b ++ (c ++ d ++ []))
-three_behind a b c d = simp (append_assoc, append-nil)
+-- Data that was appended in three parts behind the room for its length, and the length of it.
+pub record ThreeParts (old m r numbers whole : List ℕ) : Type 0 where
+  pub joined : whole ≡ old ++ ((0 ∷ 0 ∷ []) ++ (m ++ r ++ numbers))
+  pub long : length whole ≡ length old + 2 + length (m ++ r ++ numbers)
 
--- the data of an SOA record as it is written behind its length
-pub soa_behind_length : (mname rname : List (List ℕ)) (numbers old first second third : List ℕ) (m r len : ℕ)
-    → m ≡ length (wire mname) → r ≡ length (wire rname) → m ≤ 255 → r ≤ 255 → length numbers ≡ 5 → len ≡ m + r + 20
-    → first ≡ old ++ to_be_bytes w16 len → second ≡ first ++ wire mname → third ≡ second ++ wire rname
-    → third ≡ old ++ (to_be_bytes w16 (length (wire mname ++ wire rname ++ flat_map (to_be_bytes w32) numbers)) ++ (wire mname ++ wire rname ++ []))
-soa_behind_length mname rname numbers old first second third m r len m_is r_is m_few r_few five len_is first_is second_is third_is =
-    let data' = flat_map (to_be_bytes w32) numbers in
-    let long : len ≡ length (wire mname ++ wire rname ++ data') =
-    omega (arith, len_is, m_is, r_is, five, numbers_length numbers, length-append (wire mname ++ wire rname) data', length-append (wire mname) (wire rname)) in
-    let P = ap (λ l. old ++ to_be_bytes w16 l) long in
-    third_is ∙ ap (λ l. l ++ wire rname) (second_is ∙ ap (λ l. l ++ wire mname) (first_is ∙ P))
-    ∙ three_behind old (to_be_bytes w16 (length (wire mname ++ wire rname ++ data'))) (wire mname) (wire rname)
+pub three_parts : (old m r numbers first second third whole : List ℕ) → first ≡ old ++ 0 ∷ 0 ∷ [] → second ≡ first ++ m
+    → third ≡ second ++ r → whole ≡ third ++ numbers → ThreeParts old m r numbers whole
+three_parts old m r numbers first second third whole first_is second_is third_is whole_is =
+    let joined : whole ≡ old ++ ((0 ∷ 0 ∷ []) ++ (m ++ r ++ numbers)) =
+    whole_is ∙ ap (λ l. l ++ numbers) (third_is ∙ ap (λ l. l ++ r) (second_is ∙ ap (λ l. l ++ m) first_is))
+    ∙ ap (λ l. l ++ numbers) (append_assoc (old ++ 0 ∷ 0 ∷ []) m r) ∙ append_assoc (old ++ 0 ∷ 0 ∷ []) (m ++ r) numbers
+    ∙ append_assoc old (0 ∷ 0 ∷ []) (m ++ r ++ numbers) in
+    record {
+      joined = joined;
+      long = omega (arith, ap (length {A = ℕ}) joined, length-append old ((0 ∷ 0 ∷ []) ++ (m ++ r ++ numbers)));
+    }
+
+-- two names and five numbers are few octets
+pub soa_few : (mname rname : List (List ℕ)) (numbers : List ℕ) → IsName mname → IsName rname → length numbers ≡ 5
+    → length (wire mname ++ wire rname ++ flat_map (to_be_bytes w32) numbers) < 2 ^ 16
+soa_few mname rname numbers m r five =
+    omega (arith, m.short, r.short, five, numbers_length numbers, length-append (wire mname ++ wire rname) (flat_map (to_be_bytes w32) numbers), length-append (wire mname) (wire rname))
+
+-- and they stand behind their length, where it was written there
+pub soa_behind_length : (old m r numbers whole new : List ℕ) (len : ℕ) → ThreeParts old m r numbers whole
+    → len ≡ length whole - length old - 2
+    → ((front there behind : List ℕ) → whole ≡ front ++ (there ++ behind) → length front ≡ length old → length there ≡ 2
+    → new ≡ front ++ (to_be_bytes w16 len ++ behind)) → new ≡ old ++ behind_length (m ++ r ++ numbers)
+soa_behind_length old m r numbers whole new len parts len_is put =
+    let long : len ≡ length (m ++ r ++ numbers) = omega (arith, len_is, parts.long) in
+    put old (0 ∷ 0 ∷ []) (m ++ r ++ numbers) parts.joined refl refl ∙ ap (λ n. old ++ (to_be_bytes w16 n ++ (m ++ r ++ numbers))) long
 
 -- the data of an SOA record: two names and five numbers
 pub record SoaWords (words : List (List ℕ)) : Type 0 where

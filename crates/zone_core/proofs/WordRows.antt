@@ -4,6 +4,7 @@ use Rattle.std.proofs.Math.Seq.{take-append_seam, drop-append_seam}
 use Rattle.std.proofs.lemmas.List.{flat_map_more}
 use Rattle.std.specs.List.{AllByRecursion, flat_map}
 use Rattle.dns_label.specs.declared.symbol.Symbol.{Symbol}
+use Rattle.dns_label.specs.declared.symbol.Symbol.TheVariants.{Char, SimpleEscape, DecimalEscape}
 use Rattle.dns_label.specs.Symbol.{spelled}
 use Rattle.dns_text.specs.Tokens.{IsIn, IsRun, EndsToken, IsEmptyRow, stands_plain, is_end}
 use Rattle.dns_text.specs.Tokens.Head.{Word}
@@ -26,6 +27,15 @@ each_more : (symbols : List Symbol) (symbol : Symbol) → AllByRecursion (IsIn f
     → AllByRecursion (IsIn false) (symbols ++ symbol ∷ [])
 each_more [] symbol each is = (is, tt)
 each_more (first ∷ symbols) symbol each is = (each.0, each_more symbols symbol each.1 is)
+
+symbol_some : (symbol : Symbol) → 0 < length (spelled symbol)
+symbol_some (Char c) = omega arith
+symbol_some (SimpleEscape c) = omega arith
+symbol_some (DecimalEscape n) = omega arith
+
+pub symbol_shorter : {text rest : List ℕ} → StartsWithSymbol text rest → length rest < length text
+symbol_shorter {rest = rest} front =
+    omega (arith, ap (length {A = ℕ}) front.whole, length-append (spelled front.symbol) rest, symbol_some front.symbol)
 
 pub taken_more : (text rest behind : List ℕ) → Taken text rest → StartsWithSymbol rest behind → Taken text behind
 taken_more text rest behind taken front = record {

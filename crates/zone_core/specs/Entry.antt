@@ -1,5 +1,5 @@
 -- What the reader of entries gives. Only contracts inside the crate speak of it.
-use Rattle.std.specs.Prelude.{◌≡◌, ◌≢◌, ◌≤◌, ◌<◌, ◌^◌, ◌++◌, ℕ, true, false, List, [], length, map, slice_index, ⊤}
+use Rattle.std.specs.Prelude.{◌≡◌, ◌≢◌, ◌==◌, ◌||◌, ◌≤◌, ◌<◌, ◌^◌, ◌++◌, ℕ, Bool, true, false, not, nat_lt, List, [], length, map, slice_index, ⊤}
 use Rattle.std.specs.Int.{to_be_bytes, w16}
 use Rattle.std.specs.Borrow.{Bor}
 use Rattle.std.specs.List.{AllByRecursion}
@@ -31,6 +31,10 @@ StartsRow text Tokens = (is_end text ≡ false) × ((rest : List ℕ) → IsEmpt
 -- an octet that stands in a word by itself, and is from the asterisk on
 abbrev pub IsPlainOctet : ℕ → Type 0
 IsPlainOctet octet = IsIn false (Char octet) × (42 ≤ octet)
+
+-- the same as a test
+abbrev pub is_plain_octet : ℕ → Bool
+is_plain_octet octet = not ((nat_lt octet 42 || nat_lt 126 octet) || ((octet == 59) || (octet == 92)))
 
 -- plain octets, perhaps none, in front of the rest, which may begin with more of them
 pub record StartsWithPlain (text rest : List ℕ) : Type 0 where

@@ -26,7 +26,7 @@ pub use query::{Query, check_query};
 pub use query_error::QueryError;
 pub use receive::{ReceiveError, Receiver};
 pub use send_error::SendError;
-pub use transfer::{Spelling, send};
+pub use transfer::{Spelling, send, send_into};
 pub use zone::Zone;
 pub use zone_error::ZoneError;
 pub use zone_records::{ZoneRecord, ZoneRecords};

@@ -1,5 +1,6 @@
 //! Resource records in octets of their own.
 ghost use Rattle.std.specs.Prelude.{◌≡◌};
+ghost use Rattle.dns_message.specs.Record.{record_octets};
 ghost use Rattle.zone_core.specs.Stored.{IsStored, record_in};
 
 use crate::record::Record;
@@ -39,5 +40,11 @@ impl OwnedRecord {
         ensures { result ≡ self.now }
     {
         Record::of_octets(self.octets.as_slice(), self.owner_len)
+    }
+    /// The vector, for the octets of another record.
+    pub(crate) fn into_octets(self) -> Vec<u8>
+        ensures { result.items ≡ record_octets self }
+    {
+        self.octets
     }
 }

@@ -8,6 +8,7 @@ ghost use Rattle.zone_core.specs.Asked.{asked_by};
 ghost use Rattle.zone_core.specs.Query.{AxfrQuery};
 ghost use Rattle.zone_core.specs.Sent.{message};
 
+use crate::header::put_number;
 use crate::query::Query;
 use dns_name::{Name, Rtype};
 use std::alloc::{AllocError, Global};
@@ -37,9 +38,10 @@ impl Sender {
     ghost use Rattle.zone_core.specs.Sent.{size};
     ghost use Rattle.zone_core.specs.Sending.{Stands, StandsWhole, HoldsGroups, Holds, HasNoRoom, FitsNowhere};
 
-    /// A stream without a message, for the answers to a query of this name.
+    /// A stream without a message, for the answers to a query of this name, in the place of what the spare vector holds.
     pub(crate) fn new(
         alloc: Global,
+        spare: Vec<u8>,
         query: &Query<'_>,
         name: &Name<Vec<u8>>,
         max: u16,
@@ -48,8 +50,10 @@ impl Sender {
         ensures holds { IfOk result (λ sender. Holds sender (asked_by query.now) []) }
         ensures max { IfOk result (λ sender. sender.max ≡ max) }
     {
+        let mut stream = spare;
+        stream.clear();
         Ok(Sender {
-            stream: Vec::new(alloc),
+            stream,
             opening: opening(alloc, query, name)?,
             max: usize::from(max),
             last: None,
@@ -130,8 +134,8 @@ impl Sender {
         self.stream.extend_from_slice(record)?;
         self.answers += 1;
         let len = (self.stream.len() - start) as u16;
-        patch(&mut self.stream, start - LENGTH_OCTETS, len);
-        patch(&mut self.stream, start + ANSWER_COUNT, self.answers);
+        put_number(&mut self.stream, start - LENGTH_OCTETS, len);
+        put_number(&mut self.stream, start + ANSWER_COUNT, self.answers);
         Ok(())
     }
 }
@@ -151,15 +155,4 @@ fn opening(alloc: Global, query: &Query<'_>, name: &Name<Vec<u8>>) -> Result<Vec
     opening.extend_from_slice(&Rtype::AXFR.to_int().to_be_bytes())?;
     opening.extend_from_slice(&query.class().to_int().to_be_bytes())?;
     Ok(opening)
-}
-
-/// Writes a number over the two octets at a place.
-fn patch(stream: &mut Vec<u8>, place: usize, number: u16)
-    requires { place + 2 ≤ length stream.old.items }
-    ensures { (front octets behind : List ℕ) → stream.old.items ≡ front ++ (octets ++ behind) → length front ≡ place →
-        length octets ≡ 2 → stream.new.items ≡ front ++ (to_be_bytes w16 number ++ behind) }
-{
-    let [high, low] = number.to_be_bytes();
-    stream[place] = high;
-    stream[place + 1] = low;
 }

@@ -39,6 +39,25 @@ pub fn send(
     ensures err { IfErr result (IsSendFault zone.now.records (apex_of zone.now.records) zone.now.class query.now max) }
     ensures transfer { IfOk result (λ stream. (q : AxfrQuery) × IsQuery query.now q × IsExactTransfer q stream.items zone.now.records) }
 {
+    send_into(alloc, Vec::new(alloc), zone, query, max, spelling)
+}
+
+/// The same stream, made in the memory of a vector whose octets are no longer needed: it takes their place.
+///
+/// So a zone may be sent in the memory that its text had. Where this is refused, the vector is let go of.
+pub fn send_into(
+    alloc: Global,
+    spare: Vec<u8>,
+    zone: &Zone,
+    query: &[u8],
+    max: u16,
+    spelling: Spelling,
+) -> Result<Vec<u8>, SendError>
+    ensures ok { IfOk result (λ stream. (q : AxfrQuery) × IsQuery query.now q × AsksFor q (apex_of zone.now.records) zone.now.class ×
+        IsSent zone.now.records q max stream.items) }
+    ensures err { IfErr result (IsSendFault zone.now.records (apex_of zone.now.records) zone.now.class query.now max) }
+    ensures transfer { IfOk result (λ stream. (q : AxfrQuery) × IsQuery query.now q × IsExactTransfer q stream.items zone.now.records) }
+{
     let query = match check_query(query) {
         Ok(query) => query,
         Err(fault) => return Err(SendError::Query(fault)),
@@ -49,7 +68,7 @@ pub fn send(
     }
     match spelling {
         Spelling::Plain => {
-            let sender = Sender::new(alloc, &query, &name, max)?;
+            let sender = Sender::new(alloc, spare, &query, &name, max)?;
             send_records(sender, zone.list())
         }
     }

@@ -118,7 +118,7 @@ fn read_records(alloc: Global, text: &[u8], class: Class) -> Result<RecordList, 
     ensures known { IfOk result (AreRecordsOf class) }
     ensures err { IfErr result (IsZoneFault text.now class) }
 {
-    let Some((first, mut rest)) = read_next(alloc, text, class, 0)? else {
+    let Some((first, mut rest)) = read_next(Vec::new(alloc), text, class, 0)? else {
         return Err(ZoneError::NoSoa);
     };
     let soa = first.as_record();
@@ -127,18 +127,20 @@ fn read_records(alloc: Global, text: &[u8], class: Class) -> Result<RecordList, 
     }
     let mut records = RecordList::new(alloc);
     records.push(&soa)?;
-    while let Some((found, behind)) = read_next(alloc, rest, class, records.len())? {
+    let mut spare = Vec::new(alloc);
+    while let Some((found, behind)) = read_next(spare, rest, class, records.len())? {
         let next = found.as_record();
         check_rules(&soa, &next, records.len() + 1)?;
         records.push(&next)?;
         rest = behind;
+        spare = found.into_octets();
     }
     Ok(records)
 }
 
-/// The next record behind so many, and the text behind it.
+/// The next record behind so many, in the spare vector, and the text behind it.
 fn read_next(
-    alloc: Global,
+    spare: Vec<u8>,
     text: &[u8],
     class: Class,
     count: usize,
@@ -148,7 +150,7 @@ fn read_next(
     ensures end { IfOk result (λ next. IfNone next (EndsBehindRows class text.now)) }
     ensures err { IfErr result (StopsReading class text.now (count + 1)) }
 {
-    match next_record(alloc, text, class) {
+    match next_record(spare, text, class) {
         Ok(found) => Ok(found),
         Err(EntryError::Text) => Err(ZoneError::Text(count + 1)),
         Err(EntryError::OutOfMemory) => Err(ZoneError::OutOfMemory),

@@ -19,5 +19,5 @@ pub use source::{Source, SourceError, StdSource};
 pub use words::{WordsFault, job};
 pub use zone_core::{
     DisplayKind, Query, QueryError, ReceiveError, Receiver, SendError, Spelling, Zone, ZoneError,
-    ZoneRecord, ZoneRecords, check_query, laws, send,
+    ZoneRecord, ZoneRecords, check_query, laws, send, send_into,
 };

@@ -11,7 +11,7 @@ use crate::sink::{Sink, write_all};
 use crate::source::{Source, read_all};
 use dns_name::{Class, Name, Rtype};
 use std::alloc::{AllocError, Global};
-use zone_core::{DisplayKind, ReceiveError, Receiver, Spelling, Zone, ZoneError, send};
+use zone_core::{DisplayKind, ReceiveError, Receiver, Spelling, Zone, ZoneError, send_into};
 
 /// Reads all the input, and writes what the job makes of it.
 ///
@@ -41,7 +41,8 @@ pub fn run<R: Source, W: Sink>(
     Ok(())
 }
 
-/// What the job makes of the input, which is let go of as soon as it is read, for zones may be large.
+/// What the job makes of the input. Zones may be large, so that the input is let go of as soon as it is read, or its memory
+/// used again.
 fn output(alloc: Global, input: Vec<u8>, job: &Job) -> Result<Vec<u8>, Fault>
     ensures ok { IfOk result (λ output. IsOutput job.now input.items output.items) }
     ensures err { IfErr result (IsJobFault job.now input.items) }
@@ -56,8 +57,7 @@ fn output(alloc: Global, input: Vec<u8>, job: &Job) -> Result<Vec<u8>, Fault>
             spelling,
         } => {
             let zone = read_zone(alloc, input.as_slice(), origin, *class)?;
-            drop(input);
-            send_zone(alloc, &zone, *id, apex, *max, *spelling)
+            send_zone(alloc, input, &zone, *id, apex, *max, *spelling)
         }
         Job::Receive {
             class,
@@ -68,9 +68,10 @@ fn output(alloc: Global, input: Vec<u8>, job: &Job) -> Result<Vec<u8>, Fault>
     }
 }
 
-/// The stream for the zone, by the query that the job makes.
+/// The stream for the zone, by the query that the job makes, in the place of what the spare vector holds.
 fn send_zone(
     alloc: Global,
+    spare: Vec<u8>,
     zone: &Zone,
     id: u16,
     apex: &Option<Name<Vec<u8>>>,
@@ -83,7 +84,7 @@ fn send_zone(
         → IfErr result (IsSendJobFault class id apex.now max input) }
 {
     let query = zone_query(alloc, id, apex, zone)?;
-    match send(alloc, zone, query.as_slice(), max, spelling) {
+    match send_into(alloc, spare, zone, query.as_slice(), max, spelling) {
         Ok(stream) => Ok(stream),
         Err(error) => Err(Fault::from(error)),
     }

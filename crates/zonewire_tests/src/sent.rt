@@ -5,7 +5,7 @@ use crate::examples::{
     three_messages, zone_of,
 };
 use std::test::Fail;
-use zonewire::{Fault, SendError};
+use zonewire::{Fault, SendError, Spelling, send_into};
 
 #[test]
 fn zones_are_sent_in_few_messages(rt: HostRuntime) -> Result<(), Fail> {
@@ -52,5 +52,21 @@ fn a_record_that_fits_nowhere(rt: HostRuntime) -> Result<(), Fail> {
         let (output, fault) = run_over(alloc, text, send_job(max))?;
         assert!(rt; fault == Some(Fault::Send(error)) && output.is_empty());
     }
+    Ok(())
+}
+
+/// The memory may have held anything, and have too little room.
+#[test]
+fn zones_are_sent_in_memory_that_is_there(rt: HostRuntime) -> Result<(), Fail> {
+    let alloc = rt.alloc();
+    let one = one_message(alloc)?;
+    let zone = zone_of(alloc, ZONE)?;
+    for len in [0, 1, 115, 116, 300] {
+        let spare = vec![in alloc; 255u8; len]?;
+        let stream = send_into(alloc, spare, &zone, QUERY, 512, Spelling::Plain)?;
+        assert!(rt; stream.as_slice() == one.as_slice());
+    }
+    let refused = send_into(alloc, one, &zone, QUERY, 18, Spelling::Plain);
+    assert!(rt; refused.err() == Some(SendError::Record(1)));
     Ok(())
 }

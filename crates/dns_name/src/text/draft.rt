@@ -4,7 +4,7 @@ ghost use Rattle.std.specs.Iterator.{IsFinite, YieldsThen, Drains};
 ghost use Rattle.std.specs.List.{AllByRecursion, flat_map};
 ghost use Rattle.dns_label.specs.declared.symbol.Symbol.{Symbol};
 ghost use Rattle.dns_label.specs.declared.symbol.Symbol.TheVariants.{Char};
-ghost use Rattle.dns_label.specs.Name.{IsName};
+ghost use Rattle.dns_label.specs.Name.{IsName, wire};
 ghost use Rattle.dns_label.specs.Symbol.{IsSymbol, spelled};
 ghost use Rattle.dns_label.specs.Taken.{RulesOut};
 ghost use Rattle.dns_name.specs.Text.{IsFault};
@@ -13,7 +13,7 @@ ghost use Rattle.dns_name.specs.declared.text.PresentationError.TheVariants as p
 
 use super::unescaped::is_plain;
 use super::{FromStrError, PresentationError, is_dot};
-use crate::copies::{octets_from, octets_with_room};
+use crate::copies::octets_from;
 use crate::relative::copied_relative;
 use crate::{Name, RelativeName};
 use dns_label::{Symbol, Symbols};
@@ -186,19 +186,16 @@ impl Spelling {
         Ok(Name::from_octets_unchecked(octets))
     }
 
-    /// The same in a vector that has room for so many octets more.
-    pub(super) fn finish_with_room(
-        self,
-        alloc: Global,
-        room: usize,
-    ) -> Result<Name<Vec<u8>>, FromStrError>
-        requires { (done : List (List ℕ)) × Holds self done [] }
-        ensures ok { IfOk result (λ name. IsName name × Holds self name [] × (0 < length name)) }
-        ensures err { IfErr result (λ error. IsFault error ↔ (self.len ≡ 1)) }
+    /// Appends the octets of that name. Refused as `finish` is, and then nothing is appended.
+    pub(super) fn append_to(&self, octets: &mut Vec<u8>) -> Result<(), FromStrError>
+        requires { (done : List (List ℕ)) × Holds self.now done [] }
+        ensures ok { OnOk result ((name : List (List ℕ)) × IsName name × Holds self.now name [] × (0 < length name)
+            × (octets.new.items ≡ octets.old.items ++ wire name)) }
+        ensures err { IfErr result (λ error. IsFault error ↔ (self.now.len ≡ 1)) }
         ensures other { result ≡ Err (Presentation presentation.RelativeName) → ⊥ }
+        ensures kept { OnErr result (octets.new.items ≡ octets.old.items) }
     {
-        let octets = octets_with_room(alloc, self.finished()?, room)?;
-        Ok(Name::from_octets_unchecked(octets))
+        Ok(octets.extend_from_slice(self.finished()?)?)
     }
 
     /// The octets of the finished labels and the root's. Refused where there is no label.

@@ -1,10 +1,12 @@
 //! Names in text without escapes, as most names are (RFC 1035 5.1).
-ghost use Rattle.std.specs.Prelude.{◌≡◌, ◌≤◌, ◌↔◌, ◌∷◌, ◌++◌, length, IsTrue, IfOk, OnOk, IfSome};
+ghost use Rattle.std.specs.Prelude.{◌≡◌, ◌≤◌, ◌+◌, ◌↔◌, ◌++◌, List, ℕ, length, drop, take, IsTrue, IsFalse, IfOk, IfSome};
+ghost use Rattle.dns_label.specs.Name.{wire};
 ghost use Rattle.dns_label.specs.NameText.{IsAbsoluteText};
-ghost use Rattle.dns_name.specs.Unescaped.{IsPlain, StartsWithLabel};
+ghost use Rattle.dns_name.specs.Unescaped.{IsPlain, StartsWithPlainLabel, is_plain as is_plain_octet};
 
-use crate::Name;
-use std::alloc::{AllocError, Global};
+use dns_label::{OctetKind, run_end};
+use std::alloc::AllocError;
+use std::simd::prelude::*;
 
 /// The most octets of a label (RFC 1035 2.3.4).
 const LABEL_MOST: usize = 63;
@@ -12,60 +14,72 @@ const LABEL_MOST: usize = 63;
 /// The most octets of such a name's text: the name has one more, the root's.
 const TEXT_MOST: usize = 254;
 
-/// The name that a text without escapes spells, its last dot there, in a vector that has room for so many more octets.
+/// Appends the octets of the name that a text without escapes spells, its last dot there, and answers whether it did.
 ///
-/// None where the text has an escape, and where it spells no name or the root's: which of these it is, a reader of symbols
-/// tells.
-pub(super) fn read_unescaped(
-    alloc: Global,
-    text: &[u8],
-    room: usize,
-) -> Result<Option<Name<Vec<u8>>>, AllocError>
-    ensures { IfOk result (λ read. IfSome read (IsAbsoluteText text.now)) }
+/// It did not where the text has an escape, where it spells no name or the root's, and where a growth was refused: which of
+/// these it is, a reader of symbols tells.
+pub(super) fn append_unescaped(octets: &mut Vec<u8>, text: &[u8]) -> bool
+    ensures name { IsTrue result → (name : List (List ℕ)) × IsAbsoluteText text.now name × (octets.new.items ≡ octets.old.items ++ wire name) }
+    ensures none { IsFalse result → octets.new.items ≡ octets.old.items }
+{
+    let len = octets.len();
+    let is_whole = matches!(append_labels(octets, text), Ok(true));
+    if !is_whole {
+        octets.truncate(len);
+    }
+    is_whole
+}
+
+/// The same, but that some labels may be left behind where it is not the whole name.
+fn append_labels(octets: &mut Vec<u8>, text: &[u8]) -> Result<bool, AllocError>
+    ensures name { IfOk result (λ is_whole. IsTrue is_whole → (name : List (List ℕ)) × IsAbsoluteText text.now name
+        × (octets.new.items ≡ octets.old.items ++ wire name)) }
+    ensures front { take (length octets.old.items) octets.new.items ≡ octets.old.items }
 {
     if text.is_empty() || text.len() > TEXT_MOST {
-        return Ok(None);
+        return Ok(false);
     }
-    let len = text.len() + 1;
-    let mut octets = Vec::with_capacity(alloc, len.saturating_add(room))?;
-    let mut rest = text;
-    while !rest.is_empty() {
-        let Some((label, behind)) = split_label(rest) else {
-            return Ok(None);
+    octets.reserve(text.len() + 1)?;
+    let mut start = 0;
+    while start < text.len() {
+        let Some(label) = label_at(text, start) else {
+            return Ok(false);
         };
-        append_label(&mut octets, label)?;
-        rest = behind;
+        octets.push(label.len() as u8)?;
+        octets.extend_from_slice(label)?;
+        start += label.len() + 1;
     }
     octets.push(0)?;
-    Ok(Some(Name::from_octets_unchecked(octets)))
+    Ok(true)
 }
 
-/// Appends a label behind its length.
-fn append_label(octets: &mut Vec<u8>, label: &[u8]) -> Result<(), AllocError>
-    requires { length label.now ≤ 63 }
-    ensures { OnOk result (octets.new.items ≡ octets.old.items ++ length label.now ∷ label.now) }
+/// The label at a place, of octets that stand for themselves and with a dot behind it.
+fn label_at(text: &[u8], start: usize) -> Option<&[u8]>
+    requires { start ≤ length text.now }
+    ensures { IfSome result (λ label. StartsWithPlainLabel (drop start text.now) label.now (drop (start + length label.now + 1) text.now)) }
 {
-    octets.push(label.len() as u8)?;
-    octets.extend_from_slice(label)
-}
-
-/// The label in front, of octets that stand for themselves, and what is behind its dot.
-fn split_label(text: &[u8]) -> Option<(&[u8], &[u8])>
-    ensures { IfSome result (λ found. StartsWithLabel text.now found.0.now found.1.now) }
-{
-    let mut rest = text;
-    while let Some((&octet, behind)) = rest.split_first() {
-        if !is_plain(octet) {
-            break;
-        }
-        rest = behind;
-    }
-    let (label, dot) = text.split_at(text.len() - rest.len());
-    match dot.split_first() {
-        Some((b'.', behind)) if !label.is_empty() && label.len() <= LABEL_MOST => {
-            Some((label, behind))
-        }
+    let end = run_end::<PlainOctets>(text, start);
+    let label = &text[start..end];
+    match text[end..].split_first() {
+        Some((b'.', _)) if !label.is_empty() && label.len() <= LABEL_MOST => Some(label),
         _ => None,
+    }
+}
+
+/// The octets that by themselves are symbols other than a dot.
+struct PlainOctets;
+
+impl OctetKind for PlainOctets {
+    ghost has = { is_plain_octet };
+
+    fn has(octet: u8) -> bool {
+        is_plain(octet)
+    }
+
+    fn others(octets: u8x16) -> u64 {
+        let unprintable = octets.simd_lt(u8x16::splat(b' ')) | octets.simd_gt(u8x16::splat(b'~'));
+        let marked = octets.simd_eq(u8x16::splat(b'.')) | octets.simd_eq(u8x16::splat(b'\\'));
+        (unprintable | marked).to_bitmask()
     }
 }
 

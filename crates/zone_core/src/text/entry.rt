@@ -8,17 +8,13 @@ ghost use Rattle.zone_core.specs.Entry.{texts_of, OnText, error_of_name, StartsW
 ghost use Rattle.zone_core.specs.declared.text.entry.EntryError.TheVariants as entry_error;
 
 use crate::owned_record::OwnedRecord;
-use crate::record::FIXED_OCTETS;
 use crate::text::blank::{RowStart, skip_row};
 use crate::text::number::parse_number;
 use crate::text::rdata::append_rdata;
 use crate::text::word::split_words;
 use dns_name::{Class, FromStrError, Name, Rtype};
-use std::alloc::{AllocError, Global};
+use std::alloc::AllocError;
 use thiserror::Error;
-
-/// How many octets of data most records have: those of an address (RFC 1035 3.4.1).
-const ADDRESS_OCTETS: usize = 4;
 
 /// Why no entry was read.
 #[derive(Clone, Copy, Debug, PartialEq, Eq, Error)]
@@ -52,9 +48,10 @@ impl From<FromStrError> for EntryError {
 
 /// The next record of the text, of the class, and the text behind its row; None where the text ends.
 ///
-/// Rows without tokens are no entries. Any other row has to be a record in its plainest form (`PlainRow`, `RecordWords`).
+/// Rows without tokens are no entries. Any other row has to be a record in its plainest form (`PlainRow`, `RecordWords`). The
+/// record's octets take the place of what the spare vector holds, so that one piece of memory serves many records.
 pub(crate) fn next_record(
-    alloc: Global,
+    spare: Vec<u8>,
     text: &[u8],
     class: Class,
 ) -> Result<Option<(OwnedRecord, &[u8])>, EntryError>
@@ -67,14 +64,14 @@ pub(crate) fn next_record(
         match skip_row(rest) {
             RowStart::Empty(behind) => rest = behind,
             RowStart::End => return Ok(None),
-            RowStart::Tokens => return Ok(Some(split_record(alloc, rest, class)?)),
+            RowStart::Tokens => return Ok(Some(split_record(spare, rest, class)?)),
         }
     }
 }
 
 /// The record at the front of the text, and the text behind its row.
 fn split_record(
-    alloc: Global,
+    spare: Vec<u8>,
     text: &[u8],
     class: Class,
 ) -> Result<(OwnedRecord, &[u8]), EntryError>
@@ -85,12 +82,12 @@ fn split_record(
         return Err(EntryError::Text);
     }
     let (words, rest) = split_words(text).ok_or(EntryError::Text)?;
-    let record = parse_record(alloc, words.as_slice(), class)?;
+    let record = parse_record(spare, words.as_slice(), class)?;
     Ok((record, rest))
 }
 
-/// The record of the class that the words spell.
-fn parse_record(alloc: Global, words: &[&[u8]], class: Class) -> Result<OwnedRecord, EntryError>
+/// The record of the class that the words spell, its octets in the place of what the spare vector holds.
+fn parse_record(spare: Vec<u8>, words: &[&[u8]], class: Class) -> Result<OwnedRecord, EntryError>
     ensures ok { IfOk result (λ r. RecordWords class (texts_of words.now) r) }
     ensures err { IfErr result (λ e. OnText e ((r : spec.Record) → RecordWords class (texts_of words.now) r → ⊥)) }
 {
@@ -103,12 +100,12 @@ fn parse_record(alloc: Global, words: &[&[u8]], class: Class) -> Result<OwnedRec
     }
     let ttl = parse_number(front[1]).ok_or(EntryError::Text)?;
     let rtype = Rtype::from_bytes(front[3]).ok_or(EntryError::Text)?;
-    let room = FIXED_OCTETS + ADDRESS_OCTETS;
-    let owner = Name::absolute_from_text_with_room(alloc, front[0], room)?;
-    let owner_len = owner.len();
-    let mut octets = owner.into_octets();
+    let mut octets = spare;
+    octets.clear();
+    Name::append_absolute_text(&mut octets, front[0])?;
+    let owner_len = octets.len();
     append_fields(&mut octets, rtype, class, ttl)?;
-    append_rdata(&mut octets, alloc, rtype, data_words)?;
+    append_rdata(&mut octets, rtype, data_words)?;
     Ok(OwnedRecord::of_octets(octets, owner_len))
 }
 

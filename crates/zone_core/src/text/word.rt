@@ -1,12 +1,12 @@
 //! Words, which are unquoted tokens, and rows of them (RFC 1035 5.1).
 ghost use Rattle.std.specs.Prelude.{◌<◌, ◌≤◌, ◌↔◌, List, ℕ, false, length, IsTrue, IfSome, IfNone};
-ghost use Rattle.std.specs.List.{AllByRecursion};
 ghost use Rattle.dns_text.specs.Tokens.{EndsToken, IsRun, Stands};
 ghost use Rattle.dns_zonefile.specs.PlainRow.{Words};
-ghost use Rattle.zone_core.specs.Entry.{texts_of, IsPlainOctet, StartsWithPlain, StartsWithSymbol, StartsWithSpaces};
+ghost use Rattle.zone_core.specs.Entry.{texts_of, is_plain_octet, StartsWithPlain, StartsWithSymbol, StartsWithSpaces};
 
 use arrayvec::ArrayVec;
-use dns_name::Symbol;
+use dns_name::{OctetKind, Symbol, run_end};
+use std::simd::prelude::*;
 
 /// The words of a row. An SOA record has the most.
 pub(crate) type RowWords<'t> = ArrayVec<&'t [u8], 11>;
@@ -38,15 +38,9 @@ pub(crate) fn split_word(text: &[u8]) -> Option<(&[u8], &[u8])>
     ensures found { IfSome result (λ found. IsRun false text.now found.0.now found.1.now × (0 < length found.0.now)) }
     ensures none { IfNone result (EndsToken false text.now) }
 {
-    let mut rest = skip_plain_chunks(text);
-    while let Some((&octet, behind)) = rest.split_first() {
-        if is_plain(octet) {
-            rest = behind;
-        } else if let Some(after) = skip_symbol(rest) {
-            rest = after;
-        } else {
-            break;
-        }
+    let mut rest = skip_plain(text);
+    while let Some(behind) = skip_symbol(rest) {
+        rest = skip_plain(behind);
     }
     let len = text.len() - rest.len();
     if len == 0 {
@@ -56,39 +50,28 @@ pub(crate) fn split_word(text: &[u8]) -> Option<(&[u8], &[u8])>
     }
 }
 
-/// The text behind plain octets in front, which are skipped by chunks of eight; up to seven more of them may be left. A word's
-/// end is looked for behind them, so that how many are skipped changes no answer.
-///
-/// Most octets of a zone are plain, and LLVM judges the eight of a chunk at once.
-fn skip_plain_chunks(text: &[u8]) -> &[u8]
+/// The text behind the plain octets in front, sixteen of which are looked at together: most octets of a zone are plain.
+fn skip_plain(text: &[u8]) -> &[u8]
     ensures { StartsWithPlain text.now result.now }
 {
-    let mut rest = text;
-    while let Some((chunk, behind)) = rest.split_first_chunk::<8>() {
-        if !are_plain(chunk) {
-            break;
-        }
-        rest = behind;
-    }
-    rest
+    &text[run_end::<PlainOctets>(text, 0)..]
 }
 
-/// Whether each of the octets is plain. There is no early exit, so that LLVM makes vectors of the loop.
-fn are_plain(octets: &[u8; 8]) -> bool
-    ensures { IsTrue result ↔ AllByRecursion IsPlainOctet octets.now }
-{
-    let mut plain = true;
-    for &octet in octets {
-        plain &= is_plain(octet);
-    }
-    plain
-}
+/// Octets that stand in a word by themselves, and are from the asterisk on, as letters and digits are.
+struct PlainOctets;
 
-/// Whether the octet is from the asterisk on, and stands in a word by itself, as letters and digits do.
-fn is_plain(octet: u8) -> bool
-    ensures { IsTrue result ↔ IsPlainOctet octet }
-{
-    matches!(octet, b'*'..=b'~') && octet != b';' && octet != b'\\'
+impl OctetKind for PlainOctets {
+    ghost has = { is_plain_octet };
+
+    fn has(octet: u8) -> bool {
+        matches!(octet, b'*'..=b'~') && octet != b';' && octet != b'\\'
+    }
+
+    fn others(octets: u8x16) -> u64 {
+        let outside = octets.simd_lt(u8x16::splat(b'*')) | octets.simd_gt(u8x16::splat(b'~'));
+        let marked = octets.simd_eq(u8x16::splat(b';')) | octets.simd_eq(u8x16::splat(b'\\'));
+        (outside | marked).to_bitmask()
+    }
 }
 
 /// The text behind a symbol that may stand in a word.

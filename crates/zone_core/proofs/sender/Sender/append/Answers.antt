@@ -16,6 +16,6 @@ returns-clause-whole c = λ query front group mark count r is stands.
     let is_for = stands.is_for in
     let len_is : c.len.result - c.args.start ≡ length c.extend_from_slice.new.self.items - c.args.start = omega arith in
     appended c.args.self.now _ query c.args.start front group mark count r
-    c.extend_from_slice.new.self.items c.patch.new.stream.items (c.len.result - c.args.start) (c.args.self.now.answers + 1)
+    c.extend_from_slice.new.self.items c.put_number.new.octets.items (c.len.result - c.args.start) (c.args.self.now.answers + 1)
     stands (record { small = is_for.small; name = is_for.name; opening = is_for.opening }) stands.last refl refl
-    (c.in_ok-extend_from_slice.ensures.items ∙ ap (λ l. c.args.self.now.stream.items ++ l) is) len_is c.patch.ensures c.patch-2.ensures
+    (c.in_ok-extend_from_slice.ensures.items ∙ ap (λ l. c.args.self.now.stream.items ++ l) is) len_is c.put_number.ensures c.put_number-2.ensures
