@@ -11,7 +11,7 @@ use crate::owned_record::OwnedRecord;
 use crate::text::blank::{RowStart, skip_row};
 use crate::text::number::parse_number;
 use crate::text::rdata::append_rdata;
-use crate::text::word::split_words;
+use crate::text::word::{RowWords, split_words};
 use dns_name::{Class, FromStrError, Name, Rtype};
 use std::alloc::AllocError;
 use thiserror::Error;
@@ -81,7 +81,8 @@ fn split_record(
     if text.first() == Some(&b'$') {
         return Err(EntryError::Text);
     }
-    let (words, rest) = split_words(text).ok_or(EntryError::Text)?;
+    let mut words = RowWords::new();
+    let rest = split_words(text, &mut words).ok_or(EntryError::Text)?;
     let record = parse_record(spare, words.as_slice(), class)?;
     Ok((record, rest))
 }

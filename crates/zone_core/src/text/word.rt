@@ -11,21 +11,22 @@ use std::simd::prelude::*;
 /// The words of a row. An SOA record has the most.
 pub(crate) type RowWords<'t> = ArrayVec<&'t [u8], 11>;
 
-/// The words of the row at the front, with spaces between them, and the text behind its line feed.
+/// Splits the row at the front, which has spaces between its words, and gives the text behind its line feed. The words take the
+/// place of those that are there.
 ///
 /// None where no such row stands there, and where it has more than 11 words.
-pub(crate) fn split_words(text: &[u8]) -> Option<(RowWords<'_>, &[u8])>
-    ensures found { IfSome result (λ found. Words text.now (texts_of found.0.items) found.1.now) }
+pub(crate) fn split_words<'t>(text: &'t [u8], words: &mut RowWords<'t>) -> Option<&'t [u8]>
+    ensures found { IfSome result (λ rest. Words text.now (texts_of words.new.items) rest.now) }
     ensures none { IfNone result ((words : List (List ℕ)) (rest : List ℕ) → length words ≤ 11 → Words text.now words rest → ⊥) }
 {
-    let mut words = ArrayVec::new();
+    words.clear();
     let mut rest = text;
     while !words.is_full() {
         let (word, behind) = split_word(rest)?;
         words.push(word);
         let (&octet, after) = behind.split_first()?;
         match octet {
-            b'\n' => return Some((words, after)),
+            b'\n' => return Some(after),
             b' ' => rest = skip_spaces(after),
             _ => return None,
         }

@@ -3,8 +3,8 @@ use Rattle.zone_core.specs.Entry.{texts_of}
 use Rattle.zone_core.proofs.WordRows.{Split}
 use Rattle.zone_core.proofs.text.word.split_words.Given as goal
 
-abbrev pub invariant-loop-words : goal.invariant-loop-words
-invariant-loop-words l = Split l.text (texts_of l.words.items) l.rest
+abbrev pub invariant-loop-rest : goal.invariant-loop-rest
+invariant-loop-rest l = Split l.text (texts_of l.words.items) l.rest
 
-abbrev pub decreases-loop-words : goal.decreases-loop-words
-decreases-loop-words l = length l.rest
+abbrev pub decreases-loop-rest : goal.decreases-loop-rest
+decreases-loop-rest l = length l.rest
