@@ -12,7 +12,7 @@ use dns_name::{Class, Name, Parser, Rtype, ToName, Ttl};
 use std::marker::Model;
 
 /// The octets of a record besides its owner and its data: type, class, TTL and length (RFC 1035 3.2.1).
-pub(crate) const FIXED_OCTETS: usize = 10;
+const FIXED_OCTETS: usize = 10;
 
 /// A record (RFC 1035 3.2.1), lent from where its octets are.
 #[derive(Debug, Drop)]
