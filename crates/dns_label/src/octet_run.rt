@@ -21,7 +21,8 @@ pub trait OctetKind {
         ensures { result ≡ mask_l (map (λ octet. not (has octet)) octets) };
 }
 
-/// Where the octets of the kind end that stand one behind the other from a place on.
+/// Where the octets of the kind end that stand one behind the other from a place on: that place itself where none stands there,
+/// and the text's end where all that is left are of the kind.
 pub fn run_end<K: OctetKind>(text: &[u8], place: usize) -> usize
     requires { place ≤ length text.now }
     ensures end { result ≡ place + prefix_len K.has (drop place text.now) }

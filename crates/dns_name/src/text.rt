@@ -202,7 +202,7 @@ impl Name<Vec<u8>> {
         Ok(Name::from_octets_unchecked(octets))
     }
 
-    /// Appends the octets of that name, its wire form (RFC 1035 3.1).
+    /// Appends the octets of the name that `absolute_from_text` reads from these octets of text: its wire form (RFC 1035 3.1).
     ///
     /// Refused as `absolute_from_text` is, and then nothing is appended.
     pub fn append_absolute_text(octets: &mut Vec<u8>, text: &[u8]) -> Result<(), FromStrError>

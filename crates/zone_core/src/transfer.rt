@@ -42,9 +42,10 @@ pub fn send(
     send_into(alloc, Vec::new(alloc), zone, query, max, spelling)
 }
 
-/// The same stream, made in the memory of a vector whose octets are no longer needed: it takes their place.
+/// The stream that `send` gives (RFC 5936 2.2), in the place of the octets that a vector holds, which are no longer needed: so a
+/// zone may be sent in the memory that its text had.
 ///
-/// So a zone may be sent in the memory that its text had. Where this is refused, the vector is let go of.
+/// Refused as `send` is; the vector is let go of then.
 pub fn send_into(
     alloc: Global,
     spare: Vec<u8>,
