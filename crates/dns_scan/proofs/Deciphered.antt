@@ -3,10 +3,10 @@ use Rattle.std.proofs.Common.{◌≡◌, ℕ, false, List, [], ◌∷◌, ◌++�
 use Rattle.std.proofs.lemmas.List.{map_push}
 use Rattle.dns_label.specs.declared.symbol.Symbol.{Symbol}
 use Rattle.dns_label.specs.declared.symbol.Symbol.TheVariants.{Char}
-use Rattle.dns_scan.specs.declared.base.Base.{Base}
-use Rattle.dns_scan.specs.declared.decode_error.DecodeError.{DecodeError}
-use Rattle.dns_scan.specs.declared.entry_symbol.EntrySymbol.{EntrySymbol}
-use Rattle.dns_scan.specs.declared.entry_symbol.EntrySymbol.TheVariants.{Symbol as Within, EndOfToken}
+use Rattle.dns_scan.specs.declared.encoding.base.Base.{Base}
+use Rattle.dns_scan.specs.declared.encoding.decode_error.DecodeError.{DecodeError}
+use Rattle.dns_scan.specs.declared.symbols.entry_symbol.EntrySymbol.{EntrySymbol}
+use Rattle.dns_scan.specs.declared.symbols.entry_symbol.EntrySymbol.TheVariants.{Symbol as Within, EndOfToken}
 use Rattle.dns_scan.specs.Base.{Decodes}
 use Rattle.dns_scan.specs.Converted.{Deciphers, HasDeciphered}
 use Rattle.dns_scan.specs.Decoding.{Held, HasRead, IsWhole, WhyRefused, progress_of}

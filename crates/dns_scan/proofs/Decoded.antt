@@ -4,13 +4,13 @@ use Rattle.std.specs.Prelude.{None, ◌⊎◌}
 use Rattle.std.specs.List.{AllByRecursion}
 use Rattle.std.proofs.Math.Nat.{suc-mul}
 use Rattle.std.proofs.lemmas.List.{map_push, length-replicate, length-map, replicate_more}
-use Rattle.dns_scan.specs.declared.base.Base.{Base}
-use Rattle.dns_scan.specs.declared.base.Base.TheVariants.{Sixteen, ThirtyTwoHex, SixtyFour}
+use Rattle.dns_scan.specs.declared.encoding.base.Base.{Base}
+use Rattle.dns_scan.specs.declared.encoding.base.Base.TheVariants.{Sixteen, ThirtyTwoHex, SixtyFour}
 use Rattle.dns_scan.specs.Bits.{bits, all_bits}
 use Rattle.dns_scan.specs.StringText.{IsOctet}
 use Rattle.dns_scan.specs.Base.{width, size, digit, IsCharacter, Groups, Decodes}
-use Rattle.dns_scan.specs.declared.decode_error.DecodeError.{DecodeError}
-use Rattle.dns_scan.specs.declared.decode_error.DecodeError.TheVariants.{IllegalChar, TrailingInput, ShortInput, ShortBuf}
+use Rattle.dns_scan.specs.declared.encoding.decode_error.DecodeError.{DecodeError}
+use Rattle.dns_scan.specs.declared.encoding.decode_error.DecodeError.TheVariants.{IllegalChar, TrailingInput, ShortInput, ShortBuf}
 use Rattle.dns_scan.specs.ScanError.{is_want_of_room}
 use Rattle.dns_scan.specs.Decoding.{Progress, HasRead, IsWhole, MayBePadded, NoneGoesOn, NoneIs, WhyRefused, WhyNoText}
 use Rattle.dns_scan.proofs.BitLists.{length-bits}

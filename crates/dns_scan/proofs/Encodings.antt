@@ -6,8 +6,8 @@ use Rattle.std.proofs.lemmas.Bool.Decides.{nat_tests}
 use Rattle.std.proofs.lemmas.Str.{chars-IsAscii}
 use Rattle.std.specs.Str.{chars, IsAscii}
 use Rattle.std.proofs.lemmas.List.{length-replicate}
-use Rattle.dns_scan.specs.declared.base.Base.{Base}
-use Rattle.dns_scan.specs.declared.base.Base.TheVariants.{Sixteen, ThirtyTwoHex, SixtyFour}
+use Rattle.dns_scan.specs.declared.encoding.base.Base.{Base}
+use Rattle.dns_scan.specs.declared.encoding.base.Base.TheVariants.{Sixteen, ThirtyTwoHex, SixtyFour}
 use Rattle.dns_scan.specs.Bits.{bits, all_bits, grouped, padded_number, numbers_of, number_of}
 use Rattle.dns_scan.specs.StringText.{IsOctet}
 use Rattle.dns_scan.specs.Base.{width, size, character, digit, hex_character, character_64, digit_64, IsCharacter, Groups, IsTextOf, Decodes, DecodesOnly, characters_of, encoded, padding}

@@ -7,7 +7,7 @@ use Rattle.std.proofs.lemmas.List.{map_push}
 use Rattle.dns_name.proofs.Parts.{symbol_one, spelled_some}
 use Rattle.dns_scan.specs.StringText.{Spells, IsStringText}
 use Rattle.dns_scan.specs.Refused.{BeginsWith, HasFault}
-use Rattle.dns_scan.specs.declared.string_text.PresentationError.TheVariants.{BadSymbol, LongString}
+use Rattle.dns_scan.specs.declared.char_str.text.PresentationError.TheVariants.{BadSymbol, LongString}
 
 -- the text spells what was taken of it, and then what the rest spells, and nothing else
 pub record Reading (text rest taken : List ℕ) : Type 0 where

@@ -1,10 +1,10 @@
 -- A text while it is decoded.
 use Rattle.std.specs.Prelude.{◌≡◌, ◌*◌, ◌<◌, ◌≤◌, ◌+◌, ◌⊎◌, ℕ, List, [], ◌∷◌, ◌++◌, length, map, replicate, Option, None, Some}
 use Rattle.std.specs.List.{AllByRecursion}
-use Rattle.dns_scan.specs.declared.base.Base.{Base}
-use Rattle.dns_scan.specs.declared.base.Base.TheVariants.{Sixteen, ThirtyTwoHex, SixtyFour}
-use Rattle.dns_scan.specs.declared.decode_error.DecodeError.{DecodeError}
-use Rattle.dns_scan.specs.declared.decode_error.DecodeError.TheVariants.{IllegalChar, TrailingInput, ShortInput, ShortBuf}
+use Rattle.dns_scan.specs.declared.encoding.base.Base.{Base}
+use Rattle.dns_scan.specs.declared.encoding.base.Base.TheVariants.{Sixteen, ThirtyTwoHex, SixtyFour}
+use Rattle.dns_scan.specs.declared.encoding.decode_error.DecodeError.{DecodeError}
+use Rattle.dns_scan.specs.declared.encoding.decode_error.DecodeError.TheVariants.{IllegalChar, TrailingInput, ShortInput, ShortBuf}
 use Rattle.dns_scan.specs.Bits.{all_bits}
 use Rattle.dns_scan.specs.StringText.{IsOctet}
 use Rattle.dns_scan.specs.Base.{width, digit, IsCharacter, Decodes}

@@ -4,10 +4,10 @@ use Rattle.std.specs.List.{AllByRecursion, flat_map}
 use Rattle.dns_label.specs.declared.symbol.Symbol.{Symbol}
 use Rattle.dns_label.specs.Symbol.{IsSymbol, octet, spelled}
 use Rattle.dns_scan.specs.StringText.{IsStringText}
-use Rattle.dns_scan.specs.declared.string_text.FromStrError.{FromStrError}
-use Rattle.dns_scan.specs.declared.string_text.FromStrError.TheVariants.{Presentation, ShortBuf}
-use Rattle.dns_scan.specs.declared.string_text.PresentationError.{PresentationError}
-use Rattle.dns_scan.specs.declared.string_text.PresentationError.TheVariants.{BadSymbol, LongString}
+use Rattle.dns_scan.specs.declared.char_str.text.FromStrError.{FromStrError}
+use Rattle.dns_scan.specs.declared.char_str.text.FromStrError.TheVariants.{Presentation, ShortBuf}
+use Rattle.dns_scan.specs.declared.char_str.text.PresentationError.{PresentationError}
+use Rattle.dns_scan.specs.declared.char_str.text.PresentationError.TheVariants.{BadSymbol, LongString}
 
 -- the text begins with symbols that stand for these octets, and the rest is behind them
 pub record BeginsWith (text octets rest : List ℕ) : Type 0 where

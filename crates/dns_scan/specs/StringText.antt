@@ -4,8 +4,8 @@ use Rattle.std.specs.List.{AllByRecursion, flat_map}
 use Rattle.dns_label.specs.declared.symbol.Symbol.{Symbol}
 use Rattle.dns_label.specs.declared.symbol.Symbol.TheVariants.{Char, SimpleEscape, DecimalEscape}
 use Rattle.dns_label.specs.Symbol.{IsSymbol, octet, spelled}
-use Rattle.dns_scan.specs.declared.string_text.Style.{Style}
-use Rattle.dns_scan.specs.declared.string_text.Style.TheVariants.{Plain, Quoted, Unquoted}
+use Rattle.dns_scan.specs.declared.char_str.text.Style.{Style}
+use Rattle.dns_scan.specs.declared.char_str.text.Style.TheVariants.{Plain, Quoted, Unquoted}
 
 -- the text is of symbols, which stand for the octets
 pub record Spells (text octets : List ℕ) : Type 0 where

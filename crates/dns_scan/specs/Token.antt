@@ -1,5 +1,5 @@
 -- Tokens of a text that is scanned (RFC 1035 5.1).
-use Rattle.std.specs.Prelude.{◌≡◌, ◌↔◌, ◌==◌, ◌&&◌, ℕ, Bool, true, false, not, nat_le, List, [], ◌∷◌, ◌++◌}
+use Rattle.std.specs.Prelude.{◌≡◌, ◌↔◌, ◌==◌, ◌||◌, ◌&&◌, ℕ, Bool, true, false, not, nat_le, List, [], ◌∷◌, ◌++◌}
 use Rattle.std.specs.List.{list_all}
 use Rattle.dns_scan.specs.CharStr.{string_wire}
 use Rattle.dns_scan.specs.StringText.{Spells, IsStringText}
@@ -23,6 +23,16 @@ pub record Takes (Fits : Token → Type 0) (before left : List Token) : Type 0 w
   pub token : Token
   pub is : before ≡ token ∷ left
   pub fits : Fits token
+
+-- white space: a space, a tab, a line feed, a carriage return
+abbrev pub is_white : ℕ → Bool
+is_white octet = (octet == 32) || ((octet == 9) || ((octet == 10) || (octet == 13)))
+
+-- the octets before a token end with white space
+abbrev pub ends_white : List ℕ → Bool
+ends_white [] = false
+ends_white (octet ∷ []) = is_white octet
+ends_white (_ ∷ octet ∷ octets) = ends_white (octet ∷ octets)
 
 -- the token's text
 abbrev pub HasText : List ℕ → Token → Type 0

@@ -11,15 +11,22 @@ ghost use Rattle.dns_octets.specs.declared.error.ParseError.TheVariants.{ShortIn
 ghost use Rattle.dns_scan.specs.CharStr.{string_wire, StartsWithString, lower};
 ghost use Rattle.dns_octets.specs.Parser.{GoesOn, rest_of};
 
-use crate::CharStrIter;
+mod builder;
+mod iter;
+mod text;
+
+pub use builder::CharStrBuilder;
 use dns_name::{
     AppendError, CanonicalOrd, Compose, EmptyBuilder, FromBuilder, Octets, OctetsBuilder,
     OctetsFrom, ParseError, Parser,
 };
+pub use iter::CharStrIter;
 use std::alloc::Global;
 use std::cmp::Ordering;
 use std::hash::{Hash, Hasher};
 use std::marker::Model;
+pub(crate) use text::octet_of;
+pub use text::{DisplayQuoted, DisplayUnquoted, FromStrError, PresentationError};
 use thiserror::Error;
 
 /// The octets are more than the 255 of a character string.

@@ -2,7 +2,18 @@
 ghost use Rattle.std.specs.Prelude.{◌≡◌, List, false, IfOk, IfErr, OnErr};
 ghost use Rattle.dns_scan.specs.Token.{Token, IsEnding, SameNames};
 
-use crate::Scanner;
+mod iter_scanner;
+mod numbers;
+mod scanner;
+mod scanner_error;
+mod spelled;
+mod unknown_data;
+mod values;
+
+pub use iter_scanner::IterScanner;
+pub use scanner::Scanner;
+pub use scanner_error::{ScannerError, StrError};
+pub use unknown_data::{scan_unknown_octets, scan_without_marker};
 
 /// A value that is read from the tokens of an entry.
 ///
