@@ -157,7 +157,7 @@ unpadded base progress text other read =
     ∙ ap (λ n. read.characters ++ replicate n 61) (no_pads base progress.pads (length progress.waiting) read.padded other)
     ∙ append-nil read.characters
 
--- behind a pad nothing but pads may stand
+-- after a pad nothing but pads may stand
 pub nothing_behind_pads : (base : Base) (old : Progress) (c : ℕ) → 0 < old.pads → (base ≡ SixtyFour → c ≡ 61 → ⊥) → NoneGoesOn base old c
 nothing_behind_pads Sixteen old c some other text more octets read decodes =
     let none = no_pads Sixteen old.pads (length old.waiting) read.padded (λ same. cc) in absurd (omega arith)
@@ -277,7 +277,7 @@ not_whole SixtyFour progress text read short octets decodes =
     let little = decodes.groups.little in
     short (omega arith, omega arith)
 
--- in front of a text
+-- before a text
 pub read_none : (base : Base) (progress : Progress) → progress ≡ record { octets = []; waiting = []; pads = 0; error = None } → HasRead base progress []
 read_none base progress is = subst (λ p. HasRead base p []) (sym is) none
   where

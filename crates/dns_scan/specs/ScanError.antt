@@ -1,4 +1,4 @@
--- Which errors of decoding are want of room or memory.
+-- Which errors of decoding say that there is no room or no memory.
 use Rattle.std.specs.Prelude.{Bool, true, false}
 use Rattle.dns_scan.specs.declared.encoding.decode_error.DecodeError.{DecodeError}
 use Rattle.dns_scan.specs.declared.encoding.decode_error.DecodeError.TheVariants.{IllegalChar, TrailingInput, ShortInput, ShortBuf}

@@ -16,7 +16,7 @@ pub record AreWritten (symbols : List Symbol) (text : List ℕ) : Type 0 where
 abbrev pub HasSymbols : List Symbol → Token → Type 0
 HasSymbols symbols token = AreWritten symbols token.text
 
--- a token's symbols in an entry, with the mark behind them
+-- a token's symbols in an entry, and then the mark
 abbrev pub marked : List Symbol → List EntrySymbol
 marked symbols = map Within symbols ++ EndOfToken ∷ []
 

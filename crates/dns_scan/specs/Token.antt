@@ -58,7 +58,7 @@ IsWord text token = (token ≡ unquoted text) × (list_all is_plain text ≡ tru
 abbrev pub marker : Token
 marker = unquoted (92 ∷ 35 ∷ [])
 
--- each of the tokens has a piece, and the pieces one behind the other are the whole
+-- each of the tokens has a piece, and the pieces one after another are the whole
 abbrev pub IsEntry : {A : Type 0} → (List A → Token → Type 0) → List Token → List A → Type 0
 IsEntry IsPiece [] whole = whole ≡ []
 IsEntry {A} IsPiece (token ∷ tokens) whole =

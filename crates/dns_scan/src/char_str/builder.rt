@@ -18,7 +18,7 @@ pub struct CharStrBuilder<Builder: OctetsBuilder> {
 impl CharStrBuilder<Vec<u8>> {
     ghost use Rattle.dns_scan.specs.CharStrBuilder.{octets_in};
 
-    /// No octets yet, in a vector that grows on this allocator.
+    /// Returns a string without octets, in a vector that grows on this allocator.
     pub fn new_vec(alloc: Global) -> Self
         ensures { octets_in (λ octets. octets.items) result ≡ [] }
     {
@@ -29,7 +29,7 @@ impl CharStrBuilder<Vec<u8>> {
 impl<Builder: OctetsBuilder> CharStrBuilder<Builder> {
     ghost use Rattle.dns_scan.specs.CharStrBuilder.{octets_in};
 
-    /// No octets yet; what they go to grows on this allocator, if it grows at all.
+    /// Returns a string without octets. Its target grows on this allocator, if it grows at all.
     pub fn new(alloc: Global) -> Self
     where
         Builder: EmptyBuilder,
@@ -40,8 +40,8 @@ impl<Builder: OctetsBuilder> CharStrBuilder<Builder> {
         }
     }
 
-    /// No octets yet, and room for so many. Refused with `ShortBuf` only where what they go to may not hold them, and with
-    /// `OutOfMemory` where the memory was refused.
+    /// Returns a string without octets that has room for `capacity` of them. Fails with `ShortBuf` only if its target may not
+    /// hold them, and with `OutOfMemory` if out of memory.
     pub fn with_capacity(alloc: Global, capacity: usize) -> Result<Self, AppendError>
     where
         Builder: EmptyBuilder,
@@ -55,7 +55,7 @@ impl<Builder: OctetsBuilder> CharStrBuilder<Builder> {
         })
     }
 
-    /// Goes on with what the builder holds. Refused past 255 octets.
+    /// Goes on with what the builder holds. Fails if that is more than 255 octets.
     pub fn from_builder(builder: Builder) -> Result<Self, CharStrError>
     where
         Builder: Drop,

@@ -79,7 +79,7 @@ impl<'a> Model for DisplayUnquoted<'a> {
 }
 
 impl<Octs: Octets> CharStr<Octs> {
-    /// What shows the string between quotes: the quote and the backslash stand behind a backslash, and octets outside 0x20
+    /// Returns what shows the string between quotes. A backslash stands before each quote and backslash; octets outside 0x20
     /// to 0x7E are a backslash and three digits.
     pub fn display_quoted(&self) -> DisplayQuoted<'_>
         ensures { result ≡ self.now }
@@ -89,9 +89,9 @@ impl<Octs: Octets> CharStr<Octs> {
         }
     }
 
-    /// What shows the string as a word: the space, the quote, the parentheses, the semicolon and the backslash stand behind
-    /// a backslash, and octets outside 0x20 to 0x7E are a backslash and three digits. The string without octets shows as no
-    /// text, which is no token.
+    /// Returns what shows the string as a word. A backslash stands before each space, quote, parenthesis, semicolon and
+    /// backslash; octets outside 0x20 to 0x7E are a backslash and three digits. The string without octets shows as no text,
+    /// which is no token.
     pub fn display_unquoted(&self) -> DisplayUnquoted<'_>
         ensures { result ≡ self.now }
     {
@@ -100,11 +100,11 @@ impl<Octs: Octets> CharStr<Octs> {
         }
     }
 
-    /// The string that a text spells: each symbol stands for an octet, the plain space, quote, parentheses and semicolon
-    /// too.
+    /// Returns the string that a text spells. Each symbol stands for an octet, the plain space, quote, parentheses and
+    /// semicolon too.
     ///
-    /// Refused by the first part of the text that is no symbol, or by a 256th symbol, whichever comes first; and where there
-    /// is no room or no memory for the string.
+    /// Fails with `BadSymbol` at the first part of the text that is no symbol, or with `LongString` at a 256th symbol,
+    /// whichever comes first; and with `ShortBuf` if there is no room or no memory for the string.
     pub fn from_str(alloc: Global, text: &str) -> Result<Self, FromStrError>
     where
         Octs: FromBuilder,
@@ -132,7 +132,7 @@ struct Taken {
 }
 
 impl Taken {
-    /// What the text spells.
+    /// Reads the octets that the text spells.
     fn read(text: &[u8]) -> Result<Taken, PresentationError>
         ensures ok { IfOk result (λ taken. Spells text.now (take taken.len taken.octets)) }
         ensures err { IfErr result (λ error. IsRefused text.now (Presentation error)) }
@@ -155,7 +155,7 @@ impl Taken {
     }
 }
 
-/// The octet that a symbol stands for.
+/// Returns the octet that a symbol stands for.
 pub(crate) fn octet_of(symbol: Symbol) -> u8
     requires { IsSymbol symbol }
     ensures { result ≡ octet symbol }
@@ -166,8 +166,7 @@ pub(crate) fn octet_of(symbol: Symbol) -> u8
     }
 }
 
-/// Shows the plain text: the backslash stands behind another, and octets outside 0x20 to 0x7E are a backslash and three
-/// digits.
+/// Shows the plain text: each backslash is written twice, and octets outside 0x20 to 0x7E are a backslash and three digits.
 impl<Octs: Octets> fmt::Display for CharStr<Octs> {
     ghost output = { λ string. Some (plain_text string) };
 
@@ -229,7 +228,7 @@ fn write_symbol<W: fmt::Write>(f: &mut fmt::Formatter<W>, symbol: Symbol) -> fmt
 }
 
 impl Style {
-    /// The symbol that stands for the octet.
+    /// Returns the symbol that stands for the octet.
     fn symbol(self, octet: u8) -> Symbol
         ensures is { result ≡ symbol_of self octet }
         ensures symbol { IsSymbol result }
@@ -241,7 +240,7 @@ impl Style {
         }
     }
 
-    /// Whether the character stands behind a backslash.
+    /// Returns whether the character is written after a backslash.
     fn escapes(self, octet: u8) -> bool
         ensures { result ≡ is_escaped self octet }
     {

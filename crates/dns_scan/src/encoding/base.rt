@@ -15,7 +15,7 @@ pub enum Base {
 }
 
 impl Base {
-    /// How many bits a character stands for.
+    /// Returns how many bits a character stands for.
     pub(crate) fn width(self) -> u32
         ensures { result ≡ width self }
     {
@@ -26,7 +26,7 @@ impl Base {
         }
     }
 
-    /// The character of a number.
+    /// Returns the character of a number.
     pub(crate) fn character(self, number: u32) -> char
         requires { number < size self }
         ensures is { result ≡ character self number }
@@ -39,7 +39,7 @@ impl Base {
         }
     }
 
-    /// The number of a character, in base 16 and 32 in either case, or None where it is not of the alphabet.
+    /// Returns the number of a character, in base 16 and 32 in either case, or None if it is not of the alphabet.
     pub(crate) fn digit(self, character: char) -> Option<u32>
         ensures found { IfSome result (λ number. (number ≡ digit self character) × (number < size self)) }
         ensures none { IfNone result (IsCharacter self character → ⊥) }
@@ -51,14 +51,14 @@ impl Base {
         }
     }
 
-    /// Whether the character is the one that fills up texts.
+    /// Returns whether the character is a pad.
     pub(crate) fn is_pad(self, character: char) -> bool
         ensures { IsTrue result ↔ ((self ≡ SixtyFour) × (character ≡ 61)) }
     {
         matches!(self, Base::SixtyFour) && character == '='
     }
 
-    /// What fills up a text of so many characters modulo four.
+    /// Returns the padding of a text of `count` characters modulo four.
     pub(crate) fn padding(self, count: u32) -> &'static str
         requires { count < 4 }
         ensures { result.now ≡ padding self count }
@@ -72,7 +72,7 @@ impl Base {
     }
 }
 
-/// The digit or capital of a number.
+/// Returns the digit or capital of a number.
 fn hex_character(number: u8) -> char
     requires { number < 32 }
     ensures is { result ≡ hex_character number }
@@ -84,7 +84,7 @@ fn hex_character(number: u8) -> char
     }
 }
 
-/// The capital, small letter, digit, plus or slash of a number.
+/// Returns the capital, small letter, digit, plus or slash of a number.
 fn character_64(number: u8) -> char
     requires { number < 64 }
     ensures is { result ≡ character_64 number }
@@ -99,7 +99,7 @@ fn character_64(number: u8) -> char
     }
 }
 
-/// The number of a capital, small letter, digit, plus or slash.
+/// Returns the number of a capital, small letter, digit, plus or slash.
 fn digit_64(character: char) -> Option<u32>
     ensures found { IfSome result (λ number. (number ≡ digit_64 character) × (number < 64)) }
     ensures none { IfNone result (digit_64 character < 64 → ⊥) }

@@ -31,14 +31,14 @@ impl Bits {
         }
     }
 
-    /// How many bits there are.
+    /// Returns how many bits there are.
     pub(crate) fn len(&self) -> u32
         ensures { result ≡ length self.now }
     {
         self.count
     }
 
-    /// Puts the bits of a number, so many, behind the others.
+    /// Appends the lowest `count` bits of a number, the highest of them first.
     pub(crate) fn push(&mut self, count: u32, number: u32)
         requires small { number < 2 ^ count }
         requires few { length self.old + count ≤ 16 }
@@ -48,7 +48,7 @@ impl Bits {
         self.count += count;
     }
 
-    /// Takes the number of the first bits, so many.
+    /// Takes the first `count` bits, and returns their number.
     pub(crate) fn take(&mut self, count: u32) -> u32
         requires { count ≤ length self.old }
         ensures taken { self.old ≡ bits count result ++ self.new }

@@ -7,7 +7,7 @@ pub enum DecodeError {
     /// This character is not of the alphabet, or is a pad where none may stand.
     #[error("illegal character '{0}'")]
     IllegalChar(char),
-    /// There is something behind the padding.
+    /// There is a character after the padding that may not stand there.
     #[error("trailing input")]
     TrailingInput,
     /// The text ends before a group of characters, or its padding, does.

@@ -22,7 +22,7 @@ impl<'a> Model for DisplayEncoded<'a> {
 }
 
 impl<'a> DisplayEncoded<'a> {
-    /// What shows the octets in this encoding.
+    /// Returns what shows the octets in this encoding.
     pub(crate) fn of(base: Base, octets: &'a [u8]) -> Self
         ensures { result ≡ encoded base octets.now }
     {

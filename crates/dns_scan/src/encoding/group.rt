@@ -28,7 +28,7 @@ impl Model for Group {
 }
 
 impl Group {
-    /// In front of a text.
+    /// Returns a group before its text.
     pub(crate) fn none() -> Self
         ensures { (base : Base) → HasRead base (progress_of [] result) [] }
     {
@@ -38,7 +38,7 @@ impl Group {
         }
     }
 
-    /// Takes the next character, and gives the octet that is whole with it, if any.
+    /// Takes the next character, and returns the octet that is whole with it, if any.
     pub(crate) fn take(&mut self, base: Base, character: char) -> Result<Option<u8>, DecodeError>
         ensures ok { IfOk result (λ octet. (octets text : List ℕ) → HasRead base (progress_of octets self.old) text
             → HasRead base (progress_of (octets ++ octet_in octet) self.new) (text ++ character ∷ [])) }
@@ -94,7 +94,7 @@ impl Group {
         Ok(Some(self.waiting.take(8) as u8))
     }
 
-    /// Whether a text may end here.
+    /// Returns whether a text may end here.
     pub(crate) fn is_whole(&self, base: Base) -> bool
         ensures { IsTrue result ↔ IsWhole base self.now.pads (length self.now.waiting) }
     {
@@ -102,7 +102,7 @@ impl Group {
     }
 }
 
-/// Whether one more pad may stand behind so many, where so many bits wait.
+/// Returns whether one more pad may follow these, where so many bits wait.
 fn pad_fits(pads: u32, bits: u32) -> bool
     requires { pads < 4 }
     ensures { IsTrue result ↔ ((bits < 6) × (2 * (pads + 1) ≤ bits)) }
@@ -110,7 +110,7 @@ fn pad_fits(pads: u32, bits: u32) -> bool
     bits < 6 && 2 * (pads + 1) <= bits
 }
 
-/// Whether a text may end where so many bits wait, behind so many pads.
+/// Returns whether a text may end after these pads, where so many bits wait.
 fn is_whole(base: Base, pads: u32, bits: u32) -> bool
     requires { pads < 4 }
     ensures { IsTrue result ↔ IsWhole base pads bits }

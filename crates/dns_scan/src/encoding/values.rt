@@ -23,7 +23,7 @@ impl<'a> Model for Values<'a> {
 }
 
 impl<'a> Values<'a> {
-    /// The numbers of the octets' groups.
+    /// Returns the numbers of the octets' groups.
     pub(crate) fn of(octets: &'a [u8], width: u32) -> Self
         requires some { 4 ≤ width }
         requires few { width ≤ 6 }
@@ -66,7 +66,7 @@ impl Iterator for Values<'_> {
     }
 }
 
-/// The first octet, and those behind it.
+/// Splits off the first octet.
 fn split_octet(octets: &[u8]) -> Option<(u32, &[u8])>
     ensures found { IfSome result (λ found. (found.0 < 2 ^ 8) × (octets.now ≡ found.0 ∷ found.1.now)) }
     ensures none { IfNone result (octets.now ≡ []) }

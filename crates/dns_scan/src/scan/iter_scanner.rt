@@ -15,7 +15,8 @@ use dns_name::{Compose, Name};
 use std::alloc::{AllocError, Global};
 use std::marker::Model;
 
-/// A scanner over texts, each of which is an unquoted token. There is no origin: a name may lack its last dot.
+/// A scanner over texts, each of which is an unquoted token. Nothing stands between them, so none follows white space. There is
+/// no origin: a name may lack its last dot.
 ///
 /// A contract sees it as the list of the tokens that are left.
 #[derive(Debug, Drop)]
@@ -35,7 +36,7 @@ impl<'a> Model for IterScanner<'a> {
 }
 
 impl<'a> IterScanner<'a> {
-    /// A scanner over the texts that the iterator gives. It and what is scanned grow on this allocator.
+    /// Returns a scanner over the texts of the iterator. It and what is scanned grow on this allocator. Fails if out of memory.
     pub fn new<I: Iterator<Item = &'a str>>(alloc: Global, texts: I) -> Result<Self, AllocError>
         requires can { I.can_next texts }
         requires finite { IsFinite (I.remaining texts) }
@@ -48,14 +49,14 @@ impl<'a> IterScanner<'a> {
         })
     }
 
-    /// Whether there are no tokens left.
+    /// Returns whether there are no tokens left.
     pub fn is_exhausted(&self) -> bool
         ensures { IsTrue result ↔ (self.now ≡ []) }
     {
         self.place == self.texts.len()
     }
 
-    /// The next token, which stays.
+    /// Returns the next token, which stays.
     fn peek(&self) -> Option<&'a str>
         ensures some { IfSome result (λ text. (left : List Token) × (self.now ≡ unquoted text.now ∷ left)) }
         ensures none { IfNone result (self.now ≡ []) }
@@ -66,7 +67,7 @@ impl<'a> IterScanner<'a> {
         Some(self.texts[self.place])
     }
 
-    /// The next token. Refused where there is none.
+    /// Takes the next token. Fails with `EndOfEntry` if there is none.
     fn next_text(&mut self) -> Result<&'a str, StrError>
         ensures ok { IfOk result (λ text. self.old ≡ unquoted text.now ∷ self.new) }
         ensures err { OnErr result ((self.old ≡ []) × (self.new ≡ [])) }
@@ -204,7 +205,7 @@ impl<'a> Scanner for IterScanner<'a> {
     }
 }
 
-/// The string that a text spells.
+/// Returns the string that a text spells.
 fn string_of(alloc: Global, text: &str) -> Result<CharStr<Vec<u8>>, StrError>
     ensures ok { IfOk result (λ string. IsStringText text.now string) }
     ensures err { IfErr result (λ error. is_short error ≡ false → (string : List ℕ) → IsStringText text.now string → ⊥) }
@@ -218,21 +219,21 @@ fn string_of(alloc: Global, text: &str) -> Result<CharStr<Vec<u8>>, StrError>
     }
 }
 
-/// Whether the text is that of the marker of data of an unknown type.
+/// Returns whether the text is that of the marker of data of an unknown type.
 fn is_marker(text: &str) -> bool
     ensures { IsTrue result ↔ (text.now ≡ 92 ∷ 35 ∷ []) }
 {
     matches!(text.as_bytes(), [b'\\', b'#'])
 }
 
-/// Whether these are printable characters other than the backslash.
+/// Returns whether these are printable characters other than the backslash.
 fn are_plain(text: &[u8]) -> bool
     ensures { result ≡ list_all is_plain text.now }
 {
     text.iter().all(|&octet| is_plain(octet))
 }
 
-/// Whether this is a printable character other than the backslash.
+/// Returns whether this is a printable character other than the backslash.
 fn is_plain(octet: u8) -> bool
     ensures { result ≡ is_plain octet }
 {

@@ -1,4 +1,4 @@
-//! Numbers as words: digits alone, zeros in front allowed.
+//! Numbers as words of digits, which may begin with zeros.
 ghost use Rattle.std.specs.Prelude.{◌≡◌, ◌^◌};
 ghost use Rattle.std.specs.Char.{is_ascii_digit};
 ghost use Rattle.std.specs.List.{list_all};
@@ -102,7 +102,7 @@ fn spelled_u128(text: &str) -> Option<u128>
     text.parse().ok()
 }
 
-/// Whether these are decimal digits alone.
+/// Returns whether these are decimal digits alone.
 fn are_digits(text: &str) -> bool
     ensures { result ≡ list_all is_ascii_digit text.now }
 {

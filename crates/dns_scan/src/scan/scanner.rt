@@ -14,14 +14,15 @@ use dns_name::{
     EmptyBuilder, FreezeBuilder, FromBuilder, Octets, OctetsBuilder, Remembers, Symbol, ToName,
 };
 
-/// What gives the tokens of an entry, one after another.
+/// A scanner over the tokens of an entry.
 ///
-/// `tokens` are those that are left, and `names` says which name a text spells here. Each call that scans takes the tokens
-/// of its value. Refused with an error other than `short_buf` only where there is no such value in front, and the tokens
-/// left are then an ending of those left before.
+/// `tokens` are those that are left, `names` says which name a text spells here, and `gap` are the octets of the text between
+/// the next token and the one before it, or the start of the row. Each call that scans takes the tokens of its value. It fails
+/// with an error other than `short_buf` only if the tokens do not begin with such a value; the tokens left are then an ending
+/// of those left before.
 ///
-/// A call that wants one token is refused as `end_of_entry` exactly where there is none (`short_buf` aside), and one that takes
-/// all that are left never is.
+/// A call that takes one token fails with `end_of_entry` exactly if there is none (`short_buf` aside). One that takes all that
+/// are left never does.
 pub trait Scanner {
     type Octets: FromBuilder + Drop;
 
@@ -42,14 +43,14 @@ pub trait Scanner {
     fn has_space(&self) -> bool
         ensures { result ≡ ends_white (gap self.now) };
 
-    /// Whether there are tokens left.
+    /// Returns whether there are tokens left.
     fn continues(&mut self) -> bool
         ensures some { IsTrue result ↔ (tokens self.old ≢ []) }
         ensures stays { tokens self.new ≡ tokens self.old }
         ensures gap { gap self.new ≡ gap self.old }
         ensures names { SameNames (names self.old) (names self.new) };
 
-    /// The octets that a token spells.
+    /// Returns the octets that a token spells.
     fn scan_octets(&mut self) -> Result<Self::Octets, Self::Error>
         ensures ok { IfOk result (λ octets. Takes (SpellsOctets (⟦<Self::Octets as Octets>⟧.list octets)) (tokens self.old) (tokens self.new)) }
         ensures err { IfErr result (λ error. Self.Error.is_short error ≡ false → (octets : List ℕ) (left : List Token) → Takes (SpellsOctets octets) (tokens self.old) left → ⊥) }
@@ -57,7 +58,7 @@ pub trait Scanner {
         ensures left { OnErr result (IsEnding (tokens self.new) (tokens self.old)) }
         ensures names { SameNames (names self.old) (names self.new) };
 
-    /// The string that a token spells.
+    /// Returns the string that a token spells.
     fn scan_charstr(&mut self) -> Result<CharStr<Self::Octets>, Self::Error>
         ensures ok { IfOk result (λ string. Takes (SpellsString string) (tokens self.old) (tokens self.new)) }
         ensures err { IfErr result (λ error. Self.Error.is_short error ≡ false → (string : List ℕ) (left : List Token) → Takes (SpellsString string) (tokens self.old) left → ⊥) }
@@ -65,8 +66,8 @@ pub trait Scanner {
         ensures left { OnErr result (IsEnding (tokens self.new) (tokens self.old)) }
         ensures names { SameNames (names self.old) (names self.new) };
 
-    /// Whether the next token is the marker of data of an unknown type, which is then taken. Any other token, or none, is no
-    /// error: refused only where there is no room or no memory.
+    /// Takes the next token if it is the marker of data of an unknown type, and returns whether it is. Fails only with
+    /// `short_buf`.
     fn scan_opt_unknown_marker(&mut self) -> Result<bool, Self::Error>
         ensures marked { IfOk result (λ marked. IsTrue marked → tokens self.old ≡ marker ∷ tokens self.new) }
         ensures other { IfOk result (λ marked. (IsTrue marked → ⊥) → (tokens self.new ≡ tokens self.old) × ((left : List Token) → tokens self.old ≡ marker ∷ left → ⊥)) }
@@ -74,8 +75,8 @@ pub trait Scanner {
         ensures left { OnErr result (IsEnding (tokens self.new) (tokens self.old)) }
         ensures names { SameNames (names self.old) (names self.new) };
 
-    /// Hands the text of a word to the closure, and answers what it makes of it. A word is an unquoted token without a
-    /// backslash. Refused where the closure makes nothing of it.
+    /// Hands the text of a word to the closure, and returns what that returns. A word is an unquoted token without a
+    /// backslash. Fails if the closure returns None.
     fn scan_ascii_str<F, T>(&mut self, op: F) -> Result<T, Self::Error>
     where
         F: FnOnce(&str) -> Option<T>,
@@ -87,7 +88,7 @@ pub trait Scanner {
         ensures left { OnErr result (IsEnding (tokens self.new) (tokens self.old)) }
         ensures names { SameNames (names self.old) (names self.new) };
 
-    /// The name that an unquoted token spells.
+    /// Returns the name that an unquoted token spells.
     fn scan_name(&mut self) -> Result<Self::Name, Self::Error>
         ensures ok { IfOk result (λ name. (text : List ℕ) × (tokens self.old ≡ unquoted text ∷ tokens self.new) × names self.old text (⟦<Self::Name as ToName>⟧.name name)) }
         ensures err { IfErr result (λ error. Self.Error.is_short error ≡ false → (text : List ℕ) (left : List Token) (name : List (List ℕ)) → tokens self.old ≡ unquoted text ∷ left → names self.old text name → ⊥) }
@@ -95,7 +96,7 @@ pub trait Scanner {
         ensures left { OnErr result (IsEnding (tokens self.new) (tokens self.old)) }
         ensures names { SameNames (names self.old) (names self.new) };
 
-    /// The text that a token spells. Refused where its octets are no UTF-8 too.
+    /// Returns the text that a token spells. Fails if its octets are not UTF-8.
     fn scan_string(&mut self) -> Result<String, Self::Error>
         ensures ok { IfOk result (λ text. Takes (SpellsOctets (string_bytes text)) (tokens self.old) (tokens self.new)) }
         ensures err { IfErr result (λ error. Self.Error.is_short error ≡ false → (text : List ℕ) (left : List Token) → IsUtf8 text → Takes (SpellsOctets text) (tokens self.old) left → ⊥) }
@@ -103,7 +104,7 @@ pub trait Scanner {
         ensures left { OnErr result (IsEnding (tokens self.new) (tokens self.old)) }
         ensures names { SameNames (names self.old) (names self.new) };
 
-    /// All strings that are left, one behind the other, each behind its length octet (RFC 1035 3.3).
+    /// Returns all strings that are left, one after another, each after its length octet (RFC 1035 3.3).
     fn scan_charstr_entry(&mut self) -> Result<Self::Octets, Self::Error>
         ensures ok { IfOk result (λ octets. IsEntry IsStringOnWire (tokens self.old) (⟦<Self::Octets as Octets>⟧.list octets) × (tokens self.new ≡ [])) }
         ensures err { IfErr result (λ error. Self.Error.is_short error ≡ false → (octets : List ℕ) → IsEntry IsStringOnWire (tokens self.old) octets → ⊥) }
@@ -111,7 +112,7 @@ pub trait Scanner {
         ensures left { OnErr result (IsEnding (tokens self.new) (tokens self.old)) }
         ensures names { SameNames (names self.old) (names self.new) };
 
-    /// The texts of all words that are left, joined, which none may be.
+    /// Returns the texts of all words that are left, joined. There may be none.
     fn scan_ascii_entry(&mut self) -> Result<String, Self::Error>
         ensures ok { IfOk result (λ text. IsEntry IsWord (tokens self.old) (string_bytes text) × (tokens self.new ≡ [])) }
         ensures err { IfErr result (λ error. Self.Error.is_short error ≡ false → (text : List ℕ) → IsEntry IsWord (tokens self.old) text → ⊥) }
@@ -119,7 +120,8 @@ pub trait Scanner {
         ensures left { OnErr result (IsEnding (tokens self.new) (tokens self.old)) }
         ensures names { SameNames (names self.old) (names self.new) };
 
-    /// What octets can be appended to, with none yet. The tokens stay.
+    /// Returns a builder that holds no octets yet, has all its room and remembers nothing. The tokens stay. Fails only with
+    /// `short_buf`.
     fn octets_builder(&mut self) -> Result<Self::OctetsBuilder, Self::Error>
         ensures ok { IfOk result (λ builder. ⟦<Self::OctetsBuilder as Octets>⟧.list builder ≡ []) }
         ensures known { IfOk result (λ builder. ⟦<Self::OctetsBuilder as Remembers>⟧.known builder ≡ []) }
@@ -129,7 +131,8 @@ pub trait Scanner {
         ensures gap { gap self.new ≡ gap self.old }
         ensures names { SameNames (names self.old) (names self.new) };
 
-    /// The text of the next token, as it is written and without its quotes; it stays. Refused where there is none.
+    /// Returns the text of the next token, as it is written and without its quotes. The token stays. Fails with `end_of_entry`
+    /// if there is none.
     fn peek_text(&self) -> Result<&[u8], Self::Error>
         ensures ok { IfOk result (λ text. (left : List Token) × Takes (HasText text.now) (tokens self.now) left) }
         ensures err { OnErr result (tokens self.now ≡ []) }
@@ -142,8 +145,8 @@ pub trait Scanner {
 
     /// Hands the symbols of the next token to the closure, one after another, and takes the token.
     ///
-    /// Refused where there is none, where its text has something else than symbols, and where the closure refuses a symbol;
-    /// the tokens stay then. Only the closure's error can be that of want of room.
+    /// Fails if there is none, if a part of its text is no symbol, and if the closure fails; the tokens stay then. Only the
+    /// closure's error can be `short_buf`.
     final fn scan_symbols<F>(&mut self, op: F) -> Result<(), Self::Error>
     where
         F: FnMut(Symbol) -> Result<(), Self::Error>,
@@ -160,10 +163,10 @@ pub trait Scanner {
         Ok(())
     }
 
-    /// Hands the symbols of all tokens that are left to the closure, one after another, with a mark behind each token's.
+    /// Hands the symbols of all tokens that are left to the closure, one after another, with a mark after each token's.
     ///
-    /// Refused where a token's text has something else than symbols, and where the closure refuses a symbol or a mark. Only the
-    /// closure's error can be that of want of room, or of the end of the entry.
+    /// Fails if a part of a token's text is no symbol, and if the closure fails. Only the closure's error can be `short_buf` or
+    /// `end_of_entry`.
     final fn scan_entry_symbols<F>(&mut self, mut op: F) -> Result<(), Self::Error>
     where
         F: FnMut(EntrySymbol) -> Result<(), Self::Error>,
@@ -182,9 +185,9 @@ pub trait Scanner {
         Ok(())
     }
 
-    /// The octets to which the converter, which was handed nothing yet, converts the symbols of the next token.
+    /// Returns the octets to which the converter, which took nothing yet, converts the symbols of the next token.
     ///
-    /// Refused where there is no such token, and for want of room or memory; the tokens stay then.
+    /// Fails if there is no such token, and with `short_buf` if there is no room or no memory; the tokens stay then.
     final fn convert_token<C>(&mut self, mut converter: C) -> Result<Self::Octets, Self::Error>
     where
         C: ConvertSymbols<Symbol, Self::Error> + Drop,
@@ -203,10 +206,10 @@ pub trait Scanner {
         Ok(builder.freeze())
     }
 
-    /// The octets to which the converter, which was handed nothing yet, converts the symbols of all tokens that are left,
-    /// with a mark behind each token's.
+    /// Returns the octets to which the converter, which took nothing yet, converts the symbols of all tokens that are left,
+    /// with a mark after each token's.
     ///
-    /// Refused where the tokens left are not converted to any, and for want of room or memory.
+    /// Fails if the tokens left are not converted to any, and with `short_buf` if there is no room or no memory.
     final fn convert_entry<C>(&mut self, mut converter: C) -> Result<Self::Octets, Self::Error>
     where
         C: ConvertSymbols<EntrySymbol, Self::Error> + Drop,

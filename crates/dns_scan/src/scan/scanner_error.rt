@@ -5,7 +5,8 @@ use thiserror::Error;
 
 /// The error of a scanner.
 ///
-/// `is_short` tells want of room or memory from what is wrong with the tokens, and `is_end` the want of a token from all else.
+/// `is_short` tells the lack of room or memory from what is wrong with the tokens, and `is_end` the lack of a token from all
+/// else.
 pub trait ScannerError: Sized {
     ghost is_short: { Self → Bool };
 
@@ -26,7 +27,7 @@ pub trait ScannerError: Sized {
         ensures short { is_short result ≡ true }
         ensures end { is_end result ≡ false };
 
-    /// There are tokens left behind the value.
+    /// There are tokens left after the value.
     fn trailing_tokens() -> Self
         ensures short { is_short result ≡ false }
         ensures end { is_end result ≡ false };
@@ -44,7 +45,7 @@ pub enum StrError {
     /// There is no room or no memory for the value.
     #[error("short buffer")]
     ShortBuf,
-    /// There are tokens left behind the value.
+    /// There are tokens left after the value.
     #[error("trailing tokens")]
     TrailingTokens,
 }

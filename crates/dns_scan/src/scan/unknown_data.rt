@@ -6,10 +6,10 @@ ghost use Rattle.dns_scan.specs.UnknownData.{IsUnknownData, ScansUnknown};
 use crate::{Scan, Scanner, ScannerError, base16};
 use dns_name::{FromBuilder, Octets, Rtype, UnknownRecordData};
 
-/// The octets of data of an unknown type, of which the marker `\#` has been taken: their number, and words of base 16 that
-/// are joined before digits are paired.
+/// Returns the octets of data of an unknown type, whose marker `\#` has been taken: their number, and words of base 16 that are
+/// joined before digits are paired.
 ///
-/// Refused where the tokens left are no such data, and where there is no room or no memory for it.
+/// Fails if the tokens left are no such data, and with `short_buf` if there is no room or no memory for it.
 pub fn scan_unknown_octets<S: Scanner>(scanner: &mut S) -> Result<S::Octets, S::Error>
     ensures ok { IfOk result (λ octets. IsUnknownData (S.tokens scanner.old) (⟦<S::Octets as Octets>⟧.list octets) × (S.tokens scanner.new ≡ [])) }
     ensures fits { IfOk result (λ octets. length (⟦<S::Octets as Octets>⟧.list octets) ≤ 65535) }
@@ -25,9 +25,9 @@ pub fn scan_unknown_octets<S: Scanner>(scanner: &mut S) -> Result<S::Octets, S::
     Ok(octets)
 }
 
-/// Data of this unknown type, of which the marker `\#` has been taken.
+/// Returns data of this unknown type, whose marker `\#` has been taken.
 ///
-/// Refused where the tokens left are no such data, and where there is no room or no memory for it.
+/// Fails if the tokens left are no such data, and with `short_buf` if there is no room or no memory for it.
 pub fn scan_without_marker<S: Scanner>(
     rtype: Rtype,
     scanner: &mut S,

@@ -6,6 +6,6 @@ use dns_name::Symbol;
 pub enum EntrySymbol {
     /// A symbol of a token.
     Symbol(Symbol),
-    /// The end of a token, which comes behind its symbols.
+    /// The end of a token, which comes after its symbols.
     EndOfToken,
 }
