@@ -1,22 +1,23 @@
--- What is remembered is there: each suffix is spelled where it is said to stand.
-use Rattle.std.specs.Prelude.{◌≡◌, ◌≤◌, ◌<◌, ◌+◌, ℕ, Bool, true, Option, Some, None, if◌then◌else◌, List, [], ◌∷◌, ◌++◌, length, take, drop, nat_le}
+-- What is remembered is there: each suffix is spelled where it is said to stand, up to case where the spelling folds.
+use Rattle.std.specs.Prelude.{⊤, ◌≡◌, ◌≤◌, ◌<◌, ◌+◌, ℕ, Bool, true, Option, Some, None, if◌then◌else◌, List, [], ◌∷◌, ◌++◌, length, take, drop, nat_le}
 use Rattle.std.specs.List.{list_all}
 use Rattle.std.proofs.Common.{zero-le}
 use Rattle.dns_octets.specs.Builder.{Standing, Known, IsWithin}
-use Rattle.dns_name.specs.Spelling.{Spelling, is_same, pointer_to}
+use Rattle.dns_name.specs.Spelling.{Spelling, is_same, place_in, pointer_to}
 
 -- it is one of those that are remembered
 pub data IsKnown (standing : Standing) : Known → Type 0 where
   first : {known : Known} → IsKnown standing (standing ∷ known)
   later : {other : Standing} {known : Known} → IsKnown standing known → IsKnown standing (other ∷ known)
 
--- A text at a place spells a suffix: its labels one by one up to the root, or up to a pointer to a remembered suffix that
--- is the same as what is left, and that stops in front of the pointer.
+-- A text at a place spells a suffix: labels that are the same as its own one by one, up to the root or up to a pointer to a
+-- remembered suffix that is the same as what is left, and that stops before the pointer.
 pub data SpellsSuffix (s : Spelling) (known : Known) : ℕ → List ℕ → List ℕ → Type 0 where
   root : {place : ℕ} → SpellsSuffix s known place (0 ∷ []) (0 ∷ [])
-  label : {place : ℕ} {behind parent : List ℕ} (text : List ℕ)
+  label : {place : ℕ} {behind parent : List ℕ} (text label : List ℕ)
+      → is_same s text label ≡ true
       → SpellsSuffix s known (place + 1 + length text) behind parent
-      → SpellsSuffix s known place (length text ∷ text ++ behind) (length text ∷ text ++ parent)
+      → SpellsSuffix s known place (length text ∷ text ++ behind) (length label ∷ label ++ parent)
   pointer : {place : ℕ} {suffix : List ℕ} (target : Standing)
       → IsKnown target known
       → target.stop ≤ place
@@ -25,12 +26,14 @@ pub data SpellsSuffix (s : Spelling) (known : Known) : ℕ → List ℕ → List
 
 -- A text spells a suffix that is not the root, and begins with its first label, not with a pointer.
 pub record SpellsLabelled (s : Spelling) (known : Known) (place : ℕ) (text suffix : List ℕ) : Type 0 where
+  pub written : List ℕ
   pub label : List ℕ
   pub behind : List ℕ
   pub parent : List ℕ
-  pub text_is : text ≡ length label ∷ label ++ behind
+  pub text_is : text ≡ length written ∷ written ++ behind
   pub suffix_is : suffix ≡ length label ∷ label ++ parent
-  pub spelled : SpellsSuffix s known (place + 1 + length label) behind parent
+  pub same : is_same s written label ≡ true
+  pub spelled : SpellsSuffix s known (place + 1 + length written) behind parent
 
 -- the octets have the text at the place
 pub record HasText (octets : List ℕ) (place : ℕ) (text : List ℕ) : Type 0 where
@@ -48,14 +51,20 @@ pub record StandsIn (s : Spelling) (known : Known) (octets : List ℕ) (standing
   pub near : standing.place < 16384
   pub longer : 1 < length standing.suffix
 
--- no more are remembered than may be, and each stands in the octets
+-- no two of the suffixes are the same
+abbrev pub AreDistinct : Spelling → Known → Type 0
+AreDistinct s [] = ⊤
+AreDistinct s (standing ∷ known) = (place_in s known standing.suffix ≡ None) × AreDistinct s known
+
+-- no more are remembered than may be, no suffix twice, and each stands in the octets
 pub record IsSound (s : Spelling) (known : Known) (octets : List ℕ) : Type 0 where
   pub few : IsWithin s.most (length known)
+  pub distinct : AreDistinct s known
   pub each : (standing : Standing) → IsKnown standing known → StandsIn s known octets standing
 
 -- so it is of a target that remembers nothing
 pub sound_none : (s : Spelling) (octets : List ℕ) → IsSound s [] octets
-sound_none s octets = record { few = none s.most; each = λ standing is. elim is [ ] }
+sound_none s octets = record { few = none s.most; distinct = tt; each = λ standing is. elim is [ ] }
   where
     none : (most : Option ℕ) → IsWithin most 0
     none None = tt
