@@ -72,9 +72,10 @@ AreDistinct-before s len (standing ∷ known) distinct =
 pub AreDistinct-append : (s : Spelling) (known more : Known) → AreDistinct s known → AreDistinct s more
     → ((standing : Standing) → IsKnown standing known → place_in s more standing.suffix ≡ None) → AreDistinct s (known ++ more)
 AreDistinct-append s [] more distinct on new = on
-AreDistinct-append s (standing ∷ known) more distinct on new =
-    (none_in s known more standing.suffix distinct.0 (new standing first),
-    AreDistinct-append s known more distinct.1 on (λ other there. new other (later there)))
+AreDistinct-append s (standing ∷ known) more distinct on new = (
+  none_in s known more standing.suffix distinct.0 (new standing first),
+  AreDistinct-append s known more distinct.1 on (λ other there. new other (later there)),
+)
   where
     none_in : (s : Spelling) (known more : Known) (suffix : List ℕ) → place_in s known suffix ≡ None → place_in s more suffix ≡ None
         → place_in s (known ++ more) suffix ≡ None
@@ -94,11 +95,12 @@ standing_of s place stop (label ∷ labels) suffix standing (later is) =
 AreDistinct-standings : (s : Spelling) (place stop : ℕ) (labels suffix : List (List ℕ)) → AreDistinct s (standings s place stop labels suffix)
 AreDistinct-standings s place stop [] suffix = tt
 AreDistinct-standings s place stop (label ∷ labels) suffix =
-    let next = place + 1 + length label in
-    (place_in-none s (standings s next stop labels suffix) (remembered_form s (label ∷ labels ++ suffix))
-    (λ standing there. other_lengths s standing.suffix (remembered_form s (label ∷ labels ++ suffix))
-    (omega (arith, standing_of s next stop labels suffix standing there, length-append (folded s label) (remembered_form s (labels ++ suffix))))),
-    AreDistinct-standings s next stop labels suffix)
+    let next = place + 1 + length label in (
+      place_in-none s (standings s next stop labels suffix) (remembered_form s (label ∷ labels ++ suffix))
+          (λ standing there. other_lengths s standing.suffix (remembered_form s (label ∷ labels ++ suffix))
+          (omega (arith, standing_of s next stop labels suffix standing there, length-append (folded s label) (remembered_form s (labels ++ suffix))))),
+      AreDistinct-standings s next stop labels suffix,
+    )
 
 -- a suffix that is new is the same as none that was there
 apart : (s : Spelling) (known : Known) (place stop : ℕ) (labels suffix : List (List ℕ)) → AreAbsent s known labels suffix
