@@ -1,8 +1,7 @@
 -- No two remembered suffixes are the same: after a name, and after a cut.
-use Rattle.std.proofs.Common.{◌≡◌, ◌≤◌, ◌<◌, ◌+◌, ℕ, ◌⊎◌, Bool, true, false, Option, Some, None, List, [], ◌∷◌, ◌++◌, length, map, refl, sym, ◌∙◌, ap, arith, length-append, inl, inr}
-use Rattle.std.specs.Prelude.{⊤, if◌then◌else◌, find, option_map, nat_eq, nat_le}
+use Rattle.std.proofs.Common.{◌≡◌, ◌≤◌, ◌<◌, ◌+◌, ℕ, Bool, true, false, Some, None, List, [], ◌∷◌, ◌++◌, length, refl, sym, ◌∙◌, ap, arith, length-append}
+use Rattle.std.specs.Prelude.{if◌then◌else◌, nat_le}
 use Rattle.std.specs.List.{list_all}
-use Rattle.std.specs.Cmp.Lexicographic.{pointwise}
 use Rattle.dns_octets.specs.Builder.{Standing, Known, before}
 use Rattle.dns_label.specs.Name.{wire}
 use Rattle.dns_name.specs.Spelling.{Spelling, folded, is_same, remembered_form, place_in, standings, is_near, if_near}

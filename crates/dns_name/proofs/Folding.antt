@@ -1,16 +1,12 @@
 -- Octets and names as a spelling compares them: up to ASCII case where it folds.
-use Rattle.std.proofs.Common.{◌≡◌, ◌≤◌, ◌<◌, ◌+◌, ℕ, Bool, true, false, Option, Some, None, List, [], ◌∷◌, ◌++◌, length, map, refl, sym, ◌∙◌, ap, arith, length-append, append_assoc}
-use Rattle.std.specs.Prelude.{⊤, if◌then◌else◌, find, option_map, nat_eq}
+use Rattle.std.proofs.Common.{◌≡◌, ℕ, Bool, true, false, List, [], ◌∷◌, ◌++◌, length, map, refl, sym, ◌∙◌, ap}
+use Rattle.std.specs.Prelude.{if◌then◌else◌}
 use Rattle.std.specs.Char.{to_ascii_lowercase}
-use Rattle.std.specs.Cmp.Lexicographic.{pointwise}
 use Rattle.std.proofs.lemmas.List.{map-append, length-map}
 use Rattle.std.proofs.lemmas.Str.Ascii.{lowercase-lowercase}
 use lib.Pointwise.{bytes_decides}
-use Rattle.dns_octets.specs.Builder.{Standing, Known, before}
 use Rattle.dns_label.specs.Name.{wire}
-use Rattle.dns_name.specs.Spelling.{Spelling, folded, is_same, remembered_form, place_in, standings, if_near}
-use Rattle.dns_name.specs.Remembered.{IsKnown, AreDistinct}
-use Rattle.dns_name.specs.Remembered.IsKnown.{first, later}
+use Rattle.dns_name.specs.Spelling.{Spelling, folded, is_same, remembered_form}
 
 pub same_is : (s : Spelling) (one other : List ℕ) → is_same s one other ≡ true → folded s one ≡ folded s other
 same_is s one other same = (bytes_decides (folded s one) (folded s other)).0 same

@@ -1,16 +1,16 @@
 -- What a name is written as, and what is then remembered.
-use Rattle.std.proofs.Common.{◌≡◌, ◌≤◌, ◌<◌, ◌+◌, ℕ, suc, Bool, true, false, Option, Some, None, List, [], ◌∷◌, ◌++◌, length, map, refl, sym, ◌∙◌, ap, subst, arith, length-append, append_assoc}
+use Rattle.std.proofs.Common.{◌≡◌, ◌≤◌, ◌<◌, ◌+◌, ℕ, suc, Bool, true, false, Option, Some, None, List, [], ◌∷◌, ◌++◌, length, refl, sym, ◌∙◌, ap, subst, arith, length-append, append_assoc}
 use Rattle.std.specs.Prelude.{⊤, if◌then◌else◌, option_map, unwrap_or, is_some}
 use Rattle.std.specs.List.{list_all}
 use Rattle.std.proofs.lemmas.Bool.{ltb-true, and_parts}
 use Rattle.dns_octets.specs.Builder.{Standing, Known, IsWithin}
-use Rattle.dns_label.specs.Name.{wire, labels_wire}
-use Rattle.dns_name.specs.Spelling.{Spelling, Split, with_label, plain, compresses, has_room, is_near, folded, is_same, remembered_form, place_in, may_stand, split_from, pointer_to, suffix_text, split_text, standings, name_text, if_near, known_after}
-use Rattle.dns_name.specs.Remembered.{IsKnown, SpellsSuffix, SpellsLabelled}
+use Rattle.dns_label.specs.Name.{IsName, wire, labels_wire}
+use Rattle.dns_name.specs.Spelling.{Spelling, Split, with_label, plain, compresses, has_room, is_near, remembered_form, place_in, may_stand, split_from, pointer_to, suffix_text, split_text, standings, name_text, if_near, known_after}
+use Rattle.dns_name.specs.Remembered.{IsKnown, SpellsName, SpellsLabelled}
 use Rattle.dns_name.specs.Remembered.IsKnown.{first, later}
-use Rattle.dns_name.specs.Remembered.SpellsSuffix.{root, label, pointer}
+use Rattle.dns_name.specs.Remembered.SpellsName.{root, label, pointer}
 use Rattle.dns_name.proofs.Known.{found_in}
-use Rattle.dns_name.proofs.Folding.{same_is, same_from, folded-folded, folded-form, length-folded}
+use Rattle.dns_name.proofs.Folding.{same_from}
 
 -- where a name is split
 abbrev pub split_of : Spelling → Known → ℕ → List (List ℕ) → Split
@@ -53,10 +53,9 @@ split_some s known labels suffix =
 
 -- the text of a name spells it
 
-spelled_wire : (s : Spelling) (known : Known) (place : ℕ) (name : List (List ℕ)) → SpellsSuffix s known place (wire name) (remembered_form s name)
+spelled_wire : (s : Spelling) (known : Known) (place : ℕ) (name : List (List ℕ)) → SpellsName s known place (wire name) name
 spelled_wire s known place [] = root
-spelled_wire s known place (text ∷ name) =
-    label text (folded s text) (same_from s text (folded s text) (sym (folded-folded s text))) (spelled_wire s known (place + 1 + length text) name)
+spelled_wire s known place (text ∷ name) = label text text (same_from s text text refl) (spelled_wire s known (place + 1 + length text) name)
 
 -- each remembered suffix stops before the place
 abbrev pub StopsBefore : ℕ → Known → Type 0
@@ -64,16 +63,14 @@ StopsBefore place known = (standing : Standing) → IsKnown standing known → s
 
 spelled_by : (s : Spelling) (known : Known) (place : ℕ) (name : List (List ℕ)) (found : Option ℕ) → StopsBefore place known
     → place_in s known (wire name) ≡ found
-    → SpellsSuffix s known place (unwrap_or (option_map pointer_to found) (wire name)) (remembered_form s name)
+    → SpellsName s known place (unwrap_or (option_map pointer_to found) (wire name)) name
 spelled_by s known place name (Some target) before is =
     let on = found_in s known (wire name) target is in
-    let same : folded s on.target.suffix ≡ folded s (remembered_form s name) =
-    same_is s on.target.suffix (wire name) on.same ∙ sym (folded-form s name) in
-    rw (sym on.there) (pointer on.target on.is_known (before on.target on.is_known) (same_from s on.target.suffix (remembered_form s name) same))
+    rw (sym on.there) (pointer on.target on.is_known (before on.target on.is_known) on.same)
 spelled_by s known place name None before is = spelled_wire s known place name
 
 spelled_suffix : (s : Spelling) (known : Known) (place : ℕ) (suffix : List (List ℕ)) → StopsBefore place known
-    → SpellsSuffix s known place (suffix_text s known suffix) (remembered_form s suffix)
+    → SpellsName s known place (suffix_text s known suffix) suffix
 spelled_suffix s known place [] before = root
 spelled_suffix s known place (text ∷ parent) before = spelled_by s known place (text ∷ parent) _ before refl
 
@@ -82,31 +79,32 @@ label_before : (text more rest : List ℕ) → (length text ∷ text ++ more) ++
 label_before text more rest = ap (λ (l : List ℕ). length text ∷ l) (append_assoc text more rest)
 
 pub spelled_split : (s : Spelling) (known : Known) (place : ℕ) (labels suffix : List (List ℕ)) → StopsBefore place known
-    → SpellsSuffix s known place (labels_wire labels ++ suffix_text s known suffix) (remembered_form s (labels ++ suffix))
+    → SpellsName s known place (labels_wire labels ++ suffix_text s known suffix) (labels ++ suffix)
 spelled_split s known place [] suffix before = spelled_suffix s known place suffix before
 spelled_split s known place (text ∷ labels) suffix before =
     let on = spelled_split s known (place + 1 + length text) labels suffix (λ standing is. let e = before standing is in omega arith) in
-    subst (λ l. SpellsSuffix s known place l (remembered_form s (text ∷ labels ++ suffix))) (sym (label_before text (labels_wire labels) (suffix_text s known suffix)))
-    (label text (folded s text) (same_from s text (folded s text) (sym (folded-folded s text))) on)
+    subst (λ l. SpellsName s known place l (text ∷ labels ++ suffix)) (sym (label_before text (labels_wire labels) (suffix_text s known suffix)))
+    (label text text (same_from s text text refl) on)
 
 -- where a suffix that is newly remembered stands in the text of its name
 pub record IsAdded (s : Spelling) (known : Known) (place : ℕ) (text : List ℕ) (stop : ℕ) (standing : Standing) : Type 0 where
+  pub name : List (List ℕ)
+  pub is_name : IsName name
+  pub suffix_is : standing.suffix ≡ remembered_form s name
   pub front : List ℕ
   pub behind : List ℕ
   pub whole : text ≡ front ++ behind
   pub begins : place + length front ≡ standing.place
   pub stops : standing.stop ≡ stop
-  pub spelled : SpellsLabelled s known standing.place behind standing.suffix
+  pub spelled : SpellsLabelled s known standing.place behind name
   pub some : 0 < length behind
-  pub longer : 1 < length standing.suffix
-
-wire_long : (text : List ℕ) (name : List (List ℕ)) → 1 < length (wire (text ∷ name))
-wire_long text [] = omega (arith, length-append text (0 ∷ []))
-wire_long text (other ∷ name) = omega (arith, length-append text (wire (other ∷ name)))
 
 added_behind : (s : Spelling) (known : Known) (place stop : ℕ) (text : List ℕ) (behind : List ℕ) (standing : Standing)
     → IsAdded s known (place + 1 + length text) behind stop standing → IsAdded s known place (length text ∷ text ++ behind) stop standing
 added_behind s known place stop text behind standing is = record {
+  name = is.name;
+  is_name = is.is_name;
+  suffix_is = is.suffix_is;
   front = length text ∷ text ++ is.front;
   behind = is.behind;
   whole = ap (λ (l : List ℕ). length text ∷ text ++ l) is.whole ∙ sym (append_assoc (length text ∷ text) is.front is.behind);
@@ -114,13 +112,15 @@ added_behind s known place stop text behind standing is = record {
   stops = is.stops;
   spelled = is.spelled;
   some = is.some;
-  longer = is.longer;
 }
 
-added_first : (s : Spelling) (known : Known) (place stop : ℕ) (text : List ℕ) (name : List (List ℕ)) (behind : List ℕ)
-    → SpellsSuffix s known (place + 1 + length text) behind (remembered_form s name)
+added_first : (s : Spelling) (known : Known) (place stop : ℕ) (text : List ℕ) (name : List (List ℕ)) (behind : List ℕ) → IsName (text ∷ name)
+    → SpellsName s known (place + 1 + length text) behind name
     → IsAdded s known place (length text ∷ text ++ behind) stop (record { suffix = remembered_form s (text ∷ name); place = place; stop = stop })
-added_first s known place stop text name behind is = record {
+added_first s known place stop text name behind is_name is = record {
+  name = text ∷ name;
+  is_name = is_name;
+  suffix_is = refl;
   front = [];
   behind = length text ∷ text ++ behind;
   whole = refl;
@@ -128,45 +128,40 @@ added_first s known place stop text name behind is = record {
   stops = refl;
   spelled = record {
     written = text;
-    label = folded s text;
+    label = text;
     behind = behind;
-    parent = remembered_form s name;
+    parent = name;
     text_is = refl;
-    suffix_is = refl;
-    same = same_from s text (folded s text) (sym (folded-folded s text));
+    name_is = refl;
+    same = same_from s text text refl;
     spelled = is;
   };
   some = omega arith;
-  longer = wire_long (folded s text) (map (folded s) name);
 }
 
 added_case : (s : Spelling) (known : Known) (place stop : ℕ) (text : List ℕ) (name : List (List ℕ)) (behind : List ℕ) (standing : Standing) (added : Known)
-    → SpellsSuffix s known (place + 1 + length text) behind (remembered_form s name)
+    → IsName (text ∷ name) → SpellsName s known (place + 1 + length text) behind name
     → (IsKnown standing added → IsAdded s known (place + 1 + length text) behind stop standing)
     → IsKnown standing (record { suffix = remembered_form s (text ∷ name); place = place; stop = stop } ∷ added)
     → IsAdded s known place (length text ∷ text ++ behind) stop standing
-added_case s known place stop text name behind _ added is on first = added_first s known place stop text name behind is
-added_case s known place stop text name behind standing added is on (later there) = added_behind s known place stop text behind standing (on there)
+added_case s known place stop text name behind _ added is_name is on first = added_first s known place stop text name behind is_name is
+added_case s known place stop text name behind standing added is_name is on (later there) = added_behind s known place stop text behind standing (on there)
 
-pub standings_each : (s : Spelling) (known : Known) (place stop : ℕ) (labels suffix : List (List ℕ)) → StopsBefore place known
-    → (standing : Standing) → IsKnown standing (standings s place stop labels suffix)
+-- a name's parent is a name
+parent_name : (text : List ℕ) (name : List (List ℕ)) → IsName (text ∷ name) → IsName name
+parent_name text name is = record { labels = is.labels.1; short = omega (arith, is.short, length-append text (wire name)) }
+
+pub standings_each : (s : Spelling) (known : Known) (place stop : ℕ) (labels suffix : List (List ℕ)) → IsName (labels ++ suffix)
+    → StopsBefore place known → (standing : Standing) → IsKnown standing (standings s place stop labels suffix)
     → IsAdded s known place (labels_wire labels ++ suffix_text s known suffix) stop standing
-standings_each s known place stop [] suffix before standing is = elim is [ ]
-standings_each s known place stop (text ∷ labels) suffix before standing is =
+standings_each s known place stop [] suffix is_name before standing is = elim is [ ]
+standings_each s known place stop (text ∷ labels) suffix is_name before standing is =
     let on : StopsBefore (place + 1 + length text) known = λ other there. (let e = before other there in omega arith) in
     subst (λ l. IsAdded s known place l stop standing) (sym (label_before text (labels_wire labels) (suffix_text s known suffix)))
     (added_case s known place stop text (labels ++ suffix) (labels_wire labels ++ suffix_text s known suffix) standing
-    (standings s (place + 1 + length text) stop labels suffix)
+    (standings s (place + 1 + length text) stop labels suffix) is_name
     (spelled_split s known (place + 1 + length text) labels suffix on)
-    (standings_each s known (place + 1 + length text) stop labels suffix on standing) is)
-
-pub added_each : (s : Spelling) (known : Known) (place : ℕ) (name : List (List ℕ)) → StopsBefore place known
-    → (standing : Standing) → IsKnown standing (added_of s known place name)
-    → IsAdded s known place (name_text s known place name) (place + length (name_text s known place name)) standing
-unfolding name_text
-added_each s known place name before standing is =
-    let split = split_of s known place name in
-    standings_each s known place (place + length (split_text s known split)) split.labels split.suffix before standing is
+    (standings_each s known (place + 1 + length text) stop labels suffix (parent_name text (labels ++ suffix) is_name) on standing) is)
 
 -- of a name no more suffixes are remembered than may be
 
@@ -227,6 +222,15 @@ split_whole s known count place (text ∷ parent) =
     whole_by text parent (split_from s known (count + 1) (place + 1 + length text) parent)
     (is_some (place_in s known (wire (text ∷ parent)))) (may_stand s count place)
     (split_whole s known (count + 1) (place + 1 + length text) parent)
+
+pub added_each : (s : Spelling) (known : Known) (place : ℕ) (name : List (List ℕ)) → IsName name → StopsBefore place known
+    → (standing : Standing) → IsKnown standing (added_of s known place name)
+    → IsAdded s known place (name_text s known place name) (place + length (name_text s known place name)) standing
+unfolding name_text
+added_each s known place name is_name before standing is =
+    let split = split_of s known place name in
+    let whole : IsName (split.labels ++ split.suffix) = subst IsName (sym (split_whole s known (length known) place name)) is_name in
+    standings_each s known place (place + length (split_text s known split)) split.labels split.suffix whole before standing is
 
 -- none of the suffixes that begin with one of the labels is remembered
 abbrev pub AreAbsent : Spelling → Known → List (List ℕ) → List (List ℕ) → Type 0

@@ -6,7 +6,7 @@ use Rattle.dns_label.specs.Spelled.{Spells, Reads}
 use Rattle.dns_label.specs.Spelled.Spells.{root, label, pointer}
 use Rattle.dns_label.specs.Split.{StartsWithLabel, StartsWithPointer}
 use Rattle.dns_name.proofs.Wire.{length-wire_is, length-wire-append, length-labels_wire_more}
-use Rattle.dns_name.proofs.Heads.{spelled-labels, spelled-root, spelled-label, spelled-pointer}
+use Rattle.dns_name.proofs.Heads.{spelled-labels, spelled-label, spelled-pointer}
 
 -- what is left of a name that has these labels in front
 pub record Comes (message : List ℕ) (left place : ℕ) (front whole : List (List ℕ)) : Type 0 where

@@ -3,7 +3,7 @@ use Rattle.std.specs.Prelude.{◌+◌, ◌/◌, ◌%◌, ℕ, Bool, true, false,
 use Rattle.std.specs.List.{list_all}
 use Rattle.std.specs.Char.{to_ascii_lowercase}
 use Rattle.std.specs.Cmp.Lexicographic.{pointwise}
-use Rattle.dns_octets.specs.Builder.{Standing, Known}
+use Rattle.dns_octets.specs.Builder.{Known}
 use Rattle.dns_label.specs.Name.{wire, labels_wire}
 
 -- which suffixes are remembered, and which of them are the same

@@ -1,5 +1,4 @@
-use Rattle.std.proofs.Common.{ℕ, ◌≡◌, ◌+◌, [], length, refl, ap, ◌∙◌, arith, rules}
-use Rattle.std.specs.Prelude.{unwrap_or}
+use Rattle.std.proofs.Common.{◌≡◌, ◌+◌, [], refl, arith, rules}
 use Rattle.dns_name.proofs.Cuts.{cut-step, cut-stepped, cut-pointer, cut-led, cut-led_on, cut-bad_type, cut-here, cut-long}
 use Rattle.dns_name.proofs.Walking.{walks-label, walks-pointer, walks-root, walks-none, walks-long, walks-forward, walks-spent}
 use Rattle.dns_name.proofs.Heads.{to_pointer, bad_type-spells_none, short-spells_none, label-within}
