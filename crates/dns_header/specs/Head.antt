@@ -45,7 +45,7 @@ pub record ReadsWhole (message : List ℕ) (place : ℕ) (head : Head (List (Lis
 
 -- The message ends too early for what stands in front of a record's data: in the owner, or behind it.
 pub data HeadIsCut (message : List ℕ) (place : ℕ) : Type 0 where
-  in_owner : IsCut message 255 255 place → HeadIsCut message place
+  in_owner : IsCut message 255 254 place → HeadIsCut message place
   behind_owner : (name : List (List ℕ)) (behind : ℕ) → Reads message place name behind → length message < behind + 10 → HeadIsCut message place
 
 -- The same, or in the data.

@@ -36,7 +36,9 @@ pub mod RelativeForms
 pub mod PartForms
 pub mod NameParts
 pub mod Known
+pub mod Folding
 pub mod Spelled
+pub mod Distinct
 pub mod Soundness
 pub mod Growth
 pub mod Appending

@@ -5,8 +5,8 @@ use Rattle.dns_label.specs.Name.{wire, labels_wire}
 use Rattle.dns_label.specs.Spelled.{Spells, Reads}
 use Rattle.dns_label.specs.Spelled.Spells.{root, label, pointer}
 use Rattle.dns_label.specs.Split.{StartsWithLabel, StartsWithPointer}
-use Rattle.dns_name.proofs.Wire.{length-wire-append, length-labels_wire_more}
-use Rattle.dns_name.proofs.Heads.{spelled-labels, spelled-root, spelled-label, spelled-pointer}
+use Rattle.dns_name.proofs.Wire.{length-wire_is, length-wire-append, length-labels_wire_more}
+use Rattle.dns_name.proofs.Heads.{spelled-labels, spelled-label, spelled-pointer}
 
 -- what is left of a name that has these labels in front
 pub record Comes (message : List ℕ) (left place : ℕ) (front whole : List (List ℕ)) : Type 0 where
@@ -105,25 +105,25 @@ pub walks-none : {message : List ℕ} {start place len left : ℕ} {behind : Opt
 walks-none walks none name next reads =
     let comes = walks.back name next reads.spelled in none comes.name comes.after comes.spelled
 
--- with the label in front, a name would be too long
-pub label-length : {message : List ℕ} {pointers place end : ℕ} {whole : List (List ℕ)} (text rest : List ℕ)
-    → Spells message pointers place whole end → StartsWithLabel (drop place message) text rest
-    → 1 + length text ≤ length (wire whole)
-label-length [] rest spelled at =
-    let none = (spelled-root rest spelled at).0 in
-    omega (arith, ap (λ (n : List (List ℕ)). length (wire n)) none)
-label-length (octet ∷ text) rest spelled at =
-    let behind = spelled-label (octet ∷ text) rest spelled at (omega arith) in
-    omega (arith, ap (λ (n : List (List ℕ)). length (wire n)) behind.whole_is, length-wire-append ((octet ∷ text) ∷ []) behind.parent, length-labels_wire_more [] (octet ∷ text))
-
+-- with the label before it, a name would be too long
 pub walks-long : {message : List ℕ} {start place len left : ℕ} {behind : Option ℕ} (text rest : List ℕ)
-    → Walks message start place len left behind → StartsWithLabel (drop place message) text rest
-    → 255 < len + (length text + 1)
+    → Walks message start place len left behind → StartsWithLabel (drop place message) text rest → 0 < length text
+    → 254 < len + (length text + 1)
     → (name : List (List ℕ)) (next : ℕ) → Reads message start name next → ⊥
-walks-long text rest walks at long name next reads =
+walks-long text rest walks at some long name next reads =
     let comes = walks.back name next reads.spelled in
-    let few = label-length text rest comes.spelled at in
-    omega (arith, walks.long, reads.is_name.short, ap (λ (n : List (List ℕ)). length (wire n)) comes.whole_is, length-wire-append walks.front comes.name)
+    let behind = spelled-label text rest comes.spelled at some in
+    omega (
+      arith,
+      walks.long,
+      reads.is_name.short,
+      ap (λ (n : List (List ℕ)). length (wire n)) comes.whole_is,
+      length-wire-append walks.front comes.name,
+      ap (λ (n : List (List ℕ)). length (wire n)) behind.whole_is,
+      length-wire-append (text ∷ []) behind.parent,
+      length-labels_wire_more [] text,
+      length-wire_is behind.parent,
+    )
 
 -- a pointer that does not go back
 pub walks-forward : {message : List ℕ} {start place len left : ℕ} {behind : Option ℕ} (target : ℕ)

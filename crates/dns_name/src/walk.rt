@@ -19,13 +19,14 @@ pub struct Walk {
     pub next: usize,
 }
 
-/// Walks over the heads of the name at a place. Refused where none is read there: with `ShortInput` exactly where the
-/// message ends too early.
+/// Walks over the heads of the name at a place.
+///
+/// Fails where no name is read there: with `ShortInput` exactly where the message ends after at most 254 octets of labels.
 pub fn walk_name(octets: &[u8], start: usize) -> Result<Walk, ParseError>
     requires { start ≤ length octets.now }
     ensures ok { IfOk result (λ walk. (name : List (List ℕ)) × Reads octets.now start name walk.next × (walk.len ≡ length (wire name))) }
     ensures err { OnErr result ((name : List (List ℕ)) (next : ℕ) → Reads octets.now start name next → ⊥) }
-    ensures short { IfErr result (λ error. (error ≡ ShortInput) ↔ IsCut octets.now 255 255 start) }
+    ensures short { IfErr result (λ error. (error ≡ ShortInput) ↔ IsCut octets.now 255 254 start) }
 {
     let mut place = start;
     let mut len = 0u16;
@@ -34,16 +35,16 @@ pub fn walk_name(octets: &[u8], start: usize) -> Result<Walk, ParseError>
     loop {
         match label_at(octets, place) {
             Ok((label, _)) => {
+                if label.is_root() {
+                    let next = behind.unwrap_or(place + 1);
+                    return Ok(Walk { len: len + 1, next });
+                }
                 let count = label.len() as u16 + 1;
-                if len + count > 255 {
+                if len + count > 254 {
                     return Err(ParseError::form_error("long domain name"));
                 }
                 len += count;
                 place += usize::from(count);
-                if label.is_root() {
-                    let next = behind.unwrap_or(place);
-                    return Ok(Walk { len, next });
-                }
             }
             Err(SplitLabelError::Pointer(target)) => {
                 let target = usize::from(target);

@@ -1,26 +1,23 @@
-use Rattle.std.proofs.Common.{ℕ, ◌≡◌, ◌+◌, [], length, refl, ap, ◌∙◌, arith, rules}
-use Rattle.std.specs.Prelude.{unwrap_or}
+use Rattle.std.proofs.Common.{◌≡◌, ◌+◌, [], refl, arith, rules}
 use Rattle.dns_name.proofs.Cuts.{cut-step, cut-stepped, cut-pointer, cut-led, cut-led_on, cut-bad_type, cut-here, cut-long}
 use Rattle.dns_name.proofs.Walking.{walks-label, walks-pointer, walks-root, walks-none, walks-long, walks-forward, walks-spent}
 use Rattle.dns_name.proofs.Heads.{to_pointer, bad_type-spells_none, short-spells_none, label-within}
 use Rattle.dns_name.proofs.Flat.{some_octets}
 use Rattle.dns_name.proofs.walk.walk_name.Goals as goal
 
-pub returns-then-len-count-gt255-clause-err : goal.returns-then-len-count-gt255-clause-err
-returns-then-len-count-gt255-clause-err c =
-    walks-long _ _ c.loop-label.invariant.walks c.in-Ok.ensures.ok (omega (arith, c.len.ensures))
+pub returns-then-len-count-gt254-clause-err : goal.returns-then-len-count-gt254-clause-err
+returns-then-len-count-gt254-clause-err c =
+    walks-long _ _ c.loop-label.invariant.walks c.in-Ok.ensures.ok
+    (some_octets c.in-Ok.label.octets.now (λ e. let bad = c.if-is_root.ensures.1 e in cc)) (omega (arith, c.len.ensures))
 
 pub returns-then-is_root-clause-ok : goal.returns-then-is_root-clause-ok
 returns-then-is_root-clause-ok c =
     let none : c.in-Ok.label.octets.now ≡ [] = search rules in
-    let long = c.len.ensures in
-    let is = c.from-place.ensures in
-    let zero = ap (length {A = ℕ}) none in
-    let found = walks-root _ _ c.unwrap_or-next.result (c.loop-label.len + (c.len.result + 1)) c.loop-label.invariant.walks c.in-Ok.ensures.ok none (c.unwrap_or-next.ensures ∙ ap (λ n. unwrap_or c.loop-label.behind n) (omega arith)) (omega arith) (omega arith) in
+    let found = walks-root _ _ c.unwrap_or-next.result _ c.loop-label.invariant.walks c.in-Ok.ensures.ok none c.unwrap_or-next.ensures refl (omega arith) in
     (found.name, found.reads, found.long)
 
-pub loop-label-preserved-else-is_root : goal.loop-label-preserved-else-is_root
-loop-label-preserved-else-is_root c =
+pub loop-label-preserved-in-Ok : goal.loop-label-preserved-in-Ok
+loop-label-preserved-in-Ok c =
     let some = some_octets c.in-Ok.label.octets.now (λ e. let bad = c.if-is_root.ensures.1 e in cc) in
     let long = c.len.ensures in
     let is = c.from-place.ensures in
@@ -64,8 +61,8 @@ pub returns-in-Err-ShortInput-clause-err : goal.returns-in-Err-ShortInput-clause
 returns-in-Err-ShortInput-clause-err c =
     walks-none c.loop-label.invariant.walks (λ name after spelled. short-spells_none c.in-Err-ShortInput.ensures.err c.in-Err-ShortInput.field-0-is spelled)
 
-pub returns-then-len-count-gt255-clause-short : goal.returns-then-len-count-gt255-clause-short
-returns-then-len-count-gt255-clause-short c =
+pub returns-then-len-count-gt254-clause-short : goal.returns-then-len-count-gt254-clause-short
+returns-then-len-count-gt254-clause-short c =
     (λ is. cc, λ cut. absurd (cut-long _ _ (c.loop-label.invariant.cut_back cut) c.in-Ok.ensures.ok (omega (arith, c.len.ensures))))
 
 pub returns-then-target-place-clause-short : goal.returns-then-target-place-clause-short
