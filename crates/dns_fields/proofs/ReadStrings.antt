@@ -4,7 +4,7 @@ use Rattle.std.proofs.lemmas.List.{append-nil}
 use Rattle.dns_name.specs.Page.{Parts}
 use Rattle.dns_name.specs.Page.Parts.{End, Octets}
 use Rattle.dns_name.specs.SpelledParts.{Spells, nothing, octets}
-use Rattle.dns_name.proofs.Flat.{same_front}
+use Rattle.dns_wire.proofs.Flat.{same_front}
 use Rattle.dns_scan.specs.CharStr.{StartsWithString}
 use Rattle.dns_fields.specs.Fields.{Kind, String, Tag, RestText, Rest16, Rest64, Field, string, tag, rest_text, rest16, rest64, kind_of, string_octets, IsField}
 use Rattle.dns_fields.specs.Reading.{read_field, read_parts, ReadsField, ReadsFields, IsSoleField, AreSoleFields, NoField}

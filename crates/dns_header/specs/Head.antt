@@ -3,7 +3,7 @@ use Rattle.std.specs.Prelude.{◌≡◌, ◌+◌, ◌<◌, ◌≤◌, ℕ, List,
 use Rattle.std.specs.Int.{from_be_bytes, to_be_bytes, w16, w32}
 use Rattle.dns_label.specs.Name.{wire, low}
 use Rattle.dns_label.specs.Spelled.{Reads}
-use Rattle.dns_name.specs.Cut.{IsCut}
+use Rattle.dns_wire.specs.Cut.{IsCut}
 use Rattle.dns_name.specs.Page.{Parts}
 use Rattle.dns_name.specs.Page.Parts.{End, Octets, Named, Counted}
 use Rattle.dns_header.specs.Header.{number_at}

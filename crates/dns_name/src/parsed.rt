@@ -3,19 +3,21 @@ ghost use Rattle.std.specs.Prelude.{◌≡◌, ◌≤◌, ◌↔◌, List, ℕ, 
 ghost use Rattle.dns_label.specs.Name.{IsName, wire, with_root};
 ghost use Rattle.dns_label.specs.Spelled.{Reads};
 ghost use Rattle.dns_label.specs.Labels.{labels_at};
-ghost use Rattle.dns_name.specs.Cut.{IsCut};
-ghost use Rattle.dns_name.specs.Parsed.{IsReadAt, StandsAt};
+ghost use Rattle.dns_wire.specs.Cut.{IsCut};
+ghost use Rattle.dns_wire.specs.Parsed.{IsReadAt, StandsAt};
 ghost use Rattle.dns_octets.specs.declared.error.ParseError.TheVariants.{ShortInput};
 
 mod order;
 mod parts;
+mod print;
 mod suffixes;
 
-use crate::parsed_iter::split_label;
-use crate::walk::walk_name;
-use crate::{Name, ParsedNameIter, ToLabelIter, ToName};
+use crate::ParsedNameIter;
+use dns_flat::{Name, ToName};
 use dns_label::Label;
 use dns_octets::{Octets, ParseError, Parser};
+use dns_wire::ToLabelIter;
+use dns_wire::walk::{split_label, walk_name};
 use std::alloc::{AllocError, Global};
 pub use suffixes::ParsedSuffixIter;
 

@@ -6,7 +6,7 @@ use Rattle.std.specs.Char.{to_ascii_lowercase}
 use Rattle.std.proofs.lemmas.List.{length-map}
 use Rattle.dns_label.specs.Name.{IsLabel, IsName, wire}
 use Rattle.dns_name.specs.Spelling.{Spelling, folded, is_same, remembered_form}
-use Rattle.dns_name.proofs.Case.{low_length, wire_one}
+use Rattle.dns_wire.proofs.Case.{low_length, wire_one}
 use Rattle.dns_name.proofs.Folding.{same_is, folded-append, folded-form, length-folded}
 
 folded_length : (s : Spelling) (n : ℕ) → n ≤ 63 → folded s (n ∷ []) ≡ n ∷ []

@@ -13,9 +13,9 @@ use Rattle.dns_text.specs.Numbers.{IsNumberText}
 use Rattle.dns_rdata.specs.Fields.{Field, ipv4, compressible, number32}
 use Rattle.dns_zonefile.specs.PlainRow.{DataWords}
 use Rattle.dns_zonefile.specs.PlainRow.DataWords.{a as a_data, soa as soa_data}
-use Rattle.dns_name.specs.declared.text.FromStrError.{FromStrError}
-use Rattle.dns_name.specs.declared.text.FromStrError.TheVariants.{Presentation, ShortBuf}
-use Rattle.dns_name.specs.Text.{IsRefused}
+use Rattle.dns_wire.specs.declared.text.FromStrError.{FromStrError}
+use Rattle.dns_wire.specs.declared.text.FromStrError.TheVariants.{Presentation, ShortBuf}
+use Rattle.dns_wire.specs.Text.{IsRefused}
 use Rattle.zone_core.specs.Entry.{texts_of, behind_length, SpellsData, OnText, error_of_name}
 use Rattle.zone_core.specs.declared.text.entry.EntryError.{EntryError}
 use Rattle.zone_core.specs.declared.text.entry.EntryError.TheVariants.{Text, OutOfMemory}

@@ -4,7 +4,7 @@ use Rattle.std.specs.Result.{IfOk, OnErr, result_ok}
 use Rattle.dns_label.specs.Name.{IsName, wire}
 use Rattle.dns_label.proofs.Spelling.{reads_one}
 use Rattle.dns_header.proofs.WrittenQuestions.{reads-written}
-use Rattle.dns_name.proofs.Flat.{same_rest}
+use Rattle.dns_wire.proofs.Flat.{same_rest}
 use Rattle.zone_core.specs.Intake.{IsSoaOf}
 
 -- one name stands at the front of octets

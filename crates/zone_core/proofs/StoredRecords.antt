@@ -8,8 +8,8 @@ use Rattle.std.proofs.lemmas.Nat.{from_be_bytes-to_be_bytes_2, from_be_bytes-to_
 use Rattle.dns_label.specs.Name.{IsName, wire}
 use Rattle.dns_label.specs.Labels.{labels_at}
 use Rattle.dns_label.proofs.Spelling.{labels_at-reads, spelled-written}
-use Rattle.dns_name.specs.Flat.{IsWritten}
-use Rattle.dns_name.proofs.Flat.{flat-written}
+use Rattle.dns_wire.specs.Flat.{IsWritten}
+use Rattle.dns_wire.proofs.Flat.{flat-written}
 use Rattle.dns_message.specs.Record.{IsRecord, record_octets}
 use Rattle.zone_core.specs.Record.{Record}
 use Rattle.zone_core.specs.Stored.{IsStored, AreStored, record_in, record_with, records_at, starts}

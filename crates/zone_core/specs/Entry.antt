@@ -9,8 +9,8 @@ use Rattle.dns_label.specs.Symbol.{spelled}
 use Rattle.dns_text.specs.Tokens.{IsEmptyRow, IsIn, is_end}
 use Rattle.dns_rdata.specs.Fields.{Field, octets}
 use Rattle.dns_zonefile.specs.PlainRow.{DataWords, PlainRow, RecordWords}
-use Rattle.dns_name.specs.declared.text.FromStrError.{FromStrError}
-use Rattle.dns_name.specs.declared.text.FromStrError.TheVariants.{Presentation, ShortBuf}
+use Rattle.dns_wire.specs.declared.text.FromStrError.{FromStrError}
+use Rattle.dns_wire.specs.declared.text.FromStrError.TheVariants.{Presentation, ShortBuf}
 use Rattle.zone_core.specs.Record as spec
 use Rattle.zone_core.specs.ZoneText.{Entries, IsRefused}
 use Rattle.zone_core.specs.declared.text.blank.RowStart.{RowStart}

@@ -2,7 +2,7 @@
 use Rattle.std.specs.Prelude.{◌≡◌, ◌<◌, ◌^◌, ℕ, List}
 use Rattle.std.specs.List.{AllByRecursion}
 use Rattle.dns_label.specs.Name.{IsName}
-pub use Rattle.dns_name.specs.PrintedLabels.{AreOctets}
+pub use Rattle.dns_flat.specs.PrintedLabels.{AreOctets}
 use Rattle.dns_rdata.specs.Fields.{IsData}
 use Rattle.dns_message.specs.Record.{IsRecord}
 use Rattle.zone_core.specs.Record.{Record}

@@ -2,7 +2,7 @@
 ghost use Rattle.std.specs.Prelude.{◌≡◌, ◌==◌, ◌↔◌, IsTrue};
 ghost use Rattle.dns_label.specs.Name.{IsName, low};
 ghost use Rattle.dns_message.specs.Record.{IsRecord, record_octets};
-ghost use Rattle.dns_name.specs.Suffix.{EndsWith};
+ghost use Rattle.dns_wire.specs.Suffix.{EndsWith};
 ghost use Rattle.zone_core.specs.Record as spec;
 ghost use Rattle.zone_core.specs.Stored.{IsStored, record_in};
 ghost use Rattle.zone_core.specs.Zone.{soa_type};

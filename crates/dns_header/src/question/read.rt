@@ -1,8 +1,8 @@
 //! Reading questions.
 ghost use Rattle.std.specs.Prelude.{◌≡◌, ◌↔◌, ◌⊎◌, ℕ, List, IfOk, IfErr, OnOk, OnErr};
 ghost use Rattle.dns_label.specs.Spelled.{Reads};
-ghost use Rattle.dns_name.specs.Cut.{IsCut};
-ghost use Rattle.dns_name.specs.Skip.{Skips};
+ghost use Rattle.dns_wire.specs.Cut.{IsCut};
+ghost use Rattle.dns_wire.specs.Skip.{Skips};
 ghost use Rattle.dns_octets.specs.declared.error.ParseError.TheVariants.{ShortInput};
 ghost use Rattle.dns_octets.specs.Parser.{octets_of, place_of};
 ghost use Rattle.dns_header.specs.Question as spec;

@@ -1,7 +1,7 @@
 use Rattle.std.proofs.Common.{◌+◌, sym, ◌∙◌, arith, length, length-drop, refl}
 use Rattle.std.proofs.lemmas.List.{drop-drop}
 use Rattle.dns_octets.specs.Parser.{rest_of, place_of, octets_of}
-use Rattle.dns_name.proofs.Front.{goes_rest}
+use Rattle.dns_flat.proofs.Front.{goes_rest}
 use Rattle.zone_core.proofs.Questions.{too_few}
 use Rattle.zone_core.proofs.PrintedData.{numbers-more, numbers-all}
 use Rattle.zone_core.proofs.print.record.print_numbers.Goals as goal

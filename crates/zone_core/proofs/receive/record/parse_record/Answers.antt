@@ -2,7 +2,7 @@ use Rattle.std.proofs.Common.{◌≡◌, ℕ, ◌++◌, ◌-◌, ◌<◌, ◌^�
 use Rattle.std.specs.Int.{to_be_bytes, w16, w32}
 use Rattle.dns_octets.specs.Parser.{octets_of, place_of, rest_of}
 use Rattle.dns_message.specs.Record.{ReadsPlainRecord, record_octets}
-use Rattle.dns_name.proofs.Flat.{always_on_err}
+use Rattle.dns_wire.proofs.Flat.{always_on_err}
 use Rattle.zone_core.specs.Record as spec
 use Rattle.zone_core.specs.Records.{IsRecordOf}
 use Rattle.zone_core.specs.Stored.{record_in}

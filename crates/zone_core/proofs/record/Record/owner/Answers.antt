@@ -1,6 +1,6 @@
 use Rattle.std.proofs.Common.{◌∙◌, ap, sym}
 use Rattle.zone_core.specs.Record.{Record}
-use Rattle.dns_name.proofs.Case.{wire_one}
+use Rattle.dns_wire.proofs.Case.{wire_one}
 use Rattle.zone_core.proofs.StoredRecords.{owner_front, owner_written}
 use Rattle.zone_core.proofs.record.Record.owner.Goals as goal
 

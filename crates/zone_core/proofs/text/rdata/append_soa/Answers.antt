@@ -1,6 +1,6 @@
 use Rattle.std.proofs.Common.{◌-◌, ◌∷◌, [], refl, arith}
 use Rattle.dns_label.specs.Name.{wire}
-use Rattle.dns_name.proofs.Texts.{absolute_name}
+use Rattle.dns_wire.proofs.Texts.{absolute_name}
 use Rattle.zone_core.proofs.ReadEntries.{spelled-few}
 use Rattle.zone_core.proofs.RecordData.{text_exit, name_exit, none_of, number_of, no_refresh, no_retry, no_expire, no_minimum, no_mname, no_rname, soa_made, soa_few, soa_behind_length, three_parts}
 use Rattle.zone_core.proofs.text.rdata.append_soa.Goals as goal
