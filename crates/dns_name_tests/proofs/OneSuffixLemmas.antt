@@ -42,7 +42,7 @@ full_suffix : (folds : Bool) (name : List (List ℕ)) → suffix_text (one_suffi
 full_suffix folds [] = refl
 full_suffix folds (text ∷ name) = refl
 
--- the first name splits behind its first label, or at once where no pointer reaches it
+-- the first name splits after its first label, or at once where no pointer reaches it
 
 split_near : (folds : Bool) (place : ℕ) (text : List ℕ) (name : List (List ℕ)) → is_near place ≡ true
     → split_from (one_suffix folds) [] 0 place (text ∷ name) ≡ record { labels = text ∷ []; suffix = name }
