@@ -15,6 +15,7 @@ mod long_record_data;
 mod names;
 #[cfg(test)]
 mod octets;
+pub mod one_suffix;
 #[cfg(test)]
 mod record_data;
 #[cfg(test)]
