@@ -12,7 +12,7 @@ use Rattle.dns_name.specs.Spelling.{Split, folded, is_same, remembered_form, pla
 use Rattle.dns_name.specs.Remembered.{IsKnown, HasText, StandsIn, IsSound, sound_none, is_free, patched}
 use Rattle.dns_name.specs.Remembered.IsKnown.{first, later}
 use Rattle.dns_name_tests.specs.OneSuffix.{one_suffix, remembered, within, standing_at}
-use Rattle.dns_name.proofs.Case.{low_wire}
+use Rattle.dns_wire.proofs.Case.{low_wire}
 use Rattle.dns_name.proofs.Folding.{same_is, length-folded, folded-folded, form-exact}
 use Rattle.dns_name.proofs.Known.{free_cases}
 use Rattle.dns_name.proofs.Soundness.{merely-within, text-append, text-take, text-patch, IsSound-append, IsSound-before, IsSound-name, IsSound-patch}
