@@ -9,6 +9,8 @@ mod jobs;
 mod runs;
 mod sink;
 mod source;
+mod step_sink;
+mod step_source;
 mod words;
 
 pub use fault::Fault;
@@ -16,6 +18,8 @@ pub use jobs::Job;
 pub use runs::run;
 pub use sink::{Sink, SinkError, StdSink};
 pub use source::{Source, SourceError, StdSource};
+pub use step_sink::StepSink;
+pub use step_source::StepSource;
 pub use words::{WordsFault, job};
 pub use zone_core::{
     DisplayKind, Query, QueryError, ReceiveError, Receiver, SendError, Spelling, Zone, ZoneError,

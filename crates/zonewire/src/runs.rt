@@ -1,8 +1,9 @@
 //! A run of the program, from its input to its output.
-ghost use Rattle.std.specs.Prelude.{◌≡◌, ◌≢◌, ℕ, List, false, IfOk, IfErr, IfSome, OnOk};
+ghost use Rattle.std.specs.Prelude.{◌≡◌, ◌≢◌, ◌↔◌, ℕ, List, false, IfOk, IfErr, IfSome, IsErrOf, IsTrue, OnOk};
 ghost use Rattle.zone_core.specs.ZoneText.{IsZoneFault, IsZoneText};
 ghost use Rattle.std.specs.Io.KnownBytes.{Appends, IsAtEnd};
 ghost use Rattle.zonewire.specs.Output.{IsOutput, IsJobFault, IsNotReceived, IsReceived, IsReceiveJobFault, IsReceiveOutput, IsSendOutput, IsSendJobFault, query_octets, query_of};
+ghost use Rattle.zonewire.specs.Stream.{AppendsBeginning};
 ghost use Rattle.zonewire.specs.declared.fault.Fault.TheVariants as fault;
 
 use crate::fault::Fault;
@@ -15,7 +16,9 @@ use zone_core::{DisplayKind, ReceiveError, Receiver, Spelling, Zone, ZoneError, 
 
 /// Reads all the input, and writes what the job makes of it.
 ///
-/// A fault other than `Read` and `Write` is the job's, and nothing is written where a fault other than `Write` comes.
+/// Fails with `Read` if a read fails, with `Write` if a write fails, and else with the job's own fault. Nothing is written
+/// before the whole output is there: after any fault but `Write` the sink is as it was, and after `Write` it holds a
+/// beginning of the output.
 pub fn run<R: Source, W: Sink>(
     alloc: Global,
     source: &mut R,
@@ -25,15 +28,21 @@ pub fn run<R: Source, W: Sink>(
     // What is written is what the job makes of all that was read.
     ensures written { OnOk result (IfSome (R.remaining source.old) (λ input.
         (output : List ℕ) × IsOutput job input output × Appends (W.written sink.old) (W.written sink.new) output)) }
-    ensures ended { OnOk result (IsAtEnd (R.remaining source.new)) }
 
-    // A fault of the job is the one of all that was read, and nothing is written unless a write is refused.
+    // The source is read to its end, unless a read fails or memory runs out.
+    ensures ended { OnOk result (IsAtEnd (R.remaining source.new)) }
+    ensures drained { IfErr result (λ error. error ≢ fault.Read → error ≢ fault.OutOfMemory → IsAtEnd (R.remaining source.new)) }
+
+    // A fault of the job is the one of all that was read, and nothing is written unless a write fails.
     ensures faults { IfErr result (λ error. error ≢ fault.Read → error ≢ fault.Write →
         IfSome (R.remaining source.old) (λ input. IsJobFault job input error)) }
     ensures silent { IfErr result (λ error. error ≢ fault.Write → sink.new ≡ sink.old) }
 
-    // The source is read to its end before a job is refused too.
-    ensures drained { IfErr result (λ error. error ≢ fault.Read → error ≢ fault.OutOfMemory → IsAtEnd (R.remaining source.new)) }
+    // `Read` comes exactly where the source failed, and `Write` exactly where the sink did, after a beginning of the output.
+    ensures read { R.failed source.old ≡ false → (IsErrOf result fault.Read ↔ IsTrue (R.failed source.new)) }
+    ensures write { W.failed sink.old ≡ false → (IsErrOf result fault.Write ↔ IsTrue (W.failed sink.new)) }
+    ensures part { IfErr result (λ error. error ≡ fault.Write → IfSome (R.remaining source.old) (λ input.
+        (output : List ℕ) × IsOutput job input output × AppendsBeginning (W.written sink.old) (W.written sink.new) output)) }
 {
     let input = read_all(alloc, source)?;
     let output = output(alloc, input, &job)?;

@@ -18,6 +18,8 @@ mod runs;
 #[cfg(test)]
 mod sent;
 #[cfg(test)]
+mod steps;
+#[cfg(test)]
 mod text;
 #[cfg(test)]
 mod words;
