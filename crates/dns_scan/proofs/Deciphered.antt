@@ -14,6 +14,11 @@ use Rattle.dns_scan.specs.ScanError.{is_want_of_room}
 use Rattle.dns_scan.specs.Symbols.{symbols_in}
 use Rattle.dns_scan.proofs.Decoded.{refused_text, refused_for_itself, whole_decodes, not_whole}
 
+-- the same encoding
+pub deciphered_at : (base other : Base) (held : Held) (symbols : List Symbol) (given : List ℕ) → base ≡ other
+    → HasDeciphered base held symbols given → HasDeciphered other held symbols given
+deciphered_at base other held symbols given same has = subst (λ b. HasDeciphered b held symbols given) same has
+
 -- one symbol more
 pub deciphered_more : (base : Base) (old new : Held) (symbols : List Symbol) (given more : List ℕ) (symbol : Symbol) (c : ℕ) → symbol ≡ Char c
     → HasDeciphered base old symbols given

@@ -17,15 +17,17 @@ returns-then-not-is_whole-clause-short g c = λ sound. (
   λ text read octets decodes.
       not_whole g.E.Encoding.BASE c.args.self text read
       (λ whole.
+      let Q : Base → Type 0 = λ b. IsWhole b c.self.inside.group.pads (length c.self.inside.group.waiting) in
       let bad = c.if-not-is_whole.ensures.1
-      (whole_at g.E.Encoding.BASE _ _ _ _ (sym (ap (λ p. p.pads) c.self.view_is))
-      (sym (ap (λ p. length p.waiting) c.self.view_is)) whole) in cc) octets decodes,
+      (subst Q (sym c.BASE.ensures) (whole_at g.E.Encoding.BASE _ _ _ _ (sym (ap (λ p. p.pads) c.self.view_is))
+      (sym (ap (λ p. length p.waiting) c.self.view_is)) whole)) in cc) octets decodes,
 )
 
 pub returns-clause-ok : goal.returns-clause-ok
 returns-clause-ok g c = λ text read.
     let P : List ℕ → Type 0 = λ l. Decodes g.E.Encoding.BASE text l in
+    let Q : Base → Type 0 = λ b. IsWhole b c.self.inside.group.pads (length c.self.inside.group.waiting) in
     subst P (sym (ap (λ p. p.octets) c.self.view_is))
     (whole_decodes g.E.Encoding.BASE c.args.self text read
     (whole_at g.E.Encoding.BASE _ _ _ _ (ap (λ p. p.pads) c.self.view_is)
-    (ap (λ p. length p.waiting) c.self.view_is) (c.if-not-is_whole.ensures.0 refl)))
+    (ap (λ p. length p.waiting) c.self.view_is) (subst Q c.BASE.ensures (c.if-not-is_whole.ensures.0 refl))))
