@@ -245,7 +245,7 @@ impl ZonefileFmt for A {
     ghost document = { λ rdata. block_of (row_pieces rdata) };
 
     fn fmt<F: Formatter>(&self, formatter: &mut F) -> fmt::Result {
-        show_row(&self.row, formatter)
+        show_row::<_, _, 1>(&self.row, formatter)
     }
 }
 

@@ -238,7 +238,7 @@ impl ZonefileFmt for Aaaa {
     ghost document = { λ rdata. block_of (row_pieces rdata) };
 
     fn fmt<F: Formatter>(&self, formatter: &mut F) -> fmt::Result {
-        show_row(&self.row, formatter)
+        show_row::<_, _, 28>(&self.row, formatter)
     }
 }
 

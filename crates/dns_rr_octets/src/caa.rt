@@ -277,7 +277,7 @@ impl<Octs: Octets> ZonefileFmt for Caa<Octs> {
     ghost document = { λ rdata. block_of (row_pieces rdata) };
 
     fn fmt<F: Formatter>(&self, formatter: &mut F) -> fmt::Result {
-        show_row(&self.row, formatter)
+        show_row::<_, _, 257>(&self.row, formatter)
     }
 }
 

@@ -288,7 +288,7 @@ impl<Octs: Octets> ZonefileFmt for Dnskey<Octs> {
     ghost document = { λ rdata. block_of (row_pieces rdata) };
 
     fn fmt<F: Formatter>(&self, formatter: &mut F) -> fmt::Result {
-        show_row(&self.row, formatter)
+        show_row::<_, _, 48>(&self.row, formatter)
     }
 }
 

@@ -357,7 +357,7 @@ impl<Octs: Octets> ZonefileFmt for Txt<Octs> {
     ghost document = { λ rdata. block_of (row_pieces rdata) };
 
     fn fmt<F: Formatter>(&self, formatter: &mut F) -> fmt::Result {
-        show_row(&self.row, formatter)
+        show_row::<_, _, 16>(&self.row, formatter)
     }
 }
 
