@@ -14,14 +14,15 @@ pub pieces_of_row : (field : Field) (row : List Field) → row_pieces (field ∷
 pieces_of_row field row = map-append Token (field_tokens field) (row_tokens row)
 
 pub commented_field : (comments : List (Option (List ℕ))) (field : Field) (row : List Field)
-    → commented comments (field ∷ row) ≡ field_pieces field ++ first_comment comments ++ commented (drop 1 comments) row
+    → commented comments (field ∷ row) ≡ field_pieces field ++ (first_comment comments ++ commented (drop 1 comments) row)
 commented_field [] field row = pieces_of_row field row
 commented_field (None ∷ comments) field row = refl
 commented_field (Some comment ∷ comments) field row = refl
 
-pub commented_none : (comments : List (Option (List ℕ))) → commented comments [] ≡ []
-commented_none [] = refl
-commented_none (comment ∷ comments) = refl
+pub none_shown : {F : Type 0} (writes : F → List Piece → F → Type 0) (a : F) (comments : List (Option (List ℕ)))
+    → Adds writes a (commented comments []) a
+none_shown writes a [] start front so_far = so_far
+none_shown writes a (comment ∷ comments) start front so_far = so_far
 
 -- a field is shown, then its comment, and then the others with theirs
 pub row_shown : {F T E : Type 0} (writes : F → List Piece → F → Type 0) (a b c d : F) (comments others : List (Option (List ℕ)))
@@ -43,4 +44,4 @@ last_shown writes a b c comments field first comment =
     subst (λ (pieces : List Piece). Adds writes a pieces c) (sym (commented_field comments field []))
     (adds_append writes a b c (field_pieces field) (first_comment comments ++ commented (drop 1 comments) []) first
     (adds_append writes b c c (first_comment comments) (commented (drop 1 comments) []) comment
-    (subst (λ (pieces : List Piece). Adds writes c pieces c) (sym (commented_none (drop 1 comments))) (λ start front so_far. so_far))))
+    (none_shown writes c (drop 1 comments))))

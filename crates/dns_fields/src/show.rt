@@ -100,10 +100,9 @@ pub fn show_row<R: ShowRow, F: Formatter, const RTYPE: u16>(
 ) -> fmt::Result
     ensures { OnOk result (Adds F.writes formatter.old (block_of (data_pieces RTYPE (R.fields row.now))) formatter.new) }
 {
-    let comments = comments_of(RTYPE);
     formatter.block(
         |inner: &mut F| -> fmt::Result
-            ensures { OnOk result (Adds F.writes inner.old (commented (texts comments.entry.now) (R.fields row.entry.now)) inner.new) }
-        { row.show_fields(comments, inner) },
+            ensures { OnOk result (Adds F.writes inner.old (data_pieces RTYPE (R.fields row.entry.now)) inner.new) }
+        { row.show_fields(comments_of(RTYPE), inner) },
     )
 }
