@@ -3,8 +3,8 @@ ghost use Rattle.std.specs.Prelude.{◌≡◌, [], ◌∷◌, Some};
 ghost use Rattle.std.specs.Net.Addr.{ipv4_octets};
 ghost use Rattle.dns_fields.specs.Fields.{ipv4, field_at};
 
-use crate::{Number, RowData};
-use dns_fields::ARow;
+use crate::RowData;
+use dns_fields::{ARow, Number};
 use std::marker::PhantomData;
 use std::net::Ipv4Addr;
 

@@ -3,8 +3,8 @@ ghost use Rattle.std.specs.Prelude.{◌≡◌, [], ◌∷◌, Some};
 ghost use Rattle.std.specs.Net.Addr.{ipv6_octets};
 ghost use Rattle.dns_fields.specs.Fields.{ipv6, field_at};
 
-use crate::{Number, RowData};
-use dns_fields::AaaaRow;
+use crate::RowData;
+use dns_fields::{AaaaRow, Number};
 use std::marker::PhantomData;
 use std::net::Ipv6Addr;
 

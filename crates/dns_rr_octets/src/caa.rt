@@ -3,8 +3,8 @@ ghost use Rattle.std.specs.Prelude.{◌≡◌, ◌≤◌, ◌↔◌, length, [],
 ghost use Rattle.dns_fields.specs.Fields as fields;
 ghost use Rattle.dns_fields.specs.Fields.{number8, rest_text, octets, field_at};
 
-use crate::{Number, RowData};
-use dns_fields::{CaaRow, Last, RestText, Row, Tag};
+use crate::RowData;
+use dns_fields::{CaaRow, Last, Number, RestText, Row, Tag};
 use dns_name::{LongRecordData, Octets};
 use dns_text::CharStr;
 use std::marker::PhantomData;

@@ -2,8 +2,8 @@
 ghost use Rattle.std.specs.Prelude.{◌≡◌, ◌≤◌, ◌↔◌, length, [], ◌∷◌, Some, IsOk, IfOk};
 ghost use Rattle.dns_fields.specs.Fields.{number8, number16, rest64, octets, field_at};
 
-use crate::{Number, RowData};
-use dns_fields::{DnskeyRow, Last, Rest64, Row};
+use crate::RowData;
+use dns_fields::{DnskeyRow, Last, Number, Rest64, Row};
 use dns_name::{LongRecordData, Octets};
 use std::marker::PhantomData;
 

@@ -2,8 +2,8 @@
 ghost use Rattle.std.specs.Prelude.{◌≡◌, [], ◌∷◌, Some};
 ghost use Rattle.dns_fields.specs.Fields.{string, field_at};
 
-use crate::{Number, RowData};
-use dns_fields::HinfoRow;
+use crate::RowData;
+use dns_fields::{HinfoRow, Number};
 use dns_name::Octets;
 use dns_text::CharStr;
 use std::marker::PhantomData;

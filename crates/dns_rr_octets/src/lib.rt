@@ -18,5 +18,5 @@ pub use caa::Caa;
 pub use dnskey::Dnskey;
 pub use ds::Ds;
 pub use hinfo::Hinfo;
-pub use row_data::{Number, RowData};
+pub use row_data::RowData;
 pub use txt::{Txt, TxtAppendError, TxtBuilder, TxtCharStrIter, TxtError, TxtIter};

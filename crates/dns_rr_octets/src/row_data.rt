@@ -21,9 +21,9 @@ ghost use Rattle.dns_text.specs.Document.Layout.{Simple};
 ghost use Rattle.dns_text.specs.Documents.{block_of};
 
 use dns_fields::{
-    CanonicalOctetsOrd, ConvertRow, FrontRow, OverOctets, ReadRow, Row, RowOf, ScanRow, ShowRow,
-    canonical_row_cmp_octets, compose_canonical_row, compose_row, parse_row, row_len, scan_row,
-    show_row,
+    CanonicalOctetsOrd, ConvertRow, FrontRow, Number, OverOctets, ReadRow, Row, RowOf, ScanRow,
+    ShowRow, canonical_row_cmp_octets, compose_canonical_row, compose_row, parse_row, row_len,
+    scan_row, show_row,
 };
 use dns_name::{
     AppendError, CanonicalOrd, ComposeRecordData, Composer, EmptyBuilder, FlattenInto, FromBuilder,
@@ -35,10 +35,6 @@ use std::cmp::Ordering;
 use std::fmt;
 use std::hash::{Hash, Hasher};
 use std::marker::{Model, PhantomData};
-
-/// Stands for the type of this number.
-#[derive(Debug, Drop)]
-pub struct Number<const RTYPE: u16> {}
 
 /// Data of the type that `T` stands for, as a row of fields.
 ///

@@ -14,11 +14,11 @@ mod builder;
 mod cut;
 mod iter;
 
-use crate::{Number, RowData};
+use crate::RowData;
 pub use append_error::TxtAppendError;
 pub use builder::TxtBuilder;
 use cut::{append_joined, append_strings, fill, is_long};
-use dns_fields::{Last, Strings, TxtRow};
+use dns_fields::{Last, Number, Strings, TxtRow};
 use dns_name::{AppendError, EmptyBuilder, FromBuilder, Octets};
 pub use iter::{TxtCharStrIter, TxtIter};
 use std::alloc::Global;
