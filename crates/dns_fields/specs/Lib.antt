@@ -11,4 +11,5 @@ pub mod Shown
 pub mod Comments
 pub mod Strings
 pub mod Held
+pub mod Fixed
 pub mod Tried

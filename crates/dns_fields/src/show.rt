@@ -103,7 +103,7 @@ pub fn show_row<R: ShowRow, F: Formatter, const RTYPE: u16>(
     let comments = comments_of(RTYPE);
     formatter.block(
         |inner: &mut F| -> fmt::Result
-            ensures { OnOk result (Adds F.writes inner.old (data_pieces RTYPE (R.fields row.entry.now)) inner.new) }
+            ensures { OnOk result (Adds F.writes inner.old (commented (texts comments.entry.now) (R.fields row.entry.now)) inner.new) }
         { row.show_fields(comments, inner) },
     )
 }

@@ -22,8 +22,8 @@ ghost use Rattle.dns_text.specs.Documents.{block_of};
 
 use dns_fields::{
     CanonicalOctetsOrd, ConvertRow, FrontRow, Number, OverOctets, ReadRow, Row, RowOf, ScanRow,
-    ShowRow, canonical_row_cmp_octets, compose_canonical_row, compose_row, parse_row, row_len,
-    scan_row, show_row,
+    ShowRow, canonical_row_cmp_octets, compose_canonical_row, compose_row, parse_row, read_row,
+    row_len, scan_row, show_row,
 };
 use dns_name::{
     AppendError, CanonicalOrd, ComposeRecordData, Composer, EmptyBuilder, FlattenInto, FromBuilder,
@@ -105,7 +105,10 @@ impl<'a, const RTYPE: u16, R: RowOf<RTYPE> + ReadRow<'a>> ParseRecordData<'a>
         if rtype.to_int() != RTYPE {
             return Ok(None);
         }
-        Ok(Some(RowData::parse(parser)?))
+        Ok(Some(RowData {
+            row: read_row(RTYPE, parser)?,
+            rtype: PhantomData,
+        }))
     }
 }
 
