@@ -24,6 +24,6 @@ pub use row::{Last, LastValue, Rest16, Rest64, RestText, Row, Strings, StringsIt
 pub use scan::{ScanField, ScanRow, scan_row};
 pub use show::{ShowField, ShowLast, ShowRow, show_row};
 pub use table::{
-    ARow, AaaaRow, CaaRow, DnskeyRow, DsRow, HinfoRow, MinfoRow, MxRow, NameRow, RowOf, RpRow, SoaRow,
-    SrvRow, TxtRow,
+    ARow, AaaaRow, CaaRow, DnskeyRow, DsRow, HinfoRow, MinfoRow, MxRow, NameRow, Number, RowOf,
+    RpRow, SoaRow, SrvRow, TxtRow,
 };

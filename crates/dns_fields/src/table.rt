@@ -8,6 +8,10 @@ use dns_name::{Octets, ToName};
 use dns_text::CharStr;
 use std::net::{Ipv4Addr, Ipv6Addr};
 
+/// Stands for the type of this number.
+#[derive(Debug, Drop)]
+pub struct Number<const RTYPE: u16> {}
+
 /// A row of the fields that data of the type has.
 pub trait RowOf<const RTYPE: u16>: Row {
     ghost of_type: { kinds_of RTYPE ≡ Some Self.kinds };

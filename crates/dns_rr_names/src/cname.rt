@@ -3,13 +3,13 @@ ghost use Rattle.std.specs.Prelude.{◌≡◌, [], ◌∷◌, Some};
 ghost use Rattle.dns_fields.specs.Fields.{compressible, field_at};
 
 use crate::RowData;
-use dns_fields::NameRow;
+use dns_fields::{NameRow, Number};
 use dns_name::ToName;
 
 /// The name that the owner is another name of.
-pub type Cname<N> = RowData<5, NameRow<N>>;
+pub type Cname<N> = RowData<Number<5>, NameRow<N>>;
 
-impl<N: ToName> RowData<5, NameRow<N>> {
+impl<N: ToName> RowData<Number<5>, NameRow<N>> {
     /// Returns the name that the owner stands for.
     pub fn cname(&self) -> &N
         ensures { field_at 0 self.now ≡ Some (compressible (N.name result.now)) }

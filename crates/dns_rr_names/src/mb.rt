@@ -3,13 +3,13 @@ ghost use Rattle.std.specs.Prelude.{◌≡◌, [], ◌∷◌, Some};
 ghost use Rattle.dns_fields.specs.Fields.{compressible, field_at};
 
 use crate::RowData;
-use dns_fields::NameRow;
+use dns_fields::{NameRow, Number};
 use dns_name::ToName;
 
 /// A host that has the mailbox of the owner.
-pub type Mb<N> = RowData<7, NameRow<N>>;
+pub type Mb<N> = RowData<Number<7>, NameRow<N>>;
 
-impl<N: ToName> RowData<7, NameRow<N>> {
+impl<N: ToName> RowData<Number<7>, NameRow<N>> {
     /// Returns the name of the host.
     pub fn madname(&self) -> &N
         ensures { field_at 0 self.now ≡ Some (compressible (N.name result.now)) }

@@ -3,13 +3,13 @@ ghost use Rattle.std.specs.Prelude.{◌≡◌, [], ◌∷◌, Some};
 ghost use Rattle.dns_fields.specs.Fields.{compressible, field_at};
 
 use crate::RowData;
-use dns_fields::NameRow;
+use dns_fields::{NameRow, Number};
 use dns_name::ToName;
 
 /// A host that hands mail for the owner on; MX data has taken its place.
-pub type Mf<N> = RowData<4, NameRow<N>>;
+pub type Mf<N> = RowData<Number<4>, NameRow<N>>;
 
-impl<N: ToName> RowData<4, NameRow<N>> {
+impl<N: ToName> RowData<Number<4>, NameRow<N>> {
     /// Returns the name of the host.
     pub fn madname(&self) -> &N
         ensures { field_at 0 self.now ≡ Some (compressible (N.name result.now)) }

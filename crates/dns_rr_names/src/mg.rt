@@ -3,13 +3,13 @@ ghost use Rattle.std.specs.Prelude.{◌≡◌, [], ◌∷◌, Some};
 ghost use Rattle.dns_fields.specs.Fields.{compressible, field_at};
 
 use crate::RowData;
-use dns_fields::NameRow;
+use dns_fields::{NameRow, Number};
 use dns_name::ToName;
 
 /// A mailbox that is in the mail group of the owner.
-pub type Mg<N> = RowData<8, NameRow<N>>;
+pub type Mg<N> = RowData<Number<8>, NameRow<N>>;
 
-impl<N: ToName> RowData<8, NameRow<N>> {
+impl<N: ToName> RowData<Number<8>, NameRow<N>> {
     /// Returns the mailbox, written as a name.
     pub fn madname(&self) -> &N
         ensures { field_at 0 self.now ≡ Some (compressible (N.name result.now)) }

@@ -3,19 +3,21 @@ ghost use Rattle.std.specs.Prelude.{◌≡◌, [], ◌∷◌, Some};
 ghost use Rattle.dns_fields.specs.Fields.{compressible, field_at};
 
 use crate::RowData;
-use dns_fields::{Compressible, MinfoRow};
+use dns_fields::{Compressible, MinfoRow, Number};
 use dns_name::ToName;
+use std::marker::PhantomData;
 
 /// Who is responsible for a mailing list or a mailbox.
-pub type Minfo<N> = RowData<14, MinfoRow<N>>;
+pub type Minfo<N> = RowData<Number<14>, MinfoRow<N>>;
 
-impl<N: ToName> RowData<14, MinfoRow<N>> {
+impl<N: ToName> RowData<Number<14>, MinfoRow<N>> {
     /// Returns the data of two mailboxes, each written as a name.
     pub fn new(rmailbx: N, emailbx: N) -> Self
         ensures { result ≡ compressible (N.name rmailbx) ∷ compressible (N.name emailbx) ∷ [] }
     {
         RowData {
             row: (Compressible(rmailbx), (Compressible(emailbx), ())),
+            rtype: PhantomData,
         }
     }
 

@@ -3,13 +3,13 @@ ghost use Rattle.std.specs.Prelude.{◌≡◌, [], ◌∷◌, Some};
 ghost use Rattle.dns_fields.specs.Fields.{compressible, field_at};
 
 use crate::RowData;
-use dns_fields::NameRow;
+use dns_fields::{NameRow, Number};
 use dns_name::ToName;
 
 /// The mailbox that has taken the place of the owner.
-pub type Mr<N> = RowData<9, NameRow<N>>;
+pub type Mr<N> = RowData<Number<9>, NameRow<N>>;
 
-impl<N: ToName> RowData<9, NameRow<N>> {
+impl<N: ToName> RowData<Number<9>, NameRow<N>> {
     /// Returns the mailbox, written as a name.
     pub fn newname(&self) -> &N
         ensures { field_at 0 self.now ≡ Some (compressible (N.name result.now)) }

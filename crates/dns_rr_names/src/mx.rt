@@ -3,19 +3,21 @@ ghost use Rattle.std.specs.Prelude.{◌≡◌, [], ◌∷◌, Some};
 ghost use Rattle.dns_fields.specs.Fields.{number16, compressible, field_at};
 
 use crate::RowData;
-use dns_fields::{Compressible, MxRow};
+use dns_fields::{Compressible, MxRow, Number};
 use dns_name::ToName;
+use std::marker::PhantomData;
 
 /// A host that takes mail for the owner, and how it is preferred: the one with the lowest number comes first.
-pub type Mx<N> = RowData<15, MxRow<N>>;
+pub type Mx<N> = RowData<Number<15>, MxRow<N>>;
 
-impl<N: ToName> RowData<15, MxRow<N>> {
+impl<N: ToName> RowData<Number<15>, MxRow<N>> {
     /// Returns the data of a host and how it is preferred.
     pub fn new(preference: u16, exchange: N) -> Self
         ensures { result ≡ number16 preference ∷ compressible (N.name exchange) ∷ [] }
     {
         RowData {
             row: (preference, (Compressible(exchange), ())),
+            rtype: PhantomData,
         }
     }
 

@@ -3,13 +3,13 @@ ghost use Rattle.std.specs.Prelude.{◌≡◌, [], ◌∷◌, Some};
 ghost use Rattle.dns_fields.specs.Fields.{compressible, field_at};
 
 use crate::RowData;
-use dns_fields::NameRow;
+use dns_fields::{NameRow, Number};
 use dns_name::ToName;
 
 /// A name that the owner points to.
-pub type Ptr<N> = RowData<12, NameRow<N>>;
+pub type Ptr<N> = RowData<Number<12>, NameRow<N>>;
 
-impl<N: ToName> RowData<12, NameRow<N>> {
+impl<N: ToName> RowData<Number<12>, NameRow<N>> {
     /// Returns the name that the owner points to.
     pub fn ptrdname(&self) -> &N
         ensures { field_at 0 self.now ≡ Some (compressible (N.name result.now)) }

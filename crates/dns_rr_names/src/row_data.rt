@@ -21,9 +21,9 @@ ghost use Rattle.dns_text.specs.Document.Layout.{Simple};
 ghost use Rattle.dns_text.specs.Documents.{block_of};
 
 use dns_fields::{
-    CanonicalOctetsOrd, ConvertRow, FrontRow, OverOctets, ReadRow, Row, RowOf, ScanRow, ShowRow,
-    canonical_row_cmp_octets, compose_canonical_row, compose_row, parse_row, read_row, row_len,
-    scan_row, show_row,
+    CanonicalOctetsOrd, ConvertRow, FrontRow, Number, OverOctets, ReadRow, Row, RowOf, ScanRow,
+    ShowRow, canonical_row_cmp_octets, compose_canonical_row, compose_row, parse_row, read_row,
+    row_len, scan_row, show_row,
 };
 use dns_name::{
     AppendError, CanonicalOrd, ComposeRecordData, Composer, EmptyBuilder, FlattenInto, FromBuilder,
@@ -34,17 +34,18 @@ use std::alloc::Global;
 use std::cmp::Ordering;
 use std::fmt;
 use std::hash::{Hash, Hasher};
-use std::marker::Model;
+use std::marker::{Model, PhantomData};
 
-/// Data of the type of this number, as a row of fields.
+/// Data of the type that `T` stands for, as a row of fields.
 ///
 /// A contract sees it as its row. A row whose last field may have any number of octets has at most 65,535.
 #[derive(Debug, Drop)]
-pub struct RowData<const RTYPE: u16, R: Row> {
+pub struct RowData<T, R: Row> {
     pub(crate) row: R,
+    pub(crate) rtype: PhantomData<T>,
 }
 
-impl<const RTYPE: u16, R: Row> Model for RowData<RTYPE, R> {
+impl<T, R: Row> Model for RowData<T, R> {
     ghost Value = { List Field };
 
     ghost view = { λ rdata. R.fields rdata.row };
@@ -52,7 +53,7 @@ impl<const RTYPE: u16, R: Row> Model for RowData<RTYPE, R> {
     ghost invariant = { λ rdata. FitsRecord (R.fields rdata.row) };
 }
 
-impl<const RTYPE: u16, R: RowOf<RTYPE>> RowData<RTYPE, R> {
+impl<const RTYPE: u16, R: RowOf<RTYPE>> RowData<Number<RTYPE>, R> {
     /// Parses the data up to the end of the parser.
     ///
     /// Fails if what is left is no data of the type, and with `ShortInput` exactly if the octets end too early for it. The
@@ -68,6 +69,7 @@ impl<const RTYPE: u16, R: RowOf<RTYPE>> RowData<RTYPE, R> {
     {
         Ok(RowData {
             row: parse_row::<_, RTYPE>(parser)?,
+            rtype: PhantomData,
         })
     }
 
@@ -87,14 +89,14 @@ impl<const RTYPE: u16, R: RowOf<RTYPE>> RowData<RTYPE, R> {
     {
         Ok(RowData {
             row: scan_row::<_, _, RTYPE>(scanner)?,
+            rtype: PhantomData,
         })
     }
 }
 
 /// Takes this type alone.
 impl<'a, const RTYPE: u16, R: RowOf<RTYPE> + ReadRow<'a>> ParseRecordData<'a>
-    for RowData<RTYPE, R>
-{
+    for RowData<Number<RTYPE>, R> {
     ghost takes = { λ number. number == RTYPE };
 
     ghost reads = { λ message place number rdata. ReadsRow number message place rdata };
@@ -105,13 +107,14 @@ impl<'a, const RTYPE: u16, R: RowOf<RTYPE> + ReadRow<'a>> ParseRecordData<'a>
         }
         Ok(Some(RowData {
             row: read_row(RTYPE, parser)?,
+            rtype: PhantomData,
         }))
     }
 }
 
 /// Returns the same fields over other octets. Fails with `ShortBuf` only if these can't hold as many as a field has, and with
 /// `OutOfMemory` only if out of memory. Data that is numbers and addresses never fails.
-impl<const RTYPE: u16, A, B> OctetsFrom<RowData<RTYPE, A>> for RowData<RTYPE, B>
+impl<const RTYPE: u16, A, B> OctetsFrom<RowData<Number<RTYPE>, A>> for RowData<Number<RTYPE>, B>
 where
     A: ConvertRow<B, B::Octets> + Drop,
     B: OverOctets,
@@ -122,15 +125,19 @@ where
         × (result ≡ Err BadLength → ⊥)
         × (hold_octets source ≡ false → IsOk result) };
 
-    fn try_octets_from(alloc: Global, source: RowData<RTYPE, A>) -> Result<Self, AppendError> {
+    fn try_octets_from(
+        alloc: Global,
+        source: RowData<Number<RTYPE>, A>,
+    ) -> Result<Self, AppendError> {
         Ok(RowData {
             row: ConvertRow::<_, B::Octets>::convert_fields(&source.row, alloc)?,
+            rtype: PhantomData,
         })
     }
 }
 
 /// Returns the same fields, with flat names.
-impl<const RTYPE: u16, A, B> FlattenInto<RowData<RTYPE, B>> for RowData<RTYPE, A>
+impl<const RTYPE: u16, A, B> FlattenInto<RowData<Number<RTYPE>, B>> for RowData<Number<RTYPE>, A>
 where
     A: ConvertRow<B, B::Octets> + Drop,
     B: OverOctets,
@@ -140,12 +147,12 @@ where
 
     ghost is_long = { OneIsPast B.Octets.Builder.limit };
 
-    fn try_flatten_into(self, alloc: Global) -> Result<RowData<RTYPE, B>, AppendError> {
+    fn try_flatten_into(self, alloc: Global) -> Result<RowData<Number<RTYPE>, B>, AppendError> {
         RowData::try_octets_from(alloc, self)
     }
 }
 
-impl<const RTYPE: u16, R: Row> RecordData for RowData<RTYPE, R> {
+impl<const RTYPE: u16, R: Row> RecordData for RowData<Number<RTYPE>, R> {
     ghost rtype = { λ _. RTYPE };
 
     fn rtype(&self) -> Rtype {
@@ -153,7 +160,7 @@ impl<const RTYPE: u16, R: Row> RecordData for RowData<RTYPE, R> {
     }
 }
 
-impl<const RTYPE: u16, R: Row> ComposeRecordData for RowData<RTYPE, R> {
+impl<const RTYPE: u16, R: Row> ComposeRecordData for RowData<Number<RTYPE>, R> {
     ghost parts = { written_parts };
 
     ghost canonical_octets = { canonical_octets };
@@ -175,7 +182,7 @@ impl<const RTYPE: u16, R: Row> ComposeRecordData for RowData<RTYPE, R> {
 }
 
 /// Up to ASCII case (RFC 4343).
-impl<const RTYPE: u16, R: Row> PartialEq for RowData<RTYPE, R> {
+impl<const RTYPE: u16, R: Row> PartialEq for RowData<Number<RTYPE>, R> {
     ghost eq = { rows_eq };
 
     ghost laws = { rows_partly_equivalent };
@@ -185,11 +192,11 @@ impl<const RTYPE: u16, R: Row> PartialEq for RowData<RTYPE, R> {
     }
 }
 
-impl<const RTYPE: u16, R: Row> Eq for RowData<RTYPE, R> {
+impl<const RTYPE: u16, R: Row> Eq for RowData<Number<RTYPE>, R> {
     ghost laws = { rows_equivalent };
 }
 
-impl<const RTYPE: u16, R: Row> PartialOrd for RowData<RTYPE, R> {
+impl<const RTYPE: u16, R: Row> PartialOrd for RowData<Number<RTYPE>, R> {
     ghost partial_cmp = { as_partial_cmp rows_cmp };
 
     ghost laws = { rows_order };
@@ -199,7 +206,7 @@ impl<const RTYPE: u16, R: Row> PartialOrd for RowData<RTYPE, R> {
     }
 }
 
-impl<const RTYPE: u16, R: Row> Ord for RowData<RTYPE, R> {
+impl<const RTYPE: u16, R: Row> Ord for RowData<Number<RTYPE>, R> {
     ghost cmp = { rows_cmp };
 
     ghost total = { rows_total };
@@ -214,7 +221,7 @@ impl<const RTYPE: u16, R: Row> Ord for RowData<RTYPE, R> {
 }
 
 /// The order of the canonical octets (RFC 4034 6.3).
-impl<const RTYPE: u16, R: Row> CanonicalOrd for RowData<RTYPE, R> {
+impl<const RTYPE: u16, R: Row> CanonicalOrd for RowData<Number<RTYPE>, R> {
     ghost canonical = { canonical_rows_cmp };
 
     fn canonical_cmp(&self, other: &Self) -> Ordering {
@@ -223,13 +230,13 @@ impl<const RTYPE: u16, R: Row> CanonicalOrd for RowData<RTYPE, R> {
 }
 
 /// The same order, against data that is held as octets.
-impl<const RTYPE: u16, R: FrontRow> CanonicalOctetsOrd for RowData<RTYPE, R> {
+impl<const RTYPE: u16, R: FrontRow> CanonicalOctetsOrd for RowData<Number<RTYPE>, R> {
     fn canonical_octets_cmp(&self, octets: &[u8]) -> Ordering {
         canonical_row_cmp_octets(&self.row, octets)
     }
 }
 
-impl<const RTYPE: u16, R: Row> Hash for RowData<RTYPE, R> {
+impl<const RTYPE: u16, R: Row> Hash for RowData<Number<RTYPE>, R> {
     ghost hash_input = { keys };
 
     ghost respects_eq = { rows_alike };
@@ -240,7 +247,7 @@ impl<const RTYPE: u16, R: Row> Hash for RowData<RTYPE, R> {
 }
 
 /// The tokens of the fields in a block, with the comments of the type.
-impl<const RTYPE: u16, R: ShowRow> ZonefileFmt for RowData<RTYPE, R> {
+impl<const RTYPE: u16, R: ShowRow> ZonefileFmt for RowData<Number<RTYPE>, R> {
     ghost document = { λ rdata. block_of (data_pieces RTYPE rdata) };
 
     fn fmt<F: Formatter>(&self, formatter: &mut F) -> fmt::Result {
@@ -249,7 +256,7 @@ impl<const RTYPE: u16, R: ShowRow> ZonefileFmt for RowData<RTYPE, R> {
 }
 
 /// With one space between two fields.
-impl<const RTYPE: u16, R: ShowRow> fmt::Display for RowData<RTYPE, R> {
+impl<const RTYPE: u16, R: ShowRow> fmt::Display for RowData<Number<RTYPE>, R> {
     ghost output = { λ rdata. Some (document_text Simple (block_of (data_pieces RTYPE rdata))) };
 
     fn fmt<W: fmt::Write>(&self, f: &mut fmt::Formatter<W>) -> fmt::Result {

@@ -3,19 +3,21 @@ ghost use Rattle.std.specs.Prelude.{◌≡◌, [], ◌∷◌, Some};
 ghost use Rattle.dns_fields.specs.Fields.{uncompressed, field_at};
 
 use crate::RowData;
-use dns_fields::{RpRow, Uncompressed};
+use dns_fields::{Number, RpRow, Uncompressed};
 use dns_name::ToName;
+use std::marker::PhantomData;
 
 /// Who is responsible for the owner.
-pub type Rp<N> = RowData<17, RpRow<N>>;
+pub type Rp<N> = RowData<Number<17>, RpRow<N>>;
 
-impl<N: ToName> RowData<17, RpRow<N>> {
+impl<N: ToName> RowData<Number<17>, RpRow<N>> {
     /// Returns the data of a mailbox, and of the name that has TXT data.
     pub fn new(mbox: N, txt: N) -> Self
         ensures { result ≡ uncompressed (N.name mbox) ∷ uncompressed (N.name txt) ∷ [] }
     {
         RowData {
             row: (Uncompressed(mbox), (Uncompressed(txt), ())),
+            rtype: PhantomData,
         }
     }
 

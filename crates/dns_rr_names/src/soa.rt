@@ -3,13 +3,14 @@ ghost use Rattle.std.specs.Prelude.{◌≡◌, [], ◌∷◌, Some};
 ghost use Rattle.dns_fields.specs.Fields.{compressible, number32, field_at};
 
 use crate::RowData;
-use dns_fields::{Compressible, SoaRow};
+use dns_fields::{Compressible, Number, SoaRow};
 use dns_name::{Serial, ToName, Ttl};
+use std::marker::PhantomData;
 
 /// The start of a zone: where it comes from, and how copies of it are kept.
-pub type Soa<N> = RowData<6, SoaRow<N>>;
+pub type Soa<N> = RowData<Number<6>, SoaRow<N>>;
 
-impl<N: ToName> RowData<6, SoaRow<N>> {
+impl<N: ToName> RowData<Number<6>, SoaRow<N>> {
     /// Returns the data of two names, the number of the version and four times.
     pub fn new(
         mname: N,
@@ -37,6 +38,7 @@ impl<N: ToName> RowData<6, SoaRow<N>> {
                     ),
                 ),
             ),
+            rtype: PhantomData,
         }
     }
 

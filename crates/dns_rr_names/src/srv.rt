@@ -3,19 +3,21 @@ ghost use Rattle.std.specs.Prelude.{◌≡◌, [], ◌∷◌, Some};
 ghost use Rattle.dns_fields.specs.Fields.{number16, uncompressed, field_at};
 
 use crate::RowData;
-use dns_fields::{SrvRow, Uncompressed};
+use dns_fields::{Number, SrvRow, Uncompressed};
 use dns_name::ToName;
+use std::marker::PhantomData;
 
 /// A host that offers a service.
-pub type Srv<N> = RowData<33, SrvRow<N>>;
+pub type Srv<N> = RowData<Number<33>, SrvRow<N>>;
 
-impl<N: ToName> RowData<33, SrvRow<N>> {
+impl<N: ToName> RowData<Number<33>, SrvRow<N>> {
     /// Returns the data of a host and its port, and how they are preferred.
     pub fn new(priority: u16, weight: u16, port: u16, target: N) -> Self
         ensures { result ≡ number16 priority ∷ number16 weight ∷ number16 port ∷ uncompressed (N.name target) ∷ [] }
     {
         RowData {
             row: (priority, (weight, (port, (Uncompressed(target), ())))),
+            rtype: PhantomData,
         }
     }
 
