@@ -53,6 +53,15 @@ impl<T, R: Row> Model for RowData<T, R> {
     ghost invariant = { λ rdata. FitsRecord (R.fields rdata.row) };
 }
 
+impl<T, R: Row> RowData<T, R> {
+    /// Returns the row.
+    pub fn as_row(&self) -> &R
+        ensures { R.fields result.now ≡ self.now }
+    {
+        &self.row
+    }
+}
+
 impl<const RTYPE: u16, R: RowOf<RTYPE>> RowData<Number<RTYPE>, R> {
     /// Parses the data up to the end of the parser.
     ///
