@@ -8,7 +8,7 @@ pub mod laws;
 mod zone_record_data;
 
 pub use dns_fields::{
-    CanonicalOctetsOrd, Compressible, ConvertField, ConvertRow, FieldValue, Fixed, FrontField, FrontRow,
+    CanonicalOctetsOrd, Compressible, ConvertField, ConvertRow, FieldValue, FrontField, FrontRow,
     Last, LastValue, OverOctets, ReadError, ReadField, ReadRow, Rest16, Rest64, RestText, Row,
     RowOf, ScanField, ScanRow, ShowField, ShowLast, ShowRow, SoaRow, Strings, StringsIter, Tag,
     Uncompressed, canonical_row_cmp_octets, compose_canonical_row, compose_row, parse_row, read_row,
