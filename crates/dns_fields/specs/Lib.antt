@@ -11,5 +11,4 @@ pub mod Shown
 pub mod Comments
 pub mod Strings
 pub mod Held
-pub mod Fixed
 pub mod Tried

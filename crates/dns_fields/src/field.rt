@@ -12,12 +12,12 @@ ghost use Rattle.dns_fields.specs.Fields.{Kind, Field, kind_of, field_octets, lo
 ghost use Rattle.dns_fields.specs.Alike.{folded};
 ghost use Rattle.dns_fields.specs.Written.{may_point, written_field};
 
-mod fixed;
+mod addresses;
 mod names;
+mod numbers;
 mod strings;
 
 use dns_name::{AppendError, Composer};
-pub use fixed::Fixed;
 pub use names::{Compressible, Uncompressed};
 use std::cmp::Ordering;
 use std::hash::Hasher;

@@ -1,7 +1,8 @@
 //! What octets a row holds: those of its first field that holds some.
-use crate::{Compressible, Fixed, Last, Rest16, Rest64, RestText, Row, Strings, Tag, Uncompressed};
+use crate::{Compressible, Last, Rest16, Rest64, RestText, Row, Strings, Tag, Uncompressed};
 use dns_name::{FromBuilder, Name};
 use dns_text::CharStr;
+use std::net::{Ipv4Addr, Ipv6Addr};
 
 /// A row whose fields are held in octets of one kind.
 pub trait OverOctets: Row {
@@ -13,7 +14,23 @@ impl OverOctets for () {
     type Octets = Vec<u8>;
 }
 
-impl<T: Fixed, B: OverOctets> OverOctets for (T, B) {
+impl<B: OverOctets> OverOctets for (u8, B) {
+    type Octets = B::Octets;
+}
+
+impl<B: OverOctets> OverOctets for (u16, B) {
+    type Octets = B::Octets;
+}
+
+impl<B: OverOctets> OverOctets for (u32, B) {
+    type Octets = B::Octets;
+}
+
+impl<B: OverOctets> OverOctets for (Ipv4Addr, B) {
+    type Octets = B::Octets;
+}
+
+impl<B: OverOctets> OverOctets for (Ipv6Addr, B) {
     type Octets = B::Octets;
 }
 

@@ -1,16 +1,52 @@
-//! Fields that are converted.
+//! Fields that are converted. Numbers and addresses hold no octets, and are copied.
 use super::ConvertField;
-use crate::{Compressible, Fixed, Tag, Uncompressed};
+use crate::{Compressible, Tag, Uncompressed};
 use dns_name::{AppendError, EmptyBuilder, FromBuilder, Name, Octets, OctetsFrom, ToName};
 use dns_text::CharStr;
 use std::alloc::Global;
+use std::net::{Ipv4Addr, Ipv6Addr};
 
-/// A number or an address holds no octets, and is copied.
-impl<T: Fixed, Octs: FromBuilder> ConvertField<T, Octs> for T
+impl<Octs: FromBuilder> ConvertField<u8, Octs> for u8
 where
     Octs::Builder: EmptyBuilder + Drop,
 {
-    fn convert_field(&self, _alloc: Global) -> Result<T, AppendError> {
+    fn convert_field(&self, _alloc: Global) -> Result<u8, AppendError> {
+        Ok(*self)
+    }
+}
+
+impl<Octs: FromBuilder> ConvertField<u16, Octs> for u16
+where
+    Octs::Builder: EmptyBuilder + Drop,
+{
+    fn convert_field(&self, _alloc: Global) -> Result<u16, AppendError> {
+        Ok(*self)
+    }
+}
+
+impl<Octs: FromBuilder> ConvertField<u32, Octs> for u32
+where
+    Octs::Builder: EmptyBuilder + Drop,
+{
+    fn convert_field(&self, _alloc: Global) -> Result<u32, AppendError> {
+        Ok(*self)
+    }
+}
+
+impl<Octs: FromBuilder> ConvertField<Ipv4Addr, Octs> for Ipv4Addr
+where
+    Octs::Builder: EmptyBuilder + Drop,
+{
+    fn convert_field(&self, _alloc: Global) -> Result<Ipv4Addr, AppendError> {
+        Ok(*self)
+    }
+}
+
+impl<Octs: FromBuilder> ConvertField<Ipv6Addr, Octs> for Ipv6Addr
+where
+    Octs::Builder: EmptyBuilder + Drop,
+{
+    fn convert_field(&self, _alloc: Global) -> Result<Ipv6Addr, AppendError> {
         Ok(*self)
     }
 }
