@@ -61,10 +61,10 @@ impl<'a, A: ReadField<'a>, B: ReadRow<'a>> ReadRow<'a> for (A, B) {
     }
 }
 
-/// Reads data of a type, as a row of its kinds, up to the end of the parser.
+/// Parses data of a type, as a row of its kinds, up to the end of the parser.
 ///
-/// Refused exactly where what is left is no such data: with `ShortInput` exactly where the octets end too early for it, and with
-/// `LongRecordData` exactly where its fields are all there, with nothing behind them, but have more than 65,535 octets with their
+/// Fails exactly if what is left is no such data: with `ShortInput` exactly if the octets end too early for it, and with
+/// `LongRecordData` exactly if its fields are all there, with nothing after them, but have more than 65,535 octets with their
 /// names in full. The parser then stays where it is.
 pub fn parse_row<'a, R: ReadRow<'a>, const RTYPE: u16>(
     parser: &mut Parser<'a>,
@@ -75,6 +75,19 @@ pub fn parse_row<'a, R: ReadRow<'a>, const RTYPE: u16>(
     ensures no_data { OnErr result (NoRow RTYPE (octets_of parser.old) (place_of parser.old)) }
     ensures short { IsErrOf result ShortInput ↔ IsCutRow RTYPE (octets_of parser.old) (place_of parser.old) }
     ensures long { IsErrOf result LongRecordData ↔ IsLongRow RTYPE (octets_of parser.old) (place_of parser.old) }
+    ensures err { OnErr result (parser.new ≡ parser.old) }
+{
+    read_row(RTYPE, parser)
+}
+
+/// Parses data of a type that is given as a value, as `parse_row` does.
+pub fn read_row<'a, R: ReadRow<'a>>(rtype: u16, parser: &mut Parser<'a>) -> Result<R, ReadError>
+    requires { kinds_of rtype ≡ Some R.kinds }
+    ensures ok { IfOk result (λ row. ReadsRow rtype (octets_of parser.old) (place_of parser.old) (R.fields row)) }
+    ensures end { OnOk result (IsAtEnd parser.old parser.new) }
+    ensures no_data { OnErr result (NoRow rtype (octets_of parser.old) (place_of parser.old)) }
+    ensures short { IsErrOf result ShortInput ↔ IsCutRow rtype (octets_of parser.old) (place_of parser.old) }
+    ensures long { IsErrOf result LongRecordData ↔ IsLongRow rtype (octets_of parser.old) (place_of parser.old) }
     ensures err { OnErr result (parser.new ≡ parser.old) }
 {
     let mut reader = *parser;

@@ -2,7 +2,7 @@ use Rattle.std.proofs.Common.{◌<◌, ◌^◌, length, sym, ◌∙◌, ap, rule
 use Rattle.std.specs.Prelude.{Some}
 use Rattle.dns_fields.specs.Fields.{octets}
 use Rattle.dns_fields.proofs.LongRows.{row_read}
-use Rattle.dns_fields.proofs.read.parse_row.Goals as goal
+use Rattle.dns_fields.proofs.read.read_row.Goals as goal
 
 pub returns-clause-long : goal.returns-clause-long
 returns-clause-long g c =
