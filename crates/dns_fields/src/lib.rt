@@ -1,7 +1,7 @@
 //! Record data as rows of fields.
 //!
-//! A part of `dns_rdata`. A value of record data holds its fields as nested pairs, and what all types of data do, to be
-//! written, compared and hashed, is done field by field, by the table of the types.
+//! A part of `dns_rdata`. A value of record data holds its fields as nested pairs. It is written, compared and hashed field
+//! by field, for all types in one way, by the table of the types.
 #![tactic(auto)]
 
 mod compose;

@@ -1,6 +1,5 @@
 //! Record data of a type, held as the row of its fields.
-ghost use Rattle.std.specs.Prelude.{◌≡◌, ◌==◌, ◌↔◌, List, false, Err, IsOk, IsErrOf, IfOk, IfErr, OnOk, OnErr};
-ghost use Rattle.std.specs.Prelude.{Some};
+ghost use Rattle.std.specs.Prelude.{◌≡◌, ◌==◌, ◌↔◌, List, false, Err, IsOk, IsErrOf, IfOk, IfErr, OnOk, OnErr, Some};
 ghost use Rattle.std.specs.Ordering.{as_partial_cmp};
 ghost use Rattle.std.proofs.Common.{refl};
 ghost use Rattle.dns_fields.specs.Alike.{keys, rows_eq, rows_cmp, canonical_rows_cmp};
@@ -38,7 +37,7 @@ use std::marker::{Model, PhantomData};
 
 /// Data of the type that `T` stands for, as a row of fields.
 ///
-/// A contract sees it as its row. A row whose last field may have any number of octets has at most 65,535.
+/// A contract sees it as its row. A row with a field of any length has at most 65,535 octets.
 #[derive(Debug, Drop)]
 pub struct RowData<T, R: Row> {
     pub(crate) row: R,
