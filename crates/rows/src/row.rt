@@ -114,6 +114,16 @@ impl<'a> Row<'a> {
         octets_of_text(alloc, self.word()?)
     }
 
+    /// Takes all arguments that are left as texts, each with a line feed behind it.
+    pub fn lines(&mut self, alloc: Global) -> Result<String, RowError> {
+        let mut lines = String::new(alloc);
+        while self.has_more() {
+            lines.push_str(self.text(alloc)?.as_str())?;
+            lines.push('\n')?;
+        }
+        Ok(lines)
+    }
+
     /// Takes the next argument as a text.
     pub fn text(&mut self, alloc: Global) -> Result<String, RowError> {
         match String::from_utf8(self.text_octets(alloc)?) {
