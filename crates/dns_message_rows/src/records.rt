@@ -26,7 +26,10 @@ fn record_of(alloc: Global, row: &mut Row<'_>) -> Result<Owned, RowError> {
 /// The words up to `|` or the end, each with a line feed behind it.
 fn words_of(alloc: Global, row: &mut Row<'_>) -> Result<String, RowError> {
     let mut words = String::new(alloc);
-    while row.has_more() {
+    for _ in 0..u32::MAX {
+        if !row.has_more() {
+            break;
+        }
         let word = row.text(alloc)?;
         if word.as_str() == "|" {
             break;

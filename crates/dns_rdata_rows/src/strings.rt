@@ -63,7 +63,10 @@ fn outcome(out: &mut Answer, outcome: Result<(), TxtAppendError>) -> Result<(), 
 /// Answers each call of a builder, and in the end how many octets the data has and how many each string.
 pub fn answer_builder(alloc: Global, row: &mut Row<'_>, out: &mut Answer) -> Result<(), RowError> {
     let mut builder = TxtBuilder::new_vec(alloc);
-    while row.has_more() {
+    for _ in 0..u32::MAX {
+        if !row.has_more() {
+            break;
+        }
         match row.word()? {
             "append_slice" => {
                 let octets = row.octets(alloc)?;

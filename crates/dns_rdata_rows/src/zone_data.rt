@@ -81,7 +81,10 @@ pub fn answer_scan(alloc: Global, row: &mut Row<'_>, out: &mut Answer) -> Result
     if scanner.continues() {
         out.shown(&"|")?;
     }
-    while let Ok(text) = scanner.peek_text() {
+    for _ in 0..u32::MAX {
+        let Ok(text) = scanner.peek_text() else {
+            break;
+        };
         out.shown(&str::from_utf8(text).unwrap_or("?"))?;
         scanner.skip_token();
     }

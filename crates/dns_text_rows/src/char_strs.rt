@@ -94,7 +94,10 @@ pub fn answer_builder(alloc: Global, row: &mut Row<'_>, out: &mut Answer) -> Res
         Ok(builder) => builder,
         Err(error) => return out.refused(&error),
     };
-    while row.has_more() {
+    for _ in 0..u32::MAX {
+        if !row.has_more() {
+            break;
+        }
         let octets = row.octets(alloc)?;
         done_or(out, builder.append_slice(octets.as_slice()))?;
     }

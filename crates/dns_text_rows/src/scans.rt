@@ -13,7 +13,10 @@ pub fn rest(scanner: &mut IterScanner<'_>, out: &mut Answer) -> Result<(), RowEr
     if scanner.continues() {
         out.shown(&"|")?;
     }
-    while let Ok(text) = scanner.peek_text() {
+    for _ in 0..u32::MAX {
+        let Ok(text) = scanner.peek_text() else {
+            break;
+        };
         out.shown(&str::from_utf8(text).unwrap_or("?"))?;
         scanner.skip_token();
     }

@@ -117,7 +117,10 @@ impl<'a> Row<'a> {
     /// Takes all arguments that are left as texts, each with a line feed behind it.
     pub fn lines(&mut self, alloc: Global) -> Result<String, RowError> {
         let mut lines = String::new(alloc);
-        while self.has_more() {
+        for _ in 0..u32::MAX {
+            if !self.has_more() {
+                break;
+            }
             lines.push_str(self.text(alloc)?.as_str())?;
             lines.push('\n')?;
         }
