@@ -71,6 +71,14 @@ impl<'a> Row<'a> {
         }
     }
 
+    /// The method of the type, as `from_slice` of `Name::from_slice`, or nothing if the call is no method.
+    pub fn method(&self) -> &'a str {
+        match self.call.split_once("::") {
+            Some((_, method)) => method,
+            None => "",
+        }
+    }
+
     /// Whether there are arguments left.
     pub fn has_more(&self) -> bool {
         self.words.is_some()
