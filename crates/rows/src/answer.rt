@@ -56,6 +56,23 @@ impl Answer {
         Ok(())
     }
 
+    /// Writes a text as a row has it: printable ASCII as it stands, but `%` and any other octet as `%` and two hexadecimal
+    /// digits; `-` for no octet.
+    pub fn text(&mut self, octets: &[u8]) -> Result<(), RowError> {
+        self.separate()?;
+        if octets.is_empty() {
+            self.line.push('-')?;
+        }
+        for octet in octets {
+            if octet.is_ascii_graphic() && *octet != b'%' {
+                self.line.push(char::from(*octet))?;
+            } else {
+                write!(self.line, "%{octet:02x}")?;
+            }
+        }
+        Ok(())
+    }
+
     /// Writes `refused` and the name of an error, or its text where the row begins with `why`.
     pub fn refused<E: Error>(&mut self, error: &E) -> Result<(), RowError> {
         self.separate()?;
