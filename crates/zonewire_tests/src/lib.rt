@@ -6,13 +6,7 @@
 #[cfg(test)]
 mod examples;
 #[cfg(test)]
-mod printed;
-#[cfg(test)]
-mod queries;
-#[cfg(test)]
 mod received;
-#[cfg(test)]
-mod receivers;
 #[cfg(test)]
 mod runs;
 #[cfg(test)]
