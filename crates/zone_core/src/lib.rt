@@ -4,29 +4,16 @@
 //! and how its records are cut into messages.
 #![tactic(auto)]
 
-mod header;
 pub mod laws;
-mod owned_record;
-mod print;
 mod query;
 mod query_error;
 mod receive;
-mod record;
-mod record_list;
 mod send_error;
 mod sender;
-mod text;
 mod transfer;
-mod zone;
-mod zone_error;
-mod zone_records;
 
-pub use print::DisplayKind;
 pub use query::{Query, check_query};
 pub use query_error::QueryError;
 pub use receive::{ReceiveError, Receiver};
 pub use send_error::SendError;
 pub use transfer::{Spelling, send, send_into};
-pub use zone::Zone;
-pub use zone_error::ZoneError;
-pub use zone_records::{ZoneRecord, ZoneRecords};

@@ -22,6 +22,7 @@ pub use step_sink::StepSink;
 pub use step_source::StepSource;
 pub use words::{WordsFault, job};
 pub use zone_core::{
-    DisplayKind, Query, QueryError, ReceiveError, Receiver, SendError, Spelling, Zone, ZoneError,
-    ZoneRecord, ZoneRecords, check_query, laws, send, send_into,
+    Query, QueryError, ReceiveError, Receiver, SendError, Spelling, check_query, laws, send,
+    send_into,
 };
+pub use zone_text::{DisplayKind, Zone, ZoneError, ZoneRecord, ZoneRecords};

@@ -2,7 +2,7 @@ use Rattle.std.proofs.Common.{◌<◌, ◌^◌, arith}
 use Rattle.std.proofs.lemmas.Result.{IfOk-weaker, MatchResult-weaker}
 use Rattle.zone_core.specs.Asked.{asked_by}
 use Rattle.zone_core.specs.Sent.{AsksFor}
-use Rattle.zone_core.specs.View.{apex_of}
+use Rattle.zone_text.specs.View.{apex_of}
 use Rattle.zone_core.proofs.SendFaults.{sent_for, fault_for, query_for, id_small}
 use Rattle.zone_core.proofs.SentTransfers.{sent_is_transfer}
 use Rattle.zone_core.proofs.transfer.send_into.Goals as goal
