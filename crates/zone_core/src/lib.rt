@@ -1,7 +1,7 @@
-//! Zones: reading them from text, printing them as text, and sending them as the stream of a transfer.
+//! Transfers: a zone sent as a stream of messages, and received from one (RFC 5936).
 //!
-//! A part of `zonewire`, which hands all of it on. Its `specs/` say which text is a zone's, which stream is its transfer,
-//! and how its records are cut into messages.
+//! A part of `zonewire`, which hands all of it on, over `zone_text`, which has the zones. Its `specs/` say which stream is a
+//! zone's transfer, and how its records are cut into messages.
 #![tactic(auto)]
 
 pub mod laws;

@@ -1,7 +1,7 @@
 //! What the program `zonewire` does: its command line, its input and its output.
 //!
-//! The face of the topmost layer. Its part is `zone_core` (zones, queries, and the stream of a transfer), and it hands all
-//! of it on.
+//! The face of the topmost layer. Its parts are `zone_text` (zones and their text) and `zone_core` (queries, and the stream of a
+//! transfer), and it hands on what they are for.
 #![tactic(auto)]
 
 mod fault;
