@@ -1,7 +1,7 @@
 //! Zones: their records, read from the text of a zone file and printed as text (RFC 1035 5).
 //!
-//! A part of `zonewire`, which hands its types and laws on. Its `specs/` say which text is a zone's. The modules `header`, `record`,
-//! `record_data`, `record_list` and `zone` are for the crate of transfers: the records as octets.
+//! A part of `zonewire`, which hands its types and laws on. Its `specs/` say which text is a zone's. The functions of its
+//! modules are for `zone_core`, which sends and receives the records as octets.
 #![tactic(auto)]
 
 pub mod header;
