@@ -2,18 +2,18 @@
 use Rattle.std.specs.Prelude.{◌≡◌, ℕ, List, [], ◌∷◌, ◌++◌, false, Option, Some, unwrap_or, ⊤}
 use Rattle.std.specs.Int.{to_be_bytes, w16}
 use Rattle.dns_header.specs.Question.{question_octets}
-use Rattle.zone_core.specs.Record.{Record}
-use Rattle.zone_core.specs.View.{apex_of}
+use Rattle.zone_text.specs.Record.{Record}
+use Rattle.zone_text.specs.View.{apex_of}
 use Rattle.zone_core.specs.Query.{AxfrQuery, IsQuery, question_of}
-use Rattle.zone_core.specs.ZoneText.{IsZoneText, IsZoneFault}
+use Rattle.zone_text.specs.ZoneText.{IsZoneText, IsZoneFault}
 use Rattle.zone_core.specs.Sent.{IsSent, IsSendFault, AsksFor}
 use Rattle.zone_core.specs.Transfer.{WrittenOut, IsTransferIn}
 use Rattle.zone_core.specs.Receiving.{IsAskFault, IsBegun, IsStreamFault}
-use Rattle.zone_core.specs.Printed.{IsPrinted, layout_of}
-use Rattle.zone_core.specs.declared.print.DisplayKind.{DisplayKind}
+use Rattle.zone_text.specs.Printed.{IsPrinted, layout_of}
+use Rattle.zone_text.specs.declared.print.DisplayKind.{DisplayKind}
 use Rattle.zone_core.specs.declared.receive.error.ReceiveError.{ReceiveError}
 use Rattle.zone_core.specs.declared.receive.error.ReceiveError.TheVariants as receive_error
-use Rattle.zone_core.specs.declared.zone_error.ZoneError.TheVariants as zone_error
+use Rattle.zone_text.specs.declared.zone_error.ZoneError.TheVariants as zone_error
 use Rattle.zone_core.specs.declared.send_error.SendError.{SendError}
 use Rattle.zone_core.specs.declared.send_error.SendError.TheVariants as send_error
 use Rattle.zonewire.specs.declared.jobs.Job.{Job}

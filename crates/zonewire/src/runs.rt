@@ -1,6 +1,6 @@
 //! A run of the program, from its input to its output.
 ghost use Rattle.std.specs.Prelude.{◌≡◌, ◌≢◌, ◌↔◌, ℕ, List, false, IfOk, IfErr, IfSome, IsErrOf, IsTrue, OnOk};
-ghost use Rattle.zone_core.specs.ZoneText.{IsZoneFault, IsZoneText};
+ghost use Rattle.zone_text.specs.ZoneText.{IsZoneFault, IsZoneText};
 ghost use Rattle.std.specs.Io.KnownBytes.{Appends, IsAtEnd};
 ghost use Rattle.zonewire.specs.Output.{IsOutput, IsJobFault, IsNotReceived, IsReceived, IsReceiveJobFault, IsReceiveOutput, IsSendOutput, IsSendJobFault, query_octets, query_of};
 ghost use Rattle.zonewire.specs.Stream.{AppendsBeginning};
@@ -12,7 +12,8 @@ use crate::sink::{Sink, write_all};
 use crate::source::{Source, read_all};
 use dns_name::{Class, Name, Rtype};
 use std::alloc::{AllocError, Global};
-use zone_core::{DisplayKind, ReceiveError, Receiver, Spelling, Zone, ZoneError, send_into};
+use zone_core::{ReceiveError, Receiver, Spelling, send_into};
+use zone_text::{DisplayKind, Zone, ZoneError};
 
 /// Reads all the input, and writes what the job makes of it.
 ///

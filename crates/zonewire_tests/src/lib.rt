@@ -1,4 +1,4 @@
-//! Tests of `zone_core` and `zonewire` by outside examples, through the face.
+//! Tests of `zone_text`, `zone_core` and `zonewire` by outside examples, through the face.
 //!
 //! They stand in a crate of their own, so that a check of the tests doesn't check these crates once more.
 #![tactic(auto)]
