@@ -91,7 +91,10 @@ abbrev pub IsReceiveJobFault : ℕ → ℕ → List (List ℕ) → List ℕ → 
 IsReceiveJobFault class id apex input (fault.Receive receive_error.OutOfMemory) = ⊥
 IsReceiveJobFault class id apex input (fault.Receive error) = IsNotReceived (asking_for class id apex) input error
 IsReceiveJobFault class id apex input fault.OutOfMemory = Unit {0}
-IsReceiveJobFault class id apex input error = ⊥
+IsReceiveJobFault class id apex input (fault.Zone error) = ⊥
+IsReceiveJobFault class id apex input (fault.Send error) = ⊥
+IsReceiveJobFault class id apex input fault.Read = ⊥
+IsReceiveJobFault class id apex input fault.Write = ⊥
 
 -- what a job makes of its input
 abbrev pub IsOutput : Job → List ℕ → List ℕ → Type 0
