@@ -51,7 +51,7 @@ pub fn run<R: Source, W: Sink>(
     Ok(())
 }
 
-/// What the job makes of the input. Zones may be large, so that the input is let go of as soon as it is read, or its memory
+/// Returns what the job makes of the input. A zone may be large, so the input is dropped once it is read, or its memory is
 /// used again.
 fn output(alloc: Global, input: Vec<u8>, job: &Job) -> Result<Vec<u8>, Fault>
     ensures ok { IfOk result (λ output. IsOutput job.now input.items output.items) }
@@ -78,7 +78,7 @@ fn output(alloc: Global, input: Vec<u8>, job: &Job) -> Result<Vec<u8>, Fault>
     }
 }
 
-/// The stream for the zone, by the query that the job makes, in the place of what the spare vector holds.
+/// Returns the stream of the zone for the job's query. It replaces what the spare vector holds.
 fn send_zone(
     alloc: Global,
     spare: Vec<u8>,
@@ -100,7 +100,7 @@ fn send_zone(
     }
 }
 
-/// The zone of the text, with the origin that the job gives.
+/// Reads the zone of the text, with the job's origin.
 fn read_zone(
     alloc: Global,
     input: &[u8],
@@ -120,7 +120,7 @@ fn read_zone(
     }
 }
 
-/// The text of the zone of the transfer that the input begins with, for the query that the job makes.
+/// Returns the text of the zone whose transfer the input begins with, for the job's query.
 fn receive_text(
     alloc: Global,
     input: Vec<u8>,
@@ -139,7 +139,7 @@ fn receive_text(
     Ok(text)
 }
 
-/// The zone of the transfer that the input begins with, for the query.
+/// Reads the zone whose transfer the input begins with, for the query.
 fn receive_zone(alloc: Global, input: &[u8], query: &[u8]) -> Result<Zone, ReceiveError>
     ensures ok { IfOk result (λ zone. IsReceived query.now input.now zone.records) }
     ensures err { IfErr result (IsNotReceived query.now input.now) }
@@ -149,7 +149,7 @@ fn receive_zone(alloc: Global, input: &[u8], query: &[u8]) -> Result<Zone, Recei
     receiver.into_zone()
 }
 
-/// The query for the zone's transfer, by the name that the job gives or else by the zone's own.
+/// Returns the query for the zone's transfer, by the job's name or else by the zone's own.
 fn zone_query(
     alloc: Global,
     id: u16,
@@ -164,7 +164,7 @@ fn zone_query(
     }
 }
 
-/// The query for a zone's transfer, all flags clear (RFC 5936 2.1).
+/// Returns the query for a zone's transfer, with all flags clear (RFC 5936 2.1).
 fn axfr_query(
     alloc: Global,
     id: u16,
