@@ -56,6 +56,14 @@ fn shown_or<T: Display + Drop, E: Error>(
     }
 }
 
+/// Writes the seconds of a TTL, or why there is none.
+fn seconds_or(out: &mut Answer, ttl: Result<Ttl, StrError>) -> Result<(), RowError> {
+    match ttl {
+        Ok(ttl) => out.shown(&ttl.as_secs()),
+        Err(error) => out.refused(&error),
+    }
+}
+
 /// Writes that a call succeeds, or why it is refused.
 pub fn done_or<E: Error>(out: &mut Answer, outcome: Result<(), E>) -> Result<(), RowError> {
     match outcome {
@@ -118,10 +126,7 @@ fn answer_value(
         "Serial::scan" => shown_or(out, Serial::scan(scanner)),
         "Rtype::scan" => shown_or(out, Rtype::scan(scanner)),
         "Class::scan" => shown_or(out, Class::scan(scanner)),
-        _ => match Ttl::scan(scanner) {
-            Ok(ttl) => out.shown(&ttl.as_secs()),
-            Err(error) => out.refused(&error),
-        },
+        _ => seconds_or(out, Ttl::scan(scanner)),
     }
 }
 
