@@ -7,8 +7,9 @@ use std::alloc::Global;
 
 /// Answers the type of data and its fields.
 pub fn answer(alloc: Global, row: &mut Row<'_>, out: &mut Answer) -> Result<(), RowError> {
-    let given = Given::of(alloc, row)?;
-    match given.read() {
+    let given = Given::of(row)?;
+    let octets = row.octets(alloc)?;
+    match given.read(octets.as_slice()) {
         Ok(rdata) => {
             out.shown(&rdata.rtype().to_int())?;
             names(&rdata, out)

@@ -2,40 +2,33 @@
 use dns_name::{ParseAnyRecordData, ParseError, ParsedName, Parser, Rtype, UnknownRecordData};
 use dns_rdata::ZoneRecordData;
 use rows::{Row, RowError};
-use std::alloc::Global;
 
 /// Data in a message.
 pub type Read<'a> = ZoneRecordData<&'a [u8], ParsedName<&'a [u8]>>;
 
 /// Data as a row gives it.
-#[derive(Drop)]
+#[derive(Clone, Copy)]
 pub struct Given {
     rtype: Rtype,
     is_opaque: bool,
-    octets: Vec<u8>,
 }
 
 impl Given {
-    /// Takes a type and octets.
-    pub fn of(alloc: Global, row: &mut Row<'_>) -> Result<Self, RowError> {
+    /// Takes a type.
+    pub fn of(row: &mut Row<'_>) -> Result<Self, RowError> {
         let word = row.word()?;
         let (is_opaque, mnemonic) = match word.strip_prefix("\\#") {
             Some(mnemonic) => (true, mnemonic),
             None => (false, word),
         };
         match mnemonic.parse() {
-            Ok(rtype) => Ok(Given {
-                rtype,
-                is_opaque,
-                octets: row.octets(alloc)?,
-            }),
+            Ok(rtype) => Ok(Given { rtype, is_opaque }),
             Err(_) => Err(RowError::BadWord),
         }
     }
 
-    /// The data: its fields, or where it is opaque its octets.
-    pub fn read(&self) -> Result<Read<'_>, ParseError> {
-        let octets = self.octets.as_slice();
+    /// The data of these octets: its fields, or where it is opaque the octets.
+    pub fn read<'a>(self, octets: &'a [u8]) -> Result<Read<'a>, ParseError> {
         if !self.is_opaque {
             return ZoneRecordData::parse_any_rdata(self.rtype, &mut Parser::from_ref(octets));
         }

@@ -13,9 +13,15 @@ fn hashed(rdata: &Read<'_>) -> u64 {
 
 /// Answers a comparison, of `eq` also whether both have one hash.
 pub fn answer(alloc: Global, row: &mut Row<'_>, out: &mut Answer) -> Result<(), RowError> {
-    let one = Given::of(alloc, row)?;
-    let other = Given::of(alloc, row)?;
-    let (Ok(one), Ok(other)) = (one.read(), other.read()) else {
+    let one = Given::of(row)?;
+    let mut both = row.octets(alloc)?;
+    let len = both.len();
+    let other = Given::of(row)?;
+    both.extend_from_slice(row.octets(alloc)?.as_slice())?;
+    let Some((front, back)) = both.as_slice().split_at_checked(len) else {
+        return Err(RowError::BadWord);
+    };
+    let (Ok(one), Ok(other)) = (one.read(front), other.read(back)) else {
         return Err(RowError::BadWord);
     };
     match row.call() {

@@ -30,8 +30,9 @@ pub fn shown<Octs: Octets, N: ToName>(
 
 /// Answers a method of data that writes it, or how many octets it has.
 pub fn answer(alloc: Global, row: &mut Row<'_>, out: &mut Answer) -> Result<(), RowError> {
-    let given = Given::of(alloc, row)?;
-    let rdata = match given.read() {
+    let given = Given::of(row)?;
+    let octets = row.octets(alloc)?;
+    let rdata = match given.read(octets.as_slice()) {
         Ok(rdata) => rdata,
         Err(error) => return out.refused(&error),
     };
@@ -61,8 +62,9 @@ pub fn answer_layout(alloc: Global, row: &mut Row<'_>, out: &mut Answer) -> Resu
         "Multiline" => DisplayKind::Multiline,
         _ => return Err(RowError::BadWord),
     };
-    let given = Given::of(alloc, row)?;
-    match given.read() {
+    let given = Given::of(row)?;
+    let octets = row.octets(alloc)?;
+    match given.read(octets.as_slice()) {
         Ok(rdata) => out.named(&rdata.display_zonefile(kind).to_string(alloc)?.as_str()),
         Err(error) => out.refused(&error),
     }

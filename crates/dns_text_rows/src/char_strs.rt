@@ -23,8 +23,11 @@ pub fn answer(alloc: Global, row: &mut Row<'_>, out: &mut Answer) -> Result<(), 
             done_or(out, CharStr::skip(&mut parser))?;
             out.shown(&parser.pos())
         }
+        "CharStr::eq" | "CharStr::cmp" | "CharStr::partial_cmp" | "CharStr::canonical_cmp" => {
+            answer_pair(octets, row.octets(alloc)?, row.call(), out)
+        }
         _ => match CharStr::from_slice(octets.as_slice()) {
-            Ok(string) => answer_string(alloc, &string, row, out),
+            Ok(string) => answer_string(alloc, &string, row.call(), out),
             Err(error) => out.refused(&error),
         },
     }
@@ -34,10 +37,10 @@ pub fn answer(alloc: Global, row: &mut Row<'_>, out: &mut Answer) -> Result<(), 
 fn answer_string(
     alloc: Global,
     string: &CharStr<&[u8]>,
-    row: &mut Row<'_>,
+    call: &str,
     out: &mut Answer,
 ) -> Result<(), RowError> {
-    match row.call() {
+    match call {
         "CharStr::from_slice" => out.octets(string.as_slice()),
         "CharStr::len" => out.shown(&string.len()),
         "CharStr::is_empty" => out.shown(&string.is_empty()),
@@ -55,34 +58,27 @@ fn answer_string(
             done_or(out, string.compose(&mut target))?;
             out.octets(target.as_slice())
         }
-        _ => answer_pair(alloc, string, row, out),
-    }
-}
-
-/// Answers a comparison of two strings, of `eq` also whether they have one hash.
-fn answer_pair(
-    alloc: Global,
-    string: &CharStr<&[u8]>,
-    row: &mut Row<'_>,
-    out: &mut Answer,
-) -> Result<(), RowError> {
-    let octets = row.octets(alloc)?;
-    let Ok(other) = CharStr::from_slice(octets.as_slice()) else {
-        return Err(RowError::BadWord);
-    };
-    match row.call() {
-        "CharStr::eq" => {
-            out.shown(&(*string == other))?;
-            out.shown(&(hashed(string) == hashed(&other)))
-        }
-        "CharStr::cmp" => out.named(&string.cmp(&other)),
-        "CharStr::partial_cmp" => out.named(&string.partial_cmp(&other)),
-        "CharStr::canonical_cmp" => out.named(&string.canonical_cmp(&other)),
         _ => Err(RowError::UnknownCall),
     }
 }
 
-fn hashed(string: &CharStr<&[u8]>) -> u64 {
+/// Answers a comparison of two strings, of `eq` also whether they have one hash.
+fn answer_pair(one: Vec<u8>, other: Vec<u8>, call: &str, out: &mut Answer) -> Result<(), RowError> {
+    let (Ok(one), Ok(other)) = (CharStr::from_octets(one), CharStr::from_octets(other)) else {
+        return Err(RowError::BadWord);
+    };
+    match call {
+        "CharStr::eq" => {
+            out.shown(&(one == other))?;
+            out.shown(&(hashed(&one) == hashed(&other)))
+        }
+        "CharStr::cmp" => out.named(&one.cmp(&other)),
+        "CharStr::partial_cmp" => out.named(&one.partial_cmp(&other)),
+        _ => out.named(&one.canonical_cmp(&other)),
+    }
+}
+
+fn hashed(string: &CharStr<Vec<u8>>) -> u64 {
     let mut state = DefaultHasher::new();
     string.hash(&mut state);
     state.finish()

@@ -1,8 +1,6 @@
 //! What a scanner over the words of a row takes, and what it leaves (RFC 1035 5.1, RFC 3597 5).
 use dns_name::{Class, Octets, Rtype, Serial, Ttl, UnknownRecordData};
-use dns_text::{
-    CharStr, IterScanner, Scan, Scanner, StrError, scan_unknown_octets, scan_without_marker,
-};
+use dns_text::{CharStr, IterScanner, Scan, Scanner, scan_unknown_octets, scan_without_marker};
 use rows::{Answer, Row, RowError};
 use std::alloc::Global;
 use std::error::Error;
@@ -65,9 +63,9 @@ pub fn done_or<E: Error>(out: &mut Answer, outcome: Result<(), E>) -> Result<(),
 }
 
 /// Writes the type and the octets of data, or why there is none.
-fn data_or(
+fn data_or<E: Error>(
     out: &mut Answer,
-    rdata: Result<UnknownRecordData<Vec<u8>>, StrError>,
+    rdata: Result<UnknownRecordData<Vec<u8>>, E>,
 ) -> Result<(), RowError> {
     match rdata {
         Ok(rdata) => {
@@ -115,9 +113,18 @@ fn answer_value(
     out: &mut Answer,
 ) -> Result<(), RowError> {
     match call {
-        "Serial::scan" => shown_or(out, Serial::scan(scanner)),
-        "Rtype::scan" => shown_or(out, Rtype::scan(scanner)),
-        "Class::scan" => shown_or(out, Class::scan(scanner)),
+        "Serial::scan" => match Serial::scan(scanner) {
+            Ok(serial) => out.shown(&serial),
+            Err(error) => out.refused(&error),
+        },
+        "Rtype::scan" => match Rtype::scan(scanner) {
+            Ok(rtype) => out.shown(&rtype),
+            Err(error) => out.refused(&error),
+        },
+        "Class::scan" => match Class::scan(scanner) {
+            Ok(class) => out.shown(&class),
+            Err(error) => out.refused(&error),
+        },
         _ => match Ttl::scan(scanner) {
             Ok(ttl) => out.shown(&ttl.as_secs()),
             Err(error) => out.refused(&error),
