@@ -2,10 +2,11 @@
 use Rattle.std.proofs.Common.{◌≡◌, ℕ, Bool, true, false, List, [], ◌∷◌, nat_eq, ◌&&◌, refl, sym, ◌∙◌, ap, rules}
 use Rattle.std.proofs.lemmas.Bool.Decides.{Decides-eqb}
 use Rattle.std.specs.Cmp.{nat_cmp_is}
+use Rattle.std.specs.Cmp.Lexicographic.{slice_cmp, nat_list_cmp_total}
 use Rattle.std.specs.Cmp.Rules.{comparing}
 use Rattle.std.specs.declared.cmp.Ordering.{Ordering}
 use Rattle.std.specs.declared.cmp.Ordering.TheVariants.{Less, Equal, Greater}
-use Rattle.std.specs.Ordering.{is_eq, ordering_then, nat_cmp, bool_cmp}
+use Rattle.std.specs.Ordering.{is_eq, ordering_reverse, ordering_then, nat_cmp, bool_cmp}
 use Rattle.dns_name.specs.Unknown.{UnknownData, unknown_eq, unknown_cmp}
 use Rattle.dns_fields.specs.Fields.{Field}
 use Rattle.dns_fields.specs.Alike.{rows_eq, rows_cmp}
@@ -88,3 +89,7 @@ pub of_one_kind : (one two : Data) → is_untyped one ≡ false → is_untyped t
 of_one_kind (typed number row) (typed other fields) here there is = is
 of_one_kind (typed number row) (untyped other) here there is = absurd cc
 of_one_kind (untyped unknown) two here there is = absurd cc
+
+-- octets in the other order
+pub turned : (one two : List ℕ) → ordering_reverse (slice_cmp nat_cmp two one) ≡ slice_cmp nat_cmp one two
+turned one two = sym (nat_list_cmp_total.antisymm one two)

@@ -80,6 +80,13 @@ impl<Octs: Octets, N: ToName> ZoneRecordData<Octs, N> {
             _ => None,
         }
     }
+
+    /// Whether the data is opaque.
+    fn is_opaque(&self) -> bool
+        ensures { result ≡ is_untyped (data_of self.now) }
+    {
+        self.as_opaque().is_some()
+    }
 }
 
 impl<Octs: Octets, N: ToName> RecordData for ZoneRecordData<Octs, N> {

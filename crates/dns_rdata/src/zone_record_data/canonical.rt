@@ -27,6 +27,7 @@ impl<Octs: Octets, N: ToName> CanonicalOrd for ZoneRecordData<Octs, N> {
 
 impl<Octs: Octets, N: ToName> ZoneRecordData<Octs, N> {
     /// Returns how data stands to other data of the same type.
+    #[tactic(auto, using(crate::proofs::Pairs::turned))]
     fn canonical_cmp_within(&self, other: &Self) -> Ordering
         requires { number_of (data_of self.now) ≡ number_of (data_of other.now) }
         ensures { result ≡ slice_cmp nat_cmp (canonical_of (data_of self.now)) (canonical_of (data_of other.now)) }

@@ -77,10 +77,10 @@ impl<Octs: Octets, N: ToName> Ord for ZoneRecordData<Octs, N> {
     fn cmp(&self, other: &Self) -> Ordering {
         match self.visit_both::<InOrder>(other) {
             Some(order) => order,
-            None => {
-                let kinds = self.as_opaque().is_some().cmp(&other.as_opaque().is_some());
-                self.rtype().cmp(&other.rtype()).then(kinds)
-            }
+            None => self
+                .rtype()
+                .cmp(&other.rtype())
+                .then(self.is_opaque().cmp(&other.is_opaque())),
         }
     }
 }
