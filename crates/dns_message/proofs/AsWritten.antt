@@ -1,5 +1,5 @@
 -- A record that is spelled as it is written is read.
-use Rattle.std.proofs.Common.{◌≡◌, ℕ, ◌+◌, ◌≤◌, List, [], ◌∷◌, ◌++◌, length, drop, sym, ap, subst, arith, length-drop}
+use Rattle.std.proofs.Common.{◌≡◌, ℕ, ◌+◌, ◌≤◌, List, [], ◌∷◌, ◌++◌, length, drop, sym, ap, subst, arith, length-append, length-drop}
 use Rattle.std.specs.Int.{to_be_bytes, w16, w32}
 use Rattle.std.specs.List.{AllByRecursion}
 use Rattle.dns_label.specs.Name.{wire}
@@ -69,17 +69,33 @@ as_written_read r good (fields row is_row is) spelled = record {
 }
 as_written_read r good (untold none) spelled = record { is_record = good; parts = _; read = opaque none; spelled = spelled }
 
--- octets that begin with a name in full are some
-some_octets : (name : List (List ℕ)) (more rest : List ℕ) → 1 ≤ length ((wire name ++ more) ++ rest)
-some_octets [] more rest = omega arith
-some_octets (label ∷ name) more rest = omega arith
+-- a record has some octets
+some_wire : (name : List (List ℕ)) → 1 ≤ length (wire name)
+some_wire [] = omega arith
+some_wire (label ∷ name) = omega arith
+
+six_lengths : (a b c d e f : List ℕ)
+    → length (a ++ b ++ c ++ d ++ e ++ f) ≡ length a + length b + length c + length d + length e + length f
+six_lengths a b c d e f = simp length-append
+
+some_record : (r : Record) → 1 ≤ length (record_octets r)
+some_record r =
+    omega (
+      arith,
+      some_wire r.owner,
+      six_lengths (wire r.owner) (to_be_bytes w16 r.rtype) (to_be_bytes w16 r.class)
+          (to_be_bytes w32 r.ttl) (to_be_bytes w16 (length r.rdata)) r.rdata,
+    )
+
+-- so they stand within the message
+place_within : (message : List ℕ) (place : ℕ) (front rest : List ℕ) → drop place message ≡ front ++ rest → 1 ≤ length front
+    → place ≤ length message
+place_within message place front rest at some =
+    omega (arith, length-drop place message, ap (length {A = ℕ}) at, length-append front rest)
 
 -- a record that is written out, at a place
 pub plain_read : {message : List ℕ} {place next : ℕ} {r : Record} → ReadsPlainRecord message place r next → ReadsRecord message place r next
 plain_read {message} {place} {r = r} plain =
-    let behind : List ℕ =
-    to_be_bytes w16 r.rtype ++ to_be_bytes w16 r.class ++ to_be_bytes w32 r.ttl ++ to_be_bytes w16 (length r.rdata) ++ r.rdata in
-    let some : 1 ≤ length (record_octets r ++ plain.rest) = some_octets r.owner behind plain.rest in
-    let within : place ≤ length message = omega (arith, some, length-drop place message, ap (length {A = ℕ}) plain.at) in
+    let within = place_within message place (record_octets r) plain.rest plain.at (some_record r) in
     let P : ℕ → Type 0 = λ next. ReadsRecord message place r next in
     subst P (sym plain.ends) (record-written message place r plain.rest plain.at within plain.is_record plain.data_is)

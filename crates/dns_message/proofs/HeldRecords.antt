@@ -26,6 +26,7 @@ use Rattle.dns_message.specs.Record.{IsWritten}
 use Rattle.dns_message.specs.Record.IsWritten.{fields as in_row, untold}
 use Rattle.dns_message.specs.Held.{data_octets, record_of, written_parts_of, TakesRecord}
 use Rattle.dns_message.proofs.Numbers.{AreOctets, number16, number32}
+use Rattle.dns_header.proofs.Heads.{heads_one}
 use Rattle.dns_message.proofs.Opened.{opened}
 
 -- what stands in front of the data, and the parts of the data
@@ -300,6 +301,37 @@ item_taken {message} {place} {next} {item} {rr} holds is =
         ttl = is.ttl;
         rdata = rdata;
       };
+    }
+
+-- where the message has a record, the item of a cursor is that record
+pub record ItemRead (message : List ℕ) (item : Parsed) (r : Record) (next end : ℕ) : Type 0 where
+  pub ends : end ≡ next
+  pub rr : RecordOf (List (List ℕ)) Data
+  pub read : IsRecordOf data_specs.ReadsData item rr
+  pub is : record_of rr ≡ r
+
+pub item_read : {message : List ℕ} {place next end : ℕ} {item : Parsed} (r : Record) → ReadsRecord message place r next
+    → HoldsRecord message place item end → ItemRead message item r next end
+item_read {message} {place} {next} {end} {item} r reads holds =
+    let it = read_taken r reads in
+    let whole = it.taken.whole in
+    let held = it.taken.held in
+    let same = heads_one whole.reads holds.whole.reads in
+    let at : ℕ = place_of item.rdata in
+    let P : Head (List (List ℕ)) → ℕ → Type 0 = λ head place. data_specs.ReadsData (take (place + head.data_len) message) place head.rtype it.rr.rdata in
+    let Q : List ℕ → Type 0 = λ octets. data_specs.ReadsData octets at item.head.rtype it.rr.rdata in
+    let octets : take (at + item.head.data_len) message ≡ octets_of item.rdata =
+    ap (λ n. take n message) (sym holds.whole.ends) ∙ sym holds.octets in
+    record {
+      ends = omega (arith, whole.ends, holds.whole.ends, same.1, ap (λ (h : Head (List (List ℕ))). h.data_len) same.0);
+      rr = it.rr;
+      read = record {
+        owner = held.owner ∙ ap (λ (h : Head (List (List ℕ))). h.owner) same.0;
+        class = held.class ∙ ap (λ (h : Head (List (List ℕ))). h.class) same.0;
+        ttl = held.ttl ∙ ap (λ (h : Head (List (List ℕ))). h.ttl) same.0;
+        rdata = subst Q octets (subst (λ (h : Head (List (List ℕ))). P h at) same.0 (subst (P it.taken.head) same.1 held.rdata));
+      };
+      is = it.is;
     }
 
 -- and the code writes it by a record's parts

@@ -13,7 +13,7 @@ pub record_tried : record_octets (record { owner = (97 ∷ []) ∷ []; rtype = 1
 record_tried = refl
 
 -- `a. 60 IN MX 10 b.`: both names may be compressed
-mx : RecordOf (List (List ℕ)) Data
+abbrev mx : RecordOf (List (List ℕ)) Data
 mx = record {
   owner = (97 ∷ []) ∷ [];
   class = 1;
@@ -31,7 +31,7 @@ pub mx_octets : record_octets (record_of mx)
 mx_octets = refl
 
 -- `a. 60 IN SRV 1 2 3 b.`: the owner alone may be compressed (RFC 2782)
-srv : RecordOf (List (List ℕ)) Data
+abbrev srv : RecordOf (List (List ℕ)) Data
 srv = record {
   owner = (97 ∷ []) ∷ [];
   class = 1;

@@ -23,7 +23,8 @@ pub use dns_header::laws::{
 };
 
 /// A message has a record at a place exactly where the code reads its head and its data there: a row of the fields of its type, or
-/// opaque octets (RFC 1035 3.2.1, RFC 3597). An item of a cursor, with its data read, is such a record.
+/// opaque octets (RFC 1035 3.2.1, RFC 3597). An item of a cursor, with its data read, is such a record; and where the message has
+/// a record, an item there is that one.
 pub fn records_have_one_meaning()
     ensures there { (message : List ℕ) (place next : ℕ) (r : Record) → ReadsRecord message place r next
         → (rr : RecordOf (List (List ℕ)) Data) × TakesRecord message place rr next × (record_of rr ≡ r) }
@@ -32,6 +33,9 @@ pub fn records_have_one_meaning()
         → ReadsRecord message place (record_of rr) next }
     ensures item { (message : List ℕ) (place next : ℕ) (parsed : Parsed) (rr : RecordOf (List (List ℕ)) Data)
         → HoldsRecord message place parsed next → IsRecordOf data_specs.ReadsData parsed rr → TakesRecord message place rr next }
+    ensures found { (message : List ℕ) (place next end : ℕ) (r : Record) (parsed : Parsed) → ReadsRecord message place r next
+        → HoldsRecord message place parsed end → (end ≡ next)
+        × (rr : RecordOf (List (List ℕ)) Data) × IsRecordOf data_specs.ReadsData parsed rr × (record_of rr ≡ r) }
 {}
 
 /// A message has a question at a place exactly where it spells the question's parts there, and the type and class are numbers of
