@@ -1,5 +1,5 @@
 -- Data of a zone's records: a row of fields, or octets that are not looked into (RFC 3597).
-use Rattle.std.specs.Prelude.{◌≡◌, ℕ, Bool, true, false, List, [], ◌∷◌, ◌++◌, Option, None, length, nat_eq}
+use Rattle.std.specs.Prelude.{◌≡◌, ℕ, Bool, true, false, List, [], ◌∷◌, ◌++◌, Option, None, length, nat_eq, ⊤}
 use Rattle.std.proofs.Math.Bool.{beq}
 use Rattle.std.specs.Hash as fed
 use Rattle.std.specs.Ordering.{on, eq_of_both, then_cmp, nat_cmp, bool_cmp}
@@ -71,6 +71,13 @@ canonical_data_cmp = then_cmp (on number_of nat_cmp) (on canonical_of (slice_cmp
 abbrev pub data_hashed : Data → List (List ℕ)
 data_hashed (typed number row) = fed.u16 number ++ keys row
 data_hashed (untyped unknown) = fed.u16 unknown.number ++ (fed.u16 unknown.number ++ fed.slice fed.u8 unknown.octets)
+
+-- of fields of one type, or both opaque
+abbrev pub AreOfOneKind : Data → Data → Type 0
+AreOfOneKind (typed number row) (typed other fields) = number ≡ other
+AreOfOneKind (typed number row) (untyped other) = ⊥
+AreOfOneKind (untyped unknown) (typed other fields) = ⊥
+AreOfOneKind (untyped unknown) (untyped other) = ⊤
 
 -- the first token is not what marks untyped data
 abbrev pub IsUnmarked : List Token → Type 0
