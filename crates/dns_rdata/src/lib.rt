@@ -8,11 +8,11 @@ pub mod laws;
 mod zone_record_data;
 
 pub use dns_fields::{
-    CanonicalOctetsOrd, Compressible, ConvertField, ConvertRow, FieldValue, FrontField, FrontRow,
-    Last, LastValue, OverOctets, ReadError, ReadField, ReadRow, Rest16, Rest64, RestText, Row,
-    RowOf, ScanField, ScanRow, ShowField, ShowLast, ShowRow, SoaRow, Strings, StringsIter, Tag,
-    Uncompressed, canonical_row_cmp_octets, compose_canonical_row, compose_row, parse_row,
-    read_row, row_len, scan_row, show_row,
+    CanonicalOctetsOrd, Compressible, ConvertField, ConvertRow, DataType, FieldValue, FrontField,
+    FrontRow, Last, LastValue, Number, OverOctets, ReadError, ReadField, ReadRow, Rest16, Rest64,
+    RestText, Row, RowOf, ScanField, ScanRow, ShowField, ShowLast, ShowRow, SoaRow, Strings,
+    StringsIter, Tag, Uncompressed, canonical_row_cmp_octets, compose_canonical_row, compose_row,
+    parse_row, read_row, row_len, scan_row, scan_row_of, show_row,
 };
 pub use dns_rr_names::{Cname, Mb, Md, Mf, Mg, Minfo, Mr, Mx, Ns, Ptr, Rp, Soa, Srv};
 pub use dns_rr_octets::{
