@@ -1,7 +1,7 @@
 //! Record data as rows of fields.
 //!
-//! A part of `dns_rdata`. A value of record data holds its fields as nested pairs, and what all types of data do, to be
-//! written, compared and hashed, is done field by field, by the table of the types.
+//! A part of `dns_rdata`. A value of record data holds its fields as nested pairs. It is written, compared and hashed field
+//! by field, for all types in one way, by the table of the types.
 #![tactic(auto)]
 
 mod compose;
@@ -21,9 +21,9 @@ pub use field::{Compressible, FieldValue, Tag, Uncompressed};
 pub use front::{CanonicalOctetsOrd, FrontField, FrontRow, canonical_row_cmp_octets};
 pub use read::{ReadError, ReadField, ReadRow, parse_row, read_row};
 pub use row::{Last, LastValue, Rest16, Rest64, RestText, Row, Strings, StringsIter};
-pub use scan::{ScanField, ScanRow, scan_row};
+pub use scan::{ScanField, ScanRow, scan_row, scan_row_of};
 pub use show::{ShowField, ShowLast, ShowRow, show_row};
 pub use table::{
-    ARow, AaaaRow, CaaRow, DnskeyRow, DsRow, HinfoRow, MinfoRow, MxRow, NameRow, Number, RowOf,
-    RpRow, SoaRow, SrvRow, TxtRow,
+    ARow, AaaaRow, CaaRow, DataType, DnskeyRow, DsRow, HinfoRow, MinfoRow, MxRow, NameRow, Number,
+    RowOf, RpRow, SoaRow, SrvRow, TxtRow,
 };

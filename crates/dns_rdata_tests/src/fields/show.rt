@@ -20,7 +20,7 @@ impl<R: ShowRow> ZonefileFmt for Shown<R> {
     ghost document = { λ shown. block_of (row_pieces (R.fields shown.0)) };
 
     fn fmt<F: Formatter>(&self, formatter: &mut F) -> fmt::Result {
-        show_row::<_, _, 0>(&self.0, formatter)
+        show_row(0, &self.0, formatter)
     }
 }
 
