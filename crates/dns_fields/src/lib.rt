@@ -21,9 +21,9 @@ pub use field::{Compressible, FieldValue, Tag, Uncompressed};
 pub use front::{CanonicalOctetsOrd, FrontField, FrontRow, canonical_row_cmp_octets};
 pub use read::{ReadError, ReadField, ReadRow, parse_row, read_row};
 pub use row::{Last, LastValue, Rest16, Rest64, RestText, Row, Strings, StringsIter};
-pub use scan::{ScanField, ScanRow, scan_row};
+pub use scan::{ScanField, ScanRow, scan_row, scan_row_of};
 pub use show::{ShowField, ShowLast, ShowRow, show_row};
 pub use table::{
-    ARow, AaaaRow, CaaRow, DnskeyRow, DsRow, HinfoRow, MinfoRow, MxRow, NameRow, Number, RowOf,
-    RpRow, SoaRow, SrvRow, TxtRow,
+    ARow, AaaaRow, CaaRow, DataType, DnskeyRow, DsRow, HinfoRow, MinfoRow, MxRow, NameRow, Number,
+    RowOf, RpRow, SoaRow, SrvRow, TxtRow,
 };

@@ -94,15 +94,12 @@ fn show_comment<'a, F: Formatter>(
 }
 
 /// Writes the row of a type as a block, with the comments of the type. An error is one of the formatter.
-pub fn show_row<R: ShowRow, F: Formatter, const RTYPE: u16>(
-    row: &R,
-    formatter: &mut F,
-) -> fmt::Result
-    ensures { OnOk result (Adds F.writes formatter.old (block_of (data_pieces RTYPE (R.fields row.now))) formatter.new) }
+pub fn show_row<R: ShowRow, F: Formatter>(rtype: u16, row: &R, formatter: &mut F) -> fmt::Result
+    ensures { OnOk result (Adds F.writes formatter.old (block_of (data_pieces rtype (R.fields row.now))) formatter.new) }
 {
     formatter.block(
         |inner: &mut F| -> fmt::Result
-            ensures { OnOk result (Adds F.writes inner.old (data_pieces RTYPE (R.fields row.entry.now)) inner.new) }
-        { row.show_fields(comments_of(RTYPE), inner) },
+            ensures { OnOk result (Adds F.writes inner.old (data_pieces rtype (R.fields row.entry.now)) inner.new) }
+        { row.show_fields(comments_of(rtype), inner) },
     )
 }

@@ -1,5 +1,5 @@
 //! The rows of the types, by the table of their kinds.
-ghost use Rattle.std.specs.Prelude.{◌≡◌, Some};
+ghost use Rattle.std.specs.Prelude.{◌≡◌, ℕ, Some};
 ghost use Rattle.std.proofs.Common.{refl};
 ghost use Rattle.dns_fields.specs.Fields.{kinds_of};
 
@@ -8,13 +8,30 @@ use dns_name::{Octets, ToName};
 use dns_text::CharStr;
 use std::net::{Ipv4Addr, Ipv6Addr};
 
+/// What stands for a type of data.
+pub trait DataType {
+    ghost number: { ℕ };
+
+    /// Returns the number of the type.
+    fn number() -> u16
+        ensures { result ≡ number };
+}
+
 /// Stands for the type of this number.
 #[derive(Debug, Drop)]
 pub struct Number<const RTYPE: u16> {}
 
+impl<const RTYPE: u16> DataType for Number<RTYPE> {
+    ghost number = { RTYPE };
+
+    fn number() -> u16 {
+        RTYPE
+    }
+}
+
 /// A row of the fields that data of the type has.
-pub trait RowOf<const RTYPE: u16>: Row {
-    ghost of_type: { kinds_of RTYPE ≡ Some Self.kinds };
+pub trait RowOf<T: DataType>: Row {
+    ghost of_type: { kinds_of T.number ≡ Some Self.kinds };
 }
 
 /// The field of A data: an address (RFC 1035 3.4.1).
@@ -59,82 +76,82 @@ pub type DnskeyRow<Octs> = (u16, (u8, (u8, Last<Rest64<Octs>>)));
 /// The fields of CAA data: flags, a tag and a value (RFC 8659 4.1).
 pub type CaaRow<Octs> = (u8, (Tag<Octs>, Last<RestText<Octs>>));
 
-impl RowOf<1> for ARow {
+impl RowOf<Number<1>> for ARow {
     ghost of_type = { refl };
 }
 
-impl<N: ToName> RowOf<2> for NameRow<N> {
+impl<N: ToName> RowOf<Number<2>> for NameRow<N> {
     ghost of_type = { refl };
 }
 
-impl<N: ToName> RowOf<3> for NameRow<N> {
+impl<N: ToName> RowOf<Number<3>> for NameRow<N> {
     ghost of_type = { refl };
 }
 
-impl<N: ToName> RowOf<4> for NameRow<N> {
+impl<N: ToName> RowOf<Number<4>> for NameRow<N> {
     ghost of_type = { refl };
 }
 
-impl<N: ToName> RowOf<5> for NameRow<N> {
+impl<N: ToName> RowOf<Number<5>> for NameRow<N> {
     ghost of_type = { refl };
 }
 
-impl<N: ToName> RowOf<6> for SoaRow<N> {
+impl<N: ToName> RowOf<Number<6>> for SoaRow<N> {
     ghost of_type = { refl };
 }
 
-impl<N: ToName> RowOf<7> for NameRow<N> {
+impl<N: ToName> RowOf<Number<7>> for NameRow<N> {
     ghost of_type = { refl };
 }
 
-impl<N: ToName> RowOf<8> for NameRow<N> {
+impl<N: ToName> RowOf<Number<8>> for NameRow<N> {
     ghost of_type = { refl };
 }
 
-impl<N: ToName> RowOf<9> for NameRow<N> {
+impl<N: ToName> RowOf<Number<9>> for NameRow<N> {
     ghost of_type = { refl };
 }
 
-impl<N: ToName> RowOf<12> for NameRow<N> {
+impl<N: ToName> RowOf<Number<12>> for NameRow<N> {
     ghost of_type = { refl };
 }
 
-impl<Octs: Octets> RowOf<13> for HinfoRow<Octs> {
+impl<Octs: Octets> RowOf<Number<13>> for HinfoRow<Octs> {
     ghost of_type = { refl };
 }
 
-impl<N: ToName> RowOf<14> for MinfoRow<N> {
+impl<N: ToName> RowOf<Number<14>> for MinfoRow<N> {
     ghost of_type = { refl };
 }
 
-impl<N: ToName> RowOf<15> for MxRow<N> {
+impl<N: ToName> RowOf<Number<15>> for MxRow<N> {
     ghost of_type = { refl };
 }
 
-impl<Octs: Octets> RowOf<16> for TxtRow<Octs> {
+impl<Octs: Octets> RowOf<Number<16>> for TxtRow<Octs> {
     ghost of_type = { refl };
 }
 
-impl<N: ToName> RowOf<17> for RpRow<N> {
+impl<N: ToName> RowOf<Number<17>> for RpRow<N> {
     ghost of_type = { refl };
 }
 
-impl RowOf<28> for AaaaRow {
+impl RowOf<Number<28>> for AaaaRow {
     ghost of_type = { refl };
 }
 
-impl<N: ToName> RowOf<33> for SrvRow<N> {
+impl<N: ToName> RowOf<Number<33>> for SrvRow<N> {
     ghost of_type = { refl };
 }
 
-impl<Octs: Octets> RowOf<43> for DsRow<Octs> {
+impl<Octs: Octets> RowOf<Number<43>> for DsRow<Octs> {
     ghost of_type = { refl };
 }
 
-impl<Octs: Octets> RowOf<48> for DnskeyRow<Octs> {
+impl<Octs: Octets> RowOf<Number<48>> for DnskeyRow<Octs> {
     ghost of_type = { refl };
 }
 
-impl<Octs: Octets> RowOf<257> for CaaRow<Octs> {
+impl<Octs: Octets> RowOf<Number<257>> for CaaRow<Octs> {
     ghost of_type = { refl };
 }

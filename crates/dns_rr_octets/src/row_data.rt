@@ -1,6 +1,5 @@
 //! Record data of a type, held as the row of its fields.
-ghost use Rattle.std.specs.Prelude.{◌≡◌, ◌==◌, ◌↔◌, List, false, Err, IsOk, IsErrOf, IfOk, IfErr, OnOk, OnErr};
-ghost use Rattle.std.specs.Prelude.{Some};
+ghost use Rattle.std.specs.Prelude.{◌≡◌, ◌==◌, ◌↔◌, List, false, Err, IsOk, IsErrOf, IfOk, IfErr, OnOk, OnErr, Some};
 ghost use Rattle.std.specs.Ordering.{as_partial_cmp};
 ghost use Rattle.std.proofs.Common.{refl};
 ghost use Rattle.dns_fields.specs.Alike.{keys, rows_eq, rows_cmp, canonical_rows_cmp};
@@ -21,9 +20,9 @@ ghost use Rattle.dns_text.specs.Document.Layout.{Simple};
 ghost use Rattle.dns_text.specs.Documents.{block_of};
 
 use dns_fields::{
-    CanonicalOctetsOrd, ConvertRow, FrontRow, Number, OverOctets, ReadRow, Row, RowOf, ScanRow,
-    ShowRow, canonical_row_cmp_octets, compose_canonical_row, compose_row, parse_row, read_row,
-    row_len, scan_row, show_row,
+    CanonicalOctetsOrd, ConvertRow, DataType, FrontRow, OverOctets, ReadRow, Row, RowOf, ScanRow,
+    ShowRow, canonical_row_cmp_octets, compose_canonical_row, compose_row, read_row, row_len,
+    scan_row_of, show_row,
 };
 use dns_name::{
     AppendError, CanonicalOrd, ComposeRecordData, Composer, EmptyBuilder, FlattenInto, FromBuilder,
@@ -38,7 +37,7 @@ use std::marker::{Model, PhantomData};
 
 /// Data of the type that `T` stands for, as a row of fields.
 ///
-/// A contract sees it as its row. A row whose last field may have any number of octets has at most 65,535.
+/// A contract sees it as its row. A row with a field of any length has at most 65,535 octets.
 #[derive(Debug, Drop)]
 pub struct RowData<T, R: Row> {
     pub(crate) row: R,
@@ -62,7 +61,7 @@ impl<T, R: Row> RowData<T, R> {
     }
 }
 
-impl<const RTYPE: u16, R: RowOf<RTYPE>> RowData<Number<RTYPE>, R> {
+impl<T: DataType, R: RowOf<T>> RowData<T, R> {
     /// Parses the data up to the end of the parser.
     ///
     /// Fails if what is left is no data of the type, and with `ShortInput` exactly if the octets end too early for it. The
@@ -70,14 +69,14 @@ impl<const RTYPE: u16, R: RowOf<RTYPE>> RowData<Number<RTYPE>, R> {
     pub fn parse<'a>(parser: &mut Parser<'a>) -> Result<Self, ParseError>
     where
         R: ReadRow<'a>,
-        ensures ok { IfOk result (λ rdata. ReadsRow RTYPE (octets_of parser.old) (place_of parser.old) rdata) }
+        ensures ok { IfOk result (λ rdata. ReadsRow T.number (octets_of parser.old) (place_of parser.old) rdata) }
         ensures end { OnOk result (IsAtEnd parser.old parser.new) }
-        ensures no_data { OnErr result (NoRow RTYPE (octets_of parser.old) (place_of parser.old)) }
-        ensures short { IsErrOf result ShortInput ↔ IsCutRow RTYPE (octets_of parser.old) (place_of parser.old) }
+        ensures no_data { OnErr result (NoRow T.number (octets_of parser.old) (place_of parser.old)) }
+        ensures short { IsErrOf result ShortInput ↔ IsCutRow T.number (octets_of parser.old) (place_of parser.old) }
         ensures err { OnErr result (parser.new ≡ parser.old) }
     {
         Ok(RowData {
-            row: parse_row::<_, RTYPE>(parser)?,
+            row: read_row(T::number(), parser)?,
             rtype: PhantomData,
         })
     }
@@ -89,41 +88,37 @@ impl<const RTYPE: u16, R: RowOf<RTYPE>> RowData<Number<RTYPE>, R> {
     pub fn scan<S: Scanner>(scanner: &mut S) -> Result<Self, S::Error>
     where
         R: ScanRow<S>,
-        ensures ok { IfOk result (λ rdata. ScansData (S.names scanner.old) RTYPE rdata (S.tokens scanner.old)
+        ensures ok { IfOk result (λ rdata. ScansData (S.names scanner.old) T.number rdata (S.tokens scanner.old)
             (S.tokens scanner.new)) }
         ensures err { IfErr result (λ error. S.Error.is_short error ≡ false
-            → NoDataScans (S.names scanner.old) RTYPE (S.tokens scanner.old)) }
+            → NoDataScans (S.names scanner.old) T.number (S.tokens scanner.old)) }
         ensures left { OnErr result (IsEnding (S.tokens scanner.new) (S.tokens scanner.old)) }
         ensures names { SameNames (S.names scanner.old) (S.names scanner.new) }
     {
         Ok(RowData {
-            row: scan_row::<_, _, RTYPE>(scanner)?,
+            row: scan_row_of(T::number(), scanner)?,
             rtype: PhantomData,
         })
     }
 }
 
 /// Takes this type alone.
-impl<'a, const RTYPE: u16, R: RowOf<RTYPE> + ReadRow<'a>> ParseRecordData<'a>
-    for RowData<Number<RTYPE>, R> {
-    ghost takes = { λ number. number == RTYPE };
+impl<'a, T: DataType, R: RowOf<T> + ReadRow<'a>> ParseRecordData<'a> for RowData<T, R> {
+    ghost takes = { λ number. number == T.number };
 
     ghost reads = { λ message place number rdata. ReadsRow number message place rdata };
 
     fn parse_rdata(rtype: Rtype, parser: &mut Parser<'a>) -> Result<Option<Self>, ParseError> {
-        if rtype.to_int() != RTYPE {
+        if rtype.to_int() != T::number() {
             return Ok(None);
         }
-        Ok(Some(RowData {
-            row: read_row(RTYPE, parser)?,
-            rtype: PhantomData,
-        }))
+        Ok(Some(RowData::parse(parser)?))
     }
 }
 
 /// Returns the same fields over other octets. Fails with `ShortBuf` only if these can't hold as many as a field has, and with
 /// `OutOfMemory` only if out of memory. Data that is numbers and addresses never fails.
-impl<const RTYPE: u16, A, B> OctetsFrom<RowData<Number<RTYPE>, A>> for RowData<Number<RTYPE>, B>
+impl<T, A, B> OctetsFrom<RowData<T, A>> for RowData<T, B>
 where
     A: ConvertRow<B, B::Octets> + Drop,
     B: OverOctets,
@@ -134,10 +129,7 @@ where
         × (result ≡ Err BadLength → ⊥)
         × (hold_octets source ≡ false → IsOk result) };
 
-    fn try_octets_from(
-        alloc: Global,
-        source: RowData<Number<RTYPE>, A>,
-    ) -> Result<Self, AppendError> {
+    fn try_octets_from(alloc: Global, source: RowData<T, A>) -> Result<Self, AppendError> {
         Ok(RowData {
             row: ConvertRow::<_, B::Octets>::convert_fields(&source.row, alloc)?,
             rtype: PhantomData,
@@ -146,7 +138,7 @@ where
 }
 
 /// Returns the same fields, with flat names.
-impl<const RTYPE: u16, A, B> FlattenInto<RowData<Number<RTYPE>, B>> for RowData<Number<RTYPE>, A>
+impl<T, A, B> FlattenInto<RowData<T, B>> for RowData<T, A>
 where
     A: ConvertRow<B, B::Octets> + Drop,
     B: OverOctets,
@@ -156,20 +148,20 @@ where
 
     ghost is_long = { OneIsPast B.Octets.Builder.limit };
 
-    fn try_flatten_into(self, alloc: Global) -> Result<RowData<Number<RTYPE>, B>, AppendError> {
+    fn try_flatten_into(self, alloc: Global) -> Result<RowData<T, B>, AppendError> {
         RowData::try_octets_from(alloc, self)
     }
 }
 
-impl<const RTYPE: u16, R: Row> RecordData for RowData<Number<RTYPE>, R> {
-    ghost rtype = { λ _. RTYPE };
+impl<T: DataType, R: Row> RecordData for RowData<T, R> {
+    ghost rtype = { λ _. T.number };
 
     fn rtype(&self) -> Rtype {
-        Rtype::from_int(RTYPE)
+        Rtype::from_int(T::number())
     }
 }
 
-impl<const RTYPE: u16, R: Row> ComposeRecordData for RowData<Number<RTYPE>, R> {
+impl<T: DataType, R: Row> ComposeRecordData for RowData<T, R> {
     ghost parts = { written_parts };
 
     ghost canonical_octets = { canonical_octets };
@@ -191,7 +183,7 @@ impl<const RTYPE: u16, R: Row> ComposeRecordData for RowData<Number<RTYPE>, R> {
 }
 
 /// Single strings and CAA tags up to ASCII case (RFC 8659 4.1).
-impl<const RTYPE: u16, R: Row> PartialEq for RowData<Number<RTYPE>, R> {
+impl<T, R: Row> PartialEq for RowData<T, R> {
     ghost eq = { rows_eq };
 
     ghost laws = { rows_partly_equivalent };
@@ -201,11 +193,11 @@ impl<const RTYPE: u16, R: Row> PartialEq for RowData<Number<RTYPE>, R> {
     }
 }
 
-impl<const RTYPE: u16, R: Row> Eq for RowData<Number<RTYPE>, R> {
+impl<T, R: Row> Eq for RowData<T, R> {
     ghost laws = { rows_equivalent };
 }
 
-impl<const RTYPE: u16, R: Row> PartialOrd for RowData<Number<RTYPE>, R> {
+impl<T, R: Row> PartialOrd for RowData<T, R> {
     ghost partial_cmp = { as_partial_cmp rows_cmp };
 
     ghost laws = { rows_order };
@@ -215,7 +207,7 @@ impl<const RTYPE: u16, R: Row> PartialOrd for RowData<Number<RTYPE>, R> {
     }
 }
 
-impl<const RTYPE: u16, R: Row> Ord for RowData<Number<RTYPE>, R> {
+impl<T, R: Row> Ord for RowData<T, R> {
     ghost cmp = { rows_cmp };
 
     ghost total = { rows_total };
@@ -230,7 +222,7 @@ impl<const RTYPE: u16, R: Row> Ord for RowData<Number<RTYPE>, R> {
 }
 
 /// The order of the canonical octets (RFC 4034 6.3).
-impl<const RTYPE: u16, R: Row> CanonicalOrd for RowData<Number<RTYPE>, R> {
+impl<T, R: Row> CanonicalOrd for RowData<T, R> {
     ghost canonical = { canonical_rows_cmp };
 
     fn canonical_cmp(&self, other: &Self) -> Ordering {
@@ -239,13 +231,13 @@ impl<const RTYPE: u16, R: Row> CanonicalOrd for RowData<Number<RTYPE>, R> {
 }
 
 /// The same order, against data that is held as octets.
-impl<const RTYPE: u16, R: FrontRow> CanonicalOctetsOrd for RowData<Number<RTYPE>, R> {
+impl<T: DataType, R: FrontRow> CanonicalOctetsOrd for RowData<T, R> {
     fn canonical_octets_cmp(&self, octets: &[u8]) -> Ordering {
         canonical_row_cmp_octets(&self.row, octets)
     }
 }
 
-impl<const RTYPE: u16, R: Row> Hash for RowData<Number<RTYPE>, R> {
+impl<T, R: Row> Hash for RowData<T, R> {
     ghost hash_input = { keys };
 
     ghost respects_eq = { rows_alike };
@@ -256,17 +248,17 @@ impl<const RTYPE: u16, R: Row> Hash for RowData<Number<RTYPE>, R> {
 }
 
 /// The tokens of the fields in a block, with the comments of the type.
-impl<const RTYPE: u16, R: ShowRow> ZonefileFmt for RowData<Number<RTYPE>, R> {
-    ghost document = { λ rdata. block_of (data_pieces RTYPE rdata) };
+impl<T: DataType, R: ShowRow> ZonefileFmt for RowData<T, R> {
+    ghost document = { λ rdata. block_of (data_pieces T.number rdata) };
 
     fn fmt<F: Formatter>(&self, formatter: &mut F) -> fmt::Result {
-        show_row::<_, _, RTYPE>(&self.row, formatter)
+        show_row(T::number(), &self.row, formatter)
     }
 }
 
 /// With one space between two fields.
-impl<const RTYPE: u16, R: ShowRow> fmt::Display for RowData<Number<RTYPE>, R> {
-    ghost output = { λ rdata. Some (document_text Simple (block_of (data_pieces RTYPE rdata))) };
+impl<T: DataType, R: ShowRow> fmt::Display for RowData<T, R> {
+    ghost output = { λ rdata. Some (document_text Simple (block_of (data_pieces T.number rdata))) };
 
     fn fmt<W: fmt::Write>(&self, f: &mut fmt::Formatter<W>) -> fmt::Result {
         fmt::Display::fmt(&self.display_zonefile(DisplayKind::Simple), f)

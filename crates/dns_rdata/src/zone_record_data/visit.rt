@@ -8,7 +8,7 @@ ghost use Rattle.dns_text.specs.Documents.{block_of};
 ghost use Rattle.dns_text.specs.Writing.{Adds};
 
 use super::ZoneRecordData;
-use crate::rows::{FrontRow, Number, ShowRow};
+use crate::rows::{DataType, FrontRow, ShowRow};
 use dns_name::{Octets, ToName, UnknownRecordData};
 use dns_text::{Formatter, ZonefileFmt};
 use std::fmt;
@@ -34,16 +34,15 @@ pub trait TypedData {
         ensures { OnOk result (Adds F.writes formatter.old (block_of (data_pieces number (held self.now))) formatter.new) };
 }
 
-impl<const RTYPE: u16, R: FrontRow + ShowRow> TypedData
-    for dns_rr_names::RowData<Number<RTYPE>, R> {
+impl<T: DataType, R: FrontRow + ShowRow> TypedData for dns_rr_names::RowData<T, R> {
     type Row = R;
 
-    ghost number = { RTYPE };
+    ghost number = { T.number };
 
     ghost held = { λ rdata. rdata };
 
     fn number(&self) -> u16 {
-        RTYPE
+        T::number()
     }
 
     fn as_row(&self) -> &R {
@@ -55,16 +54,15 @@ impl<const RTYPE: u16, R: FrontRow + ShowRow> TypedData
     }
 }
 
-impl<const RTYPE: u16, R: FrontRow + ShowRow> TypedData
-    for dns_rr_octets::RowData<Number<RTYPE>, R> {
+impl<T: DataType, R: FrontRow + ShowRow> TypedData for dns_rr_octets::RowData<T, R> {
     type Row = R;
 
-    ghost number = { RTYPE };
+    ghost number = { T.number };
 
     ghost held = { λ rdata. rdata };
 
     fn number(&self) -> u16 {
-        RTYPE
+        T::number()
     }
 
     fn as_row(&self) -> &R {

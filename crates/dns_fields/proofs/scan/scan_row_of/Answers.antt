@@ -3,7 +3,7 @@ use Rattle.std.specs.Prelude.{Some}
 use Rattle.dns_fields.specs.Fields.{Kind, octets}
 use Rattle.dns_fields.specs.Scanned.{ScansRow}
 use Rattle.dns_fields.proofs.ScanParts.{left_of_fields}
-use Rattle.dns_fields.proofs.scan.scan_row.Goals as goal
+use Rattle.dns_fields.proofs.scan.scan_row_of.Goals as goal
 
 pub returns-in-None-clause-left : goal.returns-in-None-clause-left
 returns-in-None-clause-left g c = left_of_fields _ _ _ _ c.in_ok-row.ensures.ok
