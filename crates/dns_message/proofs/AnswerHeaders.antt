@@ -1,10 +1,10 @@
 -- The header of an answer is its fields and counts.
-use Rattle.std.proofs.Common.{◌≡◌, ℕ, ◌+◌, ◌<◌, ◌≤◌, ◌^◌, Bool, true, false, List, [], ◌∷◌, ◌++◌, length, drop, refl, sym, ap, ◌∙◌, arith, length-drop}
+use Rattle.std.proofs.Common.{◌≡◌, ℕ, ◌<◌, ◌^◌, Bool, true, false, List, [], ◌∷◌, ◌++◌, length, drop, refl, sym, ap, ◌∙◌, arith, length-drop}
 use Rattle.std.specs.Int.{to_be_bytes, w16}
 use Rattle.std.proofs.lemmas.Nat.{from_be_bytes-to_be_bytes_2}
-use Rattle.dns_header.specs.Header.{answer_header, number_at}
-use Rattle.dns_header.specs.HeaderFields.{HeaderFields, fields_of, header_octets}
-use Rattle.dns_header.specs.HeaderCounts.{Counts, counts_of, counts_in, counts_octets}
+use Rattle.dns_header.specs.Header.{answer_header}
+use Rattle.dns_header.specs.HeaderFields.{fields_of, header_octets}
+use Rattle.dns_header.specs.HeaderCounts.{counts_of, counts_in, counts_octets}
 use Rattle.dns_header.proofs.Fields.{octets_by_fields}
 use Rattle.dns_message.specs.Answer.{answer_fields, answer_counts}
 use Rattle.dns_message.proofs.Numbers.{AreOctets, octet_at, number16}

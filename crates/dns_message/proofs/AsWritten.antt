@@ -4,17 +4,16 @@ use Rattle.std.specs.Int.{to_be_bytes, w16, w32}
 use Rattle.std.specs.List.{AllByRecursion}
 use Rattle.dns_label.specs.Name.{wire}
 use Rattle.dns_name.specs.SpelledParts.{Spells}
-use Rattle.dns_name.specs.SpelledParts.Spells.{nothing, octets, named, counted}
+use Rattle.dns_name.specs.SpelledParts.Spells.{octets, named, counted}
 use Rattle.dns_name.specs.Page.{Parts}
 use Rattle.dns_name.specs.Page.Parts.{End, Octets, Named, Counted}
 use Rattle.dns_rdata.specs.Fields.{Field, IsField}
 use Rattle.dns_rdata.specs.Fields.Field.{number8, number16, number32, ipv4, ipv6, compressible, uncompressed, string, strings, tag, rest_text, rest16, rest64}
-use Rattle.dns_header.proofs.WrittenQuestions.{reads-written, within_message}
-use Rattle.dns_message.specs.Record.{Record, IsRecord, IsRead, IsWritten, ReadsRecord, ReadsPlainRecord, read_parts, written_parts, record_octets}
+use Rattle.dns_header.proofs.WrittenQuestions.{reads-written}
+use Rattle.dns_message.specs.Record.{Record, IsRecord, IsWritten, ReadsRecord, ReadsPlainRecord, read_parts, written_parts, record_octets}
 use Rattle.dns_message.specs.Record.IsRead.{typed, opaque}
 use Rattle.dns_message.specs.Record.IsWritten.{fields, untold}
 use Rattle.dns_message.proofs.WrittenRecords.{record-written}
-use Rattle.dns_message.specs.Tried.{mx_written, mx_octets, srv_written}
 
 -- other parts behind the same octets
 behind_octets : {message : List ℕ} {place next : ℕ} {text : List ℕ} {parts other : Parts}

@@ -1,23 +1,21 @@
 -- A record is spelled exactly where its head and its data are read.
-use Rattle.std.proofs.Common.{◌≡◌, ℕ, ◌+◌, ◌<◌, ◌≤◌, ◌^◌, List, [], ◌∷◌, ◌++◌, length, take, drop, refl, sym, ap, ◌∙◌, subst, arith, append-nil, length-append, length-drop, length-take-le, Some, None, map}
+use Rattle.std.proofs.Common.{◌≡◌, ℕ, ◌+◌, ◌<◌, ◌≤◌, ◌^◌, List, [], ◌∷◌, ◌++◌, length, take, drop, refl, sym, ap, ◌∙◌, subst, arith, append-nil, length-append, length-drop, length-take-le, None}
 use Rattle.std.specs.Int.{to_be_bytes, from_be_bytes, w16, w32}
 use Rattle.std.proofs.lemmas.Nat.{from_be_bytes-to_be_bytes_2, from_be_bytes-to_be_bytes_4}
 use Rattle.dns_label.proofs.Spelling.{drop_behind}
 use Rattle.dns_name.specs.SpelledParts.{Spells}
 use Rattle.dns_name.specs.SpelledParts.Spells.{nothing, octets, named, counted}
 use Rattle.dns_name.specs.Page.{Parts}
-use Rattle.dns_name.specs.Page.Parts.{End, Octets, Named, Counted}
-use Rattle.dns_name.specs.Unknown.{UnknownData, IsUnknownAt}
+use Rattle.dns_name.specs.Page.Parts.{End, Octets}
 use Rattle.dns_rdata.specs.Fields as fields
-use Rattle.dns_rdata.specs.Fields.{Field, IsRow, kinds_of}
-use Rattle.dns_rdata.specs.Reading.{ReadsRow}
+use Rattle.dns_rdata.specs.Fields.{IsRow, kinds_of}
 use Rattle.dns_rdata.specs.Data as data_specs
 use Rattle.dns_rdata.specs.Data.{Data, number_of}
 use Rattle.dns_rdata.specs.Data.Data.{typed as in_fields, untyped}
 use Rattle.dns_header.specs.Header.{number_at}
 use Rattle.dns_header.specs.Head as head_specs
 use Rattle.dns_header.specs.Head.{Head, ReadsHead, ReadsWhole, fixed_octets}
-use Rattle.dns_header.specs.Record.{RecordOf, ReadsData}
+use Rattle.dns_header.specs.Record.{RecordOf}
 use Rattle.dns_header.specs.ParsedRecord.{Parsed, HoldsRecord, IsRecordOf}
 use Rattle.dns_octets.specs.Parser.{octets_of, place_of}
 use Rattle.dns_message.specs.Record.{Record, IsRecord, IsRead, ReadsRecord, read_parts, record_parts}
@@ -253,7 +251,6 @@ data_opened {message} {place} {next} r good (opaque none) spelled =
       number = refl;
       is = refl;
     }
-
 
 pub record Taken (message : List ℕ) (place : ℕ) (r : Record) (next : ℕ) : Type 0 where
   pub rr : RecordOf (List (List ℕ)) Data

@@ -1,11 +1,11 @@
 -- A question is read exactly where it is spelled.
-use Rattle.std.proofs.Common.{◌≡◌, ℕ, ◌+◌, ◌<◌, ◌≤◌, ◌^◌, List, ◌++◌, length, take, drop, refl, sym, ap, ◌∙◌, subst, arith, length-drop}
+use Rattle.std.proofs.Common.{◌≡◌, ℕ, ◌+◌, ◌<◌, ◌^◌, List, ◌++◌, length, take, drop, refl, sym, ap, ◌∙◌, subst, arith, length-drop}
 use Rattle.std.specs.Int.{to_be_bytes, from_be_bytes, w16}
 use Rattle.std.proofs.lemmas.Nat.{from_be_bytes-to_be_bytes_2}
 use Rattle.dns_label.proofs.Spelling.{drop_behind}
 use Rattle.dns_name.specs.SpelledParts.{Spells}
 use Rattle.dns_name.specs.SpelledParts.Spells.{nothing, octets, named}
-use Rattle.dns_name.specs.Page.Parts.{End, Octets, Named}
+use Rattle.dns_name.specs.Page.Parts.{End}
 use Rattle.dns_header.specs.Header.{number_at}
 use Rattle.dns_header.specs.Question.{Question, ReadsQuestion, question_parts}
 use Rattle.dns_message.proofs.Numbers.{AreOctets, number16}
@@ -20,8 +20,7 @@ question_spelled message place next q each reads =
     first.1 ∙ ap (λ l. to_be_bytes w16 (number_at message reads.behind) ++ l) second.1
     ∙ (λ i. to_be_bytes w16 (sym reads.qtype i) ++ (to_be_bytes w16 (sym reads.qclass i) ++ drop (reads.behind + 4) message)) in
     let P : ℕ → Type 0 = λ end. Spells message (reads.behind + 4) End end in
-    let ends : Spells message (reads.behind + 4) End next = subst P (sym reads.ends) (nothing reads.whole) in
-    (
+    let ends : Spells message (reads.behind + 4) End next = subst P (sym reads.ends) (nothing reads.whole) in (
       named reads.behind reads.name (octets (drop (reads.behind + 4) message) at ends),
       subst (λ n. n < 2 ^ 16) (sym reads.qtype) first.0,
       subst (λ n. n < 2 ^ 16) (sym reads.qclass) second.0,
