@@ -54,13 +54,14 @@ module _ (s : Spelling) where
       let count : counted_length s page inner ≡ length t.octets =
       omega (arith, ap (λ (p : Page). length p.octets) inside, length-append (o ++ 0 ∷ 0 ∷ []) t.octets, length-append o (0 ∷ 0 ∷ [])) in
       let whole : write s page (Counted inner End) ≡ behind o (tail s page.known (length o) (Counted inner End)) = write_is s page (Counted inner End) in
-      let mark : List ℕ = to_be_bytes w16 (length t.octets) in
-      (omega (arith, fits.0, count),
-      at_page (with_octets page (0 ∷ 0 ∷ [])) page.known (length o + 2) inner refl (length-append o (0 ∷ 0 ∷ [])) (tails_fit (with_octets page (0 ∷ 0 ∷ [])) inner fits.1.0),
-      at_page (write s page (Counted inner End)) t.known (length o + 2 + length t.octets) parts (ap (λ (p : Page). p.known) whole)
-      (ap (λ (p : Page). length p.octets) whole ∙ length-append o ((mark ++ t.octets) ++ []) ∙ ap (λ (l : List ℕ). length o + length l) (append-nil (mark ++ t.octets))
-      ∙ ap (λ n. length o + n) (length-append mark t.octets) ∙ omega arith)
-      (tails_fit (write s page (Counted inner End)) parts fits.1.1))
+      let mark : List ℕ = to_be_bytes w16 (length t.octets) in (
+        omega (arith, fits.0, count),
+        at_page (with_octets page (0 ∷ 0 ∷ [])) page.known (length o + 2) inner refl (length-append o (0 ∷ 0 ∷ [])) (tails_fit (with_octets page (0 ∷ 0 ∷ [])) inner fits.1.0),
+        at_page (write s page (Counted inner End)) t.known (length o + 2 + length t.octets) parts (ap (λ (p : Page). p.known) whole)
+            (ap (λ (p : Page). length p.octets) whole ∙ length-append o ((mark ++ t.octets) ++ []) ∙ ap (λ (l : List ℕ). length o + length l) (append-nil (mark ++ t.octets))
+            ∙ ap (λ n. length o + n) (length-append mark t.octets) ∙ omega arith)
+            (tails_fit (write s page (Counted inner End)) parts fits.1.1),
+      )
 
 -- the parts are read, whatever follows what they add, and what is then remembered stands in the octets
 pub record AreRead (s : Spelling) (octets : List ℕ) (place : ℕ) (parts : Parts) (t : Page) : Type 0 where
@@ -144,7 +145,7 @@ parts_read s known octets place is (Counted inner parts) sound names fits =
     let own = parts_read s known (octets ++ mark) (place + 2) (ends octets mark place is) inner (IsSound-append mark sound) names.0 fits.1.0 in
     let front : IsSound s t.known (octets ++ (mark ++ t.octets)) = subst (λ l. IsSound s t.known l) (append_assoc octets mark t.octets) own.sound in
     let on = parts_read s t.known (octets ++ (mark ++ t.octets)) (place + 2 + n)
-        (omega (arith, is, length-append octets (mark ++ t.octets), length-append mark t.octets)) parts front names.1 fits.1.1 in
+    (omega (arith, is, length-append octets (mark ++ t.octets), length-append mark t.octets)) parts front names.1 fits.1.1 in
     record {
       sound = subst (λ l. IsSound s u.known l) (append_assoc octets (mark ++ t.octets) u.octets) on.sound;
       reads = λ more.

@@ -58,11 +58,13 @@ same_labels s [] (label ∷ other) same labels = absurd (omega (arith, ap (lengt
 same_labels s (text ∷ name) (label ∷ other) same labels =
     let here : folded s text ≡ folded s label = cc in
     let rest : map (folded s) name ≡ map (folded s) other = cc in
-    let long = ap (length {A = ℕ}) here in
-    (record {
-      some = omega (arith, long, length-folded s text, length-folded s label, labels.0.some);
-      short = omega (arith, long, length-folded s text, length-folded s label, labels.0.short);
-    }, same_labels s name other rest labels.1)
+    let long = ap (length {A = ℕ}) here in (
+      record {
+        some = omega (arith, long, length-folded s text, length-folded s label, labels.0.some);
+        short = omega (arith, long, length-folded s text, length-folded s label, labels.0.short);
+      },
+      same_labels s name other rest labels.1,
+    )
 
 length-form : (s : Spelling) (name : List (List ℕ)) → AllByRecursion IsLabel name → length (remembered_form s name) ≡ length (wire name)
 length-form s name labels = sym (ap (length {A = ℕ}) (folded-wire s name labels)) ∙ length-folded s (wire name)

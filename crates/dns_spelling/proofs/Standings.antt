@@ -78,7 +78,7 @@ spelled_read s known message end targets {place} root rest at ends labels k few 
 spelled_read s known message end targets {place} (label {behind = behind} {parent = parent} text own same is) rest at ends labels k few =
     let here : drop place message ≡ length text ∷ text ++ (behind ++ rest) = at ∙ ap (λ (l : List ℕ). length text ∷ l) (append_assoc text behind rest) in
     let on = spelled_read s known message end targets is rest (after_label message place text (behind ++ rest) here)
-        (omega (arith, ends, length-append text behind)) labels.1 k (omega arith) in
+    (omega (arith, ends, length-append text behind)) labels.1 k (omega arith) in
     record {
       read = text ∷ on.read;
       same = ap (λ (l : List ℕ). l ∷ map (folded s) parent) (sym (same_is s text own same)) ∙ ap (λ (l : List (List ℕ)). folded s text ∷ l) on.same;
@@ -123,10 +123,10 @@ standing_read s known octets more standing stands targets = record {
     reads k few =
         let all : AllByRecursion IsLabel (led.label ∷ led.parent) = subst (λ n. AllByRecursion IsLabel n) led.name_is stands.is_name.labels in
         let on = spelled_read s known message standing.stop
-            (λ target is before. targets target is (omega arith)) led.spelled (stands.there.back ++ more)
-            (after_label message standing.place led.written (led.behind ++ (stands.there.back ++ more)) at)
-            (omega (arith, stands.stops, ap (length {A = ℕ}) led.text_is, length-append led.written led.behind)) all.1 k
-            (omega (arith, few, ap (length {A = List ℕ}) led.name_is)) in
+        (λ target is before. targets target is (omega arith)) led.spelled (stands.there.back ++ more)
+        (after_label message standing.place led.written (led.behind ++ (stands.there.back ++ more)) at)
+        (omega (arith, stands.stops, ap (length {A = ℕ}) led.text_is, length-append led.written led.behind)) all.1 k
+        (omega (arith, few, ap (length {A = List ℕ}) led.name_is)) in
         record {
           read = led.written ∷ on.read;
           same = ap (map (folded s)) led.name_is
@@ -155,8 +155,8 @@ name_read s known octets more name sound is_name =
     subst (λ n. SpellsName s known (length octets) text n) (split_whole s known (length known) (length octets) name)
     (spelled_split s known (length octets) split.labels split.suffix (sound-within sound)) in
     let found = spelled_read s known (octets ++ (text ++ more)) (length octets + length text)
-        (λ target is before. standings_read s known octets (text ++ more) sound (suc target.stop) target is (omega arith))
-        spelled more (drop-append_seam octets (text ++ more)) refl is_name.labels 255 (omega (arith, few_labels name, is_name.short)) in
+    (λ target is before. standings_read s known octets (text ++ more) sound (suc target.stop) target is (omega arith))
+    spelled more (drop-append_seam octets (text ++ more)) refl is_name.labels 255 (omega (arith, few_labels name, is_name.short)) in
     (found.read, (found.same, record { spelled = found.spelled; is_name = same_name s name found.read found.same is_name }))
   where
     few_labels : (name : List (List ℕ)) → length name < length (wire name)

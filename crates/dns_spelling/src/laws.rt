@@ -13,18 +13,15 @@ pub fn written_parts_are_spelled()
         → HaveNames parts → LengthsFit s page parts
         → ∥ SpellsAlike s ((write s page parts).octets ++ more) (length page.octets) parts
         (length (write s page parts).octets) ∥₁ }
-{
-}
+{}
 
 /// The suffixes that are remembered then stand in the octets too.
 pub fn written_parts_are_remembered()
     ensures { (s : Spelling) (page : Page) (parts : Parts) → ∥ IsSound s page.known page.octets ∥₁ → HaveNames parts
         → ∥ IsSound s (write s page parts).known (write s page parts).octets ∥₁ }
-{
-}
+{}
 
 /// Where the spelling does not fold, parts that are alike are the same.
 pub fn exact_parts_are_the_same()
     ensures { (s : Spelling) (parts : Parts) (read : Parts) → s.folds ≡ false → AreAlike s parts read → parts ≡ read }
-{
-}
+{}
