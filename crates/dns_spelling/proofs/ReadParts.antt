@@ -1,8 +1,7 @@
 -- A reader takes the parts that are written, names as the spelling compares them.
-use Rattle.std.proofs.Common.{◌≡◌, ℕ, ◌≤◌, ◌<◌, ◌+◌, ◌-◌, ◌^◌, Bool, true, false, List, [], ◌∷◌, ◌++◌, length, take, drop, map, refl, sym, ap, ◌∙◌, subst, arith, append_assoc, append-nil, length-append}
-use Rattle.std.specs.Prelude.{⊤, if◌then◌else◌}
+use Rattle.std.proofs.Common.{◌≡◌, ℕ, ◌≤◌, ◌<◌, ◌+◌, ◌^◌, false, List, [], ◌∷◌, ◌++◌, length, take, drop, map, refl, sym, ap, ◌∙◌, subst, arith, append_assoc, append-nil, length-append}
+use Rattle.std.specs.Prelude.{⊤}
 use Rattle.std.specs.Int.{to_be_bytes, w16}
-use Rattle.std.specs.Char.{to_ascii_lowercase}
 use Rattle.std.proofs.Math.Seq.{take-append_seam, drop-append_seam}
 use Rattle.dns_octets.specs.Builder.{Known}
 use Rattle.dns_label.specs.Name.{IsName}
@@ -56,17 +55,12 @@ module _ (s : Spelling) where
       let whole : write s page (Counted inner End) ≡ behind o (tail s page.known (length o) (Counted inner End)) = write_is s page (Counted inner End) in
       let mark : List ℕ = to_be_bytes w16 (length t.octets) in (
         omega (arith, fits.0, count),
-        at_page (with_octets page (0 ∷ 0 ∷ [])) page.known (length o + 2) inner refl (length-append o (0 ∷ 0 ∷ [])) (tails_fit (with_octets page (0 ∷ 0 ∷ [])) inner fits.1.0),
+        at_page (with_octets page (0 ∷ 0 ∷ [])) page.known (length o + 2) inner refl (length-append o (0 ∷ 0 ∷ [])) (tails_fit (with_octets page (0 ∷ 0 ∷ [])) inner fits.1),
         at_page (write s page (Counted inner End)) t.known (length o + 2 + length t.octets) parts (ap (λ (p : Page). p.known) whole)
             (ap (λ (p : Page). length p.octets) whole ∙ length-append o ((mark ++ t.octets) ++ []) ∙ ap (λ (l : List ℕ). length o + length l) (append-nil (mark ++ t.octets))
             ∙ ap (λ n. length o + n) (length-append mark t.octets) ∙ omega arith)
-            (tails_fit (write s page (Counted inner End)) parts fits.1.1),
+            (tails_fit (write s page (Counted inner End)) parts fits.2),
       )
-
--- the parts are read, whatever follows what they add, and what is then remembered stands in the octets
-pub record AreRead (s : Spelling) (octets : List ℕ) (place : ℕ) (parts : Parts) (t : Page) : Type 0 where
-  pub sound : IsSound s t.known (octets ++ t.octets)
-  pub reads : (more : List ℕ) → SpellsAlike s (octets ++ (t.octets ++ more)) place parts (place + length t.octets)
 
 -- a name at a place that the octets end at
 name_at : (s : Spelling) (known : Known) (octets : List ℕ) (place : ℕ) → place ≡ length octets → (name : List (List ℕ)) → IsSound s known octets → IsName name
@@ -89,91 +83,102 @@ ends front text place is = omega (arith, length-append front text)
 found_at : (front text rest : List ℕ) (place : ℕ) → place ≡ length front → drop place (front ++ (text ++ rest)) ≡ text ++ rest
 found_at front text rest place is = ap (λ n. drop n (front ++ (text ++ rest))) is ∙ drop-append_seam front (text ++ rest)
 
-pub parts_read : (s : Spelling) (known : Known) (octets : List ℕ) (place : ℕ) → place ≡ length octets → (parts : Parts) → IsSound s known octets
-    → HaveNames parts → TailsFit s known place parts → AreRead s octets place parts (tail s known place parts)
-parts_read s known octets place is End sound names fits = record {
-  sound = IsSound-append [] sound;
-  reads = λ more. record {
-    read = End;
-    alike = end;
-    spelled = subst (λ n. Spells (octets ++ more) place End n) (omega arith) (nothing (omega (arith, length-append octets more)));
-  };
-}
-parts_read s known octets place is (Octets text parts) sound names fits =
+-- what is remembered after the parts stands in the octets
+parts_sound : (s : Spelling) (known : Known) (octets : List ℕ) (place : ℕ) → place ≡ length octets → (parts : Parts) → IsSound s known octets
+    → HaveNames parts → IsSound s (tail s known place parts).known (octets ++ (tail s known place parts).octets)
+parts_sound s known octets place is End sound names = IsSound-append [] sound
+parts_sound s known octets place is (Octets text parts) sound names =
     let t : Page = tail s known (place + length text) parts in
-    let on = parts_read s known (octets ++ text) (place + length text) (ends octets text place is) parts (IsSound-append text sound) names fits in
-    record {
-      sound = subst (λ l. IsSound s t.known l) (append_assoc octets text t.octets) on.sound;
-      reads = λ more.
-          let found = on.reads more in
-          let message : List ℕ = octets ++ ((text ++ t.octets) ++ more) in
-          let at : drop place message ≡ text ++ (t.octets ++ more) =
-          ap (λ l. drop place (octets ++ l)) (append_assoc text t.octets more) ∙ found_at octets text (t.octets ++ more) place is in
-          record {
-            read = Octets text found.read;
-            alike = alike_octets text found.alike;
-            spelled = subst (λ n. Spells message place (Octets text found.read) n) (omega (arith, length-append text t.octets))
-                (spells_octets (t.octets ++ more) at
-                (subst (λ m. Spells m (place + length text) found.read (place + length text + length t.octets)) (joined octets text t.octets more) found.spelled));
-          };
-    }
-parts_read s known octets place is (Named name parts) sound names fits =
+    subst (λ l. IsSound s t.known l) (append_assoc octets text t.octets)
+    (parts_sound s known (octets ++ text) (place + length text) (ends octets text place is) parts (IsSound-append text sound) names)
+parts_sound s known octets place is (Named name parts) sound names =
     let text : List ℕ = name_text s known place name in
     let t : Page = tail s (known_after s known place name) (place + length text) parts in
-    let one = name_at s known octets place is name sound names.0 in
-    let on = parts_read s (known_after s known place name) (octets ++ text) (place + length text) (ends octets text place is) parts one.0 names.1 fits in
-    record {
-      sound = subst (λ l. IsSound s t.known l) (append_assoc octets text t.octets) on.sound;
-      reads = λ more.
-          let found = on.reads more in
-          let own = one.1 (t.octets ++ more) in
-          let message : List ℕ = octets ++ ((text ++ t.octets) ++ more) in
-          record {
-            read = Named own.0 found.read;
-            alike = alike_named own.1.0 found.alike;
-            spelled = subst (λ n. Spells message place (Named own.0 found.read) n) (omega (arith, length-append text t.octets))
-                (spells_named (place + length text)
-                (subst (λ l. Reads (octets ++ l) place own.0 (place + length text)) (sym (append_assoc text t.octets more)) own.1.1)
-                (subst (λ m. Spells m (place + length text) found.read (place + length text + length t.octets)) (joined octets text t.octets more) found.spelled));
-          };
-    }
-parts_read s known octets place is (Counted inner parts) sound names fits =
+    subst (λ l. IsSound s t.known l) (append_assoc octets text t.octets)
+    (parts_sound s (known_after s known place name) (octets ++ text) (place + length text) (ends octets text place is) parts
+    (name_at s known octets place is name sound names.0).0 names.1)
+parts_sound s known octets place is (Counted inner parts) sound names =
     let t : Page = tail s known (place + 2) inner in
     let n : ℕ = length t.octets in
     let u : Page = tail s t.known (place + 2 + n) parts in
     let mark : List ℕ = to_be_bytes w16 n in
-    let own = parts_read s known (octets ++ mark) (place + 2) (ends octets mark place is) inner (IsSound-append mark sound) names.0 fits.1.0 in
-    let front : IsSound s t.known (octets ++ (mark ++ t.octets)) = subst (λ l. IsSound s t.known l) (append_assoc octets mark t.octets) own.sound in
-    let on = parts_read s t.known (octets ++ (mark ++ t.octets)) (place + 2 + n)
-    (omega (arith, is, length-append octets (mark ++ t.octets), length-append mark t.octets)) parts front names.1 fits.1.1 in
+    let own = parts_sound s known (octets ++ mark) (place + 2) (ends octets mark place is) inner (IsSound-append mark sound) names.0 in
+    let front : IsSound s t.known (octets ++ (mark ++ t.octets)) = subst (λ l. IsSound s t.known l) (append_assoc octets mark t.octets) own in
+    subst (λ l. IsSound s u.known l) (append_assoc octets (mark ++ t.octets) u.octets)
+    (parts_sound s t.known (octets ++ (mark ++ t.octets)) (place + 2 + n)
+    (omega (arith, is, length-append octets (mark ++ t.octets), length-append mark t.octets)) parts front names.1)
+
+-- the parts are read, whatever follows what they add
+pub parts_read : (s : Spelling) (known : Known) (octets : List ℕ) (place : ℕ) → place ≡ length octets → (parts : Parts) → IsSound s known octets
+    → HaveNames parts → TailsFit s known place parts → (more : List ℕ)
+    → SpellsAlike s (octets ++ ((tail s known place parts).octets ++ more)) place parts (place + length (tail s known place parts).octets)
+parts_read s known octets place is End sound names fits more = record {
+  read = End;
+  alike = end;
+  spelled = subst (λ n. Spells (octets ++ more) place End n) (omega arith) (nothing (omega (arith, is, length-append octets more)));
+}
+parts_read s known octets place is (Octets text parts) sound names fits more =
+    let t : Page = tail s known (place + length text) parts in
+    let found = parts_read s known (octets ++ text) (place + length text) (ends octets text place is) parts (IsSound-append text sound) names fits more in
+    let message : List ℕ = octets ++ ((text ++ t.octets) ++ more) in
+    let at : drop place message ≡ text ++ (t.octets ++ more) =
+    ap (λ l. drop place (octets ++ l)) (append_assoc text t.octets more) ∙ found_at octets text (t.octets ++ more) place is in
     record {
-      sound = subst (λ l. IsSound s u.known l) (append_assoc octets (mark ++ t.octets) u.octets) on.sound;
-      reads = λ more.
-          let inside = own.reads [] in
-          let found = on.reads more in
-          let message : List ℕ = octets ++ (((mark ++ t.octets) ++ u.octets) ++ more) in
-          let whole : (octets ++ (mark ++ t.octets)) ++ (u.octets ++ more) ≡ message = joined octets (mark ++ t.octets) u.octets more in
-          let at : drop place message ≡ mark ++ (t.octets ++ (u.octets ++ more)) =
-          ap (λ l. drop place (octets ++ l)) (append_assoc (mark ++ t.octets) u.octets more ∙ append_assoc mark t.octets (u.octets ++ more))
-          ∙ found_at octets mark (t.octets ++ (u.octets ++ more)) place is in
-          let cut_is : (octets ++ mark) ++ (t.octets ++ []) ≡ octets ++ (mark ++ t.octets) =
-          ap (λ l. (octets ++ mark) ++ l) (append-nil t.octets) ∙ append_assoc octets mark t.octets in
-          let cut_long : length (octets ++ (mark ++ t.octets)) ≡ place + 2 + n = omega (arith, is, length-append octets (mark ++ t.octets), length-append mark t.octets) in
-          let cut : octets ++ (mark ++ t.octets) ≡ take (place + 2 + n) message =
-          sym (take-append_seam (octets ++ (mark ++ t.octets)) (u.octets ++ more)) ∙ ap (λ k. take k ((octets ++ (mark ++ t.octets)) ++ (u.octets ++ more))) cut_long
-          ∙ ap (take (place + 2 + n)) whole in
-          let within : place + 2 + n ≤ length message =
-          omega (arith, cut_long, ap (length {A = ℕ}) whole, length-append (octets ++ (mark ++ t.octets)) (u.octets ++ more)) in
-          let long : place + 2 + n + length u.octets ≡ place + length ((mark ++ t.octets) ++ u.octets) =
-          omega (arith, length-append (mark ++ t.octets) u.octets, length-append mark t.octets) in
-          record {
-            read = Counted inside.read found.read;
-            alike = alike_counted inside.alike found.alike;
-            spelled = subst (λ k. Spells message place (Counted inside.read found.read) k) long
-                (spells_counted n (t.octets ++ (u.octets ++ more)) at fits.0 within
-                (subst (λ m. Spells m (place + 2) inside.read (place + 2 + n)) (cut_is ∙ cut) inside.spelled)
-                (subst (λ m. Spells m (place + 2 + n) found.read (place + 2 + n + length u.octets)) whole found.spelled));
-          };
+      read = Octets text found.read;
+      alike = alike_octets text found.alike;
+      spelled = subst (λ n. Spells message place (Octets text found.read) n) (omega (arith, length-append text t.octets))
+          (spells_octets (t.octets ++ more) at
+          (subst (λ m. Spells m (place + length text) found.read (place + length text + length t.octets)) (joined octets text t.octets more) found.spelled));
+    }
+parts_read s known octets place is (Named name parts) sound names fits more =
+    let text : List ℕ = name_text s known place name in
+    let t : Page = tail s (known_after s known place name) (place + length text) parts in
+    let one = name_at s known octets place is name sound names.0 in
+    let found = parts_read s (known_after s known place name) (octets ++ text) (place + length text) (ends octets text place is) parts one.0 names.1 fits more in
+    let own = one.1 (t.octets ++ more) in
+    let message : List ℕ = octets ++ ((text ++ t.octets) ++ more) in
+    record {
+      read = Named own.0 found.read;
+      alike = alike_named own.1 found.alike;
+      spelled = subst (λ n. Spells message place (Named own.0 found.read) n) (omega (arith, length-append text t.octets))
+          (spells_named (place + length text)
+          (subst (λ l. Reads (octets ++ l) place own.0 (place + length text)) (sym (append_assoc text t.octets more)) own.2)
+          (subst (λ m. Spells m (place + length text) found.read (place + length text + length t.octets)) (joined octets text t.octets more) found.spelled));
+    }
+parts_read s known octets place is (Counted inner parts) sound names fits more =
+    let t : Page = tail s known (place + 2) inner in
+    let n : ℕ = length t.octets in
+    let u : Page = tail s t.known (place + 2 + n) parts in
+    let mark : List ℕ = to_be_bytes w16 n in
+    let begun : IsSound s known (octets ++ mark) = IsSound-append mark sound in
+    let here : place + 2 ≡ length (octets ++ mark) = ends octets mark place is in
+    let inside = parts_read s known (octets ++ mark) (place + 2) here inner begun names.0 fits.1 [] in
+    let front : IsSound s t.known (octets ++ (mark ++ t.octets)) =
+    subst (λ l. IsSound s t.known l) (append_assoc octets mark t.octets) (parts_sound s known (octets ++ mark) (place + 2) here inner begun names.0) in
+    let found = parts_read s t.known (octets ++ (mark ++ t.octets)) (place + 2 + n)
+    (omega (arith, is, length-append octets (mark ++ t.octets), length-append mark t.octets)) parts front names.1 fits.2 more in
+    let message : List ℕ = octets ++ (((mark ++ t.octets) ++ u.octets) ++ more) in
+    let whole : (octets ++ (mark ++ t.octets)) ++ (u.octets ++ more) ≡ message = joined octets (mark ++ t.octets) u.octets more in
+    let at : drop place message ≡ mark ++ (t.octets ++ (u.octets ++ more)) =
+    ap (λ l. drop place (octets ++ l)) (append_assoc (mark ++ t.octets) u.octets more ∙ append_assoc mark t.octets (u.octets ++ more))
+    ∙ found_at octets mark (t.octets ++ (u.octets ++ more)) place is in
+    let cut_is : (octets ++ mark) ++ (t.octets ++ []) ≡ octets ++ (mark ++ t.octets) =
+    ap (λ l. (octets ++ mark) ++ l) (append-nil t.octets) ∙ append_assoc octets mark t.octets in
+    let cut_long : length (octets ++ (mark ++ t.octets)) ≡ place + 2 + n = omega (arith, is, length-append octets (mark ++ t.octets), length-append mark t.octets) in
+    let cut : octets ++ (mark ++ t.octets) ≡ take (place + 2 + n) message =
+    sym (take-append_seam (octets ++ (mark ++ t.octets)) (u.octets ++ more)) ∙ ap (λ k. take k ((octets ++ (mark ++ t.octets)) ++ (u.octets ++ more))) cut_long
+    ∙ ap (take (place + 2 + n)) whole in
+    let within : place + 2 + n ≤ length message =
+    omega (arith, cut_long, ap (length {A = ℕ}) whole, length-append (octets ++ (mark ++ t.octets)) (u.octets ++ more)) in
+    let long : place + 2 + n + length u.octets ≡ place + length ((mark ++ t.octets) ++ u.octets) =
+    omega (arith, length-append (mark ++ t.octets) u.octets, length-append mark t.octets) in
+    record {
+      read = Counted inside.read found.read;
+      alike = alike_counted inside.alike found.alike;
+      spelled = subst (λ k. Spells message place (Counted inside.read found.read) k) long
+          (spells_counted n (t.octets ++ (u.octets ++ more)) at fits.0 within
+          (subst (λ m. Spells m (place + 2) inside.read (place + 2 + n)) (cut_is ∙ cut) inside.spelled)
+          (subst (λ m. Spells m (place + 2 + n) found.read (place + 2 + n + length u.octets)) whole found.spelled));
     }
 
 module _ (s : Spelling) (page : Page) (parts : Parts) where
@@ -184,12 +189,18 @@ module _ (s : Spelling) (page : Page) (parts : Parts) where
       → SpellsAlike s ((write s page parts).octets ++ more) (length page.octets) parts (length (write s page parts).octets)
   written_read more sound names fits =
       let t : Page = tail s page.known (length page.octets) parts in
-      let found = (parts_read s page.known page.octets (length page.octets) refl parts sound names (tails_fit s page parts fits)).reads more in
+      let found = parts_read s page.known page.octets (length page.octets) refl parts sound names (tails_fit s page parts fits) more in
       let octets_are : (write s page parts).octets ≡ page.octets ++ t.octets = ap (λ (p : Page). p.octets) is in
       subst (λ m. SpellsAlike s m (length page.octets) parts (length (write s page parts).octets))
       (sym (append_assoc page.octets t.octets more) ∙ sym (ap (λ l. l ++ more) octets_are))
       (subst (λ n. SpellsAlike s (page.octets ++ (t.octets ++ more)) (length page.octets) parts n)
       (sym (length-append page.octets t.octets) ∙ sym (ap (length {A = ℕ}) octets_are)) found)
+
+  pub written_sound : IsSound s page.known page.octets → HaveNames parts → IsSound s (write s page parts).known (write s page parts).octets
+  written_sound sound names =
+      let t : Page = tail s page.known (length page.octets) parts in
+      let kept : IsSound s t.known (page.octets ++ t.octets) = parts_sound s page.known page.octets (length page.octets) refl parts sound names in
+      subst (λ (p : Page). IsSound s p.known p.octets) (sym is) kept
 
 -- parts that are alike where nothing is folded
 

@@ -1,5 +1,5 @@
 -- A reader takes each remembered suffix where it stands, and a name where it is written.
-use Rattle.std.proofs.Common.{◌≡◌, ℕ, zero, suc, ◌≤◌, ◌<◌, ◌+◌, ◌-◌, ◌*◌, ◌/◌, ◌%◌, true, List, [], ◌∷◌, ◌++◌, length, drop, map, refl, sym, ap, ◌∙◌, subst, arith, append_assoc, length-append}
+use Rattle.std.proofs.Common.{◌≡◌, ℕ, zero, suc, ◌≤◌, ◌<◌, ◌+◌, ◌-◌, ◌*◌, ◌/◌, ◌%◌, List, [], ◌∷◌, ◌++◌, length, drop, map, refl, sym, ap, ◌∙◌, subst, arith, append_assoc, length-append}
 use Rattle.std.specs.List.{AllByRecursion}
 use Rattle.std.proofs.Math.Seq.{drop-append_seam}
 use Rattle.std.proofs.lemmas.List.{drop-drop}
@@ -9,7 +9,7 @@ use Rattle.dns_label.specs.Spelled.{Reads}
 use Rattle.dns_label.specs.Spelled.{Spells as SpellsAt}
 use Rattle.dns_label.specs.Spelled.Spells.{root as root_at, label as label_at, pointer as pointer_at}
 use Rattle.dns_name.specs.Spelling.{Spelling, folded, remembered_form, pointer_to, name_text}
-use Rattle.dns_name.specs.Remembered.{IsKnown, SpellsName, StandsIn, IsSound}
+use Rattle.dns_name.specs.Remembered.{IsKnown, SpellsName, SpellsLabelled, StandsIn, IsSound}
 use Rattle.dns_name.specs.Remembered.SpellsName.{root, label, pointer}
 use Rattle.dns_name.proofs.Folding.{same_is}
 use Rattle.dns_name.proofs.Soundness.{sound-within}
@@ -36,9 +36,12 @@ pub record IsStanding (s : Spelling) (message : List ℕ) (standing : Standing) 
 after_label : (message : List ℕ) (place : ℕ) (text rest : List ℕ) → drop place message ≡ length text ∷ text ++ rest
     → drop (place + 1 + length text) message ≡ rest
 after_label message place text rest at =
-    ap (λ n. drop n message) (omega arith)
+    let far : place + 1 + length text ≡ place + (1 + length text) = omega arith in
+    let long : 1 + length text ≡ length (length text ∷ text) = omega arith in
+    ap (λ n. drop n message) far
     ∙ sym (drop-drop (1 + length text) place message)
     ∙ ap (drop (1 + length text)) at
+    ∙ ap (λ n. drop n ((length text ∷ text) ++ rest)) long
     ∙ drop-append_seam (length text ∷ text) rest
 
 pointed : (s : Spelling) (message : List ℕ) (place : ℕ) (rest : List ℕ) (target k after : ℕ) (read : List (List ℕ))
@@ -103,7 +106,7 @@ standing_read s known octets more standing stands targets = record {
   reads = λ k few. reads k few;
 }
   where
-    led : _
+    led : SpellsLabelled s known standing.place stands.text stands.name
     led = stands.spelled
 
     message : List ℕ
@@ -157,7 +160,7 @@ name_read s known octets more name sound is_name =
     let found = spelled_read s known (octets ++ (text ++ more)) (length octets + length text)
     (λ target is before. standings_read s known octets (text ++ more) sound (suc target.stop) target is (omega arith))
     spelled more (drop-append_seam octets (text ++ more)) refl is_name.labels 255 (omega (arith, few_labels name, is_name.short)) in
-    (found.read, (found.same, record { spelled = found.spelled; is_name = same_name s name found.read found.same is_name }))
+    (found.read, found.same, record { spelled = found.spelled; is_name = same_name s name found.read found.same is_name })
   where
     few_labels : (name : List (List ℕ)) → length name < length (wire name)
     few_labels [] = omega arith
