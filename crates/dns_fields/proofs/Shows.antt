@@ -1,6 +1,6 @@
 -- The pieces of a row, field by field.
 use Rattle.std.proofs.Common.{◌≡◌, ℕ, List, [], ◌∷◌, ◌++◌, refl, subst, sym, Result, Ok, Err, OnOk}
-use Rattle.std.specs.Prelude.{map, drop, Option, Some, None}
+use Rattle.std.specs.Prelude.{drop, Option, Some, None}
 use Rattle.std.proofs.lemmas.List.{map-append}
 use Rattle.dns_fields.specs.Fields.{Field}
 use Rattle.dns_fields.specs.Comments.{first_comment}

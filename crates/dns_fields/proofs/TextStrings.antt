@@ -8,7 +8,7 @@ use Rattle.dns_text.specs.Document.{Piece}
 use Rattle.dns_text.specs.Document.Piece.{Token as Shown}
 use Rattle.dns_text.specs.Writing.{Adds}
 use Rattle.dns_text.proofs.Writings.{adds_append}
-use Rattle.dns_fields.specs.Fields.{Strings, IsString, strings, string_octets, kind_of}
+use Rattle.dns_fields.specs.Fields.{Strings, IsString, strings, string_octets}
 use Rattle.dns_fields.specs.Scanned.{AreStrings, ScansField, NoRowScans}
 use Rattle.dns_fields.specs.Shown.{field_pieces}
 use Rattle.dns_fields.specs.Strings.{AreStringOctets}

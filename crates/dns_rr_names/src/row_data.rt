@@ -95,10 +95,13 @@ impl<T: DataType, R: RowOf<T>> RowData<T, R> {
         ensures left { OnErr result (IsEnding (S.tokens scanner.new) (S.tokens scanner.old)) }
         ensures names { SameNames (S.names scanner.old) (S.names scanner.new) }
     {
-        Ok(RowData {
-            row: scan_row_of(T::number(), scanner)?,
-            rtype: PhantomData,
-        })
+        match scan_row_of(T::number(), scanner) {
+            Ok(row) => Ok(RowData {
+                row,
+                rtype: PhantomData,
+            }),
+            Err(error) => Err(error),
+        }
     }
 }
 

@@ -1,4 +1,4 @@
-use Rattle.std.proofs.Common.{◌∷◌, List, subst}
+use Rattle.std.proofs.Common.{◌∷◌, subst}
 use Rattle.std.proofs.lemmas.Result.{err_from_is_err_and}
 use Rattle.dns_wire.proofs.Flat.{always_on_err}
 use Rattle.dns_fields.specs.Fields.{Kind}
