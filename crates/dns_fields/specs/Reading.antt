@@ -56,8 +56,8 @@ NoRow rtype message place = (row : List Field) → ReadsRow rtype message place 
 -- 3.1, 4.1.4), of at most 255 octets and 255 pointers. A field of another kind is missing for no other reason; strings have all
 -- octets that are left, so that they are cut where these are not whole strings.
 abbrev pub IsCutField : List ℕ → ℕ → Kind → Type 0
-IsCutField message place Compressible = IsCut message 255 255 place
-IsCutField message place Uncompressed = IsCut message 255 255 place
+IsCutField message place Compressible = IsCut message 255 254 place
+IsCutField message place Uncompressed = IsCut message 255 254 place
 IsCutField message place Strings = NoFields message place (Strings ∷ [])
 IsCutField message place kind = NoField message place kind
 
