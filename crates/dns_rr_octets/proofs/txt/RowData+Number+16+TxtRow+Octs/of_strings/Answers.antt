@@ -1,7 +1,7 @@
 use Rattle.std.proofs.Common.{[], ◌∷◌, ◌∙◌, ap, sym}
 use Rattle.dns_fields.specs.Fields.{strings}
 use Rattle.dns_fields.proofs.StringsOf.{strings_one}
-use Rattle.dns_rr_octets.proofs.txt.RowData+Number+16+Last+Strings+Octs.of_strings.Goals as goal
+use Rattle.dns_rr_octets.proofs.txt.RowData+Number+16+TxtRow+Octs.of_strings.Goals as goal
 
 pub returns : goal.returns
 returns g c each is =

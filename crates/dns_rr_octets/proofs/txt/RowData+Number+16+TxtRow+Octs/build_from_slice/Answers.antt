@@ -1,7 +1,7 @@
 use Rattle.std.proofs.Common.{ℕ, length, ap, arith}
 use Rattle.dns_rr_octets.proofs.Appended.{at_most}
 use Rattle.dns_rr_octets.proofs.Builds.{filled_few}
-use Rattle.dns_rr_octets.proofs.txt.RowData+Number+16+Last+Strings+Octs.build_from_slice.Goals as goal
+use Rattle.dns_rr_octets.proofs.txt.RowData+Number+16+TxtRow+Octs.build_from_slice.Goals as goal
 
 pub of_strings-requires-clause-short : goal.of_strings-requires-clause-short
 of_strings-requires-clause-short g c =
