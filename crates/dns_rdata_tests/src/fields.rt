@@ -3,7 +3,7 @@ ghost use Rattle.dns_text.specs.Documents.{block_of};
 ghost use Rattle.dns_fields.specs.Shown.{row_pieces};
 
 use dns_name::{AppendError, Name, ParseError, ParsedName, Parser};
-use dns_rdata::{
+use dns_rdata::rows::{
     Compressible, FrontRow, Last, ReadError, Rest16, RestText, Row, ShowRow, Strings, Tag,
     Uncompressed, canonical_row_cmp_octets, compose_canonical_row, compose_row, parse_row, row_len,
     scan_row, show_row,
@@ -112,7 +112,7 @@ impl<R: ShowRow> ZonefileFmt for Shown<R> {
     ghost document = { λ shown. block_of (row_pieces (R.fields shown.0)) };
 
     fn fmt<F: Formatter>(&self, formatter: &mut F) -> fmt::Result {
-        show_row(&self.0, formatter)
+        show_row(0, &self.0, formatter)
     }
 }
 
