@@ -6,6 +6,7 @@ use Rattle.dns_header.specs.Header.{is_response, opcode_of, rcode_of, question_c
 use Rattle.dns_header.specs.Question.{Question, ReadsQuestion, ReadsPlainQuestion}
 use Rattle.dns_message.specs.Record.{ReadsRecord, ReadsPlainRecord}
 use Rattle.zone_text.specs.Record.{Record}
+use Rattle.zone_text.specs.Records.{IsTypeToday, IsSpellable, SameSoa}
 use Rattle.zone_text.specs.Zone.{IsUnder, axfr_type, soa_type}
 use Rattle.zone_core.specs.Query.{AxfrQuery}
 use Rattle.zone_core.specs.Frames.{frames, IsFramable}
