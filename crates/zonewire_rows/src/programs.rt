@@ -12,7 +12,10 @@ pub fn answer(alloc: Global, row: &mut Row<'_>, out: &mut Answer) -> Result<(), 
         _ => return Err(RowError::BadWord),
     };
     let mut owned = Vec::new(alloc);
-    while row.has_more() {
+    for _ in 0..u32::MAX {
+        if !row.has_more() {
+            break;
+        }
         owned.push(row.text(alloc)?)?;
     }
     let mut words = Vec::new(alloc);
