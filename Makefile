@@ -1,23 +1,42 @@
+SHELL := bash
+.SHELLFLAGS := -eu -o pipefail -c
 ZONE := crates/zone_main
+# What the program is made of.
+SOURCES := crates.txt HANDLES $(shell find crates -name out -prune -o \( -name '*.rt' -o -name '*.antt' \) -print)
 
 # The program on its first zone, before any proof; what it writes is shown as octets.
-run:
-	@cd $(ZONE) && rt try -- $$(cat args) < stdin 2>/dev/null | od -An -v -tx1
+run: | toolchain
+	@echo "The program is compiled first, without its proofs: that takes a minute or two."
+	@mkdir -p build
+	@cd $(ZONE) && { rt try -- $$(cat args) < stdin > ../../build/run.out 2> ../../build/run.log || { cat ../../build/run.log >&2; exit 1; }; }
+	@echo; echo "'zonewire $$(paste -sd' ' $(ZONE)/args)' reads this zone:"; echo; cat $(ZONE)/stdin
+	@echo; echo "and writes these octets:"; echo; od -An -v -tx1 build/run.out
 
-# The gate: every proof from nothing, the must-fail edits, the tests, the program.
-test:
+# The gate: every proof from nothing, the must-fail edits, the tests, the programs.
+test: | toolchain
 	rt ci
 
 # Each single change of the must-fail edits by itself, where the gate tries one file of a crate at once.
-edits:
+edits: | toolchain
 	@python3 tools/edits.py
 
 # The proved program, at build/zonewire.
-build:
-	@mkdir -p build && cd $(ZONE) && rt run -- $$(cat args) < stdin > /dev/null && cp out/zone_main ../../build/zonewire
+build: build/zonewire
+	@echo "The proved program is at build/zonewire."
+
+build/zonewire: $(SOURCES) | toolchain
+	@python3 tools/build.py
 
 # Processor time and memory of the proved program, beside other zone readers that are installed (an idle machine, please).
-bench: build
+bench: build/zonewire
 	@python3 bench/measure.py build/zonewire
 
-.PHONY: run test edits build bench
+# What each program of rows is asked, and what it answers, side by side.
+rows:
+	@for it in crates/*_rows; do \
+		[ -f "$$it/stdin" ] || continue; echo "$${it#crates/}:"; paste -d'\t' "$$it/stdin" "$$it/stdout"; echo; done
+
+toolchain:
+	@command -v rt > /dev/null || { echo "The Rattle toolchain is missing: no command 'rt' is on the PATH." >&2; exit 1; }
+
+.PHONY: run test edits build bench rows toolchain

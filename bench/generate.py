@@ -1,7 +1,7 @@
 #!/usr/bin/env python3
 """Writes the text of a zone to standard output: the same zone for the same arguments.
 
-The zone is example.com: its SOA, and behind it so many address records, each of a host of its own, in the plain form that
+The zone is example.com: its SOA, and after it so many address records, each of a host of its own, in the plain form that
 `zonewire send` reads today (owner, TTL, class, type and data on one line, names with their last dot)."""
 import argparse
 import sys

@@ -44,14 +44,24 @@ def fastest(words, stdin, stdout):
 
 
 def peers(text):
-    """The commands of other name servers that read the zone's text, where they are installed."""
-    commands = {
-        "kzonecheck": ["-o", ZONE, text],
-        "nsd-checkzone": [ZONE, text],
-        "named-compilezone": ["-q", "-i", "none", "-o", os.devnull, ZONE, text],
-        "ldns-read-zone": ["-n", text],
+    """The command of each other zone reader on the zone's text, and the Debian package that has it."""
+    return {
+        "kzonecheck": (["-o", ZONE, text], "knot-dnssecutils"),
+        "nsd-checkzone": ([ZONE, text], "nsd"),
+        "named-compilezone": (["-q", "-i", "none", "-o", os.devnull, ZONE, text], "bind9-utils"),
+        "ldns-read-zone": (["-n", text], "ldnsutils"),
     }
-    return {name: [found, *words] for name, words in commands.items() if (found := shutil.which(name))}
+
+
+def find(name):
+    """Where a program is installed, or nothing. Some lie where only root's PATH leads."""
+    return shutil.which(name, path=f"{os.environ.get('PATH', os.defpath)}:/usr/sbin:/sbin")
+
+
+def report_missing():
+    missing = [f"{name} (Debian package {package})" for name, (_, package) in peers("").items() if not find(name)]
+    if missing:
+        print(f"Not installed, so not measured: {', '.join(missing)}.")
 
 
 def report(name, run, records, octets, ratio=None):
@@ -74,8 +84,10 @@ def measure(program, records, folder):
     print(f"  {'':<18}{'ns/record':>10}{'MB/s':>10}{'peak MB':>10}{'ratio':>8}")
     report("zonewire send", sent, records, text.stat().st_size, 1)
     report("zonewire receive", received, records, stream.stat().st_size)
-    for name, words in peers(str(with_server)).items():
-        other = fastest(words, os.devnull, os.devnull)
+    for name, (words, _) in peers(str(with_server)).items():
+        if not find(name):
+            continue
+        other = fastest([find(name), *words], os.devnull, os.devnull)
         report(name, other, records, with_server.stat().st_size, other.seconds / sent.seconds)
 
 
@@ -84,6 +96,7 @@ def main():
     parser.add_argument("program", help="the proved program")
     parser.add_argument("records", nargs="*", type=int, default=SIZES, help="sizes of the zones")
     arguments = parser.parse_args()
+    report_missing()
     with tempfile.TemporaryDirectory() as folder:
         for records in arguments.records:
             measure(arguments.program, records, Path(folder))

@@ -1,13 +1,13 @@
 #!/usr/bin/env python3
-"""edits.py [CRATE..]: shows that the prover refuses each single change of must-fail/, and not only each file of them.
+"""edits.py [CRATE..]: shows that the prover refuses each edit of must-fail/.
 
-The changes of must-fail/changes.edit are tried, which the gate puts on a crate all at once, and those of must-fail/changes.md
-and must-fail/others.md, which it leaves out. Each function that a change is in has to be refused by itself: a contract is all
-that one function knows of another, so a changed function is judged as if the others were as they stand. A round has changes of
-different functions. It is put on a copy of the crate, and one check names the functions that it does not prove. What is not
-refused in a round, or stands in one that is no program, comes again in a smaller one, and in the end alone: a function that
-waits for a changed one is not judged beside it. Run `rt check` in the crate first, so that the copy finds its work done. The
-exit status is 1 where a change is not refused, or is no program by itself."""
+It tries the edits that the gate tries (must-fail/*.edit) and those that the gate leaves out (must-fail/changes.md, others.md).
+The function that an edit changes has to be refused by itself: a contract is all that one function knows of another, so a changed
+function is judged as if the others were as they stand. A round has edits of different functions. It is put on a copy of the
+crate, and one check names the functions that it does not prove. What is not refused in a round, or stands in one that is no
+program, comes again in a smaller round, and in the end alone: a function that waits for a changed one is not judged beside it.
+Run `rt check` in the crate first, so that the copy finds its work done. The exit status is 1 if an edit is not refused, or is no
+program by itself."""
 import re
 import shutil
 import subprocess
@@ -233,7 +233,7 @@ def try_changes(folder, changes, checked):
 def try_crate(name):
     """Tries a crate's changes. Answers how many were refused, and what to say of those that were not."""
     folder = ROOT / "crates" / name
-    files = [folder / "must-fail" / it for it in ("changes.edit", "changes.md", "others.md")]
+    files = [*sorted(folder.glob("must-fail/*.edit")), *(folder / "must-fail" / it for it in ("changes.md", "others.md"))]
     changes = [it for file in files if file.is_file() for it in changes_of(file)]
     with tempfile.TemporaryDirectory(prefix="edits-") as room:
         crate = copy_of(name, Path(room))

@@ -1,5 +1,5 @@
 -- The octets of a row are read as it, and as no other.
-use Rattle.std.proofs.Common.{◌≡◌, ◌+◌, ◌≤◌, ◌==◌, ℕ, Bool, true, false, List, [], ◌∷◌, ◌++◌, length, drop, map, refl, sym, ◌∙◌, ap, subst, arith, length-append, append_assoc, append-nil}
+use Rattle.std.proofs.Common.{◌≡◌, ◌+◌, ◌≤◌, ◌==◌, ℕ, Bool, true, false, List, [], ◌∷◌, ◌++◌, length, drop, map, refl, sym, ◌∙◌, ap, subst, arith, length-append, append_assoc, append-nil, rules}
 use Rattle.std.specs.Prelude.{Option, Some, None, if◌then◌else◌, ⊤}
 use Rattle.std.specs.List.{AllByRecursion}
 use Rattle.std.proofs.Math.Seq.{drop-append_seam}
@@ -10,7 +10,7 @@ use Rattle.dns_name.specs.Page.Parts.{End, Octets}
 use Rattle.dns_name.specs.SpelledParts.{Spells, nothing, octets}
 use Rattle.dns_fields.specs.Fields as fields
 use Rattle.dns_fields.specs.Fields.{Kind, Number8, Number16, Number32, Ipv4, Ipv6, Compressible, Uncompressed, String, Strings, Tag, RestText, Rest16, Rest64}
-use Rattle.dns_fields.specs.Fields.{Field, number8, number16, number32, ipv4, ipv6, compressible, uncompressed, string, strings, tag, rest_text, rest16, rest64, kind_of, kinds_of, field_octets, string_octets, IsField, IsRow, IsData, typed, opaque}
+use Rattle.dns_fields.specs.Fields.{Field, number8, number16, number32, ipv4, ipv6, compressible, uncompressed, string, strings, tag, rest_text, rest16, rest64, kind_of, table, kinds_in, kinds_of, field_octets, string_octets, IsField, IsRow, IsData, typed, opaque}
 use Rattle.dns_fields.specs.Reading.{ReadsField, ReadsFields, ReadsRow, AreSoleFields}
 use Rattle.dns_fields.proofs.ReadFields.{fixed_sole, number8_fixed, number16_fixed, number32_fixed, ipv4_fixed, ipv6_fixed, compressible_sole, uncompressed_sole, name_opened, name_read}
 use Rattle.dns_fields.proofs.ReadParts.{row_read, split_row, nothing_read, sole_row, sole_nothing}
@@ -81,14 +81,14 @@ either : (b : Bool) (x y : Option (List Kind)) → Fit x → Fit y → Fit (if b
 either true x y this that = this
 either false x y this that = that
 
+fits_in : (rows : List (ℕ × List Kind)) → AllByRecursion (λ (row : ℕ × List Kind). EndWell row.1) rows → (rtype : ℕ)
+    → Fit (kinds_in rows rtype)
+fits_in [] well rtype = tt
+fits_in (row ∷ rows) well rtype = either (rtype == row.0) _ _ well.0 (fits_in rows well.1 rtype)
+
 -- they are so in the table
 pub fits : (rtype : ℕ) → Fit (kinds_of rtype)
-fits rtype =
-    either (rtype == 1) _ _ tt (either (rtype == 2) _ _ tt (either (rtype == 3) _ _ tt (either (rtype == 4) _ _ tt
-    (either (rtype == 5) _ _ tt (either (rtype == 6) _ _ tt (either (rtype == 7) _ _ tt (either (rtype == 8) _ _ tt
-    (either (rtype == 9) _ _ tt (either (rtype == 12) _ _ tt (either (rtype == 13) _ _ tt (either (rtype == 14) _ _ tt
-    (either (rtype == 15) _ _ tt (either (rtype == 16) _ _ tt (either (rtype == 17) _ _ tt (either (rtype == 28) _ _ tt
-    (either (rtype == 33) _ _ tt (either (rtype == 43) _ _ tt (either (rtype == 48) _ _ tt (either (rtype == 257) _ _ tt tt)))))))))))))))))))
+fits = fits_in table (search rules)
 
 -- text up to the end of a message is all that is left of it
 all_left : {message text : List ℕ} {place : ℕ} → Spells message place (Octets text End) (length message) → text ≡ drop place message

@@ -3,8 +3,8 @@ use Rattle.std.proofs.Common.{◌≡◌, ◌+◌, ◌-◌, ◌↔◌, ℕ, List,
 use Rattle.std.specs.Prelude.{Ok, IsErrOf}
 use Rattle.dns_label.specs.Spelled as names
 use Rattle.dns_label.specs.Spelled.{Reads}
-use Rattle.dns_name.specs.Cut.{IsCut}
-use Rattle.dns_name.proofs.Cuts.{cut-root, cut-behind, cut-led_on}
+use Rattle.dns_wire.specs.Cut.{IsCut}
+use Rattle.dns_wire.proofs.Cuts.{cut-root, cut-behind, cut-led_on}
 use Rattle.dns_fields.specs.Fields.{Kind, Field, kind_of}
 use Rattle.dns_fields.specs.Reading.{ReadsField, NoField, IsCutField, AreCutFields}
 
@@ -21,7 +21,7 @@ cut_spelled cut (names.pointer first second after rest at both back name) =
 
 -- a name that is read, and a field of another kind
 pub name_whole : {message : List ℕ} {place next : ℕ} {name : List (List ℕ)} {T E : Type 0} {value : T} {error : E} → Reads message place name next
-    → IsErrOf (Ok value) error ↔ IsCut message 255 255 place
+    → IsErrOf (Ok value) error ↔ IsCut message 255 254 place
 name_whole reads = (λ other. absurd (cc), λ cut. absurd (cut_spelled cut reads.spelled))
 
 pub field_whole : {message : List ℕ} {place next : ℕ} {field : Field} {T E : Type 0} {value : T} {error : E} → ReadsField message place field next

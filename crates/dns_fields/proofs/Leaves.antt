@@ -1,5 +1,5 @@
 -- A field that is written as octets, and one that is written as a name.
-use Rattle.std.proofs.Common.{◌≡◌, ℕ, List, ◌++◌, length, refl}
+use Rattle.std.proofs.Common.{◌≡◌, ℕ, List, ◌++◌, length}
 use Rattle.std.specs.Prelude.{Result, Ok, Err, Option, OnOk}
 use Rattle.dns_octets.specs.Builder.{Known, IsPast}
 use Rattle.dns_octets.specs.declared.error.AppendError.{AppendError}

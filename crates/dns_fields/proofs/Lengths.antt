@@ -1,10 +1,10 @@
 -- How long a row is in a message: as its octets, where no name is written with a pointer.
-use Rattle.std.proofs.Common.{◌≡◌, ◌+◌, ◌<◌, ◌≤◌, ℕ, Bool, true, false, List, [], ◌∷◌, ◌++◌, ◌||◌, length, map, refl, sym, ◌∙◌, ap, arith, length-append, ◌⊎◌, inl, inr}
+use Rattle.std.proofs.Common.{◌≡◌, ◌+◌, ◌<◌, ◌≤◌, ℕ, Bool, true, false, List, [], ◌∷◌, ◌||◌, length, map, refl, sym, ◌∙◌, ap, arith, length-append, inl, inr}
 use Rattle.std.specs.Prelude.{Option, Some, None, IfSome, IfNone, IsNone, ◌↔◌}
 use Rattle.std.specs.List.{list_any}
 use Rattle.dns_label.specs.Name.{wire}
 use Rattle.dns_name.specs.Spelling.{Spelling, plain as in_full, compresses, name_text, known_after}
-use Rattle.dns_name.specs.Page.{Page, Parts, with_name, write}
+use Rattle.dns_name.specs.Page.{Page, write}
 use Rattle.dns_name.specs.Page.Parts.{End, Octets, Named}
 use Rattle.dns_octets.specs.Builder.{Known}
 use Rattle.dns_name.specs.RecordData.{page_of, has_name, IsComposedLength, IsUntold}

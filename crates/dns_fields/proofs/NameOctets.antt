@@ -1,5 +1,5 @@
 -- The canonical order of names' octets: those of different names differ before either ends.
-use Rattle.std.proofs.Common.{◌≡◌, ◌+◌, ◌<◌, ℕ, List, [], ◌∷◌, ◌++◌, length, map, refl, sym, ◌∙◌, ap, arith, append_assoc}
+use Rattle.std.proofs.Common.{◌≡◌, ◌<◌, ℕ, List, [], ◌∷◌, ◌++◌, length, map, refl, sym, ◌∙◌, ap, arith, append_assoc}
 use Rattle.std.specs.declared.cmp.Ordering.{Ordering}
 use Rattle.std.specs.declared.cmp.Ordering.TheVariants.{Less, Equal, Greater}
 use Rattle.std.specs.Ordering.{ordering_then, nat_cmp}
@@ -13,9 +13,9 @@ use Rattle.std.specs.Cmp.Lexicographic.{pointwise}
 use lib.Pointwise.{bytes_decides}
 use Rattle.dns_label.specs.Name.{IsLabel, wire, labels_wire, with_root, low}
 use Rattle.dns_fields.specs.Fields.{string_octets}
-use Rattle.dns_name.proofs.Case.{same_bool, wire_one}
-use Rattle.dns_name.proofs.Wire.{labels_wire-with_root}
-use Rattle.dns_name.proofs.Orders.{then_assoc, cmp_seam}
+use Rattle.dns_wire.proofs.Case.{same_bool, wire_one}
+use Rattle.dns_wire.proofs.Wire.{labels_wire-with_root}
+use Rattle.dns_wire.proofs.Orders.{then_assoc, cmp_seam}
 
 before : (n : ℕ) → 0 < n → nat_cmp 0 n ≡ Less
 before n some = sym (nat_cmp_is 0 n Less some)

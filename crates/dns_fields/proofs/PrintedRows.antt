@@ -11,9 +11,9 @@ use Rattle.dns_label.specs.declared.symbol.Symbol.TheVariants.{Char, SimpleEscap
 use Rattle.dns_label.specs.Symbol.{spelled}
 use Rattle.dns_label.specs.Name.{IsName, wire}
 use Rattle.dns_label.specs.Printed.{is_special, printed_symbol, printed_label, printed_labels, printed_name}
-use Rattle.dns_name.specs.PrintedLabels.{AreOctets}
+use Rattle.dns_flat.specs.PrintedLabels.{AreOctets}
 use Rattle.dns_scan.specs.StringText.{Spells, SpellsOnly, IsOctet, is_printable, between_quotes, quoted_text, unquoted_text}
-use Rattle.dns_scan.specs.declared.base.Base.TheVariants.{Sixteen, SixtyFour}
+use Rattle.dns_scan.specs.declared.encoding.base.Base.TheVariants.{Sixteen, SixtyFour}
 use Rattle.dns_scan.specs.Encodings.{encoded_16, encoded_64, Decodes16, Decodes64}
 use Rattle.dns_scan.specs.Token.{Token, IsWord, IsEntry}
 use Rattle.dns_scan.proofs.Encodings.{text_decodes_only, chars-encoded}

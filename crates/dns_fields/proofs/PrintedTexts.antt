@@ -14,8 +14,8 @@ use Rattle.dns_values.specs.Mnemonic.{number_spelled}
 use Rattle.dns_values.proofs.Words.{digits_model, number_spelled-digits}
 use Rattle.dns_scan.specs.StringText.{IsOctet}
 use Rattle.dns_scan.specs.Token.{Token, is_plain, IsWord, unquoted}
-use Rattle.dns_scan.specs.declared.base.Base.{Base}
-use Rattle.dns_scan.specs.declared.base.Base.TheVariants.{Sixteen, ThirtyTwoHex, SixtyFour}
+use Rattle.dns_scan.specs.declared.encoding.base.Base.{Base}
+use Rattle.dns_scan.specs.declared.encoding.base.Base.TheVariants.{Sixteen, ThirtyTwoHex, SixtyFour}
 use Rattle.dns_scan.specs.Base.{IsCharacter, IsTextOf, Decodes, digit_64}
 use Rattle.dns_scan.proofs.Decoded.{each_append, each_weaker, replicated}
 use Rattle.dns_text.specs.Tokens.{IsIn, stands_plain}

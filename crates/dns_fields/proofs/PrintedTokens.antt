@@ -13,7 +13,7 @@ use Rattle.dns_label.specs.declared.symbol.Symbol.{Symbol}
 use Rattle.dns_label.specs.declared.symbol.Symbol.TheVariants.{Char, SimpleEscape, DecimalEscape}
 use Rattle.dns_label.specs.Symbol.{IsPrintable, IsNoDigit, spelled}
 use Rattle.dns_label.specs.Printed.{is_special, printed_symbol, printed_label, printed_labels, printed_name}
-use Rattle.dns_name.specs.PrintedLabels.{AreOctets}
+use Rattle.dns_flat.specs.PrintedLabels.{AreOctets}
 use Rattle.dns_scan.specs.StringText.{IsOctet, is_printable, between_quotes, quoted_text, unquoted_text}
 use Rattle.dns_scan.specs.Encodings.{encoded_16, encoded_64}
 use Rattle.dns_scan.specs.Token.{Token}

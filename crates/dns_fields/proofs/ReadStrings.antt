@@ -1,15 +1,15 @@
 -- Strings and rests that stand at a place, and that they alone do.
-use Rattle.std.proofs.Common.{◌≡◌, ◌+◌, ◌-◌, ◌≤◌, ℕ, List, [], ◌∷◌, ◌++◌, length, drop, map, refl, sym, ◌∙◌, ap, subst, arith, length-drop, length-append}
+use Rattle.std.proofs.Common.{◌≡◌, ◌+◌, ◌≤◌, ℕ, List, [], ◌∷◌, ◌++◌, length, drop, map, refl, sym, ◌∙◌, ap, subst, arith, length-drop, length-append}
 use Rattle.std.proofs.lemmas.List.{append-nil}
 use Rattle.dns_name.specs.Page.{Parts}
 use Rattle.dns_name.specs.Page.Parts.{End, Octets}
 use Rattle.dns_name.specs.SpelledParts.{Spells, nothing, octets}
-use Rattle.dns_name.proofs.Flat.{same_front}
+use Rattle.dns_wire.proofs.Flat.{same_front}
 use Rattle.dns_scan.specs.CharStr.{StartsWithString}
-use Rattle.dns_fields.specs.Fields.{Kind, String, Tag, RestText, Rest16, Rest64, Field, string, tag, rest_text, rest16, rest64, kind_of, string_octets, IsField}
-use Rattle.dns_fields.specs.Reading.{read_field, read_parts, ReadsField, ReadsFields, IsSoleField, AreSoleFields, NoField}
+use Rattle.dns_fields.specs.Fields.{Kind, String, Tag, RestText, Rest16, Rest64, Field, string, tag, rest_text, rest16, rest64, kind_of, string_octets}
+use Rattle.dns_fields.specs.Reading.{read_field, ReadsField, ReadsFields, IsSoleField, AreSoleFields, NoField}
 use Rattle.dns_fields.proofs.FieldKinds.{of_string, of_tag, of_rest_text, of_rest16, of_rest64}
-use Rattle.dns_fields.proofs.ReadFields.{Stands, opened}
+use Rattle.dns_fields.proofs.ReadFields.{opened}
 
 pub string_read : {message text rest : List ℕ} {place next : ℕ} → StartsWithString (drop place message) text rest
     → next ≡ place + length (string_octets text) → next ≤ length message → Spells message place (Octets (string_octets text) End) next

@@ -1,5 +1,5 @@
 -- Fields that don't stand in front of tokens.
-use Rattle.std.proofs.Common.{◌≡◌, ◌++◌, ◌∷◌, [], ℕ, List, map, refl, sym, ◌∙◌, subst}
+use Rattle.std.proofs.Common.{◌∷◌, [], ℕ, List}
 use Rattle.std.specs.Str.{chars}
 use Rattle.std.specs.Prelude.{Result, Ok, Err, IfNone}
 use Rattle.std.specs.Net.Grammar.{IsDotted, IsColonHex, IsIpv4Text, IsIpv6Text, Parses}
@@ -8,9 +8,9 @@ use Rattle.std.specs.declared.net.ipv6_addr.Ipv6Addr.{Ipv6Addr}
 use Rattle.std.specs.Result.{result_ok}
 use Rattle.dns_scan.specs.Encodings.{Decodes16, Decodes64}
 use Rattle.dns_scan.specs.Token.{Token, Takes, IsWord, IsEntry, SpellsOctets}
-use Rattle.dns_fields.specs.Fields.{Kind, Ipv4, Ipv6, Compressible, Uncompressed, Tag, RestText, Rest16, Rest64, Field, kind_of}
-use Rattle.dns_fields.specs.Scanned.{ScansField, ScansRow, NoFieldScans, NoRowScans}
-use Rattle.dns_fields.proofs.FieldKinds.{of_ipv4, of_ipv6, of_compressible, of_uncompressed, of_tag, of_rest_text, of_rest16, of_rest64}
+use Rattle.dns_fields.specs.Fields.{Kind, Ipv4, Ipv6, RestText, Rest16, Rest64}
+use Rattle.dns_fields.specs.Scanned.{ScansField, NoFieldScans, NoRowScans}
+use Rattle.dns_fields.proofs.FieldKinds.{of_ipv4, of_ipv6, of_rest_text, of_rest16, of_rest64}
 
 module _ (names : List ℕ → List (List ℕ) → Type 0) (tokens : List Token) where
   pub no_ipv4 : ((text : List ℕ) (left : List Token) (octets : List ℕ) → Takes (IsWord text) tokens left → IsDotted text octets → ⊥)

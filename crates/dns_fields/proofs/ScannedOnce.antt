@@ -4,8 +4,8 @@ use Rattle.std.specs.Str.{chars}
 use Rattle.std.specs.Net.Addr.{octets_of, ipv4_octets, ipv6_segments}
 use Rattle.std.specs.Net.Grammar.{IsDotted, IsColonHex}
 use Rattle.std.proofs.NetLemmas.Theorems.{IsIpv4Text_unique, IsIpv6Text_unique}
-use Rattle.dns_scan.specs.declared.base.Base.{Base}
-use Rattle.dns_scan.specs.declared.base.Base.TheVariants.{Sixteen, SixtyFour}
+use Rattle.dns_scan.specs.declared.encoding.base.Base.{Base}
+use Rattle.dns_scan.specs.declared.encoding.base.Base.TheVariants.{Sixteen, SixtyFour}
 use Rattle.dns_scan.specs.Base.{Decodes}
 use Rattle.dns_scan.specs.Scans.{ScansWord}
 use Rattle.dns_scan.specs.Token.{Token, Takes, IsWord, IsEntry, SpellsOctets, SpellsString, unquoted}

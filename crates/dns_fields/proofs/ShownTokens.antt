@@ -10,7 +10,7 @@ use Rattle.dns_scan.proofs.Groups.{eq_differs}
 use Rattle.dns_scan.specs.StringText.{between_quotes}
 use Rattle.dns_text.specs.Document.Piece.{Token}
 use Rattle.dns_fields.specs.Fields.{rest16, rest64}
-use Rattle.dns_fields.specs.Shown.{one_unless_empty, row_pieces}
+use Rattle.dns_fields.specs.Shown.{one_unless_empty, field_pieces}
 
 -- the segments of segments' octets
 pub segments_of-octets_of : (segments : List ℕ) → segments_of (octets_of segments) ≡ segments
@@ -52,14 +52,14 @@ text_some character number count (octet ∷ octets) padding some =
       length-append (map character (map number groups)) padding,
     )
 
-one_token : (text : List ℕ) → 0 < length text → map Token (one_unless_empty text ++ []) ≡ Token text ∷ []
+one_token : (text : List ℕ) → 0 < length text → map Token (one_unless_empty text) ≡ Token text ∷ []
 one_token [] some = absurd (omega arith)
 one_token (c ∷ text) some = refl
 
-pub rest16_pieces : (octets : List ℕ) → 0 < length octets → row_pieces (rest16 octets ∷ []) ≡ Token (encoded_16 octets) ∷ []
+pub rest16_pieces : (octets : List ℕ) → 0 < length octets → field_pieces (rest16 octets) ≡ Token (encoded_16 octets) ∷ []
 rest16_pieces octets some = one_token (encoded_16 octets) (text_some _ _ 4 octets _ some)
 
-pub rest64_pieces : (octets : List ℕ) → 0 < length octets → row_pieces (rest64 octets ∷ []) ≡ Token (encoded_64 octets) ∷ []
+pub rest64_pieces : (octets : List ℕ) → 0 < length octets → field_pieces (rest64 octets) ≡ Token (encoded_64 octets) ∷ []
 rest64_pieces octets some = one_token (encoded_64 octets) (text_some _ _ 6 octets _ some)
 
 -- an octet in front of others between quotes

@@ -1,10 +1,10 @@
 -- Octets that are strings, and the strings that they are.
-use Rattle.std.proofs.Common.{◌≡◌, ◌≤◌, ◌<◌, ◌+◌, ◌↔◌, ℕ, zero, suc, List, [], ◌∷◌, ◌++◌, length, take, drop, refl, sym, ◌∙◌, ap, subst, arith, length-append}
+use Rattle.std.proofs.Common.{◌≡◌, ◌≤◌, ◌<◌, ℕ, zero, suc, List, [], ◌∷◌, ◌++◌, length, take, drop, refl, sym, ◌∙◌, ap, subst, arith, length-append}
 use Rattle.std.specs.List.{AllByRecursion, flat_map}
 use Rattle.std.proofs.Math.Seq.{take-append_seam, drop-append_seam}
-use Rattle.dns_name.proofs.Flat.{same_front}
+use Rattle.dns_wire.proofs.Flat.{same_front}
 use Rattle.dns_scan.specs.CharStr.{StartsWithString}
-use Rattle.dns_fields.specs.Fields.{IsString, IsField, strings, string_octets, field_octets}
+use Rattle.dns_fields.specs.Fields.{IsString, string_octets}
 use Rattle.dns_fields.specs.Strings.{AreStringOctets, AreCut, first_strings, strings_of}
 
 first_all : (count : ℕ) (each : List (List ℕ)) → length (flat_map string_octets each) ≤ count

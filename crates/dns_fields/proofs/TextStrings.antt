@@ -8,9 +8,9 @@ use Rattle.dns_text.specs.Document.{Piece}
 use Rattle.dns_text.specs.Document.Piece.{Token as Shown}
 use Rattle.dns_text.specs.Writing.{Adds}
 use Rattle.dns_text.proofs.Writings.{adds_append}
-use Rattle.dns_fields.specs.Fields.{Strings, IsString, strings, string_octets, kind_of}
+use Rattle.dns_fields.specs.Fields.{Strings, IsString, strings, string_octets}
 use Rattle.dns_fields.specs.Scanned.{AreStrings, ScansField, NoRowScans}
-use Rattle.dns_fields.specs.Shown.{row_pieces}
+use Rattle.dns_fields.specs.Shown.{field_pieces}
 use Rattle.dns_fields.specs.Strings.{AreStringOctets}
 use Rattle.dns_fields.proofs.FieldKinds.{of_strings}
 use Rattle.dns_fields.proofs.ScanLeaves.{one_field}
@@ -101,8 +101,8 @@ more_printed writes start before now each left behind string so_far is adds = re
 }
 
 pub all_printed : {F : Type 0} (writes : F → List Piece → F → Type 0) (start now : F) (each left : List (List ℕ)) → Printed writes start each left now
-    → left ≡ [] → Adds writes start (row_pieces (strings each ∷ [])) now
+    → left ≡ [] → Adds writes start (field_pieces (strings each)) now
 all_printed writes start now each left so_far none =
     let front : so_far.front ≡ each = sym (append-nil so_far.front) ∙ ap (λ l. so_far.front ++ l) (sym none) ∙ so_far.all in
     subst (λ (l : List (List ℕ)). Adds writes start (map Shown l) now)
-    (ap (map quoted_text) front ∙ sym (append-nil (map quoted_text each))) so_far.adds
+    (ap (map quoted_text) front) so_far.adds

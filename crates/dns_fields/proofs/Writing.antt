@@ -1,5 +1,5 @@
 -- A row is written field by field.
-use Rattle.std.proofs.Common.{◌≡◌, ◌≤◌, ℕ, List, [], ◌∷◌, ◌++◌, length, refl, sym, ◌∙◌, ap, arith}
+use Rattle.std.proofs.Common.{◌≡◌, ℕ, List, ◌∷◌, length, refl, sym, ◌∙◌, ap, arith}
 use Rattle.std.specs.Prelude.{Result, Ok, Err, Option, OnOk}
 use Rattle.dns_octets.specs.Builder.{IsPast}
 use Rattle.dns_name.specs.Spelling.{Spelling}

@@ -1,6 +1,6 @@
 -- The laws of how rows stand to one another: an equivalence, a total order that ties exactly the rows that are equal, and
 -- equal rows have the same keys.
-use Rattle.std.specs.Prelude.{◌≡◌, ℕ, List, nat_eq, IsTrue}
+use Rattle.std.specs.Prelude.{◌≡◌, List, nat_eq, IsTrue}
 use Rattle.std.specs.Cmp.{IsPartialEquivalence, IsEquivalence, IsPartialOrder, IsTotalOrder, on_equiv, on_total, nat_eq_equiv, partial_equiv_from_equiv, partial_order_from_total, partial_order_from_own_ties}
 use Rattle.std.specs.Cmp.Lexicographic.{pointwise, slice_cmp, lists_equiv, lists_total, lists_ties, nat_list_cmp_total, texts_ties}
 use Rattle.std.specs.Ordering.{is_eq, nat_cmp, as_partial_cmp}

@@ -1,5 +1,5 @@
 -- Typed data is a row of fields, by one table of the types. There is no pointer in it.
-use Rattle.std.specs.Prelude.{◌≡◌, ◌==◌, ◌<◌, ◌≤◌, ◌^◌, ℕ, Bool, zero, suc, List, [], ◌∷◌, ◌++◌, length, map, Option, Some, None}
+use Rattle.std.specs.Prelude.{◌≡◌, ◌==◌, ◌<◌, ◌≤◌, ◌^◌, ℕ, zero, suc, List, [], ◌∷◌, length, map, Option, Some, None}
 use Rattle.std.specs.Prelude.{if◌then◌else◌, ⊤}
 use Rattle.std.specs.List.{AllByRecursion, flat_map}
 use Rattle.std.specs.Int.{to_be_bytes, w16, w32}
@@ -60,28 +60,37 @@ kind_of (rest64 octets) = Rest64
 -- The table: which fields the data of a type has, from the left (RFC 1035 3.3 and 3.4, RFC 3596 2.2, RFC 1183 2.2,
 -- RFC 2782, RFC 8659 4.1, RFC 4034 2.1 and 5.1). A type that is not in it has opaque data. The rows are A, NS, MD, MF, CNAME,
 -- SOA, MB, MG, MR, PTR, HINFO, MINFO, MX, TXT, RP, AAAA, SRV, DS, DNSKEY and CAA.
+abbrev pub table : List (ℕ × List Kind)
+table =
+    (1, Ipv4 ∷ [])
+    ∷ (2, Compressible ∷ [])
+    ∷ (3, Compressible ∷ [])
+    ∷ (4, Compressible ∷ [])
+    ∷ (5, Compressible ∷ [])
+    ∷ (6, Compressible ∷ Compressible ∷ Number32 ∷ Number32 ∷ Number32 ∷ Number32 ∷ Number32 ∷ [])
+    ∷ (7, Compressible ∷ [])
+    ∷ (8, Compressible ∷ [])
+    ∷ (9, Compressible ∷ [])
+    ∷ (12, Compressible ∷ [])
+    ∷ (13, String ∷ String ∷ [])
+    ∷ (14, Compressible ∷ Compressible ∷ [])
+    ∷ (15, Number16 ∷ Compressible ∷ [])
+    ∷ (16, Strings ∷ [])
+    ∷ (17, Uncompressed ∷ Uncompressed ∷ [])
+    ∷ (28, Ipv6 ∷ [])
+    ∷ (33, Number16 ∷ Number16 ∷ Number16 ∷ Uncompressed ∷ [])
+    ∷ (43, Number16 ∷ Number8 ∷ Number8 ∷ Rest16 ∷ [])
+    ∷ (48, Number16 ∷ Number8 ∷ Number8 ∷ Rest64 ∷ [])
+    ∷ (257, Number8 ∷ Tag ∷ RestText ∷ [])
+    ∷ []
+
+-- the kinds of the row of a number in a table, None where it has none
+abbrev pub kinds_in : List (ℕ × List Kind) → ℕ → Option (List Kind)
+kinds_in [] rtype = None
+kinds_in (row ∷ rows) rtype = if rtype == row.0 then Some row.1 else kinds_in rows rtype
+
 abbrev pub kinds_of : ℕ → Option (List Kind)
-kinds_of rtype =
-    if rtype == 1 then Some (Ipv4 ∷ [])
-    else (if rtype == 2 then Some (Compressible ∷ [])
-    else (if rtype == 3 then Some (Compressible ∷ [])
-    else (if rtype == 4 then Some (Compressible ∷ [])
-    else (if rtype == 5 then Some (Compressible ∷ [])
-    else (if rtype == 6 then Some (Compressible ∷ Compressible ∷ Number32 ∷ Number32 ∷ Number32 ∷ Number32 ∷ Number32 ∷ [])
-    else (if rtype == 7 then Some (Compressible ∷ [])
-    else (if rtype == 8 then Some (Compressible ∷ [])
-    else (if rtype == 9 then Some (Compressible ∷ [])
-    else (if rtype == 12 then Some (Compressible ∷ [])
-    else (if rtype == 13 then Some (String ∷ String ∷ [])
-    else (if rtype == 14 then Some (Compressible ∷ Compressible ∷ [])
-    else (if rtype == 15 then Some (Number16 ∷ Compressible ∷ [])
-    else (if rtype == 16 then Some (Strings ∷ [])
-    else (if rtype == 17 then Some (Uncompressed ∷ Uncompressed ∷ [])
-    else (if rtype == 28 then Some (Ipv6 ∷ [])
-    else (if rtype == 33 then Some (Number16 ∷ Number16 ∷ Number16 ∷ Uncompressed ∷ [])
-    else (if rtype == 43 then Some (Number16 ∷ Number8 ∷ Number8 ∷ Rest16 ∷ [])
-    else (if rtype == 48 then Some (Number16 ∷ Number8 ∷ Number8 ∷ Rest64 ∷ [])
-    else (if rtype == 257 then Some (Number8 ∷ Tag ∷ RestText ∷ []) else None)))))))))))))))))))
+kinds_of rtype = kinds_in table rtype
 
 -- a string behind its length
 abbrev pub string_octets : List ℕ → List ℕ

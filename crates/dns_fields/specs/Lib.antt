@@ -8,6 +8,7 @@ pub mod Reading
 pub mod Scanned
 pub mod SpelledNames
 pub mod Shown
+pub mod Comments
 pub mod Strings
 pub mod Held
 pub mod Tried

@@ -1,7 +1,7 @@
 -- Data as a reader takes it out of a message: fields one behind another, up to where the octets end (RFC 1035 3.2.1).
 use Rattle.std.specs.Prelude.{◌≡◌, ◌≤◌, ◌^◌, ◌⊎◌, ℕ, List, [], ◌∷◌, length, map, Some, IsSomeAnd}
 use Rattle.std.specs.List.{AllByRecursion}
-use Rattle.dns_name.specs.Cut.{IsCut}
+use Rattle.dns_wire.specs.Cut.{IsCut}
 use Rattle.dns_name.specs.Page.{Parts}
 use Rattle.dns_name.specs.Page.Parts.{End, Octets, Named}
 use Rattle.dns_name.specs.SpelledParts.{Spells}
@@ -56,8 +56,8 @@ NoRow rtype message place = (row : List Field) → ReadsRow rtype message place 
 -- 3.1, 4.1.4), of at most 255 octets and 255 pointers. A field of another kind is missing for no other reason; strings have all
 -- octets that are left, so that they are cut where these are not whole strings.
 abbrev pub IsCutField : List ℕ → ℕ → Kind → Type 0
-IsCutField message place Compressible = IsCut message 255 255 place
-IsCutField message place Uncompressed = IsCut message 255 255 place
+IsCutField message place Compressible = IsCut message 255 254 place
+IsCutField message place Uncompressed = IsCut message 255 254 place
 IsCutField message place Strings = NoFields message place (Strings ∷ [])
 IsCutField message place kind = NoField message place kind
 

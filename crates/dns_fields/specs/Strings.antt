@@ -1,5 +1,5 @@
 -- One or more strings up to the end, as octets (RFC 1035 3.3.14).
-use Rattle.std.specs.Prelude.{◌≡◌, ◌<◌, ℕ, zero, suc, List, [], ◌∷◌, length, take, drop}
+use Rattle.std.specs.Prelude.{◌≡◌, ℕ, zero, suc, List, [], ◌∷◌, length, take, drop}
 use Rattle.std.specs.List.{AllByRecursion, flat_map}
 use Rattle.dns_fields.specs.Fields.{IsField, IsString, strings, string_octets, field_octets}
 

@@ -3,7 +3,7 @@ use Rattle.std.specs.Prelude.{Bool, true, false, List, [], ◌∷◌}
 use Rattle.dns_name.specs.Page.{Parts}
 use Rattle.dns_name.specs.Page.Parts.{End, Octets, Named}
 use Rattle.dns_fields.specs.Fields.{Kind, Compressible, Number8, Number16, Number32, Ipv4, Ipv6, Uncompressed, String, Strings, Tag, RestText, Rest16, Rest64}
-use Rattle.dns_fields.specs.Fields.{Field, number8, number16, number32, ipv4, ipv6, compressible, uncompressed, string, strings, tag, rest_text, rest16, rest64, field_octets}
+use Rattle.dns_fields.specs.Fields.{Field, compressible, field_octets}
 
 -- whether fields of a kind may be written with a pointer (RFC 3597 4)
 abbrev pub may_point : Kind → Bool

@@ -1,7 +1,7 @@
 //! Record data as rows of fields.
 //!
-//! A part of `dns_rdata`. A value of record data holds its fields as nested pairs, and what all types of data do, to be
-//! written, compared and hashed, is done field by field, by the table of the types.
+//! A part of `dns_rdata`. A value of record data holds its fields as nested pairs. It is written, compared and hashed field
+//! by field, for all types in one way, by the table of the types.
 #![tactic(auto)]
 
 mod compose;
@@ -13,12 +13,17 @@ mod read;
 mod row;
 mod scan;
 mod show;
+mod table;
 
 pub use compose::{compose_canonical_row, compose_row, row_len};
-pub use convert::{ConvertField, ConvertRow};
+pub use convert::{ConvertField, ConvertRow, OverOctets};
 pub use field::{Compressible, FieldValue, Tag, Uncompressed};
 pub use front::{CanonicalOctetsOrd, FrontField, FrontRow, canonical_row_cmp_octets};
-pub use read::{ReadError, ReadField, ReadRow, parse_row};
+pub use read::{ReadError, ReadField, ReadRow, parse_row, read_row};
 pub use row::{Last, LastValue, Rest16, Rest64, RestText, Row, Strings, StringsIter};
-pub use scan::{ScanField, ScanRow, scan_row};
-pub use show::{ShowField, ShowRow, SoaRow, show_row, show_soa_row};
+pub use scan::{ScanField, ScanRow, scan_row, scan_row_of};
+pub use show::{ShowField, ShowLast, ShowRow, show_row};
+pub use table::{
+    ARow, AaaaRow, CaaRow, DataType, DnskeyRow, DsRow, HinfoRow, MinfoRow, MxRow, NameRow, Number,
+    RowOf, RpRow, SoaRow, SrvRow, TxtRow,
+};

@@ -1,4 +1,4 @@
-//! Fields and rows that are read from a message.
+//! Fields and rows that are parsed from a message.
 ghost use Rattle.std.specs.Prelude.{◌≡◌, ◌<◌, ◌≤◌, ◌↔◌, ◌∷◌, [], Some, ℕ, List, length, IfOk, OnOk, OnErr, IsErrOf};
 ghost use Rattle.dns_octets.specs.Parser.{octets_of, place_of};
 ghost use Rattle.dns_name.specs.RecordData.{IsAtEnd};
@@ -14,11 +14,12 @@ use crate::{FieldValue, Row};
 use dns_name::Parser;
 pub use error::ReadError;
 
-/// A field that is read from a message.
+/// A field that is parsed from a message.
 pub trait ReadField<'a>: FieldValue + Sized + Drop {
-    /// Reads the field at the parser's place, and leaves the parser behind it. Refused where no such field stands there:
-    /// with `ShortInput` exactly where the octets end too early for it, and never with `LongRecordData`. The parser then stays
-    /// where it is.
+    /// Parses the field at the parser's place, and leaves the parser after it.
+    ///
+    /// Fails if no such field stands there: with `ShortInput` exactly if the octets end too early for it, and never with
+    /// `LongRecordData`. The parser then stays where it is.
     fn read_field(parser: &mut Parser<'a>) -> Result<Self, ReadError>
         ensures ok { IfOk result (λ value. ReadsField (octets_of parser.old) (place_of parser.old) (Self.field value)
             (place_of parser.new)) }
@@ -31,10 +32,12 @@ pub trait ReadField<'a>: FieldValue + Sized + Drop {
         ensures stays { OnErr result (parser.new ≡ parser.old) };
 }
 
-/// A row that is read from a message.
+/// A row that is parsed from a message.
 pub trait ReadRow<'a>: Row + Sized + Drop {
-    /// Reads the fields up to the end of the parser. Refused where no such fields stand there, or more than they: with
-    /// `ShortInput` exactly where the octets end too early for them, and never with `LongRecordData`.
+    /// Parses the fields up to the end of the parser.
+    ///
+    /// Fails if no such fields stand there, or more than they: with `ShortInput` exactly if the octets end too early for them,
+    /// and never with `LongRecordData`.
     fn read_fields(parser: &mut Parser<'a>) -> Result<Self, ReadError>
         ensures ok { IfOk result (λ row. ReadsFields (octets_of parser.old) (place_of parser.old) (Self.fields row)) }
         ensures sole { IfOk result (λ row. AreSoleFields (octets_of parser.old) (place_of parser.old) (Self.fields row)) }
@@ -61,10 +64,10 @@ impl<'a, A: ReadField<'a>, B: ReadRow<'a>> ReadRow<'a> for (A, B) {
     }
 }
 
-/// Reads data of a type, as a row of its kinds, up to the end of the parser.
+/// Parses data of a type, as a row of its kinds, up to the end of the parser.
 ///
-/// Refused exactly where what is left is no such data: with `ShortInput` exactly where the octets end too early for it, and with
-/// `LongRecordData` exactly where its fields are all there, with nothing behind them, but have more than 65,535 octets with their
+/// Fails exactly if what is left is no such data: with `ShortInput` exactly if the octets end too early for it, and with
+/// `LongRecordData` exactly if its fields are all there, with nothing after them, but have more than 65,535 octets with their
 /// names in full. The parser then stays where it is.
 pub fn parse_row<'a, R: ReadRow<'a>, const RTYPE: u16>(
     parser: &mut Parser<'a>,
@@ -75,6 +78,19 @@ pub fn parse_row<'a, R: ReadRow<'a>, const RTYPE: u16>(
     ensures no_data { OnErr result (NoRow RTYPE (octets_of parser.old) (place_of parser.old)) }
     ensures short { IsErrOf result ShortInput ↔ IsCutRow RTYPE (octets_of parser.old) (place_of parser.old) }
     ensures long { IsErrOf result LongRecordData ↔ IsLongRow RTYPE (octets_of parser.old) (place_of parser.old) }
+    ensures err { OnErr result (parser.new ≡ parser.old) }
+{
+    read_row(RTYPE, parser)
+}
+
+/// Parses data of a type that is given as a value, as `parse_row` does.
+pub fn read_row<'a, R: ReadRow<'a>>(rtype: u16, parser: &mut Parser<'a>) -> Result<R, ReadError>
+    requires { kinds_of rtype ≡ Some R.kinds }
+    ensures ok { IfOk result (λ row. ReadsRow rtype (octets_of parser.old) (place_of parser.old) (R.fields row)) }
+    ensures end { OnOk result (IsAtEnd parser.old parser.new) }
+    ensures no_data { OnErr result (NoRow rtype (octets_of parser.old) (place_of parser.old)) }
+    ensures short { IsErrOf result ShortInput ↔ IsCutRow rtype (octets_of parser.old) (place_of parser.old) }
+    ensures long { IsErrOf result LongRecordData ↔ IsLongRow rtype (octets_of parser.old) (place_of parser.old) }
     ensures err { OnErr result (parser.new ≡ parser.old) }
 {
     let mut reader = *parser;

@@ -52,16 +52,29 @@ impl<S: Scanner, A: ScanField<S>, B: ScanRow<S>> ScanRow<S> for (A, B) {
     }
 }
 
-/// Reads data of a type, as a row of its kinds, from the tokens in front, and takes these. Tokens behind the last field stay.
+/// Scans data of a type, as a row of its kinds, from the first tokens, and takes these. Tokens after the last field stay.
 ///
-/// Refused with an error other than `short_buf` only where there is no such data in front, as where its fields have more than
-/// 65,535 octets, which is `custom` by the text of `LongRecordData`; the tokens left are then an ending of those left before.
+/// Fails with an error other than `short_buf` only if the tokens begin with no such data: also if its fields have more than
+/// 65,535 octets, with `custom` by the text of `LongRecordData`. The tokens left are then the last of those left before.
 pub fn scan_row<S: Scanner, R: ScanRow<S>, const RTYPE: u16>(scanner: &mut S) -> Result<R, S::Error>
     requires { kinds_of RTYPE ≡ Some R.kinds }
     ensures ok { IfOk result (λ row. ScansData (S.names scanner.old) RTYPE (R.fields row) (S.tokens scanner.old)
         (S.tokens scanner.new)) }
     ensures err { IfErr result (λ error. S.Error.is_short error ≡ false
         → NoDataScans (S.names scanner.old) RTYPE (S.tokens scanner.old)) }
+    ensures left { OnErr result (IsEnding (S.tokens scanner.new) (S.tokens scanner.old)) }
+    ensures names { SameNames (S.names scanner.old) (S.names scanner.new) }
+{
+    scan_row_of(RTYPE, scanner)
+}
+
+/// Scans data of a type that is given as a value, as `scan_row` does.
+pub fn scan_row_of<S: Scanner, R: ScanRow<S>>(rtype: u16, scanner: &mut S) -> Result<R, S::Error>
+    requires { kinds_of rtype ≡ Some R.kinds }
+    ensures ok { IfOk result (λ row. ScansData (S.names scanner.old) rtype (R.fields row) (S.tokens scanner.old)
+        (S.tokens scanner.new)) }
+    ensures err { IfErr result (λ error. S.Error.is_short error ≡ false
+        → NoDataScans (S.names scanner.old) rtype (S.tokens scanner.old)) }
     ensures left { OnErr result (IsEnding (S.tokens scanner.new) (S.tokens scanner.old)) }
     ensures names { SameNames (S.names scanner.old) (S.names scanner.new) }
 {

@@ -8,8 +8,8 @@ use Rattle.dns_name.specs.Page.Parts.{End, Octets, Named}
 use Rattle.dns_name.specs.RecordData.{page_of}
 use Rattle.dns_name.proofs.Growth.{IsPast-more, IsPast-from}
 use Rattle.dns_name.proofs.WrittenParts.{page_same}
-use Rattle.dns_name.specs.Skip.{Skips}
-use Rattle.dns_name.proofs.Skipping.{skips-one}
+use Rattle.dns_wire.specs.Skip.{Skips}
+use Rattle.dns_wire.proofs.Skipping.{skips-one}
 use Rattle.dns_label.specs.Spelled.{Reads}
 use Rattle.dns_label.proofs.Spelling.{reads_one}
 use Rattle.dns_header.specs.Question.{Question, ReadsQuestion, SkipsQuestion}

@@ -3,7 +3,7 @@ use Rattle.std.specs.Prelude.{◌≡◌, ◌+◌, ◌<◌, ◌≤◌, ℕ, List,
 use Rattle.std.specs.Int.{from_be_bytes, to_be_bytes, w16, w32}
 use Rattle.dns_label.specs.Name.{wire, low}
 use Rattle.dns_label.specs.Spelled.{Reads}
-use Rattle.dns_name.specs.Cut.{IsCut}
+use Rattle.dns_wire.specs.Cut.{IsCut}
 use Rattle.dns_name.specs.Page.{Parts}
 use Rattle.dns_name.specs.Page.Parts.{End, Octets, Named, Counted}
 use Rattle.dns_header.specs.Header.{number_at}
@@ -45,7 +45,7 @@ pub record ReadsWhole (message : List ℕ) (place : ℕ) (head : Head (List (Lis
 
 -- The message ends too early for what stands in front of a record's data: in the owner, or behind it.
 pub data HeadIsCut (message : List ℕ) (place : ℕ) : Type 0 where
-  in_owner : IsCut message 255 255 place → HeadIsCut message place
+  in_owner : IsCut message 255 254 place → HeadIsCut message place
   behind_owner : (name : List (List ℕ)) (behind : ℕ) → Reads message place name behind → length message < behind + 10 → HeadIsCut message place
 
 -- The same, or in the data.

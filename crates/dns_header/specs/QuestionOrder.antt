@@ -5,7 +5,7 @@ use Rattle.std.specs.Cmp.Lexicographic.{pointwise, slice_cmp}
 use Rattle.std.specs.Ordering.{nat_cmp, on, ordering_then}
 use Rattle.std.specs.declared.cmp.Ordering.{Ordering}
 use Rattle.dns_label.specs.Name.{low, wire}
-use Rattle.dns_name.specs.Order.{labels_order}
+use Rattle.dns_wire.specs.Order.{labels_order}
 use Rattle.dns_header.specs.Question.{Question}
 
 abbrev pub questions_eq : Question → Question → Bool

@@ -7,8 +7,8 @@ use Rattle.std.proofs.lemmas.Cmp.{then_total}
 use Rattle.std.specs.Ordering.{is_eq, eq_by_cmp, nat_cmp, ordering_then}
 use Rattle.std.specs.declared.cmp.Ordering.{Ordering}
 use Rattle.std.specs.declared.cmp.Ordering.TheVariants.{Less, Equal, Greater}
-use Rattle.dns_name.specs.Order.{labels_order}
-use Rattle.dns_name.specs.OrderLaws.{labels_equivalence, labels_total, labels_ties}
+use Rattle.dns_wire.specs.Order.{labels_order}
+use Rattle.dns_flat.specs.OrderLaws.{labels_equivalence, labels_total, labels_ties}
 use Rattle.dns_header.specs.Record.{RecordOf}
 use Rattle.dns_header.specs.RecordOrder.{records_eq, records_cmp}
 

@@ -4,7 +4,7 @@ use Rattle.std.specs.Cmp.Lexicographic.{pointwise}
 use Rattle.std.specs.Ordering.{on, nat_cmp, eq_of_both, then_cmp}
 use Rattle.std.specs.declared.cmp.Ordering.{Ordering}
 use Rattle.dns_label.specs.Name.{low}
-use Rattle.dns_name.specs.Order.{labels_order}
+use Rattle.dns_wire.specs.Order.{labels_order}
 use Rattle.dns_header.specs.Record.{RecordOf}
 
 module _ {Owner Data : Type 0} (labels : Owner → List (List ℕ)) where

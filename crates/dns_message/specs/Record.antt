@@ -5,6 +5,7 @@ use Rattle.dns_label.specs.Name.{IsName, wire}
 use Rattle.dns_rdata.specs.Fields.{Field, number8, number16, number32, ipv4, ipv6, compressible, uncompressed, string, strings, tag, rest_text, rest16, rest64, field_octets, octets, IsRow, IsData, kinds_of}
 use Rattle.dns_name.specs.SpelledParts.{Spells}
 pub use Rattle.dns_rdata.specs.Reading.{read_parts}
+pub use Rattle.dns_rdata.specs.Written.{written_parts}
 use Rattle.dns_name.specs.Page.{Parts}
 use Rattle.dns_name.specs.Page.Parts.{End, Octets}
 use Rattle.dns_header.specs.Head as head
@@ -33,6 +34,12 @@ record_parts r data' = head.record_parts r.owner r.rtype r.class r.ttl data'
 pub data IsRead (r : Record) : Parts → Type 0 where
   typed : (row : List Field) → IsRow r.rtype row → r.rdata ≡ octets row → IsRead r (record_parts r (read_parts row))
   opaque : kinds_of r.rtype ≡ None → IsRead r (record_parts r (Octets r.rdata End))
+
+-- The parts of the record as a writer gives them (RFC 3597 4): a name that may be compressed is a name, and all else is octets,
+-- any other name written out. Opaque data is its octets.
+pub data IsWritten (r : Record) : Parts → Type 0 where
+  fields : (row : List Field) → IsRow r.rtype row → r.rdata ≡ octets row → IsWritten r (record_parts r (written_parts row))
+  untold : kinds_of r.rtype ≡ None → IsWritten r (record_parts r (Octets r.rdata End))
 
 -- the record with every name written out
 abbrev pub record_octets : Record → List ℕ

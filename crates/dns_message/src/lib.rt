@@ -1,9 +1,12 @@
 //! Messages: headers, questions, records, how they are read and built (RFC 1035 4.1).
 //!
-//! Its part `dns_header`, which it hands on, has headers, questions and records. Whole messages are definitions alone today.
+//! Its part `dns_header`, which it hands on, has headers, questions and records. Whole messages are definitions and laws alone
+//! today.
 #![tactic(auto)]
+
+pub mod laws;
 
 pub use dns_header::{
     ComposeQuestion, ComposeRecord, CountOverflow, Flags, FlagsFromStrError, Header, HeaderCounts,
-    HeaderSection, ParsedRecord, Question, Record, RecordHeader, laws,
+    HeaderSection, ParsedRecord, Question, Record, RecordHeader,
 };

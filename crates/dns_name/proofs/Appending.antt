@@ -4,7 +4,7 @@ use Rattle.std.proofs.lemmas.List.{append-nil}
 use Rattle.dns_octets.specs.Builder.{Known, GrowsTo, IsWithin, IsPast}
 use Rattle.dns_octets.proofs.Grows.{GrowsTo-same}
 use Rattle.dns_label.specs.Name.{wire, labels_wire, with_root}
-use Rattle.dns_name.proofs.Wire.{labels_wire-with_root}
+use Rattle.dns_wire.proofs.Wire.{labels_wire-with_root}
 use Rattle.dns_name.proofs.Growth.{GrowsTo-trans, IsPast-more}
 
 -- of all labels these are left, and nothing but the others stands behind what was there

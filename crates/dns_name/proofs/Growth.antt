@@ -4,29 +4,30 @@ use Rattle.std.proofs.lemmas.List.{append-nil, take_at}
 use Rattle.std.proofs.lemmas.List.Elements.{All-append, All-weaker}
 use Rattle.dns_octets.specs.Builder.{Standing, Known, StandsBetween, GrowsTo, IsPast, before}
 use Rattle.dns_octets.proofs.Grows.{GrowsTo-append, GrowsTo-same}
-use Rattle.dns_name.specs.Spelling.{Spelling, added_from, name_text, if_near, known_after}
+use Rattle.dns_label.specs.Name.{IsName}
+use Rattle.dns_name.specs.Spelling.{Spelling, name_text, if_near, known_after}
 use Rattle.dns_name.specs.Remembered.{IsKnown}
 use Rattle.dns_name.proofs.Known.{before-append, before_all, before_none, each_known, all_known}
-use Rattle.dns_name.proofs.Spelled.{StopsBefore, IsAdded, added_each, if_near-known}
+use Rattle.dns_name.proofs.Spelled.{StopsBefore, IsAdded, added_of, added_each, if_near-known}
 
 -- a name makes the octets grow, and remembers only suffixes that stand in what is new
-pub GrowsTo-name : (s : Spelling) (octets : List ℕ) (known : Known) (name : List (List ℕ)) → StopsBefore (length octets) known
+pub GrowsTo-name : (s : Spelling) (octets : List ℕ) (known : Known) (name : List (List ℕ)) → IsName name → StopsBefore (length octets) known
     → GrowsTo octets known (octets ++ name_text s known (length octets) name) (known_after s known (length octets) name)
 unfolding known_after name_text
-GrowsTo-name s octets known name within = record {
+GrowsTo-name s octets known name is_name within = record {
   tail = name_text s known (length octets) name;
   octets = refl;
   added = if_near added;
   known = refl;
   between = all_known _ (if_near added) (λ standing is.
-      stands standing (added_each s known (length known) (length octets) stop name within standing (if_near-known added standing is).0));
+      stands standing (added_each s known (length octets) name is_name within standing (if_near-known added standing is).0));
 }
   where
     stop : ℕ
     stop = length octets + length (name_text s known (length octets) name)
 
     added : Known
-    added = added_from s known (length known) (length octets) stop name
+    added = added_of s known (length octets) name
 
     stands : (standing : Standing) → IsAdded s known (length octets) (name_text s known (length octets) name) stop standing
         → StandsBetween (length octets) (length (octets ++ name_text s known (length octets) name)) standing

@@ -3,7 +3,7 @@ use Rattle.std.proofs.Common.{ℕ, ◌+◌, ◌≤◌, List, [], ◌∷◌, leng
 use Rattle.dns_label.specs.Spelled.{Spells, Reads}
 use Rattle.dns_label.specs.Spelled.Spells.{root, label, pointer}
 use Rattle.dns_name.specs.HeadCount.{heads_of}
-use Rattle.dns_name.proofs.Wire.{few_labels}
+use Rattle.dns_wire.proofs.Wire.{few_labels}
 
 heads_few : {message : List ℕ} {pointers place next : ℕ} {name : List (List ℕ)} (spelled : Spells message pointers place name next)
     → heads_of spelled ≤ length name + pointers + 1

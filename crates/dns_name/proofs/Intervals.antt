@@ -7,9 +7,9 @@ use Rattle.std.specs.Cmp.Lexicographic.{slice_cmp, lists_total, nat_list_cmp_tot
 use Rattle.std.specs.FinMap.{slice_cmp-IsAntisymmetric, nat_cmp-IsAntisymmetric}
 use Rattle.std.proofs.lemmas.List.{reverse-append, reverse-reverse}
 use Rattle.dns_label.specs.Name.{low}
-use Rattle.dns_name.specs.Order.{labels_order}
-use Rattle.dns_name.specs.Suffix.{EndsWith}
-use Rattle.dns_name.proofs.Orders.{cmp_seam}
+use Rattle.dns_wire.specs.Order.{labels_order}
+use Rattle.dns_wire.specs.Suffix.{EndsWith}
+use Rattle.dns_wire.proofs.Orders.{cmp_seam}
 
 -- what is neither greater than the one nor less than the other agrees with both
 level : (o p s t : Ordering) → o ≡ ordering_reverse p → is_gt (ordering_then o s) ≡ false → is_gt (ordering_then p t) ≡ false

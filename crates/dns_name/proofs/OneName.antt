@@ -6,11 +6,11 @@ use Rattle.dns_label.specs.Name.{IsLabel, IsName}
 use Rattle.dns_label.specs.NameText.{HasParts, IsAbsoluteText, IsRelativeText, IsNameText}
 use Rattle.dns_label.specs.NameText.IsAbsoluteText.{root, labels as dotted}
 use Rattle.dns_label.specs.NameText.IsNameText.{absolute, relative}
-use Rattle.dns_name.specs.RelativeText.{IsRelativeNameText}
-use Rattle.dns_name.specs.RelativeText.IsRelativeNameText.{empty, labels}
-use Rattle.dns_name.proofs.Chains.{never_rooted}
-use Rattle.dns_name.proofs.Parts.{parts_one}
-use Rattle.dns_name.proofs.Wire.{last_same}
+use Rattle.dns_flat.specs.RelativeText.{IsRelativeNameText}
+use Rattle.dns_flat.specs.RelativeText.IsRelativeNameText.{empty, labels}
+use Rattle.dns_flat.proofs.Chains.{never_rooted}
+use Rattle.dns_wire.proofs.Parts.{parts_one}
+use Rattle.dns_wire.proofs.Wire.{last_same}
 
 one_parts : {text : List ℕ} {parts others : List (List ℕ)} → HasParts text parts → HasParts text others → parts ≡ others
 one_parts {parts = parts} {others = others} has other =

@@ -9,11 +9,11 @@ use Rattle.dns_label.specs.NameText.{HasParts, IsAbsoluteText, onto, parts_of}
 use Rattle.dns_label.specs.NameText.IsAbsoluteText.{root, labels as dotted}
 use Rattle.dns_label.specs.Symbol.{IsSymbol, spelled}
 use Rattle.dns_label.specs.Printed.{printed_label, printed_name, printed_symbol}
-use Rattle.dns_name.specs.PrintedLabels.{AreOctets, printed_behind, printed_relative}
-use Rattle.dns_name.specs.RelativeText.{IsRelativeNameText}
-use Rattle.dns_name.specs.RelativeText.IsRelativeNameText.{empty, labels}
-use Rattle.dns_name.proofs.Parts.{joined, joined_none, some_part, each_append}
-use Rattle.dns_name.proofs.PrintedNames.{dotted-relative}
+use Rattle.dns_flat.specs.PrintedLabels.{AreOctets, printed_behind, printed_relative}
+use Rattle.dns_flat.specs.RelativeText.{IsRelativeNameText}
+use Rattle.dns_flat.specs.RelativeText.IsRelativeNameText.{empty, labels}
+use Rattle.dns_wire.proofs.Parts.{joined, joined_none, some_part, each_append}
+use Rattle.dns_flat.proofs.PrintedNames.{dotted-relative}
 use Rattle.dns_name.proofs.PrintedSymbols.{StandsFor, printed_stands}
 
 -- the symbols of a label, and those of labels behind dots

@@ -5,11 +5,13 @@ use Rattle.std.proofs.lemmas.List.{append-nil, drop-append-le}
 use Rattle.std.proofs.Math.Seq.{take-append-add}
 use mathlib.Core.Logic.{∥∥₁_elim}
 use Rattle.dns_octets.specs.Builder.{Standing, Known, IsWithin, before}
-use Rattle.dns_name.specs.Spelling.{Spelling, added_from, name_text, if_near, known_after}
-use Rattle.dns_name.specs.Remembered.{IsKnown, SpellsSuffix, SpellsLabelled, HasText, StandsIn, IsSound, is_free, patched}
-use Rattle.dns_name.specs.Remembered.SpellsSuffix.{root, label, pointer}
+use Rattle.dns_label.specs.Name.{IsName}
+use Rattle.dns_name.specs.Spelling.{Spelling, Split, name_text, if_near, known_after}
+use Rattle.dns_name.specs.Remembered.{IsKnown, SpellsName, SpellsLabelled, HasText, StandsIn, IsSound, is_free, patched}
+use Rattle.dns_name.specs.Remembered.SpellsName.{root, label, pointer}
 use Rattle.dns_name.proofs.Known.{known-append_left, known-append_cases, known_before, before_known, length-before, free_cases}
-use Rattle.dns_name.proofs.Spelled.{StopsBefore, IsAdded, added_each, added_few, if_near-known, length-if_near}
+use Rattle.dns_name.proofs.Spelled.{StopsBefore, IsAdded, split_of, added_of, added_each, split_few, split_absent, length-standings, if_near-known, length-if_near}
+use Rattle.dns_name.proofs.Distinct.{AreDistinct-before, AreDistinct-name}
 
 -- what is remembered stops within the octets
 stands-within : (s : Spelling) (known : Known) (octets : List ℕ) (standing : Standing) → StandsIn s known octets standing
@@ -25,26 +27,28 @@ pub merely-within : {s : Spelling} {known : Known} {octets : List ℕ} → ∥ I
 merely-within sound standing is = ∥∥₁_elim sound le_prop (λ sound. sound-within sound standing is)
 
 -- a text stays spelled while its pointers' targets stay remembered
-spells-kept : {s : Spelling} {known more : Known} {place : ℕ} {text suffix : List ℕ}
+spells-kept : {s : Spelling} {known more : Known} {place : ℕ} {text : List ℕ} {name : List (List ℕ)}
     → ((target : Standing) → IsKnown target known → target.stop ≤ place + length text → IsKnown target more)
-    → SpellsSuffix s known place text suffix → SpellsSuffix s more place text suffix
+    → SpellsName s known place text name → SpellsName s more place text name
 spells-kept kept root = root
-spells-kept {place = place} kept (label {behind = behind} text is) =
-    label text (spells-kept (λ target known within. kept target known (omega (arith, length-append text behind, within))) is)
+spells-kept {place = place} kept (label {behind = behind} text other same is) =
+    label text other same (spells-kept (λ target known within. kept target known (omega (arith, length-append text behind, within))) is)
 spells-kept kept (pointer target is before same) = pointer target (kept target is (omega arith)) before same
 
 -- so does one that begins with a label
-labelled-kept : {s : Spelling} {known more : Known} {place : ℕ} {text suffix : List ℕ}
+labelled-kept : {s : Spelling} {known more : Known} {place : ℕ} {text : List ℕ} {name : List (List ℕ)}
     → ((target : Standing) → IsKnown target known → target.stop ≤ place + length text → IsKnown target more)
-    → SpellsLabelled s known place text suffix → SpellsLabelled s more place text suffix
+    → SpellsLabelled s known place text name → SpellsLabelled s more place text name
 labelled-kept {place = place} kept is = record {
+  written = is.written;
   label = is.label;
   behind = is.behind;
   parent = is.parent;
   text_is = is.text_is;
-  suffix_is = is.suffix_is;
+  name_is = is.name_is;
+  same = is.same;
   spelled = spells-kept (λ target known within. kept target known
-      (omega (arith, ap (length {A = ℕ}) is.text_is, length-append is.label is.behind))) is.spelled;
+      (omega (arith, ap (length {A = ℕ}) is.text_is, length-append is.written is.behind))) is.spelled;
 }
 
 -- more octets behind
@@ -60,15 +64,18 @@ pub IsSound-append : {s : Spelling} {known : Known} {octets : List ℕ} (tail : 
     → IsSound s known (octets ++ tail)
 IsSound-append tail sound = record {
   few = sound.few;
+  distinct = sound.distinct;
   each = λ standing is.
       let stands = sound.each standing is in
       record {
+        name = stands.name;
+        is_name = stands.is_name;
+        suffix_is = stands.suffix_is;
         text = stands.text;
         spelled = stands.spelled;
         there = text-append tail stands.there;
         stops = stands.stops;
         near = stands.near;
-        longer = stands.longer;
       };
 }
 
@@ -97,18 +104,21 @@ pub IsSound-before : {s : Spelling} {known : Known} {octets : List ℕ} (len : �
     → IsSound s (before len known) (take len octets)
 IsSound-before {s} {known} len sound = record {
   few = within-less s.most (length (before len known)) (length known) (length-before len known) sound.few;
+  distinct = AreDistinct-before s len known sound.distinct;
   each = λ standing is.
       let was = known_before len known standing is in
       let stands = sound.each standing was.0 in
       let stops = stands.stops in
       let ends = was.1 in
       record {
+        name = stands.name;
+        is_name = stands.is_name;
+        suffix_is = stands.suffix_is;
         text = stands.text;
         spelled = labelled-kept (λ target there within. before_known len known target there (omega arith)) stands.spelled;
         there = text-take len (omega arith) stands.there;
         stops = stands.stops;
         near = stands.near;
-        longer = stands.longer;
       };
 }
 
@@ -119,6 +129,9 @@ added_stands : (s : Spelling) (known : Known) (octets : List ℕ) (name : List (
     → StandsIn s (known_after s known (length octets) name) (octets ++ name_text s known (length octets) name) standing
 unfolding known_after
 added_stands s known octets name standing is near = record {
+  name = is.name;
+  is_name = is.is_name;
+  suffix_is = is.suffix_is;
   text = is.behind;
   spelled = labelled-kept (λ target there within. known-append_left _ there) is.spelled;
   there = record {
@@ -130,41 +143,46 @@ added_stands s known octets name standing is near = record {
   };
   stops = omega (arith, ap (length {A = ℕ}) is.whole, length-append is.front is.behind, is.begins, is.stops);
   near = near;
-  longer = is.longer;
 }
 
-pub IsSound-name : {s : Spelling} {known : Known} {octets : List ℕ} (name : List (List ℕ)) → IsSound s known octets
+pub IsSound-name : {s : Spelling} {known : Known} {octets : List ℕ} (name : List (List ℕ)) → IsName name → IsSound s known octets
     → IsSound s (known_after s known (length octets) name) (octets ++ name_text s known (length octets) name)
 unfolding known_after name_text
-IsSound-name {s} {known} {octets} name sound = record {
-  few = within-less s.most (length (known ++ if_near added)) (length known + length added)
-      (omega (arith, length-append known (if_near added), length-if_near added))
-      (added_few s known (length known) (length octets) stop name sound.few);
+IsSound-name {s} {known} {octets} name is_name sound = record {
+  few = within-less s.most (length (known ++ if_near added)) (length known + length split.labels)
+      (omega (arith, length-append known (if_near added), length-if_near added, length-standings s (length octets) stop split.labels split.suffix))
+      (split_few s known (length known) (length octets) name sound.few);
+  distinct = AreDistinct-name s known (length octets) stop split.labels split.suffix (split_absent s known (length known) (length octets) name) sound.distinct;
   each = λ standing is. cases standing (known-append_cases known (if_near added) is);
 }
   where
+    split : Split
+    split = split_of s known (length octets) name
+
     stop : ℕ
     stop = length octets + length (name_text s known (length octets) name)
 
     added : Known
-    added = added_from s known (length known) (length octets) stop name
+    added = added_of s known (length octets) name
 
     cases : (standing : Standing) → IsKnown standing known ⊎ IsKnown standing (if_near added)
         → StandsIn s (known_after s known (length octets) name) (octets ++ name_text s known (length octets) name) standing
     cases standing (inl is) =
         let stands = sound.each standing is in
         record {
+          name = stands.name;
+          is_name = stands.is_name;
+          suffix_is = stands.suffix_is;
           text = stands.text;
           spelled = labelled-kept (λ target there within. known-append_left _ there) stands.spelled;
           there = text-append _ stands.there;
           stops = stands.stops;
           near = stands.near;
-          longer = stands.longer;
         }
     cases standing (inr is) =
         let both = if_near-known added standing is in
         added_stands s known octets name standing
-        (added_each s known (length known) (length octets) stop name (sound-within sound) standing both.0) both.1
+        (added_each s known (length octets) name is_name (sound-within sound) standing both.0) both.1
 
 -- octets are written over others, where no suffix is spelled
 pub text-patch : {octets : List ℕ} {place : ℕ} {text : List ℕ} (begin : ℕ) (over : List ℕ) → begin + length over ≤ length octets
@@ -196,15 +214,18 @@ pub IsSound-patch : {s : Spelling} {known : Known} {octets : List ℕ} (begin : 
     → is_free begin (begin + length over) known ≡ true → IsSound s known octets → IsSound s known (patched octets begin over)
 IsSound-patch {s} {known} {octets} begin over within free sound = record {
   few = sound.few;
+  distinct = sound.distinct;
   each = λ standing is.
       let stands = sound.each standing is in
       record {
+        name = stands.name;
+        is_name = stands.is_name;
+        suffix_is = stands.suffix_is;
         text = stands.text;
         spelled = stands.spelled;
         there = text-patch begin over within (ends standing (length stands.text) stands.stops (free_cases begin (begin + length over) known free standing is)) stands.there;
         stops = stands.stops;
         near = stands.near;
-        longer = stands.longer;
       };
 }
   where

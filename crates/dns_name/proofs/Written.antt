@@ -4,9 +4,9 @@ use Rattle.dns_label.proofs.Spelling.{drop_behind}
 use Rattle.dns_label.specs.Name.{IsName, wire}
 use Rattle.dns_label.specs.Labels.{labels_at}
 use Rattle.dns_label.specs.Split.{StartsWithLabel, StartsWithPointer}
-use Rattle.dns_name.specs.Parsed.{IsReadAt, IsWrittenAt}
-use Rattle.dns_name.proofs.Readable.{read-name}
-use Rattle.dns_name.proofs.Flat.{same_front}
+use Rattle.dns_wire.specs.Parsed.{IsReadAt, IsWrittenAt}
+use Rattle.dns_wire.proofs.Readable.{read-name}
+use Rattle.dns_wire.proofs.Flat.{same_front}
 
 -- octets begin with the wire form of a name
 abbrev Begins : List ℕ → List (List ℕ) → Type 0

@@ -2,7 +2,7 @@
 use Rattle.std.specs.Prelude.{ℕ, List}
 use denote.Ref.{Bor}
 use Rattle.dns_label.specs.Labels.{labels_at}
-use Rattle.dns_name.specs.Parsed.{IsWrittenAt}
+use Rattle.dns_wire.specs.Parsed.{IsWrittenAt}
 use Rattle.dns_name.specs.declared.parsed.ParsedName.{ParsedName}
 
 -- the labels without the root's, where `list` says which octets are held

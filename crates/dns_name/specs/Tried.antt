@@ -1,21 +1,9 @@
 -- The definitions tried on names that are written one after another.
 use Rattle.std.specs.Prelude.{◌≡◌, ◌+◌, ℕ, zero, suc, true, false, Some, None, List, [], ◌∷◌, ◌++◌, length, take, drop, refl}
 use Rattle.dns_octets.specs.Builder.{before}
-use Rattle.dns_name.specs.Spelling.{Spelling, plain, text_from, added_from, name_text, known_after}
+use Rattle.dns_name.specs.Spelling.{Spelling, plain, static_spelling, tree_spelling, hash_spelling, split_from, name_text, known_after}
 use Rattle.dns_name.specs.Page.{Page, write, with_name}
 use Rattle.dns_name.specs.Page.Parts.{End, Named, Octets, Counted}
-
--- at most 24 suffixes, the same up to case
-abbrev pub table : Spelling
-table = record { folds = true; most = Some 24; far = false }
-
--- any number of suffixes, the same octet for octet
-abbrev pub exact : Spelling
-exact = record { folds = false; most = None; far = false }
-
--- any number of suffixes, the same up to case, and of a name all or none
-abbrev pub hashed : Spelling
-hashed = record { folds = true; most = None; far = true }
 
 abbrev pub empty : Page
 empty = record { octets = []; known = [] }
@@ -36,21 +24,21 @@ cut len page = record { octets = take len page.octets; known = before len page.k
 abbrev pub twice : Spelling → List ℕ
 twice s = (written s empty (two_letters 25 97 ++ ((97 ∷ 97 ∷ []) ∷ []) ∷ ((97 ∷ 121 ∷ []) ∷ []) ∷ [])).octets
 
-pub twice_lengths : (length (twice table) ≡ 106) × (length (twice exact) ≡ 104) × (length (twice hashed) ≡ 104) × (length (twice plain) ≡ 108)
-unfolding text_from added_from name_text known_after
+pub twice_lengths : (length (twice static_spelling) ≡ 106) × (length (twice tree_spelling) ≡ 104) × (length (twice hash_spelling) ≡ 104) × (length (twice plain) ≡ 108)
+unfolding split_from name_text known_after
 twice_lengths = (refl, refl, refl, refl)
 
-pub twice_ends : (drop 100 (twice table) ≡ 192 ∷ 0 ∷ 2 ∷ 97 ∷ 121 ∷ 0 ∷ []) × (drop 100 (twice exact) ≡ 192 ∷ 0 ∷ 192 ∷ 96 ∷ [])
-    × (drop 100 (twice hashed) ≡ 192 ∷ 0 ∷ 192 ∷ 96 ∷ [])
-unfolding text_from added_from name_text known_after
+pub twice_ends : (drop 100 (twice static_spelling) ≡ 192 ∷ 0 ∷ 2 ∷ 97 ∷ 121 ∷ 0 ∷ []) × (drop 100 (twice tree_spelling) ≡ 192 ∷ 0 ∷ 192 ∷ 96 ∷ [])
+    × (drop 100 (twice hash_spelling) ≡ 192 ∷ 0 ∷ 192 ∷ 96 ∷ [])
+unfolding split_from name_text known_after
 twice_ends = (refl, refl, refl)
 
 -- the 25 names, and then `b.aa.`
 abbrev pub below : Spelling → List ℕ
 below s = drop 100 (written s empty (two_letters 25 97 ++ ((98 ∷ []) ∷ (97 ∷ 97 ∷ []) ∷ []) ∷ [])).octets
 
-pub below_ends : (below table ≡ 1 ∷ 98 ∷ 2 ∷ 97 ∷ 97 ∷ 0 ∷ []) × (below exact ≡ 1 ∷ 98 ∷ 192 ∷ 0 ∷ []) × (below hashed ≡ 1 ∷ 98 ∷ 192 ∷ 0 ∷ [])
-unfolding text_from added_from name_text known_after
+pub below_ends : (below static_spelling ≡ 1 ∷ 98 ∷ 2 ∷ 97 ∷ 97 ∷ 0 ∷ []) × (below tree_spelling ≡ 1 ∷ 98 ∷ 192 ∷ 0 ∷ []) × (below hash_spelling ≡ 1 ∷ 98 ∷ 192 ∷ 0 ∷ [])
+unfolding split_from name_text known_after
 below_ends = (refl, refl, refl)
 
 -- `a.b.`, cut to 3 octets, and then `b.` and `a.b.`
@@ -58,8 +46,8 @@ abbrev pub cut_back : Spelling → List ℕ
 cut_back s =
     (written s (cut 3 (written s empty (((97 ∷ []) ∷ (98 ∷ []) ∷ []) ∷ []))) (((98 ∷ []) ∷ []) ∷ ((97 ∷ []) ∷ (98 ∷ []) ∷ []) ∷ [])).octets
 
-pub cut_back_is : (cut_back table ≡ 1 ∷ 97 ∷ 1 ∷ 1 ∷ 98 ∷ 0 ∷ 1 ∷ 97 ∷ 192 ∷ 3 ∷ []) × (cut_back exact ≡ cut_back table) × (cut_back hashed ≡ cut_back table)
-unfolding text_from added_from name_text known_after
+pub cut_back_is : (cut_back static_spelling ≡ 1 ∷ 97 ∷ 1 ∷ 1 ∷ 98 ∷ 0 ∷ 1 ∷ 97 ∷ 192 ∷ 3 ∷ []) × (cut_back tree_spelling ≡ cut_back static_spelling) × (cut_back hash_spelling ≡ cut_back static_spelling)
+unfolding split_from name_text known_after
 cut_back_is = (refl, refl, refl)
 
 -- `a.b.` twice behind 16,382 octets: the place of `b.` is too far for a pointer
@@ -69,26 +57,43 @@ again s =
     let first : List ℕ = name_text s [] 16382 name in
     first ++ name_text s (known_after s [] 16382 name) (16382 + length first) name
 
-pub again_is : (again table ≡ 1 ∷ 97 ∷ 1 ∷ 98 ∷ 0 ∷ 255 ∷ 254 ∷ []) × (again exact ≡ again table)
-    × (again hashed ≡ 1 ∷ 97 ∷ 1 ∷ 98 ∷ 0 ∷ 1 ∷ 97 ∷ 1 ∷ 98 ∷ 0 ∷ [])
-unfolding text_from added_from name_text known_after
+pub again_is : (again static_spelling ≡ 1 ∷ 97 ∷ 1 ∷ 98 ∷ 0 ∷ 255 ∷ 254 ∷ []) × (again tree_spelling ≡ again static_spelling)
+    × (again hash_spelling ≡ 1 ∷ 97 ∷ 1 ∷ 98 ∷ 0 ∷ 1 ∷ 97 ∷ 1 ∷ 98 ∷ 0 ∷ [])
+unfolding split_from name_text known_after
 again_is = (refl, refl, refl)
 
 -- `a.` and `A.`
 abbrev pub two_cases : Spelling → List ℕ
 two_cases s = (written s empty (((97 ∷ []) ∷ []) ∷ ((65 ∷ []) ∷ []) ∷ [])).octets
 
-pub two_cases_are : (two_cases table ≡ 1 ∷ 97 ∷ 0 ∷ 192 ∷ 0 ∷ []) × (two_cases exact ≡ 1 ∷ 97 ∷ 0 ∷ 1 ∷ 65 ∷ 0 ∷ [])
-    × (two_cases hashed ≡ 1 ∷ 97 ∷ 0 ∷ 192 ∷ 0 ∷ []) × (two_cases plain ≡ 1 ∷ 97 ∷ 0 ∷ 1 ∷ 65 ∷ 0 ∷ [])
-unfolding text_from added_from name_text known_after
+pub two_cases_are : (two_cases static_spelling ≡ 1 ∷ 97 ∷ 0 ∷ 192 ∷ 0 ∷ []) × (two_cases tree_spelling ≡ 1 ∷ 97 ∷ 0 ∷ 1 ∷ 65 ∷ 0 ∷ [])
+    × (two_cases hash_spelling ≡ 1 ∷ 97 ∷ 0 ∷ 192 ∷ 0 ∷ []) × (two_cases plain ≡ 1 ∷ 97 ∷ 0 ∷ 1 ∷ 65 ∷ 0 ∷ [])
+unfolding split_from name_text known_after
 two_cases_are = (refl, refl, refl, refl)
 
--- data of two octets and a name behind its length, which counts a pointer where one is written
+-- `B.` and then `a.b.`: what is remembered is in lower case where the spelling folds
+abbrev pub folded : Spelling → Page
+folded s = written s empty (((66 ∷ []) ∷ []) ∷ ((97 ∷ []) ∷ (98 ∷ []) ∷ []) ∷ [])
+
+pub folded_text : ((folded static_spelling).octets ≡ 1 ∷ 66 ∷ 0 ∷ 1 ∷ 97 ∷ 192 ∷ 0 ∷ [])
+    × ((folded tree_spelling).octets ≡ 1 ∷ 66 ∷ 0 ∷ 1 ∷ 97 ∷ 1 ∷ 98 ∷ 0 ∷ [])
+unfolding split_from name_text known_after
+folded_text = (refl, refl)
+
+pub folded_known : ((folded static_spelling).known ≡ record { suffix = 1 ∷ 98 ∷ 0 ∷ []; place = 0; stop = 3 }
+    ∷ record { suffix = 1 ∷ 97 ∷ 1 ∷ 98 ∷ 0 ∷ []; place = 3; stop = 7 } ∷ [])
+    × ((folded hash_spelling).known ≡ (folded static_spelling).known)
+    × ((folded tree_spelling).known ≡ record { suffix = 1 ∷ 66 ∷ 0 ∷ []; place = 0; stop = 3 }
+    ∷ record { suffix = 1 ∷ 97 ∷ 1 ∷ 98 ∷ 0 ∷ []; place = 3; stop = 8 } ∷ record { suffix = 1 ∷ 98 ∷ 0 ∷ []; place = 5; stop = 8 } ∷ [])
+unfolding split_from name_text known_after
+folded_known = (refl, refl, refl)
+
+-- data of two octets and a name after its length, which counts a pointer where one is written
 abbrev pub counted : Spelling → List ℕ
 counted s =
     (write s empty (Named ((97 ∷ []) ∷ []) (Counted (Octets (0 ∷ 10 ∷ []) (Named ((97 ∷ []) ∷ []) End)) (Octets (7 ∷ []) End)))).octets
 
 pub counted_is : (counted plain ≡ 1 ∷ 97 ∷ 0 ∷ 0 ∷ 5 ∷ 0 ∷ 10 ∷ 1 ∷ 97 ∷ 0 ∷ 7 ∷ [])
-    × (counted exact ≡ 1 ∷ 97 ∷ 0 ∷ 0 ∷ 4 ∷ 0 ∷ 10 ∷ 192 ∷ 0 ∷ 7 ∷ [])
-unfolding text_from added_from name_text known_after write
+    × (counted tree_spelling ≡ 1 ∷ 97 ∷ 0 ∷ 0 ∷ 4 ∷ 0 ∷ 10 ∷ 192 ∷ 0 ∷ 7 ∷ [])
+unfolding split_from name_text known_after write
 counted_is = (refl, refl)

@@ -10,7 +10,7 @@ mod in_full;
 mod reference;
 mod vec;
 
-use crate::ToName;
+use dns_flat::ToName;
 use dns_octets::{AppendError, OctetsBuilder, Truncate};
 
 /// A target for messages, which may write a name with a pointer to where a suffix of it stands.

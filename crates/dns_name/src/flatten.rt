@@ -4,7 +4,8 @@ ghost use Rattle.dns_label.specs.Name.{wire};
 ghost use Rattle.dns_octets.specs.Builder.{IsPast};
 ghost use Rattle.dns_octets.specs.declared.error.AppendError.TheVariants.{ShortBuf, BadLength};
 
-use crate::{Chain, Name, ParsedName, ToName, ToRelativeName};
+use crate::ParsedName;
+use dns_flat::{Chain, Name, ToName, ToRelativeName};
 use dns_octets::{AppendError, EmptyBuilder, FromBuilder, Octets};
 use std::alloc::Global;
 
@@ -67,7 +68,7 @@ impl<L: ToRelativeName + Drop, R: ToName + Drop, Octs: FromBuilder> FlattenInto<
 where
     Octs::Builder: EmptyBuilder + Drop,
 {
-    ghost use Rattle.dns_name.specs.ChainParts.{left_of, right_of};
+    ghost use Rattle.dns_flat.specs.ChainParts.{left_of, right_of};
 
     ghost flattens = { λ chain flat. flat ≡ L.labels (left_of chain) ++ R.name (right_of chain) };
 

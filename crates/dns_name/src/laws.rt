@@ -10,14 +10,15 @@ ghost use Rattle.std.specs.declared.cmp.Ordering.TheVariants.{Equal};
 ghost use Rattle.dns_label.specs.Name.{IsName, low, wire};
 ghost use Rattle.dns_label.specs.Spelled.{Reads};
 ghost use Rattle.dns_name.specs.HeadCount.{heads_of};
-ghost use Rattle.dns_name.specs.Order.{labels_order};
-ghost use Rattle.dns_name.specs.Skip.{Skips};
+ghost use Rattle.dns_wire.specs.Order.{labels_order};
+ghost use Rattle.dns_wire.specs.Skip.{Skips};
 ghost use Rattle.dns_name.specs.ParsedName.{labels_in};
-ghost use Rattle.dns_name.specs.Suffix.{EndsWith};
+ghost use Rattle.dns_wire.specs.Suffix.{EndsWith};
 
 mod text;
 
-use crate::{Name, ParsedName};
+use crate::ParsedName;
+use dns_flat::Name;
 use dns_octets::Octets;
 use std::hash::Hash;
 pub use text::{

@@ -3,19 +3,21 @@ ghost use Rattle.std.specs.Prelude.{◌≡◌, ◌≤◌, ◌↔◌, List, ℕ, 
 ghost use Rattle.dns_label.specs.Name.{IsName, wire, with_root};
 ghost use Rattle.dns_label.specs.Spelled.{Reads};
 ghost use Rattle.dns_label.specs.Labels.{labels_at};
-ghost use Rattle.dns_name.specs.Cut.{IsCut};
-ghost use Rattle.dns_name.specs.Parsed.{IsReadAt, StandsAt};
+ghost use Rattle.dns_wire.specs.Cut.{IsCut};
+ghost use Rattle.dns_wire.specs.Parsed.{IsReadAt, StandsAt};
 ghost use Rattle.dns_octets.specs.declared.error.ParseError.TheVariants.{ShortInput};
 
 mod order;
 mod parts;
+mod print;
 mod suffixes;
 
-use crate::parsed_iter::split_label;
-use crate::walk::walk_name;
-use crate::{Name, ParsedNameIter, ToLabelIter, ToName};
+use crate::ParsedNameIter;
+use dns_flat::{Name, ToName};
 use dns_label::Label;
 use dns_octets::{Octets, ParseError, Parser};
+use dns_wire::ToLabelIter;
+use dns_wire::walk::{split_label, walk_name};
 use std::alloc::{AllocError, Global};
 pub use suffixes::ParsedSuffixIter;
 
@@ -52,7 +54,7 @@ impl<'a> ParsedName<&'a [u8]> {
     pub fn parse(parser: &mut Parser<'a>) -> Result<Self, ParseError>
         ensures ok { IfOk result (λ name. Reads (octets_of parser.old) (place_of parser.old) (labels_of name) (place_of parser.new)) }
         ensures err { OnErr result ((name : List (List ℕ)) (next : ℕ) → Reads (octets_of parser.old) (place_of parser.old) name next → ⊥) }
-        ensures short { IfErr result (λ error. (error ≡ ShortInput) ↔ IsCut (octets_of parser.old) 255 255 (place_of parser.old)) }
+        ensures short { IfErr result (λ error. (error ≡ ShortInput) ↔ IsCut (octets_of parser.old) 255 254 (place_of parser.old)) }
         ensures same { octets_of parser.new ≡ octets_of parser.old }
         ensures stays { OnErr result (parser.new ≡ parser.old) }
     {

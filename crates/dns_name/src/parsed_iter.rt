@@ -1,21 +1,21 @@
 //! The labels of names, one after another.
-ghost use Rattle.std.specs.Prelude.{◌≡◌, ◌∷◌, List, ℕ, option_map, slice_get, take};
+ghost use Rattle.std.specs.Prelude.{◌≡◌, List, ℕ, option_map, slice_get, take};
 ghost use Rattle.dns_label.specs.Name.{with_root};
 ghost use Rattle.dns_label.specs.Label.{octets_of};
 ghost use Rattle.dns_label.specs.Labels.{labels_at};
-ghost use Rattle.dns_name.specs.Parsed.{IsReadAt, IsLeft, labels_left};
+ghost use Rattle.dns_wire.specs.Parsed.{IsReadAt, IsLeft, labels_left};
 
-use crate::walk::label_at;
-use dns_label::{Label, SplitLabelError};
+use dns_label::Label;
+use dns_wire::walk::split_label;
 use std::marker::Model;
 
 /// The labels of a name in a message, from the left, the root's last.
 #[derive(Debug, Drop)]
 pub struct ParsedNameIter<'a> {
     octets: &'a [u8],
-    /// Where the next label stands, or None behind the root's.
+    /// Where the next label stands, or `None` after the root's.
     place: Option<usize>,
-    /// How many of the labels from there on are left at most; those behind them were taken from the right.
+    /// How many of the labels from there on are left at most; those after them were taken from the right.
     most: usize,
 }
 
@@ -89,25 +89,5 @@ impl<'a> DoubleEndedIterator for ParsedNameIter<'a> {
         let (front, label) = last?;
         self.most = front;
         Some(label)
-    }
-}
-
-/// The label at the place, pointers followed, and where the next one stands: None behind the root's.
-pub(crate) fn split_label(octets: &[u8], start: usize) -> (Label<'_>, Option<usize>)
-    requires { ∥ IsReadAt octets.now start ∥₁ }
-    ensures left { IsLeft octets.now result.1 }
-    ensures labels { with_root (labels_at octets.now start) ≡ octets_of result.0 ∷ labels_left octets.now result.1 }
-{
-    let mut place = start;
-    loop {
-        match label_at(octets, place) {
-            Ok((label, _)) => {
-                let next = place + 1 + label.len();
-                return (label, if label.is_root() { None } else { Some(next) });
-            }
-            Err(SplitLabelError::Pointer(target)) => place = usize::from(target),
-            Err(SplitLabelError::BadType(_)) => unreachable!(),
-            Err(SplitLabelError::ShortInput) => unreachable!(),
-        }
     }
 }

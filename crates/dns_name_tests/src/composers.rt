@@ -1,9 +1,7 @@
 //! Targets at concrete types, through their bound.
-pub(crate) mod one_suffix;
-
+use crate::one_suffix::{OctetForOctet, OneSuffix, UpToCase};
 use arrayvec::ArrayVec;
 use dns_name::{AppendError, Composer, Name, Octets, OctetsBuilder, Truncate};
-use one_suffix::OneSuffix;
 use std::test::Fail;
 
 /// `a.b.`
@@ -55,7 +53,7 @@ fn a_refused_name_leaves_nothing(rt: HostRuntime) -> Result<(), Fail> {
 
 #[test]
 fn a_remembered_name_becomes_a_pointer(rt: HostRuntime) -> Result<(), Fail> {
-    let mut target = OneSuffix::new(rt.alloc());
+    let mut target = OneSuffix::new(OctetForOctet, rt.alloc());
     assert!(rt; compose_twice(&mut target)?);
     assert!(rt; target.octets() == b"\x00\x00\x01a\x01b\x00\xc0\x02".as_slice());
     target.truncate(7);
@@ -69,6 +67,21 @@ fn a_remembered_name_becomes_a_pointer(rt: HostRuntime) -> Result<(), Fail> {
         compose_name(&mut target, b"\x01b\x00") == Ok(())
             && compose_name(&mut target, b"\x01b\x00") == Ok(())
             && target.octets() == b"\x00\x00\x01a\x01b\x01b\x00\xc0\x06".as_slice()
+    );
+    Ok(())
+}
+
+#[test]
+fn names_are_compared_as_the_target_does(rt: HostRuntime) -> Result<(), Fail> {
+    let mut folding = OneSuffix::new(UpToCase, rt.alloc());
+    let mut exact = OneSuffix::new(OctetForOctet, rt.alloc());
+    for name in [b"\x01a\x01B\x00", b"\x01A\x01b\x00", b"\x01a\x01B\x00"] {
+        compose_name(&mut folding, name)?;
+        compose_name(&mut exact, name)?;
+    }
+    assert!(rt;
+        folding.octets() == b"\x01a\x01B\x00\xc0\x00\xc0\x00".as_slice()
+            && exact.octets() == b"\x01a\x01B\x00\x01A\x01b\x00\xc0\x00".as_slice()
     );
     Ok(())
 }

@@ -1,9 +1,4 @@
-//! Labels, and the symbols in which text writes their octets.
-mod label;
+//! Labels that are changed where they stand, and the symbols of a text in a closure.
 mod lent;
-mod owned;
 mod owned_view;
-mod slice_labels;
-mod symbol;
-mod symbol_show;
 mod symbols;

@@ -1,7 +1,7 @@
 //! Data with a name in it, through the calls that all types of data have (RFC 1035 3.3.11, 4.1.4; RFC 4034 6.2).
 mod server;
 
-use crate::composers::one_suffix::OneSuffix;
+use crate::one_suffix::{OctetForOctet, OneSuffix};
 use arrayvec::ArrayVec;
 use dns_name::{AppendError, ComposeRecordData, Composer, Name, ParsedName, Parser, RecordData};
 use dns_octets::Octets;
@@ -35,7 +35,7 @@ fn names_in_data_are_written_in_full(rt: HostRuntime) -> Result<(), Fail> {
 fn names_in_data_become_pointers(rt: HostRuntime) -> Result<(), Fail> {
     let rdata = Server::new(Name::from_slice(NAME)?);
     assert!(rt; rdata.rdlen(true) == None);
-    let mut target = OneSuffix::new(rt.alloc());
+    let mut target = OneSuffix::new(OctetForOctet, rt.alloc());
     target.append_compressed_name(&Name::from_slice(NAME)?)?;
     (&rdata).compose_rdata(&mut target)?;
     rdata.compose_len_rdata(&mut target)?;

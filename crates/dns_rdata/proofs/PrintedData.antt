@@ -4,7 +4,7 @@ use Rattle.std.specs.Prelude.{if◌then◌else◌, ⊤}
 use Rattle.std.specs.List.{AllByRecursion, AllZip}
 use Rattle.dns_label.specs.declared.symbol.Symbol.TheVariants.{SimpleEscape}
 use Rattle.dns_name.specs.Unknown.{UnknownData}
-use Rattle.dns_scan.specs.declared.base.Base.TheVariants.{Sixteen}
+use Rattle.dns_scan.specs.declared.encoding.base.Base.TheVariants.{Sixteen}
 use Rattle.dns_scan.specs.Base.{Decodes}
 use Rattle.dns_scan.specs.Encodings.{encoded_16}
 use Rattle.dns_scan.specs.StringText.{IsOctet}

@@ -1,5 +1,5 @@
 -- The text of data at one place of a scanner, and at another one where the same names are spelled.
-use Rattle.std.proofs.Common.{◌≡◌, ℕ, Bool, true, false, List, [], ◌∷◌, ◌++◌, Result, Ok, Err, IfOk, IfErr, OnErr, drop, refl, sym, ◌∙◌, ap, subst}
+use Rattle.std.proofs.Common.{◌≡◌, ℕ, Bool, false, List, [], ◌∷◌, Result, Ok, Err, IfOk, IfErr, OnErr, drop, refl, sym, ◌∙◌, ap, subst}
 use Rattle.std.specs.Bool.{IsTrue}
 use Rattle.dns_scan.specs.Token.{Token, IsEnding, SameNames, marker}
 use Rattle.dns_scan.specs.UnknownData.{IsUnknownData}

@@ -1,5 +1,5 @@
--- Data of a zone's records: a row of fields, or octets that are not looked into (RFC 3597).
-use Rattle.std.specs.Prelude.{◌≡◌, ℕ, Bool, true, false, List, [], ◌∷◌, ◌++◌, Option, None, length, nat_eq}
+-- Data of the records of a zone: a row of fields, or opaque octets (RFC 3597).
+use Rattle.std.specs.Prelude.{◌≡◌, ℕ, Bool, true, false, List, [], ◌∷◌, ◌++◌, Option, None, length, nat_eq, ⊤}
 use Rattle.std.proofs.Math.Bool.{beq}
 use Rattle.std.specs.Hash as fed
 use Rattle.std.specs.Ordering.{on, eq_of_both, then_cmp, nat_cmp, bool_cmp}
@@ -21,7 +21,7 @@ use Rattle.dns_fields.specs.Scanned.{ScansData, ScansLong}
 use Rattle.dns_fields.specs.Shown.{data_pieces}
 use Rattle.dns_fields.specs.Written.{written_parts}
 
--- the number of a type with the row of its fields, or data that is not looked into
+-- the number of a type with the row of its fields, or opaque data
 pub data Data : Type 0 where
   typed : ℕ → List Field → Data
   untyped : UnknownData → Data
@@ -30,7 +30,7 @@ abbrev pub number_of : Data → ℕ
 number_of (typed number row) = number
 number_of (untyped unknown) = unknown.number
 
--- whether it is not looked into
+-- whether it is opaque
 abbrev pub is_untyped : Data → Bool
 is_untyped (typed number row) = false
 is_untyped (untyped unknown) = true
@@ -40,7 +40,7 @@ abbrev pub parts_of : Data → Parts
 parts_of (typed number row) = written_parts row
 parts_of (untyped unknown) = Octets unknown.octets End
 
--- the canonical form (RFC 4034 6.2); that of data that is not looked into are its octets
+-- the canonical form (RFC 4034 6.2); that of opaque data is its octets
 abbrev pub canonical_of : Data → List ℕ
 canonical_of (typed number row) = canonical_octets row
 canonical_of (untyped unknown) = unknown.octets
@@ -55,11 +55,11 @@ abbrev pub counted : Data → List (List ℕ)
 counted (typed number row) = keys row
 counted (untyped unknown) = unknown.octets ∷ []
 
--- data is equal of the same type, and alike not looked into or not, of which the same counts
+-- data is equal of the same type, with fields or opaque alike, of which the same counts
 unfoldable pub data_eq : Data → Data → Bool
 data_eq = eq_of_both (on number_of nat_eq) (eq_of_both (on is_untyped beq) (on counted (pointwise (pointwise nat_eq))))
 
--- by type, then fields in front of data that is not looked into, then by what counts
+-- by type, then fields before opaque data, then by what counts
 unfoldable pub data_cmp : Data → Data → Ordering
 data_cmp = then_cmp (on number_of nat_cmp) (then_cmp (on is_untyped bool_cmp) (on counted (slice_cmp (slice_cmp nat_cmp))))
 
@@ -71,6 +71,13 @@ canonical_data_cmp = then_cmp (on number_of nat_cmp) (on canonical_of (slice_cmp
 abbrev pub data_hashed : Data → List (List ℕ)
 data_hashed (typed number row) = fed.u16 number ++ keys row
 data_hashed (untyped unknown) = fed.u16 unknown.number ++ (fed.u16 unknown.number ++ fed.slice fed.u8 unknown.octets)
+
+-- of fields of one type, or both opaque
+abbrev pub AreOfOneKind : Data → Data → Type 0
+AreOfOneKind (typed number row) (typed other fields) = number ≡ other
+AreOfOneKind (typed number row) (untyped other) = ⊥
+AreOfOneKind (untyped unknown) (typed other fields) = ⊥
+AreOfOneKind (untyped unknown) (untyped other) = ⊤
 
 -- the first token is not what marks untyped data
 abbrev pub IsUnmarked : List Token → Type 0
@@ -85,7 +92,7 @@ ScansAnyData names rtype (untyped unknown) tokens left =
     (unknown.number ≡ rtype) × (words : List Token) × (tokens ≡ marker ∷ words) × IsUnknownData words unknown.octets
     × (left ≡ [])
 
--- Where no text of its fields that has too many octets stands in front, none of data of the type does.
+-- If the tokens begin with no text of its fields that has too many octets, they begin with none of data of the type.
 abbrev pub NoAnyDataScans : (List ℕ → List (List ℕ) → Type 0) → ℕ → List Token → Type 0
 NoAnyDataScans names rtype tokens =
     (ScansLong names rtype tokens → ⊥) → (rdata : Data) (left : List Token) → ScansAnyData names rtype rdata tokens left → ⊥
@@ -95,7 +102,7 @@ abbrev pub document_of : Data → List Piece
 document_of (typed number row) = block_of (data_pieces number row)
 document_of (untyped unknown) = block_of (unknown_tokens unknown.octets)
 
--- a field holds more octets than the bound, or there are more that are not looked into
+-- a field holds more octets than the bound, or opaque data has more
 abbrev pub HoldsPast : Option ℕ → Data → Type 0
 HoldsPast bound (typed number row) = OneIsPast bound row
 HoldsPast bound (untyped unknown) = IsPast bound (length unknown.octets)

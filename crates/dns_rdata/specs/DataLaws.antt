@@ -12,8 +12,6 @@ use Rattle.std.proofs.Math.Bool.{beq}
 use Rattle.std.specs.Hash as fed
 use Rattle.std.specs.Ordering.{is_eq, nat_cmp, bool_cmp}
 use lib.Pointwise.{pointwise_decides, bytes_decides}
-use Rattle.dns_name.specs.Unknown.{UnknownData}
-use Rattle.dns_fields.specs.Fields.{Field}
 use Rattle.dns_rdata.specs.Data.{Data, typed, untyped, number_of, is_untyped, counted, data_eq, data_cmp, data_hashed}
 
 pub data_equivalent : IsEquivalence data_eq

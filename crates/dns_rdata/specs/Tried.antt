@@ -1,6 +1,6 @@
 -- The definitions tried on data that is written out.
-use Rattle.std.specs.Prelude.{◌≡◌, ℕ, List, [], ◌∷◌, refl}
-use Rattle.dns_rdata.specs.Fields.{number16, number32, ipv4, compressible, uncompressed, string, octets, canonical_octets}
+use Rattle.std.specs.Prelude.{◌≡◌, [], ◌∷◌, refl}
+use Rattle.dns_rdata.specs.Fields.{number16, number32, compressible, uncompressed, octets, canonical_octets}
 
 -- `SOA b. c. 1 2 3 4 5`
 pub soa_octets : octets (compressible ((98 ∷ []) ∷ []) ∷ compressible ((99 ∷ []) ∷ []) ∷ number32 1 ∷ number32 2 ∷ number32 3

@@ -1,5 +1,4 @@
 -- What a value of data of any type is seen as.
-use Rattle.std.specs.Prelude.{ℕ, List}
 use Rattle.dns_rdata.specs.Data.{Data, typed, untyped}
 use Rattle.dns_rdata.specs.declared.zone_record_data.ZoneRecordData.{ZoneRecordData}
 use Rattle.dns_rdata.specs.declared.zone_record_data.ZoneRecordData.TheVariants.{A, Ns, Md, Mf, Cname, Soa, Mb, Mg, Mr, Ptr, Hinfo, Minfo, Mx, Txt, Rp, Aaaa, Srv, Ds, Dnskey, Caa, Unknown}

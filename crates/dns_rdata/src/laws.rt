@@ -17,11 +17,11 @@ pub use dns_fields::laws::{
 use dns_text::Scanner;
 use dns_text::laws::printed_documents_split;
 
-/// What data of any type is printed as, in fields or as octets that are not looked into (RFC 3597 5), scans back as this data
-/// and as no other. It is the document of a `ZoneRecordData`.
+/// What data of any type is printed as, in fields or as opaque octets (RFC 3597 5), scans back as this data and as no other. It
+/// is the document of a `ZoneRecordData`.
 ///
 /// `written`: it has tokens, unless a tag in it is empty, which is printed as no text. `splits`: under each layout its text, with
-/// a line end behind it, is one row of these tokens, and splits in no other way. `scans`: they are scanned as this data, with
+/// a line end after it, is one row of these tokens, and splits in no other way. `scans`: they are scanned as this data, with
 /// none left, where a name is spelled for the scanner by the text that it is printed as (RFC 1035 5.1). `alone`: where a text is
 /// one name at most, they are scanned as no other data of the type, nor with tokens left.
 pub fn printed_data_of_any_type_scans_back<S: Scanner>(scanner: &S)
@@ -41,8 +41,8 @@ pub fn printed_data_of_any_type_scans_back<S: Scanner>(scanner: &S)
     tokens_scan_as_one_row(scanner);
 }
 
-/// Tokens begin with data of a type in one way, in fields or not looked into, where a text is one name at most to the scanner: as
-/// one data, with the same tokens left.
+/// Tokens begin with data of a type in one way, in fields or opaque, where a text is one name at most to the scanner: as one
+/// data, with the same tokens left.
 pub fn tokens_scan_as_one_data<S: Scanner>(scanner: &S)
     ensures { (rtype : ℕ) (rdata other : Data) (tokens left rest : List Token) → SpellOne (S.names scanner.now)
         → ScansAnyData (S.names scanner.now) rtype rdata tokens left → ScansAnyData (S.names scanner.now) rtype other tokens rest

@@ -1,19 +1,14 @@
-//! Record data: rows of fields, by one table of the types (RFC 1035 3.3 and 3.4, and the RFCs of the later types).
+//! Record data of the types that a zone has (RFC 1035 3.3 and 3.4, and the RFCs of the later types).
 //!
-//! Each type of data is a struct that holds its row; `ZoneRecordData` is data of any type. The parts of this crate, which
-//! it hands on, are `dns_fields`, `dns_rr_names` and `dns_rr_octets`.
+//! Data of a type is a row of fields, by one table of the types; `ZoneRecordData` is data of any type. The parts of this
+//! crate, which it hands on, are `dns_fields`, as `rows`, `dns_rr_names` and `dns_rr_octets`.
 #![tactic(auto)]
 
 pub mod laws;
+pub mod rows;
 mod zone_record_data;
 
-pub use dns_fields::{
-    CanonicalOctetsOrd, Compressible, ConvertField, ConvertRow, FieldValue, FrontField, FrontRow,
-    Last, LastValue, ReadError, ReadField, ReadRow, Rest16, Rest64, RestText, Row, ScanField,
-    ScanRow, ShowField, ShowRow, SoaRow, Strings, StringsIter, Tag, Uncompressed,
-    canonical_row_cmp_octets, compose_canonical_row, compose_row, parse_row, row_len, scan_row,
-    show_row, show_soa_row,
-};
+pub use dns_fields::CanonicalOctetsOrd;
 pub use dns_rr_names::{Cname, Mb, Md, Mf, Mg, Minfo, Mr, Mx, Ns, Ptr, Rp, Soa, Srv};
 pub use dns_rr_octets::{
     A, Aaaa, Caa, Dnskey, Ds, Hinfo, Txt, TxtAppendError, TxtBuilder, TxtCharStrIter, TxtError,

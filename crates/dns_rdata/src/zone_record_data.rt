@@ -1,85 +1,28 @@
 //! Data of any type.
-ghost use Rattle.std.specs.Prelude.{◌≡◌};
-ghost use Rattle.dns_rdata.specs.Data.{number_of, parts_of, canonical_of};
+ghost use Rattle.std.specs.Prelude.{◌≡◌, false, IfSome, IfNone};
+ghost use Rattle.dns_rdata.specs.Data.{untyped, number_of, is_untyped};
 ghost use Rattle.dns_rdata.specs.ZoneData.{data_of};
 
 use crate::{
     A, Aaaa, Caa, Cname, Dnskey, Ds, Hinfo, Mb, Md, Mf, Mg, Minfo, Mr, Mx, Ns, Ptr, Rp, Soa, Srv,
     Txt,
 };
-use dns_name::{
-    AppendError, ComposeRecordData, Composer, Octets, RecordData, Rtype, ToName, UnknownRecordData,
-};
-
-/// Runs an expression on the data of whichever variant a value is.
-macro_rules! of_variant {
-    ($value:expr, $rdata:ident => $answer:expr) => {
-        match $value {
-            ZoneRecordData::A($rdata) => $answer,
-            ZoneRecordData::Ns($rdata) => $answer,
-            ZoneRecordData::Md($rdata) => $answer,
-            ZoneRecordData::Mf($rdata) => $answer,
-            ZoneRecordData::Cname($rdata) => $answer,
-            ZoneRecordData::Soa($rdata) => $answer,
-            ZoneRecordData::Mb($rdata) => $answer,
-            ZoneRecordData::Mg($rdata) => $answer,
-            ZoneRecordData::Mr($rdata) => $answer,
-            ZoneRecordData::Ptr($rdata) => $answer,
-            ZoneRecordData::Hinfo($rdata) => $answer,
-            ZoneRecordData::Minfo($rdata) => $answer,
-            ZoneRecordData::Mx($rdata) => $answer,
-            ZoneRecordData::Txt($rdata) => $answer,
-            ZoneRecordData::Rp($rdata) => $answer,
-            ZoneRecordData::Aaaa($rdata) => $answer,
-            ZoneRecordData::Srv($rdata) => $answer,
-            ZoneRecordData::Ds($rdata) => $answer,
-            ZoneRecordData::Dnskey($rdata) => $answer,
-            ZoneRecordData::Caa($rdata) => $answer,
-            ZoneRecordData::Unknown($rdata) => $answer,
-        }
-    };
-}
-
-/// Runs an expression on the data of two values of the same variant, and another one where they are of two.
-macro_rules! of_both {
-    ($value:expr, $other:expr, ($one:ident, $two:ident) => $answer:expr, _ => $unlike:expr) => {
-        match ($value, $other) {
-            (ZoneRecordData::A($one), ZoneRecordData::A($two)) => $answer,
-            (ZoneRecordData::Ns($one), ZoneRecordData::Ns($two)) => $answer,
-            (ZoneRecordData::Md($one), ZoneRecordData::Md($two)) => $answer,
-            (ZoneRecordData::Mf($one), ZoneRecordData::Mf($two)) => $answer,
-            (ZoneRecordData::Cname($one), ZoneRecordData::Cname($two)) => $answer,
-            (ZoneRecordData::Soa($one), ZoneRecordData::Soa($two)) => $answer,
-            (ZoneRecordData::Mb($one), ZoneRecordData::Mb($two)) => $answer,
-            (ZoneRecordData::Mg($one), ZoneRecordData::Mg($two)) => $answer,
-            (ZoneRecordData::Mr($one), ZoneRecordData::Mr($two)) => $answer,
-            (ZoneRecordData::Ptr($one), ZoneRecordData::Ptr($two)) => $answer,
-            (ZoneRecordData::Hinfo($one), ZoneRecordData::Hinfo($two)) => $answer,
-            (ZoneRecordData::Minfo($one), ZoneRecordData::Minfo($two)) => $answer,
-            (ZoneRecordData::Mx($one), ZoneRecordData::Mx($two)) => $answer,
-            (ZoneRecordData::Txt($one), ZoneRecordData::Txt($two)) => $answer,
-            (ZoneRecordData::Rp($one), ZoneRecordData::Rp($two)) => $answer,
-            (ZoneRecordData::Aaaa($one), ZoneRecordData::Aaaa($two)) => $answer,
-            (ZoneRecordData::Srv($one), ZoneRecordData::Srv($two)) => $answer,
-            (ZoneRecordData::Ds($one), ZoneRecordData::Ds($two)) => $answer,
-            (ZoneRecordData::Dnskey($one), ZoneRecordData::Dnskey($two)) => $answer,
-            (ZoneRecordData::Caa($one), ZoneRecordData::Caa($two)) => $answer,
-            (ZoneRecordData::Unknown($one), ZoneRecordData::Unknown($two)) => $answer,
-            _ => $unlike,
-        }
-    };
-}
+use dns_name::{Octets, RecordData, Rtype, ToName, UnknownRecordData};
 
 mod canonical;
 mod compare;
+mod compose;
 mod convert;
 mod parse;
 mod scan;
 mod show;
+mod visit;
 
-/// Data of a record of a zone: the fields of one of the types that have some, or data of any type as its octets.
+use visit::{TypedData, Visit};
+
+/// Data of a record of a zone: the fields of one of the types that have some, or data of any type as opaque octets.
 ///
-/// A contract sees it by `data_of`: as the number of the type with a row of fields, or untyped.
+/// A contract sees it as the number of the type with a row of fields, or as opaque data.
 #[derive(Debug, Drop)]
 pub enum ZoneRecordData<Octs: Octets, N: ToName> {
     /// An address of version 4 (RFC 1035 3.4.1).
@@ -92,7 +35,7 @@ pub enum ZoneRecordData<Octs: Octets, N: ToName> {
     Mf(Mf<N>),
     /// The name of which the owner is an alias (RFC 1035 3.3.1).
     Cname(Cname<N>),
-    /// What a zone begins with (RFC 1035 3.3.13).
+    /// The start of a zone (RFC 1035 3.3.13).
     Soa(Soa<N>),
     /// A host with a mailbox (RFC 1035 3.3.3).
     Mb(Mb<N>),
@@ -126,32 +69,47 @@ pub enum ZoneRecordData<Octs: Octets, N: ToName> {
     Unknown(UnknownRecordData<Octs>),
 }
 
+impl<Octs: Octets, N: ToName> ZoneRecordData<Octs, N> {
+    /// Returns the data if it is opaque.
+    fn as_opaque(&self) -> Option<&UnknownRecordData<Octs>>
+        ensures some { IfSome result (λ unknown. data_of self.now ≡ untyped unknown.now) }
+        ensures none { IfNone result (is_untyped (data_of self.now) ≡ false) }
+    {
+        match self {
+            ZoneRecordData::Unknown(unknown) => Some(unknown),
+            _ => None,
+        }
+    }
+
+    /// Whether the data is opaque.
+    fn is_opaque(&self) -> bool
+        ensures { result ≡ is_untyped (data_of self.now) }
+    {
+        self.as_opaque().is_some()
+    }
+}
+
 impl<Octs: Octets, N: ToName> RecordData for ZoneRecordData<Octs, N> {
     ghost rtype = { λ rdata. number_of (data_of rdata) };
 
     fn rtype(&self) -> Rtype {
-        of_variant!(self, rdata => rdata.rtype())
+        self.visit::<OfType, ()>(&mut ())
     }
 }
 
-/// Writes the fields, or the octets as they are.
-impl<Octs: Octets, N: ToName> ComposeRecordData for ZoneRecordData<Octs, N> {
-    ghost parts = { λ rdata. parts_of (data_of rdata) };
+/// The type of the data.
+pub struct OfType;
 
-    ghost canonical_octets = { λ rdata. canonical_of (data_of rdata) };
+impl Visit<()> for OfType {
+    type Answer = Rtype;
 
-    fn rdlen(&self, compress: bool) -> Option<u16> {
-        of_variant!(self, rdata => rdata.rdlen(compress))
+    ghost answers = { λ _ rdata result _. result ≡ number_of rdata };
+
+    fn fields<D: TypedData>(rdata: &D, _state: &mut ()) -> Rtype {
+        Rtype::from_int(rdata.number())
     }
 
-    fn compose_rdata<Target: Composer>(&self, target: &mut Target) -> Result<(), AppendError> {
-        of_variant!(self, rdata => rdata.compose_rdata(target))
-    }
-
-    fn compose_canonical_rdata<Target: Composer>(
-        &self,
-        target: &mut Target,
-    ) -> Result<(), AppendError> {
-        of_variant!(self, rdata => rdata.compose_canonical_rdata(target))
+    fn opaque<Octs: Octets>(rdata: &UnknownRecordData<Octs>, _state: &mut ()) -> Rtype {
+        rdata.rtype()
     }
 }

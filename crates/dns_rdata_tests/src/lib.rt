@@ -1,6 +1,6 @@
-//! Tests of `dns_rdata`, `dns_fields`, `dns_rr_names` and `dns_rr_octets` by outside examples.
+//! Tests of `dns_rdata` that a row of `dns_rdata_rows` cannot say: the calls of each type, and octets of several kinds.
 //!
-//! They stand in a crate of their own, so that a check of the tests doesn't check these crates once more.
+//! They stand in a crate of their own, so that a check of the tests doesn't check `dns_rdata` once more.
 #![tactic(auto)]
 
 #[cfg(test)]
@@ -9,7 +9,5 @@ mod fields;
 mod names;
 #[cfg(test)]
 mod octets;
-#[cfg(test)]
-mod vectors;
 #[cfg(test)]
 mod zone_data;

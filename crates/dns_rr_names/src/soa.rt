@@ -1,58 +1,17 @@
 //! Data of type SOA (RFC 1035 3.3.13).
-ghost use Rattle.std.specs.Prelude.{◌≡◌, ◌==◌, List, [], ◌∷◌, false, Some, Err, IfOk, IfErr, OnOk, OnErr, ◌↔◌, IsErrOf};
-ghost use Rattle.std.specs.Ordering.{as_partial_cmp};
-ghost use Rattle.std.proofs.Common.{refl};
-ghost use Rattle.dns_fields.specs.Fields.{Field, compressible, number32, canonical_octets, field_at};
-ghost use Rattle.dns_fields.specs.Alike.{keys, rows_eq, rows_cmp, canonical_rows_cmp};
-ghost use Rattle.dns_fields.specs.AlikeLaws.{rows_equivalent, rows_partly_equivalent, rows_total, rows_ties, rows_order, rows_alike};
-ghost use Rattle.dns_fields.specs.Held.{OneIsPast};
-ghost use Rattle.dns_fields.specs.Reading.{ReadsRow, NoRow, IsCutRow};
-ghost use Rattle.dns_fields.specs.Scanned.{ScansData, NoDataScans};
-ghost use Rattle.dns_fields.specs.Shown.{data_pieces};
-ghost use Rattle.dns_fields.specs.Written.{written_parts};
-ghost use Rattle.dns_name.specs.RecordData.{IsAtEnd};
-ghost use Rattle.dns_octets.specs.declared.error.AppendError.TheVariants.{ShortBuf, BadLength};
-ghost use Rattle.dns_octets.specs.Parser.{octets_of, place_of};
-ghost use Rattle.dns_octets.specs.declared.error.ParseError.TheVariants.{ShortInput};
-ghost use Rattle.dns_scan.specs.Token.{IsEnding, SameNames};
-ghost use Rattle.dns_text.specs.Document.{document_text};
-ghost use Rattle.dns_text.specs.Document.Layout.{Simple};
-ghost use Rattle.dns_text.specs.Documents.{block_of};
+ghost use Rattle.std.specs.Prelude.{◌≡◌, [], ◌∷◌, Some};
+ghost use Rattle.dns_fields.specs.Fields.{compressible, number32, field_at};
 
-use dns_fields::{
-    CanonicalOctetsOrd, Compressible, ConvertRow, Row, SoaRow, canonical_row_cmp_octets,
-    compose_canonical_row, compose_row, parse_row, row_len, scan_row, show_soa_row,
-};
-use dns_name::{
-    AppendError, CanonicalOrd, ComposeRecordData, Composer, EmptyBuilder, FlattenInto, FromBuilder,
-    Name, OctetsFrom, ParseError, ParseRecordData, ParsedName, Parser, RecordData, Rtype, Serial,
-    ToName, Ttl,
-};
-use dns_text::{DisplayKind, Formatter, Scanner, ZonefileFmt};
-use std::alloc::Global;
-use std::cmp::Ordering;
-use std::fmt;
-use std::hash::{Hash, Hasher};
-use std::marker::Model;
+use crate::RowData;
+use dns_fields::{Compressible, Number, SoaRow};
+use dns_name::{Serial, ToName, Ttl};
+use std::marker::PhantomData;
 
 /// The start of a zone: where it comes from, and how copies of it are kept.
-///
-/// A contract sees it as its row of fields.
-#[derive(Debug, Drop)]
-pub struct Soa<N: ToName> {
-    row: SoaRow<N>,
-}
+pub type Soa<N> = RowData<Number<6>, SoaRow<N>>;
 
-impl<N: ToName> Model for Soa<N> {
-    ghost Value = { List Field };
-
-    ghost view = { λ rdata. compressible (N.name rdata.row.0.0) ∷ compressible (N.name rdata.row.1.0.0)
-        ∷ number32 rdata.row.1.1.0 ∷ number32 rdata.row.1.1.1.0 ∷ number32 rdata.row.1.1.1.1.0
-        ∷ number32 rdata.row.1.1.1.1.1.0 ∷ number32 rdata.row.1.1.1.1.1.1.0 ∷ [] };
-}
-
-impl<N: ToName> Soa<N> {
-    /// The two names, the number and the four times.
+impl<N: ToName> RowData<Number<6>, SoaRow<N>> {
+    /// Returns the data of two names, the number of the version and four times.
     pub fn new(
         mname: N,
         rname: N,
@@ -65,7 +24,7 @@ impl<N: ToName> Soa<N> {
         ensures { result ≡ compressible (N.name mname) ∷ compressible (N.name rname) ∷ number32 serial
             ∷ number32 refresh ∷ number32 retry ∷ number32 expire ∷ number32 minimum ∷ [] }
     {
-        Soa {
+        RowData {
             row: (
                 Compressible(mname),
                 (
@@ -79,10 +38,11 @@ impl<N: ToName> Soa<N> {
                     ),
                 ),
             ),
+            rtype: PhantomData,
         }
     }
 
-    /// The name of the host that the zone comes from.
+    /// Returns the name of the host that the zone comes from.
     pub fn mname(&self) -> &N
         ensures { field_at 0 self.now ≡ Some (compressible (N.name result.now)) }
     {
@@ -90,7 +50,7 @@ impl<N: ToName> Soa<N> {
         &mname.0
     }
 
-    /// The mailbox of who is responsible for the zone, written as a name.
+    /// Returns the mailbox of who is responsible for the zone, written as a name.
     pub fn rname(&self) -> &N
         ensures { field_at 1 self.now ≡ Some (compressible (N.name result.now)) }
     {
@@ -98,7 +58,7 @@ impl<N: ToName> Soa<N> {
         &rname.0
     }
 
-    /// The number of this version of the zone.
+    /// Returns the number of this version of the zone.
     pub fn serial(&self) -> Serial
         ensures { field_at 2 self.now ≡ Some (number32 result) }
     {
@@ -106,7 +66,7 @@ impl<N: ToName> Soa<N> {
         Serial(*serial)
     }
 
-    /// How long a copy waits before it is refreshed.
+    /// Returns how long a copy waits before it is refreshed.
     pub fn refresh(&self) -> Ttl
         ensures { field_at 3 self.now ≡ Some (number32 result) }
     {
@@ -114,7 +74,7 @@ impl<N: ToName> Soa<N> {
         Ttl::from_secs(*refresh)
     }
 
-    /// How long it waits before a refresh that failed is tried again.
+    /// Returns how long it waits before a refresh that failed is tried again.
     pub fn retry(&self) -> Ttl
         ensures { field_at 4 self.now ≡ Some (number32 result) }
     {
@@ -122,7 +82,7 @@ impl<N: ToName> Soa<N> {
         Ttl::from_secs(*retry)
     }
 
-    /// How long a copy stands that cannot be refreshed.
+    /// Returns how long a copy stands that cannot be refreshed.
     pub fn expire(&self) -> Ttl
         ensures { field_at 5 self.now ≡ Some (number32 result) }
     {
@@ -130,203 +90,11 @@ impl<N: ToName> Soa<N> {
         Ttl::from_secs(*expire)
     }
 
-    /// How long it may be kept that something is not there (RFC 2308 4).
+    /// Returns how long it may be kept that something is not there (RFC 2308 4).
     pub fn minimum(&self) -> Ttl
         ensures { field_at 6 self.now ≡ Some (number32 result) }
     {
         let (_, (_, (_, (_, (_, (_, (minimum, ()))))))) = &self.row;
         Ttl::from_secs(*minimum)
-    }
-}
-
-impl<'a> Soa<ParsedName<&'a [u8]>> {
-    /// Reads the data up to the end of the parser. Refused where what is left is no SOA data, with `ShortInput` exactly
-    /// where the octets end too early for it; the parser then stays where it is.
-    pub fn parse(parser: &mut Parser<'a>) -> Result<Self, ParseError>
-        ensures ok { IfOk result (λ rdata. ReadsRow 6 (octets_of parser.old) (place_of parser.old) rdata) }
-        ensures end { OnOk result (IsAtEnd parser.old parser.new) }
-        ensures no_data { OnErr result (NoRow 6 (octets_of parser.old) (place_of parser.old)) }
-        ensures short { IsErrOf result ShortInput ↔ IsCutRow 6 (octets_of parser.old) (place_of parser.old) }
-        ensures err { OnErr result (parser.new ≡ parser.old) }
-    {
-        Ok(Soa {
-            row: parse_row::<_, 6>(parser)?,
-        })
-    }
-}
-
-impl<N: ToName + Drop> Soa<N> {
-    /// Reads the data from the tokens in front, and takes these. Tokens behind the last field stay (RFC 1035 5.1).
-    ///
-    /// Refused with an error other than `short_buf` only where no SOA data stands in front; the tokens left are then an
-    /// ending of those left before.
-    pub fn scan<S: Scanner<Name = N>>(scanner: &mut S) -> Result<Self, S::Error>
-        ensures ok { IfOk result (λ rdata. ScansData (S.names scanner.old) 6 rdata (S.tokens scanner.old)
-            (S.tokens scanner.new)) }
-        ensures err { IfErr result (λ error. S.Error.is_short error ≡ false
-            → NoDataScans (S.names scanner.old) 6 (S.tokens scanner.old)) }
-        ensures left { OnErr result (IsEnding (S.tokens scanner.new) (S.tokens scanner.old)) }
-        ensures names { SameNames (S.names scanner.old) (S.names scanner.new) }
-    {
-        Ok(Soa {
-            row: scan_row::<_, _, 6>(scanner)?,
-        })
-    }
-}
-
-/// Takes this type alone.
-impl<'a> ParseRecordData<'a> for Soa<ParsedName<&'a [u8]>> {
-    ghost takes = { λ number. number == 6 };
-
-    ghost reads = { λ message place number rdata. ReadsRow number message place rdata };
-
-    fn parse_rdata(rtype: Rtype, parser: &mut Parser<'a>) -> Result<Option<Self>, ParseError> {
-        if rtype != Rtype::SOA {
-            return Ok(None);
-        }
-        Ok(Some(Soa::parse(parser)?))
-    }
-}
-
-/// The same fields over other octets. Refused with `ShortBuf` only where these can't hold as many as a name has, and with
-/// `OutOfMemory` where memory was wanting.
-impl<Source: ToName + Drop, Octs: FromBuilder + Drop> OctetsFrom<Soa<Source>> for Soa<Name<Octs>>
-where
-    Octs::Builder: EmptyBuilder + Drop,
-{
-    ghost octets_from_gives = { λ source result. IfOk result (λ rdata. rdata ≡ source)
-        × (result ≡ Err ShortBuf → OneIsPast Octs.Builder.limit source)
-        × (result ≡ Err BadLength → ⊥) };
-
-    fn try_octets_from(alloc: Global, source: Soa<Source>) -> Result<Self, AppendError> {
-        Ok(Soa {
-            row: ConvertRow::<_, Octs>::convert_fields(&source.row, alloc)?,
-        })
-    }
-}
-
-/// The same fields, their names flat.
-impl<N: ToName + Drop, Octs: FromBuilder + Drop> FlattenInto<Soa<Name<Octs>>> for Soa<N>
-where
-    Octs::Builder: EmptyBuilder + Drop,
-{
-    ghost flattens = { λ rdata flat. flat ≡ rdata };
-
-    ghost is_long = { OneIsPast Octs.Builder.limit };
-
-    fn try_flatten_into(self, alloc: Global) -> Result<Soa<Name<Octs>>, AppendError> {
-        Soa::try_octets_from(alloc, self)
-    }
-}
-
-impl<N: ToName> RecordData for Soa<N> {
-    ghost rtype = { λ _. 6 };
-
-    fn rtype(&self) -> Rtype {
-        Rtype::SOA
-    }
-}
-
-impl<N: ToName> ComposeRecordData for Soa<N> {
-    ghost parts = { written_parts };
-
-    ghost canonical_octets = { canonical_octets };
-
-    fn rdlen(&self, compress: bool) -> Option<u16> {
-        row_len(&self.row, compress)
-    }
-
-    fn compose_rdata<Target: Composer>(&self, target: &mut Target) -> Result<(), AppendError> {
-        compose_row(&self.row, target)
-    }
-
-    fn compose_canonical_rdata<Target: Composer>(
-        &self,
-        target: &mut Target,
-    ) -> Result<(), AppendError> {
-        compose_canonical_row(&self.row, target)
-    }
-}
-
-/// Up to ASCII case (RFC 4343).
-impl<N: ToName> PartialEq for Soa<N> {
-    ghost eq = { rows_eq };
-
-    ghost laws = { rows_partly_equivalent };
-
-    fn eq(&self, other: &Self) -> bool {
-        self.row.fields_eq(&other.row)
-    }
-}
-
-impl<N: ToName> Eq for Soa<N> {
-    ghost laws = { rows_equivalent };
-}
-
-impl<N: ToName> PartialOrd for Soa<N> {
-    ghost partial_cmp = { as_partial_cmp rows_cmp };
-
-    ghost laws = { rows_order };
-
-    fn partial_cmp(&self, other: &Self) -> Option<Ordering> {
-        Some(self.cmp(other))
-    }
-}
-
-impl<N: ToName> Ord for Soa<N> {
-    ghost cmp = { rows_cmp };
-
-    ghost total = { rows_total };
-
-    ghost matches_partial_cmp = { λ _ _. refl };
-
-    ghost matches_eq = { rows_ties };
-
-    fn cmp(&self, other: &Self) -> Ordering {
-        self.row.fields_cmp(&other.row)
-    }
-}
-
-/// The order of the canonical octets (RFC 4034 6.3).
-impl<N: ToName> CanonicalOrd for Soa<N> {
-    ghost canonical = { canonical_rows_cmp };
-
-    fn canonical_cmp(&self, other: &Self) -> Ordering {
-        self.row.canonical_fields_cmp(&other.row)
-    }
-}
-
-/// The same order, beside data that is held as octets.
-impl<N: ToName> CanonicalOctetsOrd for Soa<N> {
-    fn canonical_octets_cmp(&self, octets: &[u8]) -> Ordering {
-        canonical_row_cmp_octets(&self.row, octets)
-    }
-}
-
-impl<N: ToName> Hash for Soa<N> {
-    ghost hash_input = { keys };
-
-    ghost respects_eq = { rows_alike };
-
-    fn hash<H: Hasher>(&self, state: &mut H) {
-        self.row.hash_fields(state);
-    }
-}
-
-/// The tokens of the fields in a block. Behind each number stands a comment that says what it is.
-impl<N: ToName> ZonefileFmt for Soa<N> {
-    ghost document = { λ rdata. block_of (data_pieces 6 rdata) };
-
-    fn fmt<F: Formatter>(&self, formatter: &mut F) -> fmt::Result {
-        show_soa_row(&self.row, formatter)
-    }
-}
-
-/// With one space between two fields.
-impl<N: ToName> fmt::Display for Soa<N> {
-    ghost output = { λ rdata. Some (document_text Simple (block_of (data_pieces 6 rdata))) };
-
-    fn fmt<W: fmt::Write>(&self, f: &mut fmt::Formatter<W>) -> fmt::Result {
-        fmt::Display::fmt(&self.display_zonefile(DisplayKind::Simple), f)
     }
 }

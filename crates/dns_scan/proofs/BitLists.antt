@@ -52,7 +52,7 @@ bits_low (suc count) high low =
     let last : (high * 2 ^ suc count + low) % 2 ≡ low % 2 = omega (arith, product) in
     rw (half, last) (ap (λ l. l ++ (low % 2) ∷ []) (bits_low count high (low / 2)))
 
--- the bits of two numbers, one behind the other
+-- the bits of two numbers, one after the other
 pub bits_join : (count more number other : ℕ) → other < 2 ^ more
     → bits (count + more) (number * 2 ^ more + other) ≡ bits count number ++ bits more other
 bits_join count more number other small =

@@ -5,8 +5,8 @@ use Rattle.std.specs.Str.{chars, IsUtf8}
 use Rattle.dns_label.specs.declared.symbol.Symbol.{Symbol}
 use Rattle.dns_label.specs.declared.symbol.Symbol.TheVariants.{Char}
 use Rattle.dns_label.specs.Symbol.{IsSymbol, spelled}
-use Rattle.dns_scan.specs.declared.base.Base.{Base}
-use Rattle.dns_scan.specs.declared.entry_symbol.EntrySymbol.{EntrySymbol}
+use Rattle.dns_scan.specs.declared.encoding.base.Base.{Base}
+use Rattle.dns_scan.specs.declared.symbols.entry_symbol.EntrySymbol.{EntrySymbol}
 use Rattle.dns_scan.specs.Base.{Decodes, DecodesOnly}
 use Rattle.dns_scan.specs.Converted.{Deciphers}
 use Rattle.dns_scan.specs.Symbols.{AreWritten, HasMarked, marked, symbols_in}

@@ -7,8 +7,8 @@ use Rattle.std.specs.Str.{chars, IsUtf8}
 use Rattle.std.proofs.lemmas.Str.{chars-IsAscii, encodes-chars, encodes-IsAscii}
 use Rattle.dns_label.specs.declared.symbol.Symbol.TheVariants.{Char}
 use Rattle.dns_label.specs.Symbol.{IsSymbol, IsPrintable, spelled}
-use Rattle.dns_scan.specs.declared.base.Base.{Base}
-use Rattle.dns_scan.specs.declared.base.Base.TheVariants.{Sixteen, ThirtyTwoHex, SixtyFour}
+use Rattle.dns_scan.specs.declared.encoding.base.Base.{Base}
+use Rattle.dns_scan.specs.declared.encoding.base.Base.TheVariants.{Sixteen, ThirtyTwoHex, SixtyFour}
 use Rattle.dns_scan.specs.Base.{IsCharacter, IsTextOf, Decodes, DecodesOnly, digit_64}
 use Rattle.dns_scan.specs.Converted.{IsConverted, Deciphers}
 use Rattle.dns_scan.specs.Token.{Token}

@@ -3,16 +3,21 @@ use Rattle.std.proofs.Common.{◌≡◌, ℕ, false, List, [], ◌∷◌, ◌++�
 use Rattle.std.proofs.lemmas.List.{map_push}
 use Rattle.dns_label.specs.declared.symbol.Symbol.{Symbol}
 use Rattle.dns_label.specs.declared.symbol.Symbol.TheVariants.{Char}
-use Rattle.dns_scan.specs.declared.base.Base.{Base}
-use Rattle.dns_scan.specs.declared.decode_error.DecodeError.{DecodeError}
-use Rattle.dns_scan.specs.declared.entry_symbol.EntrySymbol.{EntrySymbol}
-use Rattle.dns_scan.specs.declared.entry_symbol.EntrySymbol.TheVariants.{Symbol as Within, EndOfToken}
+use Rattle.dns_scan.specs.declared.encoding.base.Base.{Base}
+use Rattle.dns_scan.specs.declared.encoding.decode_error.DecodeError.{DecodeError}
+use Rattle.dns_scan.specs.declared.symbols.entry_symbol.EntrySymbol.{EntrySymbol}
+use Rattle.dns_scan.specs.declared.symbols.entry_symbol.EntrySymbol.TheVariants.{Symbol as Within, EndOfToken}
 use Rattle.dns_scan.specs.Base.{Decodes}
 use Rattle.dns_scan.specs.Converted.{Deciphers, HasDeciphered}
 use Rattle.dns_scan.specs.Decoding.{Held, HasRead, IsWhole, WhyRefused, progress_of}
 use Rattle.dns_scan.specs.ScanError.{is_want_of_room}
 use Rattle.dns_scan.specs.Symbols.{symbols_in}
 use Rattle.dns_scan.proofs.Decoded.{refused_text, refused_for_itself, whole_decodes, not_whole}
+
+-- the same encoding
+pub deciphered_at : (base other : Base) (held : Held) (symbols : List Symbol) (given : List ℕ) → base ≡ other
+    → HasDeciphered base held symbols given → HasDeciphered other held symbols given
+deciphered_at base other held symbols given same has = subst (λ b. HasDeciphered b held symbols given) same has
 
 -- one symbol more
 pub deciphered_more : (base : Base) (old new : Held) (symbols : List Symbol) (given more : List ℕ) (symbol : Symbol) (c : ℕ) → symbol ≡ Char c

@@ -4,13 +4,13 @@ use Rattle.std.specs.Prelude.{None, ◌⊎◌}
 use Rattle.std.specs.List.{AllByRecursion}
 use Rattle.std.proofs.Math.Nat.{suc-mul}
 use Rattle.std.proofs.lemmas.List.{map_push, length-replicate, length-map, replicate_more}
-use Rattle.dns_scan.specs.declared.base.Base.{Base}
-use Rattle.dns_scan.specs.declared.base.Base.TheVariants.{Sixteen, ThirtyTwoHex, SixtyFour}
+use Rattle.dns_scan.specs.declared.encoding.base.Base.{Base}
+use Rattle.dns_scan.specs.declared.encoding.base.Base.TheVariants.{Sixteen, ThirtyTwoHex, SixtyFour}
 use Rattle.dns_scan.specs.Bits.{bits, all_bits}
 use Rattle.dns_scan.specs.StringText.{IsOctet}
 use Rattle.dns_scan.specs.Base.{width, size, digit, IsCharacter, Groups, Decodes}
-use Rattle.dns_scan.specs.declared.decode_error.DecodeError.{DecodeError}
-use Rattle.dns_scan.specs.declared.decode_error.DecodeError.TheVariants.{IllegalChar, TrailingInput, ShortInput, ShortBuf}
+use Rattle.dns_scan.specs.declared.encoding.decode_error.DecodeError.{DecodeError}
+use Rattle.dns_scan.specs.declared.encoding.decode_error.DecodeError.TheVariants.{IllegalChar, TrailingInput, ShortInput, ShortBuf}
 use Rattle.dns_scan.specs.ScanError.{is_want_of_room}
 use Rattle.dns_scan.specs.Decoding.{Progress, HasRead, IsWhole, MayBePadded, NoneGoesOn, NoneIs, WhyRefused, WhyNoText}
 use Rattle.dns_scan.proofs.BitLists.{length-bits}
@@ -157,7 +157,7 @@ unpadded base progress text other read =
     ∙ ap (λ n. read.characters ++ replicate n 61) (no_pads base progress.pads (length progress.waiting) read.padded other)
     ∙ append-nil read.characters
 
--- behind a pad nothing but pads may stand
+-- after a pad nothing but pads may stand
 pub nothing_behind_pads : (base : Base) (old : Progress) (c : ℕ) → 0 < old.pads → (base ≡ SixtyFour → c ≡ 61 → ⊥) → NoneGoesOn base old c
 nothing_behind_pads Sixteen old c some other text more octets read decodes =
     let none = no_pads Sixteen old.pads (length old.waiting) read.padded (λ same. cc) in absurd (omega arith)
@@ -277,7 +277,7 @@ not_whole SixtyFour progress text read short octets decodes =
     let little = decodes.groups.little in
     short (omega arith, omega arith)
 
--- in front of a text
+-- before a text
 pub read_none : (base : Base) (progress : Progress) → progress ≡ record { octets = []; waiting = []; pads = 0; error = None } → HasRead base progress []
 read_none base progress is = subst (λ p. HasRead base p []) (sym is) none
   where

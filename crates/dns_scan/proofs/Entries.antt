@@ -30,7 +30,7 @@ entering_more IsPiece before left next token taken piece entering is is_piece = 
   };
 }
 
--- the tokens behind one that was taken
+-- the tokens after one that was taken
 pub ending_more : (before left next : List Token) (token : Token) → IsEnding left before → left ≡ token ∷ next → IsEnding next before
 ending_more before left next token ending is = record {
   taken = ending.taken ++ token ∷ [];

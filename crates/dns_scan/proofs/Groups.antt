@@ -11,7 +11,7 @@ eq_same a b same = grind (arith, nat_tests)
 pub eq_differs : (a b : ℕ) → a ≢ b → (a == b) ≡ false
 eq_differs a b other = grind (arith, nat_tests)
 
--- a whole group in front
+-- a whole group first
 pub grouped-whole : (count : ℕ) (held front rest : List ℕ) → length held + length front ≡ count → 0 < length front
     → grouped count held (front ++ rest) ≡ (held ++ front) ∷ grouped count [] rest
 grouped-whole count held [] rest whole some = absurd (omega arith)
@@ -36,7 +36,7 @@ whole_number count group whole =
     let none : count - length group ≡ 0 = omega arith in
     rw (none, append-nil group) refl
 
--- the number of a whole group in front
+-- the number of a whole group that comes first
 pub numbers_more : (count number : ℕ) (rest : List ℕ) → 0 < count → number < 2 ^ count
     → numbers_of count (bits count number ++ rest) ≡ number ∷ numbers_of count rest
 numbers_more count number rest some small =
@@ -70,7 +70,7 @@ numbers_last count number waiting left some short small filled =
           ∙ ap (λ n. n ∷ []) (ap number_of whole ∙ number-bits count number small),
     )
 
--- the first number of waiting bits and those behind them
+-- the first number of waiting bits and those after them
 pub first_number : (count number : ℕ) (waiting left behind : List ℕ) → 0 < count → number < 2 ^ count → waiting ≡ bits count number ++ left
     → numbers_of count (waiting ++ behind) ≡ number ∷ numbers_of count (left ++ behind)
 first_number count number waiting left behind some small taken =

@@ -7,8 +7,8 @@ use Rattle.std.proofs.lemmas.List.{length-replicate}
 use Rattle.std.proofs.lemmas.Nat.{mul-le}
 use Rattle.dns_scan.specs.Bits.{bits, all_bits, grouped, padded_number, numbers_of}
 use Rattle.dns_scan.specs.Base.{width, size}
-use Rattle.dns_scan.specs.declared.base.Base.{Base}
-use Rattle.dns_scan.specs.declared.base.Base.TheVariants.{Sixteen, ThirtyTwoHex, SixtyFour}
+use Rattle.dns_scan.specs.declared.encoding.base.Base.{Base}
+use Rattle.dns_scan.specs.declared.encoding.base.Base.TheVariants.{Sixteen, ThirtyTwoHex, SixtyFour}
 use Rattle.dns_scan.proofs.BitLists.{IsBit, bits_are}
 use Rattle.dns_scan.proofs.Groups.{eq_same}
 

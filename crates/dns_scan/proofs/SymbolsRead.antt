@@ -5,9 +5,9 @@ use Rattle.std.specs.List.{FoldsTo, flat_map}
 use Rattle.std.proofs.lemmas.List.{map_push}
 use Rattle.dns_label.specs.declared.symbol.Symbol.{Symbol}
 use Rattle.dns_label.specs.Symbol.{IsSymbol, spelled}
-use Rattle.dns_name.proofs.Parts.{symbol_one, spelled_some}
-use Rattle.dns_scan.specs.declared.entry_symbol.EntrySymbol.{EntrySymbol}
-use Rattle.dns_scan.specs.declared.entry_symbol.EntrySymbol.TheVariants.{Symbol as Within, EndOfToken}
+use Rattle.dns_wire.proofs.Parts.{symbol_one, spelled_some}
+use Rattle.dns_scan.specs.declared.symbols.entry_symbol.EntrySymbol.{EntrySymbol}
+use Rattle.dns_scan.specs.declared.symbols.entry_symbol.EntrySymbol.TheVariants.{Symbol as Within, EndOfToken}
 use Rattle.dns_scan.specs.Symbols.{AreWritten, HasMarked, TakesAll, RefusesOne, marked}
 use Rattle.dns_scan.specs.Token.{Token, IsEnding, IsEntry, Takes, HasText, SameNames}
 use Rattle.dns_scan.proofs.Entries.{ending_more}
@@ -91,7 +91,7 @@ marked_more (first ∷ front) more symbol = ap (λ l. Within first ∷ l) (marke
 pub within_push : (front : List Symbol) (symbol : Symbol) → map Within (front ++ symbol ∷ []) ≡ map Within front ++ Within symbol ∷ []
 within_push front symbol = map_push Within front symbol
 
--- what is left of an entry behind a part of a token's symbols, and behind all of them
+-- what is left of an entry after a part of a token's symbols, and after all of them
 pub marked_within : (front : List EntrySymbol) (symbols taken others : List Symbol) (more : List EntrySymbol) (symbol : Symbol)
     → symbols ≡ taken ++ symbol ∷ others
     → front ++ (marked symbols ++ more) ≡ (front ++ map Within taken) ++ Within symbol ∷ (marked others ++ more)
@@ -177,12 +177,12 @@ entry_only before left front all reading none entry =
     let Q : List Token → Type 0 = λ t. IsEntry HasMarked t at.0 in
     at.2 ∙ ap (λ l. front ++ l) (subst Q none at.1) ∙ append-nil front
 
--- runs of a closure, one behind the other
+-- runs of a closure, one after another
 pub folds_join : {P A : Type 0} (R : P → A → P → Type 0) (p q r : P) (xs ys : List A) → FoldsTo R p xs q → FoldsTo R q ys r → FoldsTo R p (xs ++ ys) r
 folds_join R p q r [] ys same more = subst (λ s. FoldsTo R s ys r) (sym same) more
 folds_join R p q r (x ∷ xs) ys steps more = (steps.0, steps.1, folds_join R steps.0 q r xs ys steps.2 more)
 
--- one of those behind was refused
+-- one of those after was refused
 pub refused_later : {F Sym E : Type 0} (step : F → Sym → Result (Unit {0}) E → F → Type 0) (op state : F) (all front symbols more : List Sym) (error : E)
     → TakesAll step op front state → all ≡ front ++ (symbols ++ more) → RefusesOne step state symbols error → RefusesOne step op all error
 refused_later step op state all front symbols more error takes is refuses = record {

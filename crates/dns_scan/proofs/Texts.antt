@@ -4,10 +4,10 @@ use Rattle.std.specs.List.{AllByRecursion, flat_map}
 use Rattle.dns_label.specs.declared.symbol.Symbol.{Symbol}
 use Rattle.dns_label.specs.Symbol.{IsSymbol, octet, spelled}
 use Rattle.std.proofs.lemmas.List.{map_push}
-use Rattle.dns_name.proofs.Parts.{symbol_one, spelled_some}
+use Rattle.dns_wire.proofs.Parts.{symbol_one, spelled_some}
 use Rattle.dns_scan.specs.StringText.{Spells, IsStringText}
 use Rattle.dns_scan.specs.Refused.{BeginsWith, HasFault}
-use Rattle.dns_scan.specs.declared.string_text.PresentationError.TheVariants.{BadSymbol, LongString}
+use Rattle.dns_scan.specs.declared.char_str.text.PresentationError.TheVariants.{BadSymbol, LongString}
 
 -- the text spells what was taken of it, and then what the rest spells, and nothing else
 pub record Reading (text rest taken : List ℕ) : Type 0 where
@@ -17,7 +17,7 @@ pub record Reading (text rest taken : List ℕ) : Type 0 where
 pub reading_here : (text : List ℕ) → Reading text text []
 reading_here text = record { on = λ more spells. spells; back = λ all spells. (all, spells, refl) }
 
--- a symbol in front
+-- a symbol first
 pub spells_more : (text rest more : List ℕ) (symbol : Symbol) → IsSymbol symbol → text ≡ spelled symbol ++ rest → Spells rest more
     → Spells text (octet symbol ∷ more)
 spells_more text rest more symbol is_symbol is spells = record {
@@ -83,7 +83,7 @@ reading_full text rest behind taken symbol reading is_symbol is full string is_t
     let size = ap (length {A = ℕ}) (whole.2 ∙ ap (λ l. taken ++ l) less.2) in
     omega (arith, size, length-append taken (octet symbol ∷ less.0), is_text.short)
 
--- what was taken of a text stands in front of it
+-- what was taken of a text comes first in it
 pub begins_here : (text : List ℕ) → BeginsWith text [] text
 begins_here text = record { symbols = []; each = tt; written = refl; stand = refl }
 

@@ -23,7 +23,7 @@ all_taken texts place within none =
     let size = ap (length {A = Token}) none in
     omega (arith, size, length-map (drop place texts) (λ text. unquoted text.now), length-drop place texts)
 
--- behind the first token
+-- after the first token
 pub one_less : (texts : List (Bor (List ℕ))) (place : ℕ) → left texts (suc place) ≡ drop 1 (left texts place)
 one_less [] zero = refl
 one_less [] (suc place) = refl

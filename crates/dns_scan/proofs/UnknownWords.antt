@@ -1,4 +1,4 @@
--- The number of octets in front of data of an unknown type.
+-- The number of octets before data of an unknown type.
 use Rattle.std.proofs.Common.{◌≡◌, ℕ, List, [], ◌∷◌, ◌++◌, sym, ◌∙◌, ap, append_assoc}
 use Rattle.std.specs.Prelude.{Option, Some}
 use Rattle.dns_scan.specs.Scans.{ScansWord}
@@ -14,7 +14,7 @@ endings_join left middle before last first = record {
   is = first.is ∙ ap (λ l. first.taken ++ l) last.is ∙ sym (append_assoc first.taken last.taken left);
 }
 
--- one word stands in front, and it is read as one value
+-- one word comes first, and it is read as one value
 pub record OneWord {V : Type 0} (left other : List Token) (value also : V) : Type 0 where
   pub lefts : left ≡ other
   pub values : value ≡ also

@@ -7,7 +7,7 @@ unfoldable pub bits : ℕ → ℕ → List ℕ
 bits zero number = []
 bits (suc count) number = bits count (number / 2) ++ (number % 2) ∷ []
 
--- the bits of numbers, one behind the other
+-- the bits of numbers, one after another
 abbrev pub all_bits : ℕ → List ℕ → List ℕ
 all_bits count numbers = flat_map (bits count) numbers
 

@@ -2,11 +2,11 @@
 use Rattle.std.specs.Prelude.{◌≡◌, ◌≤◌, ℕ, List, ◌∷◌, ◌++◌, length, map, min, Option, Some, None}
 use Rattle.std.specs.Char.{to_ascii_lowercase}
 
--- the octets of a string on the wire: behind their number
+-- the octets of a string on the wire: their number, and then they
 abbrev pub string_wire : List ℕ → List ℕ
 string_wire string = length string ∷ string
 
--- a string stands in front of the rest
+-- the octets are a string on the wire, and then the rest
 pub record StartsWithString (octets string rest : List ℕ) : Type 0 where
   pub spelled : octets ≡ string_wire string ++ rest
   pub short : length string ≤ 255

@@ -2,9 +2,8 @@
 use Rattle.std.specs.Prelude.{◌≡◌, [], ℕ, List, map, Option, Some, None}
 use Rattle.dns_label.specs.declared.symbol.Symbol.{Symbol}
 use Rattle.dns_label.specs.declared.symbol.Symbol.TheVariants.{Char}
-use Rattle.dns_scan.specs.declared.base.Base.{Base}
-use Rattle.dns_scan.specs.declared.base.Base.TheVariants.{Sixteen, ThirtyTwoHex, SixtyFour}
-use Rattle.dns_scan.specs.declared.entry_symbol.EntrySymbol.{EntrySymbol}
+use Rattle.dns_scan.specs.declared.encoding.base.Base.{Base}
+use Rattle.dns_scan.specs.declared.symbols.entry_symbol.EntrySymbol.{EntrySymbol}
 use Rattle.dns_scan.specs.Base.{Decodes}
 use Rattle.dns_scan.specs.Decoding.{Held, HasRead, progress_of}
 use Rattle.dns_scan.specs.Symbols.{HasSymbols, symbols_in}
@@ -33,40 +32,10 @@ pub record HasDeciphered (base : Base) (held : Held) (symbols : List Symbol) (gi
   pub plain : symbols ≡ map Char text
   pub read : HasRead base (progress_of given held) text
 
--- the same for each of the encodings, over a token's symbols and over an entry's
+-- the same over an entry's symbols
 
-abbrev pub Deciphers16 : List Symbol → List ℕ → Type 0
-Deciphers16 symbols octets = Deciphers Sixteen symbols octets
+abbrev pub DeciphersEntry : Base → List EntrySymbol → List ℕ → Type 0
+DeciphersEntry base symbols octets = Deciphers base (symbols_in symbols) octets
 
-abbrev pub DeciphersEntry16 : List EntrySymbol → List ℕ → Type 0
-DeciphersEntry16 symbols octets = Deciphers Sixteen (symbols_in symbols) octets
-
-abbrev pub HasDeciphered16 : Held → List Symbol → List ℕ → Type 0
-HasDeciphered16 held symbols given = HasDeciphered Sixteen held symbols given
-
-abbrev pub HasDecipheredEntry16 : Held → List EntrySymbol → List ℕ → Type 0
-HasDecipheredEntry16 held symbols given = HasDeciphered Sixteen held (symbols_in symbols) given
-
-abbrev pub Deciphers32 : List Symbol → List ℕ → Type 0
-Deciphers32 symbols octets = Deciphers ThirtyTwoHex symbols octets
-
-abbrev pub DeciphersEntry32 : List EntrySymbol → List ℕ → Type 0
-DeciphersEntry32 symbols octets = Deciphers ThirtyTwoHex (symbols_in symbols) octets
-
-abbrev pub HasDeciphered32 : Held → List Symbol → List ℕ → Type 0
-HasDeciphered32 held symbols given = HasDeciphered ThirtyTwoHex held symbols given
-
-abbrev pub HasDecipheredEntry32 : Held → List EntrySymbol → List ℕ → Type 0
-HasDecipheredEntry32 held symbols given = HasDeciphered ThirtyTwoHex held (symbols_in symbols) given
-
-abbrev pub Deciphers64 : List Symbol → List ℕ → Type 0
-Deciphers64 symbols octets = Deciphers SixtyFour symbols octets
-
-abbrev pub DeciphersEntry64 : List EntrySymbol → List ℕ → Type 0
-DeciphersEntry64 symbols octets = Deciphers SixtyFour (symbols_in symbols) octets
-
-abbrev pub HasDeciphered64 : Held → List Symbol → List ℕ → Type 0
-HasDeciphered64 held symbols given = HasDeciphered SixtyFour held symbols given
-
-abbrev pub HasDecipheredEntry64 : Held → List EntrySymbol → List ℕ → Type 0
-HasDecipheredEntry64 held symbols given = HasDeciphered SixtyFour held (symbols_in symbols) given
+abbrev pub HasDecipheredEntry : Base → Held → List EntrySymbol → List ℕ → Type 0
+HasDecipheredEntry base held symbols given = HasDeciphered base held (symbols_in symbols) given

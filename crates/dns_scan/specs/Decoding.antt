@@ -1,10 +1,10 @@
 -- A text while it is decoded.
 use Rattle.std.specs.Prelude.{◌≡◌, ◌*◌, ◌<◌, ◌≤◌, ◌+◌, ◌⊎◌, ℕ, List, [], ◌∷◌, ◌++◌, length, map, replicate, Option, None, Some}
 use Rattle.std.specs.List.{AllByRecursion}
-use Rattle.dns_scan.specs.declared.base.Base.{Base}
-use Rattle.dns_scan.specs.declared.base.Base.TheVariants.{Sixteen, ThirtyTwoHex, SixtyFour}
-use Rattle.dns_scan.specs.declared.decode_error.DecodeError.{DecodeError}
-use Rattle.dns_scan.specs.declared.decode_error.DecodeError.TheVariants.{IllegalChar, TrailingInput, ShortInput, ShortBuf}
+use Rattle.dns_scan.specs.declared.encoding.base.Base.{Base}
+use Rattle.dns_scan.specs.declared.encoding.base.Base.TheVariants.{Sixteen, ThirtyTwoHex, SixtyFour}
+use Rattle.dns_scan.specs.declared.encoding.decode_error.DecodeError.{DecodeError}
+use Rattle.dns_scan.specs.declared.encoding.decode_error.DecodeError.TheVariants.{IllegalChar, TrailingInput, ShortInput, ShortBuf}
 use Rattle.dns_scan.specs.Bits.{all_bits}
 use Rattle.dns_scan.specs.StringText.{IsOctet}
 use Rattle.dns_scan.specs.Base.{width, digit, IsCharacter, Decodes}
@@ -30,7 +30,7 @@ abbrev pub octet_in : Option ℕ → List ℕ
 octet_in None = []
 octet_in (Some octet) = octet ∷ []
 
--- Pads stand only in base 64, behind bits that are too few for another character, and no more than there may be: one for
+-- Pads stand only in base 64, after bits that are too few for another character, and no more than there may be: one for
 -- two bits.
 abbrev pub MayBePadded : Base → ℕ → ℕ → Type 0
 MayBePadded base pads bits = (pads ≡ 0) ⊎ ((base ≡ SixtyFour) × (bits < 6) × (2 * pads ≤ bits))
@@ -52,17 +52,17 @@ IsWhole Sixteen pads bits = bits < 4
 IsWhole ThirtyTwoHex pads bits = bits < 5
 IsWhole SixtyFour pads bits = (bits < 6) × (2 * pads ≡ bits)
 
--- no text that goes on with the character behind what was taken is one of octets
+-- no text that goes on with the character after what was taken is one of octets
 abbrev pub NoneGoesOn : Base → Progress → ℕ → Type 0
 NoneGoesOn base progress c =
     (text more octets : List ℕ) → HasRead base progress text → Decodes base (text ++ c ∷ more) octets → ⊥
 
--- the character makes an octet whole, behind so many pads and waiting bits
+-- the character makes an octet whole, after so many pads and waiting bits
 abbrev pub MakesWhole : Base → ℕ → ℕ → ℕ → Type 0
 MakesWhole base pads bits c = (pads ≡ 0) × IsCharacter base c × (8 ≤ bits + width base)
 
--- Why a character is refused behind what was taken: in front of any pad, for what it is; behind a pad, for where it stands; and
--- where an octet is whole with it, for want of room or memory.
+-- Why a character is refused after what was taken: before any pad, for what it is; after a pad, for where it stands; and where
+-- an octet is whole with it, because there is no room or no memory.
 abbrev pub WhyRefused : Base → Progress → ℕ → DecodeError → Type 0
 WhyRefused base progress c (IllegalChar other) =
     (other ≡ c) × (progress.pads ≡ 0) × (IsCharacter base c → ⊥) × NoneGoesOn base progress c

@@ -4,24 +4,24 @@ use Rattle.std.specs.List.{AllByRecursion, flat_map}
 use Rattle.dns_label.specs.declared.symbol.Symbol.{Symbol}
 use Rattle.dns_label.specs.Symbol.{IsSymbol, octet, spelled}
 use Rattle.dns_scan.specs.StringText.{IsStringText}
-use Rattle.dns_scan.specs.declared.string_text.FromStrError.{FromStrError}
-use Rattle.dns_scan.specs.declared.string_text.FromStrError.TheVariants.{Presentation, ShortBuf}
-use Rattle.dns_scan.specs.declared.string_text.PresentationError.{PresentationError}
-use Rattle.dns_scan.specs.declared.string_text.PresentationError.TheVariants.{BadSymbol, LongString}
+use Rattle.dns_scan.specs.declared.char_str.text.FromStrError.{FromStrError}
+use Rattle.dns_scan.specs.declared.char_str.text.FromStrError.TheVariants.{Presentation, ShortBuf}
+use Rattle.dns_scan.specs.declared.char_str.text.PresentationError.{PresentationError}
+use Rattle.dns_scan.specs.declared.char_str.text.PresentationError.TheVariants.{BadSymbol, LongString}
 
--- the text begins with symbols that stand for these octets, and the rest is behind them
+-- the text is symbols that stand for these octets, and then the rest
 pub record BeginsWith (text octets rest : List ℕ) : Type 0 where
   pub symbols : List Symbol
   pub each : AllByRecursion IsSymbol symbols
   pub written : text ≡ flat_map spelled symbols ++ rest
   pub stand : map octet symbols ≡ octets
 
--- there is a rest, and no symbol stands in front of it
+-- there is a rest, and it begins with no symbol
 pub record HasNoSymbol (rest : List ℕ) : Type 0 where
   pub some : rest ≢ []
   pub none : (symbol : Symbol) (behind : List ℕ) → IsSymbol symbol → rest ≡ spelled symbol ++ behind → ⊥
 
--- Which fault comes first: behind at most 255 symbols stands something else, or there are 256 of them.
+-- Which fault comes first: something else than a symbol after at most 255 of them, or a 256th.
 abbrev pub HasFault : List ℕ → PresentationError → Type 0
 HasFault text BadSymbol =
     (octets : List ℕ) × (rest : List ℕ) × BeginsWith text octets rest × (length octets ≤ 255) × HasNoSymbol rest

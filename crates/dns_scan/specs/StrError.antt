@@ -1,7 +1,7 @@
--- Which of a scanner's errors is want of room or memory, and which want of a token.
+-- Which of a scanner's errors says that there is no room or no memory, and which that there is no token.
 use Rattle.std.specs.Prelude.{Bool, true, false}
-use Rattle.dns_scan.specs.declared.scanner_error.StrError.{StrError}
-use Rattle.dns_scan.specs.declared.scanner_error.StrError.TheVariants.{Custom, EndOfEntry, ShortBuf, TrailingTokens}
+use Rattle.dns_scan.specs.declared.scan.scanner_error.StrError.{StrError}
+use Rattle.dns_scan.specs.declared.scan.scanner_error.StrError.TheVariants.{Custom, EndOfEntry, ShortBuf, TrailingTokens}
 
 abbrev pub is_short : StrError → Bool
 is_short (Custom message) = false

@@ -4,8 +4,8 @@ use Rattle.std.specs.List.{AllByRecursion, flat_map}
 use Rattle.dns_label.specs.declared.symbol.Symbol.{Symbol}
 use Rattle.dns_label.specs.declared.symbol.Symbol.TheVariants.{Char, SimpleEscape, DecimalEscape}
 use Rattle.dns_label.specs.Symbol.{IsSymbol, octet, spelled}
-use Rattle.dns_scan.specs.declared.string_text.Style.{Style}
-use Rattle.dns_scan.specs.declared.string_text.Style.TheVariants.{Plain, Quoted, Unquoted}
+use Rattle.dns_scan.specs.declared.char_str.text.Style.{Style}
+use Rattle.dns_scan.specs.declared.char_str.text.Style.TheVariants.{Plain, Quoted, Unquoted}
 
 -- the text is of symbols, which stand for the octets
 pub record Spells (text octets : List ℕ) : Type 0 where
@@ -22,7 +22,7 @@ pub record IsStringText (text string : List ℕ) : Type 0 where
 abbrev pub is_printable : ℕ → Bool
 is_printable octet = nat_le 32 octet && nat_le octet 126
 
--- Which printable characters stand behind a backslash: in plain text the backslash; between quotes the quote too; in a word
+-- Which printable characters are written after a backslash: in plain text the backslash; between quotes the quote too; in a word
 -- the space, the quote, the parentheses, the semicolon and the backslash.
 abbrev pub is_escaped : Style → ℕ → Bool
 is_escaped Plain octet = octet == 92

@@ -3,8 +3,8 @@ use Rattle.std.specs.Prelude.{◌≡◌, ◌++◌, ◌∷◌, [], ℕ, List, map
 use Rattle.std.specs.List.{AllByRecursion, FoldsTo, flat_map}
 use Rattle.dns_label.specs.declared.symbol.Symbol.{Symbol}
 use Rattle.dns_label.specs.Symbol.{IsSymbol, spelled}
-use Rattle.dns_scan.specs.declared.entry_symbol.EntrySymbol.{EntrySymbol}
-use Rattle.dns_scan.specs.declared.entry_symbol.EntrySymbol.TheVariants.{Symbol as Within, EndOfToken}
+use Rattle.dns_scan.specs.declared.symbols.entry_symbol.EntrySymbol.{EntrySymbol}
+use Rattle.dns_scan.specs.declared.symbols.entry_symbol.EntrySymbol.TheVariants.{Symbol as Within, EndOfToken}
 use Rattle.dns_scan.specs.Token.{Token}
 
 -- the text is written by these symbols
@@ -16,7 +16,7 @@ pub record AreWritten (symbols : List Symbol) (text : List ℕ) : Type 0 where
 abbrev pub HasSymbols : List Symbol → Token → Type 0
 HasSymbols symbols token = AreWritten symbols token.text
 
--- a token's symbols in an entry, with the mark behind them
+-- a token's symbols in an entry, and then the mark
 abbrev pub marked : List Symbol → List EntrySymbol
 marked symbols = map Within symbols ++ EndOfToken ∷ []
 

@@ -1,8 +1,8 @@
 -- Tokens of a text that is scanned (RFC 1035 5.1).
-use Rattle.std.specs.Prelude.{◌≡◌, ◌↔◌, ◌==◌, ◌&&◌, ℕ, Bool, true, false, not, nat_le, List, [], ◌∷◌, ◌++◌}
+use Rattle.std.specs.Prelude.{◌≡◌, ◌↔◌, ◌==◌, ◌||◌, ◌&&◌, ℕ, Bool, true, false, not, List, [], ◌∷◌, ◌++◌}
 use Rattle.std.specs.List.{list_all}
 use Rattle.dns_scan.specs.CharStr.{string_wire}
-use Rattle.dns_scan.specs.StringText.{Spells, IsStringText}
+use Rattle.dns_scan.specs.StringText.{Spells, IsStringText, is_printable}
 
 -- a token: whether it is quoted, and its text as it is written, without the quotes
 pub record Token : Type 0 where
@@ -24,6 +24,16 @@ pub record Takes (Fits : Token → Type 0) (before left : List Token) : Type 0 w
   pub is : before ≡ token ∷ left
   pub fits : Fits token
 
+-- white space: a space, a tab, a line feed, a carriage return
+abbrev pub is_white : ℕ → Bool
+is_white octet = (octet == 32) || ((octet == 9) || ((octet == 10) || (octet == 13)))
+
+-- the octets before a token end with white space
+abbrev pub ends_white : List ℕ → Bool
+ends_white [] = false
+ends_white (octet ∷ []) = is_white octet
+ends_white (_ ∷ octet ∷ octets) = ends_white (octet ∷ octets)
+
 -- the token's text
 abbrev pub HasText : List ℕ → Token → Type 0
 HasText text token = token.text ≡ text
@@ -38,7 +48,7 @@ SpellsString string token = IsStringText token.text string
 
 -- a printable character other than the backslash
 abbrev pub is_plain : ℕ → Bool
-is_plain c = nat_le 32 c && nat_le c 126 && not (c == 92)
+is_plain c = is_printable c && not (c == 92)
 
 -- the token is a word: unquoted, and without a backslash
 abbrev pub IsWord : List ℕ → Token → Type 0
@@ -48,7 +58,7 @@ IsWord text token = (token ≡ unquoted text) × (list_all is_plain text ≡ tru
 abbrev pub marker : Token
 marker = unquoted (92 ∷ 35 ∷ [])
 
--- each of the tokens has a piece, and the pieces one behind the other are the whole
+-- each of the tokens has a piece, and the pieces one after another are the whole
 abbrev pub IsEntry : {A : Type 0} → (List A → Token → Type 0) → List Token → List A → Type 0
 IsEntry IsPiece [] whole = whole ≡ []
 IsEntry {A} IsPiece (token ∷ tokens) whole =

@@ -1,4 +1,4 @@
--- Data of an unknown type as text, behind its marker (RFC 3597 5).
+-- Data of an unknown type as text, after its marker (RFC 3597 5).
 use Rattle.std.specs.Prelude.{◌≡◌, ◌^◌, ℕ, List, [], ◌∷◌, length}
 use Rattle.std.specs.Str.{chars}
 use Rattle.dns_values.specs.Mnemonic.{number_spelled, type_read}
@@ -15,7 +15,7 @@ pub record IsUnknownData (tokens : List Token) (octets : List ℕ) : Type 0 wher
   pub joined : IsEntry IsWord words text
   pub decodes : Decodes16 (chars text) octets
 
--- a word for the type, the marker, and the data behind it to the end of the entry
+-- a word for the type, the marker, and the data after it to the end of the entry
 pub record ScansUnknown (tokens : List Token) (rdata : UnknownData) (left : List Token) : Type 0 where
   pub words : List Token
   pub of_type : ScansWord type_read tokens rdata.number (marker ∷ words)

@@ -11,15 +11,22 @@ ghost use Rattle.dns_octets.specs.declared.error.ParseError.TheVariants.{ShortIn
 ghost use Rattle.dns_scan.specs.CharStr.{string_wire, StartsWithString, lower};
 ghost use Rattle.dns_octets.specs.Parser.{GoesOn, rest_of};
 
-use crate::CharStrIter;
+mod builder;
+mod iter;
+mod text;
+
+pub use builder::CharStrBuilder;
 use dns_name::{
     AppendError, CanonicalOrd, Compose, EmptyBuilder, FromBuilder, Octets, OctetsBuilder,
     OctetsFrom, ParseError, Parser,
 };
+pub use iter::CharStrIter;
 use std::alloc::Global;
 use std::cmp::Ordering;
 use std::hash::{Hash, Hasher};
 use std::marker::Model;
+pub(crate) use text::octet_of;
+pub use text::{DisplayQuoted, DisplayUnquoted, FromStrError, PresentationError};
 use thiserror::Error;
 
 /// The octets are more than the 255 of a character string.
@@ -44,7 +51,7 @@ impl<Octs: Octets> Model for CharStr<Octs> {
 }
 
 impl<Octs: Octets> CharStr<Octs> {
-    /// The string of these octets. Refused past 255 of them.
+    /// Returns the string of these octets. Fails if there are more than 255.
     pub fn from_octets(octets: Octs) -> Result<Self, CharStrError>
     where
         Octs: Drop,
@@ -57,7 +64,7 @@ impl<Octs: Octets> CharStr<Octs> {
         Ok(CharStr { octets })
     }
 
-    /// The string of these octets, which are not too many.
+    /// Returns the string of these octets, which are not too many.
     pub(crate) fn of_short(octets: Octs) -> Self
         requires { length (Octs.list octets) ≤ 255 }
         ensures { result ≡ Octs.list octets }
@@ -127,7 +134,7 @@ impl<Octs: Octets> CharStr<Octs> {
 }
 
 impl<'a> CharStr<&'a [u8]> {
-    /// The string of these octets. Refused past 255 of them.
+    /// Returns the string of these octets. Fails if there are more than 255.
     pub fn from_slice(octets: &'a [u8]) -> Result<Self, CharStrError>
         ensures ok { IfOk result (λ string. string ≡ octets.now) }
         ensures short { IsOk result ↔ (length octets.now ≤ 255) }
@@ -135,9 +142,9 @@ impl<'a> CharStr<&'a [u8]> {
         CharStr::from_octets(octets)
     }
 
-    /// Reads a string behind its length octet, and leaves the parser behind it.
+    /// Parses a string after its length octet. The parser then stands after the string.
     ///
-    /// Refused with `ShortInput` where the octets end before it does, and the parser then stays where it is.
+    /// Fails with `ShortInput` if the octets end before the string does; the parser then stays where it is.
     pub fn parse(parser: &mut Parser<'a>) -> Result<Self, ParseError>
         ensures ok { IfOk result (λ string. StartsWithString (rest_of parser.old) string (rest_of parser.new)) }
         ensures place { IfOk result (λ string. GoesOn parser.old parser.new (length (string_wire string))) }
@@ -153,7 +160,7 @@ impl<'a> CharStr<&'a [u8]> {
         })
     }
 
-    /// Leaves the parser behind a string, as `parse` does, and gives none.
+    /// Moves the parser after a string, as `parse` does, and returns none.
     pub fn skip(parser: &mut Parser<'a>) -> Result<(), ParseError>
         ensures ok { OnOk result ((string : List ℕ) × StartsWithString (rest_of parser.old) string (rest_of parser.new)
             × GoesOn parser.old parser.new (length (string_wire string))) }
@@ -166,7 +173,7 @@ impl<'a> CharStr<&'a [u8]> {
     }
 }
 
-/// Writes the octets behind their number (RFC 1035 3.3).
+/// Writes the number of the octets, and then the octets (RFC 1035 3.3).
 impl<Octs: Octets> Compose for CharStr<Octs> {
     ghost composed = { string_wire };
 
@@ -177,7 +184,7 @@ impl<Octs: Octets> Compose for CharStr<Octs> {
     }
 }
 
-/// The octets behind their number, and zeros behind them.
+/// Returns the number of the octets, the octets, and zeros.
 fn behind_number(octets: &[u8]) -> [u8; 256]
     requires { length octets.now ≤ 255 }
     ensures wire { take (1 + length octets.now) result ≡ string_wire octets.now }
@@ -283,8 +290,8 @@ impl<Octs: Octets> CanonicalOrd for CharStr<Octs> {
     }
 }
 
-/// The same string over other octets. Refused with `ShortBuf` only where these may not hold it, and with `OutOfMemory` where
-/// the memory was refused.
+/// The same string over other octets. Fails with `ShortBuf` only if these may not hold it, and with `OutOfMemory` if out of
+/// memory.
 impl<Source: Octets + Drop, Octs: FromBuilder> OctetsFrom<CharStr<Source>> for CharStr<Octs>
 where
     Octs::Builder: EmptyBuilder + Drop,

@@ -5,14 +5,14 @@ use Rattle.dns_label.specs.Name.{IsName}
 use Rattle.dns_label.specs.Printed.{printed_name}
 use Rattle.dns_label.specs.NameText.{IsAbsoluteText, IsNameText}
 use Rattle.dns_label.specs.NameText.IsNameText.{absolute}
-use Rattle.dns_name.specs.declared.text.FromStrError.{FromStrError}
-use Rattle.dns_name.specs.declared.text.FromStrError.TheVariants.{Presentation, ShortBuf}
-use Rattle.dns_name.specs.PrintedLabels.{AreOctets, printed_relative}
-use Rattle.dns_name.specs.RelativeText.{IsRelativeNameText, SpellsAbsolute}
-use Rattle.dns_name.specs.Text.{IsRefused}
+use Rattle.dns_wire.specs.declared.text.FromStrError.{FromStrError}
+use Rattle.dns_wire.specs.declared.text.FromStrError.TheVariants.{Presentation, ShortBuf}
+use Rattle.dns_flat.specs.PrintedLabels.{AreOctets, printed_relative}
+use Rattle.dns_flat.specs.RelativeText.{IsRelativeNameText, SpellsAbsolute}
+use Rattle.dns_wire.specs.Text.{IsRefused}
 use Rattle.dns_text.specs.declared.uncertain.UncertainName.{UncertainName}
 use Rattle.dns_text.specs.declared.uncertain.UncertainName.TheVariants.{Absolute, Relative}
-use Rattle.dns_name.specs.SpelledText.{IsNotSpelled}
+use Rattle.dns_flat.specs.SpelledText.{IsNotSpelled}
 use Rattle.dns_text.specs.Uncertain.{IsTextOf, labels_of, text_of}
 
 -- a text spells one name

@@ -1,6 +1,6 @@
-//! Tests of `dns_scan` and `dns_text` by outside examples, through their faces.
+//! Tests of `dns_text` that a row of `dns_text_rows` cannot say: types, closures, and targets that refuse.
 //!
-//! They stand in a crate of their own, so that a check of the tests doesn't check these crates once more.
+//! They stand in a crate of their own, so that a check of the tests doesn't check `dns_text` once more.
 #![tactic(auto)]
 
 #[cfg(test)]

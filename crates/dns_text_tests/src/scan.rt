@@ -1,5 +1,4 @@
-//! What the contracts leave open: that there is memory, what errors show, and outside examples.
+//! Strings, scanners and converters: octets of several kinds, closures, and errors that no text gives.
 mod char_strs;
-mod encodings;
 mod scanners;
 mod symbols;

@@ -1,28 +1,17 @@
 -- Groups that aren't empty: what holds of the elements of a list holds of those of its groups, and the last element of the
 -- list is the last of the last group.
+use Rattle.zone_text.proofs.Each.{all_fronts}
 use Rattle.std.proofs.Common.{◌≡◌, List, [], ◌∷◌, ◌++◌, refl, sym, ap, ◌∙◌, append_assoc, append-nil}
 use Rattle.std.specs.List.{AllByRecursion}
 use Rattle.zone_core.specs.Cutting.{joined, IsNonempty}
 use Rattle.zone_core.proofs.Splits.{two_splits, nil_append_cons}
 use Rattle.zone_core.proofs.Splits.Compared.{same, longer, shorter}
 
--- what holds of each element of two lists, one behind the other
-pub all_fronts : {X : Type 0} (P : X → Type 0) (front back : List X) → AllByRecursion P (front ++ back)
-    → AllByRecursion P front × AllByRecursion P back
-all_fronts P [] back all = (tt, all)
-all_fronts P (x ∷ front) back all =
-    let rest = all_fronts P front back all.1 in ((all.0, rest.0), rest.1)
-
 pub all_joined : {X : Type 0} (P : X → Type 0) (groups : List (List X)) → AllByRecursion P (joined groups)
     → AllByRecursion (AllByRecursion P) groups
 all_joined P [] all = tt
 all_joined P (group ∷ groups) all =
     let both = all_fronts P group (joined groups) all in (both.0, all_joined P groups both.1)
-
-pub all_append : {X : Type 0} (P : X → Type 0) (front back : List X) → AllByRecursion P front → AllByRecursion P back
-    → AllByRecursion P (front ++ back)
-all_append P [] back all more = more
-all_append P (x ∷ front) back all more = (all.0, all_append P front back all.1 more)
 
 -- the groups end with an element, and the others are a list
 pub record EndWith {X : Type 0} (groups : List (List X)) (xs : List X) (x : X) : Type 0 where

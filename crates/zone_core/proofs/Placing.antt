@@ -14,7 +14,7 @@ use Rattle.zone_core.specs.Cutting.{IsFullCut, FitsNotBehind}
 use Rattle.zone_core.specs.Sending.{IsFor, Stands, StandsWhole, LastStands, LastIs, HoldsGroups, Holds, HasNoRoom, FitsNowhere, before_count, behind_count, counted_message}
 use Rattle.zone_core.specs.declared.sender.Sender.{Sender}
 use Rattle.zone_core.proofs.Plain.{size_is, records_append}
-use Rattle.zone_core.proofs.Patched.{written_over}
+use Rattle.zone_text.proofs.Patched.{written_over}
 use Rattle.zone_core.proofs.Greedy.{full_cut_goes_on, full_cut_opens, not_behind_last}
 
 -- a record takes octets

@@ -10,13 +10,12 @@ use Rattle.dns_octets.specs.Parser.{GoesOn, octets_of, place_of, rest_of}
 use Rattle.dns_rdata.specs.Fields.{IsData}
 use Rattle.dns_rdata.proofs.Fronts.{same_fronts, same_number16}
 use Rattle.dns_message.specs.Record.{ReadsPlainRecord, record_octets}
-use Rattle.zone_core.specs.Record.{Record}
-use Rattle.zone_core.specs.Records.{AreOctets, IsRecordOf}
-use Rattle.zone_core.specs.Transfer.{IsTypeToday}
-use Rattle.zone_core.proofs.SoaOctets.{front_one}
-use Rattle.zone_core.proofs.Questions.{too_few}
-use Rattle.zone_core.proofs.NameFronts.{octets_behind, octets_front}
-use Rattle.zone_core.proofs.PrintedTexts.{wire_back}
+use Rattle.zone_text.specs.Record.{Record}
+use Rattle.zone_text.specs.Records.{AreOctets, IsRecordOf, IsTypeToday}
+use Rattle.zone_text.proofs.SoaOctets.{front_one}
+use Rattle.zone_text.proofs.Decided.{too_few}
+use Rattle.zone_text.proofs.NameFronts.{octets_behind, octets_front}
+use Rattle.zone_text.proofs.PrintedTexts.{wire_back}
 
 -- octets that a parser takes off
 pub taken_off : (old new : Parser) (count : ℕ) (front : List ℕ) → GoesOn old new count → front ≡ take count (rest_of old)

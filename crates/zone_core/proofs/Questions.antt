@@ -1,7 +1,5 @@
 -- Where a message has no question.
-use Rattle.std.proofs.Common.{◌≡◌, ℕ, ◌+◌, ◌<◌, ◌≤◌, true, false, List, length, subst, arith}
-use mathlib.Core.Logic.{inl, inr}
-use Rattle.std.proofs.lemmas.Bool.{cases_lt}
+use Rattle.std.proofs.Common.{◌≡◌, ℕ, ◌+◌, ◌<◌, List, length, subst, arith}
 use Rattle.dns_label.specs.Spelled.{Reads}
 use Rattle.dns_label.proofs.Spelling.{reads_one}
 use Rattle.dns_header.specs.Question.{Question, ReadsQuestion}
@@ -15,7 +13,3 @@ ends_early message there place behind name q next reads same at short asked =
     let here = subst Q at (subst P same reads) in
     let one = reads_one here asked.name in
     omega (arith, one.1, asked.whole)
-
--- a test for enough octets that comes out false
-pub too_few : (wanted there : ℕ) → (wanted ≤ there → false ≡ true) → there < wanted
-too_few wanted there fails = elim (cases_lt there wanted) [ inl few ↦ few | inr enough ↦ let e = fails enough in absurd cc ]

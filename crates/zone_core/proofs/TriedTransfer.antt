@@ -4,8 +4,8 @@ use Rattle.dns_label.specs.Name.{IsName}
 use Rattle.dns_rdata.specs.Fields.{Field}
 use Rattle.dns_rdata.specs.Fields.Field.{compressible, number32, ipv4}
 use Rattle.dns_rdata.specs.Fields.IsData.{typed}
-use Rattle.zone_core.specs.Records.{AreRecordsOf, IsQueryFor}
-use Rattle.zone_core.specs.Sent.{IsSent, message, with_soa_again}
+use Rattle.zone_text.specs.Records.{AreRecordsOf}
+use Rattle.zone_core.specs.Sent.{IsQueryFor, IsSent, message, with_soa_again}
 use Rattle.zone_core.specs.Frames.{frames}
 use Rattle.zone_core.specs.Transfer.{IsTransfer}
 use Rattle.zone_core.specs.Tried.{soa, address, query, sizes}

@@ -10,12 +10,12 @@ use Rattle.dns_message.specs.Record.{record_octets}
 use Rattle.dns_header.proofs.Headers.{header_says}
 use Rattle.dns_header.proofs.WrittenQuestions.{within_message, question-written}
 use Rattle.dns_message.proofs.WrittenRecords.{record-written}
-use Rattle.zone_core.specs.Record.{Record}
+use Rattle.zone_text.specs.Record.{Record}
 use Rattle.zone_core.specs.Query.{AxfrQuery, question_of}
 use Rattle.zone_core.specs.Frames.{IsFramable}
-use Rattle.zone_core.specs.Records.{IsSendable, IsQueryFor}
-use Rattle.zone_core.specs.Sent.{message, size}
-use Rattle.zone_core.specs.Transfer.{Form, Standard, WrittenOut, IsTypeToday, HasQuestion, HasRecord, SpellsRecords, IsAnswer, AreAnswers}
+use Rattle.zone_text.specs.Records.{IsSendable, IsTypeToday}
+use Rattle.zone_core.specs.Sent.{IsQueryFor, message, size}
+use Rattle.zone_core.specs.Transfer.{Form, Standard, WrittenOut, HasQuestion, HasRecord, SpellsRecords, IsAnswer, AreAnswers}
 use Rattle.zone_core.specs.Transfer.SpellsRecords.{none, one}
 use Rattle.zone_core.proofs.Plain.{size_is}
 

@@ -6,7 +6,7 @@ use Rattle.dns_header.specs.Question.{Question, ReadsQuestion, ReadsPlainQuestio
 use Rattle.dns_message.specs.Record.{ReadsRecord, record_octets}
 use Rattle.dns_header.proofs.WrittenQuestions.{question-written}
 use Rattle.dns_message.proofs.WrittenRecords.{record-written}
-use Rattle.zone_core.specs.Record.{Record}
+use Rattle.zone_text.specs.Record.{Record}
 use Rattle.zone_core.specs.Query.{AxfrQuery}
 use Rattle.zone_core.specs.Transfer.{Standard, WrittenOut, HasRecord, AsksAgain, SpellsRecords, IsAnswer, AreAnswers, IsTransfer, IsTransferIn}
 use Rattle.zone_core.specs.Transfer.SpellsRecords.{none, one}

@@ -3,13 +3,12 @@ use Rattle.std.specs.Prelude.{◌≡◌, ◌+◌, ℕ, Bool, true, false, List, 
 use Rattle.std.specs.List.{AllByRecursion, push}
 use Rattle.dns_octets.specs.declared.parser.Parser.{Parser}
 use Rattle.dns_octets.specs.Parser.{octets_of, place_of}
-use Rattle.dns_label.specs.Name.{IsName, wire}
 use Rattle.dns_header.specs.Question.{Question}
-use Rattle.zone_core.specs.Record as spec
+use Rattle.zone_text.specs.Record as spec
 use Rattle.zone_core.specs.Query.{AxfrQuery}
 use Rattle.zone_core.specs.Frames.{frame, frames, IsFramable, IsPartial}
 use Rattle.zone_core.specs.Cutting.{joined}
-use Rattle.zone_core.specs.Records.{IsRecordOf}
+use Rattle.zone_text.specs.Records.{IsRecordOf}
 use Rattle.zone_core.specs.Transfer.{WrittenOut, HasRecord, IsAnswer, AreAnswers, IsTransferred, ClosesTransfer, IsTransferIn}
 use Rattle.zone_core.specs.Receiving.{IsOpen, KeepsRulesTo}
 use Rattle.zone_core.specs.declared.receive.error.ReceiveError.{ReceiveError}
@@ -17,18 +16,7 @@ use Rattle.zone_core.specs.declared.receive.error.ReceiveError.TheVariants as re
 use Rattle.zone_core.specs.declared.receive.rules.Placing.{Placing}
 use Rattle.zone_core.specs.declared.receive.rules.Placing.TheVariants as placing
 use Rattle.zone_core.specs.declared.receive.question.PlainQuestion.{PlainQuestion}
-use Rattle.zone_core.specs.declared.receive.soa.SoaData.{SoaData}
 use Rattle.zone_core.specs.declared.receive.intake.Intake.{Intake}
-
--- the octets are an SOA's data: two names, and five numbers of four octets each (RFC 1035 3.3.13)
-pub record IsSoaOf (octets : List ℕ) (mname rname : List (List ℕ)) (numbers : List ℕ) : Type 0 where
-  pub mname_is : IsName mname
-  pub rname_is : IsName rname
-  pub whole : octets ≡ wire mname ++ (wire rname ++ numbers)
-  pub long : length numbers ≡ 20
-
-abbrev pub IsSoaData : List ℕ → SoaData → Type 0
-IsSoaData octets soa = IsSoaOf octets soa.mname soa.rname soa.numbers.now
 
 -- the question as the standard has it
 abbrev pub question_in : PlainQuestion → Question

@@ -1,7 +1,4 @@
-pub mod Record
 pub mod Cutting
-pub mod Zone
-pub mod ZoneText
 pub mod Query
 pub mod Asked
 pub mod Frames
@@ -10,14 +7,5 @@ pub mod Receiving
 pub mod Intake
 pub mod Received
 pub mod Sent
-pub mod Stored
-pub mod Seen
-pub mod Entry
 pub mod Sending
-pub mod View
-pub mod Records
-pub mod Rules
-pub mod Reading
-pub mod Printed
-pub mod Printing
 pub mod Tried

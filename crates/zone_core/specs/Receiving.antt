@@ -4,12 +4,13 @@ use Rattle.std.specs.Prelude.{◌≡◌, ◌≢◌, ◌+◌, ◌<◌, ◌≤◌,
 use Rattle.std.specs.List.{AllByRecursion, push}
 use Rattle.dns_label.specs.Name.{low}
 use Rattle.dns_header.specs.Header.{is_response, opcode_of, rcode_of, answer_count, id_of}
-use Rattle.zone_core.specs.Record.{Record}
-use Rattle.zone_core.specs.Zone.{IsUnder, soa_type}
+use Rattle.zone_text.specs.Record.{Record}
+use Rattle.zone_text.specs.Zone.{IsUnder, soa_type}
 use Rattle.zone_core.specs.Query.{AxfrQuery, IsQueryFault}
 use Rattle.zone_core.specs.Frames.{frame, frames, IsFramable, Splits}
 use Rattle.zone_core.specs.Cutting.{joined}
-use Rattle.zone_core.specs.Transfer.{WrittenOut, HasRecord, AsksAgain, SpellsRecords, CountsAnswers, HasAnswerHeader, AreAnswers, SameSoa, IsTransferred, ClosesTransfer, IsTransferIn}
+use Rattle.zone_core.specs.Transfer.{WrittenOut, HasRecord, AsksAgain, SpellsRecords, CountsAnswers, HasAnswerHeader, AreAnswers, IsTransferred, ClosesTransfer, IsTransferIn}
+use Rattle.zone_text.specs.Records.{SameSoa}
 use Rattle.zone_core.specs.declared.receive.error.ReceiveError.{ReceiveError}
 use Rattle.zone_core.specs.declared.receive.error.ReceiveError.TheVariants as receive_error
 
@@ -69,7 +70,17 @@ IsRecordFault query front message place (receive_error.AfterLast n) =
     (n ≡ length front + 1) × (r : Record) × (next : ℕ) × HasRecord WrittenOut message place r next
     × KeepsFirstRule query front r × (r.class ≡ query.class) × IsUnder query.name r.owner × KeepsLastRule front r
     × IsClosed query front
-IsRecordFault query front message place error = ⊥
+IsRecordFault query front message place (receive_error.Query why) = ⊥
+IsRecordFault query front message place receive_error.Short = ⊥
+IsRecordFault query front message place receive_error.Id = ⊥
+IsRecordFault query front message place receive_error.NotResponse = ⊥
+IsRecordFault query front message place receive_error.Opcode = ⊥
+IsRecordFault query front message place (receive_error.Rcode rcode) = ⊥
+IsRecordFault query front message place receive_error.Counts = ⊥
+IsRecordFault query front message place receive_error.Question = ⊥
+IsRecordFault query front message place receive_error.Trailing = ⊥
+IsRecordFault query front message place receive_error.Unfinished = ⊥
+IsRecordFault query front message place receive_error.OutOfMemory = ⊥
 
 -- The message, behind others with the records in front, keeps the rules up to a place: there its records of the group end.
 pub record KeepsRulesTo (query : AxfrQuery) (front : List Record) (first : Bool) (message : List ℕ) (group : List Record) (place : ℕ)
@@ -154,7 +165,21 @@ pub record Refuses (old : Heard) (piece : List ℕ) (new : Heard) (error : Recei
 abbrev pub IsAskFault : List ℕ → ReceiveError → Type 0
 IsAskFault message (receive_error.Query fault) = IsQueryFault message fault
 IsAskFault message receive_error.OutOfMemory = ⊤
-IsAskFault message error = ⊥
+IsAskFault message receive_error.Short = ⊥
+IsAskFault message receive_error.Id = ⊥
+IsAskFault message receive_error.NotResponse = ⊥
+IsAskFault message receive_error.Opcode = ⊥
+IsAskFault message (receive_error.Rcode rcode) = ⊥
+IsAskFault message receive_error.Counts = ⊥
+IsAskFault message receive_error.Question = ⊥
+IsAskFault message (receive_error.Record n) = ⊥
+IsAskFault message receive_error.FirstNotSoa = ⊥
+IsAskFault message (receive_error.Class n) = ⊥
+IsAskFault message (receive_error.OutOfZone n) = ⊥
+IsAskFault message (receive_error.SoaDiffers n) = ⊥
+IsAskFault message (receive_error.AfterLast n) = ⊥
+IsAskFault message receive_error.Trailing = ⊥
+IsAskFault message receive_error.Unfinished = ⊥
 
 -- Why there is no zone: the refusal that is kept, or the stream is only begun.
 abbrev pub IsNoZone : Heard → ReceiveError → Type 0

@@ -1,10 +1,11 @@
 -- What is sent for a zone and a query, with every name written out (RFC 5936 2.2).
-use Rattle.std.specs.Prelude.{◌≡◌, ℕ, List, [], ◌∷◌, ◌++◌, length, map, flat_map}
-use Rattle.dns_label.specs.Name.{low}
+use Rattle.std.specs.Prelude.{◌<◌, ◌^◌, ◌≡◌, ℕ, List, [], ◌∷◌, ◌++◌, length, map, flat_map}
+use Rattle.dns_label.specs.Name.{IsName, low}
+use Rattle.zone_text.specs.View.{apex_of}
 use Rattle.dns_header.specs.Header.{answer_header}
 use Rattle.dns_header.specs.Question.{question_octets}
 use Rattle.dns_message.specs.Record.{record_octets}
-use Rattle.zone_core.specs.Record.{Record}
+use Rattle.zone_text.specs.Record.{Record}
 use Rattle.zone_core.specs.Query.{AxfrQuery, IsQuery, IsQueryFault, question_of}
 use Rattle.zone_core.specs.Frames.{frames}
 use Rattle.zone_core.specs.Cutting.{IsFullCut, IsBlocked}
@@ -45,3 +46,10 @@ IsSendFault records apex class octets max send_error.WrongZone =
 IsSendFault records apex class octets max (send_error.Record n) =
     (query : AxfrQuery) × IsQuery octets query × AsksFor query apex class × IsBlocked (size query) max (with_soa_again records) n
 IsSendFault records apex class octets max send_error.OutOfMemory = Unit {0}
+
+-- A query that asks for the zone, and whose values are what a message can say.
+pub record IsQueryFor (records : List Record) (class : ℕ) (query : AxfrQuery) : Type 0 where
+  pub id : query.id < 2 ^ 16
+  pub name : IsName query.name
+  pub class_fits : query.class < 2 ^ 16
+  pub asks : AsksFor query (apex_of records) class

@@ -1,13 +1,13 @@
 -- Which stream is the transfer of a zone to who asked for it (RFC 5936 2.2).
-use Rattle.std.specs.Prelude.{◌≡◌, ◌≢◌, ◌≤◌, ◌⊎◌, ℕ, Bool, true, false, List, [], ◌∷◌, ◌++◌, length, map, slice_index}
+use Rattle.std.specs.Prelude.{◌≡◌, ◌≢◌, ◌≤◌, ◌⊎◌, ℕ, Bool, true, false, List, [], ◌∷◌, ◌++◌, length}
 use Rattle.std.specs.List.{AllByRecursion}
 use Rattle.dns_label.specs.Name.{low}
-use Rattle.dns_rdata.specs.Fields.{Field, IsRow, octets, lowered}
 use Rattle.dns_header.specs.Header.{is_response, opcode_of, rcode_of, question_count, answer_count, authority_count, additional_count, id_of}
 use Rattle.dns_header.specs.Question.{Question, ReadsQuestion, ReadsPlainQuestion}
 use Rattle.dns_message.specs.Record.{ReadsRecord, ReadsPlainRecord}
-use Rattle.zone_core.specs.Record.{Record}
-use Rattle.zone_core.specs.Zone.{IsUnder, a_type, axfr_type, soa_type}
+use Rattle.zone_text.specs.Record.{Record}
+use Rattle.zone_text.specs.Records.{IsTypeToday, IsSpellable, SameSoa}
+use Rattle.zone_text.specs.Zone.{IsUnder, axfr_type, soa_type}
 use Rattle.zone_core.specs.Query.{AxfrQuery}
 use Rattle.zone_core.specs.Frames.{frames, IsFramable}
 use Rattle.zone_core.specs.Cutting.{joined}
@@ -18,10 +18,6 @@ use Rattle.zone_core.specs.Cutting.{joined}
 pub data Form : Type 0 where
   Standard : Form
   WrittenOut : Form
-
--- the types that are received today
-abbrev pub IsTypeToday : ℕ → Type 0
-IsTypeToday rtype = (rtype ≡ soa_type) ⊎ (rtype ≡ a_type)
 
 -- The message of the form has the question at a place, and `next` is the place behind it.
 abbrev pub HasQuestion : Form → List ℕ → ℕ → Question → ℕ → Type 0
@@ -83,26 +79,11 @@ AreAnswers form query first (message ∷ messages) [] = ⊥
 AreAnswers form query first (message ∷ messages) (group ∷ groups) =
     IsAnswer form query first message group × AreAnswers form query false messages groups
 
--- A CAA record (257) can be spelled in text only where its tag, whose length is the second octet, is not empty (RFC 8659 4.1).
-abbrev pub IsSpellable : Record → Type 0
-IsSpellable r = r.rtype ≡ 257 → slice_index r.rdata 1 ≢ 0
-
 -- what holds of every record of a transfer
 pub record IsInZoneOf (query : AxfrQuery) (r : Record) : Type 0 where
   pub class : r.class ≡ query.class
   pub under : IsUnder query.name r.owner
   pub spellable : IsSpellable r
-
--- two SOA records that are equal, names up to ASCII case
-pub record SameSoa (soa other : Record) : Type 0 where
-  pub owner : low soa.owner ≡ low other.owner
-  pub class : soa.class ≡ other.class
-  pub ttl : soa.ttl ≡ other.ttl
-  pub row : List Field
-  pub other_row : List Field
-  pub is : IsRow soa_type row × (soa.rdata ≡ octets row)
-  pub other_is : IsRow soa_type other_row × (other.rdata ≡ octets other_row)
-  pub same : map lowered row ≡ map lowered other_row
 
 -- The records of a transfer without the last SOA: the first is the SOA of the query's name, and no other is an SOA.
 abbrev pub IsTransferred : AxfrQuery → List Record → Type 0

@@ -3,22 +3,22 @@
 
 mod cutting;
 mod framing;
-mod printed;
 mod query;
 mod received;
 mod sent;
-mod text;
 
 pub use cutting::{
     blocked_record_fits_no_cutting, blocked_record_is_one, cut_or_blocked, full_cut_is_fewest,
     full_cut_is_one, parts_fit_where_size_grows, plain_full_cut_is_fewest, sum_of_sizes_grows,
 };
 pub use framing::two_splits_are_one;
-pub use printed::{printed_text_is_the_zones, records_have_one_printed_text};
 pub use query::{one_query_fault, query_asks_one_thing, query_breaks_no_rule};
 pub use received::{
     at_most_one_of_three, one_of_three, received_is_sent_again, sent_is_received,
     transfers_are_one, written_out_is_standard,
 };
 pub use sent::sent_is_a_transfer;
-pub use text::{one_zone_fault, text_has_one_reading, zone_text_breaks_no_rule};
+pub use zone_text::laws::{
+    one_zone_fault, printed_text_is_the_zones, records_have_one_printed_text, text_has_one_reading,
+    zone_text_breaks_no_rule,
+};

@@ -1,32 +1,19 @@
-//! Zones: reading them from text, printing them as text, and sending them as the stream of a transfer.
+//! Transfers: a zone sent as a stream of messages, and received from one (RFC 5936).
 //!
-//! A part of `zonewire`, which hands all of it on. Its `specs/` say which text is a zone's, which stream is its transfer,
-//! and how its records are cut into messages.
+//! A part of `zonewire`, which hands all of it on, over `zone_text`, which has the zones. Its `specs/` say which stream is a
+//! zone's transfer, and how its records are cut into messages.
 #![tactic(auto)]
 
-mod header;
 pub mod laws;
-mod owned_record;
-mod print;
 mod query;
 mod query_error;
 mod receive;
-mod record;
-mod record_list;
 mod send_error;
 mod sender;
-mod text;
 mod transfer;
-mod zone;
-mod zone_error;
-mod zone_records;
 
-pub use print::DisplayKind;
 pub use query::{Query, check_query};
 pub use query_error::QueryError;
 pub use receive::{ReceiveError, Receiver};
 pub use send_error::SendError;
 pub use transfer::{Spelling, send, send_into};
-pub use zone::Zone;
-pub use zone_error::ZoneError;
-pub use zone_records::{ZoneRecord, ZoneRecords};

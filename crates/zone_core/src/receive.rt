@@ -7,7 +7,6 @@ mod question;
 mod receiver;
 mod record;
 mod rules;
-mod soa;
 
 pub use error::ReceiveError;
 pub use receiver::Receiver;

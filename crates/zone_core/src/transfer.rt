@@ -5,15 +5,16 @@ ghost use Rattle.zone_core.specs.Query.{AxfrQuery, IsQuery};
 ghost use Rattle.zone_core.specs.Sent.{AsksFor, IsSent, IsSendFault};
 ghost use Rattle.zone_core.specs.Sending.{Holds, IsRefusedBy};
 ghost use Rattle.zone_core.specs.Transfer.{IsExactTransfer};
-ghost use Rattle.zone_core.specs.View.{apex_of};
+ghost use Rattle.zone_text.specs.View.{apex_of};
 
 use crate::query::{Query, check_query};
-use crate::record_list::RecordList;
 use crate::send_error::SendError;
 use crate::sender::Sender;
-use crate::zone::Zone;
 use dns_name::{Name, ToName};
 use std::alloc::Global;
+use zone_text::Zone;
+use zone_text::record_list::RecordList;
+use zone_text::zone::records_of;
 
 /// How the names in messages are written.
 #[derive(Clone, Copy, Debug, PartialEq, Eq)]
@@ -70,7 +71,7 @@ pub fn send_into(
     match spelling {
         Spelling::Plain => {
             let sender = Sender::new(alloc, spare, &query, &name, max)?;
-            send_records(sender, zone.list())
+            send_records(sender, records_of(zone))
         }
     }
 }

@@ -1,10 +1,10 @@
 -- What a job makes of a zone.
 use Rattle.std.proofs.Common.{◌≡◌, ℕ, List, subst}
 use Rattle.std.specs.Prelude.{Option}
-use Rattle.zone_core.specs.Record.{Record}
-use Rattle.zone_core.specs.View.{apex_of}
+use Rattle.zone_text.specs.Record.{Record}
+use Rattle.zone_text.specs.View.{apex_of}
 use Rattle.zone_core.specs.Query.{AxfrQuery, IsQuery}
-use Rattle.zone_core.specs.ZoneText.{IsZoneText}
+use Rattle.zone_text.specs.ZoneText.{IsZoneText}
 use Rattle.zone_core.specs.Sent.{AsksFor, IsSent, IsSendFault}
 use Rattle.zone_core.specs.declared.send_error.SendError.{SendError}
 use Rattle.zone_core.specs.declared.send_error.SendError.TheVariants.{Query, WrongZone, Record as Blocked, OutOfMemory}

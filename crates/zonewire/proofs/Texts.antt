@@ -6,9 +6,9 @@ use Rattle.clap.specs.Matches.{first_value}
 use Rattle.clap.specs.declared.parser.matches.Found.{Found}
 use Rattle.clap.proofs.WalkLemmas.{first_value-rows}
 use Rattle.dns_label.specs.NameText.{IsNameText}
-use Rattle.dns_name.specs.Text.{IsRefused}
-use Rattle.dns_name.specs.declared.text.FromStrError.{FromStrError}
-use Rattle.dns_name.specs.declared.text.FromStrError.TheVariants.{Presentation, ShortBuf}
+use Rattle.dns_wire.specs.Text.{IsRefused}
+use Rattle.dns_wire.specs.declared.text.FromStrError.{FromStrError}
+use Rattle.dns_wire.specs.declared.text.FromStrError.TheVariants.{Presentation, ShortBuf}
 use Rattle.zonewire.specs.Fault.{of_name}
 use Rattle.zonewire.specs.Words.{IsValueFault}
 

@@ -2,18 +2,18 @@
 use Rattle.std.specs.Prelude.{◌≡◌, ℕ, List, [], ◌∷◌, ◌++◌, false, Option, Some, unwrap_or, ⊤}
 use Rattle.std.specs.Int.{to_be_bytes, w16}
 use Rattle.dns_header.specs.Question.{question_octets}
-use Rattle.zone_core.specs.Record.{Record}
-use Rattle.zone_core.specs.View.{apex_of}
+use Rattle.zone_text.specs.Record.{Record}
+use Rattle.zone_text.specs.View.{apex_of}
 use Rattle.zone_core.specs.Query.{AxfrQuery, IsQuery, question_of}
-use Rattle.zone_core.specs.ZoneText.{IsZoneText, IsZoneFault}
+use Rattle.zone_text.specs.ZoneText.{IsZoneText, IsZoneFault}
 use Rattle.zone_core.specs.Sent.{IsSent, IsSendFault, AsksFor}
 use Rattle.zone_core.specs.Transfer.{WrittenOut, IsTransferIn}
 use Rattle.zone_core.specs.Receiving.{IsAskFault, IsBegun, IsStreamFault}
-use Rattle.zone_core.specs.Printed.{IsPrinted, layout_of}
-use Rattle.zone_core.specs.declared.print.DisplayKind.{DisplayKind}
+use Rattle.zone_text.specs.Printed.{IsPrinted, layout_of}
+use Rattle.zone_text.specs.declared.print.DisplayKind.{DisplayKind}
 use Rattle.zone_core.specs.declared.receive.error.ReceiveError.{ReceiveError}
 use Rattle.zone_core.specs.declared.receive.error.ReceiveError.TheVariants as receive_error
-use Rattle.zone_core.specs.declared.zone_error.ZoneError.TheVariants as zone_error
+use Rattle.zone_text.specs.declared.zone_error.ZoneError.TheVariants as zone_error
 use Rattle.zone_core.specs.declared.send_error.SendError.{SendError}
 use Rattle.zone_core.specs.declared.send_error.SendError.TheVariants as send_error
 use Rattle.zonewire.specs.declared.jobs.Job.{Job}
@@ -47,8 +47,8 @@ pub record IsNotSent (class id : ℕ) (apex : Option (List (List ℕ))) (max : �
   pub text : IsZoneText input class records
   pub refused : IsSendFault records (apex_of records) class (query_octets (query_of id class apex records)) max error
 
--- Why nothing is made of the input. A read or a write that is refused is no fault of a job, and want of memory is always
--- the one fault that says so.
+-- Why nothing is made of the input. A failed read or write is no fault of a job, and out of memory is always the one fault
+-- `OutOfMemory`.
 abbrev pub IsSendJobFault : ℕ → ℕ → Option (List (List ℕ)) → ℕ → List ℕ → Fault → Type 0
 IsSendJobFault class id apex max input (fault.Zone zone_error.OutOfMemory) = ⊥
 IsSendJobFault class id apex max input (fault.Zone error) = IsZoneFault input class error
@@ -59,7 +59,7 @@ IsSendJobFault class id apex max input (fault.Receive error) = ⊥
 IsSendJobFault class id apex max input fault.Read = ⊥
 IsSendJobFault class id apex max input fault.Write = ⊥
 
--- The octets are read as the query, and the input begins with a transfer of these records for it. Whatever is behind that is
+-- The octets are read as the query, and the input begins with a transfer of these records for it. Whatever follows is
 -- ignored.
 pub record IsReceived (asking input : List ℕ) (records : List Record) : Type 0 where
   pub query : AxfrQuery
@@ -91,7 +91,10 @@ abbrev pub IsReceiveJobFault : ℕ → ℕ → List (List ℕ) → List ℕ → 
 IsReceiveJobFault class id apex input (fault.Receive receive_error.OutOfMemory) = ⊥
 IsReceiveJobFault class id apex input (fault.Receive error) = IsNotReceived (asking_for class id apex) input error
 IsReceiveJobFault class id apex input fault.OutOfMemory = Unit {0}
-IsReceiveJobFault class id apex input error = ⊥
+IsReceiveJobFault class id apex input (fault.Zone error) = ⊥
+IsReceiveJobFault class id apex input (fault.Send error) = ⊥
+IsReceiveJobFault class id apex input fault.Read = ⊥
+IsReceiveJobFault class id apex input fault.Write = ⊥
 
 -- what a job makes of its input
 abbrev pub IsOutput : Job → List ℕ → List ℕ → Type 0

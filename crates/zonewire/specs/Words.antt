@@ -13,7 +13,7 @@ use Rattle.clap.specs.Values.{IsSignedIn, kind_of}
 use Rattle.clap.specs.declared.error.kind.ErrorKind.TheVariants as kind
 use Rattle.dns_label.specs.NameText.{IsNameText}
 use Rattle.dns_values.specs.Mnemonic.{class_read}
-use Rattle.zone_core.specs.declared.print.DisplayKind.TheVariants.{Simple}
+use Rattle.zone_text.specs.declared.print.DisplayKind.TheVariants.{Simple}
 use Rattle.zone_core.specs.declared.transfer.Spelling.TheVariants.{Plain}
 use Rattle.zonewire.specs.declared.jobs.Job.{Job}
 use Rattle.zonewire.specs.declared.jobs.Job.TheVariants.{Send, Receive}

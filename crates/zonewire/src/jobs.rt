@@ -1,7 +1,8 @@
 //! What the program is asked to do.
 
 use dns_name::{Class, Name};
-use zone_core::{DisplayKind, Spelling};
+use zone_core::Spelling;
+use zone_text::DisplayKind;
 
 /// One run of the program.
 #[derive(Debug, Drop)]

@@ -1,7 +1,7 @@
 //! What the program `zonewire` does: its command line, its input and its output.
 //!
-//! The face of the topmost layer. Its part is `zone_core` (zones, queries, and the stream of a transfer), and it hands all
-//! of it on.
+//! The face of the topmost layer. Its parts are `zone_text` (zones and their text) and `zone_core` (queries, and the stream of a
+//! transfer), and it hands on what they are for.
 #![tactic(auto)]
 
 mod fault;
@@ -9,6 +9,8 @@ mod jobs;
 mod runs;
 mod sink;
 mod source;
+mod step_sink;
+mod step_source;
 mod words;
 
 pub use fault::Fault;
@@ -16,8 +18,11 @@ pub use jobs::Job;
 pub use runs::run;
 pub use sink::{Sink, SinkError, StdSink};
 pub use source::{Source, SourceError, StdSource};
+pub use step_sink::StepSink;
+pub use step_source::StepSource;
 pub use words::{WordsFault, job};
 pub use zone_core::{
-    DisplayKind, Query, QueryError, ReceiveError, Receiver, SendError, Spelling, Zone, ZoneError,
-    ZoneRecord, ZoneRecords, check_query, laws, send, send_into,
+    Query, QueryError, ReceiveError, Receiver, SendError, Spelling, check_query, laws, send,
+    send_into,
 };
+pub use zone_text::{DisplayKind, Zone, ZoneError, ZoneRecord, ZoneRecords};

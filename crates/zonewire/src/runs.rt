@@ -1,8 +1,9 @@
 //! A run of the program, from its input to its output.
-ghost use Rattle.std.specs.Prelude.{◌≡◌, ◌≢◌, ℕ, List, false, IfOk, IfErr, IfSome, OnOk};
-ghost use Rattle.zone_core.specs.ZoneText.{IsZoneFault, IsZoneText};
+ghost use Rattle.std.specs.Prelude.{◌≡◌, ◌≢◌, ◌↔◌, ℕ, List, false, IfOk, IfErr, IfSome, IsErrOf, IsTrue, OnOk};
+ghost use Rattle.zone_text.specs.ZoneText.{IsZoneFault, IsZoneText};
 ghost use Rattle.std.specs.Io.KnownBytes.{Appends, IsAtEnd};
 ghost use Rattle.zonewire.specs.Output.{IsOutput, IsJobFault, IsNotReceived, IsReceived, IsReceiveJobFault, IsReceiveOutput, IsSendOutput, IsSendJobFault, query_octets, query_of};
+ghost use Rattle.zonewire.specs.Stream.{AppendsBeginning};
 ghost use Rattle.zonewire.specs.declared.fault.Fault.TheVariants as fault;
 
 use crate::fault::Fault;
@@ -11,11 +12,14 @@ use crate::sink::{Sink, write_all};
 use crate::source::{Source, read_all};
 use dns_name::{Class, Name, Rtype};
 use std::alloc::{AllocError, Global};
-use zone_core::{DisplayKind, ReceiveError, Receiver, Spelling, Zone, ZoneError, send_into};
+use zone_core::{ReceiveError, Receiver, Spelling, send_into};
+use zone_text::{DisplayKind, Zone, ZoneError};
 
 /// Reads all the input, and writes what the job makes of it.
 ///
-/// A fault other than `Read` and `Write` is the job's, and nothing is written where a fault other than `Write` comes.
+/// Fails with `Read` if a read fails, with `Write` if a write fails, and else with the job's own fault. Nothing is written
+/// before the whole output is there: after any fault but `Write` the sink is as it was, and after `Write` it holds a
+/// beginning of the output.
 pub fn run<R: Source, W: Sink>(
     alloc: Global,
     source: &mut R,
@@ -25,15 +29,21 @@ pub fn run<R: Source, W: Sink>(
     // What is written is what the job makes of all that was read.
     ensures written { OnOk result (IfSome (R.remaining source.old) (λ input.
         (output : List ℕ) × IsOutput job input output × Appends (W.written sink.old) (W.written sink.new) output)) }
-    ensures ended { OnOk result (IsAtEnd (R.remaining source.new)) }
 
-    // A fault of the job is the one of all that was read, and nothing is written unless a write is refused.
+    // The source is read to its end, unless a read fails or memory runs out.
+    ensures ended { OnOk result (IsAtEnd (R.remaining source.new)) }
+    ensures drained { IfErr result (λ error. error ≢ fault.Read → error ≢ fault.OutOfMemory → IsAtEnd (R.remaining source.new)) }
+
+    // A fault of the job is the one of all that was read, and nothing is written unless a write fails.
     ensures faults { IfErr result (λ error. error ≢ fault.Read → error ≢ fault.Write →
         IfSome (R.remaining source.old) (λ input. IsJobFault job input error)) }
     ensures silent { IfErr result (λ error. error ≢ fault.Write → sink.new ≡ sink.old) }
 
-    // The source is read to its end before a job is refused too.
-    ensures drained { IfErr result (λ error. error ≢ fault.Read → error ≢ fault.OutOfMemory → IsAtEnd (R.remaining source.new)) }
+    // `Read` comes exactly where the source failed, and `Write` exactly where the sink did, after a beginning of the output.
+    ensures read { R.failed source.old ≡ false → (IsErrOf result fault.Read ↔ IsTrue (R.failed source.new)) }
+    ensures write { W.failed sink.old ≡ false → (IsErrOf result fault.Write ↔ IsTrue (W.failed sink.new)) }
+    ensures part { IfErr result (λ error. error ≡ fault.Write → IfSome (R.remaining source.old) (λ input.
+        (output : List ℕ) × IsOutput job input output × AppendsBeginning (W.written sink.old) (W.written sink.new) output)) }
 {
     let input = read_all(alloc, source)?;
     let output = output(alloc, input, &job)?;
@@ -41,7 +51,7 @@ pub fn run<R: Source, W: Sink>(
     Ok(())
 }
 
-/// What the job makes of the input. Zones may be large, so that the input is let go of as soon as it is read, or its memory
+/// Returns what the job makes of the input. A zone may be large, so the input is dropped once it is read, or its memory is
 /// used again.
 fn output(alloc: Global, input: Vec<u8>, job: &Job) -> Result<Vec<u8>, Fault>
     ensures ok { IfOk result (λ output. IsOutput job.now input.items output.items) }
@@ -68,7 +78,7 @@ fn output(alloc: Global, input: Vec<u8>, job: &Job) -> Result<Vec<u8>, Fault>
     }
 }
 
-/// The stream for the zone, by the query that the job makes, in the place of what the spare vector holds.
+/// Returns the stream of the zone for the job's query. It replaces what the spare vector holds.
 fn send_zone(
     alloc: Global,
     spare: Vec<u8>,
@@ -90,7 +100,7 @@ fn send_zone(
     }
 }
 
-/// The zone of the text, with the origin that the job gives.
+/// Reads the zone of the text, with the job's origin.
 fn read_zone(
     alloc: Global,
     input: &[u8],
@@ -110,7 +120,7 @@ fn read_zone(
     }
 }
 
-/// The text of the zone of the transfer that the input begins with, for the query that the job makes.
+/// Returns the text of the zone whose transfer the input begins with, for the job's query.
 fn receive_text(
     alloc: Global,
     input: Vec<u8>,
@@ -129,7 +139,7 @@ fn receive_text(
     Ok(text)
 }
 
-/// The zone of the transfer that the input begins with, for the query.
+/// Reads the zone whose transfer the input begins with, for the query.
 fn receive_zone(alloc: Global, input: &[u8], query: &[u8]) -> Result<Zone, ReceiveError>
     ensures ok { IfOk result (λ zone. IsReceived query.now input.now zone.records) }
     ensures err { IfErr result (IsNotReceived query.now input.now) }
@@ -139,7 +149,7 @@ fn receive_zone(alloc: Global, input: &[u8], query: &[u8]) -> Result<Zone, Recei
     receiver.into_zone()
 }
 
-/// The query for the zone's transfer, by the name that the job gives or else by the zone's own.
+/// Returns the query for the zone's transfer, by the job's name or else by the zone's own.
 fn zone_query(
     alloc: Global,
     id: u16,
@@ -154,7 +164,7 @@ fn zone_query(
     }
 }
 
-/// The query for a zone's transfer, all flags clear (RFC 5936 2.1).
+/// Returns the query for a zone's transfer, with all flags clear (RFC 5936 2.1).
 fn axfr_query(
     alloc: Global,
     id: u16,

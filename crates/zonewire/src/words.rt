@@ -12,7 +12,8 @@ use clap::{Arg, ArgMatches, Command, value_parser};
 use dns_name::{Class, FromStrError, Name};
 use std::alloc::{AllocError, Global};
 use thiserror::Error;
-use zone_core::{DisplayKind, Spelling};
+use zone_core::Spelling;
+use zone_text::DisplayKind;
 
 /// Why a command line names no job.
 #[derive(Debug, Drop, Error)]

@@ -1,4 +1,4 @@
-//! Tests of `zone_core` and `zonewire` by outside examples, through the face.
+//! Tests of `zone_text`, `zone_core` and `zonewire` by outside examples, through the face.
 //!
 //! They stand in a crate of their own, so that a check of the tests doesn't check these crates once more.
 #![tactic(auto)]
@@ -6,17 +6,13 @@
 #[cfg(test)]
 mod examples;
 #[cfg(test)]
-mod printed;
-#[cfg(test)]
-mod queries;
-#[cfg(test)]
 mod received;
-#[cfg(test)]
-mod receivers;
 #[cfg(test)]
 mod runs;
 #[cfg(test)]
 mod sent;
+#[cfg(test)]
+mod steps;
 #[cfg(test)]
 mod text;
 #[cfg(test)]

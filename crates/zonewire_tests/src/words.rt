@@ -1,4 +1,4 @@
-//! Command lines: the jobs that they name, and those that are refused.
+//! Command lines: the fields of the jobs that they name, and what a refused one shows.
 
 use clap::error::ErrorKind;
 use dns_name::Class;
@@ -39,25 +39,6 @@ fn words_of(alloc: Global, line: &str) -> Result<Vec<&str>, WordsFault> {
 /// The job that a line names.
 fn job_of(alloc: Global, line: &str) -> Result<Job, WordsFault> {
     job_or_fault(alloc, words_of(alloc, line)?.as_slice())?
-}
-
-/// Whether the line is no command line, or asks for help.
-fn is_no_job(alloc: Global, line: &str) -> Result<bool, WordsFault> {
-    let words = words_of(alloc, line)?;
-    Ok(matches!(
-        job_or_fault(alloc, words.as_slice())?,
-        Err(WordsFault::Line(_))
-    ))
-}
-
-/// Whether the words are refused for the name.
-fn is_bad_name(alloc: Global, words: &[&str]) -> Result<bool, WordsFault> {
-    Ok(matches!(job_or_fault(alloc, words)?, Err(WordsFault::BadName)))
-}
-
-/// Whether the words are refused for the class.
-fn is_bad_class(alloc: Global, words: &[&str]) -> Result<bool, WordsFault> {
-    Ok(matches!(job_or_fault(alloc, words)?, Err(WordsFault::BadClass)))
 }
 
 /// The job is `send` with these fields, and nothing of its own.
@@ -105,30 +86,6 @@ fn lines_of_send(rt: HostRuntime) -> Result<(), Fail> {
     Ok(())
 }
 
-#[test]
-fn lines_of_send_that_are_refused(rt: HostRuntime) -> Result<(), Fail> {
-    let alloc = rt.alloc();
-    let lines: [&str; 13] = [
-        "zonewire send --spelling plain --max 70000",
-        "zonewire send --spelling plain --id x",
-        "zonewire send --spelling plain --id=-1",
-        "zonewire send --spelling tree",
-        "zonewire send --spelling plain --max",
-        "zonewire send --spelling plain --id 1 --id 1",
-        "zonewire send",
-        "zonewire send --spelling plain --class IN",
-        "zonewire send --spelling plain --apex a.",
-        "zonewire send --spelling plain file",
-        "zonewire check",
-        "zonewire",
-        "",
-    ];
-    for line in lines {
-        assert!(rt; is_no_job(alloc, line)?);
-    }
-    Ok(())
-}
-
 /// The job is `receive` with these fields, of which the apex is given by its octets.
 fn check_receive(rt: &impl Abort, job: Job, apex: &[u8], id: u16, class: u16) {
     let Job::Receive {
@@ -151,7 +108,7 @@ fn check_receive(rt: &impl Abort, job: Job, apex: &[u8], id: u16, class: u16) {
 
 #[test]
 fn lines_of_receive(rt: HostRuntime) -> Result<(), Fail> {
-    let lines: [(&str, &[u8], u16, u16); 6] = [
+    let lines: [(&str, &[u8], u16, u16); 9] = [
         (
             "zonewire receive --apex a.B. --id 4660 --class CH --layout simple",
             b"\x01a\x01B\x00",
@@ -173,99 +130,27 @@ fn lines_of_receive(rt: HostRuntime) -> Result<(), Fail> {
             1,
         ),
         ("zonewire receive --apex=-a.", b"\x02-a\x00", 0, 1),
+        (
+            "zonewire receive --apex=a. --class class0",
+            b"\x01a\x00",
+            0,
+            0,
+        ),
+        (
+            "zonewire receive --apex=a. --class Class255",
+            b"\x01a\x00",
+            0,
+            255,
+        ),
+        (
+            "zonewire receive --apex=a. --class CLASS65535",
+            b"\x01a\x00",
+            0,
+            65535,
+        ),
     ];
     for (line, apex, id, class) in lines {
         check_receive(&rt, job_of(rt.alloc(), line)?, apex, id, class);
-    }
-    Ok(())
-}
-
-#[test]
-fn words_for_classes(rt: HostRuntime) -> Result<(), Fail> {
-    let classes: [(&str, u16); 8] = [
-        ("IN", 1),
-        ("in", 1),
-        ("CH", 3),
-        ("hS", 4),
-        ("CLASS1", 1),
-        ("class0", 0),
-        ("Class255", 255),
-        ("CLASS65535", 65535),
-    ];
-    for (word, class) in classes {
-        let words = ["zonewire", "receive", "--apex", "a.", "--class", word];
-        let job = job_or_fault(rt.alloc(), words.as_slice())??;
-        check_receive(&rt, job, b"\x01a\x00", 0, class);
-    }
-    Ok(())
-}
-
-#[test]
-fn lines_of_receive_that_are_refused(rt: HostRuntime) -> Result<(), Fail> {
-    let alloc = rt.alloc();
-    let lines: [&str; 12] = [
-        "zonewire receive",
-        "zonewire receive --id 1",
-        "zonewire receive --apex a. --layout tabbed",
-        "zonewire receive --apex a. --layout multiline",
-        "zonewire receive --apex a. --layout Simple",
-        "zonewire receive --apex a. --id 65536",
-        "zonewire receive --apex a. --id a",
-        "zonewire receive --apex a. --max 512",
-        "zonewire receive --apex a. --spelling plain",
-        "zonewire receive --apex a. --apex a.",
-        "zonewire receive --apex a. file",
-        "zonewire receive --apex",
-    ];
-    for line in lines {
-        assert!(rt; is_no_job(alloc, line)?);
-    }
-    Ok(())
-}
-
-#[test]
-fn calls_for_help(rt: HostRuntime) -> Result<(), Fail> {
-    let alloc = rt.alloc();
-    let lines: [&str; 4] = [
-        "zonewire --help",
-        "zonewire help",
-        "zonewire send -h",
-        "zonewire receive --apex a. --help",
-    ];
-    for line in lines {
-        assert!(rt; is_no_job(alloc, line)?);
-    }
-    Ok(())
-}
-
-#[test]
-fn names_that_are_refused(rt: HostRuntime) -> Result<(), Fail> {
-    let alloc = rt.alloc();
-    let label = "abcdefghijklmnopqrstuvwxyzabcdefghijklmnopqrstuvwxyz0123456789ab.";
-    for name in ["a..b", "", "..", ".a", "\\256", "\\", label] {
-        let words = ["zonewire", "receive", "--apex", name];
-        assert!(rt; is_bad_name(alloc, words.as_slice())?);
-        let class_too = ["zonewire", "receive", "--class", "X", "--apex", name];
-        assert!(rt; is_bad_name(alloc, class_too.as_slice())?);
-    }
-    Ok(())
-}
-
-#[test]
-fn classes_that_are_refused(rt: HostRuntime) -> Result<(), Fail> {
-    let alloc = rt.alloc();
-    for class in [
-        "X",
-        "",
-        "ANY",
-        "CLASS",
-        "CLASS65536",
-        "CLASS-1",
-        "TYPE1",
-        "1",
-    ] {
-        let words = ["zonewire", "receive", "--apex", "a.", "--class", class];
-        assert!(rt; is_bad_class(alloc, words.as_slice())?);
     }
     Ok(())
 }
@@ -281,5 +166,12 @@ fn a_refused_line_shows_how_lines_are(rt: HostRuntime) -> Result<(), Fail> {
             .starts_with("error: unrecognized subcommand 'check'")
             && text.as_str().contains("Usage: zonewire <COMMAND>")
     );
+    Ok(())
+}
+
+#[test]
+fn layouts_are_compared(rt: HostRuntime) -> Result<(), Fail> {
+    let kind = DisplayKind::Simple;
+    assert!(rt; kind == DisplayKind::Simple && kind.clone()? == kind);
     Ok(())
 }

@@ -1,22 +1,22 @@
 //! Rests as tokens.
-use super::ShowRow;
+use super::ShowLast;
 use super::quoted::Quoted;
-use crate::{Last, LastValue, Rest16, Rest64, RestText, Strings};
+use crate::{LastValue, Rest16, Rest64, RestText, Strings};
 use dns_name::Octets;
 use dns_text::{Formatter, base16, base64};
 use std::fmt;
 
 /// Between quotes.
-impl<Octs: Octets> ShowRow for Last<RestText<Octs>> {
-    fn show_fields<F: Formatter>(&self, formatter: &mut F) -> fmt::Result {
-        formatter.write_token(Quoted::of(self.0.last_octets()))
+impl<Octs: Octets> ShowLast for RestText<Octs> {
+    fn show_last<F: Formatter>(&self, formatter: &mut F) -> fmt::Result {
+        formatter.write_token(Quoted::of(self.last_octets()))
     }
 }
 
 /// In capitals. Without octets there is no token.
-impl<Octs: Octets> ShowRow for Last<Rest16<Octs>> {
-    fn show_fields<F: Formatter>(&self, formatter: &mut F) -> fmt::Result {
-        let octets = self.0.last_octets();
+impl<Octs: Octets> ShowLast for Rest16<Octs> {
+    fn show_last<F: Formatter>(&self, formatter: &mut F) -> fmt::Result {
+        let octets = self.last_octets();
         if octets.is_empty() {
             return Ok(());
         }
@@ -25,9 +25,9 @@ impl<Octs: Octets> ShowRow for Last<Rest16<Octs>> {
 }
 
 /// Without octets there is no token.
-impl<Octs: Octets> ShowRow for Last<Rest64<Octs>> {
-    fn show_fields<F: Formatter>(&self, formatter: &mut F) -> fmt::Result {
-        let octets = self.0.last_octets();
+impl<Octs: Octets> ShowLast for Rest64<Octs> {
+    fn show_last<F: Formatter>(&self, formatter: &mut F) -> fmt::Result {
+        let octets = self.last_octets();
         if octets.is_empty() {
             return Ok(());
         }
@@ -36,9 +36,9 @@ impl<Octs: Octets> ShowRow for Last<Rest64<Octs>> {
 }
 
 /// Each string between quotes.
-impl<Octs: Octets> ShowRow for Last<Strings<Octs>> {
-    fn show_fields<F: Formatter>(&self, formatter: &mut F) -> fmt::Result {
-        for string in self.0.iter() {
+impl<Octs: Octets> ShowLast for Strings<Octs> {
+    fn show_last<F: Formatter>(&self, formatter: &mut F) -> fmt::Result {
+        for string in self.iter() {
             formatter.write_token(string.display_quoted())?;
         }
         Ok(())

@@ -1,8 +1,8 @@
 //! Reading questions.
 ghost use Rattle.std.specs.Prelude.{◌≡◌, ◌↔◌, ◌⊎◌, ℕ, List, IfOk, IfErr, OnOk, OnErr};
 ghost use Rattle.dns_label.specs.Spelled.{Reads};
-ghost use Rattle.dns_name.specs.Cut.{IsCut};
-ghost use Rattle.dns_name.specs.Skip.{Skips};
+ghost use Rattle.dns_wire.specs.Cut.{IsCut};
+ghost use Rattle.dns_wire.specs.Skip.{Skips};
 ghost use Rattle.dns_octets.specs.declared.error.ParseError.TheVariants.{ShortInput};
 ghost use Rattle.dns_octets.specs.Parser.{octets_of, place_of};
 ghost use Rattle.dns_header.specs.Question as spec;
@@ -23,7 +23,7 @@ impl<'a> Question<ParsedName<&'a [u8]>> {
             (question_of labels_of question) (place_of parser.new)) }
         ensures no_question { OnErr result ((question : spec.Question) (next : ℕ)
             → ReadsQuestion (octets_of parser.old) (place_of parser.old) question next → ⊥) }
-        ensures short { IfErr result (λ error. (error ≡ ShortInput) ↔ (IsCut (octets_of parser.old) 255 255 (place_of parser.old)
+        ensures short { IfErr result (λ error. (error ≡ ShortInput) ↔ (IsCut (octets_of parser.old) 255 254 (place_of parser.old)
             ⊎ ((name : List (List ℕ)) × EndsInQuestion (octets_of parser.old)
             (Reads (octets_of parser.old) (place_of parser.old) name)))) }
         ensures same { octets_of parser.new ≡ octets_of parser.old }

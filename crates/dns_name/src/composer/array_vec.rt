@@ -4,8 +4,8 @@ ghost use Rattle.dns_name.specs.Remembered.{sound_none};
 
 use super::Composer;
 use super::in_full::append_in_full;
-use crate::ToName;
 use arrayvec::ArrayVec;
+use dns_flat::ToName;
 use dns_octets::AppendError;
 
 /// Names are written in full.

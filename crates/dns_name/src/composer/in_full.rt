@@ -5,7 +5,7 @@ ghost use Rattle.dns_octets.specs.declared.error.AppendError.TheVariants.{ShortB
 ghost use Rattle.dns_label.specs.Label.{octets_of};
 ghost use Rattle.dns_label.specs.Name.{wire};
 
-use crate::ToName;
+use dns_flat::ToName;
 use dns_label::Label;
 use dns_octets::{AppendError, OctetsBuilder, Truncate};
 

@@ -1,6 +1,6 @@
 //! Targets of messages that are lent.
 use super::Composer;
-use crate::ToName;
+use dns_flat::ToName;
 use dns_octets::AppendError;
 
 /// Names are written as the target that is lent writes them.

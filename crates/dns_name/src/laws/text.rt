@@ -4,8 +4,8 @@ ghost use Rattle.std.specs.List.{AllByRecursion};
 ghost use Rattle.dns_label.specs.Name.{IsName, with_root};
 ghost use Rattle.dns_label.specs.NameText.{IsAbsoluteText, IsNameText};
 ghost use Rattle.dns_label.specs.Printed.{printed_name};
-ghost use Rattle.dns_name.specs.PrintedLabels.{AreOctets, printed_relative, printed_seen};
-ghost use Rattle.dns_name.specs.RelativeText.{IsRelativeNameText};
+ghost use Rattle.dns_flat.specs.PrintedLabels.{AreOctets, printed_relative, printed_seen};
+ghost use Rattle.dns_flat.specs.RelativeText.{IsRelativeNameText};
 
 /// The text that `fmt_with_dot` shows spells the name, with its last dot, and no other.
 pub fn dotted_text_reads_back()

@@ -5,12 +5,12 @@ ghost use Rattle.std.specs.Cmp.{on_equiv, on_total, partial_equiv_from_equiv, pa
 ghost use Rattle.std.specs.Cmp.Lexicographic.{pointwise};
 ghost use Rattle.std.specs.Ordering.{as_partial_cmp, on};
 ghost use Rattle.dns_label.specs.Name.{low, wire};
-ghost use Rattle.dns_name.specs.Order.{labels_order};
-ghost use Rattle.dns_name.specs.OrderLaws.{labels_alike, labels_equivalence, labels_ties, labels_total};
+ghost use Rattle.dns_wire.specs.Order.{labels_order};
+ghost use Rattle.dns_flat.specs.OrderLaws.{labels_alike, labels_equivalence, labels_ties, labels_total};
 
 use super::ParsedName;
-use crate::ToName;
-use crate::wire_form::lowered_wire_of;
+use dns_flat::ToName;
+use dns_flat::wire_form::lowered_wire_of;
 use dns_octets::Octets;
 use std::cmp::Ordering;
 use std::hash::{Hash, Hasher};

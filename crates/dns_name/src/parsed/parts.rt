@@ -4,30 +4,30 @@ ghost use Rattle.dns_label.specs.Label.{octets_of as label_octets};
 ghost use Rattle.dns_label.specs.Name.{with_root, wire, low};
 ghost use Rattle.dns_label.specs.Labels.{labels_at};
 ghost use Rattle.dns_label.specs.Spelled.{Reads};
-ghost use Rattle.dns_name.specs.Cut.{IsCut};
-ghost use Rattle.dns_name.specs.Parsed.{IsReadAt, IsWrittenAt};
-ghost use Rattle.dns_name.specs.Suffix.{EndsWith, StartsWith};
+ghost use Rattle.dns_wire.specs.Cut.{IsCut};
+ghost use Rattle.dns_wire.specs.Parsed.{IsReadAt, IsWrittenAt};
+ghost use Rattle.dns_wire.specs.Suffix.{EndsWith, StartsWith};
 ghost use Rattle.dns_octets.specs.declared.error.ParseError.TheVariants.{ShortInput};
 
 use super::ParsedName;
-use crate::compare::{ends_with, starts_with};
-use crate::parsed_iter::split_label;
-use crate::skip::skip_name;
-use crate::walk::label_at;
-use crate::{Name, ToLabelIter, ToName};
+use dns_flat::{Name, ToName};
 use dns_label::{Label, SplitLabelError};
 use dns_octets::{Octets, ParseError, Parser};
+use dns_wire::ToLabelIter;
+use dns_wire::compare::{ends_with, starts_with};
+use dns_wire::skip::skip_name;
+use dns_wire::walk::{label_at, split_label};
 
 impl<'a> ParsedName<&'a [u8]> {
     ghost use Rattle.dns_octets.specs.Parser.{octets_of, place_of};
     ghost use Rattle.dns_name.specs.ParsedName.{labels_of};
-    ghost use Rattle.dns_name.specs.Skip.{Skips};
+    ghost use Rattle.dns_wire.specs.Skip.{Skips};
 
     /// Reads the name at the parser's place, over the octets that the parser borrows, as `parse` does.
     pub fn parse_ref(parser: &mut Parser<'a>) -> Result<Self, ParseError>
         ensures ok { IfOk result (λ name. Reads (octets_of parser.old) (place_of parser.old) (labels_of name) (place_of parser.new)) }
         ensures err { OnErr result ((name : List (List ℕ)) (next : ℕ) → Reads (octets_of parser.old) (place_of parser.old) name next → ⊥) }
-        ensures short { IfErr result (λ error. (error ≡ ShortInput) ↔ IsCut (octets_of parser.old) 255 255 (place_of parser.old)) }
+        ensures short { IfErr result (λ error. (error ≡ ShortInput) ↔ IsCut (octets_of parser.old) 255 254 (place_of parser.old)) }
         ensures same { octets_of parser.new ≡ octets_of parser.old }
         ensures stays { OnErr result (parser.new ≡ parser.old) }
     {

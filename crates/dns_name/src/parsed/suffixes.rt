@@ -23,7 +23,7 @@ impl<'a> Model for ParsedSuffixIter<'a> {
 
 impl<Octs: Octets> ParsedName<Octs> {
     ghost use Rattle.dns_name.specs.ParsedName.{labels_in};
-    ghost use Rattle.dns_name.specs.Suffix.{suffixes};
+    ghost use Rattle.dns_wire.specs.Suffix.{suffixes};
 
     /// The name itself, its parent, and so on down to the root.
     pub fn iter_suffixes(&self) -> ParsedSuffixIter<'_>
@@ -55,7 +55,7 @@ impl<'a> Iterator for ParsedSuffixIter<'a> {
 
 impl<'a> ParsedName<&'a [u8]> {
     ghost use Rattle.dns_name.specs.ParsedName.{labels_of};
-    ghost use Rattle.dns_name.specs.Suffix.{suffixes};
+    ghost use Rattle.dns_wire.specs.Suffix.{suffixes};
     ghost use Rattle.dns_name.specs.Suffixes.{suffixes_left};
 
     /// The parent, or None at the root.

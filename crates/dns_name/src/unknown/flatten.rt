@@ -4,8 +4,8 @@ ghost use Rattle.dns_octets.specs.Builder.{IsPast};
 
 use super::UnknownRecordData;
 use crate::FlattenInto;
-use crate::copies::octets_from;
 use dns_octets::{AppendError, EmptyBuilder, FromBuilder, Octets};
+use dns_wire::copies::octets_from;
 use std::alloc::Global;
 
 /// The same octets: a name in them is not known.

@@ -1,22 +1,5 @@
-//! The symbols that characters spell, one after another.
+//! The symbols that characters spell, in a closure.
 use dns_label::{Symbol, SymbolCharsError, Symbols};
-
-#[test]
-fn symbols_end_with_the_characters_or_at_an_error(rt: HostRuntime) {
-    let mut symbols = Symbols::new("a\\.".chars());
-    assert!(rt;
-        symbols.next() == Some(Symbol::Char('a'))
-            && symbols.next() == Some(Symbol::SimpleEscape(b'.'))
-            && symbols.next() == None
-            && symbols.ok() == Ok(())
-    );
-    let mut symbols = Symbols::new("\u{e9}a".chars());
-    assert!(rt;
-        symbols.next() == None
-            && symbols.next() == None
-            && symbols.ok() == Err(SymbolCharsError::BadChar)
-    );
-}
 
 #[test]
 fn a_closure_takes_the_symbols(rt: HostRuntime) {

@@ -1,5 +1,5 @@
 //! Names with their last dot in octets of text (RFC 1035 5.1).
-use dns_name::{FromStrError, Name, PresentationError};
+use dns_name::{FromStrError, Name};
 use std::alloc::{AllocError, Global};
 use std::str;
 use std::test::Fail;
@@ -7,7 +7,7 @@ use std::test::Fail;
 /// What stands in the vector before a name is appended.
 const BEFORE: &[u8] = b"\x09\x09";
 
-/// The octets with those of a name behind them that a text spells, or why it spells none.
+/// The octets and after them those of the name that a text spells, or why it spells none.
 fn appended(alloc: Global, text: &[u8]) -> Result<(Vec<u8>, Option<FromStrError>), AllocError> {
     let mut octets = Vec::new(alloc);
     octets.extend_from_slice(BEFORE)?;
@@ -15,7 +15,7 @@ fn appended(alloc: Global, text: &[u8]) -> Result<(Vec<u8>, Option<FromStrError>
     Ok((octets, error))
 }
 
-/// Whether octets of text spell what their characters do, and where these spell nothing nothing is appended.
+/// Whether octets of text spell what their characters do, and nothing is appended where these spell nothing.
 fn is_read_alike(alloc: Global, text: &[u8]) -> Result<bool, Fail> {
     let (octets, error) = appended(alloc, text)?;
     let spelled = match str::from_utf8(text) {
@@ -30,7 +30,7 @@ fn is_read_alike(alloc: Global, text: &[u8]) -> Result<bool, Fail> {
     })
 }
 
-/// A label of so many octets, one of which is another, and another label behind it.
+/// A label of so many octets, one of which is another, and another label after it.
 fn label_with(alloc: Global, len: usize, place: usize, octet: u8) -> Result<Vec<u8>, AllocError> {
     let mut text = vec![in alloc; b'a'; len]?;
     if let Some(there) = text.get_mut(place) {
@@ -57,51 +57,5 @@ fn labels_of_each_length_are_read(rt: HostRuntime) -> Result<(), Fail> {
         let text = label_with(rt.alloc(), len, 0, b'a')?;
         assert!(rt; is_read_alike(rt.alloc(), text.as_slice())?);
     }
-    Ok(())
-}
-
-#[test]
-fn names_are_appended(rt: HostRuntime) -> Result<(), Fail> {
-    let alloc = rt.alloc();
-    let cases: [(&[u8], &[u8]); 3] = [
-        (b"www.example.com.", b"\x03www\x07example\x03com\x00"),
-        (b"a\\.b.c.", b"\x03a.b\x01c\x00"),
-        (b".", b"\x00"),
-    ];
-    for (text, name) in cases {
-        let (octets, error) = appended(alloc, text)?;
-        assert!(rt; error.is_none() && octets.as_slice().strip_prefix(BEFORE) == Some(name));
-    }
-    Ok(())
-}
-
-#[test]
-fn nothing_is_appended_of_what_is_no_name(rt: HostRuntime) -> Result<(), Fail> {
-    let alloc = rt.alloc();
-    let relative = FromStrError::Presentation(PresentationError::RelativeName);
-    let (octets, error) = appended(alloc, b"www.example.com")?;
-    assert!(rt; error == Some(relative) && octets.as_slice() == BEFORE);
-    for text in [b"".as_slice(), b"..", b"a..", b"a.b..c.", b"a.\x00."] {
-        let (octets, error) = appended(alloc, text)?;
-        assert!(rt; error.is_some() && error != Some(relative) && octets.as_slice() == BEFORE);
-    }
-    Ok(())
-}
-
-/// A name has at most 255 octets: four labels of 63 are too many, the last of 61 are not.
-#[test]
-fn longest_name_is_appended(rt: HostRuntime) -> Result<(), Fail> {
-    let mut text = Vec::new(rt.alloc());
-    for len in [63, 63, 63, 61] {
-        let label = vec![in rt.alloc(); b'a'; len]?;
-        text.extend_from_slice(label.as_slice())?;
-        text.push(b'.')?;
-    }
-    let (octets, error) = appended(rt.alloc(), text.as_slice())?;
-    assert!(rt; error.is_none() && octets.len() == 2 + 255);
-    text.extend_from_slice(b"a.")?;
-    let (octets, error) = appended(rt.alloc(), text.as_slice())?;
-    let long = FromStrError::Presentation(PresentationError::LongName);
-    assert!(rt; error == Some(long) && octets.as_slice() == BEFORE);
     Ok(())
 }

@@ -6,11 +6,13 @@ ghost use Rattle.dns_rdata.specs.Data.{number_of, canonical_of, canonical_data_c
 ghost use Rattle.dns_rdata.specs.ZoneData.{data_of};
 
 use super::ZoneRecordData;
+use super::visit::{TypedData, Visit, VisitBoth};
+use crate::rows::{Row, canonical_row_cmp_octets};
 use dns_fields::CanonicalOctetsOrd;
-use dns_name::{CanonicalOrd, Octets, RecordData, ToName};
+use dns_name::{CanonicalOrd, Octets, RecordData, ToName, UnknownRecordData};
 use std::cmp::Ordering;
 
-/// By the number of the type, and then by the canonical octets, whether they are looked into or not (RFC 4034 6.3).
+/// By the number of the type, and then by the canonical octets, whether the data is opaque or not (RFC 4034 6.3).
 impl<Octs: Octets, N: ToName> CanonicalOrd for ZoneRecordData<Octs, N> {
     ghost canonical = { on data_of canonical_data_cmp };
 
@@ -24,25 +26,67 @@ impl<Octs: Octets, N: ToName> CanonicalOrd for ZoneRecordData<Octs, N> {
 }
 
 impl<Octs: Octets, N: ToName> ZoneRecordData<Octs, N> {
-    /// How data stands to other data of the same type.
-    #[tactic(auto, unfolding(dns_fields::specs::Alike::canonical_rows_cmp))]
+    /// Returns how data stands to other data of the same type.
+    #[tactic(auto, using(crate::proofs::Pairs::turned))]
     fn canonical_cmp_within(&self, other: &Self) -> Ordering
         requires { number_of (data_of self.now) ≡ number_of (data_of other.now) }
         ensures { result ≡ slice_cmp nat_cmp (canonical_of (data_of self.now)) (canonical_of (data_of other.now)) }
     {
-        if let ZoneRecordData::Unknown(two) = other {
+        if let Some(two) = other.as_opaque() {
             return self.canonical_octets_cmp(two.data().octets());
         }
-        if let ZoneRecordData::Unknown(one) = self {
+        if let Some(one) = self.as_opaque() {
             return other.canonical_octets_cmp(one.data().octets()).reverse();
         }
-        of_both!(self, other, (one, two) => one.canonical_cmp(two), _ => unreachable!())
+        match self.visit_both::<InCanonicalOrder>(other) {
+            Some(order) => order,
+            None => unreachable!(),
+        }
     }
 }
 
-/// The same order, beside data that is held as octets.
+/// How two values of data of one type stand to each other canonically.
+pub struct InCanonicalOrder;
+
+impl VisitBoth for InCanonicalOrder {
+    type Answer = Ordering;
+
+    ghost answers = { λ one two result. result ≡ slice_cmp nat_cmp (canonical_of one) (canonical_of two) };
+
+    #[tactic(auto, unfolding(dns_fields::specs::Alike::canonical_rows_cmp))]
+    fn fields<D: TypedData>(one: &D, two: &D) -> Ordering {
+        one.as_row().canonical_fields_cmp(two.as_row())
+    }
+
+    fn opaque<Octs: Octets>(
+        one: &UnknownRecordData<Octs>,
+        two: &UnknownRecordData<Octs>,
+    ) -> Ordering {
+        one.canonical_octets_cmp(two.data().octets())
+    }
+}
+
+/// The same order, against data that is held as octets.
 impl<Octs: Octets, N: ToName> CanonicalOctetsOrd for ZoneRecordData<Octs, N> {
     fn canonical_octets_cmp(&self, octets: &[u8]) -> Ordering {
-        of_variant!(self, rdata => rdata.canonical_octets_cmp(octets))
+        let mut octets = octets;
+        self.visit::<AgainstOctets, &[u8]>(&mut octets)
+    }
+}
+
+/// How the canonical form of the data stands to octets.
+pub struct AgainstOctets;
+
+impl<'a> Visit<&'a [u8]> for AgainstOctets {
+    type Answer = Ordering;
+
+    ghost answers = { λ octets rdata result _. result ≡ slice_cmp nat_cmp (canonical_of rdata) octets.now };
+
+    fn fields<D: TypedData>(rdata: &D, octets: &mut &'a [u8]) -> Ordering {
+        canonical_row_cmp_octets(rdata.as_row(), octets)
+    }
+
+    fn opaque<Octs: Octets>(rdata: &UnknownRecordData<Octs>, octets: &mut &'a [u8]) -> Ordering {
+        rdata.canonical_octets_cmp(octets)
     }
 }

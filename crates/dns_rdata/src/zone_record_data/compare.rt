@@ -1,35 +1,50 @@
 //! Data of any type, compared.
-ghost use Rattle.std.specs.Prelude.{◌≡◌, IsTrue};
+ghost use Rattle.std.specs.Prelude.{◌≡◌, IsTrue, fold};
 ghost use Rattle.std.specs.Cmp.{on_equiv, on_total, partial_equiv_from_equiv, partial_order_from_total, partial_order_from_own_ties};
 ghost use Rattle.std.specs.Ordering.{on, as_partial_cmp};
 ghost use Rattle.std.proofs.Common.{refl};
-ghost use Rattle.dns_rdata.specs.Data.{is_untyped, data_eq, data_cmp, data_hashed};
+ghost use Rattle.dns_rdata.specs.Data.{data_eq, data_cmp, data_hashed};
 ghost use Rattle.dns_rdata.specs.DataLaws.{data_equivalent, data_total, data_ties, data_alike};
 ghost use Rattle.dns_rdata.specs.ZoneData.{data_of};
 
 use super::ZoneRecordData;
-use dns_name::{Octets, RecordData, ToName};
+use super::visit::{TypedData, Visit, VisitBoth};
+use crate::rows::Row;
+use dns_name::{Octets, RecordData, ToName, UnknownRecordData};
 use std::cmp::Ordering;
 use std::hash::{Hash, Hasher};
 
-impl<Octs: Octets, N: ToName> ZoneRecordData<Octs, N> {
-    /// Whether the data is not looked into.
-    fn is_untyped(&self) -> bool
-        ensures { result ≡ is_untyped (data_of self.now) }
-    {
-        matches!(self, ZoneRecordData::Unknown(_))
-    }
-}
-
-/// Of the same type, and with equal fields, or with the same octets where both are not looked into.
+/// Of the same type, and with equal fields, or with the same octets if both are opaque.
 impl<Octs: Octets, N: ToName> PartialEq for ZoneRecordData<Octs, N> {
     ghost eq = { on data_of data_eq };
 
     ghost laws = { partial_equiv_from_equiv (on_equiv data_of data_equivalent) };
 
-    #[tactic(auto, unfolding(crate::specs::Data::data_eq, dns_fields::specs::Alike::rows_eq))]
+    #[tactic(auto, using(crate::proofs::Pairs::unlike_eq))]
     fn eq(&self, other: &Self) -> bool {
-        of_both!(self, other, (one, two) => one == two, _ => false)
+        match self.visit_both::<AreEqual>(other) {
+            Some(answer) => answer,
+            None => false,
+        }
+    }
+}
+
+/// Whether two values of data of one type are equal.
+pub struct AreEqual;
+
+impl VisitBoth for AreEqual {
+    type Answer = bool;
+
+    ghost answers = { λ one two result. result ≡ data_eq one two };
+
+    #[tactic(auto, using(crate::proofs::Pairs::same_eq))]
+    fn fields<D: TypedData>(one: &D, two: &D) -> bool {
+        one.as_row().fields_eq(two.as_row())
+    }
+
+    #[tactic(auto, using(crate::proofs::Pairs::opaque_eq))]
+    fn opaque<Octs: Octets>(one: &UnknownRecordData<Octs>, two: &UnknownRecordData<Octs>) -> bool {
+        one == two
     }
 }
 
@@ -48,7 +63,7 @@ impl<Octs: Octets, N: ToName> PartialOrd for ZoneRecordData<Octs, N> {
     }
 }
 
-/// By the number of the type, then fields in front of data that is not looked into, then by what these are.
+/// By the number of the type, then fields before opaque data, then by what these are.
 impl<Octs: Octets, N: ToName> Ord for ZoneRecordData<Octs, N> {
     ghost cmp = { on data_of data_cmp };
 
@@ -58,12 +73,37 @@ impl<Octs: Octets, N: ToName> Ord for ZoneRecordData<Octs, N> {
 
     ghost matches_eq = { λ rdata other. data_ties (data_of rdata) (data_of other) };
 
-    #[tactic(auto, unfolding(crate::specs::Data::data_cmp, dns_fields::specs::Alike::rows_cmp))]
+    #[tactic(auto, using(crate::proofs::Pairs::unlike_cmp))]
     fn cmp(&self, other: &Self) -> Ordering {
-        of_both!(self, other, (one, two) => one.cmp(two), _ => self
-            .rtype()
-            .cmp(&other.rtype())
-            .then(self.is_untyped().cmp(&other.is_untyped())))
+        match self.visit_both::<InOrder>(other) {
+            Some(order) => order,
+            None => self
+                .rtype()
+                .cmp(&other.rtype())
+                .then(self.is_opaque().cmp(&other.is_opaque())),
+        }
+    }
+}
+
+/// How two values of data of one type stand to each other.
+pub struct InOrder;
+
+impl VisitBoth for InOrder {
+    type Answer = Ordering;
+
+    ghost answers = { λ one two result. result ≡ data_cmp one two };
+
+    #[tactic(auto, using(crate::proofs::Pairs::same_cmp))]
+    fn fields<D: TypedData>(one: &D, two: &D) -> Ordering {
+        one.as_row().fields_cmp(two.as_row())
+    }
+
+    #[tactic(auto, using(crate::proofs::Pairs::opaque_cmp))]
+    fn opaque<Octs: Octets>(
+        one: &UnknownRecordData<Octs>,
+        two: &UnknownRecordData<Octs>,
+    ) -> Ordering {
+        one.cmp(two)
     }
 }
 
@@ -73,7 +113,25 @@ impl<Octs: Octets, N: ToName> Hash for ZoneRecordData<Octs, N> {
     ghost respects_eq = { λ rdata other. data_alike (data_of rdata) (data_of other) };
 
     fn hash<H: Hasher>(&self, state: &mut H) {
-        self.rtype().to_int().hash(state);
-        of_variant!(self, rdata => rdata.hash(state))
+        self.visit::<Hashed, H>(state)
+    }
+}
+
+/// The data fed to a hasher.
+pub struct Hashed;
+
+impl<H: Hasher> Visit<H> for Hashed {
+    type Answer = ();
+
+    ghost answers = { λ old rdata _ new. new ≡ fold H.write old (data_hashed rdata) };
+
+    fn fields<D: TypedData>(rdata: &D, state: &mut H) {
+        rdata.number().hash(state);
+        rdata.as_row().hash_fields(state);
+    }
+
+    fn opaque<Octs: Octets>(rdata: &UnknownRecordData<Octs>, state: &mut H) {
+        rdata.rtype().to_int().hash(state);
+        rdata.hash(state);
     }
 }

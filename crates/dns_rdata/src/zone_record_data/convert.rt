@@ -10,7 +10,7 @@ use dns_name::{
 };
 use std::alloc::Global;
 
-/// The same data, its names flat.
+/// Returns the same data, with flat names.
 impl<Source: Octets + Drop, N: ToName + Drop, Octs: FromBuilder + Drop> FlattenInto<
     ZoneRecordData<Octs, Name<Octs>>,
 > for ZoneRecordData<Source, N>
@@ -53,8 +53,8 @@ where
     }
 }
 
-/// The same data over other octets. Refused with `ShortBuf` only where these can't hold as many as a field has, and with
-/// `OutOfMemory` where memory was wanting.
+/// Returns the same data over other octets. Fails with `ShortBuf` only if these can't hold as many as a field has, and with
+/// `OutOfMemory` only if out of memory.
 impl<Source: Octets + Drop, N: ToName + Drop, Octs: FromBuilder + Drop> OctetsFrom<
     ZoneRecordData<Source, N>,
 > for ZoneRecordData<Octs, Name<Octs>>

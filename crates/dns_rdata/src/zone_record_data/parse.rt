@@ -1,4 +1,4 @@
-//! Data of any type out of a message.
+//! Data of any type, parsed from a message.
 ghost use Rattle.std.specs.Prelude.{true};
 ghost use Rattle.dns_rdata.specs.Data.{ReadsData};
 ghost use Rattle.dns_rdata.specs.ZoneData.{data_of};
@@ -12,8 +12,8 @@ use dns_name::{
     ParseAnyRecordData, ParseError, ParseRecordData, ParsedName, Parser, Rtype, UnknownRecordData,
 };
 
-/// Takes the fields of the types that have some, up to the end of the parser with nothing left, and of every other type its
-/// octets, at most 65,535 of them.
+/// Parses the fields of the types that have some, up to the end of the parser with nothing left, and data of every other type
+/// as at most 65,535 opaque octets.
 impl<'a> ParseAnyRecordData<'a> for ZoneRecordData<&'a [u8], ParsedName<&'a [u8]>> {
     ghost reads_any = { λ message place number rdata. ReadsData message place number (data_of rdata) };
 

@@ -1,4 +1,4 @@
-//! Data of any type out of text.
+//! Data of any type, scanned from text.
 ghost use Rattle.std.specs.Prelude.{◌≡◌, ◌∷◌, false, IfOk, IfErr, OnErr};
 ghost use Rattle.dns_scan.specs.Token.{IsEnding, SameNames, marker};
 ghost use Rattle.dns_rdata.specs.Data.{IsUnmarked, NoAnyDataScans, ScansAnyData};
@@ -13,12 +13,12 @@ use dns_name::{FromBuilder, Octets, Rtype, ToName};
 use dns_text::{Scanner, ScannerError, scan_without_marker};
 
 impl<Octs: FromBuilder + Drop, N: ToName + Drop> ZoneRecordData<Octs, N> {
-    /// Reads data of the type from the tokens in front, and takes these (RFC 1035 5.1). Where the first one is the unquoted
-    /// `\#`, this is data of any type as its octets (RFC 3597 5), which takes all tokens, and is not judged by the fields that the
-    /// type has; a type without fields has this form alone. Tokens behind the last field stay.
+    /// Scans data of the type from the first tokens, and takes these (RFC 1035 5.1). If the first one is the unquoted `\#`,
+    /// this is opaque data of any type (RFC 3597 5), which takes all tokens and need not have the fields of the type; a type
+    /// without fields has this form alone. Tokens after the last field stay.
     ///
-    /// Refused with an error other than `short_buf` only where no data of the type stands in front, of at most 65,535 octets; the
-    /// tokens left are then an ending of those left before.
+    /// Fails with an error other than `short_buf` only if the tokens begin with no data of the type of at most 65,535 octets.
+    /// The tokens left are then the last of those left before.
     pub fn scan<S: Scanner<Octets = Octs, Name = N>>(
         rtype: Rtype,
         scanner: &mut S,
@@ -37,7 +37,7 @@ impl<Octs: FromBuilder + Drop, N: ToName + Drop> ZoneRecordData<Octs, N> {
         }
     }
 
-    /// Reads data of the type behind what marks it as not looked into.
+    /// Scans opaque data of the type after its marker.
     fn scan_octets<S: Scanner<Octets = Octs, Name = N>>(
         rtype: Rtype,
         scanner: &mut S,
@@ -55,7 +55,7 @@ impl<Octs: FromBuilder + Drop, N: ToName + Drop> ZoneRecordData<Octs, N> {
         }
     }
 
-    /// Reads the fields of data of the type.
+    /// Scans the fields of data of the type.
     fn scan_fields<S: Scanner<Octets = Octs, Name = N>>(
         rtype: Rtype,
         scanner: &mut S,

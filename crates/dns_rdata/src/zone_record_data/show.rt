@@ -1,21 +1,40 @@
 //! Data of any type as text.
-ghost use Rattle.std.specs.Prelude.{Some};
+ghost use Rattle.std.specs.Prelude.{Some, OnOk};
 ghost use Rattle.dns_rdata.specs.Data.{document_of};
 ghost use Rattle.dns_rdata.specs.ZoneData.{data_of};
 ghost use Rattle.dns_text.specs.Document.{document_text};
 ghost use Rattle.dns_text.specs.Document.Layout.{Simple};
+ghost use Rattle.dns_text.specs.Writing.{Adds};
 
 use super::ZoneRecordData;
-use dns_name::{Octets, ToName};
+use super::visit::{TypedData, Visit};
+use dns_name::{Octets, ToName, UnknownRecordData};
 use dns_text::{DisplayKind, Formatter, ZonefileFmt};
 use std::fmt;
 
-/// The tokens of the fields in a block, or the octets (RFC 3597 5).
+/// The tokens of the fields in a block, or the opaque octets (RFC 3597 5).
 impl<Octs: Octets, N: ToName> ZonefileFmt for ZoneRecordData<Octs, N> {
     ghost document = { λ rdata. document_of (data_of rdata) };
 
     fn fmt<F: Formatter>(&self, formatter: &mut F) -> fmt::Result {
-        of_variant!(self, rdata => ZonefileFmt::fmt(rdata, formatter))
+        self.visit::<Shown, F>(formatter)
+    }
+}
+
+/// The document of the data written.
+pub struct Shown;
+
+impl<F: Formatter> Visit<F> for Shown {
+    type Answer = fmt::Result;
+
+    ghost answers = { λ old rdata result new. OnOk result (Adds F.writes old (document_of rdata) new) };
+
+    fn fields<D: TypedData>(rdata: &D, formatter: &mut F) -> fmt::Result {
+        rdata.show(formatter)
+    }
+
+    fn opaque<Octs: Octets>(rdata: &UnknownRecordData<Octs>, formatter: &mut F) -> fmt::Result {
+        ZonefileFmt::fmt(rdata, formatter)
     }
 }
 

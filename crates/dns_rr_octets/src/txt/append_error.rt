@@ -1,17 +1,17 @@
-//! Why text was not put to TXT data.
+//! Why appending to TXT data failed.
 ghost use Rattle.std.specs.Prelude.{◌≡◌};
 ghost use Rattle.dns_rr_octets.specs.declared.txt.append_error.TxtAppendError.TheVariants as txt_append_error;
 
 use dns_name::{AppendError, LongRecordData};
 use thiserror::Error;
 
-/// Why text was not put to TXT data.
+/// Why appending to TXT data failed.
 #[derive(Clone, Copy, Debug, PartialEq, Eq, Error)]
 pub enum TxtAppendError {
     /// The data would have more than 65,535 octets.
     #[error("record data too long")]
     LongRecordData,
-    /// There is no memory or no room for it.
+    /// Out of memory or room.
     #[error("short buffer")]
     ShortBuf,
 }

@@ -1,4 +1,4 @@
-//! TXT data that is built string by string.
+//! A builder of TXT data, string by string.
 ghost use Rattle.std.specs.Prelude.{◌≡◌, ◌+◌, ◌<◌, ◌↔◌, ◌++◌, ◌∷◌, [], length, Err, IfOk, IfErr, IsErr, OnOk, OnErr};
 ghost use Rattle.dns_fields.specs.Fields.{strings};
 ghost use Rattle.dns_rr_octets.specs.Built.{Built, GoesOn, StandsFor, built_of, nothing_built, strings_built, all_closed, with_string, text_len, strings_len, some_strings};
@@ -14,13 +14,13 @@ use dns_text::CharStr;
 use std::alloc::Global;
 use std::marker::Model;
 
-/// TXT data that is built: closed strings, and maybe an open one.
+/// A builder of TXT data: closed strings, and maybe an open one.
 ///
-/// A contract sees it as a `Built`, its strings. A refused call leaves it as it was.
+/// A contract sees its strings. A call that fails leaves it as it was.
 #[derive(Debug, Drop)]
 pub struct TxtBuilder<Builder: OctetsBuilder> {
     builder: Builder,
-    /// Where the length of the open string stands, which is kept as it grows.
+    /// The place of the open string's length, which is updated as the string grows.
     head: Option<usize>,
 }
 
@@ -33,7 +33,7 @@ impl<Builder: OctetsBuilder> Model for TxtBuilder<Builder> {
 }
 
 impl<Builder: EmptyBuilder> TxtBuilder<Builder> {
-    /// Nothing yet, in octets that grow on this allocator if they grow at all.
+    /// Returns an empty builder, whose octets grow on this allocator if they grow at all.
     pub fn new(alloc: Global) -> Self
         ensures { result ≡ nothing_built }
     {
@@ -45,7 +45,7 @@ impl<Builder: EmptyBuilder> TxtBuilder<Builder> {
 }
 
 impl TxtBuilder<Vec<u8>> {
-    /// Nothing yet, in a vector.
+    /// Returns an empty builder over a vector.
     pub fn new_vec(alloc: Global) -> Self
         ensures { result ≡ nothing_built }
     {
@@ -54,11 +54,11 @@ impl TxtBuilder<Vec<u8>> {
 }
 
 impl<Builder: Truncate + WriteOctets> TxtBuilder<Builder> {
-    /// Puts octets to the open string, or begins a string with them. A string that has 255 octets is closed, and what
+    /// Appends octets to the open string, or begins a string with them. A string that has 255 octets is closed, and what
     /// follows begins another. No octets change nothing.
     ///
-    /// Refused with `LongRecordData` exactly where the data would have more than 65,535 octets, and with `ShortBuf` for
-    /// want of room or memory.
+    /// Fails with `LongRecordData` exactly if the data would have more than 65,535 octets, and with `ShortBuf` if out of
+    /// room or memory.
     pub fn append_slice(&mut self, octets: &[u8]) -> Result<(), TxtAppendError>
         ensures ok { OnOk result (GoesOn self.old octets.now self.new) }
         ensures err { OnErr result (self.new ≡ self.old) }
@@ -73,7 +73,7 @@ impl<Builder: Truncate + WriteOctets> TxtBuilder<Builder> {
         Ok(())
     }
 
-    /// Puts an octet to the open string, or begins a string with it, as `append_slice` does.
+    /// Appends an octet to the open string, or begins a string with it, as `append_slice` does.
     pub fn append_u8(&mut self, octet: u8) -> Result<(), TxtAppendError>
         ensures ok { OnOk result (GoesOn self.old (octet ∷ []) self.new) }
         ensures err { OnErr result (self.new ≡ self.old) }
@@ -85,10 +85,10 @@ impl<Builder: Truncate + WriteOctets> TxtBuilder<Builder> {
 }
 
 impl<Builder: OctetsBuilder> TxtBuilder<Builder> {
-    /// Closes the open string, if one is open, and puts a whole string behind it, which may be empty.
+    /// Closes the open string, if there is one, and appends a whole string, which may be empty.
     ///
-    /// Refused with `LongRecordData` exactly where the data would have more than 65,535 octets, and with `ShortBuf` for
-    /// want of room or memory.
+    /// Fails with `LongRecordData` exactly if the data would have more than 65,535 octets, and with `ShortBuf` if out of
+    /// room or memory.
     pub fn append_charstr<Octs: Octets>(
         &mut self,
         string: &CharStr<Octs>,
@@ -105,18 +105,18 @@ impl<Builder: OctetsBuilder> TxtBuilder<Builder> {
         Ok(())
     }
 
-    /// Closes the open string, if one is open.
+    /// Closes the open string, if there is one.
     pub fn close_charstr(&mut self)
         ensures { self.new ≡ all_closed self.old }
     {
-        self.head = None; // the length in front of it is kept as it grows
+        self.head = None; // the length before it is updated as it grows
     }
 }
 
 impl<Builder: OctetsBuilder + FreezeBuilder + Drop> TxtBuilder<Builder> {
-    /// The data of all strings, in the same octets. Where there are none it is one empty string.
+    /// Returns the data of all strings, in the same octets. If there are none it is one empty string.
     ///
-    /// Refused with `ShortBuf`, for want of room or memory, only where there are none.
+    /// Fails with `ShortBuf`, if out of room or memory, only if there are none.
     pub fn finish(self) -> Result<Txt<Builder::Octets>, TxtAppendError>
     where
         Builder::Octets: Drop,

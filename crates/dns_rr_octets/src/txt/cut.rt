@@ -12,7 +12,7 @@ use super::iter::TxtIter;
 use dns_name::{AppendError, Compose, OctetsBuilder, Truncate, WriteOctets};
 use dns_text::CharStr;
 
-/// Whether so many octets of text, as strings behind other data, make more than 65,535 octets.
+/// Whether so many octets of text, as strings after other data, make more than 65,535 octets.
 pub(super) fn is_long(len: usize, count: usize) -> bool
     requires { len ≤ 65535 }
     ensures { IsTrue result ↔ (65535 < len + text_len count) }
@@ -20,8 +20,8 @@ pub(super) fn is_long(len: usize, count: usize) -> bool
     count > 65_535 || len + count + count.div_ceil(255) > 65_535
 }
 
-/// Appends the strings of a text, and gives the place of the last one's length where that has fewer than 255 octets. Where
-/// one is refused, those in front of it stay.
+/// Appends the strings of a text, and returns the place of the last one's length if that has fewer than 255 octets. If
+/// one fails, those before it stay.
 pub(super) fn append_strings<Builder: OctetsBuilder>(
     builder: &mut Builder,
     text: &[u8],
@@ -43,7 +43,7 @@ pub(super) fn append_strings<Builder: OctetsBuilder>(
     Ok(Some(place))
 }
 
-/// Appends a string behind its length, all or nothing.
+/// Appends a string after its length, all or nothing.
 fn append_string<Builder: OctetsBuilder>(
     builder: &mut Builder,
     octets: &[u8],
@@ -58,7 +58,7 @@ fn append_string<Builder: OctetsBuilder>(
     string.compose(builder)
 }
 
-/// Appends the octets of strings, joined, or some of them where one string is refused.
+/// Appends the octets of strings, joined, or some of them if one string fails.
 pub(super) fn append_joined<Builder: OctetsBuilder>(
     builder: &mut Builder,
     strings: TxtIter<'_>,
@@ -74,7 +74,7 @@ pub(super) fn append_joined<Builder: OctetsBuilder>(
     Ok(())
 }
 
-/// Puts an empty string where there are no octets.
+/// Appends an empty string if there are no octets.
 pub(super) fn fill<Builder: OctetsBuilder>(builder: &mut Builder) -> Result<(), AppendError>
     ensures ok { OnOk result ((each : List (List ℕ)) → Builder.list builder.old ≡ flat_map string_octets each
         → Builder.list builder.new ≡ flat_map string_octets (some_strings each)) }
@@ -86,9 +86,9 @@ pub(super) fn fill<Builder: OctetsBuilder>(builder: &mut Builder) -> Result<(), 
     builder.append_slice(&[0])
 }
 
-/// Begins strings with a text, all or nothing. Gives the place of the open one's length, if one is open then.
+/// Begins strings with a text, all or nothing. Returns the place of the open one's length, if one is open then.
 ///
-/// Refused with `LongRecordData` exactly where there would be more than 65,535 octets.
+/// Fails with `LongRecordData` exactly if there would be more than 65,535 octets.
 pub(super) fn begin_text<Builder: Truncate>(
     builder: &mut Builder,
     text: &[u8],
@@ -112,10 +112,10 @@ pub(super) fn begin_text<Builder: Truncate>(
     }
 }
 
-/// Goes on with the open string, whose length stands at a place, all or nothing. Gives the place of the open one's length,
-/// if one is open then.
+/// Continues the open string, whose length is at a place, all or nothing. Returns the place of the open one's length, if
+/// one is open then.
 ///
-/// Refused with `LongRecordData` exactly where there would be more than 65,535 octets.
+/// Fails with `LongRecordData` exactly if there would be more than 65,535 octets.
 pub(super) fn continue_text<Builder: Truncate + WriteOctets>(
     builder: &mut Builder,
     place: usize,

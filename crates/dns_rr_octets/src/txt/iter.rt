@@ -1,11 +1,11 @@
-//! The strings of TXT data, one after another.
+//! Iterators over the strings of TXT data.
 ghost use Rattle.std.specs.Prelude.{◌≡◌, List, ℕ};
 
 use dns_fields::StringsIter;
 use dns_text::CharStr;
 use std::marker::Model;
 
-/// The octets of strings that are left. A contract sees the list of the strings.
+/// An iterator over the octets of each string. A contract sees the list of the strings that are left.
 #[derive(Debug, Drop)]
 pub struct TxtIter<'a> {
     strings: StringsIter<'a>,
@@ -18,7 +18,7 @@ impl<'a> Model for TxtIter<'a> {
 }
 
 impl<'a> TxtIter<'a> {
-    /// All of these strings.
+    /// Iterates over all of these strings.
     pub(crate) fn over(strings: StringsIter<'a>) -> Self
         ensures { result ≡ strings.entry }
     {
@@ -43,7 +43,7 @@ impl<'a> Iterator for TxtIter<'a> {
     }
 }
 
-/// Strings that are left. A contract sees their list.
+/// An iterator over the strings. A contract sees the list of those that are left.
 #[derive(Debug, Drop)]
 pub struct TxtCharStrIter<'a> {
     strings: StringsIter<'a>,
@@ -56,7 +56,7 @@ impl<'a> Model for TxtCharStrIter<'a> {
 }
 
 impl<'a> TxtCharStrIter<'a> {
-    /// All of these strings.
+    /// Iterates over all of these strings.
     pub(crate) fn over(strings: StringsIter<'a>) -> Self
         ensures { result ≡ strings.entry }
     {

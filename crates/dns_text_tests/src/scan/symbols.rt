@@ -1,31 +1,15 @@
-//! The symbols of tokens, handed to closures and to converters (RFC 1035 5.1, RFC 4648 10).
+//! The symbols of tokens, handed to closures and to converters (RFC 1035 5.1, RFC 4648 8).
+use super::scanners::over;
 use dns_name::{Octets, Symbol};
-use dns_scan::{
-    ConvertSymbols, DecodedOctet, EntrySymbol, IterScanner, Scanner, StrError, base16, base32,
-    base64,
-};
-use std::alloc::Global;
+use dns_text::{ConvertSymbols, DecodedOctet, EntrySymbol, Scanner, StrError, base16};
 use std::test::Fail;
 
-/// A scanner over the words between white space.
-fn over(alloc: Global, words: &str) -> Result<IterScanner<'_>, StrError> {
-    match IterScanner::new(alloc, words.split_whitespace()) {
-        Ok(scanner) => Ok(scanner),
-        Err(_) => Err(StrError::ShortBuf),
+/// The octet of a symbol that was read, and 0 for any other.
+fn octet(symbol: Symbol) -> u32 {
+    match symbol.into_octet() {
+        Ok(octet) => u32::from(octet),
+        Err(_) => 0,
     }
-}
-
-#[test]
-fn a_token_is_looked_at_and_skipped(rt: HostRuntime) -> Result<(), Fail> {
-    let mut scanner = over(rt.alloc(), "a\\032b c")?;
-    assert!(rt; scanner.peek_text()? == b"a\\032b".as_slice());
-    assert!(rt; scanner.peek_text()? == b"a\\032b".as_slice());
-    scanner.skip_token();
-    assert!(rt; scanner.peek_text()? == b"c".as_slice());
-    scanner.skip_token();
-    scanner.skip_token();
-    assert!(rt; scanner.peek_text() == Err(StrError::EndOfEntry));
-    Ok(())
 }
 
 #[test]
@@ -65,107 +49,6 @@ fn a_closure_is_handed_an_entry(rt: HostRuntime) -> Result<(), Fail> {
         EntrySymbol::EndOfToken => Err(StrError::TrailingTokens),
     });
     assert!(rt; refused == Err(StrError::TrailingTokens));
-    Ok(())
-}
-
-/// The octet of a symbol that was read, and 0 for any other.
-fn octet(symbol: Symbol) -> u32 {
-    match symbol.into_octet() {
-        Ok(octet) => u32::from(octet),
-        Err(_) => 0,
-    }
-}
-
-#[test]
-fn tokens_are_converted(rt: HostRuntime) -> Result<(), Fail> {
-    let mut scanner = over(rt.alloc(), "666F6f62 CPNMUOG Zm9vYg== 666 \\0546 6\\F")?;
-    let foob = b"foob".as_slice();
-    assert!(rt;
-        scanner
-            .convert_token(base16::SymbolConverter::new())?
-            .as_slice()
-            == foob
-    );
-    assert!(rt;
-        scanner
-            .convert_token(base32::SymbolConverter::new())?
-            .as_slice()
-            == foob
-    );
-    assert!(rt;
-        scanner
-            .convert_token(base64::SymbolConverter::new())?
-            .as_slice()
-            == foob
-    );
-    let short = StrError::Custom("incomplete input");
-    let escaped = StrError::Custom("escaped character");
-    let refused = scanner.convert_token(base16::SymbolConverter::new());
-    assert!(rt; refused.err() == Some(short));
-    scanner.skip_token();
-    let refused = scanner.convert_token(base16::SymbolConverter::new());
-    assert!(rt; refused.err() == Some(escaped));
-    scanner.skip_token();
-    let refused = scanner.convert_token(base16::SymbolConverter::new());
-    assert!(rt; refused.err() == Some(escaped));
-    Ok(())
-}
-
-/// What the token is converted to in base 16, and what its text is decoded to.
-fn both_16(alloc: Global, token: &str) -> Result<(Option<Vec<u8>>, Option<Vec<u8>>), StrError> {
-    let converted = over(alloc, token)?.convert_token(base16::SymbolConverter::new());
-    Ok((converted.ok(), base16::decode(alloc, token).ok()))
-}
-
-#[test]
-fn a_token_is_converted_as_its_text_is_decoded(rt: HostRuntime) -> Result<(), Fail> {
-    let (converted, decoded) = both_16(rt.alloc(), "666F6f62")?;
-    assert!(rt;
-        converted.as_deref() == Some(b"foob".as_slice())
-            && decoded.as_deref() == Some(b"foob".as_slice())
-    );
-    for token in ["6", "6g", "\\0546", "6=", "\u{e9}9"] {
-        let (converted, decoded) = both_16(rt.alloc(), token)?;
-        assert!(rt; converted.is_none() && decoded.is_none());
-    }
-    Ok(())
-}
-
-#[test]
-fn entries_are_converted(rt: HostRuntime) -> Result<(), Fail> {
-    let foob = b"foob".as_slice();
-    let mut scanner = over(rt.alloc(), "666F 6 F62")?;
-    assert!(rt;
-        scanner
-            .convert_entry(base16::SymbolConverter::new())?
-            .as_slice()
-            == foob
-    );
-    assert!(rt;
-        scanner
-            .convert_entry(base16::SymbolConverter::new())?
-            .is_empty()
-    );
-    let mut scanner = over(rt.alloc(), "CPN MUOG")?;
-    assert!(rt;
-        scanner
-            .convert_entry(base32::SymbolConverter::new())?
-            .as_slice()
-            == foob
-    );
-    let mut scanner = over(rt.alloc(), "Zm9vYg = =")?;
-    assert!(rt;
-        scanner
-            .convert_entry(base64::SymbolConverter::new())?
-            .as_slice()
-            == foob
-    );
-    let mut scanner = over(rt.alloc(), "Zm9vYg =")?;
-    let refused = scanner.convert_entry(base64::SymbolConverter::new());
-    assert!(rt; refused.err() == Some(StrError::Custom("incomplete input")));
-    let mut scanner = over(rt.alloc(), "666F 6x")?;
-    let refused = scanner.convert_entry(base16::SymbolConverter::new());
-    assert!(rt; refused.err() == Some(StrError::Custom("illegal character")));
     Ok(())
 }
 

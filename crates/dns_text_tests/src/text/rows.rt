@@ -1,83 +1,22 @@
-//! Rows of records: data in blocks, comments, blocks inside blocks and line ends; a target that takes no more.
-ghost use Rattle.std.specs.Prelude.{[], ◌∷◌, OnOk, codes, decimal};
-ghost use Rattle.dns_values.specs.Mnemonic.{class_written, type_written};
-ghost use Rattle.dns_text.specs.Document.Piece.{Token, Comment, Open, Close, Newline};
+//! Documents with blocks inside blocks, comments outside of blocks and line ends, and a target that takes no more.
+ghost use Rattle.std.specs.Prelude.{[], ◌∷◌, OnOk, codes};
+ghost use Rattle.dns_text.specs.Document.Piece.{Token, Open, Close, Newline};
 ghost use Rattle.dns_text.specs.Documents.{block_of};
-ghost use Rattle.dns_text.specs.Tried.{authority, bare, marks, nested};
+ghost use Rattle.dns_text.specs.Tried.{bare, marks, nested};
 ghost use Rattle.dns_text.specs.Writing.{Adds};
 
-use super::{KINDS, shown};
-use dns_name::{Class, Rtype, Ttl};
-use dns_text::{DisplayKind, Formatter, WriteShow, ZonefileFmt};
+use dns_text::{DisplayKind, Formatter, ZonefileFmt};
+use std::alloc::{AllocError, Global};
 use std::fmt::{self, Write};
 use std::test::Fail;
 
-/// A record of the name `a.`, with TTL 60 and class IN.
-#[derive(Drop)]
-struct Row<D> {
-    rtype: Rtype,
-    rdata: D,
-}
-
-impl<D: ZonefileFmt> ZonefileFmt for Row<D> {
-    ghost document = { λ row. Token (codes "a.") ∷ Token (decimal 60) ∷ Token (class_written 1)
-        ∷ Token (type_written row.rtype) ∷ D.document row.rdata };
-
-    fn fmt<F: Formatter>(&self, formatter: &mut F) -> fmt::Result {
-        formatter.write_token("a.")?;
-        formatter.write_show(&Ttl::from_secs(60))?;
-        formatter.write_show(&Class::IN)?;
-        formatter.write_show(&self.rtype)?;
-        formatter.write_show(&self.rdata)
-    }
-}
-
-/// The address 1.2.3.4.
-#[derive(Drop)]
-struct Address;
-
-impl ZonefileFmt for Address {
-    ghost document = { λ _. block_of (Token (codes "1.2.3.4") ∷ []) };
-
-    fn fmt<F: Formatter>(&self, formatter: &mut F) -> fmt::Result {
-        formatter.block(
-            |inner: &mut F| -> fmt::Result
-                ensures { OnOk result (Adds F.writes inner.old (Token (codes "1.2.3.4") ∷ []) inner.new) }
-            { inner.write_token("1.2.3.4") },
-        )
-    }
-}
-
-/// Two names, and five numbers with a comment each.
-#[derive(Drop)]
-struct Authority;
-
-/// Writes a token with a comment.
-fn write_noted<F: Formatter>(formatter: &mut F, token: &str, comment: &str) -> fmt::Result
-    ensures { OnOk result (Adds F.writes formatter.old (Token token.now ∷ Comment comment.now ∷ []) formatter.new) }
-{
-    formatter.write_token(token)?;
-    formatter.write_comment(comment)
-}
-
-impl ZonefileFmt for Authority {
-    ghost document = { λ _. block_of authority };
-
-    fn fmt<F: Formatter>(&self, formatter: &mut F) -> fmt::Result {
-        formatter.block(
-            |inner: &mut F| -> fmt::Result
-                ensures { OnOk result (Adds F.writes inner.old authority inner.new) }
-            {
-                inner.write_token("b.")?;
-                inner.write_token("c.")?;
-                write_noted(inner, "1", "serial")?;
-                write_noted(inner, "2", "refresh")?;
-                write_noted(inner, "3", "retry")?;
-                write_noted(inner, "4", "expire")?;
-                write_noted(inner, "5", "minimum")
-            },
-        )
-    }
+/// The text of a value under a layout.
+fn shown<T: ZonefileFmt + Drop>(
+    alloc: Global,
+    value: &T,
+    kind: DisplayKind,
+) -> Result<String, AllocError> {
+    value.display_zonefile(kind).to_string(alloc)
 }
 
 /// A block inside a block, a line end inside one, a token behind one, and a line that begins with one.
@@ -159,42 +98,6 @@ impl ZonefileFmt for Marks {
 }
 
 #[test]
-fn address_row(rt: HostRuntime) -> Result<(), Fail> {
-    let row = Row {
-        rtype: Rtype::A,
-        rdata: Address,
-    };
-    let alloc = rt.alloc();
-    assert!(rt; shown(alloc, &row, DisplayKind::Simple)?.as_str() == "a. 60 IN A 1.2.3.4");
-    assert!(rt; shown(alloc, &row, DisplayKind::Tabbed)?.as_str() == "a.\t60\tIN\tA\t1.2.3.4");
-    assert!(rt;
-        shown(alloc, &row, DisplayKind::Multiline)?.as_str()
-            == "a. 60 IN A (\n        1.2.3.4\n        )"
-    );
-    Ok(())
-}
-
-#[test]
-fn authority_row_has_comments(rt: HostRuntime) -> Result<(), Fail> {
-    let row = Row {
-        rtype: Rtype::SOA,
-        rdata: Authority,
-    };
-    let alloc = rt.alloc();
-    assert!(rt;
-        shown(alloc, &row, DisplayKind::Simple)?.as_str() == "a. 60 IN SOA b. c. 1 2 3 4 5"
-    );
-    assert!(rt;
-        shown(alloc, &row, DisplayKind::Tabbed)?.as_str() == "a.\t60\tIN\tSOA\tb. c. 1 2 3 4 5"
-    );
-    assert!(rt;
-        shown(alloc, &row, DisplayKind::Multiline)?.as_str()
-            == "a. 60 IN SOA (\n        b.\n        c.\n        1\t; serial\n        2\t; refresh\n        3\t; retry\n        4\t; expire\n        5\t; minimum\n        )"
-    );
-    Ok(())
-}
-
-#[test]
 fn blocks_inside_blocks_add_nothing(rt: HostRuntime) -> Result<(), Fail> {
     let alloc = rt.alloc();
     assert!(rt; shown(alloc, &Nested, DisplayKind::Simple)?.as_str() == "\nb c d e\n");
@@ -229,37 +132,6 @@ fn marks_one_by_one(rt: HostRuntime) -> Result<(), Fail> {
     Ok(())
 }
 
-/// Whether the words of a text, without parentheses and comments of one word each, are those of another.
-fn has_words(text: &str, others: &str) -> bool {
-    let mut others = others.split_whitespace();
-    let mut noted = false;
-    for word in text.split_whitespace() {
-        if noted || word == ";" {
-            noted = !noted;
-        } else if word != "(" && word != ")" && others.next() != Some(word) {
-            return false;
-        }
-    }
-    others.next().is_none()
-}
-
-#[test]
-fn layouts_have_the_same_words(rt: HostRuntime) -> Result<(), Fail> {
-    let alloc = rt.alloc();
-    for kind in KINDS {
-        let row = Row {
-            rtype: Rtype::SOA,
-            rdata: Authority,
-        };
-        let text = shown(alloc, &row, kind)?;
-        assert!(rt;
-            has_words(text.as_str(), "a. 60 IN SOA b. c. 1 2 3 4 5")
-                && !has_words(text.as_str(), "a. 60 IN SOA b. c. 1 2 3 4")
-        );
-    }
-    Ok(())
-}
-
 /// A target that takes so many texts.
 #[derive(Drop)]
 struct Room {
@@ -279,21 +151,21 @@ impl fmt::Write for Room {
 /// What is refused in the middle of a document is told, whichever text it is.
 #[test]
 fn refusals_of_the_target_are_told(rt: HostRuntime) -> Result<(), Fail> {
-    for kind in KINDS {
-        let row = Row {
-            rtype: Rtype::SOA,
-            rdata: Authority,
-        };
+    for kind in [
+        DisplayKind::Simple,
+        DisplayKind::Tabbed,
+        DisplayKind::Multiline,
+    ] {
         let mut room = Room { left: 1000 };
-        assert!(rt; room.write(row.display_zonefile(kind)).is_ok());
+        assert!(rt; room.write(Bare.display_zonefile(kind)).is_ok());
         let taken = 1000_usize.saturating_sub(room.left);
-        assert!(rt; taken > 20);
+        assert!(rt; taken >= 4);
         for left in 0..taken {
             let mut less = Room { left };
-            assert!(rt; less.write(row.display_zonefile(kind)).is_err());
+            assert!(rt; less.write(Bare.display_zonefile(kind)).is_err());
         }
         let mut enough = Room { left: taken };
-        assert!(rt; enough.write(row.display_zonefile(kind)).is_ok());
+        assert!(rt; enough.write(Bare.display_zonefile(kind)).is_ok());
     }
     Ok(())
 }

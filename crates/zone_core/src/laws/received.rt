@@ -2,12 +2,12 @@
 
 ghost use Rattle.std.specs.Prelude.{◌≡◌, ◌<◌, ◌^◌, ◌++◌, ◌⊎◌, ℕ, Bool, List};
 ghost use Rattle.std.specs.List.{AllByRecursion};
-ghost use Rattle.zone_core.specs.Record.{Record};
+ghost use Rattle.zone_text.specs.Record.{Record};
 ghost use Rattle.zone_core.specs.Query.{AxfrQuery};
-ghost use Rattle.zone_core.specs.Records.{AreSendable, IsQueryFor};
+ghost use Rattle.zone_text.specs.Records.{AreSendable, IsTypeToday};
+ghost use Rattle.zone_core.specs.Sent.{IsQueryFor, IsSent};
 ghost use Rattle.zone_core.specs.Receiving.{IsBegun, HasBadMessage};
-ghost use Rattle.zone_core.specs.Sent.{IsSent};
-ghost use Rattle.zone_core.specs.Transfer.{Standard, WrittenOut, IsTypeToday, IsAnswer, IsTransfer, IsTransferIn, IsExactTransferIn};
+ghost use Rattle.zone_core.specs.Transfer.{Standard, WrittenOut, IsAnswer, IsTransfer, IsTransferIn, IsExactTransferIn};
 ghost use Rattle.zone_core.specs.declared.receive.error.ReceiveError.{ReceiveError};
 
 /// A stream is a transfer of at most one list of records to a query, and each of its messages an answer with at most one.

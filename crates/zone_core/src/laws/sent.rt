@@ -1,10 +1,10 @@
 //! What holds of a stream that is sent.
 
 ghost use Rattle.std.specs.Prelude.{ℕ, ◌<◌, ◌^◌, List};
-ghost use Rattle.zone_core.specs.Record.{Record};
+ghost use Rattle.zone_text.specs.Record.{Record};
 ghost use Rattle.zone_core.specs.Query.{AxfrQuery};
-ghost use Rattle.zone_core.specs.Records.{AreSendable, IsQueryFor};
-ghost use Rattle.zone_core.specs.Sent.{IsSent};
+ghost use Rattle.zone_text.specs.Records.{AreSendable};
+ghost use Rattle.zone_core.specs.Sent.{IsQueryFor, IsSent};
 ghost use Rattle.zone_core.specs.Transfer.{IsExactTransfer};
 
 /// What is sent for a zone and a query that asks for it is a transfer to that query, and of the very same records: their

@@ -5,12 +5,12 @@ ghost use Rattle.zone_core.specs.Frames.{IsPartial};
 ghost use Rattle.zone_core.specs.Intake.{BeginsWithFrame};
 ghost use Rattle.zone_core.specs.Receiving.{IsStreamFault};
 
-use crate::header::number_at;
 use crate::query::OwnedQuery;
 use crate::receive::error::ReceiveError;
 use crate::receive::message::judge_message;
-use crate::record_list::RecordList;
 use std::alloc::Global;
+use zone_text::header::number_at;
+use zone_text::record_list::RecordList;
 
 /// The octets of a message's length on a stream (RFC 1035 4.2.2).
 const LENGTH_OCTETS: usize = 2;

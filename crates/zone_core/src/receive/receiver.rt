@@ -8,9 +8,10 @@ ghost use Rattle.zone_core.specs.Transfer.{WrittenOut, IsTransferIn};
 use crate::query::{OwnedQuery, check_query};
 use crate::receive::error::ReceiveError;
 use crate::receive::intake::Intake;
-use crate::zone::Zone;
 use std::alloc::Global;
 use std::marker::Model;
+use zone_text::Zone;
+use zone_text::zone::zone_of;
 
 /// How far a stream has come.
 #[derive(Clone, Copy, Debug)]
@@ -110,7 +111,7 @@ impl Receiver {
             progress,
         } = self;
         match progress {
-            Progress::Done => Ok(Zone::of_records(intake.into_records(), query.class)),
+            Progress::Done => Ok(zone_of(intake.into_records(), query.class)),
             Progress::Begun => Err(ReceiveError::Unfinished),
             Progress::Refused(error) => Err(error),
         }

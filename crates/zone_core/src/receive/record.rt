@@ -1,14 +1,13 @@
 //! Records as messages have them, with every name written out.
-ghost use Rattle.std.specs.Prelude.{◌≡◌, ◌↔◌, ℕ, IsTrue, IfOk, OnErr};
+ghost use Rattle.std.specs.Prelude.{◌≡◌, ℕ, IfOk, OnErr};
 ghost use Rattle.dns_octets.specs.Parser.{octets_of, place_of};
-ghost use Rattle.dns_rdata.specs.Fields.{IsData};
-ghost use Rattle.zone_core.specs.Record as spec;
-ghost use Rattle.zone_core.specs.Records.{AreOctets, IsRecordOf};
-ghost use Rattle.zone_core.specs.Transfer.{WrittenOut, HasRecord, IsTypeToday};
+ghost use Rattle.zone_text.specs.Record as spec;
+ghost use Rattle.zone_text.specs.Records.{AreOctets, IsRecordOf};
+ghost use Rattle.zone_core.specs.Transfer.{WrittenOut, HasRecord};
 
-use crate::receive::soa::SoaData;
-use crate::record::Record;
 use dns_name::{Name, ParseError, Parser, Rtype, ShortInput};
+use zone_text::record::Record;
+use zone_text::record_data::is_data;
 
 /// No record stands there.
 #[derive(Clone, Copy, Debug, PartialEq, Eq)]
@@ -46,15 +45,4 @@ pub(crate) fn parse_record<'a>(parser: &mut Parser<'a>) -> Result<Record<'a>, Ma
     }
     let octets = &parser.as_slice()[start..parser.pos()];
     Ok(Record::of_octets(octets, owner.len()))
-}
-
-/// Whether the octets are data of the type, which has to be SOA or A.
-fn is_data(rtype: Rtype, data: &[u8]) -> bool
-    ensures { IsTrue result ↔ (IsTypeToday rtype × IsData rtype «data».now) }
-{
-    if rtype == Rtype::A {
-        data.len() == 4
-    } else {
-        rtype == Rtype::SOA && SoaData::from_slice(data).is_some()
-    }
 }

@@ -1,20 +1,18 @@
 //! The rules that the records of a transfer keep, one behind the other.
 ghost use Rattle.std.specs.Prelude.{◌≡◌, ◌+◌, ◌↔◌, [], ℕ, List, false, length, IsTrue, IfOk, IfErr, OnOk};
 ghost use Rattle.std.specs.List.{AllByRecursion};
-ghost use Rattle.dns_label.specs.Name.{low};
-ghost use Rattle.zone_core.specs.Record as spec;
+ghost use Rattle.zone_text.specs.Record as spec;
 ghost use Rattle.zone_core.specs.Asked.{asked_of};
-ghost use Rattle.zone_core.specs.Records.{IsRecordOf};
-ghost use Rattle.zone_core.specs.Transfer.{WrittenOut, HasRecord, SameSoa};
+ghost use Rattle.zone_text.specs.Records.{IsRecordOf};
+ghost use Rattle.zone_core.specs.Transfer.{WrittenOut, HasRecord};
 ghost use Rattle.zone_core.specs.Receiving.{IsRecordFault, KeepsFirstRule};
-ghost use Rattle.zone_core.specs.Zone.{soa_type};
 ghost use Rattle.zone_core.specs.Intake.{IsPlacing, StandsAt};
 
 use crate::query::OwnedQuery;
 use crate::receive::error::ReceiveError;
-use crate::receive::soa::SoaData;
-use crate::record::Record;
-use crate::record_list::RecordList;
+use zone_text::record::Record;
+use zone_text::record_data::is_same_soa;
+use zone_text::record_list::RecordList;
 
 /// What a record is in a transfer.
 #[derive(Clone, Copy, Debug, PartialEq, Eq)]
@@ -71,20 +69,4 @@ fn is_first_soa(query: &OwnedQuery, next: &Record<'_>) -> bool
     ensures { IsTrue result ↔ KeepsFirstRule (asked_of query.now) [] next.now }
 {
     next.is_soa() && next.is_at(&query.name)
-}
-
-/// Whether two SOA records of one class are equal, names up to ASCII case.
-fn is_same_soa(soa: &Record<'_>, other: &Record<'_>) -> bool
-    requires first { (class : ℕ) × IsRecordOf class soa.now × (soa.now.rtype ≡ soa_type) }
-    requires second { (class : ℕ) × IsRecordOf class other.now × (other.now.rtype ≡ soa_type) }
-    requires class { soa.now.class ≡ other.now.class }
-    ensures { IsTrue result ↔ SameSoa soa.now other.now }
-{
-    let Some(data) = SoaData::from_slice(soa.data()) else {
-        return false;
-    };
-    let Some(other_data) = SoaData::from_slice(other.data()) else {
-        return false;
-    };
-    soa.is_at(&other.owner()) && soa.ttl() == other.ttl() && data.is_same(&other_data)
 }

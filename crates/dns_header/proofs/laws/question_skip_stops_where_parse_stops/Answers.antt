@@ -1,4 +1,4 @@
-use Rattle.dns_name.proofs.Skipping.{skips-reads}
+use Rattle.dns_wire.proofs.Skipping.{skips-reads}
 use Rattle.dns_header.proofs.laws.question_skip_stops_where_parse_stops.Goals as goal
 
 pub returns : goal.returns

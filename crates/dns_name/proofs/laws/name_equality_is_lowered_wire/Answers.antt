@@ -1,5 +1,5 @@
 use Rattle.dns_name.proofs.Intervals.{order_equal, equal_names}
-use Rattle.dns_name.proofs.LowNames.{low_octets, low_same}
+use Rattle.dns_wire.proofs.LowNames.{low_octets, low_same}
 use Rattle.dns_name.proofs.laws.name_equality_is_lowered_wire.Goals as goal
 
 pub returns-clause-wire : goal.returns-clause-wire

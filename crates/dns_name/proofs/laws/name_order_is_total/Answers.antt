@@ -1,4 +1,4 @@
-use Rattle.dns_name.specs.OrderLaws.{labels_total}
+use Rattle.dns_flat.specs.OrderLaws.{labels_total}
 use Rattle.dns_name.proofs.laws.name_order_is_total.Goals as goal
 
 pub returns : goal.returns

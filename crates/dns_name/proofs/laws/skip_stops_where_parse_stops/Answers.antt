@@ -1,5 +1,5 @@
 use Rattle.std.proofs.Common.{refl}
-use Rattle.dns_name.proofs.Skipping.{skips-reads, skips-one}
+use Rattle.dns_wire.proofs.Skipping.{skips-reads, skips-one}
 use Rattle.dns_name.proofs.laws.skip_stops_where_parse_stops.Goals as goal
 
 pub returns-clause-stops : goal.returns-clause-stops

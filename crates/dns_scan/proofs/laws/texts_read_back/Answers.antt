@@ -1,4 +1,4 @@
-use Rattle.dns_scan.specs.declared.string_text.Style.TheVariants.{Plain, Quoted, Unquoted}
+use Rattle.dns_scan.specs.declared.char_str.text.Style.TheVariants.{Plain, Quoted, Unquoted}
 use Rattle.dns_scan.proofs.TextsBack.{text_spells_only}
 use Rattle.dns_scan.proofs.laws.texts_read_back.Goals as goal
 

@@ -1,8 +1,9 @@
 use Rattle.std.proofs.Common.{◌≡◌, ◌+◌, ◌<◌, ℕ, length, arith, ap, ◌∙◌}
 use Rattle.dns_name.specs.Parser.{octets_of, place_of}
-use Rattle.dns_name.proofs.Flat.{always_on_err}
+use Rattle.dns_wire.proofs.Flat.{always_on_err}
 use Rattle.dns_header.specs.Question.{Question, ReadsQuestion}
-use Rattle.zone_core.proofs.Questions.{ends_early, too_few}
+use Rattle.zone_core.proofs.Questions.{ends_early}
+use Rattle.zone_text.proofs.Decided.{too_few}
 use Rattle.zone_core.proofs.query.read_question.Goals as goal
 
 pub returns-in_err-parse_u16_be-clause-err : goal.returns-in_err-parse_u16_be-clause-err

@@ -2,7 +2,7 @@ use Rattle.std.proofs.Common.{◌<◌, ◌^◌, arith}
 use Rattle.std.proofs.lemmas.Result.{IfOk-weaker, MatchResult-weaker}
 use Rattle.zone_core.specs.Asked.{asked_by}
 use Rattle.zone_core.specs.Sent.{AsksFor}
-use Rattle.zone_core.specs.View.{apex_of}
+use Rattle.zone_text.specs.View.{apex_of}
 use Rattle.zone_core.proofs.SendFaults.{sent_for, fault_for, query_for, id_small}
 use Rattle.zone_core.proofs.SentTransfers.{sent_is_transfer}
 use Rattle.zone_core.proofs.transfer.send_into.Goals as goal
@@ -19,8 +19,8 @@ returns-clause-ok c =
       query,
       c.in-Ok.ensures.ok,
       asks,
-      sent_for query c.list.result.now c.args.zone.now.records c.in_ok-sender.sender.max c.args.max stream.items
-          c.list.ensures.records c.in_ok-sender.ensures.max (given query c.in_ok-sender.ensures.holds),
+      sent_for query c.records_of.result.now c.args.zone.now.records c.in_ok-sender.sender.max c.args.max stream.items
+          c.records_of.ensures.records c.in_ok-sender.ensures.max (given query c.in_ok-sender.ensures.holds),
     ))
     c.send_records.ensures.ok
 
@@ -29,20 +29,20 @@ returns-clause-err c =
     let query = asked_by c.in-Ok.query in
     let asks : AsksFor query (apex_of c.args.zone.now.records) c.args.zone.now.class = c.asks_for.ensures.0 c.if-not-asks_for.false in
     MatchResult-weaker c.send_records.result c.send_records.ensures.err (λ stream given. given)
-    (λ error given. fault_for query c.args.zone.now.class c.list.result.now c.args.zone.now.records c.args.query.now c.in_ok-sender.sender.max
-    c.args.max error c.in-Ok.ensures.ok asks c.list.ensures.records c.in_ok-sender.ensures.max (given query c.in_ok-sender.ensures.holds))
+    (λ error given. fault_for query c.args.zone.now.class c.records_of.result.now c.args.zone.now.records c.args.query.now c.in_ok-sender.sender.max
+    c.args.max error c.in-Ok.ensures.ok asks c.records_of.ensures.records c.in_ok-sender.ensures.max (given query c.in_ok-sender.ensures.holds))
 
 pub returns-clause-transfer : goal.returns-clause-transfer
 returns-clause-transfer c =
     let query = asked_by c.in-Ok.query in
     let asks : AsksFor query (apex_of c.args.zone.now.records) c.args.zone.now.class = c.asks_for.ensures.0 c.if-not-asks_for.false in
     let small : query.id < 2 ^ 16 = omega (arith, c.in-Ok.ensures.ok.id, id_small c.args.query.now (λ i. (c.type_inv.query i).fits)) in
-    let known = c.list.ensures.known in
+    let known = c.records_of.ensures.known in
     let for_zone = query_for query c.args.zone.now.class c.args.zone.now.records c.args.query.now c.in-Ok.ensures.ok small asks known in
     IfOk-weaker c.send_records.result _ _
     (λ stream given.
-    let sent = sent_for query c.list.result.now c.args.zone.now.records c.in_ok-sender.sender.max c.args.max stream.items
-    c.list.ensures.records c.in_ok-sender.ensures.max (given query c.in_ok-sender.ensures.holds) in (
+    let sent = sent_for query c.records_of.result.now c.args.zone.now.records c.in_ok-sender.sender.max c.args.max stream.items
+    c.records_of.ensures.records c.in_ok-sender.ensures.max (given query c.in_ok-sender.ensures.holds) in (
       query,
       c.in-Ok.ensures.ok,
       sent_is_transfer c.args.zone.now.records c.args.zone.now.class query c.args.max stream.items c.ranges.max.fits known for_zone sent,

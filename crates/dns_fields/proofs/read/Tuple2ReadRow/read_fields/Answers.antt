@@ -1,4 +1,4 @@
-use Rattle.std.proofs.Common.{◌∷◌, ℕ, List, sym, subst}
+use Rattle.std.proofs.Common.{◌∷◌, ℕ, List, subst}
 use Rattle.dns_octets.specs.Parser.{octets_of, place_of}
 use Rattle.dns_fields.specs.Fields.{Kind}
 use Rattle.dns_fields.specs.Reading.{ReadsFields, AreSoleFields, NoFields}

@@ -1,7 +1,6 @@
 use Rattle.std.proofs.Common.{◌≡◌, ◌∙◌, rules}
 use Rattle.std.specs.Prelude.{Err}
 use Rattle.dns_octets.specs.declared.error.AppendError.TheVariants.{ShortBuf}
-use Rattle.dns_name.specs.RecordData.{page_of}
 use Rattle.dns_fields.proofs.Writing.{write-row, on_ok, past_first, past_row}
 use Rattle.dns_fields.proofs.row.Tuple2Row.compose_fields.Goals as goal
 

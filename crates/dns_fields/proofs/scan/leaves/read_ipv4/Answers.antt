@@ -1,4 +1,4 @@
-use Rattle.std.proofs.Common.{ℕ, List, sym, subst}
+use Rattle.std.proofs.Common.{ℕ, List, subst}
 use Rattle.std.specs.Net.Grammar.{IsIpv4Text, Parses}
 use Rattle.dns_fields.proofs.ScanLeaves.{no_dotted}
 use Rattle.dns_fields.proofs.scan.leaves.read_ipv4.Goals as goal

@@ -1,4 +1,4 @@
-use Rattle.std.proofs.Common.{ℕ, List, sym, subst}
+use Rattle.std.proofs.Common.{ℕ, List, subst}
 use Rattle.std.specs.Net.Grammar.{IsIpv6Text, Parses}
 use Rattle.dns_fields.proofs.ScanLeaves.{no_colon_hex}
 use Rattle.dns_fields.proofs.scan.leaves.read_ipv6.Goals as goal

@@ -2,7 +2,7 @@ use Rattle.std.specs.Prelude.{nat_eq}
 use Rattle.std.specs.Cmp.Lexicographic.{pointwise}
 use lib.Pointwise.{pointwise_decides, bytes_decides}
 use Rattle.dns_label.specs.Name.{low}
-use Rattle.dns_name.proofs.Case.{same_bool}
+use Rattle.dns_wire.proofs.Case.{same_bool}
 use Rattle.dns_header.proofs.question.order.same_names.Goals as goal
 
 pub returns : goal.returns

@@ -1,4 +1,4 @@
-use Rattle.dns_name.proofs.PrintedNames.{seen-name, seen-relative}
+use Rattle.dns_flat.proofs.PrintedNames.{seen-name, seen-relative}
 use Rattle.dns_name.proofs.laws.text.seen_labels_print_as_their_name.Goals as goal
 
 pub returns-clause-absolute : goal.returns-clause-absolute

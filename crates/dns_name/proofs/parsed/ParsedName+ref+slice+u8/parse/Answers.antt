@@ -2,8 +2,8 @@ use Rattle.std.proofs.Common.{List, ℕ, length, ap, ◌∙◌, sym, arith}
 use Rattle.std.proofs.lemmas.Grind.{merely}
 use Rattle.dns_label.specs.Name.{wire}
 use Rattle.dns_label.proofs.Spelling.{labels_at-reads}
-use Rattle.dns_name.proofs.Heads.{spelled-within}
-use Rattle.dns_name.proofs.Readable.{read_at, parsed_ok}
+use Rattle.dns_wire.proofs.Heads.{spelled-within}
+use Rattle.dns_wire.proofs.Readable.{read_at, parsed_ok}
 use Rattle.dns_name.proofs.parsed.ParsedName+ref+slice+u8.parse.Goals as goal
 
 pub returns-in_err-seek-clause-err : goal.returns-in_err-seek-clause-err

@@ -1,8 +1,8 @@
 use Rattle.std.proofs.Common.{sym, subst, List, ℕ}
 use Rattle.dns_label.specs.Name.{low, with_root}
 use Rattle.dns_name.specs.ParsedName.{labels_in}
-use Rattle.dns_name.specs.Suffix.{EndsWith}
-use Rattle.dns_name.proofs.Case.{rooted_on, rooted_back}
+use Rattle.dns_wire.specs.Suffix.{EndsWith}
+use Rattle.dns_wire.proofs.Case.{rooted_on, rooted_back}
 use Rattle.dns_name.proofs.parsed.ParsedName.ends_with.Goals as goal
 
 pub returns : goal.returns

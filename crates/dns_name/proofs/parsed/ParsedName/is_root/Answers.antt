@@ -1,7 +1,7 @@
 use Rattle.std.proofs.Common.{◌≡◌, length, ap, ◌∙◌, sym, List, ℕ, rules}
 use borrow.Author.Tests.{tests}
 use Rattle.dns_label.specs.Name.{wire}
-use Rattle.dns_name.proofs.Readable.{read-root}
+use Rattle.dns_wire.proofs.Readable.{read-root}
 use Rattle.dns_name.proofs.parsed.ParsedName.is_root.Goals as goal
 
 pub returns : goal.returns

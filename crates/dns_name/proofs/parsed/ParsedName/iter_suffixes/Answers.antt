@@ -1,6 +1,6 @@
 use Rattle.std.proofs.Common.{List, ℕ, length, ap, arith, [], ◌∷◌, length-append}
-use Rattle.dns_name.proofs.Readable.{read-few}
-use Rattle.dns_name.proofs.Suffixes.{length-suffixes}
+use Rattle.dns_wire.proofs.Readable.{read-few}
+use Rattle.dns_flat.proofs.Suffixes.{length-suffixes}
 use Rattle.dns_label.specs.Labels.{labels_at}
 use Rattle.dns_name.proofs.parsed.ParsedName.iter_suffixes.Goals as goal
 

@@ -1,5 +1,5 @@
 use Rattle.std.proofs.Common.{length, ap, ◌∙◌, sym, ℕ}
-use Rattle.dns_name.proofs.Wire.{labels_wire-with_root}
+use Rattle.dns_wire.proofs.Wire.{labels_wire-with_root}
 use Rattle.dns_name.proofs.parsed.ParsedNameToLabelIter.compose_len.Goals as goal
 
 pub returns : goal.returns

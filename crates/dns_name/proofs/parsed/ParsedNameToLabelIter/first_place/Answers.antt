@@ -1,8 +1,8 @@
 use Rattle.std.proofs.Common.{inr, refl}
 use Rattle.std.proofs.lemmas.Grind.{merely}
-use Rattle.dns_name.proofs.Readable.{read-name}
-use Rattle.dns_name.proofs.Standing.{short_wire}
-use Rattle.dns_name.proofs.Wire.{few_labels}
+use Rattle.dns_wire.proofs.Readable.{read-name}
+use Rattle.dns_flat.proofs.Standing.{short_wire}
+use Rattle.dns_wire.proofs.Wire.{few_labels}
 use Rattle.dns_name.proofs.parsed.ParsedNameToLabelIter.first_place.Goals as goal
 
 pub returns-clause-few : goal.returns-clause-few

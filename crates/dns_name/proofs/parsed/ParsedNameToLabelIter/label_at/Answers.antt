@@ -1,6 +1,6 @@
-use Rattle.dns_name.proofs.Standing.{stands-label, stands-next, stands-none}
-use Rattle.dns_name.proofs.Readable.{read-name}
-use Rattle.dns_name.proofs.Wire.{few_labels}
+use Rattle.dns_flat.proofs.Standing.{stands-label, stands-next, stands-none}
+use Rattle.dns_wire.proofs.Readable.{read-name}
+use Rattle.dns_wire.proofs.Wire.{few_labels}
 use Rattle.dns_name.proofs.parsed.ParsedNameToLabelIter.label_at.Goals as goal
 
 pub returns-in_err-place-clause-label : goal.returns-in_err-place-clause-label

@@ -1,5 +1,5 @@
 use Rattle.std.proofs.Common.{◌≤◌, length, ℕ, ap, arith, rules}
-use Rattle.dns_name.proofs.Readable.{read-name, read-within}
+use Rattle.dns_wire.proofs.Readable.{read-name, read-within}
 use Rattle.dns_name.proofs.parsed.ParsedNameToName.as_flat_slice.Goals as goal
 
 pub returns-then-is_compressed-clause-name : goal.returns-then-is_compressed-clause-name

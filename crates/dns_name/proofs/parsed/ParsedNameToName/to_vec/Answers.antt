@@ -1,9 +1,9 @@
 use Rattle.std.proofs.Common.{◌++◌, sym, ◌∙◌, ap}
 use Rattle.dns_label.specs.Name.{labels_wire}
-use Rattle.dns_name.proofs.Wire.{wire_step, wire_made}
-use Rattle.dns_name.proofs.Case.{wire_one}
-use Rattle.dns_name.proofs.Flat.{flat-written}
-use Rattle.dns_name.proofs.Readable.{read-name}
+use Rattle.dns_wire.proofs.Wire.{wire_step, wire_made}
+use Rattle.dns_wire.proofs.Case.{wire_one}
+use Rattle.dns_wire.proofs.Flat.{flat-written}
+use Rattle.dns_wire.proofs.Readable.{read-name}
 use Rattle.dns_name.proofs.parsed.ParsedNameToName.to_vec.Goals as goal
 
 pub loop-label-init : goal.loop-label-init

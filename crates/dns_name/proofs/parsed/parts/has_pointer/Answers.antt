@@ -1,7 +1,7 @@
 use Rattle.std.proofs.Common.{◌≡◌, ◌+◌, [], arith, refl}
-use Rattle.dns_name.proofs.Flat.{some_octets}
-use Rattle.dns_name.proofs.Heads.{to_pointer, bad_type-spells_none, short-spells_none}
-use Rattle.dns_name.proofs.Readable.{label-labels, label-read, root-labels, none_from_merely, read-within}
+use Rattle.dns_wire.proofs.Flat.{some_octets}
+use Rattle.dns_wire.proofs.Heads.{to_pointer, bad_type-spells_none, short-spells_none}
+use Rattle.dns_wire.proofs.Readable.{label-labels, label-read, root-labels, none_from_merely, read-within}
 use Rattle.dns_name.proofs.Written.{written-label, written-behind, written-root, pointer-written}
 use Rattle.dns_name.proofs.parsed.parts.has_pointer.Goals as goal
 

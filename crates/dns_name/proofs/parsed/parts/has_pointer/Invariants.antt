@@ -1,5 +1,5 @@
 use Rattle.std.proofs.Common.{◌-◌, length}
-use Rattle.dns_name.specs.Parsed.{IsReadAt, IsWrittenAt}
+use Rattle.dns_wire.specs.Parsed.{IsReadAt, IsWrittenAt}
 use Rattle.dns_name.proofs.parsed.parts.has_pointer.Given as goal
 
 abbrev pub invariant-loop-label : goal.invariant-loop-label

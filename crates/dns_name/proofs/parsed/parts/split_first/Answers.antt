@@ -1,7 +1,7 @@
 use Rattle.std.proofs.Common.{◌≡◌, ◌∷◌, ap, arith, ◌∙◌}
 use Rattle.dns_label.specs.Labels.{labels_at}
-use Rattle.dns_name.specs.Parsed.{labels_left}
-use Rattle.dns_name.proofs.Wire.{last_same, wire_more}
+use Rattle.dns_wire.specs.Parsed.{labels_left}
+use Rattle.dns_wire.proofs.Wire.{last_same, wire_more}
 use Rattle.dns_name.proofs.parsed.parts.split_first.Goals as goal
 use Rattle.dns_name.proofs.parsed.parts.split_first.Goals.{After-len}
 

@@ -2,8 +2,8 @@ use Rattle.std.proofs.Common.{◌≤◌, ◌<◌, ℕ, length, arith}
 use Rattle.std.proofs.lemmas.List.{take_all}
 use Rattle.dns_label.specs.Name.{with_root}
 use Rattle.dns_label.specs.Labels.{labels_at}
-use Rattle.dns_name.proofs.Readable.{none_from_merely}
-use Rattle.dns_name.proofs.Wire.{few_labels}
+use Rattle.dns_wire.proofs.Readable.{none_from_merely}
+use Rattle.dns_wire.proofs.Wire.{few_labels}
 use Rattle.dns_name.proofs.parsed_iter.ParsedNameIter.at.Goals as goal
 
 at_most : (n : ℕ) → (128 < n → ⊥) → n ≤ 128

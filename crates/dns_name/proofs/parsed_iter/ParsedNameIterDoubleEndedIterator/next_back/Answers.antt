@@ -1,6 +1,6 @@
 use Rattle.std.proofs.Common.{◌≤◌, ◌+◌, List, ℕ, length, ap, sym, arith, rules}
-use Rattle.dns_name.specs.Parsed.{labels_left}
-use Rattle.dns_name.proofs.LastLabels.{walked_on, walked_few, take_few, walked_back}
+use Rattle.dns_wire.specs.Parsed.{labels_left}
+use Rattle.dns_wire.proofs.LastLabels.{walked_on, walked_few, take_few, walked_back}
 use Rattle.dns_name.proofs.parsed_iter.ParsedNameIterDoubleEndedIterator.next_back.Goals as goal
 
 pub overflow_add-count : goal.overflow_add-count

@@ -1,4 +1,4 @@
-use Rattle.dns_name.proofs.LastLabels.{Walked}
+use Rattle.dns_wire.proofs.LastLabels.{Walked}
 use Rattle.dns_name.proofs.parsed_iter.ParsedNameIterDoubleEndedIterator.next_back.Given as goal
 
 abbrev pub invariant-loop-label : goal.invariant-loop-label

@@ -1,7 +1,7 @@
 use Rattle.std.proofs.Common.{ℕ, List, subst}
 use Rattle.std.proofs.lemmas.Result.{err_from_is_err_and}
 use Rattle.dns_scan.specs.Refused.{IsRefused}
-use Rattle.dns_scan.specs.declared.string_text.FromStrError.TheVariants.{Presentation}
+use Rattle.dns_scan.specs.declared.char_str.text.FromStrError.TheVariants.{Presentation}
 use Rattle.dns_scan.proofs.char_str.CharStr.from_str.Goals as goal
 
 pub returns-in_err-taken-clause-err : goal.returns-in_err-taken-clause-err

@@ -1,13 +1,12 @@
 use Rattle.std.proofs.Common.{◌≡◌, List, [], true, false, ◌∙◌, sym, ◌⊎◌, inl, inr}
 use Rattle.std.proofs.lemmas.Bool.{eqb-true}
-use Rattle.zone_core.specs.Record as spec
+use Rattle.zone_text.specs.Record as spec
 use Rattle.zone_core.specs.Asked.{asked_of}
-use Rattle.zone_core.specs.Zone.{soa_type}
+use Rattle.zone_text.specs.Zone.{soa_type}
 use Rattle.zone_core.specs.Receiving.{KeepsFirstRule, KeepsLastRule}
 use Rattle.zone_core.specs.Intake.{StandsAt}
 use Rattle.zone_core.proofs.RulesKept.{none_held, some_held, first_known, first_is_soa, first_kept, first_broken, first_behind, last_kept, last_broken, last_free, stands_closed, placed_inner, placed_last, not_false, not_true, told_equal, told_other, told_no}
-use Rattle.zone_core.proofs.receive.rules.place_record.Goals.{else-is_empty-via-then-is_empty+else-not-is_first_soa, else-is_empty-via-else-is_empty, then-is_empty-2, else-is_empty-2, then-not-is_soa, else-not-is_soa+else-not-is_same_soa}
-use Rattle.zone_core.proofs.receive.rules.place_record.Goals.{After-class, Joined-is_empty-2}
+use Rattle.zone_core.proofs.receive.rules.place_record.Goals.{else-is_empty-via-then-is_empty+else-not-is_first_soa, else-is_empty-via-else-is_empty, then-is_empty-2, else-is_empty-2, then-not-is_soa, else-not-is_soa+else-not-is_same_soa, After-class, Joined-is_empty-2}
 use Rattle.zone_core.proofs.receive.rules.place_record.Goals as goal
 
 pub returns-then-not-is_first_soa-clause-err : goal.returns-then-not-is_first_soa-clause-err

@@ -1,4 +1,4 @@
-use Rattle.std.proofs.Common.{◌∙◌, rules}
+use Rattle.std.proofs.Common.{rules}
 use Rattle.dns_fields.proofs.NameOctets.{name_length}
 use Rattle.dns_fields.proofs.field.names.CompressibleFieldValue.field_len.Goals as goal
 

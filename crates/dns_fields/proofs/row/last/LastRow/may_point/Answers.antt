@@ -1,4 +1,4 @@
-use Rattle.std.proofs.Common.{sym, ap, false, ◌∙◌, ◌||◌}
+use Rattle.std.proofs.Common.{sym, ap, false, ◌||◌}
 use Rattle.dns_fields.proofs.row.last.LastRow.may_point.Goals as goal
 
 pub returns : goal.returns

@@ -1,4 +1,4 @@
-use Rattle.std.proofs.Common.{◌≡◌, ℕ, List, [], refl, subst}
+use Rattle.std.proofs.Common.{ℕ, List, [], refl, subst}
 use Rattle.std.proofs.lemmas.Result.{err_from_is_err_and}
 use Rattle.dns_scan.specs.Token.{Token, IsEntry, IsStringOnWire}
 use Rattle.dns_fields.proofs.TextStrings.{entry_strings, entry_scanned, no_strings, no_tokens}

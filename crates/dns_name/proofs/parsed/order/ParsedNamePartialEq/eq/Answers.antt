@@ -3,7 +3,7 @@ use Rattle.std.specs.Cmp.Lexicographic.{pointwise}
 use lib.Pointwise.{pointwise_decides, bytes_decides}
 use Rattle.dns_label.specs.Name.{low}
 use Rattle.dns_name.specs.ParsedName.{labels_in}
-use Rattle.dns_name.proofs.Case.{same_bool}
+use Rattle.dns_wire.proofs.Case.{same_bool}
 use Rattle.dns_name.proofs.parsed.order.ParsedNamePartialEq.eq.Goals as goal
 
 pub returns : goal.returns

@@ -1,8 +1,8 @@
 use Rattle.std.proofs.Common.{List, ℕ, length, ap, ◌∙◌, sym}
 use Rattle.std.proofs.lemmas.Grind.{merely}
 use Rattle.dns_label.specs.Name.{wire}
-use Rattle.dns_name.proofs.Flat.{flat-reads, flat-labels}
-use Rattle.dns_name.proofs.Readable.{read_at}
+use Rattle.dns_wire.proofs.Flat.{flat-reads, flat-labels}
+use Rattle.dns_wire.proofs.Readable.{read_at}
 use Rattle.dns_name.proofs.parsed.parts.ParsedNameFromName.from.Goals as goal
 
 pub invariant_of-result : goal.invariant_of-result

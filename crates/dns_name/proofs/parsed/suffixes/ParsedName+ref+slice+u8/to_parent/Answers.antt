@@ -1,4 +1,4 @@
-use Rattle.dns_name.proofs.Suffixes.{suffixes-behind, suffixes-none}
+use Rattle.dns_flat.proofs.Suffixes.{suffixes-behind, suffixes-none}
 use Rattle.dns_name.proofs.parsed.suffixes.ParsedName+ref+slice+u8.to_parent.Goals as goal
 
 pub returns-in-Some : goal.returns-in-Some

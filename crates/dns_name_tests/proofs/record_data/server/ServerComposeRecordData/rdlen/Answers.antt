@@ -1,6 +1,6 @@
 use Rattle.std.proofs.Common.{◌≤◌, ◌∙◌, ℕ, List, ap, length, refl, inl, inr, arith, rules}
 use Rattle.dns_label.specs.Name.{labels_wire}
-use Rattle.dns_name.proofs.Wire.{labels_wire-with_root}
+use Rattle.dns_wire.proofs.Wire.{labels_wire-with_root}
 use Rattle.dns_name.proofs.WrittenParts.{name_composed, composed_in_full}
 use Rattle.dns_name_tests.proofs.record_data.server.ServerComposeRecordData.rdlen.Goals as goal
 

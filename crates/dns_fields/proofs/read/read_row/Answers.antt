@@ -1,0 +1,11 @@
+use Rattle.std.proofs.Common.{◌<◌, ◌^◌, length, sym, ◌∙◌, ap, rules}
+use Rattle.std.specs.Prelude.{Some}
+use Rattle.dns_fields.specs.Fields.{octets}
+use Rattle.dns_fields.proofs.LongRows.{row_read}
+use Rattle.dns_fields.proofs.read.read_row.Goals as goal
+
+pub returns-clause-long : goal.returns-clause-long
+returns-clause-long g c =
+    let row = g.R.Row.fields c.in_ok-row.row in
+    let short : length (octets row) < 2 ^ 16 = search rules in
+    row_read row (c.requires ∙ ap Some (sym (g.met.R.Row.of_kinds c.in_ok-row.row))) c.in_ok-row.ensures.sole short

@@ -1,0 +1,29 @@
+use Rattle.std.proofs.Common.{◌↔◌, sym, subst, List, ℕ, IsTrue}
+use Rattle.dns_label.specs.Name.{low, with_root}
+use Rattle.dns_label.specs.Labels.{labels_at}
+use Rattle.dns_wire.specs.Suffix.{EndsWith}
+use Rattle.dns_wire.proofs.Case.{rooted_on, rooted_back}
+use Rattle.dns_wire.proofs.Flat.{flat-labels, flat-written}
+use Rattle.dns_flat.proofs.name.Name.ends_with.Goals as goal
+
+pub flat_ends_with-requires-clause-name : goal.flat_ends_with-requires-clause-name
+flat_ends_with-requires-clause-name g c = flat-written _ _ c.as_slice.ensures.name c.as_slice.ensures.octets
+
+pub flat_ends_with-requires-clause-end : goal.flat_ends_with-requires-clause-end
+flat_ends_with-requires-clause-end g c = flat-written _ _ c.as_flat_slice.ensures.name c.in-Some.ensures.octets
+
+pub returns-in-Some : goal.returns-in-Some
+returns-in-Some g c =
+    let own = flat-labels _ _ c.as_slice.ensures.name c.as_slice.ensures.octets in
+    let base = flat-labels _ _ c.as_flat_slice.ensures.name c.in-Some.ensures.octets in
+    let P : List (List ℕ) → Type 0 = λ n. IsTrue c.flat_ends_with.result ↔ EndsWith (low n) (low (labels_at c.in-Some.end.now 0)) in
+    let Q : List (List ℕ) → Type 0 = λ n. IsTrue c.flat_ends_with.result ↔ EndsWith (low c.args.self.now) (low n) in
+    subst Q base (subst P own c.flat_ends_with.ensures)
+
+pub returns-in-None : goal.returns-in-None
+returns-in-None g c =
+    let is = g.met.N.ToName.is_absolute c.args.base.now in
+    let P : List (List ℕ) → Type 0 = λ n. EndsWith (low (with_root c.args.self.now)) (low n) in (
+      λ yes. rooted_on c.args.self.now (g.N.ToName.name c.args.base.now) (subst P is (c.ends_with.ensures.0 yes)),
+      λ ends. c.ends_with.ensures.1 (subst P (sym is) (rooted_back c.args.self.now (g.N.ToName.name c.args.base.now) ends)),
+    )

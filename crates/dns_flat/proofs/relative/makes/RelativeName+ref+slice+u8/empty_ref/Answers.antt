@@ -1,0 +1,10 @@
+use Rattle.std.proofs.Common.{sym, ◌∙◌, []}
+use Rattle.dns_flat.proofs.Constants.{no_labels_name}
+use Rattle.dns_wire.proofs.FlatForms.{relative-written, labels_wire_one}
+use Rattle.dns_flat.proofs.relative.makes.RelativeName+ref+slice+u8.empty_ref.Goals as goal
+
+pub of_octets-requires : goal.of_octets-requires
+of_octets-requires c = relative-written _ [] no_labels_name c.as_slice.ensures
+
+pub returns : goal.returns
+returns c = labels_wire_one _ [] (sym c.of_octets.ensures ∙ c.as_slice.ensures)

@@ -1,0 +1,14 @@
+pub mod ChainLaws
+pub mod ChainParts
+pub mod FlatSuffixes
+pub mod FlatWire
+pub mod OrderLaws
+pub mod Relative
+pub mod Rrsig
+pub mod NoName
+pub mod DigitLabels
+pub mod Reverse
+pub mod BuiltText
+pub mod PrintedLabels
+pub mod RelativeText
+pub mod SpelledText

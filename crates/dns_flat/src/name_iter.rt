@@ -1,0 +1,101 @@
+//! The labels of flat names, one after another.
+ghost use Rattle.std.specs.Prelude.{◌≡◌, ◌∷◌, ◌++◌, List, ℕ, [], option_map, slice_get, IfSome, IfNone};
+ghost use Rattle.dns_label.specs.Label.{octets_of};
+ghost use Rattle.dns_wire.specs.FlatLabels.{AreLabels, flat_labels};
+
+use dns_label::Label;
+use std::marker::Model;
+
+/// The labels of a flat name, from the left. Of an absolute name the root's is the last.
+#[derive(Debug, Drop)]
+pub struct NameIter<'a> {
+    rest: &'a [u8],
+}
+
+impl<'a> Model for NameIter<'a> {
+    ghost Value = { List (List ℕ) };
+
+    ghost view = { λ it. flat_labels it.rest.now };
+
+    ghost invariant = { λ it. AreLabels it.rest.now };
+}
+
+impl<'a> NameIter<'a> {
+    /// The labels that the octets are.
+    pub(crate) fn at(octets: &'a [u8]) -> Self
+        requires { AreLabels octets.now }
+        ensures { result ≡ flat_labels octets.now }
+    {
+        NameIter { rest: octets }
+    }
+
+    /// The label with this number, counted from 0.
+    pub(crate) fn label(mut self, index: usize) -> Option<Label<'a>>
+        ensures { option_map octets_of result ≡ slice_get self.entry index }
+    {
+        self.nth(index)
+    }
+}
+
+impl<'a> Iterator for NameIter<'a> {
+    ghost use Rattle.std.specs.Iterator.{YieldsFirstBy, item_count};
+
+    type Item = Label<'a>;
+
+    ghost next_gives = { YieldsFirstBy octets_of (λ labels. labels) };
+
+    ghost remaining = { item_count (λ labels. labels) };
+
+    fn next(&mut self) -> Option<Label<'a>> {
+        let (label, behind) = split_first(self.rest)?;
+        self.rest = behind;
+        Some(label)
+    }
+}
+
+impl<'a> DoubleEndedIterator for NameIter<'a> {
+    ghost use Rattle.std.specs.Iterator.{YieldsLastBy};
+
+    ghost next_back_gives = { YieldsLastBy octets_of (λ labels. labels) };
+
+    /// The last label. It is found from the left, so this takes as long as there are labels.
+    fn next_back(&mut self) -> Option<Label<'a>> {
+        let (label, front) = split_last(self.rest)?;
+        self.rest = front;
+        Some(label)
+    }
+}
+
+/// The label in front, and the octets behind it. None where there are no octets.
+pub(crate) fn split_first(octets: &[u8]) -> Option<(Label<'_>, &[u8])>
+    requires { AreLabels octets.now }
+    ensures some { IfSome result (λ found. flat_labels octets.now ≡ octets_of found.0 ∷ flat_labels found.1.now) }
+    ensures left { IfSome result (λ found. AreLabels found.1.now) }
+    ensures none { IfNone result (flat_labels octets.now ≡ []) }
+{
+    if octets.is_empty() {
+        return None;
+    }
+    match Label::split_from(octets) {
+        Ok((label, behind)) => Some((label, behind)),
+        Err(_) => unreachable!(),
+    }
+}
+
+/// The last label, and the octets in front of it. None where there are no octets.
+fn split_last(octets: &[u8]) -> Option<(Label<'_>, &[u8])>
+    requires { AreLabels octets.now }
+    ensures some { IfSome result (λ found. flat_labels octets.now ≡ flat_labels found.1.now ++ octets_of found.0 ∷ []) }
+    ensures left { IfSome result (λ found. AreLabels found.1.now) }
+    ensures none { IfNone result (flat_labels octets.now ≡ []) }
+{
+    let (first, behind) = split_first(octets)?;
+    let mut last = first;
+    let mut rest = behind;
+    'labels: while let Some((label, behind)) = split_first(rest) {
+        last = label;
+        rest = behind;
+    }
+    let (front, _) = octets.split_at(octets.len() - last.len() - 1);
+    Some((last, front))
+}

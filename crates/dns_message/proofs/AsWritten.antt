@@ -1,0 +1,100 @@
+-- A record that is spelled as it is written is read.
+use Rattle.std.proofs.Common.{◌≡◌, ℕ, ◌+◌, ◌≤◌, List, [], ◌∷◌, ◌++◌, length, drop, sym, ap, subst, arith, length-append, length-drop}
+use Rattle.std.specs.Int.{to_be_bytes, w16, w32}
+use Rattle.std.specs.List.{AllByRecursion}
+use Rattle.dns_label.specs.Name.{wire}
+use Rattle.dns_name.specs.SpelledParts.{Spells}
+use Rattle.dns_name.specs.SpelledParts.Spells.{octets, named, counted}
+use Rattle.dns_name.specs.Page.{Parts}
+use Rattle.dns_name.specs.Page.Parts.{End, Octets, Named, Counted}
+use Rattle.dns_rdata.specs.Fields.{Field, IsField}
+use Rattle.dns_rdata.specs.Fields.Field.{number8, number16, number32, ipv4, ipv6, compressible, uncompressed, string, strings, tag, rest_text, rest16, rest64}
+use Rattle.dns_header.proofs.WrittenQuestions.{reads-written}
+use Rattle.dns_message.specs.Record.{Record, IsRecord, IsWritten, ReadsRecord, ReadsPlainRecord, read_parts, written_parts, record_octets}
+use Rattle.dns_message.specs.Record.IsRead.{typed, opaque}
+use Rattle.dns_message.specs.Record.IsWritten.{fields, untold}
+use Rattle.dns_message.proofs.WrittenRecords.{record-written}
+
+-- other parts behind the same octets
+behind_octets : {message : List ℕ} {place next : ℕ} {text : List ℕ} {parts other : Parts}
+    → ((from : ℕ) → Spells message from parts next → Spells message from other next)
+    → Spells message place (Octets text parts) next → Spells message place (Octets text other) next
+behind_octets onward (octets rest at on) = octets rest at (onward _ on)
+
+behind_name : {message : List ℕ} {place next : ℕ} {name : List (List ℕ)} {parts other : Parts}
+    → ((from : ℕ) → Spells message from parts next → Spells message from other next)
+    → Spells message place (Named name parts) next → Spells message place (Named name other) next
+behind_name onward (named behind reads on) = named behind reads (onward _ on)
+
+-- a name that is written out is read as a name too
+name_in_full : {message : List ℕ} {place next : ℕ} {parts other : Parts} (name : List (List ℕ)) → IsField (uncompressed name)
+    → ((from : ℕ) → Spells message from parts next → Spells message from other next)
+    → Spells message place (Octets (wire name) parts) next → Spells message place (Named name other) next
+name_in_full {message} {place} name is onward (octets rest at on) =
+    named (place + length (wire name)) (reads-written message place name rest at is) (onward _ on)
+
+row_read : {message : List ℕ} {place next : ℕ} (row : List Field) → AllByRecursion IsField row
+    → Spells message place (written_parts row) next → Spells message place (read_parts row) next
+row_read [] each spelled = spelled
+row_read (compressible name ∷ row) each spelled = behind_name (λ from. row_read row each.1) spelled
+row_read (uncompressed name ∷ row) each spelled = name_in_full name each.0 (λ from. row_read row each.1) spelled
+row_read (number8 n ∷ row) each spelled = behind_octets (λ from. row_read row each.1) spelled
+row_read (number16 n ∷ row) each spelled = behind_octets (λ from. row_read row each.1) spelled
+row_read (number32 n ∷ row) each spelled = behind_octets (λ from. row_read row each.1) spelled
+row_read (ipv4 text ∷ row) each spelled = behind_octets (λ from. row_read row each.1) spelled
+row_read (ipv6 text ∷ row) each spelled = behind_octets (λ from. row_read row each.1) spelled
+row_read (string text ∷ row) each spelled = behind_octets (λ from. row_read row each.1) spelled
+row_read (strings texts ∷ row) each spelled = behind_octets (λ from. row_read row each.1) spelled
+row_read (tag text ∷ row) each spelled = behind_octets (λ from. row_read row each.1) spelled
+row_read (rest_text text ∷ row) each spelled = behind_octets (λ from. row_read row each.1) spelled
+row_read (rest16 text ∷ row) each spelled = behind_octets (λ from. row_read row each.1) spelled
+row_read (rest64 text ∷ row) each spelled = behind_octets (λ from. row_read row each.1) spelled
+
+-- other parts of the data
+other_data : {message : List ℕ} {place next : ℕ} {owner : List (List ℕ)} {text : List ℕ} {inner other : Parts}
+    → ((counted : List ℕ) (from end : ℕ) → Spells counted from inner end → Spells counted from other end)
+    → Spells message place (Named owner (Octets text (Counted inner End))) next
+    → Spells message place (Named owner (Octets text (Counted other End))) next
+other_data onward (named behind reads (octets rest at (counted count rest' at' small within held on))) =
+    named behind reads (octets rest at (counted count rest' at' small within (onward _ _ _ held) on))
+
+pub as_written_read : {message : List ℕ} {place next : ℕ} {parts : Parts} (r : Record) → IsRecord r → IsWritten r parts
+    → Spells message place parts next → ReadsRecord message place r next
+as_written_read r good (fields row is_row is) spelled = record {
+  is_record = good;
+  parts = _;
+  read = typed row is_row is;
+  spelled = other_data (λ counted from end. row_read row is_row.each) spelled;
+}
+as_written_read r good (untold none) spelled = record { is_record = good; parts = _; read = opaque none; spelled = spelled }
+
+-- a record has some octets
+some_wire : (name : List (List ℕ)) → 1 ≤ length (wire name)
+some_wire [] = omega arith
+some_wire (label ∷ name) = omega arith
+
+six_lengths : (a b c d e f : List ℕ)
+    → length (a ++ b ++ c ++ d ++ e ++ f) ≡ length a + length b + length c + length d + length e + length f
+six_lengths a b c d e f = simp length-append
+
+some_record : (r : Record) → 1 ≤ length (record_octets r)
+some_record r =
+    omega (
+      arith,
+      some_wire r.owner,
+      six_lengths (wire r.owner) (to_be_bytes w16 r.rtype) (to_be_bytes w16 r.class)
+          (to_be_bytes w32 r.ttl) (to_be_bytes w16 (length r.rdata)) r.rdata,
+    )
+
+-- so they stand within the message
+place_within : (message : List ℕ) (place : ℕ) (front rest : List ℕ) → drop place message ≡ front ++ rest → 1 ≤ length front
+    → place ≤ length message
+place_within message place front rest at some =
+    omega (arith, length-drop place message, ap (length {A = ℕ}) at, length-append front rest)
+
+-- a record that is written out, at a place
+pub plain_read : {message : List ℕ} {place next : ℕ} {r : Record} → ReadsPlainRecord message place r next → ReadsRecord message place r next
+plain_read {message} {place} {r = r} plain =
+    let within = place_within message place (record_octets r) plain.rest plain.at (some_record r) in
+    let P : ℕ → Type 0 = λ next. ReadsRecord message place r next in
+    subst P (sym plain.ends) (record-written message place r plain.rest plain.at within plain.is_record plain.data_is)

@@ -1,0 +1,75 @@
+//! Laws of messages: what the code reads and writes, and what the definitions of a transfer say of a message, is the same. Each
+//! function does nothing; what it ensures is the law.
+ghost use Rattle.std.specs.Prelude.{◌≡◌, ◌<◌, ◌+◌, ◌^◌, ◌++◌, ℕ, Bool, List, length};
+ghost use Rattle.std.specs.List.{AllByRecursion};
+ghost use Rattle.dns_name.specs.Page.{Parts};
+ghost use Rattle.dns_name.specs.SpelledParts.{Spells};
+ghost use Rattle.dns_rdata.specs.Fields.{IsData};
+ghost use Rattle.dns_rdata.specs.Data as data_specs;
+ghost use Rattle.dns_rdata.specs.Data.{Data};
+ghost use Rattle.dns_header.specs.Header.{answer_header};
+ghost use Rattle.dns_header.specs.HeaderFields.{fields_of};
+ghost use Rattle.dns_header.specs.HeaderCounts.{counts_in};
+ghost use Rattle.dns_header.specs.Question.{Question, ReadsQuestion, question_parts};
+ghost use Rattle.dns_header.specs.Record.{RecordOf};
+ghost use Rattle.dns_header.specs.ParsedRecord.{Parsed, HoldsRecord, IsRecordOf};
+ghost use Rattle.dns_message.specs.Answer.{answer_fields, answer_counts};
+ghost use Rattle.dns_message.specs.Held.{TakesRecord, record_of, written_parts_of};
+ghost use Rattle.dns_message.specs.Record.{Record, IsRecord, IsWritten, ReadsPlainRecord, ReadsRecord, record_octets};
+
+pub use dns_header::laws::{
+    counts_are_four_numbers, header_is_its_fields, question_skip_stops_where_parse_stops,
+    questions_in_full_are_read,
+};
+
+/// A message has a record at a place exactly where the code reads its head and its data there: a row of the fields of its type, or
+/// opaque octets (RFC 1035 3.2.1, RFC 3597). An item of a cursor, with its data read, is such a record; and where the message has
+/// a record, an item there is that one.
+pub fn records_have_one_meaning()
+    ensures there { (message : List ℕ) (place next : ℕ) (r : Record) → ReadsRecord message place r next
+        → (rr : RecordOf (List (List ℕ)) Data) × TakesRecord message place rr next × (record_of rr ≡ r) }
+    ensures back { (message : List ℕ) (place next : ℕ) (rr : RecordOf (List (List ℕ)) Data)
+        → AllByRecursion (λ octet. octet < 2 ^ 8) message → TakesRecord message place rr next
+        → ReadsRecord message place (record_of rr) next }
+    ensures item { (message : List ℕ) (place next : ℕ) (parsed : Parsed) (rr : RecordOf (List (List ℕ)) Data)
+        → HoldsRecord message place parsed next → IsRecordOf data_specs.ReadsData parsed rr → TakesRecord message place rr next }
+    ensures found { (message : List ℕ) (place next end : ℕ) (r : Record) (parsed : Parsed) → ReadsRecord message place r next
+        → HoldsRecord message place parsed end → (end ≡ next)
+        × (rr : RecordOf (List (List ℕ)) Data) × IsRecordOf data_specs.ReadsData parsed rr × (record_of rr ≡ r) }
+{}
+
+/// A message has a question at a place exactly where it spells the question's parts there, and the type and class are numbers of
+/// two octets (RFC 1035 4.1.2).
+pub fn questions_have_one_meaning()
+    ensures there { (message : List ℕ) (place next : ℕ) (q : Question) → AllByRecursion (λ octet. octet < 2 ^ 8) message
+        → ReadsQuestion message place q next
+        → Spells message place (question_parts q) next × (q.qtype < 2 ^ 16) × (q.qclass < 2 ^ 16) }
+    ensures back { (message : List ℕ) (place next : ℕ) (q : Question) → Spells message place (question_parts q) next
+        → q.qtype < 2 ^ 16 → q.qclass < 2 ^ 16 → ReadsQuestion message place q next }
+{}
+
+/// The header of an answer is the twelve octets that have this id, QR, AA and this RD, no other bit, and the counts 1, so many
+/// answers, 0 and 0 (RFC 1035 4.1.1).
+pub fn answer_header_is_its_fields()
+    ensures there { (id : ℕ) (recursion : Bool) (answers : ℕ) → id < 2 ^ 16 → answers < 2 ^ 16
+        → (length (answer_header id recursion answers) ≡ 12)
+        × (fields_of (answer_header id recursion answers) ≡ answer_fields id recursion)
+        × (counts_in (answer_header id recursion answers) ≡ answer_counts answers) }
+    ensures back { (header : List ℕ) (id : ℕ) (recursion : Bool) (answers : ℕ) → AllByRecursion (λ octet. octet < 2 ^ 8) header
+        → length header ≡ 12 → fields_of header ≡ answer_fields id recursion → counts_in header ≡ answer_counts answers
+        → header ≡ answer_header id recursion answers }
+{}
+
+/// What is written of a record is read as that record, names with pointers and names in full. `parts`: what the code writes of a
+/// record that it has read is so written.
+pub fn written_records_are_read()
+    ensures parts { (message : List ℕ) (place next : ℕ) (rr : RecordOf (List (List ℕ)) Data) → TakesRecord message place rr next
+        → IsWritten (record_of rr) (written_parts_of rr) }
+    ensures spelled { (message : List ℕ) (place next : ℕ) (r : Record) (parts : Parts) → IsRecord r → IsWritten r parts
+        → Spells message place parts next → ReadsRecord message place r next }
+    ensures in_full { (message front rest : List ℕ) (r : Record) → IsRecord r → IsData r.rtype r.rdata
+        → message ≡ front ++ (record_octets r ++ rest)
+        → ReadsRecord message (length front) r (length front + length (record_octets r)) }
+    ensures plain { (message : List ℕ) (place next : ℕ) (r : Record) → ReadsPlainRecord message place r next
+        → ReadsRecord message place r next }
+{}

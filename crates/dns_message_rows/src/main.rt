@@ -1,0 +1,35 @@
+//! Rows of the calls of `dns_message`: what each call returns for the values that stand in `stdin`.
+//!
+//! What is parsed is given by a place and the message in which it stands from there on, and the place behind it is the last
+//! word of the answer. Other names are texts, and other records stand as in a zone file.
+#![tactic(auto)]
+
+mod headers;
+mod parsed;
+mod questions;
+mod records;
+mod sections;
+
+use rows::{Answer, Calls, Row, RowError, answer_rows};
+use std::alloc::Global;
+use std::process::ExitCode;
+
+/// The calls of `dns_message`.
+struct MessageCalls;
+
+impl Calls for MessageCalls {
+    fn answer(&self, alloc: Global, row: &mut Row<'_>, out: &mut Answer) -> Result<(), RowError> {
+        match row.family() {
+            "Header" | "Flags" => headers::answer(alloc, row, out),
+            "HeaderCounts" | "HeaderSection" => sections::answer(alloc, row, out),
+            "Question" => questions::answer(alloc, row, out),
+            "Record" => records::answer(alloc, row, out),
+            "RecordHeader" => parsed::answer_header(alloc, row, out),
+            _ => parsed::answer(alloc, row, out),
+        }
+    }
+}
+
+fn main(rt: HostRuntime) -> ExitCode {
+    answer_rows(&rt, &MessageCalls)
+}

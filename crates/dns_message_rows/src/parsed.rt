@@ -1,0 +1,150 @@
+//! Records in messages: heads, and data that is read at once or later (RFC 1035 4.1.3).
+use dns_message::{ParsedRecord, Record, RecordHeader};
+use dns_name::{Name, ParseError, ParsedName, Parser, ToName, Ttl};
+use dns_rdata::ZoneRecordData;
+use rows::{Answer, Row, RowError};
+use std::alloc::Global;
+use std::fmt::Display;
+
+/// A record whose name and data lie in a message.
+type Read<'a> = Record<ParsedName<&'a [u8]>, ZoneRecordData<&'a [u8], ParsedName<&'a [u8]>>>;
+
+/// The name of a text.
+pub fn name_of(alloc: Global, row: &mut Row<'_>) -> Result<Name<Vec<u8>>, RowError> {
+    let text = row.text(alloc)?;
+    match Name::vec_from_str(alloc, text.as_str()) {
+        Ok(name) => Ok(name),
+        Err(_) => Err(RowError::BadWord),
+    }
+}
+
+/// A parser over a message, at a place.
+pub fn at_place(message: &[u8], place: usize) -> Result<Parser<'_>, RowError> {
+    let mut parser = Parser::from_ref(message);
+    match parser.advance(place) {
+        Ok(()) => Ok(parser),
+        Err(_) => Err(RowError::BadWord),
+    }
+}
+
+/// Writes the fields of a head.
+fn head<N: ToName + Display>(header: &RecordHeader<N>, out: &mut Answer) -> Result<(), RowError> {
+    out.shown(header.owner())?;
+    out.shown(&header.ttl().as_secs())?;
+    out.shown(&header.class())?;
+    out.shown(&header.rtype())?;
+    out.shown(&header.rdlen())
+}
+
+/// Writes a record, or why there is none.
+fn record_or(out: &mut Answer, rr: Result<Read<'_>, ParseError>) -> Result<(), RowError> {
+    match rr {
+        Ok(rr) => out.shown(&rr),
+        Err(error) => out.refused(&error),
+    }
+}
+
+/// Writes a record, that it is of no type that is taken, or why there is none.
+fn maybe_record_or(
+    out: &mut Answer,
+    found: Result<Option<Read<'_>>, ParseError>,
+) -> Result<(), RowError> {
+    match found {
+        Ok(Some(rr)) => out.shown(&rr),
+        Ok(None) => out.shown(&"None"),
+        Err(error) => out.refused(&error),
+    }
+}
+
+/// Answers a call of heads.
+pub fn answer_header(alloc: Global, row: &mut Row<'_>, out: &mut Answer) -> Result<(), RowError> {
+    if row.call() == "RecordHeader::compose" || row.call() == "RecordHeader::compose_canonical" {
+        return answer_composed(alloc, row, out);
+    }
+    let place = row.value()?;
+    let message = row.octets(alloc)?;
+    let mut parser = at_place(message.as_slice(), place)?;
+    let header = match row.call() {
+        "RecordHeader::parse_ref" => RecordHeader::parse_ref(&mut parser),
+        "RecordHeader::parse_and_skip" => RecordHeader::parse_and_skip(&mut parser),
+        _ => RecordHeader::parse(&mut parser),
+    };
+    match header {
+        Ok(header) => answer_data(row.call(), header, &mut parser, out)?,
+        Err(error) => out.refused(&error)?,
+    }
+    out.shown(&parser.pos())
+}
+
+/// Answers the head, or the record with the data behind it.
+fn answer_data<'a>(
+    call: &str,
+    header: RecordHeader<ParsedName<&'a [u8]>>,
+    parser: &mut Parser<'a>,
+    out: &mut Answer,
+) -> Result<(), RowError> {
+    match call {
+        "RecordHeader::parse" | "RecordHeader::parse_ref" | "RecordHeader::parse_and_skip" => {
+            head(&header, out)
+        }
+        "RecordHeader::parse_into_record" => {
+            maybe_record_or(out, header.parse_into_record(parser))
+        }
+        "RecordHeader::parse_into_any_record" => {
+            record_or(out, header.parse_into_any_record(parser))
+        }
+        _ => Err(RowError::UnknownCall),
+    }
+}
+
+/// Answers the octets of a head.
+fn answer_composed(alloc: Global, row: &mut Row<'_>, out: &mut Answer) -> Result<(), RowError> {
+    let owner = name_of(alloc, row)?;
+    let ttl = Ttl::from_secs(row.value()?);
+    let class = row.value()?;
+    let header = RecordHeader::new(owner, row.value()?, class, ttl, row.value()?);
+    let mut target = Vec::new(alloc);
+    let outcome = if row.call() == "RecordHeader::compose" {
+        header.compose(&mut target)
+    } else {
+        header.compose_canonical(&mut target)
+    };
+    match outcome {
+        Ok(()) => out.octets(target.as_slice()),
+        Err(error) => out.refused(&error),
+    }
+}
+
+/// Answers a call of records whose data is read later.
+pub fn answer(alloc: Global, row: &mut Row<'_>, out: &mut Answer) -> Result<(), RowError> {
+    let place = row.value()?;
+    let message = row.octets(alloc)?;
+    let mut parser = at_place(message.as_slice(), place)?;
+    match ParsedRecord::parse(&mut parser) {
+        Ok(parsed) => match row.call() {
+            "ParsedRecord::parse" => {
+                out.shown(&parsed.owner())?;
+                out.shown(&parsed.ttl().as_secs())?;
+                out.shown(&parsed.class())?;
+                out.shown(&parsed.rtype())?;
+                out.shown(&parsed.rdlen())?;
+            }
+            "ParsedRecord::to_record" => maybe_record_or(out, parsed.to_record())?,
+            "ParsedRecord::to_any_record" => record_or(out, parsed.to_any_record())?,
+            "ParsedRecord::into_record" => maybe_record_or(out, parsed.into_record())?,
+            "ParsedRecord::into_any_record" => record_or(out, parsed.into_any_record())?,
+            _ => return Err(RowError::UnknownCall),
+        },
+        Err(error) => out.refused(&error)?,
+    }
+    out.shown(&parser.pos())
+}
+
+/// Answers the record that stands in a message.
+pub fn answer_record(alloc: Global, row: &mut Row<'_>, out: &mut Answer) -> Result<(), RowError> {
+    let place = row.value()?;
+    let message = row.octets(alloc)?;
+    let mut parser = at_place(message.as_slice(), place)?;
+    maybe_record_or(out, Record::parse(&mut parser))?;
+    out.shown(&parser.pos())
+}

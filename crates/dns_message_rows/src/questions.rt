@@ -1,0 +1,74 @@
+//! Questions (RFC 1035 4.1.2).
+use crate::parsed::{at_place, name_of};
+use dns_message::Question;
+use dns_name::{CanonicalOrd, Name, ToName};
+use rows::{Answer, Row, RowError};
+use std::alloc::Global;
+use std::fmt::Display;
+use std::hash::{DefaultHasher, Hash, Hasher};
+
+type Owned = Question<Name<Vec<u8>>>;
+
+/// The question of a name, a type and a class.
+fn question_of(alloc: Global, row: &mut Row<'_>) -> Result<Owned, RowError> {
+    Ok(Question::new(name_of(alloc, row)?, row.value()?, row.value()?))
+}
+
+fn hashed(question: &Owned) -> u64 {
+    let mut state = DefaultHasher::new();
+    question.hash(&mut state);
+    state.finish()
+}
+
+pub fn answer(alloc: Global, row: &mut Row<'_>, out: &mut Answer) -> Result<(), RowError> {
+    if row.call() == "Question::parse" || row.call() == "Question::skip" {
+        return answer_parser(alloc, row, out);
+    }
+    let question = question_of(alloc, row)?;
+    match row.call() {
+        "Question::new" => parts(&question, out),
+        "Question::compose" => {
+            let mut target = Vec::new(alloc);
+            match question.compose(&mut target) {
+                Ok(()) => out.octets(target.as_slice()),
+                Err(error) => out.refused(&error),
+            }
+        }
+        "Question::fmt" => out.named(&question.to_string(alloc)?.as_str()),
+        "Question::eq" => {
+            let other = question_of(alloc, row)?;
+            out.shown(&(question == other))?;
+            out.shown(&(hashed(&question) == hashed(&other)))
+        }
+        "Question::cmp" => out.named(&question.cmp(&question_of(alloc, row)?)),
+        "Question::partial_cmp" => out.named(&question.partial_cmp(&question_of(alloc, row)?)),
+        "Question::canonical_cmp" => out.named(&question.canonical_cmp(&question_of(alloc, row)?)),
+        _ => Err(RowError::UnknownCall),
+    }
+}
+
+/// Writes the name, the type and the class of a question.
+fn parts<N: ToName + Display>(question: &Question<N>, out: &mut Answer) -> Result<(), RowError> {
+    out.shown(question.qname())?;
+    out.shown(&question.qtype())?;
+    out.shown(&question.qclass())
+}
+
+/// Answers the question in a message, or that one is skipped.
+fn answer_parser(alloc: Global, row: &mut Row<'_>, out: &mut Answer) -> Result<(), RowError> {
+    let place = row.value()?;
+    let message = row.octets(alloc)?;
+    let mut parser = at_place(message.as_slice(), place)?;
+    if row.call() == "Question::parse" {
+        match Question::parse(&mut parser) {
+            Ok(question) => parts(&question, out)?,
+            Err(error) => out.refused(&error)?,
+        }
+    } else {
+        match Question::skip(&mut parser) {
+            Ok(()) => out.shown(&"ok")?,
+            Err(error) => out.refused(&error)?,
+        }
+    }
+    out.shown(&parser.pos())
+}

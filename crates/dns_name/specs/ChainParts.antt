@@ -1,8 +1,0 @@
--- What a contract sees of a name of two parts.
-use Rattle.dns_name.specs.declared.chain.Chain.{Chain}
-
-abbrev pub left_of : {L R : Type 0} {ghosts others : _} → Chain L R ghosts others → L
-left_of chain = chain.left
-
-abbrev pub right_of : {L R : Type 0} {ghosts others : _} → Chain L R ghosts others → R
-right_of chain = chain.right

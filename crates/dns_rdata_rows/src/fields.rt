@@ -1,0 +1,99 @@
+//! The fields of data, as the getters of its type return them.
+use crate::given::{Given, Read};
+use dns_name::RecordData;
+use dns_rdata::ZoneRecordData;
+use rows::{Answer, Row, RowError};
+use std::alloc::Global;
+
+/// Answers the type of data and its fields.
+pub fn answer(alloc: Global, row: &mut Row<'_>, out: &mut Answer) -> Result<(), RowError> {
+    let given = Given::of(row)?;
+    let octets = row.octets(alloc)?;
+    match given.read(octets.as_slice()) {
+        Ok(rdata) => {
+            out.shown(&rdata.rtype().to_int())?;
+            names(&rdata, out)
+        }
+        Err(error) => out.refused(&error),
+    }
+}
+
+/// Writes the fields of data of a type that has one name.
+fn names(rdata: &Read<'_>, out: &mut Answer) -> Result<(), RowError> {
+    match rdata {
+        ZoneRecordData::Ns(ns) => out.shown(ns.nsdname()),
+        ZoneRecordData::Md(md) => out.shown(md.madname()),
+        ZoneRecordData::Mf(mf) => out.shown(mf.madname()),
+        ZoneRecordData::Cname(cname) => out.shown(cname.cname()),
+        ZoneRecordData::Mb(mb) => out.shown(mb.madname()),
+        ZoneRecordData::Mg(mg) => out.shown(mg.madname()),
+        ZoneRecordData::Mr(mr) => out.shown(mr.newname()),
+        ZoneRecordData::Ptr(ptr) => out.shown(ptr.ptrdname()),
+        _ => rows_of_names(rdata, out),
+    }
+}
+
+/// Writes the fields of data of another type that has names.
+fn rows_of_names(rdata: &Read<'_>, out: &mut Answer) -> Result<(), RowError> {
+    match rdata {
+        ZoneRecordData::Soa(soa) => {
+            out.shown(soa.mname())?;
+            out.shown(soa.rname())?;
+            out.shown(&soa.serial())?;
+            for ttl in [soa.refresh(), soa.retry(), soa.expire(), soa.minimum()] {
+                out.shown(&ttl.as_secs())?;
+            }
+            Ok(())
+        }
+        ZoneRecordData::Minfo(minfo) => {
+            out.shown(minfo.rmailbx())?;
+            out.shown(minfo.emailbx())
+        }
+        ZoneRecordData::Mx(mx) => {
+            out.shown(&mx.preference())?;
+            out.shown(mx.exchange())
+        }
+        ZoneRecordData::Rp(rp) => {
+            out.shown(rp.mbox())?;
+            out.shown(rp.txt())
+        }
+        ZoneRecordData::Srv(srv) => {
+            out.shown(&srv.priority())?;
+            out.shown(&srv.weight())?;
+            out.shown(&srv.port())?;
+            out.shown(srv.target())
+        }
+        _ => rows_of_octets(rdata, out),
+    }
+}
+
+/// Writes the fields of data of a type that has no names.
+fn rows_of_octets(rdata: &Read<'_>, out: &mut Answer) -> Result<(), RowError> {
+    match rdata {
+        ZoneRecordData::A(a) => out.shown(&a.addr()),
+        ZoneRecordData::Aaaa(aaaa) => out.octets(aaaa.addr().octets().as_slice()),
+        ZoneRecordData::Hinfo(hinfo) => {
+            out.octets(hinfo.cpu().as_slice())?;
+            out.octets(hinfo.os().as_slice())
+        }
+        ZoneRecordData::Ds(ds) => {
+            out.shown(&ds.key_tag())?;
+            out.shown(&ds.algorithm())?;
+            out.shown(&ds.digest_type())?;
+            out.octets(ds.digest())
+        }
+        ZoneRecordData::Dnskey(key) => {
+            out.shown(&key.flags())?;
+            out.shown(&key.protocol())?;
+            out.shown(&key.algorithm())?;
+            out.octets(key.public_key())
+        }
+        ZoneRecordData::Caa(caa) => {
+            out.shown(&caa.flags())?;
+            out.octets(caa.tag().as_slice())?;
+            out.octets(caa.value())
+        }
+        ZoneRecordData::Unknown(unknown) => out.octets(unknown.data()),
+        _ => Err(RowError::UnknownCall),
+    }
+}

@@ -1,5 +1,0 @@
-use Rattle.dns_scan.specs.declared.base.Base.TheVariants.{Sixteen}
-use Rattle.dns_scan.proofs.base16.Decoder.new.Goals as goal
-
-pub returns : goal.returns
-returns g c = c.over.ensures Sixteen

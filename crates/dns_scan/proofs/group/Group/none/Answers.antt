@@ -1,5 +1,0 @@
-use Rattle.dns_scan.proofs.Decoded.{read_none}
-use Rattle.dns_scan.proofs.group.Group.none.Goals as goal
-
-pub returns : goal.returns
-returns c = λ base. let waiting = c.none.ensures in read_none base _ (cc)

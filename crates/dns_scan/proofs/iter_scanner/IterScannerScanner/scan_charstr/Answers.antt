@@ -1,6 +1,0 @@
-use Rattle.dns_name.proofs.Flat.{always_on_err}
-use Rattle.dns_scan.proofs.Tokens.{one_taken}
-use Rattle.dns_scan.proofs.iter_scanner.IterScannerScanner.scan_charstr.Goals as goal
-
-pub returns-clause-left : goal.returns-clause-left
-returns-clause-left c = always_on_err c.string_of.result (one_taken _ _ _ c.in_ok-text.ensures.ok)

@@ -1,6 +1,0 @@
-use Rattle.dns_scan.specs.declared.base.Base.TheVariants.{ThirtyTwoHex}
-use Rattle.dns_scan.proofs.ConvertedEntries.{entry_decodes, decodes_entry}
-use Rattle.dns_scan.proofs.laws.base32_converts_entries.Goals as goal
-
-pub returns : goal.returns
-returns c = record { converted = entry_decodes ThirtyTwoHex; decoded = decodes_entry ThirtyTwoHex }

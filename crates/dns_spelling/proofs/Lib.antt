@@ -1,0 +1,4 @@
+pub mod SameNames
+pub mod Standings
+pub mod Tails
+pub mod ReadParts

@@ -1,0 +1,44 @@
+-- A name while its text is read.
+use Rattle.std.specs.Prelude.{◌≡◌, ◌⊎◌, ℕ, Option, Some, None, List, [], ◌∷◌, ◌++◌, length, take}
+use Rattle.std.specs.List.{AllByRecursion}
+use Rattle.dns_label.specs.declared.symbol.Symbol.{Symbol}
+use Rattle.dns_label.specs.Name.{IsLabel, IsName, labels_wire}
+use Rattle.dns_label.specs.NameText.{HasParts, IsNameText}
+use Rattle.dns_wire.specs.Text.{SpellName}
+use Rattle.dns_wire.specs.declared.text.draft.Spelling.{Spelling}
+
+-- it has these finished labels, and these octets in the open one
+pub record Holds (spelling : Spelling) (done : List (List ℕ)) (begun : List ℕ) : Type 0 where
+  pub written : take spelling.len spelling.octets ≡ labels_wire done ++ 0 ∷ begun
+  pub place : spelling.start ≡ length (labels_wire done)
+  pub labels : AllByRecursion IsLabel done
+
+-- it has no octet yet
+abbrev pub IsNew : Spelling → Type 0
+IsNew spelling = spelling.len ≡ 1
+
+-- these parts are of a name other than the root: its labels, and an empty one where the last dot is there
+pub record IsListed (parts name : List (List ℕ)) : Type 0 where
+  pub is_name : IsName name
+  pub listed : (parts ≡ name) ⊎ (parts ≡ name ++ [] ∷ [])
+
+-- the text has the finished labels and the open one as its parts, and no others
+pub record IsReadAs (text : List ℕ) (spelling : Spelling) : Type 0 where
+  pub done : List (List ℕ)
+  pub begun : List ℕ
+  pub holds : Holds spelling done begun
+  pub has : HasParts text (done ++ begun ∷ [])
+  pub only : (parts : List (List ℕ)) → HasParts text parts → parts ≡ done ++ begun ∷ []
+
+-- the text has been read: it is the root's, or another one with these parts
+abbrev pub IsReadBy : List ℕ → Option Spelling → Type 0
+IsReadBy text None = text ≡ 46 ∷ []
+IsReadBy text (Some spelling) = (text ≡ 46 ∷ [] → ⊥) × IsReadAs text spelling
+
+-- a name's text, or no text at all
+abbrev pub IsReadable : List ℕ → Type 0
+IsReadable text = (text ≡ []) ⊎ ((name : List (List ℕ)) × IsNameText text name)
+
+-- the same of symbols
+abbrev pub AreReadable : List Symbol → Type 0
+AreReadable symbols = (symbols ≡ []) ⊎ ((name : List (List ℕ)) × SpellName symbols name)

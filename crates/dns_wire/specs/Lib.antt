@@ -1,0 +1,14 @@
+pub mod Chain
+pub mod Flat
+pub mod FlatLabels
+pub mod Order
+pub mod Parsed
+pub mod Parts
+pub mod Skip
+pub mod Cut
+pub mod Suffix
+pub mod Text
+pub mod Draft
+pub mod Unescaped
+pub mod Built
+pub mod TextErrors

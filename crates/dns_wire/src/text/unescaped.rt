@@ -1,0 +1,91 @@
+//! Names in text without escapes, as most names are (RFC 1035 5.1).
+ghost use Rattle.std.specs.Prelude.{◌≡◌, ◌≤◌, ◌+◌, ◌↔◌, ◌++◌, List, ℕ, length, drop, take, IsTrue, IsFalse, IfOk, IfSome};
+ghost use Rattle.dns_label.specs.Name.{wire};
+ghost use Rattle.dns_label.specs.NameText.{IsAbsoluteText};
+ghost use Rattle.dns_wire.specs.Unescaped.{IsPlain, StartsWithPlainLabel, is_plain as is_plain_octet};
+
+use dns_label::{OctetKind, run_end};
+use std::alloc::AllocError;
+use std::simd::prelude::*;
+
+/// The most octets of a label (RFC 1035 2.3.4).
+const LABEL_MOST: usize = 63;
+
+/// The most octets of such a name's text: the name has one more, the root's.
+const TEXT_MOST: usize = 254;
+
+/// Appends the octets of the name that a text without escapes spells, its last dot there, and answers whether it did.
+///
+/// It did not where the text has an escape, where it spells no name or the root's, and where a growth was refused: which of
+/// these it is, a reader of symbols tells.
+pub(super) fn append_unescaped(octets: &mut Vec<u8>, text: &[u8]) -> bool
+    ensures name { IsTrue result → (name : List (List ℕ)) × IsAbsoluteText text.now name × (octets.new.items ≡ octets.old.items ++ wire name) }
+    ensures none { IsFalse result → octets.new.items ≡ octets.old.items }
+{
+    let len = octets.len();
+    let is_whole = matches!(append_labels(octets, text), Ok(true));
+    if !is_whole {
+        octets.truncate(len);
+    }
+    is_whole
+}
+
+/// The same, but that some labels may be left behind where it is not the whole name.
+fn append_labels(octets: &mut Vec<u8>, text: &[u8]) -> Result<bool, AllocError>
+    ensures name { IfOk result (λ is_whole. IsTrue is_whole → (name : List (List ℕ)) × IsAbsoluteText text.now name
+        × (octets.new.items ≡ octets.old.items ++ wire name)) }
+    ensures front { take (length octets.old.items) octets.new.items ≡ octets.old.items }
+{
+    if text.is_empty() || text.len() > TEXT_MOST {
+        return Ok(false);
+    }
+    octets.reserve(text.len() + 1)?;
+    let mut start = 0;
+    while start < text.len() {
+        let Some(label) = label_at(text, start) else {
+            return Ok(false);
+        };
+        octets.push(label.len() as u8)?;
+        octets.extend_from_slice(label)?;
+        start += label.len() + 1;
+    }
+    octets.push(0)?;
+    Ok(true)
+}
+
+/// The label at a place, of octets that stand for themselves and with a dot behind it.
+fn label_at(text: &[u8], start: usize) -> Option<&[u8]>
+    requires { start ≤ length text.now }
+    ensures { IfSome result (λ label. StartsWithPlainLabel (drop start text.now) label.now (drop (start + length label.now + 1) text.now)) }
+{
+    let end = run_end::<PlainOctets>(text, start);
+    let label = &text[start..end];
+    match text[end..].split_first() {
+        Some((b'.', _)) if !label.is_empty() && label.len() <= LABEL_MOST => Some(label),
+        _ => None,
+    }
+}
+
+/// The octets that by themselves are symbols other than a dot.
+struct PlainOctets;
+
+impl OctetKind for PlainOctets {
+    ghost has = { is_plain_octet };
+
+    fn has(octet: u8) -> bool {
+        is_plain(octet)
+    }
+
+    fn others(octets: u8x16) -> u64 {
+        let unprintable = octets.simd_lt(u8x16::splat(b' ')) | octets.simd_gt(u8x16::splat(b'~'));
+        let marked = octets.simd_eq(u8x16::splat(b'.')) | octets.simd_eq(u8x16::splat(b'\\'));
+        (unprintable | marked).to_bitmask()
+    }
+}
+
+/// Whether the octet by itself is a symbol other than a dot.
+pub(super) fn is_plain(octet: u8) -> bool
+    ensures { IsTrue result ↔ IsPlain octet }
+{
+    matches!(octet, b' '..=b'~') && octet != b'.' && octet != b'\\'
+}

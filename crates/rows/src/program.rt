@@ -1,0 +1,58 @@
+//! The rows of standard input, answered one after another.
+use crate::{Answer, Row, RowError};
+use std::alloc::Global;
+use std::io;
+use std::process::ExitCode;
+
+/// The calls that a program answers rows of.
+pub trait Calls {
+    /// Takes the arguments of the call that the row names, and writes what it returns.
+    fn answer(&self, alloc: Global, row: &mut Row<'_>, out: &mut Answer) -> Result<(), RowError>;
+}
+
+/// Prints the answer to each row of standard input. The status is 1 if a row has no answer.
+pub fn answer_rows<C: Calls>(rt: &HostRuntime, calls: &C) -> ExitCode {
+    match answer_lines(rt, calls) {
+        Ok(()) => ExitCode::SUCCESS,
+        Err(error) => {
+            let _ = eprintln!(rt; "{error}");
+            ExitCode::from(1)
+        }
+    }
+}
+
+/// Prints titles, and the answer to each row, up to the first row that has none.
+fn answer_lines<C: Calls>(rt: &HostRuntime, calls: &C) -> io::Result<()> {
+    let text = io::read_to_string(rt.alloc(), rt.stdin())?;
+    let mut number = 0u64;
+    for line in text.lines() {
+        number = number.saturating_add(1);
+        if line.is_empty() || line.starts_with('#') {
+            println!(rt; "{line}")?;
+            continue;
+        }
+        match answer_line(rt.alloc(), calls, line) {
+            Ok(answer) => println!(rt; "{answer}")?,
+            Err(error) => {
+                eprintln!(rt; "row {number}: {error}: {line}")?;
+                return Err(io::Error::from(io::ErrorKind::InvalidData));
+            }
+        }
+    }
+    Ok(())
+}
+
+/// The answer to a row.
+fn answer_line<C: Calls>(alloc: Global, calls: &C, line: &str) -> Result<String, RowError> {
+    let (says_why, line) = match line.strip_prefix("why ") {
+        Some(rest) => (true, rest),
+        None => (false, line),
+    };
+    let mut row = Row::new(line);
+    let mut answer = Answer::new(String::new(alloc), says_why);
+    calls.answer(alloc, &mut row, &mut answer)?;
+    if row.has_more() {
+        return Err(RowError::TrailingWord);
+    }
+    Ok(answer.into_line())
+}

@@ -1,0 +1,145 @@
+//! The words of a row.
+use crate::octets::{octets_of, octets_of_text};
+use std::alloc::{AllocError, AllocFailed, Global};
+use std::str::FromStr;
+use thiserror::Error;
+
+/// Why a row has no answer.
+#[derive(Clone, Copy, Debug, PartialEq, Eq, Drop, Error)]
+pub enum RowError {
+    /// No call has this name.
+    #[error("unknown call")]
+    UnknownCall,
+    /// An argument is missing.
+    #[error("missing argument")]
+    MissingWord,
+    /// An argument is no value of the kind that the call takes.
+    #[error("bad argument")]
+    BadWord,
+    /// Words follow the last argument.
+    #[error("trailing argument")]
+    TrailingWord,
+    /// There is no memory left.
+    #[error("out of memory")]
+    OutOfMemory,
+}
+
+impl From<AllocError> for RowError {
+    fn from(_: AllocError) -> RowError {
+        RowError::OutOfMemory
+    }
+}
+
+impl<T: Drop> From<AllocFailed<T>> for RowError {
+    fn from(_: AllocFailed<T>) -> RowError {
+        RowError::OutOfMemory
+    }
+}
+
+/// A row: its call, and the words of its arguments that no one has taken yet.
+#[derive(Drop)]
+pub struct Row<'a> {
+    call: &'a str,
+    words: Option<&'a str>,
+}
+
+impl<'a> Row<'a> {
+    /// The row of a line.
+    pub fn new(line: &'a str) -> Self {
+        match line.split_once(' ') {
+            Some((call, words)) => Row {
+                call,
+                words: Some(words),
+            },
+            None => Row {
+                call: line,
+                words: None,
+            },
+        }
+    }
+
+    /// The first word: the whole name of the call.
+    pub fn call(&self) -> &'a str {
+        self.call
+    }
+
+    /// The type whose method the call is, as `Name` of `Name::from_slice`, or the whole call if it is no method.
+    pub fn family(&self) -> &'a str {
+        match self.call.split_once("::") {
+            Some((family, _)) => family,
+            None => self.call,
+        }
+    }
+
+    /// The method of the type, as `from_slice` of `Name::from_slice`, or nothing if the call is no method.
+    pub fn method(&self) -> &'a str {
+        match self.call.split_once("::") {
+            Some((_, method)) => method,
+            None => "",
+        }
+    }
+
+    /// Whether there are arguments left.
+    pub fn has_more(&self) -> bool {
+        self.words.is_some()
+    }
+
+    /// Takes the next argument as it stands.
+    pub fn word(&mut self) -> Result<&'a str, RowError> {
+        let Some(words) = self.words else {
+            return Err(RowError::MissingWord);
+        };
+        match words.split_once(' ') {
+            Some((word, rest)) => {
+                self.words = Some(rest);
+                Ok(word)
+            }
+            None => {
+                self.words = None;
+                Ok(words)
+            }
+        }
+    }
+
+    /// Takes the next argument as a number, or as another value that text spells.
+    pub fn value<T: FromStr>(&mut self) -> Result<T, RowError>
+    where
+        T::Err: Drop,
+    {
+        match self.word()?.parse() {
+            Ok(value) => Ok(value),
+            Err(_) => Err(RowError::BadWord),
+        }
+    }
+
+    /// Takes the next argument as octets.
+    pub fn octets(&mut self, alloc: Global) -> Result<Vec<u8>, RowError> {
+        octets_of(alloc, self.word()?)
+    }
+
+    /// Takes the next argument as the octets of a text.
+    pub fn text_octets(&mut self, alloc: Global) -> Result<Vec<u8>, RowError> {
+        octets_of_text(alloc, self.word()?)
+    }
+
+    /// Takes all arguments that are left as texts, each with a line feed behind it.
+    pub fn lines(&mut self, alloc: Global) -> Result<String, RowError> {
+        let mut lines = String::new(alloc);
+        for _ in 0..u32::MAX {
+            if !self.has_more() {
+                break;
+            }
+            lines.push_str(self.text(alloc)?.as_str())?;
+            lines.push('\n')?;
+        }
+        Ok(lines)
+    }
+
+    /// Takes the next argument as a text.
+    pub fn text(&mut self, alloc: Global) -> Result<String, RowError> {
+        match String::from_utf8(self.text_octets(alloc)?) {
+            Ok(text) => Ok(text),
+            Err(_) => Err(RowError::BadWord),
+        }
+    }
+}

@@ -1,0 +1,58 @@
+-- What holds, or does not: equal lists, and a list at the end of another.
+use Rattle.std.proofs.Common.{◌<◌, ◌≤◌, true, false, ◌≡◌, ◌⊎◌, ℕ, List, [], ◌∷◌, ◌++◌, refl, ap, inl, inr}
+use Rattle.std.proofs.lemmas.Bool.{cases_lt, cases_eq}
+
+abbrev pub Decided : Type 0 → Type 0
+Decided P = P ⊎ (P → ⊥)
+
+pub decided_both : {P Q : Type 0} → Decided P → Decided Q → Decided (P × Q)
+decided_both (inl p) (inl q) = inl (p, q)
+decided_both (inl p) (inr no_q) = inr (λ both. no_q both.1)
+decided_both (inr no_p) q = inr (λ both. no_p both.0)
+
+-- lists of what can be compared
+decided_more : {X : Type 0} (x y : X) (xs ys : List X) → Decided (x ≡ y) → Decided (xs ≡ ys) → Decided (x ∷ xs ≡ y ∷ ys)
+decided_more x y xs ys (inl same) (inl rest) = inl (cc (same, rest))
+decided_more x y xs ys (inl same) (inr apart) = inr (λ e. apart (cc (e)))
+decided_more x y xs ys (inr apart) rest = inr (λ e. apart (cc (e)))
+
+pub decided_list : {X : Type 0} → ((x y : X) → Decided (x ≡ y)) → (xs ys : List X) → Decided (xs ≡ ys)
+decided_list each [] [] = inl refl
+decided_list each [] (y ∷ ys) = inr (λ e. cc)
+decided_list each (x ∷ xs) [] = inr (λ e. cc)
+decided_list each (x ∷ xs) (y ∷ ys) = decided_more x y xs ys (each x y) (decided_list each xs ys)
+
+pub decided_octets : (xs ys : List ℕ) → Decided (xs ≡ ys)
+decided_octets = decided_list cases_eq
+
+pub decided_names : (xs ys : List (List ℕ)) → Decided (xs ≡ ys)
+decided_names = decided_list decided_octets
+
+-- one list at the end of another
+abbrev pub EndsWith : List (List ℕ) → List (List ℕ) → Type 0
+EndsWith xs ys = (front : List (List ℕ)) × (xs ≡ front ++ ys)
+
+no_end_of_none : (ys front : List (List ℕ)) → ([] ≡ ys → ⊥) → [] ≡ front ++ ys → ⊥
+no_end_of_none ys [] apart e = apart e
+no_end_of_none ys (z ∷ front) apart e = cc
+
+no_end : (x : List ℕ) (xs ys front : List (List ℕ)) → (x ∷ xs ≡ ys → ⊥) → (EndsWith xs ys → ⊥) → x ∷ xs ≡ front ++ ys → ⊥
+no_end x xs ys [] apart none e = apart e
+no_end x xs ys (z ∷ front) apart none e = none (front, cc)
+
+end_of_more : (x : List ℕ) (xs ys : List (List ℕ)) → Decided (x ∷ xs ≡ ys) → Decided (EndsWith xs ys) → Decided (EndsWith (x ∷ xs) ys)
+end_of_more x xs ys (inl same) rest = inl ([], same)
+end_of_more x xs ys (inr apart) (inl ends) = inl (x ∷ ends.0, ap (λ l. x ∷ l) ends.1)
+end_of_more x xs ys (inr apart) (inr none) = inr (λ ends. no_end x xs ys ends.0 apart none ends.1)
+
+end_of_none : (ys : List (List ℕ)) → Decided ([] ≡ ys) → Decided (EndsWith [] ys)
+end_of_none ys (inl same) = inl ([], same)
+end_of_none ys (inr apart) = inr (λ ends. no_end_of_none ys ends.0 apart ends.1)
+
+pub decided_end : (xs ys : List (List ℕ)) → Decided (EndsWith xs ys)
+decided_end [] ys = end_of_none ys (decided_names [] ys)
+decided_end (x ∷ xs) ys = end_of_more x xs ys (decided_names (x ∷ xs) ys) (decided_end xs ys)
+
+-- a test for enough octets that comes out false
+pub too_few : (wanted there : ℕ) → (wanted ≤ there → false ≡ true) → there < wanted
+too_few wanted there fails = elim (cases_lt there wanted) [ inl few ↦ few | inr enough ↦ let e = fails enough in absurd cc ]

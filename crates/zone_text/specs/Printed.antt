@@ -1,0 +1,20 @@
+-- The text that a zone's records are printed as.
+use Rattle.std.specs.Prelude.{◌≡◌, ℕ, List, [], ◌∷◌, ◌++◌}
+use Rattle.dns_text.specs.Document.{Layout, Piece, document_text}
+use Rattle.dns_text.specs.Document.Layout.{Simple as simple_layout}
+use Rattle.dns_text.specs.Document.Piece.{Newline}
+use Rattle.dns_message.specs.Printed.{IsDocument}
+use Rattle.zone_text.specs.Record.{Record}
+use Rattle.zone_text.specs.declared.print.DisplayKind.{DisplayKind}
+use Rattle.zone_text.specs.declared.print.DisplayKind.TheVariants.{Simple}
+
+-- the layout that a caller asks for
+abbrev pub layout_of : DisplayKind → Layout
+layout_of Simple = simple_layout
+
+-- The text is that of the records' documents, in order, each with a line end behind it.
+pub data IsPrinted (layout : Layout) : List Record → List ℕ → Type 0 where
+  none : IsPrinted layout [] []
+  more : {r : Record} {records : List Record} {text rest : List ℕ} (document : List Piece) → IsDocument r document
+      → IsPrinted layout records rest → text ≡ document_text layout (document ++ Newline ∷ []) ++ rest
+      → IsPrinted layout (r ∷ records) text

@@ -1,0 +1,36 @@
+//! Rows of the calls of `zonewire`: what each call returns for the values that stand in `stdin`.
+//!
+//! A zone's text, and a text that is printed, is one word: `%20` stands for a space, `%0a` for a line feed. Where a class or
+//! a limit is not named, it is IN or 512 octets. A row of `run` has the
+//! input, and then the words of a command line of the program.
+#![tactic(auto)]
+
+mod programs;
+mod queries;
+mod streams;
+mod zones;
+
+use rows::{Answer, Calls, Row, RowError, answer_rows};
+use std::alloc::Global;
+use std::process::ExitCode;
+
+/// The calls of `zonewire`.
+struct ZonewireCalls;
+
+impl Calls for ZonewireCalls {
+    fn answer(&self, alloc: Global, row: &mut Row<'_>, out: &mut Answer) -> Result<(), RowError> {
+        match row.call() {
+            "check_query" => queries::answer(alloc, row, out),
+            "Zone::read" => zones::answer_read(alloc, row, out),
+            "Zone::print" => zones::answer_print(alloc, row, out),
+            "send" => streams::answer_send(alloc, row, out),
+            "Receiver" => streams::answer_receiver(alloc, row, out),
+            "run" => programs::answer(alloc, row, out),
+            _ => Err(RowError::UnknownCall),
+        }
+    }
+}
+
+fn main(rt: HostRuntime) -> ExitCode {
+    answer_rows(&rt, &ZonewireCalls)
+}

@@ -1,0 +1,60 @@
+#!/usr/bin/env python3
+"""build.py: builds the proved program, at build/zonewire.
+
+The gate keeps what it has proved on this machine, and proves no crate twice. So the program is built by the gate: `rt ci` runs
+in a copy of the crates that the program stands on, without the crates of tests and the edits that must fail. The exit status
+is 1 where the gate refuses the copy; build/zonewire is then as it was."""
+import os
+import shutil
+import subprocess
+import sys
+import tempfile
+from pathlib import Path
+
+from edits import ROOT, lower, needs_of
+
+PROGRAM = "zone_main"
+TO = ROOT / "build" / "zonewire"
+
+
+def copy_to(room):
+    """Makes the lean copy, and returns how many crates it has."""
+    needs = needs_of()
+    wanted = {PROGRAM, *lower(PROGRAM, needs)}
+    for name in wanted:
+        shutil.copytree(ROOT / "crates" / name, room / "crates" / name, ignore=shutil.ignore_patterns("out", "must-fail"))
+    lines = [it for it in (ROOT / "crates.txt").read_text().split("\n") if it.partition(":")[0] in wanted]
+    (room / "crates.txt").write_text("\n".join(lines) + "\n")
+    shutil.copy(ROOT / "HANDLES", room)
+    return len(wanted)
+
+
+def run_gate(room):
+    """Runs the gate in the copy, and shows each line in which it says how far it is. Returns whether all passed."""
+    gate = subprocess.Popen(["rt", "ci"], cwd=room, stdout=subprocess.PIPE, stderr=subprocess.STDOUT, text=True)
+    said = []
+    for line in gate.stdout:
+        said.append(line)
+        if line.startswith("rt: "):
+            print("  " + line, end="", flush=True)
+    if gate.wait() != 0:
+        print("".join(said), file=sys.stderr)
+    return gate.returncode == 0
+
+
+def main():
+    with tempfile.TemporaryDirectory(prefix="zonewire-") as name:
+        room = Path(name)
+        count = copy_to(room)
+        print(f"The gate builds the program in a copy of {count} crates. What it has proved on this machine, it takes over: after")
+        print("`make test` this takes some minutes. Else it proves each crate first, for an hour or more.", flush=True)
+        if not run_gate(room):
+            return 1
+        TO.parent.mkdir(exist_ok=True)
+        shutil.copy(room / "crates" / PROGRAM / "out" / PROGRAM, TO.with_suffix(".new"))
+        os.replace(TO.with_suffix(".new"), TO)
+    return 0
+
+
+if __name__ == "__main__":
+    sys.exit(main())
