@@ -7,3 +7,4 @@ pub mod LaneMarks
 pub mod OctetRuns
 pub mod LabelTexts
 pub mod Seeing
+mod Tried

@@ -1,3 +1,4 @@
+pub mod Octets
 pub mod Name
 pub mod Spelled
 pub mod Labels
@@ -18,4 +19,3 @@ pub mod UsedSymbols
 pub mod Composed
 pub mod Shown
 pub mod Digit
-pub mod Tried

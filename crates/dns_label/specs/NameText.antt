@@ -1,5 +1,5 @@
 -- Which name a text spells (RFC 1035 5.1).
-use Rattle.std.specs.Prelude.{◌≡◌, ◌<◌, ◌==◌, ℕ, Bool, false, List, [], ◌∷◌, ◌++◌, length, if◌then◌else◌}
+use Rattle.std.specs.Prelude.{◌≡◌, ◌<◌, ◌==◌, ℕ, Bool, true, false, List, [], ◌∷◌, ◌++◌, length, if◌then◌else◌}
 use Rattle.std.specs.List.{AllByRecursion, flat_map}
 use Rattle.dns_label.specs.declared.symbol.Symbol.{Symbol}
 use Rattle.dns_label.specs.declared.symbol.Symbol.TheVariants.{Char}
@@ -44,3 +44,13 @@ pub record IsRelativeText (text : List ℕ) (labels : List (List ℕ)) : Type 0 
 pub data IsNameText : List ℕ → List (List ℕ) → Type 0 where
   absolute : {text : List ℕ} {name : List (List ℕ)} → IsAbsoluteText text name → IsNameText text name
   relative : {text : List ℕ} {name : List (List ℕ)} → IsRelativeText text name → IsName name → IsNameText text name
+
+-- The text spells the relative name, which has no last dot. No text at all is the name without labels.
+pub data IsRelativeNameText : List ℕ → List (List ℕ) → Type 0 where
+  empty : {text : List ℕ} → text ≡ [] → IsRelativeNameText text []
+  labels : {text : List ℕ} {name : List (List ℕ)} → IsRelativeText text name → IsName name → IsRelativeNameText text name
+
+-- The text spells the name: with its last dot where the name is absolute, and without one where it is relative.
+abbrev pub IsEitherText : Bool → List ℕ → List (List ℕ) → Type 0
+IsEitherText true text name = IsAbsoluteText text name
+IsEitherText false text name = IsRelativeNameText text name

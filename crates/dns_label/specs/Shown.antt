@@ -1,18 +1,14 @@
 -- How symbols are written, and the symbols that octets are written as.
-use Rattle.std.specs.Prelude.{◌≡◌, ◌==◌, ◌&&◌, ◌||◌, ℕ, Bool, false, List, ◌∷◌, nat_lt, encode_utf8, ⊤, if◌then◌else◌}
+use Rattle.std.specs.Prelude.{◌≡◌, ◌==◌, ◌||◌, ℕ, false, List, ◌∷◌, encode_utf8, ⊤, if◌then◌else◌}
 use Rattle.dns_label.specs.declared.symbol.Symbol.{Symbol}
 use Rattle.dns_label.specs.declared.symbol.Symbol.TheVariants.{Char, SimpleEscape, DecimalEscape}
-use Rattle.dns_label.specs.Symbol.{three_digits}
+use Rattle.dns_label.specs.Symbol.{is_printable, three_digits}
 
 -- the text of a symbol in UTF-8; of a text's symbol it is `spelled`
 abbrev pub shown : Symbol → List ℕ
 shown (Char c) = encode_utf8 c
 shown (SimpleEscape c) = 92 ∷ encode_utf8 c
 shown (DecimalEscape n) = 92 ∷ three_digits n
-
--- from the space to the tilde
-abbrev pub is_printable : ℕ → Bool
-is_printable octet = nat_lt 31 octet && nat_lt octet 127
 
 -- an octet by itself, or by its number where it is not printable
 abbrev pub bare_symbol : ℕ → Symbol

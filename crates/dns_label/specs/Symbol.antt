@@ -1,11 +1,19 @@
 -- The symbols of text, each of which stands for an octet (RFC 1035 5.1).
-use Rattle.std.specs.Prelude.{◌+◌, ◌<◌, ◌≤◌, ◌≢◌, ◌/◌, ◌%◌, ◌⊎◌, ℕ, List, [], ◌∷◌}
+use Rattle.std.specs.Prelude.{◌+◌, ◌<◌, ◌≤◌, ◌≢◌, ◌/◌, ◌%◌, ◌⊎◌, ◌==◌, ◌&&◌, ℕ, Bool, List, [], ◌∷◌, nat_lt, not}
 use Rattle.dns_label.specs.declared.symbol.Symbol.{Symbol}
 use Rattle.dns_label.specs.declared.symbol.Symbol.TheVariants.{Char, SimpleEscape, DecimalEscape}
 
 -- from the space to the tilde
 abbrev pub IsPrintable : ℕ → Type 0
 IsPrintable octet = (32 ≤ octet) × (octet ≤ 126)
+
+-- the same as a test
+abbrev pub is_printable : ℕ → Bool
+is_printable octet = nat_lt 31 octet && nat_lt octet 127
+
+-- a printable character other than the backslash (92), which stands for itself
+abbrev pub is_plain : ℕ → Bool
+is_plain octet = is_printable octet && not (octet == 92)
 
 abbrev pub IsNoDigit : ℕ → Type 0
 IsNoDigit octet = (octet < 48) ⊎ (57 < octet)
