@@ -8,13 +8,17 @@ use Rattle.dns_label.specs.Symbol.{IsSymbol, spelled, octet}
 use Rattle.dns_label.specs.NameText.{HasParts, parts_of, is_dot, onto}
 use Rattle.dns_label.specs.Name.{IsLabel, IsName, wire, labels_wire}
 pub use Rattle.dns_label.proofs.SymbolTexts.{symbol_one, spelled_some, each_append, Split, split_symbols, no_more}
-use Rattle.dns_wire.specs.Draft.{IsListed}
 use Rattle.dns_wire.proofs.Wire.{length-wire-append, length-wire_is}
 
 -- the open label goes on with the first part
 abbrev pub joined : List ℕ → List (List ℕ) → List (List ℕ)
 joined begun [] = begun ∷ []
 joined begun (part ∷ parts) = (begun ++ part) ∷ parts
+
+-- these parts are of a name other than the root: its labels, and an empty one where the last dot is there
+pub record IsListed (parts name : List (List ℕ)) : Type 0 where
+  pub is_name : IsName name
+  pub listed : (parts ≡ name) ⊎ (parts ≡ name ++ [] ∷ [])
 
 -- there is always a part
 pub record Some_part (parts : List (List ℕ)) : Type 0 where

@@ -11,10 +11,10 @@ use Rattle.std.specs.Iterator.{Yields, YieldsThen}
 use Rattle.dns_label.specs.Taken.{RulesOut}
 use Rattle.dns_label.proofs.Taken.{rules_behind, rules_step, rules_item}
 use Rattle.dns_wire.specs.declared.text.PresentationError.{PresentationError}
-use Rattle.dns_wire.specs.Draft.{Holds, IsListed, IsReadAs, IsReadBy, AreReadable}
+use Rattle.dns_wire.specs.Draft.{Holds, IsReadAs, IsReadBy, AreReadable}
 use Rattle.dns_wire.specs.Text.{SpellName}
 use Rattle.dns_wire.proofs.Drafts.{draft-len}
-use Rattle.dns_wire.proofs.Parts.{Reading, reading-dot, reading-octet, each_last, octet_over, dot_empty, dot_more, dot_text, no_dot, spelled_some, none_taken, some_taken}
+use Rattle.dns_wire.proofs.Parts.{Reading, reading-dot, reading-octet, each_last, octet_over, dot_empty, dot_more, dot_text, no_dot, spelled_some, none_taken, some_taken, IsListed}
 use Rattle.dns_wire.proofs.Texts.{spell_none, read_as}
 
 -- how many octets are held

@@ -8,13 +8,13 @@ use Rattle.dns_label.specs.Name.{IsLabel, IsName, wire}
 use Rattle.dns_label.specs.NameText.{HasParts, IsNameText, IsAbsoluteText, parts_of}
 use Rattle.dns_label.specs.NameText.IsAbsoluteText.{root, labels}
 use Rattle.dns_label.specs.NameText.IsNameText.{absolute, relative}
-use Rattle.dns_wire.specs.Draft.{Holds, IsListed, IsReadAs}
+use Rattle.dns_wire.specs.Draft.{Holds, IsReadAs}
 use Rattle.dns_wire.specs.Text.{SpellName, IsRefused, IsFault}
 use Rattle.dns_wire.specs.declared.text.draft.Spelling.{Spelling}
 use Rattle.dns_wire.specs.declared.text.FromStrError.{FromStrError}
 use Rattle.dns_wire.specs.declared.text.FromStrError.TheVariants.{Presentation, ShortBuf}
 use Rattle.dns_wire.proofs.Wire.{last_same}
-use Rattle.dns_wire.proofs.Parts.{Reading, parts_one, parts_end, has_parts}
+use Rattle.dns_wire.proofs.Parts.{Reading, parts_one, parts_end, has_parts, IsListed}
 use Rattle.dns_wire.proofs.Drafts.{draft-name, draft-some, draft-none, draft-wire, holds_one, draft-len}
 use Rattle.std.proofs.Common.{inl, inr}
 

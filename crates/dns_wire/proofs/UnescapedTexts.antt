@@ -1,6 +1,8 @@
 -- Names in text without escapes: labels are taken off the front, each with its dot, and written behind their lengths.
 use Rattle.std.proofs.Common.{◌≡◌, ℕ, ◌+◌, ◌-◌, ◌<◌, ◌≤◌, ◌↔◌, Bool, true, false, cond, suc, List, [], ◌∷◌, ◌++◌, length, map, take, drop, refl, sym, ◌∙◌, ap, subst, arith, append_assoc, append-nil, length-append}
-use Rattle.std.proofs.lemmas.Bool.{or_parts, or_from, not-true, not_from_false, ltb-false, le-ltb, eqb-false, ne_eqb, false_from_ne_true, false≢true}
+use Rattle.std.proofs.lemmas.Bool.{false_from_ne_true, false≢true}
+use Rattle.std.proofs.lemmas.Bool.Decides.{nat_tests}
+use Rattle.std.specs.Prelude.{◌==◌, ◌||◌, nat_lt, not}
 use Rattle.std.specs.List.{AllByRecursion, flat_map, prefix_len}
 use Rattle.std.proofs.lemmas.List.{take-append-drop, drop-drop, length-drop, length-take-le}
 use Rattle.std.proofs.lemmas.List.Sums.{prefix_len-le-length}
@@ -10,58 +12,57 @@ use Rattle.dns_label.specs.declared.symbol.Symbol.TheVariants.{Char}
 use Rattle.dns_label.specs.Name.{IsLabel, IsName, wire, labels_wire}
 use Rattle.dns_label.specs.NameText.{HasParts, IsAbsoluteText, parts_of}
 use Rattle.dns_label.specs.Symbol.{spelled}
-use Rattle.dns_wire.specs.Unescaped.{IsPlain, is_plain, StartsWithPlainLabel}
+use Rattle.dns_wire.specs.Unescaped.{IsUnescaped, is_unescaped, StartsWithUnescapedLabel}
 use Rattle.dns_wire.proofs.OctetTexts.{dot_symbol, plain_char}
 use Rattle.dns_wire.proofs.Parts.{Reading, reading_here, reading-octet, reading-dot}
 use Rattle.dns_wire.proofs.Wire.{labels_wire-append, labels_wire-with_root}
 
 -- the test says what the relation does
-pub plain_sound : (octet : ℕ) → is_plain octet ≡ true → IsPlain octet
-plain_sound octet is =
-    let none = or_parts _ _ (not-true _ is) in
-    let range = or_parts _ _ none.0 in
-    let marks = or_parts _ _ none.1 in
-    (((ltb-false octet 32 range.0, omega (arith, ltb-false 126 octet range.1)), eqb-false octet 92 marks.1), eqb-false octet 46 marks.0)
+pub unescaped_sound : (octet : ℕ) → is_unescaped octet ≡ true → IsUnescaped octet
+unescaped_sound octet is = grind (arith, nat_tests)
 
-plain_back : (octet : ℕ) → IsPlain octet → is_plain octet ≡ true
-plain_back octet is =
-    not_from_false _ (or_from _ _ (or_from _ _ (le-ltb octet 32 is.0.0.0) (le-ltb 126 octet is.0.0.1))
-    (or_from _ _ (ne_eqb octet 46 is.1) (ne_eqb octet 92 is.0.1)))
+unescaped_back : (octet : ℕ) → IsUnescaped octet → is_unescaped octet ≡ true
+unescaped_back octet is = grind (arith, nat_tests)
 
-pub plain_test : (octet : ℕ) (test : Bool) → (test ≡ true) ↔ IsPlain octet → test ≡ is_plain octet
-plain_test octet true says = sym (plain_back octet (says.0 refl))
-plain_test octet false says = sym (false_from_ne_true (is_plain octet) (λ is. false≢true (says.1 (plain_sound octet is))))
+pub unescaped_test : (octet : ℕ) (test : Bool) → (test ≡ true) ↔ IsUnescaped octet → test ≡ is_unescaped octet
+unescaped_test octet true says = sym (unescaped_back octet (says.0 refl))
+unescaped_test octet false says = sym (false_from_ne_true (is_unescaped octet) (λ is. false≢true (says.1 (unescaped_sound octet is))))
+
+-- the octets that are none, by the marks of their lanes
+pub unescaped_not : (octet : ℕ)
+    → not (not ((nat_lt octet 32 || nat_lt 126 octet) || ((octet == 46) || (octet == 92)))) ≡ not (is_unescaped octet)
+unescaped_not octet = grind (arith, nat_tests)
 
 -- the octets of a run
-each_next : (octet : ℕ) (text : List ℕ) (test : Bool) → is_plain octet ≡ test → AllByRecursion IsPlain (take (prefix_len is_plain text) text)
-    → AllByRecursion IsPlain (take (cond test (1 + prefix_len is_plain text) 0) (octet ∷ text))
+each_next : (octet : ℕ) (text : List ℕ) (test : Bool) → is_unescaped octet ≡ test → AllByRecursion IsUnescaped (take (prefix_len is_unescaped text) text)
+    → AllByRecursion IsUnescaped (take (cond test (1 + prefix_len is_unescaped text) 0) (octet ∷ text))
 each_next octet text true is each =
-    let P : ℕ → Type 0 = λ n. AllByRecursion IsPlain (take n (octet ∷ text)) in
-    let more : suc (prefix_len is_plain text) ≡ 1 + prefix_len is_plain text = omega arith in
-    subst P more (plain_sound octet is, each)
+    let P : ℕ → Type 0 = λ n. AllByRecursion IsUnescaped (take n (octet ∷ text)) in
+    let more : suc (prefix_len is_unescaped text) ≡ 1 + prefix_len is_unescaped text = omega arith in
+    subst P more (unescaped_sound octet is, each)
 each_next octet text false is each = tt
 
-run_each : (text : List ℕ) → AllByRecursion IsPlain (take (prefix_len is_plain text) text)
+run_each : (text : List ℕ) → AllByRecursion IsUnescaped (take (prefix_len is_unescaped text) text)
 run_each [] = tt
-run_each (octet ∷ text) = each_next octet text (is_plain octet) refl (run_each text)
+run_each (octet ∷ text) = each_next octet text (is_unescaped octet) refl (run_each text)
 
 -- A run with a dot behind it is a label.
-pub label_found : (text label behind : List ℕ) (start end : ℕ) → end ≡ start + prefix_len is_plain (drop start text) → start ≤ length text
+pub label_found : (text label behind : List ℕ) (start end : ℕ) → end ≡ start + prefix_len is_unescaped (drop start text) → start ≤ length text
     → label ≡ take (end - start) (drop start text) → drop end text ≡ 46 ∷ behind → 0 < length label → length label ≤ 63
-    → StartsWithPlainLabel (drop start text) label (drop (start + length label + 1) text)
+    → StartsWithUnescapedLabel (drop start text) label (drop (start + length label + 1) text)
 label_found text label behind start end is_end within is dot some short =
     let rest : List ℕ = drop start text in
     let counted : length label ≡ end - start =
-    ap (length {A = ℕ}) is ∙ length-take-le (end - start) rest (omega (arith, length-drop start text, is_end, prefix_len-le-length is_plain rest)) in
+    ap (length {A = ℕ}) is ∙ length-take-le (end - start) rest (omega (arith, length-drop start text, is_end, prefix_len-le-length is_unescaped rest)) in
     let next : end + 1 ≡ start + length label + 1 = omega (arith, counted, is_end) in
-    let front : label ≡ take (prefix_len is_plain rest) rest = is ∙ ap (λ n. take n rest) (omega (arith, is_end)) in
-    let P : List ℕ → Type 0 = λ l. AllByRecursion IsPlain l in
+    let front : label ≡ take (prefix_len is_unescaped rest) rest = is ∙ ap (λ n. take n rest) (omega (arith, is_end)) in
+    let P : List ℕ → Type 0 = λ l. AllByRecursion IsUnescaped l in
     record {
       is_label = record { some = some; short = short };
       each = subst P (sym front) (run_each rest);
       whole =
-          sym (take-append-drop (prefix_len is_plain rest) rest) ∙ ap (λ l. l ++ drop (prefix_len is_plain rest) rest) (sym front)
-          ∙ ap (λ l. label ++ l) (drop-drop (prefix_len is_plain rest) start text ∙ ap (λ n. drop n text) (sym is_end)
+          sym (take-append-drop (prefix_len is_unescaped rest) rest) ∙ ap (λ l. l ++ drop (prefix_len is_unescaped rest) rest) (sym front)
+          ∙ ap (λ l. label ++ l) (drop-drop (prefix_len is_unescaped rest) start text ∙ ap (λ n. drop n text) (sym is_end)
           ∙ dot ∙ ap (λ l. 46 ∷ l) (ap (drop 1) (sym dot) ∙ drop-drop 1 end text ∙ ap (λ n. drop n text) next));
     }
 
@@ -71,7 +72,7 @@ spelled_chars [] = refl
 spelled_chars (octet ∷ label) = ap (λ l. octet ∷ l) (spelled_chars label)
 
 reading-label : (symbols : List Symbol) (done : List (List ℕ)) (begun label : List ℕ) → Reading symbols done begun
-    → AllByRecursion IsPlain label → Reading (symbols ++ map Char label) done (begun ++ label)
+    → AllByRecursion IsUnescaped label → Reading (symbols ++ map Char label) done (begun ++ label)
 reading-label symbols done begun [] reading each =
     let P : List Symbol → Type 0 = λ s. Reading s done (begun ++ []) in
     let Q : List ℕ → Type 0 = λ b. Reading symbols done b in
@@ -116,7 +117,7 @@ some_symbols [] [] some none = omega arith
 some_symbols [] (octet ∷ label) some none = cc
 some_symbols (symbol ∷ symbols) label some none = cc
 
-pub labels_next : (text rest octets label behind new : List ℕ) → LabelsTaken text rest octets → StartsWithPlainLabel rest label behind
+pub labels_next : (text rest octets label behind new : List ℕ) → LabelsTaken text rest octets → StartsWithUnescapedLabel rest label behind
     → new ≡ octets ++ (length label ∷ label) → LabelsTaken text behind new
 labels_next text rest octets label behind new taken front is_new =
     let s : List Symbol = taken.symbols ++ map Char label in

@@ -2,7 +2,7 @@
 use Rattle.std.specs.Prelude.{◌≡◌, ◌⊎◌, ℕ, Option, Some, None, List, [], ◌∷◌, ◌++◌, length, take}
 use Rattle.std.specs.List.{AllByRecursion}
 use Rattle.dns_label.specs.declared.symbol.Symbol.{Symbol}
-use Rattle.dns_label.specs.Name.{IsLabel, IsName, labels_wire}
+use Rattle.dns_label.specs.Name.{IsLabel, labels_wire}
 use Rattle.dns_label.specs.NameText.{HasParts, IsNameText}
 use Rattle.dns_wire.specs.Text.{SpellName}
 use Rattle.dns_wire.specs.declared.text.draft.Spelling.{Spelling}
@@ -16,11 +16,6 @@ pub record Holds (spelling : Spelling) (done : List (List ℕ)) (begun : List �
 -- it has no octet yet
 abbrev pub IsNew : Spelling → Type 0
 IsNew spelling = spelling.len ≡ 1
-
--- these parts are of a name other than the root: its labels, and an empty one where the last dot is there
-pub record IsListed (parts name : List (List ℕ)) : Type 0 where
-  pub is_name : IsName name
-  pub listed : (parts ≡ name) ⊎ (parts ≡ name ++ [] ∷ [])
 
 -- the text has the finished labels and the open one as its parts, and no others
 pub record IsReadAs (text : List ℕ) (spelling : Spelling) : Type 0 where

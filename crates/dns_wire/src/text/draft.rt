@@ -11,7 +11,7 @@ ghost use Rattle.dns_wire.specs.Text.{IsFault};
 ghost use Rattle.dns_wire.specs.declared.text.FromStrError.TheVariants.{Presentation, ShortBuf};
 ghost use Rattle.dns_wire.specs.declared.text.PresentationError.TheVariants as presentation;
 
-use super::unescaped::is_plain;
+use super::unescaped::is_unescaped;
 use super::{FromStrError, PresentationError, is_dot};
 use dns_label::{Symbol, Symbols};
 
@@ -44,7 +44,7 @@ impl Spelling {
         let mut spelling = Spelling::new();
         let mut rest = text;
         while let Some((&octet, behind)) = rest.split_first() {
-            if is_plain(octet) {
+            if is_unescaped(octet) {
                 spelling.push(octet)?;
                 rest = behind;
             } else if octet != b'.' {

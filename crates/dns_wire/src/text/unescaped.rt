@@ -2,7 +2,7 @@
 ghost use Rattle.std.specs.Prelude.{◌≡◌, ◌≤◌, ◌+◌, ◌↔◌, ◌++◌, List, ℕ, length, drop, take, IsTrue, IsFalse, IfOk, IfSome};
 ghost use Rattle.dns_label.specs.Name.{wire};
 ghost use Rattle.dns_label.specs.NameText.{IsAbsoluteText};
-ghost use Rattle.dns_wire.specs.Unescaped.{IsPlain, StartsWithPlainLabel, is_plain as is_plain_octet};
+ghost use Rattle.dns_wire.specs.Unescaped.{IsUnescaped, StartsWithUnescapedLabel, is_unescaped};
 
 use dns_label::{OctetKind, run_end};
 use std::alloc::AllocError;
@@ -56,9 +56,9 @@ fn append_labels(octets: &mut Vec<u8>, text: &[u8]) -> Result<bool, AllocError>
 /// The label at a place, of octets that stand for themselves and with a dot behind it.
 fn label_at(text: &[u8], start: usize) -> Option<&[u8]>
     requires { start ≤ length text.now }
-    ensures { IfSome result (λ label. StartsWithPlainLabel (drop start text.now) label.now (drop (start + length label.now + 1) text.now)) }
+    ensures { IfSome result (λ label. StartsWithUnescapedLabel (drop start text.now) label.now (drop (start + length label.now + 1) text.now)) }
 {
-    let end = run_end::<PlainOctets>(text, start);
+    let end = run_end::<UnescapedOctets>(text, start);
     let label = &text[start..end];
     match text[end..].split_first() {
         Some((b'.', _)) if !label.is_empty() && label.len() <= LABEL_MOST => Some(label),
@@ -67,13 +67,13 @@ fn label_at(text: &[u8], start: usize) -> Option<&[u8]>
 }
 
 /// The octets that by themselves are symbols other than a dot.
-struct PlainOctets;
+struct UnescapedOctets;
 
-impl OctetKind for PlainOctets {
-    ghost has = { is_plain_octet };
+impl OctetKind for UnescapedOctets {
+    ghost has = { is_unescaped };
 
     fn has(octet: u8) -> bool {
-        is_plain(octet)
+        is_unescaped(octet)
     }
 
     fn others(octets: u8x16) -> u64 {
@@ -84,8 +84,8 @@ impl OctetKind for PlainOctets {
 }
 
 /// Whether the octet by itself is a symbol other than a dot.
-pub(super) fn is_plain(octet: u8) -> bool
-    ensures { IsTrue result ↔ IsPlain octet }
+pub(super) fn is_unescaped(octet: u8) -> bool
+    ensures { IsTrue result ↔ IsUnescaped octet }
 {
     matches!(octet, b' '..=b'~') && octet != b'.' && octet != b'\\'
 }

@@ -10,14 +10,14 @@ loop-octet-init c = taken_none c.args.text.now c.new-spelling.result c.new-spell
 
 pub returns-in_err-push-clause-err : goal.returns-in_err-push-clause-err
 returns-in_err-push-clause-err c =
-    let plain = c.if-is_plain.ensures.0 refl in
+    let plain = c.if-is_unescaped.ensures.0 refl in
     always_on_err c.from_residual.result
     (over_unreadable _ _ _ _ (Char c.in-Some.field-0-0.now) c.loop-octet.invariant plain.0 c.in-Some.ensures.cases.0
     (plain_char c.in-Some.field-0-0.now plain.1) c.in_err-push.ensures.err)
 
-pub loop-octet-preserved-then-is_plain : goal.loop-octet-preserved-then-is_plain
-loop-octet-preserved-then-is_plain c =
-    let plain = c.if-is_plain.ensures.0 refl in
+pub loop-octet-preserved-then-is_unescaped : goal.loop-octet-preserved-then-is_unescaped
+loop-octet-preserved-then-is_unescaped c =
+    let plain = c.if-is_unescaped.ensures.0 refl in
     taken-octet _ _ _ _ (Char c.in-Some.field-0-0.now) c.loop-octet.invariant plain.0 c.in-Some.ensures.cases.0 _ c.in-Some.field-0-0.now
     (plain_char c.in-Some.field-0-0.now plain.1) refl c.in_ok-push.ensures.ok
 

@@ -1,7 +1,9 @@
-use Rattle.std.proofs.Common.{◌||◌, ◌==◌, ℕ, cond, nat_lt, arith}
+use Rattle.std.proofs.Common.{◌||◌, ◌==◌, ◌∙◌, ℕ, Bool, cond, map, nat_lt, ap, arith}
+use Rattle.std.specs.Simd.Lanes.{mask_l}
 use Rattle.std.proofs.lemmas.Simd.{zip2_splat, zip2_splat_left}
 use Rattle.dns_label.proofs.LaneMarks.{either_marks, mask_of_marks}
-use Rattle.dns_wire.proofs.text.unescaped.PlainOctetsOctetKind.others.Goals as goal
+use Rattle.dns_wire.proofs.UnescapedTexts.{unescaped_not}
+use Rattle.dns_wire.proofs.text.unescaped.UnescapedOctetsOctetKind.others.Goals as goal
 
 abbrev below : ℕ → ℕ → ℕ
 below octet other = cond (nat_lt octet other) 255 0
@@ -17,3 +19,4 @@ returns c =
     (either_marks _ _ octets
     (either_marks _ _ octets (zip2_splat below octets 16 32 long) (zip2_splat_left below 126 16 octets long))
     (either_marks _ _ octets (zip2_splat same octets 16 46 long) (zip2_splat same octets 16 92 long)))
+    ∙ ap (λ (test : ℕ → Bool). mask_l (map test octets)) (λ i octet. unescaped_not octet i)
