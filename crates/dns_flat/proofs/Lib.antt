@@ -16,3 +16,4 @@ pub mod PrintedNames
 mod RelativeTexts
 mod RelativeRefusals
 mod SpelledTexts
+pub mod Decimals

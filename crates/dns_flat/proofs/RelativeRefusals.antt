@@ -5,7 +5,7 @@ use Rattle.std.specs.Iterator.{Drains}
 use Rattle.dns_label.specs.NameText.IsNameText.{absolute, relative}
 use Rattle.dns_wire.specs.Draft.{IsReadable}
 use Rattle.dns_flat.specs.RelativeText.{SpellsEither, IsNoRelative, IsNoRelativeBy}
-use Rattle.dns_flat.specs.RelativeText.IsRelativeNameText.{empty, labels}
+use Rattle.dns_label.specs.NameText.IsRelativeNameText.{empty, labels}
 use Rattle.dns_wire.specs.declared.text.FromStrError.TheVariants.{Presentation, ShortBuf}
 use Rattle.dns_flat.specs.declared.text.relative.RelativeFromStrError.{RelativeFromStrError}
 use Rattle.dns_flat.specs.declared.text.relative.RelativeFromStrError.TheVariants.{FromStr, AbsoluteName}

@@ -6,11 +6,11 @@ use Rattle.std.specs.List.{flat_map}
 use Rattle.dns_label.specs.declared.symbol.Symbol.{Symbol}
 use Rattle.dns_label.specs.Symbol.{octet, spelled}
 use Rattle.dns_label.specs.Name.{IsName, wire, labels_wire}
-use Rattle.dns_label.specs.NameText.{HasParts, is_dot, parts_of}
+use Rattle.dns_label.specs.NameText.{HasParts, is_dot, parts_of, IsRelativeNameText}
 use Rattle.dns_wire.specs.Draft.{Holds, IsReadAs}
 use Rattle.dns_wire.specs.Flat.{IsWritten}
-use Rattle.dns_flat.specs.RelativeText.{IsRelativeNameText, SpellsAbsolute, SpellsRelative}
-use Rattle.dns_flat.specs.RelativeText.IsRelativeNameText.{empty, labels}
+use Rattle.dns_flat.specs.RelativeText.{SpellsAbsolute, SpellsRelative}
+use Rattle.dns_label.specs.NameText.IsRelativeNameText.{empty, labels}
 use Rattle.dns_wire.specs.declared.text.draft.Spelling.{Spelling}
 use Rattle.dns_wire.proofs.Case.{wire_one}
 use Rattle.dns_wire.proofs.Drafts.{draft-len, draft-name, draft-some, draft-wire, holds_one}

@@ -1,13 +1,16 @@
 -- The names of addresses.
-use Rattle.std.proofs.Common.{◌≡◌, ℕ, ◌/◌, ◌%◌, ◌≤◌, Bool, true, false, List, [], ◌∷◌, ◌++◌, length, map, reverse, refl, sym, ◌∙◌, ap, arith, append_assoc}
-use Rattle.std.specs.Prelude.{nat_lt}
+use Rattle.std.proofs.Common.{◌≡◌, ℕ, ◌/◌, ◌%◌, ◌≤◌, List, [], ◌∷◌, ◌++◌, length, map, reverse, refl, sym, ◌∙◌, ap, subst, arith, append_assoc}
+use Rattle.std.specs.Prelude.{◌<◌, ◌^◌, false, slice_index}
 use Rattle.std.specs.List.{AllByRecursion, flat_map}
 use Rattle.std.proofs.lemmas.List.{reverse-append}
 use Rattle.dns_label.specs.Name.{IsLabel, IsName, wire, labels_wire}
 use Rattle.dns_label.specs.Composed.{label_wire}
-use Rattle.dns_flat.specs.DigitLabels.{decimal_digits, hex_digit}
+use Rattle.std.specs.Fmt.{decimal, digit_glyph}
+use Rattle.std.proofs.lemmas.Fmt.{decimal_nonempty, length-decimal-le}
 use Rattle.std.specs.Prelude.{codes}
 use Rattle.std.specs.Net.Addr.{ipv4_octets, ipv6_octets}
+use Rattle.std.specs.declared.net.ipv4_addr.Ipv4Addr.{Ipv4Addr}
+use Rattle.std.specs.declared.net.ipv6_addr.Ipv6Addr.{Ipv6Addr}
 use Rattle.std.specs.declared.net.IpAddr.{IpAddr}
 use Rattle.std.specs.declared.net.IpAddr.TheVariants.{V4, V6}
 use Rattle.dns_flat.specs.Reverse.{reverse_name, zone_labels, decimal_labels, hex_labels, nibble_labels}
@@ -18,29 +21,36 @@ turned : (rest front : List ℕ) (last : ℕ) → rest ≡ front ++ last ∷ [] 
 turned rest front last is = ap reverse is ∙ reverse-append front (last ∷ [])
 
 pub decimal_step : (wire made rest front : List ℕ) (last : ℕ) (whole : List ℕ) → wire ++ labels_wire (decimal_labels rest) ≡ whole
-    → rest ≡ front ++ last ∷ [] → made ≡ wire ++ label_wire (decimal_digits last) → made ++ labels_wire (decimal_labels front) ≡ whole
+    → rest ≡ front ++ last ∷ [] → made ≡ wire ++ label_wire (decimal last) → made ++ labels_wire (decimal_labels front) ≡ whole
 decimal_step wire made rest front last whole is splits puts =
     ap (λ l. l ++ labels_wire (decimal_labels front)) puts
-    ∙ append_assoc wire (label_wire (decimal_digits last)) (labels_wire (decimal_labels front))
-    ∙ ap (λ (o : List ℕ). wire ++ labels_wire (map decimal_digits o)) (sym (turned rest front last splits)) ∙ is
+    ∙ append_assoc wire (label_wire (decimal last)) (labels_wire (decimal_labels front))
+    ∙ ap (λ (o : List ℕ). wire ++ labels_wire (map decimal o)) (sym (turned rest front last splits)) ∙ is
 
 pub hex_step : (wire half made rest front : List ℕ) (last : ℕ) (whole : List ℕ) → wire ++ labels_wire (hex_labels rest) ≡ whole
-    → rest ≡ front ++ last ∷ [] → half ≡ wire ++ label_wire (hex_digit (last % 16) ∷ []) → made ≡ half ++ label_wire (hex_digit (last / 16 % 16) ∷ [])
+    → rest ≡ front ++ last ∷ [] → half ≡ wire ++ label_wire (digit_glyph false (last % 16) ∷ []) → made ≡ half ++ label_wire (digit_glyph false (last / 16 % 16) ∷ [])
     → made ++ labels_wire (hex_labels front) ≡ whole
 hex_step wire half made rest front last whole is splits puts more =
-    ap (λ l. l ++ labels_wire (hex_labels front)) (more ∙ ap (λ l. l ++ label_wire (hex_digit (last / 16 % 16) ∷ [])) puts)
-    ∙ append_assoc (wire ++ label_wire (hex_digit (last % 16) ∷ [])) (label_wire (hex_digit (last / 16 % 16) ∷ [])) (labels_wire (hex_labels front))
-    ∙ append_assoc wire (label_wire (hex_digit (last % 16) ∷ [])) (label_wire (hex_digit (last / 16 % 16) ∷ []) ++ labels_wire (hex_labels front))
+    ap (λ l. l ++ labels_wire (hex_labels front)) (more ∙ ap (λ l. l ++ label_wire (digit_glyph false (last / 16 % 16) ∷ [])) puts)
+    ∙ append_assoc (wire ++ label_wire (digit_glyph false (last % 16) ∷ [])) (label_wire (digit_glyph false (last / 16 % 16) ∷ [])) (labels_wire (hex_labels front))
+    ∙ append_assoc wire (label_wire (digit_glyph false (last % 16) ∷ [])) (label_wire (digit_glyph false (last / 16 % 16) ∷ []) ++ labels_wire (hex_labels front))
     ∙ ap (λ (o : List ℕ). wire ++ labels_wire (flat_map nibble_labels o)) (sym (turned rest front last splits)) ∙ is
 
-digits_label : (n : ℕ) (one two : Bool) → nat_lt n 10 ≡ one → nat_lt n 100 ≡ two → IsLabel (decimal_digits n)
-digits_label n true two is are = rw is (record { some = omega arith; short = omega arith })
-digits_label n false true is are = rw (is, are) (record { some = omega arith; short = omega arith })
-digits_label n false false is are = rw (is, are) (record { some = omega arith; short = omega arith })
+digits_label : (n : ℕ) → n < 2 ^ 8 → IsLabel (decimal n)
+digits_label n fits = record {
+  some = decimal_nonempty n (omega (arith, fits));
+  short = let few = length-decimal-le 3 n (omega arith) (omega (arith, fits)) (omega (arith, fits)) in omega (arith, few);
+}
 
-decimal_each : (octets : List ℕ) → AllByRecursion IsLabel (map decimal_digits octets)
-decimal_each [] = tt
-decimal_each (octet ∷ octets) = (digits_label octet (nat_lt octet 10) (nat_lt octet 100) refl refl, decimal_each octets)
+-- the labels of four octets
+decimal_each : (octets : List ℕ) → length octets ≡ 4 → ((k : ℕ) → slice_index octets k < 2 ^ 8) → AllByRecursion IsLabel (decimal_labels octets)
+decimal_each [] four fit = absurd (omega (arith, four))
+decimal_each (a ∷ []) four fit = absurd (omega (arith, four))
+decimal_each (a ∷ b ∷ []) four fit = absurd (omega (arith, four))
+decimal_each (a ∷ b ∷ c ∷ []) four fit = absurd (omega (arith, four))
+decimal_each (a ∷ b ∷ c ∷ d ∷ []) four fit =
+    (digits_label d (fit 3), (digits_label c (fit 2), (digits_label b (fit 1), (digits_label a (fit 0), tt))))
+decimal_each (a ∷ b ∷ c ∷ d ∷ e ∷ octets) four fit = absurd (omega (arith, four))
 
 hex_each : (octets : List ℕ) → AllByRecursion IsLabel (flat_map nibble_labels octets)
 hex_each [] = tt
@@ -50,19 +60,24 @@ hex_each (octet ∷ octets) =
 zone_more : (octets : List (List ℕ)) (zone : List ℕ) → AllByRecursion IsLabel octets → IsLabel zone → AllByRecursion IsLabel (octets ++ zone ∷ [])
 zone_more labels zone each is_zone = each_append labels (zone ∷ []) each (is_zone, tt)
 
-zone_each : (addr : IpAddr) → AllByRecursion IsLabel (zone_labels addr)
-zone_each (V4 addr) = zone_more (decimal_labels (ipv4_octets addr)) (codes "in-addr") (decimal_each (reverse (ipv4_octets addr))) (record { some = omega arith; short = omega arith })
-zone_each (V6 addr) = zone_more (hex_labels (ipv6_octets addr)) (codes "ip6") (hex_each (reverse (ipv6_octets addr))) (record { some = omega arith; short = omega arith })
+pub v4_each : (addr : Ipv4Addr) (octets : List ℕ) → octets ≡ ipv4_octets addr → length octets ≡ 4 → ((k : ℕ) → slice_index octets k < 2 ^ 8)
+    → AllByRecursion IsLabel (zone_labels (V4 addr))
+v4_each addr octets is four fit =
+    subst (λ (l : List ℕ). AllByRecursion IsLabel (decimal_labels l ++ codes "in-addr" ∷ [])) is
+    (zone_more (decimal_labels octets) (codes "in-addr") (decimal_each octets four fit) (record { some = omega arith; short = omega arith }))
+
+pub v6_each : (addr : Ipv6Addr) → AllByRecursion IsLabel (zone_labels (V6 addr))
+v6_each addr = zone_more (hex_labels (ipv6_octets addr)) (codes "ip6") (hex_each (reverse (ipv6_octets addr))) (record { some = omega arith; short = omega arith })
 
 -- with the last label and the root they make a name
 pub reverse_written : (front second whole : List ℕ) (addr : IpAddr) → front ≡ labels_wire (zone_labels addr)
     → second ≡ front ++ label_wire (codes "arpa") → whole ≡ second ++ 0 ∷ [] → length whole ≤ 255
-    → IsName (reverse_name addr) × (whole ≡ wire (reverse_name addr))
-reverse_written front second whole addr is puts ends few =
+    → AllByRecursion IsLabel (zone_labels addr) → IsName (reverse_name addr) × (whole ≡ wire (reverse_name addr))
+reverse_written front second whole addr is puts ends few each =
     let all : whole ≡ wire (reverse_name addr) =
     ends ∙ ap (λ l. l ++ 0 ∷ []) (puts ∙ wire_more front (zone_labels addr) (codes "arpa") is) ∙ sym (wire_is (reverse_name addr)) in (
       record {
-        labels = zone_more (zone_labels addr) (codes "arpa") (zone_each addr) (record { some = omega arith; short = omega arith });
+        labels = zone_more (zone_labels addr) (codes "arpa") each (record { some = omega arith; short = omega arith });
         short = omega (arith, ap (length {A = ℕ}) all);
       },
       all,

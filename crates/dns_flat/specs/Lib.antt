@@ -6,7 +6,6 @@ pub mod OrderLaws
 pub mod Relative
 pub mod Rrsig
 pub mod NoName
-pub mod DigitLabels
 pub mod Reverse
 pub mod BuiltText
 pub mod PrintedLabels

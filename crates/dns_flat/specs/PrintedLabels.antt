@@ -1,11 +1,7 @@
 -- How relative names are printed, and names of which the labels are seen one by one (RFC 1035 5.1).
-use Rattle.std.specs.Prelude.{◌<◌, ◌^◌, ℕ, List, [], ◌∷◌, ◌++◌}
-use Rattle.std.specs.List.{AllByRecursion, flat_map}
+use Rattle.std.specs.Prelude.{ℕ, List, [], ◌∷◌, ◌++◌}
+use Rattle.std.specs.List.{flat_map}
 use Rattle.dns_label.specs.Printed.{printed_label}
-
--- numbers that are octets
-abbrev pub AreOctets : List ℕ → Type 0
-AreOctets octets = AllByRecursion (λ octet. octet < 2 ^ 8) octets
 
 -- a dot in front of each label
 abbrev pub printed_behind : List (List ℕ) → List ℕ

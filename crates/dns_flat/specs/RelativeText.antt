@@ -1,18 +1,12 @@
 -- Relative names as text (RFC 1035 5.1).
-use Rattle.std.specs.Prelude.{◌≡◌, ◌⊎◌, ℕ, List, [], Option}
+use Rattle.std.specs.Prelude.{◌⊎◌, ℕ, List, Option}
 use Rattle.std.specs.Iterator.{Drains}
-use Rattle.dns_label.specs.Name.{IsName}
-use Rattle.dns_label.specs.NameText.{IsAbsoluteText, IsRelativeText}
+use Rattle.dns_label.specs.NameText.{IsAbsoluteText, IsRelativeNameText}
 use Rattle.dns_label.specs.Taken.{RulesOut}
 use Rattle.dns_wire.specs.declared.text.FromStrError.{FromStrError}
 use Rattle.dns_wire.specs.declared.text.FromStrError.TheVariants.{Presentation, ShortBuf}
 use Rattle.dns_flat.specs.declared.text.relative.RelativeFromStrError.{RelativeFromStrError}
 use Rattle.dns_flat.specs.declared.text.relative.RelativeFromStrError.TheVariants.{FromStr, AbsoluteName}
-
--- The text spells the relative name, which has no last dot. No text at all is the name without labels.
-pub data IsRelativeNameText : List ℕ → List (List ℕ) → Type 0 where
-  empty : {text : List ℕ} → text ≡ [] → IsRelativeNameText text []
-  labels : {text : List ℕ} {name : List (List ℕ)} → IsRelativeText text name → IsName name → IsRelativeNameText text name
 
 abbrev pub SpellsRelative : List ℕ → Type 0
 SpellsRelative text = (name : List (List ℕ)) × IsRelativeNameText text name

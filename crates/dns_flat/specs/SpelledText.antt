@@ -1,18 +1,18 @@
 -- Names that a text spells with its last dot or without it (RFC 1035 5.1).
-use Rattle.std.specs.Prelude.{ℕ, List, Option}
+use Rattle.std.specs.Prelude.{ℕ, true, false, List, Option}
 use Rattle.std.specs.Iterator.{Drains}
-use Rattle.dns_label.specs.NameText.{IsAbsoluteText}
+use Rattle.dns_label.specs.NameText.{IsEitherText}
 use Rattle.dns_label.specs.Taken.{RulesOut}
-use Rattle.dns_flat.specs.RelativeText.{IsRelativeNameText, SpellsEither}
+use Rattle.dns_flat.specs.RelativeText.{SpellsEither}
 use Rattle.dns_wire.specs.declared.text.FromStrError.{FromStrError}
 use Rattle.dns_wire.specs.declared.text.FromStrError.TheVariants.{Presentation, ShortBuf}
 use Rattle.dns_flat.specs.declared.text.spelled.SpelledName.{SpelledName}
 use Rattle.dns_flat.specs.declared.text.spelled.SpelledName.TheVariants.{Absolute, Relative}
 
--- The text spells the name: with its last dot where it is absolute, and without one where it is relative.
+-- the text spells the name as the kind that it is
 abbrev pub IsSpelledBy : {O : Type 0} → List ℕ → SpelledName O → Type 0
-IsSpelledBy text (Absolute name) = IsAbsoluteText text name
-IsSpelledBy text (Relative name) = IsRelativeNameText text name
+IsSpelledBy text (Absolute name) = IsEitherText true text name
+IsSpelledBy text (Relative name) = IsEitherText false text name
 
 -- The text spells no name, or one for which memory was wanting.
 abbrev pub IsNotSpelled : List ℕ → FromStrError → Type 0

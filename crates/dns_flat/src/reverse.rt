@@ -1,6 +1,7 @@
 //! The names of addresses (RFC 1035 3.5, RFC 3596 2.5).
 ghost use Rattle.std.specs.Prelude.{◌≡◌, ◌+◌, ◌≤◌, ◌++◌, length, IfOk, IfErr};
-ghost use Rattle.dns_label.specs.Name.{labels_wire};
+ghost use Rattle.std.specs.List.{AllByRecursion};
+ghost use Rattle.dns_label.specs.Name.{IsLabel, labels_wire};
 ghost use Rattle.dns_label.specs.Composed.{label_wire};
 ghost use Rattle.dns_flat.specs.Reverse.{reverse_name, zone_labels, decimal_labels, hex_labels};
 ghost use Rattle.dns_wire.specs.declared.push_error.PushError.TheVariants.{ShortBuf};
@@ -39,6 +40,7 @@ where
 /// The labels in front of `arpa`.
 fn zone_wire(addr: IpAddr) -> Wire
     ensures labels { result.items ≡ labels_wire (zone_labels addr) }
+    ensures each { AllByRecursion IsLabel (zone_labels addr) }
     ensures few { length result.items ≤ 68 }
 {
     match addr {

@@ -1,7 +1,7 @@
 //! Labels that are numbers.
-ghost use Rattle.std.specs.Prelude.{◌≡◌, ◌<◌, ◌≤◌, ◌%◌, ◌↔◌, ◌∷◌, [], length, Err, OnOk, OnErr};
+ghost use Rattle.std.specs.Prelude.{◌≡◌, ◌<◌, ◌≤◌, ◌%◌, ◌↔◌, ◌∷◌, [], length, decimal, false, Err, OnOk, OnErr};
+ghost use Rattle.std.specs.Fmt.{digit_glyph};
 ghost use Rattle.dns_wire.specs.Built.{with_label, built_len};
-ghost use Rattle.dns_flat.specs.DigitLabels.{decimal_digits, hex_digit};
 ghost use Rattle.dns_wire.specs.declared.push_error.PushError.TheVariants.{LongLabel, LongName};
 
 use super::NameBuilder;
@@ -15,9 +15,9 @@ impl<B: OctetsBuilder> NameBuilder<B> {
     /// Refused with `LongName` exactly where the labels would take more than 254 octets, and with `ShortBuf` for want of
     /// room or memory.
     pub fn append_dec_u8_label(&mut self, value: u8) -> Result<(), PushError>
-        ensures ok { OnOk result (self.new ≡ with_label self.old (decimal_digits value)) }
+        ensures ok { OnOk result (self.new ≡ with_label self.old (decimal value)) }
         ensures err { OnErr result (self.new ≡ self.old) }
-        ensures long_name { (result ≡ Err LongName) ↔ (254 < built_len (with_label self.old (decimal_digits value))) }
+        ensures long_name { (result ≡ Err LongName) ↔ (254 < built_len (with_label self.old (decimal value))) }
         ensures long_label { result ≡ Err LongLabel → ⊥ }
     {
         self.append_label(decimal_label(value).as_slice())
@@ -29,9 +29,9 @@ impl<B: OctetsBuilder> NameBuilder<B> {
     /// Refused with `LongName` exactly where the labels would take more than 254 octets, and with `ShortBuf` for want of
     /// room or memory.
     pub fn append_hex_digit_label(&mut self, nibble: u8) -> Result<(), PushError>
-        ensures ok { OnOk result (self.new ≡ with_label self.old (hex_digit (nibble % 16) ∷ [])) }
+        ensures ok { OnOk result (self.new ≡ with_label self.old (digit_glyph false (nibble % 16) ∷ [])) }
         ensures err { OnErr result (self.new ≡ self.old) }
-        ensures long_name { (result ≡ Err LongName) ↔ (254 < built_len (with_label self.old (hex_digit (nibble % 16) ∷ []))) }
+        ensures long_name { (result ≡ Err LongName) ↔ (254 < built_len (with_label self.old (digit_glyph false (nibble % 16) ∷ []))) }
         ensures long_label { result ≡ Err LongLabel → ⊥ }
     {
         self.append_label(&[hex_label(nibble)])
@@ -40,7 +40,7 @@ impl<B: OctetsBuilder> NameBuilder<B> {
 
 /// The decimal digits of a number.
 pub(crate) fn decimal_label(value: u8) -> ArrayVec<u8, 3>
-    ensures digits { result.items ≡ decimal_digits value }
+    ensures digits { result.items ≡ decimal value }
     ensures few { length result.items ≤ 3 }
 {
     let mut digits = ArrayVec::new();
@@ -56,7 +56,7 @@ pub(crate) fn decimal_label(value: u8) -> ArrayVec<u8, 3>
 
 /// The hexadecimal digit of a number's low four bits, in lower case.
 pub(crate) fn hex_label(value: u8) -> u8
-    ensures { result ≡ hex_digit (value % 16) }
+    ensures { result ≡ digit_glyph false (value % 16) }
 {
     match value % 16 {
         digit @ 0..=9 => b'0' + digit,

@@ -2,7 +2,8 @@
 ghost use Rattle.std.specs.Prelude.{◌≡◌, List, ℕ, IfOk, IfErr};
 ghost use Rattle.std.specs.Iterator.{IsFinite, Drains};
 ghost use Rattle.dns_wire.specs.Draft.{IsReadBy};
-ghost use Rattle.dns_flat.specs.RelativeText.{IsRelativeNameText, IsNoRelative, IsNoRelativeBy};
+ghost use Rattle.dns_label.specs.NameText.{IsRelativeNameText};
+ghost use Rattle.dns_flat.specs.RelativeText.{IsNoRelative, IsNoRelativeBy};
 ghost use Rattle.dns_wire.specs.declared.text.FromStrError.TheVariants.{Presentation, ShortBuf};
 ghost use Rattle.dns_flat.specs.declared.text.relative.RelativeFromStrError.TheVariants.{FromStr};
 
