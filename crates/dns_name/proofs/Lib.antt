@@ -13,3 +13,4 @@ pub mod HeadCounts
 pub mod PrintedSymbols
 pub mod PrintedTexts
 pub mod OneName
+mod Tried

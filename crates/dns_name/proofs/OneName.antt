@@ -3,11 +3,10 @@ use Rattle.std.proofs.Common.{◌≡◌, ℕ, List, [], ◌∷◌, ◌++◌, len
 use Rattle.std.specs.List.{AllByRecursion}
 use Rattle.dns_label.specs.declared.symbol.Symbol.TheVariants.{Char}
 use Rattle.dns_label.specs.Name.{IsLabel, IsName}
-use Rattle.dns_label.specs.NameText.{HasParts, IsAbsoluteText, IsRelativeText, IsNameText}
+use Rattle.dns_label.specs.NameText.{HasParts, IsAbsoluteText, IsRelativeText, IsNameText, IsRelativeNameText}
 use Rattle.dns_label.specs.NameText.IsAbsoluteText.{root, labels as dotted}
 use Rattle.dns_label.specs.NameText.IsNameText.{absolute, relative}
-use Rattle.dns_flat.specs.RelativeText.{IsRelativeNameText}
-use Rattle.dns_flat.specs.RelativeText.IsRelativeNameText.{empty, labels}
+use Rattle.dns_label.specs.NameText.IsRelativeNameText.{empty, labels}
 use Rattle.dns_flat.proofs.Chains.{never_rooted}
 use Rattle.dns_wire.proofs.Parts.{parts_one}
 use Rattle.dns_wire.proofs.Wire.{last_same}

@@ -5,13 +5,13 @@ use Rattle.std.proofs.lemmas.Grind.{flat_map-append}
 use Rattle.dns_label.specs.declared.symbol.Symbol.{Symbol}
 use Rattle.dns_label.specs.declared.symbol.Symbol.TheVariants.{Char}
 use Rattle.dns_label.specs.Name.{IsName, with_root}
-use Rattle.dns_label.specs.NameText.{HasParts, IsAbsoluteText, onto, parts_of}
+use Rattle.dns_label.specs.NameText.{HasParts, IsAbsoluteText, onto, parts_of, IsRelativeNameText}
 use Rattle.dns_label.specs.NameText.IsAbsoluteText.{root, labels as dotted}
 use Rattle.dns_label.specs.Symbol.{IsSymbol, spelled}
 use Rattle.dns_label.specs.Printed.{printed_label, printed_name, printed_symbol}
-use Rattle.dns_flat.specs.PrintedLabels.{AreOctets, printed_behind, printed_relative}
-use Rattle.dns_flat.specs.RelativeText.{IsRelativeNameText}
-use Rattle.dns_flat.specs.RelativeText.IsRelativeNameText.{empty, labels}
+use Rattle.dns_label.specs.Octets.{AreOctets}
+use Rattle.dns_flat.specs.PrintedLabels.{printed_behind, printed_relative}
+use Rattle.dns_label.specs.NameText.IsRelativeNameText.{empty, labels}
 use Rattle.dns_wire.proofs.Parts.{joined, joined_none, some_part, each_append}
 use Rattle.dns_flat.proofs.PrintedNames.{dotted-relative}
 use Rattle.dns_name.proofs.PrintedSymbols.{StandsFor, printed_stands}

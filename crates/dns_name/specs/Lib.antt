@@ -6,9 +6,9 @@ pub mod Remembered
 pub mod RecordData
 pub mod Unknown
 pub mod UnknownText
-pub mod Tried
 pub use Rattle.dns_octets.specs.Builder
 pub use Rattle.dns_octets.specs.Parser
+pub use Rattle.dns_label.specs.Octets
 pub use Rattle.dns_label.specs.Name
 pub use Rattle.dns_label.specs.Spelled
 pub use Rattle.dns_label.specs.Labels
@@ -27,7 +27,6 @@ pub mod SpelledParts
 pub use Rattle.dns_flat.specs.BuiltText
 pub use Rattle.dns_flat.specs.ChainLaws
 pub use Rattle.dns_flat.specs.ChainParts
-pub use Rattle.dns_flat.specs.DigitLabels
 pub use Rattle.dns_flat.specs.FlatSuffixes
 pub use Rattle.dns_flat.specs.FlatWire
 pub use Rattle.dns_flat.specs.NoName

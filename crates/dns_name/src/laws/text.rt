@@ -2,10 +2,10 @@
 ghost use Rattle.std.specs.Prelude.{◌≡◌, List, ℕ};
 ghost use Rattle.std.specs.List.{AllByRecursion};
 ghost use Rattle.dns_label.specs.Name.{IsName, with_root};
-ghost use Rattle.dns_label.specs.NameText.{IsAbsoluteText, IsNameText};
+ghost use Rattle.dns_label.specs.NameText.{IsAbsoluteText, IsNameText, IsRelativeNameText};
 ghost use Rattle.dns_label.specs.Printed.{printed_name};
-ghost use Rattle.dns_flat.specs.PrintedLabels.{AreOctets, printed_relative, printed_seen};
-ghost use Rattle.dns_flat.specs.RelativeText.{IsRelativeNameText};
+ghost use Rattle.dns_label.specs.Octets.{AreOctets};
+ghost use Rattle.dns_flat.specs.PrintedLabels.{printed_relative, printed_seen};
 
 /// The text that `fmt_with_dot` shows spells the name, with its last dot, and no other.
 pub fn dotted_text_reads_back()
