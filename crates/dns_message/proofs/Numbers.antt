@@ -1,13 +1,10 @@
 -- Numbers that stand at a place of octets.
 use Rattle.std.proofs.Common.{◌≡◌, ℕ, ◌+◌, ◌<◌, ◌≤◌, ◌^◌, zero, suc, List, [], ◌∷◌, ◌++◌, length, get_or, take, drop, refl, sym, ap, ◌∙◌, arith, length-drop}
 use Rattle.std.specs.Int.{to_be_bytes, from_be_bytes, w16, w32}
-use Rattle.std.specs.List.{AllByRecursion}
 use Rattle.std.proofs.lemmas.List.{drop-drop}
 use Rattle.std.proofs.lemmas.Nat.{be_bytes_2, be_bytes_4}
+pub use Rattle.dns_label.specs.Octets.{AreOctets}
 use Rattle.dns_header.specs.Header.{number_at}
-
-abbrev pub AreOctets : List ℕ → Type 0
-AreOctets text = AllByRecursion (λ octet. octet < 2 ^ 8) text
 
 pub octet_at : (text : List ℕ) → AreOctets text → (i : ℕ) → get_or text i 0 < 256
 octet_at [] each i = omega arith

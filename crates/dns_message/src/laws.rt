@@ -1,7 +1,7 @@
 //! Laws of messages: what the code reads and writes, and what the definitions of a transfer say of a message, is the same. Each
 //! function does nothing; what it ensures is the law.
 ghost use Rattle.std.specs.Prelude.{◌≡◌, ◌<◌, ◌+◌, ◌^◌, ◌++◌, ℕ, Bool, List, length};
-ghost use Rattle.std.specs.List.{AllByRecursion};
+ghost use Rattle.dns_label.specs.Octets.{AreOctets};
 ghost use Rattle.dns_name.specs.Page.{Parts};
 ghost use Rattle.dns_name.specs.SpelledParts.{Spells};
 ghost use Rattle.dns_rdata.specs.Fields.{IsData};
@@ -29,7 +29,7 @@ pub fn records_have_one_meaning()
     ensures there { (message : List ℕ) (place next : ℕ) (r : Record) → ReadsRecord message place r next
         → (rr : RecordOf (List (List ℕ)) Data) × TakesRecord message place rr next × (record_of rr ≡ r) }
     ensures back { (message : List ℕ) (place next : ℕ) (rr : RecordOf (List (List ℕ)) Data)
-        → AllByRecursion (λ octet. octet < 2 ^ 8) message → TakesRecord message place rr next
+        → AreOctets message → TakesRecord message place rr next
         → ReadsRecord message place (record_of rr) next }
     ensures item { (message : List ℕ) (place next : ℕ) (parsed : Parsed) (rr : RecordOf (List (List ℕ)) Data)
         → HoldsRecord message place parsed next → IsRecordOf data_specs.ReadsData parsed rr → TakesRecord message place rr next }
@@ -41,7 +41,7 @@ pub fn records_have_one_meaning()
 /// A message has a question at a place exactly where it spells the question's parts there, and the type and class are numbers of
 /// two octets (RFC 1035 4.1.2).
 pub fn questions_have_one_meaning()
-    ensures there { (message : List ℕ) (place next : ℕ) (q : Question) → AllByRecursion (λ octet. octet < 2 ^ 8) message
+    ensures there { (message : List ℕ) (place next : ℕ) (q : Question) → AreOctets message
         → ReadsQuestion message place q next
         → Spells message place (question_parts q) next × (q.qtype < 2 ^ 16) × (q.qclass < 2 ^ 16) }
     ensures back { (message : List ℕ) (place next : ℕ) (q : Question) → Spells message place (question_parts q) next
@@ -55,7 +55,7 @@ pub fn answer_header_is_its_fields()
         → (length (answer_header id recursion answers) ≡ 12)
         × (fields_of (answer_header id recursion answers) ≡ answer_fields id recursion)
         × (counts_in (answer_header id recursion answers) ≡ answer_counts answers) }
-    ensures back { (header : List ℕ) (id : ℕ) (recursion : Bool) (answers : ℕ) → AllByRecursion (λ octet. octet < 2 ^ 8) header
+    ensures back { (header : List ℕ) (id : ℕ) (recursion : Bool) (answers : ℕ) → AreOctets header
         → length header ≡ 12 → fields_of header ≡ answer_fields id recursion → counts_in header ≡ answer_counts answers
         → header ≡ answer_header id recursion answers }
 {}

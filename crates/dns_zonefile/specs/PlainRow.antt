@@ -15,7 +15,7 @@ use Rattle.dns_rdata.specs.Fields.{Field, number32, ipv4, compressible, octets}
 use Rattle.dns_message.specs.Record.{Record}
 
 -- an unquoted token
-pub record IsWord (word : List ℕ) : Type 0 where
+pub record IsUnquoted (word : List ℕ) : Type 0 where
   pub symbols : List Symbol
   pub each : AllByRecursion (IsIn false) symbols
   pub written : word ≡ flat_map spelled symbols
@@ -27,8 +27,8 @@ pub record AreSpaces (spaces : List ℕ) : Type 0 where
 
 -- the words, with spaces between two of them, and the line feed behind the last
 pub data Words : List ℕ → List (List ℕ) → List ℕ → Type 0 where
-  last : {text word rest : List ℕ} → IsWord word → text ≡ word ++ 10 ∷ rest → Words text (word ∷ []) rest
-  more : {text word rest : List ℕ} {words : List (List ℕ)} (spaces behind : List ℕ) → IsWord word → AreSpaces spaces
+  last : {text word rest : List ℕ} → IsUnquoted word → text ≡ word ++ 10 ∷ rest → Words text (word ∷ []) rest
+  more : {text word rest : List ℕ} {words : List (List ℕ)} (spaces behind : List ℕ) → IsUnquoted word → AreSpaces spaces
       → text ≡ word ++ spaces ++ behind → Words behind words rest → Words text (word ∷ words) rest
 
 -- A row of these words. One that begins with a plain dollar sign is a directive, which is not read yet.

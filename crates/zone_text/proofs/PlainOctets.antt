@@ -7,7 +7,7 @@ use Rattle.std.proofs.lemmas.List.Concat.{flat_map-append}
 use Rattle.dns_label.specs.declared.symbol.Symbol.TheVariants.{Char}
 use Rattle.dns_label.specs.Symbol.{spelled}
 use Rattle.dns_text.specs.Tokens.{IsIn}
-use Rattle.zone_text.specs.Entry.{IsPlainOctet, is_plain_octet, StartsWithPlain}
+use Rattle.zone_text.specs.Entry.{IsFromAsterisk, is_from_asterisk, StartsWithPlain}
 use Rattle.zone_text.proofs.Each.{all_append}
 use Rattle.zone_text.proofs.WordRows.{Taken}
 use Rattle.zone_text.proofs.WordSymbols.{chars_written}
@@ -16,7 +16,7 @@ apart_low : (octet other : ℕ) → 42 ≤ octet → other < 42 → (octet == ot
 apart_low octet other low less = ne_eqb octet other (λ same. omega (arith, same, low, less))
 
 -- what the test says
-plain_sound : (octet : ℕ) → is_plain_octet octet ≡ true → IsPlainOctet octet
+plain_sound : (octet : ℕ) → is_from_asterisk octet ≡ true → IsFromAsterisk octet
 plain_sound octet is =
     let none : ((nat_lt octet 42 || nat_lt 126 octet) || ((octet == 59) || (octet == 92))) ≡ false = not-true _ is in
     let halves : ((nat_lt octet 42 || nat_lt 126 octet) ≡ false) × (((octet == 59) || (octet == 92)) ≡ false) =
@@ -29,22 +29,22 @@ plain_sound octet is =
     (or_from _ _ (apart_low octet 40 low (omega arith)) (or_from _ _ (apart_low octet 41 low (omega arith)) marks.0))) in
     ((((omega (arith, low), high), eqb-false octet 92 marks.1), cond-false _ false true gaps), low)
 
-each_next : (octet : ℕ) (text : List ℕ) (test : Bool) → is_plain_octet octet ≡ test
-    → AllByRecursion IsPlainOctet (take (prefix_len is_plain_octet text) text)
-    → AllByRecursion IsPlainOctet (take (cond test (1 + prefix_len is_plain_octet text) 0) (octet ∷ text))
+each_next : (octet : ℕ) (text : List ℕ) (test : Bool) → is_from_asterisk octet ≡ test
+    → AllByRecursion IsFromAsterisk (take (prefix_len is_from_asterisk text) text)
+    → AllByRecursion IsFromAsterisk (take (cond test (1 + prefix_len is_from_asterisk text) 0) (octet ∷ text))
 each_next octet text true is each =
-    let P : ℕ → Type 0 = λ n. AllByRecursion IsPlainOctet (take n (octet ∷ text)) in
-    let more : suc (prefix_len is_plain_octet text) ≡ 1 + prefix_len is_plain_octet text = omega arith in
+    let P : ℕ → Type 0 = λ n. AllByRecursion IsFromAsterisk (take n (octet ∷ text)) in
+    let more : suc (prefix_len is_from_asterisk text) ≡ 1 + prefix_len is_from_asterisk text = omega arith in
     subst P more (plain_sound octet is, each)
 each_next octet text false is each = tt
 
-run_each : (text : List ℕ) → AllByRecursion IsPlainOctet (take (prefix_len is_plain_octet text) text)
+run_each : (text : List ℕ) → AllByRecursion IsFromAsterisk (take (prefix_len is_from_asterisk text) text)
 run_each [] = tt
-run_each (octet ∷ text) = each_next octet text (is_plain_octet octet) refl (run_each text)
+run_each (octet ∷ text) = each_next octet text (is_from_asterisk octet) refl (run_each text)
 
-pub run_skipped : (text rest : List ℕ) (end : ℕ) → end ≡ prefix_len is_plain_octet text → rest ≡ drop end text → StartsWithPlain text rest
+pub run_skipped : (text rest : List ℕ) (end : ℕ) → end ≡ prefix_len is_from_asterisk text → rest ≡ drop end text → StartsWithPlain text rest
 run_skipped text rest end is_end is =
-    let run = prefix_len is_plain_octet text in
+    let run = prefix_len is_from_asterisk text in
     record {
       plain = take run text;
       each = run_each text;
@@ -52,7 +52,7 @@ run_skipped text rest end is_end is =
     }
 
 -- they are symbols of a word
-each_char : (octets : List ℕ) → AllByRecursion IsPlainOctet octets → AllByRecursion (IsIn false) (map Char octets)
+each_char : (octets : List ℕ) → AllByRecursion IsFromAsterisk octets → AllByRecursion (IsIn false) (map Char octets)
 each_char [] each = tt
 each_char (octet ∷ octets) each = (each.0.0, each_char octets each.1)
 

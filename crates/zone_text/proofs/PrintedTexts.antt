@@ -13,7 +13,7 @@ use Rattle.dns_rdata.specs.Fields.{Field, IsRow, octets}
 use Rattle.dns_rdata.specs.Fields.Field.{ipv4}
 use Rattle.dns_rdata.specs.Shown.{row_tokens}
 use Rattle.dns_message.specs.Printed.{IsDocument}
-use Rattle.dns_zonefile.specs.PlainRow.{AreSpaces, DataWords, IsWord, PlainRow, RecordWords, Words}
+use Rattle.dns_zonefile.specs.PlainRow.{AreSpaces, DataWords, IsUnquoted, PlainRow, RecordWords, Words}
 use Rattle.dns_zonefile.specs.PlainRow.DataWords.{a as a_words, soa as soa_words}
 use Rattle.dns_zonefile.specs.PlainRow.RecordWords.{words as spells}
 use Rattle.dns_zonefile.specs.PlainRow.Words.{last, more as more_words}
@@ -46,7 +46,7 @@ row_text-append (word ∷ (next ∷ others)) rest =
 one_space : AreSpaces (32 ∷ [])
 one_space = record { some = omega arith; each = (refl, tt) }
 
-row_words : (words : List (List ℕ)) (rest : List ℕ) → 0 < length words → AllByRecursion IsWord words → Words (row_text words rest) words rest
+row_words : (words : List (List ℕ)) (rest : List ℕ) → 0 < length words → AllByRecursion IsUnquoted words → Words (row_text words rest) words rest
 row_words [] rest some each = absurd (omega arith)
 row_words (word ∷ []) rest some each = last each.0 refl
 row_words (word ∷ (next ∷ others)) rest some each =
@@ -63,7 +63,7 @@ wire_back (label ∷ labels) octets_are =
 record ReadsBack (class : ℕ) (r : Record) (document : List Piece) : Type 0 where
   pub words : List (List ℕ)
   pub some : 0 < length words
-  pub each : AllByRecursion IsWord words
+  pub each : AllByRecursion IsUnquoted words
   pub written : document_text Simple (document ++ Newline ∷ []) ≡ row_text words []
   pub no_dollar : (more : List ℕ) → slice_index (document_text Simple (document ++ Newline ∷ []) ++ more) 0 ≡ 36 → ⊥
   pub spelled : RecordWords class words r
@@ -73,8 +73,8 @@ line_of r row = printed_name r.owner ∷ decimal r.ttl ∷ class_written r.class
 
 -- what a record's text is, where its data's row is known
 record Known (class : ℕ) (r : Record) (row : List Field) : Type 0 where
-  pub type_is_word : IsWord (type_written r.rtype)
-  pub each : AllByRecursion IsWord (row_tokens row)
+  pub type_is_word : IsUnquoted (type_written r.rtype)
+  pub each : AllByRecursion IsUnquoted (row_tokens row)
   pub written : document_text Simple (row_document r row ++ Newline ∷ []) ≡ row_text (line_of r row) []
   pub spelled : DataWords r.rtype (row_tokens row) row
 
@@ -117,7 +117,7 @@ address_back class r document is printed =
     let has = address_document r document printed in
     let words = address_word r.rdata has.row_is.each.0 is.data_octets in
     let known : Known class (record r { rtype = 1 }) (ipv4 r.rdata ∷ []) = record {
-      type_is_word = subst IsWord (sym a_written) a_word;
+      type_is_word = subst IsUnquoted (sym a_written) a_word;
       each = (words.0, tt);
       written = refl;
       spelled = a_words words.1;
@@ -136,7 +136,7 @@ soa_known class r m n n1 n2 n3 n4 n5 data_octets row_is octets_are =
     let n_octets = wire_back n second.0 in
     let fits = row_is.each.1.1 in
     record {
-      type_is_word = subst IsWord (sym soa_written) soa_word;
+      type_is_word = subst IsUnquoted (sym soa_written) soa_word;
       each = (
         name_word m m_octets,
         (

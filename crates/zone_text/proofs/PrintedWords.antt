@@ -18,7 +18,7 @@ use Rattle.dns_label.specs.Printed.{printed_symbol, printed_label, printed_label
 use Rattle.dns_values.specs.Mnemonic.{classes, text_of, text_written, class_written}
 use Rattle.dns_text.specs.Tokens.{IsIn}
 use Rattle.dns_text.specs.Numbers.{IsNumberText}
-use Rattle.dns_zonefile.specs.PlainRow.{IsWord}
+use Rattle.dns_zonefile.specs.PlainRow.{IsUnquoted}
 use Rattle.zone_text.specs.Records.{AreOctets}
 use Rattle.zone_text.proofs.Each.{all_append}
 use Rattle.zone_text.proofs.NumberTexts.{number_of_digits}
@@ -33,7 +33,7 @@ chars_each : (text : List ℕ) → ArePlain text → AllByRecursion (IsIn false)
 chars_each [] plain = tt
 chars_each (c ∷ text) plain = (plain.0, chars_each text plain.1)
 
-plain_word : (text : List ℕ) → ArePlain text → 0 < length text → IsWord text
+plain_word : (text : List ℕ) → ArePlain text → 0 < length text → IsUnquoted text
 plain_word text plain some = record {
   symbols = map Char text;
   each = chars_each text plain;
@@ -71,7 +71,7 @@ number_text n fits =
 pub number_plain : (n : ℕ) → n < 2 ^ 32 → ArePlain (decimal n)
 number_plain n fits = digits_plain (decimal n) (number_of_digits (2 ^ 32) (decimal n) n (number_text n fits))
 
-pub number_word : (n : ℕ) → n < 2 ^ 32 → IsWord (decimal n)
+pub number_word : (n : ℕ) → n < 2 ^ 32 → IsUnquoted (decimal n)
 number_word n fits = plain_word (decimal n) (number_plain n fits) (number_text n fits).digits.0
 
 -- four numbers with dots between them
@@ -86,7 +86,7 @@ behind_dot front n plain fits =
 behind_dot_some : (front : List ℕ) (n : ℕ) → 0 < length (front ++ codes "." ++ decimal n)
 behind_dot_some front n = omega (arith, length-append (front ++ codes ".") (decimal n), length-append front (codes "."))
 
-pub address_word : (address : List ℕ) → length address ≡ 4 → AreOctets address → IsWord (ipv4_text address) × IsDotted (ipv4_text address) address
+pub address_word : (address : List ℕ) → length address ≡ 4 → AreOctets address → IsUnquoted (ipv4_text address) × IsDotted (ipv4_text address) address
 address_word (a ∷ (b ∷ (c ∷ (d ∷ [])))) long octets = (
   plain_word (ipv4_text (a ∷ b ∷ c ∷ d ∷ []))
       (behind_dot (decimal a ++ codes "." ++ decimal b ++ codes "." ++ decimal c) d
@@ -125,15 +125,15 @@ class_front = (
   ),
 )
 
-two_letters : (a b : ℕ) → 65 ≤ a → a ≤ 90 → 65 ≤ b → b ≤ 90 → IsWord (a ∷ b ∷ [])
+two_letters : (a b : ℕ) → 65 ≤ a → a ≤ 90 → 65 ≤ b → b ≤ 90 → IsUnquoted (a ∷ b ∷ [])
 two_letters a b from to from' to' = plain_word (a ∷ b ∷ []) (letter a from to, (letter b from' to', tt)) (omega arith)
 
-pub class_word : (class : ℕ) → class < 2 ^ 16 → IsWord (class_written class)
+pub class_word : (class : ℕ) → class < 2 ^ 16 → IsUnquoted (class_written class)
 unfolding classes text_of text_written
 class_word class fits = by (1 == class) (3 == class) (4 == class)
   where
     by : (is_in is_ch is_hs : Bool)
-        → IsWord (unwrap_or (option_map {T = ℕ × List ℕ} (λ row. row.1) (cond is_in (Some (1, codes "IN")) (cond is_ch (Some (3, codes "CH")) (cond is_hs (Some (4, codes "HS")) None))))
+        → IsUnquoted (unwrap_or (option_map {T = ℕ × List ℕ} (λ row. row.1) (cond is_in (Some (1, codes "IN")) (cond is_ch (Some (3, codes "CH")) (cond is_hs (Some (4, codes "HS")) None))))
         (codes "CLASS" ++ decimal class))
     by true is_ch is_hs = two_letters 73 78 (omega arith) (omega arith) (omega arith) (omega arith)
     by false true is_hs = two_letters 67 72 (omega arith) (omega arith) (omega arith) (omega arith)
@@ -143,10 +143,10 @@ class_word class fits = by (1 == class) (3 == class) (4 == class)
         plain_word (codes "CLASS" ++ decimal class) (all_append P (codes "CLASS") (decimal class) class_front (number_plain class (omega arith)))
         (omega arith)
 
-pub a_word : IsWord (codes "A")
+pub a_word : IsUnquoted (codes "A")
 a_word = plain_word (codes "A") (letter 65 (omega arith) (omega arith), tt) (omega arith)
 
-pub soa_word : IsWord (codes "SOA")
+pub soa_word : IsUnquoted (codes "SOA")
 soa_word =
     plain_word (codes "SOA")
     (letter 83 (omega arith) (omega arith), (letter 79 (omega arith) (omega arith), (letter 65 (omega arith) (omega arith), tt))) (omega arith)
@@ -209,7 +209,7 @@ name_text (label ∷ name) is octets =
       between = name_parts (label ∷ name) octets;
     }) is
 
-pub name_word : (name : List (List ℕ)) → AllByRecursion AreOctets name → IsWord (printed_name name)
+pub name_word : (name : List (List ℕ)) → AllByRecursion AreOctets name → IsUnquoted (printed_name name)
 name_word [] octets = plain_word (46 ∷ []) (dot_in, tt) (omega arith)
 name_word (label ∷ name) octets = record {
   symbols = name_symbols (label ∷ name);

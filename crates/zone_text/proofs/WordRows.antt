@@ -8,7 +8,7 @@ use Rattle.dns_label.specs.declared.symbol.Symbol.TheVariants.{Char, SimpleEscap
 use Rattle.dns_label.specs.Symbol.{spelled}
 use Rattle.dns_text.specs.Tokens.{IsIn, IsRun, EndsToken, IsEmptyRow, stands_plain, is_end}
 use Rattle.dns_text.specs.Tokens.Head.{Word}
-use Rattle.dns_zonefile.specs.PlainRow.{IsWord, AreSpaces, Words}
+use Rattle.dns_zonefile.specs.PlainRow.{IsUnquoted, AreSpaces, Words}
 use Rattle.dns_zonefile.specs.PlainRow.Words.{last, more}
 use Rattle.zone_text.specs.Entry.{StartsWithSymbol, StartsWithSpaces}
 use Rattle.zone_text.proofs.WordSymbols.{symbol_first, ends_nil, ends_plain, ends_low, one_word, word_head, word_no_gap, differs, plain_differs}
@@ -64,7 +64,7 @@ taken_run text rest len taken ends long =
       longest = subst (λ (l : List ℕ). EndsToken false l) (sym behind) ends;
     }
 
-pub run_word : {text front rest : List ℕ} → IsRun false text front rest → 0 < length front → IsWord front
+pub run_word : {text front rest : List ℕ} → IsRun false text front rest → 0 < length front → IsUnquoted front
 run_word run some = record { symbols = run.symbols; each = run.each; written = run.written; some = some }
 
 -- the symbol that a word begins with
@@ -202,7 +202,7 @@ split_full text rest words n split full all behind few row =
     let here = split.back all behind row in
     absurd (omega (arith, some_words here.2, ap (length {A = List ℕ}) here.1, length-append words here.0))
 
-word_run : {text word tail : List ℕ} → IsWord word → EndsToken false tail → text ≡ word ++ tail → IsRun false text word tail
+word_run : {text word tail : List ℕ} → IsUnquoted word → EndsToken false tail → text ≡ word ++ tail → IsRun false text word tail
 word_run is ends whole = record { symbols = is.symbols; each = is.each; written = is.written; whole = whole; longest = ends }
 
 row_last : (word rest s : List ℕ) (ys : List (List ℕ)) → Row' word (10 ∷ rest) ys s → (word ∷ [] ≡ ys) × (rest ≡ s)

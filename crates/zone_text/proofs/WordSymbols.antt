@@ -8,7 +8,7 @@ use Rattle.dns_text.specs.Tokens.{IsIn, EndsToken, stands_plain}
 pub use Rattle.dns_text.proofs.TokenSymbols.{one_symbol, differs, plain_differs, word_no_gap, word_head}
 use Rattle.dns_text.proofs.TokenSymbols.{one_run}
 use Rattle.dns_text.proofs.TokenSymbols.{symbol_first as first_of_token, ends_nil as ends_token_nil, ends_plain as ends_token_plain, ends_low as ends_token_low}
-use Rattle.dns_zonefile.specs.PlainRow.{IsWord}
+use Rattle.dns_zonefile.specs.PlainRow.{IsUnquoted}
 
 -- characters without escapes are written as they are
 pub chars_written : (text : List ℕ) → text ≡ flat_map spelled (map Char text)
@@ -31,7 +31,7 @@ pub ends_low : (octet : ℕ) (text : List ℕ) → octet < 32 → EndsToken fals
 ends_low octet text low = ends_token_low false octet text low
 
 -- so is the word
-pub one_word : (word other x y : List ℕ) → IsWord word → IsWord other → EndsToken false x → EndsToken false y
+pub one_word : (word other x y : List ℕ) → IsUnquoted word → IsUnquoted other → EndsToken false x → EndsToken false y
     → word ++ x ≡ other ++ y → (word ≡ other) × (x ≡ y)
 one_word word other x y is is' ends ends' same =
     let run = one_run false is.symbols is'.symbols x y is.each is'.each ends ends'

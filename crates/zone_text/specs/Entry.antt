@@ -29,17 +29,17 @@ StartsRow text End = is_end text ≡ true
 StartsRow text Tokens = (is_end text ≡ false) × ((rest : List ℕ) → IsEmptyRow text rest → ⊥)
 
 -- an octet that stands in a word by itself, and is from the asterisk on
-abbrev pub IsPlainOctet : ℕ → Type 0
-IsPlainOctet octet = IsIn false (Char octet) × (42 ≤ octet)
+abbrev pub IsFromAsterisk : ℕ → Type 0
+IsFromAsterisk octet = IsIn false (Char octet) × (42 ≤ octet)
 
 -- the same as a test
-abbrev pub is_plain_octet : ℕ → Bool
-is_plain_octet octet = not ((nat_lt octet 42 || nat_lt 126 octet) || ((octet == 59) || (octet == 92)))
+abbrev pub is_from_asterisk : ℕ → Bool
+is_from_asterisk octet = not ((nat_lt octet 42 || nat_lt 126 octet) || ((octet == 59) || (octet == 92)))
 
--- plain octets, perhaps none, in front of the rest, which may begin with more of them
+-- such octets, perhaps none, in front of the rest, which may begin with more of them
 pub record StartsWithPlain (text rest : List ℕ) : Type 0 where
   pub plain : List ℕ
-  pub each : AllByRecursion IsPlainOctet plain
+  pub each : AllByRecursion IsFromAsterisk plain
   pub whole : text ≡ plain ++ rest
 
 -- a symbol of a word in front of the rest

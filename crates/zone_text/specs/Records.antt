@@ -4,7 +4,7 @@ use Rattle.dns_label.specs.Name.{low}
 use Rattle.dns_rdata.specs.Fields.{Field, IsRow, octets, lowered, IsData}
 use Rattle.zone_text.specs.Zone.{IsZone, a_type, soa_type}
 use Rattle.std.specs.List.{AllByRecursion}
-pub use Rattle.dns_flat.specs.PrintedLabels.{AreOctets}
+pub use Rattle.dns_label.specs.Octets.{AreOctets}
 use Rattle.dns_message.specs.Record.{IsRecord}
 use Rattle.zone_text.specs.Record.{Record}
 

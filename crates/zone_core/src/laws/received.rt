@@ -2,6 +2,7 @@
 
 ghost use Rattle.std.specs.Prelude.{◌≡◌, ◌<◌, ◌^◌, ◌++◌, ◌⊎◌, ℕ, Bool, List};
 ghost use Rattle.std.specs.List.{AllByRecursion};
+ghost use Rattle.dns_label.specs.Octets.{AreOctets};
 ghost use Rattle.zone_text.specs.Record.{Record};
 ghost use Rattle.zone_core.specs.Query.{AxfrQuery};
 ghost use Rattle.zone_text.specs.Records.{AreSendable, IsTypeToday};
@@ -66,7 +67,7 @@ pub fn at_most_one_of_three()
 /// Of every stream of octets one of three things holds: a beginning of it is a transfer, or it is begun, or it is at
 /// fault.
 pub fn one_of_three()
-    ensures { (query : AxfrQuery) (stream : List ℕ) → AllByRecursion (λ octet. octet < 2 ^ 8) stream →
+    ensures { (query : AxfrQuery) (stream : List ℕ) → AreOctets stream →
         ((front rest : List ℕ) × (records : List Record) × (stream ≡ front ++ rest) × IsTransferIn WrittenOut query front records)
         ⊎ (IsBegun query stream ⊎ ((error : ReceiveError) × HasBadMessage query stream error)) }
 {}

@@ -2,7 +2,7 @@
 ghost use Rattle.std.specs.Prelude.{◌<◌, ◌≤◌, ◌↔◌, List, ℕ, false, length, IsTrue, IfSome, IfNone};
 ghost use Rattle.dns_text.specs.Tokens.{EndsToken, IsRun, Stands};
 ghost use Rattle.dns_zonefile.specs.PlainRow.{Words};
-ghost use Rattle.zone_text.specs.Entry.{texts_of, is_plain_octet, StartsWithPlain, StartsWithSymbol, StartsWithSpaces};
+ghost use Rattle.zone_text.specs.Entry.{texts_of, is_from_asterisk, StartsWithPlain, StartsWithSymbol, StartsWithSpaces};
 
 use arrayvec::ArrayVec;
 use dns_name::{OctetKind, Symbol, run_end};
@@ -62,7 +62,7 @@ fn skip_plain(text: &[u8]) -> &[u8]
 struct PlainOctets;
 
 impl OctetKind for PlainOctets {
-    ghost has = { is_plain_octet };
+    ghost has = { is_from_asterisk };
 
     fn has(octet: u8) -> bool {
         matches!(octet, b'*'..=b'~') && octet != b';' && octet != b'\\'
