@@ -7,7 +7,7 @@ use Rattle.std.proofs.lemmas.List.{map_push, length-replicate, length-map, repli
 use Rattle.dns_scan.specs.declared.encoding.base.Base.{Base}
 use Rattle.dns_scan.specs.declared.encoding.base.Base.TheVariants.{Sixteen, ThirtyTwoHex, SixtyFour}
 use Rattle.dns_scan.specs.Bits.{bits, all_bits}
-use Rattle.dns_scan.specs.StringText.{IsOctet}
+use Rattle.dns_label.specs.Octets.{IsOctet}
 use Rattle.dns_scan.specs.Base.{width, size, digit, IsCharacter, Groups, Decodes}
 use Rattle.dns_scan.specs.declared.encoding.decode_error.DecodeError.{DecodeError}
 use Rattle.dns_scan.specs.declared.encoding.decode_error.DecodeError.TheVariants.{IllegalChar, TrailingInput, ShortInput, ShortBuf}

@@ -9,7 +9,7 @@ use Rattle.std.proofs.lemmas.List.{length-replicate}
 use Rattle.dns_scan.specs.declared.encoding.base.Base.{Base}
 use Rattle.dns_scan.specs.declared.encoding.base.Base.TheVariants.{Sixteen, ThirtyTwoHex, SixtyFour}
 use Rattle.dns_scan.specs.Bits.{bits, all_bits, grouped, padded_number, numbers_of, number_of}
-use Rattle.dns_scan.specs.StringText.{IsOctet}
+use Rattle.dns_label.specs.Octets.{IsOctet}
 use Rattle.dns_scan.specs.Base.{width, size, character, digit, hex_character, character_64, digit_64, IsCharacter, Groups, IsTextOf, Decodes, DecodesOnly, characters_of, encoded, padding}
 use Rattle.dns_wire.proofs.Flat.{same_front}
 use Rattle.dns_scan.proofs.BitLists.{IsBit, bits-number, length-bits, number-bits}

@@ -15,3 +15,4 @@ pub mod SymbolsRead
 pub mod Deciphered
 pub mod ConvertedTokens
 pub mod ConvertedEntries
+pub mod HexWords

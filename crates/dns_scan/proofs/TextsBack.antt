@@ -3,9 +3,10 @@ use Rattle.std.proofs.Common.{◌≡◌, ◌≢◌, ℕ, ◌<◌, Bool, true, fa
 use Rattle.std.proofs.lemmas.Bool.Decides.{nat_tests}
 use Rattle.std.specs.List.{AllByRecursion, flat_map}
 use Rattle.dns_label.specs.declared.symbol.Symbol.{Symbol}
-use Rattle.dns_label.specs.Symbol.{IsSymbol, IsPrintable, IsNoDigit, octet, spelled}
+use Rattle.dns_label.specs.Symbol.{IsSymbol, IsPrintable, IsNoDigit, octet, spelled, is_printable}
 use Rattle.dns_wire.proofs.Parts.{spelled_some}
-use Rattle.dns_scan.specs.StringText.{Spells, SpellsOnly, IsOctet, is_printable, is_escaped, symbol_of, text_of}
+use Rattle.dns_label.specs.Octets.{IsOctet}
+use Rattle.dns_scan.specs.StringText.{Spells, SpellsOnly, is_escaped, symbol_of, text_of}
 use Rattle.dns_scan.specs.declared.char_str.text.Style.{Style}
 use Rattle.dns_scan.specs.declared.char_str.text.Style.TheVariants.{Plain, Quoted, Unquoted}
 use Rattle.dns_scan.proofs.Texts.{spells_more, spells_less, spells_none}

@@ -3,10 +3,10 @@
 use Rattle.std.specs.Prelude.{◌≡◌, ◌+◌, ◌-◌, ◌%◌, ◌<◌, ◌==◌, ℕ, List, [], ◌++◌, length, map, replicate, nat_lt, if◌then◌else◌}
 use Rattle.std.specs.List.{AllByRecursion}
 use Rattle.std.specs.Char.{digit_value}
+use Rattle.dns_label.specs.Octets.{AreOctets}
 use Rattle.dns_scan.specs.declared.encoding.base.Base.{Base}
 use Rattle.dns_scan.specs.declared.encoding.base.Base.TheVariants.{Sixteen, ThirtyTwoHex, SixtyFour}
 use Rattle.dns_scan.specs.Bits.{all_bits, numbers_of}
-use Rattle.dns_scan.specs.StringText.{IsOctet}
 
 -- how many bits a character stands for
 abbrev pub width : Base → ℕ
@@ -58,7 +58,7 @@ IsCharacter base c = digit base c < size base
 -- The characters' bits are those of the octets, and a rest that is too little for another character.
 pub record Groups (base : Base) (characters octets : List ℕ) : Type 0 where
   pub each : AllByRecursion (IsCharacter base) characters
-  pub are_octets : AllByRecursion IsOctet octets
+  pub are_octets : AreOctets octets
   pub rest : List ℕ
   pub cut : all_bits (width base) (map (digit base) characters) ≡ all_bits 8 octets ++ rest
   pub little : length rest < width base

@@ -1,12 +1,12 @@
 -- A text while it is decoded.
 use Rattle.std.specs.Prelude.{◌≡◌, ◌*◌, ◌<◌, ◌≤◌, ◌+◌, ◌⊎◌, ℕ, List, [], ◌∷◌, ◌++◌, length, map, replicate, Option, None, Some}
 use Rattle.std.specs.List.{AllByRecursion}
+use Rattle.dns_label.specs.Octets.{AreOctets}
 use Rattle.dns_scan.specs.declared.encoding.base.Base.{Base}
 use Rattle.dns_scan.specs.declared.encoding.base.Base.TheVariants.{Sixteen, ThirtyTwoHex, SixtyFour}
 use Rattle.dns_scan.specs.declared.encoding.decode_error.DecodeError.{DecodeError}
 use Rattle.dns_scan.specs.declared.encoding.decode_error.DecodeError.TheVariants.{IllegalChar, TrailingInput, ShortInput, ShortBuf}
 use Rattle.dns_scan.specs.Bits.{all_bits}
-use Rattle.dns_scan.specs.StringText.{IsOctet}
 use Rattle.dns_scan.specs.Base.{width, digit, IsCharacter, Decodes}
 
 -- how far a decoder has come: the whole octets, the bits that wait for others, the pads, and the error that it keeps
@@ -41,7 +41,7 @@ pub record HasRead (base : Base) (progress : Progress) (text : List ℕ) : Type 
   pub characters : List ℕ
   pub written : text ≡ characters ++ replicate progress.pads 61
   pub each : AllByRecursion (IsCharacter base) characters
-  pub are_octets : AllByRecursion IsOctet progress.octets
+  pub are_octets : AreOctets progress.octets
   pub cut : all_bits (width base) (map (digit base) characters) ≡ all_bits 8 progress.octets ++ progress.waiting
   pub little : length progress.waiting < 8
   pub padded : MayBePadded base progress.pads (length progress.waiting)

@@ -1,9 +1,9 @@
 -- The texts of character strings (RFC 1035 5.1).
-use Rattle.std.specs.Prelude.{◌≡◌, ◌≤◌, ◌==◌, ◌||◌, ◌&&◌, ◌<◌, ◌++◌, ◌∷◌, [], ℕ, Bool, List, length, map, nat_le, if◌then◌else◌}
+use Rattle.std.specs.Prelude.{◌≡◌, ◌≤◌, ◌==◌, ◌||◌, ◌++◌, ◌∷◌, [], ℕ, Bool, List, length, map, if◌then◌else◌}
 use Rattle.std.specs.List.{AllByRecursion, flat_map}
 use Rattle.dns_label.specs.declared.symbol.Symbol.{Symbol}
 use Rattle.dns_label.specs.declared.symbol.Symbol.TheVariants.{Char, SimpleEscape, DecimalEscape}
-use Rattle.dns_label.specs.Symbol.{IsSymbol, octet, spelled}
+use Rattle.dns_label.specs.Symbol.{IsSymbol, is_printable, octet, spelled}
 use Rattle.dns_scan.specs.declared.char_str.text.Style.{Style}
 use Rattle.dns_scan.specs.declared.char_str.text.Style.TheVariants.{Plain, Quoted, Unquoted}
 
@@ -18,9 +18,6 @@ pub record Spells (text octets : List ℕ) : Type 0 where
 pub record IsStringText (text string : List ℕ) : Type 0 where
   pub spells : Spells text string
   pub short : length string ≤ 255
-
-abbrev pub is_printable : ℕ → Bool
-is_printable octet = nat_le 32 octet && nat_le octet 126
 
 -- Which printable characters are written after a backslash: in plain text the backslash; between quotes the quote too; in a word
 -- the space, the quote, the parentheses, the semicolon and the backslash.
@@ -55,6 +52,3 @@ unquoted_text string = text_of Unquoted string
 pub record SpellsOnly (text octets : List ℕ) : Type 0 where
   pub spells : Spells text octets
   pub only : (others : List ℕ) → Spells text others → others ≡ octets
-
-abbrev pub IsOctet : ℕ → Type 0
-IsOctet octet = octet < 256

@@ -1,8 +1,9 @@
 -- Tokens of a text that is scanned (RFC 1035 5.1).
-use Rattle.std.specs.Prelude.{◌≡◌, ◌↔◌, ◌==◌, ◌||◌, ◌&&◌, ℕ, Bool, true, false, not, List, [], ◌∷◌, ◌++◌}
+use Rattle.std.specs.Prelude.{◌≡◌, ◌↔◌, ◌==◌, ◌||◌, ℕ, Bool, true, false, List, [], ◌∷◌, ◌++◌}
 use Rattle.std.specs.List.{list_all}
 use Rattle.dns_scan.specs.CharStr.{string_wire}
-use Rattle.dns_scan.specs.StringText.{Spells, IsStringText, is_printable}
+use Rattle.dns_label.specs.Symbol.{is_plain}
+use Rattle.dns_scan.specs.StringText.{Spells, IsStringText}
 
 -- a token: whether it is quoted, and its text as it is written, without the quotes
 pub record Token : Type 0 where
@@ -45,10 +46,6 @@ SpellsOctets octets token = Spells token.text octets
 -- the token spells a character string
 abbrev pub SpellsString : List ℕ → Token → Type 0
 SpellsString string token = IsStringText token.text string
-
--- a printable character other than the backslash
-abbrev pub is_plain : ℕ → Bool
-is_plain c = is_printable c && not (c == 92)
 
 -- the token is a word: unquoted, and without a backslash
 abbrev pub IsWord : List ℕ → Token → Type 0

@@ -1,10 +1,10 @@
 //! Laws of texts. Each function does nothing; what it ensures is the law.
 ghost use Rattle.std.specs.Prelude.{List, ℕ, IsUtf8};
-ghost use Rattle.std.specs.List.{AllByRecursion};
 ghost use Rattle.std.specs.Str.{chars};
+ghost use Rattle.dns_label.specs.Octets.{AreOctets};
 ghost use Rattle.dns_scan.specs.Base.{encoded, Decodes, DecodesOnly};
 ghost use Rattle.dns_scan.specs.Converted.{IsConverted, Deciphers, DeciphersEntry};
-ghost use Rattle.dns_scan.specs.StringText.{SpellsOnly, IsOctet, plain_text, between_quotes, unquoted_text};
+ghost use Rattle.dns_scan.specs.StringText.{SpellsOnly, plain_text, between_quotes, unquoted_text};
 ghost use Rattle.dns_scan.specs.Symbols.{HasMarked};
 ghost use Rattle.dns_scan.specs.Token.{Token, IsEntry, HasText};
 ghost use Rattle.dns_scan.specs.declared.encoding.base.Base.{Base};
@@ -13,15 +13,15 @@ ghost use Rattle.dns_scan.specs.declared.symbols.entry_symbol.EntrySymbol.{Entry
 /// The plain text of a string, its unquoted text, and the text between the quotes of its quoted text spell the string, and
 /// no other: what `CharStr::from_str` takes them for is the string.
 pub fn texts_read_back()
-    ensures plain { (string : List ℕ) → AllByRecursion IsOctet string → SpellsOnly (plain_text string) string }
-    ensures quoted { (string : List ℕ) → AllByRecursion IsOctet string → SpellsOnly (between_quotes string) string }
-    ensures unquoted { (string : List ℕ) → AllByRecursion IsOctet string → SpellsOnly (unquoted_text string) string }
+    ensures plain { (string : List ℕ) → AreOctets string → SpellsOnly (plain_text string) string }
+    ensures quoted { (string : List ℕ) → AreOctets string → SpellsOnly (between_quotes string) string }
+    ensures unquoted { (string : List ℕ) → AreOctets string → SpellsOnly (unquoted_text string) string }
 {}
 
 /// The text of octets in base 16, 32 or 64 is one of these octets, and of no others: `decode` returns what `encode_string` was
 /// given.
 pub fn text_decodes_back()
-    ensures { (base : Base) (octets : List ℕ) → AllByRecursion IsOctet octets → DecodesOnly base (chars (encoded base octets)) octets }
+    ensures { (base : Base) (octets : List ℕ) → AreOctets octets → DecodesOnly base (chars (encoded base octets)) octets }
 {}
 
 /// The octets that a token's symbols are converted to in base 16, 32 or 64 are those of its text, and a text of octets is of

@@ -7,7 +7,8 @@ ghost use Rattle.dns_label.specs.NameText.{IsNameText};
 ghost use Rattle.dns_scan.specs.StrError.{is_short, is_end};
 ghost use Rattle.dns_scan.specs.declared.scan.scanner_error.StrError.TheVariants.{EndOfEntry};
 ghost use Rattle.dns_scan.specs.StringText.{IsStringText};
-ghost use Rattle.dns_scan.specs.Token.{Token, is_plain, unquoted};
+ghost use Rattle.dns_label.specs.Symbol.{is_plain};
+ghost use Rattle.dns_scan.specs.Token.{Token, unquoted};
 
 use super::spelled::octets_of;
 use crate::{CharStr, FromStrError, Scanner, ScannerError, StrError};

@@ -1,6 +1,7 @@
 use Rattle.std.proofs.Common.{ℕ, List, refl, sym, ◌∙◌, ap, subst}
 use Rattle.std.specs.List.{list_all}
-use Rattle.dns_scan.specs.Token.{IsWord, is_plain, unquoted}
+use Rattle.dns_label.specs.Symbol.{is_plain}
+use Rattle.dns_scan.specs.Token.{IsWord, unquoted}
 use Rattle.dns_scan.proofs.Entries.{Entering, entering_more, entering_end, ending_more}
 use Rattle.dns_scan.proofs.scan.iter_scanner.IterScannerScanner.scan_ascii_entry.Goals as goal
 
