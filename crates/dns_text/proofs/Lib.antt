@@ -11,3 +11,5 @@ pub mod LineTexts
 pub mod DocumentTexts
 pub mod OneRow
 pub mod UncertainTexts
+pub mod UnknownTokens
+mod Tried

@@ -3,12 +3,13 @@ use Rattle.std.proofs.Common.{◌≡◌, ℕ, List, inr, Result, Ok, Err, IfOk, 
 use Rattle.std.specs.List.{AllByRecursion}
 use Rattle.dns_label.specs.Name.{IsName}
 use Rattle.dns_label.specs.Printed.{printed_name}
-use Rattle.dns_label.specs.NameText.{IsAbsoluteText, IsNameText}
+use Rattle.dns_label.specs.NameText.{IsAbsoluteText, IsNameText, IsRelativeNameText}
 use Rattle.dns_label.specs.NameText.IsNameText.{absolute}
 use Rattle.dns_wire.specs.declared.text.FromStrError.{FromStrError}
 use Rattle.dns_wire.specs.declared.text.FromStrError.TheVariants.{Presentation, ShortBuf}
-use Rattle.dns_flat.specs.PrintedLabels.{AreOctets, printed_relative}
-use Rattle.dns_flat.specs.RelativeText.{IsRelativeNameText, SpellsAbsolute}
+use Rattle.dns_label.specs.Octets.{AreOctets}
+use Rattle.dns_flat.specs.PrintedLabels.{printed_relative}
+use Rattle.dns_flat.specs.RelativeText.{SpellsAbsolute}
 use Rattle.dns_wire.specs.Text.{IsRefused}
 use Rattle.dns_text.specs.declared.uncertain.UncertainName.{UncertainName}
 use Rattle.dns_text.specs.declared.uncertain.UncertainName.TheVariants.{Absolute, Relative}

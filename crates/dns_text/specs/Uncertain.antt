@@ -5,8 +5,7 @@ use Rattle.dns_label.specs.Printed.{printed_name}
 use Rattle.dns_wire.specs.Parsed.{StandsAt}
 use Rattle.dns_flat.specs.Relative.{StandsIn as stands_in_relative}
 use Rattle.dns_flat.specs.PrintedLabels.{printed_relative}
-use Rattle.dns_label.specs.NameText.{IsAbsoluteText}
-use Rattle.dns_flat.specs.RelativeText.{IsRelativeNameText}
+use Rattle.dns_label.specs.NameText.{IsEitherText}
 use Rattle.dns_text.specs.declared.uncertain.UncertainName.{UncertainName}
 use Rattle.dns_text.specs.declared.uncertain.UncertainName.TheVariants.{Absolute, Relative}
 
@@ -48,7 +47,6 @@ StandsIn (Relative name) index place = stands_in_relative (labels_wire name) nam
 abbrev pub IsNoName : List ℕ → Type 0
 IsNoName octets = (name : List (List ℕ)) → IsName name → (octets ≡ wire name → ⊥) × (octets ≡ labels_wire name → ⊥)
 
--- The text spells the name: with its last dot where it is absolute, and without one where it is relative.
+-- the text spells the name as the kind that it is
 abbrev pub IsTextOf : {O : Type 0} → List ℕ → UncertainName O → Type 0
-IsTextOf text (Absolute name) = IsAbsoluteText text name
-IsTextOf text (Relative name) = IsRelativeNameText text name
+IsTextOf text name = IsEitherText (is_absolute name) text (labels_of name)

@@ -1,7 +1,7 @@
 //! Laws of documents. Each function does nothing; what it ensures is the law.
 ghost use Rattle.std.specs.Prelude.{◌≡◌, ◌∷◌, ◌++◌, [], ℕ, List, true, false};
 ghost use Rattle.std.specs.List.{AllByRecursion};
-ghost use Rattle.dns_flat.specs.PrintedLabels.{AreOctets};
+ghost use Rattle.dns_label.specs.Octets.{AreOctets};
 ghost use Rattle.dns_text.specs.Document.{Layout, Piece, document_text, is_inside};
 ghost use Rattle.dns_text.specs.Document.Layout.{Multiline};
 ghost use Rattle.dns_text.specs.Document.Piece.{Comment, Open, Close, Newline};
