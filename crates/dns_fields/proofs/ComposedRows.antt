@@ -10,7 +10,8 @@ use Rattle.dns_name.specs.Page.Parts.{End, Octets}
 use Rattle.dns_name.specs.SpelledParts.{Spells, nothing, octets}
 use Rattle.dns_fields.specs.Fields as fields
 use Rattle.dns_fields.specs.Fields.{Kind, Number8, Number16, Number32, Ipv4, Ipv6, Compressible, Uncompressed, String, Strings, Tag, RestText, Rest16, Rest64}
-use Rattle.dns_fields.specs.Fields.{Field, number8, number16, number32, ipv4, ipv6, compressible, uncompressed, string, strings, tag, rest_text, rest16, rest64, kind_of, table, kinds_in, kinds_of, field_octets, string_octets, IsField, IsRow, IsData, typed, opaque}
+use Rattle.dns_scan.specs.CharStr.{string_wire}
+use Rattle.dns_fields.specs.Fields.{Field, number8, number16, number32, ipv4, ipv6, compressible, uncompressed, string, strings, tag, rest_text, rest16, rest64, kind_of, table, kinds_in, kinds_of, field_octets, IsField, IsRow, IsData, typed, opaque}
 use Rattle.dns_fields.specs.Reading.{ReadsField, ReadsFields, ReadsRow, AreSoleFields}
 use Rattle.dns_fields.proofs.ReadFields.{fixed_sole, number8_fixed, number16_fixed, number32_fixed, ipv4_fixed, ipv6_fixed, compressible_sole, uncompressed_sole, name_opened, name_read}
 use Rattle.dns_fields.proofs.ReadParts.{row_read, split_row, nothing_read, sole_row, sole_nothing}
@@ -42,9 +43,9 @@ module _ (front rest : List ℕ) where
   field_stands (ipv6 text) is = record { is_field = is; spelled = octets_stand text }
   field_stands (compressible name) is = record { is_field = is; spelled = name_read (name_stands name is) (name_within (wire name)) }
   field_stands (uncompressed name) is = record { is_field = is; spelled = name_read (name_stands name is) (name_within (wire name)) }
-  field_stands (string text) is = record { is_field = is; spelled = octets_stand (string_octets text) }
+  field_stands (string text) is = record { is_field = is; spelled = octets_stand (string_wire text) }
   field_stands (strings each) is = record { is_field = is; spelled = octets_stand (field_octets (strings each)) }
-  field_stands (tag text) is = record { is_field = is; spelled = octets_stand (string_octets text) }
+  field_stands (tag text) is = record { is_field = is; spelled = octets_stand (string_wire text) }
   field_stands (rest_text text) is = record { is_field = is; spelled = octets_stand text }
   field_stands (rest16 text) is = record { is_field = is; spelled = octets_stand text }
   field_stands (rest64 text) is = record { is_field = is; spelled = octets_stand text }

@@ -23,3 +23,4 @@ pub mod PrintedRows
 pub mod PrintedTokens
 pub mod ScannedOnce
 pub mod Unmarked
+mod Tried

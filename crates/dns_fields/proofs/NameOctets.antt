@@ -12,7 +12,7 @@ use Rattle.std.specs.Prelude.{Bool, nat_eq, IsTrue}
 use Rattle.std.specs.Cmp.Lexicographic.{pointwise}
 use lib.Pointwise.{bytes_decides}
 use Rattle.dns_label.specs.Name.{IsLabel, wire, labels_wire, with_root, low}
-use Rattle.dns_fields.specs.Fields.{string_octets}
+use Rattle.dns_scan.specs.CharStr.{string_wire}
 use Rattle.dns_wire.proofs.Case.{same_bool, wire_one}
 use Rattle.dns_wire.proofs.Wire.{labels_wire-with_root}
 use Rattle.dns_wire.proofs.Orders.{then_assoc, cmp_seam}
@@ -81,8 +81,8 @@ name_length labels name len is root = is ∙ ap (λ (l : List (List ℕ)). lengt
 
 -- so do the octets of strings, by their numbers
 pub string_seam : (string other : List ℕ) (more more' : List ℕ)
-    → slice_cmp nat_cmp (string_octets string ++ more) (string_octets other ++ more')
-    ≡ ordering_then (slice_cmp nat_cmp (string_octets string) (string_octets other)) (slice_cmp nat_cmp more more')
+    → slice_cmp nat_cmp (string_wire string ++ more) (string_wire other ++ more')
+    ≡ ordering_then (slice_cmp nat_cmp (string_wire string) (string_wire other)) (slice_cmp nat_cmp more more')
 string_seam string other more more' =
     head_seam (nat_cmp (length string) (length other)) _ _ (slice_cmp nat_cmp more more')
     (λ level. cmp_seam nat_cmp string other more more' (same (length string) (length other) level))

@@ -8,17 +8,18 @@ use Rattle.std.proofs.NetLemmas.Texts.{IsDotted-ipv4_text, IsColonHex-hex_groups
 use Rattle.std.proofs.NetLemmas.Alphabet.{All-ipv4_text, All-hex_groups_text}
 use Rattle.dns_octets.proofs.Addresses.{octets_of-segments_of}
 use Rattle.dns_label.specs.declared.symbol.Symbol.TheVariants.{Char, SimpleEscape, DecimalEscape}
-use Rattle.dns_label.specs.Symbol.{spelled}
+use Rattle.dns_label.specs.Symbol.{spelled, is_printable}
 use Rattle.dns_label.specs.Name.{IsName, wire}
 use Rattle.dns_label.specs.Printed.{is_special, printed_symbol, printed_label, printed_labels, printed_name}
-use Rattle.dns_flat.specs.PrintedLabels.{AreOctets}
-use Rattle.dns_scan.specs.StringText.{Spells, SpellsOnly, IsOctet, is_printable, between_quotes, quoted_text, unquoted_text}
+use Rattle.dns_label.specs.Octets.{AreOctets, IsOctet}
+use Rattle.dns_scan.specs.StringText.{Spells, SpellsOnly, between_quotes, quoted_text, unquoted_text}
 use Rattle.dns_scan.specs.declared.encoding.base.Base.TheVariants.{Sixteen, SixtyFour}
 use Rattle.dns_scan.specs.Encodings.{encoded_16, encoded_64, Decodes16, Decodes64}
 use Rattle.dns_scan.specs.Token.{Token, IsWord, IsEntry}
 use Rattle.dns_scan.proofs.Encodings.{text_decodes_only, chars-encoded}
 use Rattle.dns_text.specs.DocumentRows.{WritesToken}
-use Rattle.dns_fields.specs.Fields.{Field, number8, number16, number32, ipv4, ipv6, compressible, uncompressed, string, strings, tag, rest_text, rest16, rest64, kind_of, field_octets, string_octets, octets, IsField, IsString, IsRow}
+use Rattle.dns_scan.specs.CharStr.{string_wire}
+use Rattle.dns_fields.specs.Fields.{Field, number8, number16, number32, ipv4, ipv6, compressible, uncompressed, string, strings, tag, rest_text, rest16, rest64, kind_of, field_octets, octets, IsField, IsString, IsRow}
 use Rattle.dns_fields.specs.Shown.{row_tokens, one_unless_empty}
 use Rattle.dns_fields.specs.Scanned.{AreStrings, ScansField, ScansRow, ScansData}
 use Rattle.dns_fields.proofs.ComposedRows.{EndWell, Fit, fits}
@@ -79,13 +80,13 @@ module _ (quoted : (text : List ℕ) → AllByRecursion IsOctet text → SpellsO
   quoted_spells text each writes =
       subst (λ t. Spells t text) (sym (quoted_token (between_quotes text) writes refl)) (quoted text each).spells
 
-  strings_back : (each : List (List ℕ)) (tokens : List Token) → AllByRecursion IsString each → AllByRecursion IsOctet (flat_map string_octets each)
+  strings_back : (each : List (List ℕ)) (tokens : List Token) → AllByRecursion IsString each → AllByRecursion IsOctet (flat_map string_wire each)
       → AllZip WritesToken tokens (map quoted_text each) → AreStrings tokens each
   strings_back [] [] short small writes = tt
   strings_back [] (token ∷ tokens) short small writes = absurd writes
   strings_back (text ∷ each) [] short small writes = absurd writes
   strings_back (text ∷ each) (token ∷ tokens) short small writes =
-      let both = each_split IsOctet (string_octets text) (flat_map string_octets each) small in (
+      let both = each_split IsOctet (string_wire text) (flat_map string_wire each) small in (
         record { spells = quoted_spells text both.0.1 writes.0; short = short.0 },
         strings_back each tokens short.1 both.1 writes.1,
       )
@@ -213,7 +214,7 @@ module _ (in_quotes : (text : List ℕ) → AllByRecursion IsOctet text → Spel
     [],
     (
       each.0.0,
-      strings_back in_quotes texts tokens each.0.1 (each_split IsOctet (flat_map string_octets texts) [] small).0
+      strings_back in_quotes texts tokens each.0.1 (each_split IsOctet (flat_map string_wire texts) [] small).0
           (subst (λ (l : List (List ℕ)). AllZip WritesToken tokens l) (append-nil (map quoted_text texts)) writes),
       refl,
     ),

@@ -8,12 +8,12 @@ use Rattle.std.proofs.lemmas.Str.Parse.{digit_from_value}
 use Rattle.std.proofs.lemmas.Fmt.{decimal_is_IsNumeral, digits_decimal, digits_value-decimal, decimal_nonempty}
 use Rattle.std.specs.Str.Parse.{AllDigits}
 use Rattle.std.proofs.NetLemmas.Alphabet.{IsDigitOrDot, IsHexOrColon}
-use Rattle.dns_label.specs.Symbol.{IsPrintable, spelled}
+use Rattle.dns_label.specs.Symbol.{IsPrintable, spelled, is_plain}
 use Rattle.dns_label.specs.declared.symbol.Symbol.{Symbol}
 use Rattle.dns_values.specs.Mnemonic.{number_spelled}
 use Rattle.dns_values.proofs.Words.{digits_model, number_spelled-digits}
-use Rattle.dns_scan.specs.StringText.{IsOctet}
-use Rattle.dns_scan.specs.Token.{Token, is_plain, IsWord, unquoted}
+use Rattle.dns_label.specs.Octets.{IsOctet}
+use Rattle.dns_scan.specs.Token.{Token, IsWord, unquoted}
 use Rattle.dns_scan.specs.declared.encoding.base.Base.{Base}
 use Rattle.dns_scan.specs.declared.encoding.base.Base.TheVariants.{Sixteen, ThirtyTwoHex, SixtyFour}
 use Rattle.dns_scan.specs.Base.{IsCharacter, IsTextOf, Decodes, digit_64}

@@ -11,15 +11,16 @@ use Rattle.std.proofs.NetLemmas.Texts.{IsDotted-ipv4_text, IsColonHex-hex_groups
 use Rattle.std.proofs.NetLemmas.Alphabet.{All-ipv4_text, All-hex_groups_text}
 use Rattle.dns_label.specs.declared.symbol.Symbol.{Symbol}
 use Rattle.dns_label.specs.declared.symbol.Symbol.TheVariants.{Char, SimpleEscape, DecimalEscape}
-use Rattle.dns_label.specs.Symbol.{IsPrintable, IsNoDigit, spelled}
+use Rattle.dns_label.specs.Symbol.{IsPrintable, IsNoDigit, spelled, is_printable}
 use Rattle.dns_label.specs.Printed.{is_special, printed_symbol, printed_label, printed_labels, printed_name}
-use Rattle.dns_flat.specs.PrintedLabels.{AreOctets}
-use Rattle.dns_scan.specs.StringText.{IsOctet, is_printable, between_quotes, quoted_text, unquoted_text}
+use Rattle.dns_label.specs.Octets.{AreOctets, IsOctet}
+use Rattle.dns_scan.specs.StringText.{between_quotes, quoted_text, unquoted_text}
 use Rattle.dns_scan.specs.Encodings.{encoded_16, encoded_64}
 use Rattle.dns_scan.specs.Token.{Token}
 use Rattle.dns_text.specs.Tokens.{IsIn, stands_plain}
 use Rattle.dns_text.specs.DocumentRows.{AreSymbols, WritesToken, quoted as between, unquoted as bare}
-use Rattle.dns_fields.specs.Fields.{Field, number8, number16, number32, ipv4, ipv6, compressible, uncompressed, string, strings, tag, rest_text, rest16, rest64, field_octets, string_octets, octets, IsField}
+use Rattle.dns_scan.specs.CharStr.{string_wire}
+use Rattle.dns_fields.specs.Fields.{Field, number8, number16, number32, ipv4, ipv6, compressible, uncompressed, string, strings, tag, rest_text, rest16, rest64, field_octets, octets, IsField}
 use Rattle.dns_fields.specs.Shown.{field_tokens, row_tokens, one_unless_empty}
 use Rattle.dns_fields.proofs.PrintedTexts.{IsSafe, safe_decimal, safe_dotted, safe_colons, each_get, segments_small}
 use Rattle.dns_fields.proofs.PrintedRows.{escaped_in_words, each_split, wire_octets, safe_16, safe_64}
@@ -173,10 +174,10 @@ colons_some text segments (inr elided) =
     let whole : text ≡ marked ++ elided.tail_text = elided.spelled in
     omega (arith, ap (length {A = ℕ}) whole, length-append elided.head_text (58 ∷ 58 ∷ []), length-append marked elided.tail_text)
 
-strings_written : (texts : List (List ℕ)) → AllByRecursion IsOctet (flat_map string_octets texts) → AllByRecursion IsWritten (map quoted_text texts)
+strings_written : (texts : List (List ℕ)) → AllByRecursion IsOctet (flat_map string_wire texts) → AllByRecursion IsWritten (map quoted_text texts)
 strings_written [] small = tt
 strings_written (text ∷ texts) small =
-    let both = each_split IsOctet (string_octets text) (flat_map string_octets texts) small in
+    let both = each_split IsOctet (string_wire text) (flat_map string_wire texts) small in
     (quoted_written text both.0.1, strings_written texts both.1)
 
 pub rest_written : (text : List ℕ) → AllByRecursion IsSafe text → AllByRecursion IsWritten (one_unless_empty text)

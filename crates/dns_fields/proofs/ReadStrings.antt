@@ -5,38 +5,38 @@ use Rattle.dns_name.specs.Page.{Parts}
 use Rattle.dns_name.specs.Page.Parts.{End, Octets}
 use Rattle.dns_name.specs.SpelledParts.{Spells, nothing, octets}
 use Rattle.dns_wire.proofs.Flat.{same_front}
-use Rattle.dns_scan.specs.CharStr.{StartsWithString}
-use Rattle.dns_fields.specs.Fields.{Kind, String, Tag, RestText, Rest16, Rest64, Field, string, tag, rest_text, rest16, rest64, kind_of, string_octets}
+use Rattle.dns_scan.specs.CharStr.{StartsWithString, string_wire}
+use Rattle.dns_fields.specs.Fields.{Kind, String, Tag, RestText, Rest16, Rest64, Field, string, tag, rest_text, rest16, rest64, kind_of}
 use Rattle.dns_fields.specs.Reading.{read_field, ReadsField, ReadsFields, IsSoleField, AreSoleFields, NoField}
 use Rattle.dns_fields.proofs.FieldKinds.{of_string, of_tag, of_rest_text, of_rest16, of_rest64}
 use Rattle.dns_fields.proofs.ReadFields.{opened}
 
 pub string_read : {message text rest : List ℕ} {place next : ℕ} → StartsWithString (drop place message) text rest
-    → next ≡ place + length (string_octets text) → next ≤ length message → Spells message place (Octets (string_octets text) End) next
+    → next ≡ place + length (string_wire text) → next ≤ length message → Spells message place (Octets (string_wire text) End) next
 string_read {message} {text} {rest} {place} {next} starts ends fits =
-    subst (λ n. Spells message place (Octets (string_octets text) End) n) (sym ends)
+    subst (λ n. Spells message place (Octets (string_wire text) End) n) (sym ends)
     (octets rest starts.spelled (nothing (omega (arith, ends, fits))))
 
 -- a string ends at one place
-string_one : (message text other : List ℕ) (place next end : ℕ) → Spells message place (Octets (string_octets text) End) next
-    → Spells message place (Octets (string_octets other) End) end → (other ≡ text) × (end ≡ next)
+string_one : (message text other : List ℕ) (place next end : ℕ) → Spells message place (Octets (string_wire text) End) next
+    → Spells message place (Octets (string_wire other) End) end → (other ≡ text) × (end ≡ next)
 string_one message text other place next end this that =
     let here = opened this in
     let there = opened that in
-    let same : string_octets other ++ there.rest ≡ string_octets text ++ here.rest = sym there.at ∙ here.at in
+    let same : string_wire other ++ there.rest ≡ string_wire text ++ here.rest = sym there.at ∙ here.at in
     let long : length other ≡ length text = cc in
     let tails : other ++ there.rest ≡ text ++ here.rest = cc in
     let fronts = same_front other text there.rest here.rest tails long in
     (fronts.0, omega (arith, here.ends, there.ends, long))
 
-pub string_sole : {message text : List ℕ} {place next : ℕ} → Spells message place (Octets (string_octets text) End) next
+pub string_sole : {message text : List ℕ} {place next : ℕ} → Spells message place (Octets (string_wire text) End) next
     → IsSoleField message place (string text) next
 string_sole {message} {text} {place} {next} this = record {
   sole = λ other end same. of_string (λ f. ReadsField message place f end → (f ≡ string text) × (end ≡ next)) other
       (λ found there. let one = string_one message text found place next end this there.spelled in (ap string one.0, one.1)) same;
 }
 
-pub tag_sole : {message text : List ℕ} {place next : ℕ} → Spells message place (Octets (string_octets text) End) next
+pub tag_sole : {message text : List ℕ} {place next : ℕ} → Spells message place (Octets (string_wire text) End) next
     → IsSoleField message place (tag text) next
 tag_sole {message} {text} {place} {next} this = record {
   sole = λ other end same. of_tag (λ f. ReadsField message place f end → (f ≡ tag text) × (end ≡ next)) other

@@ -8,7 +8,8 @@ use Rattle.dns_text.specs.Document.{Piece}
 use Rattle.dns_text.specs.Document.Piece.{Token as Shown}
 use Rattle.dns_text.specs.Writing.{Adds}
 use Rattle.dns_text.proofs.Writings.{adds_append}
-use Rattle.dns_fields.specs.Fields.{Strings, IsString, strings, string_octets}
+use Rattle.dns_scan.specs.CharStr.{string_wire}
+use Rattle.dns_fields.specs.Fields.{Strings, IsString, strings}
 use Rattle.dns_fields.specs.Scanned.{AreStrings, ScansField, NoRowScans}
 use Rattle.dns_fields.specs.Shown.{field_pieces}
 use Rattle.dns_fields.specs.Strings.{AreStringOctets}
@@ -21,7 +22,7 @@ record Entry (tokens : List Token) (octets : List ℕ) : Type 0 where
   each : List (List ℕ)
   are : AreStrings tokens each
   short : AllByRecursion IsString each
-  written : octets ≡ flat_map string_octets each
+  written : octets ≡ flat_map string_wire each
 
 entry : (tokens : List Token) (octets : List ℕ) → IsEntry IsStringOnWire tokens octets → Entry tokens octets
 entry [] octets is = record { each = []; are = tt; short = tt; written = is }
@@ -32,7 +33,7 @@ entry (token ∷ tokens) octets is =
       each = string ∷ on.each;
       are = (is.2.1, on.are);
       short = (is.2.1.short, on.short);
-      written = is.4 ∙ ap (λ l. l ++ is.1) is.2.2 ∙ ap (λ l. string_octets string ++ l) on.written;
+      written = is.4 ∙ ap (λ l. l ++ is.1) is.2.2 ∙ ap (λ l. string_wire string ++ l) on.written;
     }
 
 some_strings : (tokens : List Token) (each : List (List ℕ)) → (tokens ≡ [] → ⊥) → AreStrings tokens each → 0 < length each
@@ -48,24 +49,24 @@ entry_strings tokens octets some is =
 
 -- they are those that the tokens spell
 pub entry_scanned : (names : List ℕ → List (List ℕ) → Type 0) (tokens left : List Token) (octets : List ℕ) (each : List (List ℕ)) → (tokens ≡ [] → ⊥)
-    → IsEntry IsStringOnWire tokens octets → octets ≡ flat_map string_octets each → left ≡ [] → ScansField names (strings each) tokens left
+    → IsEntry IsStringOnWire tokens octets → octets ≡ flat_map string_wire each → left ≡ [] → ScansField names (strings each) tokens left
 entry_scanned names tokens left octets each some is written ends =
     let all = entry tokens octets is in
     let same : all.each ≡ each = strings_one all.each each (sym all.written ∙ written) in
     subst (λ (l : List (List ℕ)). ScansField names (strings l) tokens left) same (some_strings tokens all.each some all.are, all.are, ends)
 
-entry_back : (tokens : List Token) (each : List (List ℕ)) → AreStrings tokens each → IsEntry IsStringOnWire tokens (flat_map string_octets each)
+entry_back : (tokens : List Token) (each : List (List ℕ)) → AreStrings tokens each → IsEntry IsStringOnWire tokens (flat_map string_wire each)
 entry_back [] [] are = refl
 entry_back [] (string ∷ each) are = absurd are
 entry_back (token ∷ tokens) [] are = absurd are
 entry_back (token ∷ tokens) (string ∷ each) are =
-    (string_octets string, flat_map string_octets each, (string, are.0, refl), entry_back tokens each are.1, refl)
+    (string_wire string, flat_map string_wire each, (string, are.0, refl), entry_back tokens each are.1, refl)
 
 pub no_strings : (names : List ℕ → List (List ℕ) → Type 0) (tokens : List Token) → ((octets : List ℕ) → IsEntry IsStringOnWire tokens octets → ⊥)
     → NoRowScans names (Strings ∷ []) tokens
 no_strings names tokens none =
     one_field names tokens Strings
-    (λ field left is. of_strings (λ f. ScansField names f tokens left → ⊥) field (λ each scans. none (flat_map string_octets each) (entry_back tokens each scans.1)) is)
+    (λ field left is. of_strings (λ f. ScansField names f tokens left → ⊥) field (λ each scans. none (flat_map string_wire each) (entry_back tokens each scans.1)) is)
 
 pub no_tokens : (names : List ℕ → List (List ℕ) → Type 0) (tokens : List Token) → ((tokens ≡ [] → ⊥) → ⊥) → NoRowScans names (Strings ∷ []) tokens
 no_tokens names tokens none =

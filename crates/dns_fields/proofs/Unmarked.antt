@@ -6,9 +6,10 @@ use Rattle.std.specs.Net.Addr.{segments_of}
 use Rattle.std.specs.Net.Text.{ipv4_text, hex_groups_text}
 use Rattle.std.proofs.NetLemmas.Alphabet.{All-ipv4_text, All-hex_groups_text}
 use Rattle.dns_label.specs.declared.symbol.Symbol.TheVariants.{Char, SimpleEscape, DecimalEscape}
-use Rattle.dns_label.specs.Symbol.{spelled}
+use Rattle.dns_label.specs.Symbol.{spelled, is_printable}
 use Rattle.dns_label.specs.Printed.{is_special, printed_symbol, printed_label, printed_labels, printed_name}
-use Rattle.dns_scan.specs.StringText.{IsOctet, is_printable, quoted_text, unquoted_text}
+use Rattle.dns_label.specs.Octets.{IsOctet}
+use Rattle.dns_scan.specs.StringText.{quoted_text, unquoted_text}
 use Rattle.dns_scan.specs.Encodings.{encoded_16, encoded_64}
 use Rattle.dns_scan.specs.Token.{Token, marker}
 use Rattle.dns_text.specs.DocumentRows.{WritesToken, quoted as between, unquoted as bare}

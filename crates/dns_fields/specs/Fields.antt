@@ -3,6 +3,7 @@ use Rattle.std.specs.Prelude.{◌≡◌, ◌==◌, ◌<◌, ◌≤◌, ◌^◌, 
 use Rattle.std.specs.Prelude.{if◌then◌else◌, ⊤}
 use Rattle.std.specs.List.{AllByRecursion, flat_map}
 use Rattle.std.specs.Int.{to_be_bytes, w16, w32}
+use Rattle.dns_scan.specs.CharStr.{string_wire}
 use Rattle.dns_label.specs.Name.{IsName, wire, low}
 
 -- the kinds of fields
@@ -92,10 +93,6 @@ kinds_in (row ∷ rows) rtype = if rtype == row.0 then Some row.1 else kinds_in 
 abbrev pub kinds_of : ℕ → Option (List Kind)
 kinds_of rtype = kinds_in table rtype
 
--- a string behind its length
-abbrev pub string_octets : List ℕ → List ℕ
-string_octets octets = length octets ∷ octets
-
 abbrev pub IsString : List ℕ → Type 0
 IsString octets = length octets ≤ 255
 
@@ -124,9 +121,9 @@ field_octets (ipv4 octets) = octets
 field_octets (ipv6 octets) = octets
 field_octets (compressible name) = wire name
 field_octets (uncompressed name) = wire name
-field_octets (string octets) = string_octets octets
-field_octets (strings each) = flat_map string_octets each
-field_octets (tag octets) = string_octets octets
+field_octets (string octets) = string_wire octets
+field_octets (strings each) = flat_map string_wire each
+field_octets (tag octets) = string_wire octets
 field_octets (rest_text octets) = octets
 field_octets (rest16 octets) = octets
 field_octets (rest64 octets) = octets

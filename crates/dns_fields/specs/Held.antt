@@ -3,7 +3,8 @@ use Rattle.std.specs.Prelude.{◌≤◌, ℕ, Bool, true, false, IsTrue, List, [
 use Rattle.std.specs.List.{flat_map, list_any}
 use Rattle.dns_label.specs.Name.{wire}
 use Rattle.dns_octets.specs.Builder.{IsPast}
-use Rattle.dns_fields.specs.Fields.{Field, number8, number16, number32, ipv4, ipv6, compressible, uncompressed, string, strings, tag, rest_text, rest16, rest64, string_octets, octets}
+use Rattle.dns_scan.specs.CharStr.{string_wire}
+use Rattle.dns_fields.specs.Fields.{Field, number8, number16, number32, ipv4, ipv6, compressible, uncompressed, string, strings, tag, rest_text, rest16, rest64, octets}
 
 -- the octets that a value of the field holds: those of a name or a rest as they are written, those of a string without its
 -- length; a number or an address holds none
@@ -16,7 +17,7 @@ held_octets (ipv6 octets) = []
 held_octets (compressible name) = wire name
 held_octets (uncompressed name) = wire name
 held_octets (string octets) = octets
-held_octets (strings each) = flat_map string_octets each
+held_octets (strings each) = flat_map string_wire each
 held_octets (tag octets) = octets
 held_octets (rest_text octets) = octets
 held_octets (rest16 octets) = octets

@@ -11,4 +11,3 @@ pub mod Shown
 pub mod Comments
 pub mod Strings
 pub mod Held
-pub mod Tried

@@ -3,7 +3,7 @@ use Rattle.std.specs.Prelude.{◌≡◌, ℕ, List}
 use Rattle.std.specs.List.{AllByRecursion}
 use Rattle.dns_label.specs.Name.{IsName}
 use Rattle.dns_label.specs.Printed.{printed_name}
-use Rattle.dns_flat.specs.PrintedLabels.{AreOctets}
+use Rattle.dns_label.specs.Octets.{AreOctets}
 
 -- each name is spelled by the text that it is printed as (RFC 1035 5.1)
 abbrev pub SpellPrinted : (List ℕ → List (List ℕ) → Type 0) → Type 0

@@ -1,7 +1,8 @@
 -- One or more strings up to the end, as octets (RFC 1035 3.3.14).
 use Rattle.std.specs.Prelude.{◌≡◌, ℕ, zero, suc, List, [], ◌∷◌, length, take, drop}
 use Rattle.std.specs.List.{AllByRecursion, flat_map}
-use Rattle.dns_fields.specs.Fields.{IsField, IsString, strings, string_octets, field_octets}
+use Rattle.dns_scan.specs.CharStr.{string_wire}
+use Rattle.dns_fields.specs.Fields.{IsField, IsString, strings, field_octets}
 
 -- the octets are one or more strings
 pub record AreStringOctets (octets : List ℕ) : Type 0 where
@@ -22,4 +23,4 @@ strings_of octets = first_strings (length octets) octets
 -- the strings that octets are cut into make them up
 pub record AreCut (octets : List ℕ) : Type 0 where
   pub short : AllByRecursion IsString (strings_of octets)
-  pub written : flat_map string_octets (strings_of octets) ≡ octets
+  pub written : flat_map string_wire (strings_of octets) ≡ octets

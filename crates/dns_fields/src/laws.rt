@@ -3,8 +3,8 @@ ghost use Rattle.std.specs.Prelude.{◌≡◌, ◌++◌, [], Some, ℕ, List, Is
 ghost use Rattle.std.specs.Cmp.Lexicographic.{slice_cmp};
 ghost use Rattle.std.specs.List.{AllByRecursion, AllZip};
 ghost use Rattle.std.specs.Ordering.{is_eq, nat_cmp};
+ghost use Rattle.dns_label.specs.Octets.{AreOctets};
 ghost use Rattle.dns_label.specs.NameText.{IsNameText};
-ghost use Rattle.dns_scan.specs.StringText.{IsOctet};
 ghost use Rattle.dns_scan.specs.Token.{Token};
 ghost use Rattle.dns_text.specs.DocumentRows.{WritesToken};
 ghost use Rattle.dns_fields.specs.Alike.{keys, rows_eq, rows_cmp, canonical_rows_cmp};
@@ -38,14 +38,14 @@ pub fn data_is_read_as_one_row()
 /// the scanner by the text that it is printed as (RFC 1035 5.1); and as no other row of the type, nor with tokens left, where a
 /// text is one name at most. There are such tokens unless the row has an empty tag, which is printed as no text.
 pub fn printed_data_scans_back<S: Scanner>(scanner: &S)
-    ensures written { (rtype : ℕ) (row : List Field) → IsRow rtype row → AllByRecursion IsOctet (octets row)
+    ensures written { (rtype : ℕ) (row : List Field) → IsRow rtype row → AreOctets (octets row)
         → AllByRecursion (λ field. field ≡ tag [] → ⊥) row → (tokens : List Token) × AllZip WritesToken tokens (row_tokens row) }
     ensures scans { (rtype : ℕ) (row : List Field) (tokens : List Token) → IsRow rtype row
-        → AllByRecursion IsOctet (octets row)
+        → AreOctets (octets row)
         → SpellPrinted (S.names scanner.now)
         → AllZip WritesToken tokens (row_tokens row) → ScansData (S.names scanner.now) rtype row tokens [] }
     ensures alone { (rtype : ℕ) (row other : List Field) (tokens left : List Token) → IsRow rtype row
-        → AllByRecursion IsOctet (octets row) → SpellPrinted (S.names scanner.now) → SpellOne (S.names scanner.now)
+        → AreOctets (octets row) → SpellPrinted (S.names scanner.now) → SpellOne (S.names scanner.now)
         → AllZip WritesToken tokens (row_tokens row) → ScansData (S.names scanner.now) rtype other tokens left
         → (other ≡ row) × (left ≡ []) }
 {

@@ -6,7 +6,8 @@ use Rattle.std.proofs.Math.Seq.{take-append_seam, drop-append_seam}
 use Rattle.std.proofs.lemmas.Grind.{flat_map-append}
 use Rattle.std.proofs.lemmas.List.{drop-drop, take-append-drop}
 use Rattle.std.proofs.lemmas.List.Folds.{concat-append}
-use Rattle.dns_fields.specs.Fields.{IsString, string_octets}
+use Rattle.dns_scan.specs.CharStr.{string_wire}
+use Rattle.dns_fields.specs.Fields.{IsString}
 use Rattle.dns_fields.specs.Strings.{strings_of}
 use Rattle.dns_fields.proofs.StringsOf.{strings_of-written}
 use Rattle.dns_rr_octets.specs.Built.{Built, GoesOn, IsCut, StandsFor, AddsText, built_of, open_string, open_place, some_strings, strings_built, strings_len, text_len}
@@ -19,7 +20,7 @@ pub record Taken (text rest old now : List ℕ) : Type 0 where
   pub full : List (List ℕ)
   pub whole : text ≡ concat full ++ rest
   pub each : AllByRecursion IsFull full
-  pub written : now ≡ old ++ flat_map string_octets full
+  pub written : now ≡ old ++ flat_map string_wire full
 
 pub taken_nothing : (text old : List ℕ) → Taken text text old old
 taken_nothing text old = record { full = []; whole = refl; each = tt; written = sym (append-nil old) }
@@ -29,26 +30,26 @@ all_more P [] back each all = all
 all_more P (string ∷ front) back each all = (each.0, all_more P front back each.1 all)
 
 pub taken_more : {text rest old now behind new : List ℕ} (string : List ℕ) → Taken text rest old now → rest ≡ string ++ behind → length string ≡ 255
-    → new ≡ now ++ string_octets string → Taken text behind old new
+    → new ≡ now ++ string_wire string → Taken text behind old new
 taken_more {text = text} {old = old} {behind = behind} string taken is long on = record {
   full = taken.full ++ string ∷ [];
   whole = taken.whole ∙ ap (λ l. concat taken.full ++ l) is ∙ sym (append_assoc (concat taken.full) string behind)
       ∙ ap (λ l. l ++ behind) (sym (concat-append taken.full (string ∷ []) ∙ ap (λ l. concat taken.full ++ l) (append-nil string)));
   each = all_more IsFull taken.full (string ∷ []) taken.each (long, tt);
-  written = on ∙ ap (λ l. l ++ string_octets string) taken.written ∙ append_assoc old (flat_map string_octets taken.full) (string_octets string)
-      ∙ ap (λ l. old ++ l) (sym (flat_map-append string_octets taken.full (string ∷ []) ∙ ap (λ l. flat_map string_octets taken.full ++ l) (append-nil (string_octets string))));
+  written = on ∙ ap (λ l. l ++ string_wire string) taken.written ∙ append_assoc old (flat_map string_wire taken.full) (string_wire string)
+      ∙ ap (λ l. old ++ l) (sym (flat_map-append string_wire taken.full (string ∷ []) ∙ ap (λ l. flat_map string_wire taken.full ++ l) (append-nil (string_wire string))));
 }
 
 -- the octets in front stay
 pub taken_kept : {text rest old now : List ℕ} → Taken text rest old now → take (length old) now ≡ old
-taken_kept {old = old} taken = ap (take (length old)) taken.written ∙ take-append_seam old (flat_map string_octets taken.full)
+taken_kept {old = old} taken = ap (take (length old)) taken.written ∙ take-append_seam old (flat_map string_wire taken.full)
 
 pub taken_all : {text rest old now : List ℕ} → Taken text rest old now → rest ≡ [] → AddsText old text now None
 taken_all {text = text} {old = old} taken none = record {
   full = taken.full;
   rest = [];
   cut = record { whole = taken.whole ∙ ap (λ l. concat taken.full ++ l) none; each = taken.each; short = omega arith };
-  written = taken.written ∙ ap (λ l. old ++ flat_map string_octets l) (sym (append-nil taken.full));
+  written = taken.written ∙ ap (λ l. old ++ flat_map string_wire l) (sym (append-nil taken.full));
   place = refl;
 }
 
@@ -61,15 +62,15 @@ open_at place [] some = absurd (omega arith)
 open_at place (octet ∷ rest) some = refl
 
 pub taken_rest : {text rest old now new : List ℕ} (place : ℕ) → Taken text rest old now → 0 < length rest → length rest < 255
-    → new ≡ now ++ string_octets rest → place ≡ length now → AddsText old text new (Some place)
+    → new ≡ now ++ string_wire rest → place ≡ length now → AddsText old text new (Some place)
 taken_rest {rest = rest} {old = old} place taken some short on at = record {
   full = taken.full;
   rest = rest;
   cut = record { whole = taken.whole; each = taken.each; short = short };
-  written = on ∙ ap (λ l. l ++ string_octets rest) taken.written ∙ append_assoc old (flat_map string_octets taken.full) (string_octets rest)
-      ∙ ap (λ l. old ++ l) (ap (λ l. flat_map string_octets taken.full ++ l) (sym (append-nil (string_octets rest))) ∙ sym (flat_map-append string_octets taken.full (rest ∷ [])))
-      ∙ ap (λ l. old ++ flat_map string_octets (taken.full ++ l)) (sym (open_one rest some));
-  place = ap Some (at ∙ ap (length {A = ℕ}) taken.written ∙ length-append old (flat_map string_octets taken.full))
+  written = on ∙ ap (λ l. l ++ string_wire rest) taken.written ∙ append_assoc old (flat_map string_wire taken.full) (string_wire rest)
+      ∙ ap (λ l. old ++ l) (ap (λ l. flat_map string_wire taken.full ++ l) (sym (append-nil (string_wire rest))) ∙ sym (flat_map-append string_wire taken.full (rest ∷ [])))
+      ∙ ap (λ l. old ++ flat_map string_wire (taken.full ++ l)) (sym (open_one rest some));
+  place = ap Some (at ∙ ap (length {A = ℕ}) taken.written ∙ length-append old (flat_map string_wire taken.full))
       ∙ sym (open_at (length old + strings_len taken.full) rest some);
 }
 
@@ -97,8 +98,8 @@ adds_open old text place count within on is size some short =
       cut = record { whole = refl; each = tt; short = omega (arith, size) };
       written = is ∙ ap (λ (l : List ℕ). set l place count) on ∙ set_parts old text place count within
           ∙ ap (λ (n : ℕ). take place old ++ n ∷ rest) size
-          ∙ ap (λ l. take place old ++ l) (sym (append-nil (string_octets rest)))
-          ∙ ap (λ l. take place old ++ flat_map string_octets l) (sym one);
+          ∙ ap (λ l. take place old ++ l) (sym (append-nil (string_wire rest)))
+          ∙ ap (λ l. take place old ++ flat_map string_wire l) (sym one);
       place = sym (open_at (length (take place old) + 0) rest (omega (arith, size)) ∙ ap Some (omega (arith, at)));
     }
 
@@ -110,12 +111,12 @@ adds_full {mid = mid} {behind = behind} {head = head} old first others place wit
     let begun = drop (place + 1) old in
     let front = take place old in
     let string = begun ++ first in
-    let more = flat_map string_octets (adds.full ++ open_string adds.rest) in
+    let more = flat_map string_wire (adds.full ++ open_string adds.rest) in
     let at : length front ≡ place = omega (arith, length-take place old) in
     let all : length mid ≡ place + 256 =
     omega (arith, ap (length {A = ℕ}) on, length-append old first, length-append begun first, length-drop (place + 1) old) in
     let seam : length front + strings_len (string ∷ adds.full) ≡ length mid + strings_len adds.full =
-    omega (arith, length-append (string_octets string) (flat_map string_octets adds.full)) in
+    omega (arith, length-append (string_wire string) (flat_map string_wire adds.full)) in
     record {
       full = string ∷ adds.full;
       rest = adds.rest;
@@ -138,12 +139,12 @@ full_len [] each = (refl, refl)
 full_len (string ∷ full) each =
     let others = full_len full each.1 in (
       omega (arith, each.0, others.0, length-append string (concat full)),
-      omega (arith, each.0, others.1, length-append string (flat_map string_octets full)),
+      omega (arith, each.0, others.1, length-append string (flat_map string_wire full)),
     )
 
 open_len : (rest : List ℕ) → 0 < length rest → strings_len (open_string rest) ≡ 1 + length rest
 open_len [] some = absurd (omega arith)
-open_len (octet ∷ rest) some = omega (arith, ap (length {A = ℕ}) (append-nil (string_octets (octet ∷ rest))))
+open_len (octet ∷ rest) some = omega (arith, ap (length {A = ℕ}) (append-nil (string_wire (octet ∷ rest))))
 
 rest_len : (count : ℕ) (rest : List ℕ) → length rest < 255
     → 256 * count + strings_len (open_string rest) ≡ text_len (255 * count + length rest)
@@ -155,14 +156,14 @@ cut_len {text = text} {rest = rest} {full = full} cut =
     let fulls = full_len full cut.each in
     let size : 255 * length full + length rest ≡ length text =
     omega (arith, fulls.0, ap (length {A = ℕ}) cut.whole, length-append (concat full) rest) in
-    ap (length {A = ℕ}) (flat_map-append string_octets full (open_string rest))
-    ∙ length-append (flat_map string_octets full) (flat_map string_octets (open_string rest))
+    ap (length {A = ℕ}) (flat_map-append string_wire full (open_string rest))
+    ∙ length-append (flat_map string_wire full) (flat_map string_wire (open_string rest))
     ∙ ap (λ (n : ℕ). n + strings_len (open_string rest)) fulls.1
     ∙ rest_len (length full) rest cut.short ∙ ap text_len size
 
 pub adds_len : {old text new : List ℕ} {head : Option ℕ} → AddsText old text new head → length new ≡ length old + text_len (length text)
 adds_len {old = old} adds =
-    ap (length {A = ℕ}) adds.written ∙ length-append old (flat_map string_octets (adds.full ++ open_string adds.rest))
+    ap (length {A = ℕ}) adds.written ∙ length-append old (flat_map string_wire (adds.full ++ open_string adds.rest))
     ∙ ap (λ (n : ℕ). length old + n) (cut_len adds.cut)
 
 pub parted : (text front back : List ℕ) (n : ℕ) → front ≡ take n text → back ≡ drop n text → text ≡ front ++ back
@@ -177,15 +178,15 @@ cut_back old first mid now on kept is =
     ap (λ (n : ℕ). take n now) is ∙ ap (take (length old)) whole ∙ take-append_seam old (first ++ tail)
 
 -- what a contract sees is what the octets stand for
-front_wire : (octets : List ℕ) (closed : List (List ℕ)) (text : List ℕ) → octets ≡ flat_map string_octets (closed ++ text ∷ [])
-    → octets ≡ flat_map string_octets closed ++ string_octets text
+front_wire : (octets : List ℕ) (closed : List (List ℕ)) (text : List ℕ) → octets ≡ flat_map string_wire (closed ++ text ∷ [])
+    → octets ≡ flat_map string_wire closed ++ string_wire text
 front_wire octets closed text is =
-    is ∙ flat_map-append string_octets closed (text ∷ []) ∙ ap (λ l. flat_map string_octets closed ++ l) (append-nil (string_octets text))
+    is ∙ flat_map-append string_wire closed (text ∷ []) ∙ ap (λ l. flat_map string_wire closed ++ l) (append-nil (string_wire text))
 
 -- where a string is open
 pub record IsOpen (octets : List ℕ) (place : ℕ) (built : Built) : Type 0 where
   pub at : place ≡ strings_len built.closed
-  pub front : take place octets ≡ flat_map string_octets built.closed
+  pub front : take place octets ≡ flat_map string_wire built.closed
   pub behind : drop (place + 1) octets ≡ built.begun
   pub some : 0 < length built.begun
   pub size : length octets ≡ place + 1 + length built.begun
@@ -193,30 +194,30 @@ pub record IsOpen (octets : List ℕ) (place : ℕ) (built : Built) : Type 0 whe
 pub stands_open : (octets : List ℕ) (place : ℕ) (built : Built) → StandsFor octets (Some place) built → IsOpen octets place built
 stands_open octets place built stands = by built.begun built.closed stands.whole stands.place
   where
-    by : (begun : List ℕ) (closed : List (List ℕ)) → octets ≡ flat_map string_octets (closed ++ open_string begun) → Some place ≡ open_place (strings_len closed) begun
+    by : (begun : List ℕ) (closed : List (List ℕ)) → octets ≡ flat_map string_wire (closed ++ open_string begun) → Some place ≡ open_place (strings_len closed) begun
         → IsOpen octets place (record { closed = closed; begun = begun })
     by [] closed whole is = let no : Some place ≡ None = is in absurd (cc)
     by (octet ∷ begun) closed whole is =
         let text = octet ∷ begun in
         let wire = front_wire octets closed text whole in
         let at : place ≡ strings_len closed = let is : Some place ≡ Some (strings_len closed) = is in cc in
-        let ends = flat_map string_octets closed in
+        let ends = flat_map string_wire closed in
         record {
           at = at;
-          front = ap (λ (n : ℕ). take n octets) at ∙ ap (take (length ends)) wire ∙ take-append_seam ends (string_octets text);
+          front = ap (λ (n : ℕ). take n octets) at ∙ ap (take (length ends)) wire ∙ take-append_seam ends (string_wire text);
           behind = ap (λ (n : ℕ). drop (n + 1) octets) at ∙ sym (drop-drop 1 (length ends) octets)
-              ∙ ap (drop 1) (ap (drop (length ends)) wire ∙ drop-append_seam ends (string_octets text));
+              ∙ ap (drop 1) (ap (drop (length ends)) wire ∙ drop-append_seam ends (string_wire text));
           some = omega arith;
-          size = omega (arith, at, ap (length {A = ℕ}) wire, length-append ends (string_octets text));
+          size = omega (arith, at, ap (length {A = ℕ}) wire, length-append ends (string_wire text));
         }
 
 -- where none is
-pub stands_closed : (octets : List ℕ) (built : Built) → StandsFor octets None built → (octets ≡ flat_map string_octets built.closed) × (built.begun ≡ [])
+pub stands_closed : (octets : List ℕ) (built : Built) → StandsFor octets None built → (octets ≡ flat_map string_wire built.closed) × (built.begun ≡ [])
 stands_closed octets built stands = by built.begun built.closed stands.whole stands.place
   where
-    by : (begun : List ℕ) (closed : List (List ℕ)) → octets ≡ flat_map string_octets (closed ++ open_string begun) → None ≡ open_place (strings_len closed) begun
-        → (octets ≡ flat_map string_octets closed) × (begun ≡ [])
-    by [] closed whole is = (whole ∙ ap (flat_map string_octets) (append-nil closed), refl)
+    by : (begun : List ℕ) (closed : List (List ℕ)) → octets ≡ flat_map string_wire (closed ++ open_string begun) → None ≡ open_place (strings_len closed) begun
+        → (octets ≡ flat_map string_wire closed) × (begun ≡ [])
+    by [] closed whole is = (whole ∙ ap (flat_map string_wire) (append-nil closed), refl)
     by (octet ∷ begun) closed whole is = let no : None ≡ Some (strings_len closed) = is in absurd (cc)
 
 pub stands_is : (octets : List ℕ) (head : Option ℕ) (built : Built) → StandsFor octets head built → built_of octets head ≡ built
@@ -259,12 +260,12 @@ pub strings_each : {octets : List ℕ} {head : Option ℕ} {built : Built} → S
 strings_each {built = built} stands = all_more IsString built.closed (open_string built.begun) stands.each (open_strings built.begun stands.short)
 
 -- with no string open, these are all
-pub stands_whole : {octets : List ℕ} (each : List (List ℕ)) → AllByRecursion IsString each → octets ≡ flat_map string_octets each
+pub stands_whole : {octets : List ℕ} (each : List (List ℕ)) → AllByRecursion IsString each → octets ≡ flat_map string_wire each
     → length octets ≤ 65535 → StandsFor octets None (record { closed = each; begun = [] })
 stands_whole each short is few = record {
   each = short;
   short = omega arith;
-  whole = is ∙ ap (flat_map string_octets) (sym (append-nil each));
+  whole = is ∙ ap (flat_map string_wire) (sym (append-nil each));
   few = few;
   place = refl;
 }
@@ -273,15 +274,15 @@ pub stands_ended : {octets : List ℕ} {head : Option ℕ} {built : Built} → S
     → StandsFor octets None (record { closed = strings_built built; begun = [] })
 stands_ended {built = built} stands = stands_whole (strings_built built) (strings_each stands) stands.whole stands.few
 
-pub string_more : {octets new : List ℕ} {head : Option ℕ} {built : Built} (string : List ℕ) → StandsFor octets head built → new ≡ octets ++ string_octets string
-    → new ≡ flat_map string_octets (strings_built built ++ string ∷ [])
+pub string_more : {octets new : List ℕ} {head : Option ℕ} {built : Built} (string : List ℕ) → StandsFor octets head built → new ≡ octets ++ string_wire string
+    → new ≡ flat_map string_wire (strings_built built ++ string ∷ [])
 string_more {built = built} string stands is =
-    is ∙ ap (λ l. l ++ string_octets string) stands.whole
-    ∙ ap (λ l. flat_map string_octets (strings_built built) ++ l) (sym (append-nil (string_octets string)))
-    ∙ sym (flat_map-append string_octets (strings_built built) (string ∷ []))
+    is ∙ ap (λ l. l ++ string_wire string) stands.whole
+    ∙ ap (λ l. flat_map string_wire (strings_built built) ++ l) (sym (append-nil (string_wire string)))
+    ∙ sym (flat_map-append string_wire (strings_built built) (string ∷ []))
 
 pub stands_string : {octets new : List ℕ} {head : Option ℕ} {built : Built} (string : List ℕ) → StandsFor octets head built → IsString string
-    → new ≡ octets ++ string_octets string → length new ≤ 65535
+    → new ≡ octets ++ string_wire string → length new ≤ 65535
     → StandsFor new None (record { closed = strings_built built ++ string ∷ []; begun = [] })
 stands_string {built = built} string stands short is few =
     stands_whole (strings_built built ++ string ∷ []) (all_more IsString (strings_built built) (string ∷ []) (strings_each stands) (short, tt))
@@ -289,20 +290,20 @@ stands_string {built = built} string stands short is few =
 
 -- the open string goes on
 pub stands_adds : {octets new : List ℕ} {head next : Option ℕ} (built : Built) (text : List ℕ) → StandsFor octets head built
-    → (adds : AddsText (flat_map string_octets built.closed) (built.begun ++ text) new next) → length new ≤ 65535
+    → (adds : AddsText (flat_map string_wire built.closed) (built.begun ++ text) new next) → length new ≤ 65535
     → StandsFor new next (record { closed = built.closed ++ adds.full; begun = adds.rest })
 stands_adds built text stands adds few = record {
   each = all_more IsString built.closed adds.full stands.each (full_strings adds.full adds.cut.each);
   short = adds.cut.short;
-  whole = adds.written ∙ sym (flat_map-append string_octets built.closed (adds.full ++ open_string adds.rest))
-      ∙ ap (flat_map string_octets) (sym (append_assoc built.closed adds.full (open_string adds.rest)));
+  whole = adds.written ∙ sym (flat_map-append string_wire built.closed (adds.full ++ open_string adds.rest))
+      ∙ ap (flat_map string_wire) (sym (append_assoc built.closed adds.full (open_string adds.rest)));
   few = few;
   place = adds.place
-      ∙ ap (λ (n : ℕ). open_place n adds.rest) (sym (ap (length {A = ℕ}) (flat_map-append string_octets built.closed adds.full) ∙ length-append (flat_map string_octets built.closed) (flat_map string_octets adds.full)));
+      ∙ ap (λ (n : ℕ). open_place n adds.rest) (sym (ap (length {A = ℕ}) (flat_map-append string_wire built.closed adds.full) ∙ length-append (flat_map string_wire built.closed) (flat_map string_wire adds.full)));
 }
 
 pub adds_going : {new : List ℕ} {next : Option ℕ} (built : Built) (text : List ℕ)
-    → (adds : AddsText (flat_map string_octets built.closed) (built.begun ++ text) new next)
+    → (adds : AddsText (flat_map string_wire built.closed) (built.begun ++ text) new next)
     → GoesOn built text (record { closed = built.closed ++ adds.full; begun = adds.rest })
 adds_going built text adds = record { full = adds.full; cut = adds.cut; closed = refl }
 
@@ -313,7 +314,7 @@ adds_seen {other = other} {text = text} {new = new} {next = next} is same adds =
     subst Q same (subst P is adds)
 
 pub put_closed : {octets new : List ℕ} {head next : Option ℕ} (built : Built) (text : List ℕ) → StandsFor octets head built → head ≡ None
-    → AddsText octets text new next → AddsText (flat_map string_octets built.closed) (built.begun ++ text) new next
+    → AddsText octets text new next → AddsText (flat_map string_wire built.closed) (built.begun ++ text) new next
 put_closed {octets = octets} built text stands is adds =
     let P : Option ℕ → Type 0 = λ h. StandsFor octets h built in
     let here = stands_closed octets built (subst P is stands) in
@@ -324,16 +325,16 @@ open_here {octets = octets} {place = place} {built = built} stands is =
     let P : Option ℕ → Type 0 = λ h. StandsFor octets h built in stands_open octets place built (subst P is stands)
 
 pub put_open : {octets new : List ℕ} {place : ℕ} {next : Option ℕ} (built : Built) (text : List ℕ) → IsOpen octets place built
-    → AddsText (take place octets) (drop (place + 1) octets ++ text) new next → AddsText (flat_map string_octets built.closed) (built.begun ++ text) new next
+    → AddsText (take place octets) (drop (place + 1) octets ++ text) new next → AddsText (flat_map string_wire built.closed) (built.begun ++ text) new next
 put_open built text here adds = adds_seen here.front (ap (λ l. l ++ text) here.behind) adds
 
 pub stands_put : {octets new : List ℕ} {head next : Option ℕ} (built : Built) (text : List ℕ) → StandsFor octets head built
-    → AddsText (flat_map string_octets built.closed) (built.begun ++ text) new next → length new ≤ 65535
+    → AddsText (flat_map string_wire built.closed) (built.begun ++ text) new next → length new ≤ 65535
     → StandsFor new next (built_of new next)
 stands_put {new = new} {next = next} built text stands adds few = stands_here new next _ (stands_adds built text stands adds few)
 
 pub goes_put : {octets new : List ℕ} {head next : Option ℕ} (built : Built) (text : List ℕ) → StandsFor octets head built
-    → AddsText (flat_map string_octets built.closed) (built.begun ++ text) new next → length new ≤ 65535
+    → AddsText (flat_map string_wire built.closed) (built.begun ++ text) new next → length new ≤ 65535
     → GoesOn built text (built_of new next)
 goes_put {new = new} {next = next} built text stands adds few =
     let P : Built → Type 0 = λ b. GoesOn built text b in
@@ -343,8 +344,8 @@ goes_put {new = new} {next = next} built text stands adds few =
 pub string_size : {octets : List ℕ} {head : Option ℕ} {built : Built} (string : List ℕ) → StandsFor octets head built
     → strings_len (strings_built built ++ string ∷ []) ≡ length octets + 1 + length string
 string_size {octets = octets} string stands =
-    let size = ap (length {A = ℕ}) (string_more {new = octets ++ string_octets string} string stands refl) in
-    omega (arith, size, length-append octets (string_octets string))
+    let size = ap (length {A = ℕ}) (string_more {new = octets ++ string_wire string} string stands refl) in
+    omega (arith, size, length-append octets (string_wire string))
 
 -- at least one string, of a text that is not too long
 some_few : (each : List (List ℕ)) → strings_len each ≤ 65535 → strings_len (some_strings each) ≤ 65535
@@ -352,10 +353,10 @@ some_few [] few = omega arith
 some_few (string ∷ each) few = few
 
 pub filled_few : {old text new filled : List ℕ} {head : Option ℕ} → AddsText old text new head → old ≡ []
-    → ((each : List (List ℕ)) → new ≡ flat_map string_octets each → filled ≡ flat_map string_octets (some_strings each))
+    → ((each : List (List ℕ)) → new ≡ flat_map string_wire each → filled ≡ flat_map string_wire (some_strings each))
     → text_len (length text) ≤ 65535 → length filled ≤ 65535
 filled_few adds none fills few =
     let each = adds.full ++ open_string adds.rest in
-    let filled = fills each (adds.written ∙ ap (λ l. l ++ flat_map string_octets each) none) in
+    let filled = fills each (adds.written ∙ ap (λ l. l ++ flat_map string_wire each) none) in
     let fits = some_few each (omega (arith, cut_len adds.cut, few)) in
     omega (arith, ap (length {A = ℕ}) filled, fits)

@@ -1,7 +1,8 @@
 -- Text as strings, and strings while they are built (RFC 1035 3.3.14).
 use Rattle.std.specs.Prelude.{◌≡◌, ◌≤◌, ◌<◌, ◌+◌, ◌/◌, ℕ, List, [], ◌∷◌, ◌++◌, length, take, drop, Option, Some, None}
 use Rattle.std.specs.List.{AllByRecursion, concat, flat_map}
-use Rattle.dns_fields.specs.Fields.{IsString, string_octets}
+use Rattle.dns_scan.specs.CharStr.{string_wire}
+use Rattle.dns_fields.specs.Fields.{IsString}
 use Rattle.dns_fields.specs.Strings.{strings_of}
 
 -- what is built: the closed strings, and the octets of the open one, which are none where no string is open
@@ -47,7 +48,7 @@ text_len count = count + (count + 254) / 255
 
 -- how many octets strings have
 abbrev pub strings_len : List (List ℕ) → ℕ
-strings_len each = length (flat_map string_octets each)
+strings_len each = length (flat_map string_wire each)
 
 -- data has one empty string in place of none
 abbrev pub some_strings : List (List ℕ) → List (List ℕ)
@@ -70,7 +71,7 @@ open_place place (octet ∷ octets) = Some place
 pub record StandsFor (octets : List ℕ) (head : Option ℕ) (built : Built) : Type 0 where
   pub each : AllByRecursion IsString built.closed
   pub short : length built.begun < 255
-  pub whole : octets ≡ flat_map string_octets (strings_built built)
+  pub whole : octets ≡ flat_map string_wire (strings_built built)
   pub few : length octets ≤ 65535
   pub place : head ≡ open_place (strings_len built.closed) built.begun
 
@@ -84,5 +85,5 @@ pub record AddsText (old text new : List ℕ) (head : Option ℕ) : Type 0 where
   pub full : List (List ℕ)
   pub rest : List ℕ
   pub cut : IsCut text full rest
-  pub written : new ≡ old ++ flat_map string_octets (full ++ open_string rest)
+  pub written : new ≡ old ++ flat_map string_wire (full ++ open_string rest)
   pub place : head ≡ open_place (length old + strings_len full) rest

@@ -1,7 +1,7 @@
 //! Text as strings of 255 octets and a rest.
 ghost use Rattle.std.specs.Prelude.{◌≡◌, ◌+◌, ◌<◌, ◌≤◌, ◌↔◌, ◌++◌, List, ℕ, [], length, take, drop, Err, IsTrue, IfOk, OnOk, OnErr};
 ghost use Rattle.std.specs.List.{concat, flat_map};
-ghost use Rattle.dns_fields.specs.Fields.{string_octets};
+ghost use Rattle.dns_scan.specs.CharStr.{string_wire};
 ghost use Rattle.dns_octets.specs.Builder.{IsPast};
 ghost use Rattle.dns_octets.specs.declared.error.AppendError.TheVariants.{ShortBuf, BadLength};
 ghost use Rattle.dns_rr_octets.specs.Built.{AddsText, some_strings, text_len};
@@ -49,7 +49,7 @@ fn append_string<Builder: OctetsBuilder>(
     octets: &[u8],
 ) -> Result<(), AppendError>
     requires { length octets.now ≤ 255 }
-    ensures ok { OnOk result (Builder.list builder.new ≡ Builder.list builder.old ++ string_octets octets.now) }
+    ensures ok { OnOk result (Builder.list builder.new ≡ Builder.list builder.old ++ string_wire octets.now) }
     ensures err { OnErr result (Builder.list builder.new ≡ Builder.list builder.old) }
 {
     let Ok(string) = CharStr::from_slice(octets) else {
@@ -76,8 +76,8 @@ pub(super) fn append_joined<Builder: OctetsBuilder>(
 
 /// Appends an empty string if there are no octets.
 pub(super) fn fill<Builder: OctetsBuilder>(builder: &mut Builder) -> Result<(), AppendError>
-    ensures ok { OnOk result ((each : List (List ℕ)) → Builder.list builder.old ≡ flat_map string_octets each
-        → Builder.list builder.new ≡ flat_map string_octets (some_strings each)) }
+    ensures ok { OnOk result ((each : List (List ℕ)) → Builder.list builder.old ≡ flat_map string_wire each
+        → Builder.list builder.new ≡ flat_map string_wire (some_strings each)) }
     ensures none { OnErr result (Builder.list builder.old ≡ []) }
 {
     if !builder.octets().is_empty() {

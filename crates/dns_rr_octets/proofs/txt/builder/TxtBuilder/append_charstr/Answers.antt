@@ -1,7 +1,7 @@
 use Rattle.std.proofs.Common.{◌∙◌, ℕ, length, length-append, refl, ap, arith}
 use Rattle.std.specs.Prelude.{None, Ok, Err}
 use Rattle.std.proofs.lemmas.Result.{err_from_is_err_and}
-use Rattle.dns_fields.specs.Fields.{string_octets}
+use Rattle.dns_scan.specs.CharStr.{string_wire}
 use Rattle.dns_rr_octets.specs.Built.{StandsFor, with_string}
 use Rattle.dns_rr_octets.proofs.Appended.{ok_not_long, short_not_long, no_long}
 use Rattle.dns_rr_octets.proofs.Builds.{stands_string, stands_here, stands_is, stands_seen, string_size}
@@ -19,7 +19,7 @@ put : (g : _) (c : After-self-1 g)
     → StandsFor (g.Builder.Octets.list c.compose.new.target) None (with_string c.args.self.now c.args.string.now)
 put g c =
     let is = c.in_ok-compose.ensures.ok in
-    let size = length-append (g.Builder.Octets.list c.self.inside.builder) (string_octets c.args.string.now) in
+    let size = length-append (g.Builder.Octets.list c.self.inside.builder) (string_wire c.args.string.now) in
     stands_string c.args.string.now (stands_seen c.self.view_is c.self.invariant) (omega (arith, c.len.ensures.octets, c.len.ensures.short)) is
     (omega (arith, size, ap (length {A = ℕ}) is, ap (length {A = ℕ}) c.octets.ensures, c.len.ensures.octets, c.if-octets-len-gt65535.false))
 
