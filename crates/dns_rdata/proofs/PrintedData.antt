@@ -4,18 +4,19 @@ use Rattle.std.specs.Prelude.{if◌then◌else◌, ⊤}
 use Rattle.std.specs.List.{AllByRecursion, AllZip}
 use Rattle.dns_label.specs.declared.symbol.Symbol.TheVariants.{SimpleEscape}
 use Rattle.dns_name.specs.Unknown.{UnknownData}
+use Rattle.dns_name.specs.UnknownText.{hex_words}
 use Rattle.dns_scan.specs.declared.encoding.base.Base.TheVariants.{Sixteen}
 use Rattle.dns_scan.specs.Base.{Decodes}
 use Rattle.dns_scan.specs.Encodings.{encoded_16}
-use Rattle.dns_scan.specs.StringText.{IsOctet}
+use Rattle.dns_label.specs.Octets.{IsOctet}
 use Rattle.dns_scan.specs.Token.{Token, IsEntry, IsWord, marker}
 use Rattle.dns_scan.specs.UnknownData.{IsUnknownData}
+use Rattle.dns_scan.proofs.HexWords.{hex_encoded}
 use Rattle.dns_scan.proofs.Encodings.{encoded_decodes, decodes_one, text_decodes_only}
 use Rattle.dns_text.specs.Document.{Piece}
 use Rattle.dns_text.specs.Document.Piece.{Token as token_piece, Comment, Close, Newline}
 use Rattle.dns_text.specs.DocumentRows.{HasRows, WritesToken}
 use Rattle.dns_text.specs.DocumentRows.HasRows.{none, token, comment, open', close, newline}
-use Rattle.dns_text.specs.Documents.{word_of}
 use Rattle.dns_text.specs.Tokens.{has_feed}
 use Rattle.dns_fields.specs.Fields.{Field, octets, IsRow}
 use Rattle.dns_fields.specs.Scanned.{ScansData}
@@ -27,7 +28,7 @@ use Rattle.dns_fields.proofs.PrintedTokens.{IsWritten, bare_written, no_symbols,
 use Rattle.dns_fields.proofs.ScannedOnce.{left_one, decoded_one}
 use Rattle.dns_fields.proofs.Unmarked.{row_first, unmarked}
 use Rattle.dns_rdata.specs.Data.{Data, typed, untyped, number_of, document_of, ScansAnyData}
-use Rattle.dns_rdata.specs.DataTokens.{IsAnyData, HasNoEmptyTag, words_of, tokens_of}
+use Rattle.dns_rdata.specs.DataTokens.{IsAnyData, HasNoEmptyTag, tokens_of}
 
 -- There are tokens that are written so.
 marker_written : IsWritten (92 ∷ 35 ∷ [])
@@ -45,11 +46,12 @@ one_written : (text : List ℕ) → 0 < length text → AllByRecursion IsWritten
 one_written [] some each = absurd (omega arith)
 one_written (c ∷ text) some each = each.0
 
-words_written : (text : List ℕ) → AllByRecursion IsOctet text → AllByRecursion IsWritten (words_of text)
+words_written : (text : List ℕ) → AllByRecursion IsOctet text → AllByRecursion IsWritten (hex_words text)
 words_written [] small = tt
 words_written (octet ∷ text) small =
     let shown : List ℕ = encoded_16 (octet ∷ text) in (
-      one_written shown (encoded_some octet text shown (encoded_decodes Sixteen (octet ∷ text) small)) (rest_written shown (safe_16 (octet ∷ text) small)),
+      subst IsWritten (hex_encoded (octet ∷ text) small)
+          (one_written shown (encoded_some octet text shown (encoded_decodes Sixteen (octet ∷ text) small)) (rest_written shown (safe_16 (octet ∷ text) small))),
       tt,
     )
 
@@ -128,10 +130,6 @@ commented_row (Some text ∷ comments) (field ∷ row) tokens none' writes =
     (subst P (sym (append_assoc pieces (Comment text ∷ commented comments row) ends))
     (tokens_more (field_tokens field) both.front both.first (comment none'.0 (commented_row comments row both.back none'.1 both.behind))))
 
-word_pieces : (text : List ℕ) → word_of text ≡ map token_piece (words_of text)
-word_pieces [] = refl
-word_pieces (octet ∷ text) = refl
-
 -- The document of data, with a line end behind it, is one row of these tokens.
 pub data_row : (rdata : Data) (tokens : List Token) → AllZip WritesToken tokens (tokens_of rdata)
     → HasRows 0 (document_of rdata ++ Newline ∷ []) (tokens ∷ [])
@@ -141,27 +139,25 @@ data_row (typed number row) tokens writes =
     (commented_row (comments_of number) row tokens (no_feeds number) writes))
 data_row (untyped unknown) tokens writes =
     let texts = tokens_of (untyped unknown) in
-    let words : List Piece = token_piece (92 ∷ 35 ∷ []) ∷ token_piece (decimal (length unknown.octets)) ∷ word_of unknown.octets in
-    let same : map token_piece texts ≡ words =
-    ap (λ l. token_piece (92 ∷ 35 ∷ []) ∷ token_piece (decimal (length unknown.octets)) ∷ l) (sym (word_pieces unknown.octets)) in
-    open' (subst (λ (l : List Piece). HasRows 1 l (tokens ∷ [])) (sym (append_assoc words (Close ∷ []) (Newline ∷ [])))
-    (subst (λ (l : List Piece). HasRows 1 (l ++ ends) (tokens ∷ [])) same (row_of tokens texts writes)))
+    open' (subst (λ (l : List Piece). HasRows 1 l (tokens ∷ [])) (sym (append_assoc (map token_piece texts) (Close ∷ []) (Newline ∷ [])))
+    (row_of tokens texts writes))
 
 -- the marker, the number and the octets
 marker_bare : {token : Token} → WritesToken token (92 ∷ 35 ∷ []) → token ≡ marker
 marker_bare writes = bare_token writes (λ rest is. let e : ◌≡◌ {A = ℕ} 92 34 = cc in omega (arith, e))
 
-words_back : (text : List ℕ) (tokens : List Token) → AllByRecursion IsOctet text → AllZip WritesToken tokens (words_of text)
+words_back : (text : List ℕ) (tokens : List Token) → AllByRecursion IsOctet text → AllZip WritesToken tokens (hex_words text)
     → IsEntry IsWord tokens (encoded_16 text)
 words_back [] [] small writes = refl
 words_back [] (one ∷ tokens) small writes = absurd writes
 words_back (octet ∷ text) [] small writes = absurd writes
 words_back (octet ∷ text) (one ∷ []) small writes =
-    (encoded_16 (octet ∷ text), [], word_token writes.0 (safe_16 (octet ∷ text) small), refl, sym (append-nil (encoded_16 (octet ∷ text))))
+    let written = subst (WritesToken one) (sym (hex_encoded (octet ∷ text) small)) writes.0 in
+    (encoded_16 (octet ∷ text), [], word_token written (safe_16 (octet ∷ text) small), refl, sym (append-nil (encoded_16 (octet ∷ text))))
 words_back (octet ∷ text) (one ∷ (more ∷ tokens)) small writes = absurd writes.1
 
 unknown_back : (text : List ℕ) (tokens : List Token) → length text < 2 ^ 16 → AllByRecursion IsOctet text
-    → AllZip WritesToken tokens (decimal (length text) ∷ words_of text) → IsUnknownData tokens text
+    → AllZip WritesToken tokens (decimal (length text) ∷ hex_words text) → IsUnknownData tokens text
 unknown_back text [] short small writes = absurd writes
 unknown_back text (number ∷ words) short small writes = record {
   words = words;
