@@ -4,7 +4,8 @@ ghost use Rattle.std.specs.List.{AllZip};
 ghost use Rattle.dns_scan.specs.Token.{Token};
 ghost use Rattle.dns_text.specs.Document.{Layout, document_text};
 ghost use Rattle.dns_text.specs.Document.Piece.{Newline};
-ghost use Rattle.dns_text.specs.DocumentRows.{IsRowsOnly, WritesToken};
+ghost use Rattle.dns_text.specs.DocumentRows.{WritesToken};
+ghost use Rattle.dns_text.specs.Rows.{IsTextOnly, unled};
 ghost use Rattle.dns_fields.specs.SpelledNames.{SpellOne, SpellPrinted};
 ghost use Rattle.dns_rdata.specs.Data.{Data, ScansAnyData, document_of, number_of};
 ghost use Rattle.dns_rdata.specs.DataTokens.{HasNoEmptyTag, IsAnyData, tokens_of};
@@ -28,7 +29,7 @@ pub fn printed_data_of_any_type_scans_back<S: Scanner>(scanner: &S)
     ensures written { (rdata : Data) → IsAnyData rdata → HasNoEmptyTag rdata
         → (tokens : List Token) × AllZip WritesToken tokens (tokens_of rdata) }
     ensures splits { (layout : Layout) (rdata : Data) (tokens : List Token) → AllZip WritesToken tokens (tokens_of rdata)
-        → IsRowsOnly (document_text layout (document_of rdata ++ Newline ∷ [])) (tokens ∷ []) }
+        → IsTextOnly (document_text layout (document_of rdata ++ Newline ∷ [])) (unled tokens ∷ []) }
     ensures scans { (rdata : Data) (tokens : List Token) → IsAnyData rdata → SpellPrinted (S.names scanner.now)
         → AllZip WritesToken tokens (tokens_of rdata)
         → ScansAnyData (S.names scanner.now) (number_of rdata) rdata tokens [] }

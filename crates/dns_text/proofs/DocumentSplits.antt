@@ -1,5 +1,5 @@
 -- The text of a document of tokens is rows with these tokens.
-use Rattle.std.proofs.Common.{◌≡◌, ◌==◌, ◌-◌, ℕ, zero, suc, nat_lt, Bool, true, false, if◌then◌else◌, List, [], ◌∷◌, ◌++◌, refl, sym, ◌∙◌, ap, subst, arith, append_assoc}
+use Rattle.std.proofs.Common.{◌≡◌, ◌==◌, ◌-◌, ℕ, zero, suc, nat_lt, Bool, true, false, if◌then◌else◌, List, [], ◌∷◌, ◌++◌, map, refl, sym, ◌∙◌, ap, subst, arith, append_assoc}
 use Rattle.std.specs.List.{flat_map}
 use Rattle.std.proofs.lemmas.Bool.{lt-ltb}
 use Rattle.dns_scan.specs.Token.{Token}
@@ -8,9 +8,10 @@ use Rattle.dns_text.specs.Document.{Layout, Piece, data_gap, depth, document_tex
 use Rattle.dns_text.specs.Document.Layout.{Simple, Tabbed, Multiline}
 use Rattle.dns_text.specs.Document.Piece.{Comment, Open, Close, Newline}
 use Rattle.dns_text.specs.Document.Piece.{Token as token_piece}
-use Rattle.dns_text.specs.DocumentRows.{HasRows, IsRows, WritesToken}
+use Rattle.dns_text.specs.DocumentRows.{HasRows, WritesToken}
 use Rattle.dns_text.specs.DocumentRows.HasRows.{none, token, comment, open', close, inner, newline}
-use Rattle.dns_text.proofs.RowSteps.{Split, rows_of, split_goes, split_comment, split_feed, split_token, from_feed-append}
+use Rattle.dns_text.specs.Rows.{IsText, is_led, unled}
+use Rattle.dns_text.proofs.RowSteps.{Split, rows_of, split_goes, split_comment, split_feed, split_token, token_unled, from_feed-append}
 use Rattle.dns_text.proofs.RowSteps.Split.{nothing}
 use Rattle.dns_text.proofs.TokenSymbols.{differs, ends_low, ends_nil, ends_plain}
 
@@ -24,11 +25,12 @@ inside_of Simple line = false
 inside_of Tabbed line = false
 inside_of Multiline line = is_inside line
 
--- how the text behind a line reads: as rows; behind a comment; and behind a token
+-- how the text behind a line reads: as rows; behind a comment; behind a token; and where the line begins
 record Reads (layout : Layout) (line : List Piece) (text : List ℕ) (rows : List (List Token)) : Type 0 where
   pub split : Split (inside_of layout line) text rows
   pub skipped : inside_of layout line ≡ true → is_first layout line ≡ false → Split (inside_of layout line) (from_feed text) rows
   pub ends : is_first layout line ≡ false → EndsToken false text
+  pub first : is_first layout line ≡ true → is_led text ≡ false
 
 -- places inside and outside of blocks
 pub some_open : (n : ℕ) → nat_lt 0 (suc n) ≡ true
@@ -107,6 +109,34 @@ own_gap Multiline line inside first =
     let by_inside : Bool → List ℕ = λ b. if b then own_line else 32 ∷ [] in
     ap by_first first ∙ ap by_inside inside
 
+no_gap : (layout : Layout) (line : List Piece) → is_first layout line ≡ true → gap layout line ≡ []
+no_gap layout line first =
+    ap (λ (b : Bool). if b then [] else (if is_inside line then data_gap layout line else outer_gap layout)) first
+
+-- under Multiline a line begins outside of blocks, since the marks of a block are seen
+first_is_outside : (line : List Piece) → is_first Multiline line ≡ true → depth line ≡ 0
+first_is_outside [] first = refl
+first_is_outside (token_piece text ∷ line) first = cc
+first_is_outside (Comment text ∷ line) first = cc
+first_is_outside (Open ∷ line) first = by (is_inside line) refl
+  where
+    by : (inside : Bool) → is_inside line ≡ inside → depth (Open ∷ line) ≡ 0
+    by true is =
+        let behind : is_first Multiline line ≡ true =
+        sym (ap (λ (b : Bool). if (if b then false else true) then false else is_first Multiline line) is) ∙ first in
+        let bad : true ≡ false = sym is ∙ is_outside_at line (first_is_outside line behind) in cc
+    by false is =
+        let bad : false ≡ true =
+        sym (ap (λ (b : Bool). if (if b then false else true) then false else is_first Multiline line) is) ∙ first in cc
+first_is_outside (Close ∷ line) first = by (depth line == 1) refl
+  where
+    by : (last : Bool) → (depth line == 1) ≡ last → depth (Close ∷ line) ≡ 0
+    by true is = let bad : false ≡ true = sym (ap (λ (b : Bool). if b then false else is_first Multiline line) is) ∙ first in cc
+    by false is =
+        let behind : is_first Multiline line ≡ true = sym (ap (λ (b : Bool). if b then false else is_first Multiline line) is) ∙ first in
+        ap (λ (n : ℕ). n - 1) (first_is_outside line behind)
+first_is_outside (Newline ∷ line) first = first_is_outside line first
+
 -- a piece that is not seen
 unseen : (layout : Layout) (line line' : List Piece) (text : List ℕ) (rows : List (List Token))
     → inside_of layout line' ≡ inside_of layout line → is_first layout line' ≡ is_first layout line
@@ -115,6 +145,7 @@ unseen layout line line' text rows inside first reads = record {
   split = subst (λ b. Split b text rows) inside reads.split;
   skipped = λ here not_first. subst (λ b. Split b (from_feed text) rows) inside (reads.skipped (inside ∙ here) (first ∙ not_first));
   ends = λ not_first. reads.ends (first ∙ not_first);
+  first = λ is. reads.first (first ∙ is);
 }
 
 -- a token
@@ -135,6 +166,7 @@ token_step layout line found text rest row rows writes next =
           subst (λ l. Split inside (from_feed ((l ++ text) ++ rest)) ((found ∷ row) ∷ rows)) (sym own)
           (subst (λ l. Split inside ((l ++ text) ++ rest) ((found ∷ row) ∷ rows)) own split');
       ends = λ first. subst (λ l. EndsToken false l) (sym grouped) (gap_ends layout line (text ++ rest) first);
+      first = λ is. ap (λ l. is_led ((l ++ text) ++ rest)) (no_gap layout line is) ∙ token_unled found text rest writes;
     }
 
 -- a comment that is seen
@@ -148,6 +180,7 @@ comment_step line text rest row rows here no_feed next =
       split = split_goes 9 refl (split_comment (is_inside line) (from_feed rest) (32 ∷ text ++ rest) row rows 59 refl same skipped');
       skipped = λ inside first. subst (λ l. Split (is_inside line) l (row ∷ rows)) same skipped';
       ends = λ first. ends_low false 9 (59 ∷ 32 ∷ text ++ rest) (omega arith);
+      first = λ is. let bad : true ≡ false = sym here ∙ is_outside_at line (first_is_outside line is) in cc;
     }
 
 -- the mark in front of a block that is seen
@@ -163,6 +196,7 @@ open_step line rest row rows out next =
       split = subst (λ l. Split (is_inside line) l (row ∷ rows)) (sym grouped) (gap_goes Multiline line (40 ∷ rest) row rows (subst Q (sym out) marked));
       skipped = λ here first. let bad : false ≡ true = sym out ∙ here in cc;
       ends = λ first. subst (λ l. EndsToken false l) (sym grouped) (gap_ends Multiline line (40 ∷ rest) first);
+      first = λ is. ap (λ l. is_led ((l ++ 40 ∷ []) ++ rest)) (no_gap Multiline line is);
     }
 
 -- the mark behind it
@@ -179,6 +213,7 @@ close_step line rest row rows one next =
       split = here;
       skipped = λ inside first. here;
       ends = λ first. ends_low false 10 (32 ∷ 32 ∷ 32 ∷ 32 ∷ 32 ∷ 32 ∷ 32 ∷ 32 ∷ 41 ∷ rest) (omega arith);
+      first = λ is. refl;
     }
 
 -- a line end
@@ -189,9 +224,10 @@ newline_step layout line rest rows at next =
     let Q : Bool → Type 0 = λ b. Split b (10 ∷ rest) ([] ∷ rows) in
     let out = outside_of layout line at in
     record {
-      split = subst Q (sym out) (split_feed (subst P (outside_of layout [] refl) next.split));
+      split = subst Q (sym out) (split_feed (next.first refl) (subst P (outside_of layout [] refl) next.split));
       skipped = λ here first. let bad : false ≡ true = sym out ∙ here in cc;
       ends = λ first. ends_low false 10 rest (omega arith);
+      first = λ is. refl;
     }
 
 pub no_text : (b : Bool) (rest : List ℕ) → (if b then [] else []) ++ rest ≡ rest
@@ -256,6 +292,7 @@ reads none layout line at =
       split = subst (λ b. Split b [] []) (sym out) nothing;
       skipped = λ here first. let bad : false ≡ true = sym out ∙ here in cc;
       ends = λ first. ends_nil false;
+      first = λ is. refl;
     }
 reads (token {pieces = pieces} {row = row} {rows = rows} {found = found} {text = text} writes others) layout line at =
     token_step layout line found text (text_behind layout (token_piece text ∷ line) pieces) row rows writes
@@ -284,6 +321,8 @@ reads (newline {pieces = pieces} {rows = rows} others) layout line at =
     (newline_step layout line (text_behind layout [] pieces) rows at (reads others layout [] refl))
 
 pub document_splits : (layout : Layout) (document : List Piece) (rows : List (List Token)) → HasRows 0 document rows
-    → IsRows (document_text layout document) rows
+    → IsText (document_text layout document) (map unled rows)
 document_splits layout document rows has =
-    rows_of (subst (λ b. Split b (document_text layout document) rows) (outside_of layout [] refl) (reads has layout [] refl).split)
+    let all = reads has layout [] refl in
+    let begins = rows_of (all.first refl) (subst (λ b. Split b (document_text layout document) rows) (outside_of layout [] refl) all.split) in
+    record { rest = []; begins = begins; ends = refl }

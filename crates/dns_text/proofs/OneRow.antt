@@ -1,14 +1,15 @@
--- A text has one row at a place, and is rows of tokens in one way.
-use Rattle.std.proofs.Common.{◌≡◌, ℕ, Bool, true, false, List, [], ◌∷◌, ◌++◌, Option, Some, None, refl, sym, ◌∙◌, ap, subst}
+-- A text has one row at a place, none where it ends, and is rows of tokens in one way.
+use Rattle.std.proofs.Common.{◌≡◌, ℕ, Bool, true, false, List, [], ◌∷◌, ◌++◌, Option, Some, None, ◌==◌, if◌then◌else◌, not, refl, sym, ◌∙◌, ap, subst}
 use Rattle.std.specs.List.{flat_map}
+use Rattle.std.proofs.lemmas.Bool.Decides.{Decides-eqb}
 use Rattle.dns_label.specs.Symbol.{spelled}
 use Rattle.dns_scan.specs.Token.{Token}
-use Rattle.dns_text.specs.Tokens.{Head, IsRun, Next, Row, from_feed, head_of}
+use Rattle.dns_text.specs.Tokens.{Head, IsRun, Next, Row, from_feed, has_feed, head_of, is_end, is_gap}
 use Rattle.dns_text.specs.Tokens.Head.{Go, Comment, Feed, Quote, Word, Refused}
 use Rattle.dns_text.specs.Tokens.Next.{ended, goes, comment, quoted, unquoted}
 use Rattle.dns_text.specs.Tokens.Row.{end, token}
-use Rattle.dns_text.specs.DocumentRows.{IsRows}
-use Rattle.dns_text.specs.DocumentRows.IsRows.{none, more}
+use Rattle.dns_text.specs.Rows.{BeginsWithRows, IsText, TokenRow, is_led}
+use Rattle.dns_text.specs.Rows.BeginsWithRows.{none, more}
 use Rattle.dns_text.proofs.TokenSymbols.{one_run}
 
 -- a token whose text is the longest run of symbols
@@ -107,11 +108,69 @@ no_row : {inside : Bool} {row : List Token} {rest : List ℕ} → Row inside [] 
 no_row (end next) = no_next next
 no_row (token out left next others) = no_next next
 
-pub one_rows : {text : List ℕ} {rows : List (List Token)} → IsRows text rows → (others : List (List Token)) → IsRows text others → others ≡ rows
-one_rows none others none = refl
-one_rows none others (more first behind) = absurd (no_row first)
-one_rows (more first behind) others none = absurd (no_row first)
-one_rows (more {row = row} first behind) others (more {rest = rest'} {row = row'} {rows = rows'} first' behind') =
-    let same = one_row first row' rest' first' in
-    let there = one_rows behind rows' (subst (λ l. IsRows l rows') (sym same.1) behind') in
-    let row_is = same.0 in cc
+-- what is left of a text without a line feed behind its comment
+none_from_feed : (text : List ℕ) → has_feed text ≡ false → from_feed text ≡ []
+none_from_feed [] none' = refl
+none_from_feed (octet ∷ text) none' = by (octet == 10) refl
+  where
+    by : (feed : Bool) → (octet == 10) ≡ feed → from_feed (octet ∷ text) ≡ []
+    by true is = let bad : true ≡ false = sym (ap (λ (b : Bool). if b then true else has_feed text) is) ∙ none' in cc
+    by false is =
+        ap (λ (b : Bool). if b then octet ∷ text else from_feed text) is
+        ∙ none_from_feed text (sym (ap (λ (b : Bool). if b then true else has_feed text) is) ∙ none')
+
+-- where a text ends there is no token, and no row
+abbrev head_if_no_gap : Bool → ℕ → Head
+head_if_no_gap inside octet =
+    if octet == 10 then (if inside then Go true else Feed)
+    else (if octet == 40 then (if inside then Refused else Go true)
+    else (if octet == 41 then (if inside then Go false else Refused)
+    else (if octet == 59 then Comment else (if octet == 34 then Quote else Word))))
+
+no_next_at_end : (text : List ℕ) {found : Option Token} {out : Bool} {rest : List ℕ} → is_end text ≡ true
+    → Next false text found out rest → ⊥
+no_next_at_end [] ends next = no_next next
+no_next_at_end (octet ∷ text) {found} {out} {rest} ends next = by_gap (is_gap octet) refl
+  where
+    by_feed : (feed : Bool) → has_feed text ≡ feed → not (has_feed text) ≡ true → Next false (from_feed text) found out rest → ⊥
+    by_feed true is none' behind = let bad : false ≡ true = sym (ap not is) ∙ none' in cc
+    by_feed false is none' behind = no_next (subst (λ (l : List ℕ). Next false l found out rest) (none_from_feed text is) behind)
+    by_mark : (mark : Bool) → (octet == 59) ≡ mark → is_gap octet ≡ false → ⊥
+    by_mark true is gap =
+        let at : octet ≡ 59 = (Decides-eqb octet 59).0 is in
+        let ended : not (has_feed text) ≡ true =
+        subst (λ (n : ℕ). is_end (n ∷ text) ≡ true) at ends in
+        by_feed (has_feed text) refl ended
+        (after_at false octet text rest found out Comment (ap (head_of false) at) next)
+    by_mark false is gap =
+        let bad : false ≡ true =
+        sym (ap (λ (b : Bool). if b then is_end text else (if octet == 59 then not (has_feed text) else false)) gap
+        ∙ ap (λ (b : Bool). if b then not (has_feed text) else false) is) ∙ ends in cc
+    by_gap : (gap : Bool) → is_gap octet ≡ gap → ⊥
+    by_gap true is =
+        let behind : is_end text ≡ true =
+        sym (ap (λ (b : Bool). if b then is_end text else (if octet == 59 then not (has_feed text) else false)) is) ∙ ends in
+        no_next_at_end text behind (after_at false octet text rest found out (Go false)
+        (ap (λ (b : Bool). if b then Go false else head_if_no_gap false octet) is) next)
+    by_gap false is = by_mark (octet == 59) refl is
+
+no_row_at_end : {text : List ℕ} {row : List Token} {rest : List ℕ} → is_end text ≡ true → Row false text row rest → ⊥
+no_row_at_end {text} ends (end next) = no_next_at_end text ends next
+no_row_at_end {text} ends (token out left next others) = no_next_at_end text ends next
+
+one_begin : {text rest rest' : List ℕ} {rows rows' : List TokenRow} → BeginsWithRows text rows rest → is_end rest ≡ true
+    → BeginsWithRows text rows' rest' → is_end rest' ≡ true → rows' ≡ rows
+one_begin none ends none ends' = refl
+one_begin none ends (more first behind) ends' = absurd (no_row_at_end ends first)
+one_begin (more first behind) ends none ends' = absurd (no_row_at_end ends' first)
+one_begin {text} (more {tokens = row} {rows = rows} first behind) ends
+    (more {rest = rest'} {tokens = row'} {rows = rows'} first' behind') ends' =
+    let same = one_row first row' _ first' in
+    let there = one_begin behind ends (subst (λ (l : List ℕ). BeginsWithRows l rows' rest') (sym same.1) behind') ends' in
+    let row_is : record TokenRow { led = is_led text; tokens = row } ≡ record { led = is_led text; tokens = row' } =
+    ap (λ (l : List Token). record TokenRow { led = is_led text; tokens = l }) same.0 in
+    cc
+
+pub one_text : {text : List ℕ} {rows : List TokenRow} → IsText text rows → (others : List TokenRow) → IsText text others
+    → others ≡ rows
+one_text is others other = one_begin is.begins is.ends other.begins other.ends

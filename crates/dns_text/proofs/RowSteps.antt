@@ -1,5 +1,5 @@
 -- A row of a text, step by step from its front.
-use Rattle.std.proofs.Common.{◌≡◌, ◌==◌, ◌<◌, ℕ, Bool, true, false, List, [], ◌∷◌, ◌++◌, length, Some, None, if◌then◌else◌, refl, sym, ◌∙◌, ap, subst, arith, append_assoc}
+use Rattle.std.proofs.Common.{◌≡◌, ◌==◌, ◌<◌, ℕ, Bool, true, false, List, [], ◌∷◌, ◌++◌, length, Some, None, if◌then◌else◌, map, refl, sym, ◌∙◌, ap, subst, arith, append_assoc}
 use Rattle.std.specs.List.{AllByRecursion, flat_map}
 use Rattle.dns_label.specs.declared.symbol.Symbol.{Symbol}
 use Rattle.dns_label.specs.Symbol.{spelled}
@@ -9,20 +9,27 @@ use Rattle.dns_text.specs.Tokens.Head.{Go, Comment}
 use Rattle.dns_text.specs.Tokens.Next.{ended, goes, comment}
 use Rattle.dns_text.specs.Tokens.Next.{quoted as quoted_next, unquoted as unquoted_next}
 use Rattle.dns_text.specs.Tokens.Row.{end, token}
-use Rattle.dns_text.specs.DocumentRows.{AreSymbols, IsRows, WritesToken}
-use Rattle.dns_text.specs.DocumentRows.IsRows.{none, more}
+use Rattle.dns_text.specs.DocumentRows.{AreSymbols, WritesToken}
+use Rattle.dns_text.specs.Rows.{BeginsWithRows, TokenRow, is_led, unled}
+use Rattle.dns_text.specs.Rows.BeginsWithRows.{none, more}
 use Rattle.dns_text.specs.DocumentRows.WritesToken.{quoted, unquoted}
-use Rattle.dns_text.proofs.TokenSymbols.{ends_plain, symbol_first, word_head}
+use Rattle.dns_text.proofs.TokenSymbols.{ends_plain, symbol_first, word_head, word_no_gap}
 
--- rows, of which the first begins inside parentheses or outside
+-- rows, of which the first begins inside parentheses or outside; white space leads none of the others
 pub data Split : Bool → List ℕ → List (List Token) → Type 0 where
   nothing : Split false [] []
   row : {inside : Bool} {text rest : List ℕ} {tokens : List Token} {rows : List (List Token)} → Row inside text tokens rest
-      → Split false rest rows → Split inside text (tokens ∷ rows)
+      → is_led rest ≡ false → Split false rest rows → Split inside text (tokens ∷ rows)
 
-pub rows_of : {text : List ℕ} {rows : List (List Token)} → Split false text rows → IsRows text rows
-rows_of nothing = none
-rows_of (row first others) = more first (rows_of others)
+unled_row : (led : Bool) (tokens : List Token) → led ≡ false → unled tokens ≡ record { led = led; tokens = tokens }
+unled_row led tokens is = ap (λ (b : Bool). record TokenRow { led = b; tokens = tokens }) (sym is)
+
+pub rows_of : {text : List ℕ} {rows : List (List Token)} → is_led text ≡ false → Split false text rows
+    → BeginsWithRows text (map unled rows) []
+rows_of is nothing = none
+rows_of {text} is (row {tokens = tokens} {rows = rows} first next others) =
+    subst (λ (r : TokenRow). BeginsWithRows text (r ∷ map unled rows) []) (sym (unled_row (is_led text) tokens is))
+    (more first (rows_of next others))
 
 -- behind white space or a parenthesis
 row_goes : {inside behind : Bool} {text rest : List ℕ} {tokens : List Token} (octet : ℕ) → head_of inside octet ≡ Go behind
@@ -32,7 +39,7 @@ row_goes octet head (token out left next others) = token out left (goes octet _ 
 
 pub split_goes : {inside behind : Bool} {text : List ℕ} {tokens : List Token} {rows : List (List Token)} (octet : ℕ)
     → head_of inside octet ≡ Go behind → Split behind text (tokens ∷ rows) → Split inside (octet ∷ text) (tokens ∷ rows)
-split_goes octet head (row first others) = row (row_goes octet head first) others
+split_goes octet head (row first next others) = row (row_goes octet head first) next others
 
 -- behind a comment
 row_comment : (inside : Bool) (skipped text rest : List ℕ) (tokens : List Token) (octet : ℕ) → head_of inside octet ≡ Comment
@@ -45,12 +52,13 @@ row_comment inside skipped text rest _ octet head is (token {found = found} out 
 pub split_comment : (inside : Bool) (skipped text : List ℕ) (tokens : List Token) (rows : List (List Token)) (octet : ℕ)
     → head_of inside octet ≡ Comment → skipped ≡ from_feed text → Split inside skipped (tokens ∷ rows)
     → Split inside (octet ∷ text) (tokens ∷ rows)
-split_comment inside skipped text tokens rows octet head is (row {rest = rest} first others) =
-    row (row_comment inside skipped text rest tokens octet head is first) others
+split_comment inside skipped text tokens rows octet head is (row {rest = rest} first next others) =
+    row (row_comment inside skipped text rest tokens octet head is first) next others
 
 -- behind the line feed of a row
-pub split_feed : {text : List ℕ} {rows : List (List Token)} → Split false text rows → Split false (10 ∷ text) ([] ∷ rows)
-split_feed others = row (end (ended 10 refl)) others
+pub split_feed : {text : List ℕ} {rows : List (List Token)} → is_led text ≡ false → Split false text rows
+    → Split false (10 ∷ text) ([] ∷ rows)
+split_feed next others = row (end (ended 10 refl)) next others
 
 -- the first octet of an unquoted token
 word_next : (inside : Bool) (text behind : List ℕ) (symbols : List Symbol) → AllByRecursion (IsIn false) symbols
@@ -74,12 +82,25 @@ quote_next false text behind are =
 pub split_token : (inside : Bool) (found : Token) (text behind : List ℕ) (tokens : List Token) (rows : List (List Token))
     → WritesToken found text → EndsToken false behind → Split inside behind (tokens ∷ rows)
     → Split inside (text ++ behind) ((found ∷ tokens) ∷ rows)
-split_token inside found text behind tokens rows (unquoted are some) ends (row first others) =
-    row (token inside behind (word_next inside text behind are.symbols are.each are.written some ends) first) others
-split_token inside found _ behind tokens rows (quoted {text} are) ends (row first others) =
+split_token inside found text behind tokens rows (unquoted are some) ends (row first next others) =
+    row (token inside behind (word_next inside text behind are.symbols are.each are.written some ends) first) next others
+split_token inside found _ behind tokens rows (quoted {text} are) ends (row first next others) =
     let P : List ℕ → Type 0 = λ l. Split inside (34 ∷ l) ((found ∷ tokens) ∷ rows) in
     subst P (sym (append_assoc text (34 ∷ []) behind))
-    (row (token inside behind (quote_next inside text behind are) first) others)
+    (row (token inside behind (quote_next inside text behind are) first) next others)
+
+-- white space leads no token
+word_unled : (text behind : List ℕ) (symbols : List Symbol) → AllByRecursion (IsIn false) symbols → text ≡ flat_map spelled symbols
+    → 0 < length text → is_led (text ++ behind) ≡ false
+word_unled [] behind symbols each written some = absurd (omega arith)
+word_unled (octet ∷ text) behind [] each written some = cc
+word_unled (octet ∷ text) behind (symbol ∷ symbols) each written some =
+    let first = symbol_first false symbol octet text (flat_map spelled symbols) each.0 written in
+    word_no_gap octet first.0 first.1
+
+pub token_unled : (found : Token) (text behind : List ℕ) → WritesToken found text → is_led (text ++ behind) ≡ false
+token_unled found text behind (unquoted are some) = word_unled text behind are.symbols are.each are.written some
+token_unled found text behind (quoted are) = refl
 
 -- what a comment skips
 feed_off : (octet : ℕ) (text : List ℕ) → has_feed (octet ∷ text) ≡ false → ((octet == 10) ≡ false) × (has_feed text ≡ false)

@@ -1,4 +1,4 @@
--- The rows of a document, and the rows of a text.
+-- The rows of a document.
 use Rattle.std.specs.Prelude.{◌≡◌, ◌<◌, ℕ, suc, Bool, true, false, List, [], ◌∷◌, ◌++◌, length}
 use Rattle.std.specs.List.{AllByRecursion, flat_map}
 use Rattle.dns_label.specs.declared.symbol.Symbol.{Symbol}
@@ -7,7 +7,7 @@ use Rattle.dns_text.specs.Document.{Piece}
 use Rattle.dns_text.specs.Document.Piece.{Comment, Open, Close, Newline}
 use Rattle.dns_text.specs.Document.Piece.{Token as token_piece}
 use Rattle.dns_scan.specs.Token.{Token}
-use Rattle.dns_text.specs.Tokens.{IsIn, Row, has_feed}
+use Rattle.dns_text.specs.Tokens.{IsIn, has_feed}
 
 -- symbols that stand in a quoted token, or in an unquoted one
 pub record AreSymbols (quoted : Bool) (text : List ℕ) : Type 0 where
@@ -35,14 +35,3 @@ pub data HasRows : ℕ → List Piece → List (List Token) → Type 0 where
   inner : {depth : ℕ} {pieces : List Piece} {row : List Token} {rows : List (List Token)} → HasRows (suc depth) pieces (row ∷ rows)
       → HasRows (suc depth) (Newline ∷ pieces) (row ∷ rows)
   newline : {pieces : List Piece} {rows : List (List Token)} → HasRows 0 pieces rows → HasRows 0 (Newline ∷ pieces) ([] ∷ rows)
-
--- The text is rows with these tokens, and nothing else.
-pub data IsRows : List ℕ → List (List Token) → Type 0 where
-  none : IsRows [] []
-  more : {text rest : List ℕ} {row : List Token} {rows : List (List Token)} → Row false text row rest → IsRows rest rows
-      → IsRows text (row ∷ rows)
-
--- The text is rows with these tokens, and with no others.
-pub record IsRowsOnly (text : List ℕ) (rows : List (List Token)) : Type 0 where
-  pub is_rows : IsRows text rows
-  pub only : (others : List (List Token)) → IsRows text others → others ≡ rows

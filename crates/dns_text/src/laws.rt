@@ -1,12 +1,13 @@
 //! Laws of documents. Each function does nothing; what it ensures is the law.
-ghost use Rattle.std.specs.Prelude.{◌≡◌, ◌∷◌, ◌++◌, [], ℕ, List, true, false};
+ghost use Rattle.std.specs.Prelude.{◌≡◌, ◌∷◌, ◌++◌, [], ℕ, List, map, true, false};
 ghost use Rattle.std.specs.List.{AllByRecursion};
 ghost use Rattle.dns_label.specs.Octets.{AreOctets};
 ghost use Rattle.dns_text.specs.Document.{Layout, Piece, document_text, is_inside};
 ghost use Rattle.dns_text.specs.Document.Layout.{Multiline};
 ghost use Rattle.dns_text.specs.Document.Piece.{Comment, Open, Close, Newline};
 ghost use Rattle.dns_text.specs.Lines.{IsNoToken, Part, closes, line_pieces, line_text, lines_pieces, lines_text, place_after};
-ghost use Rattle.dns_text.specs.DocumentRows.{HasRows, IsRowsOnly};
+ghost use Rattle.dns_text.specs.DocumentRows.{HasRows};
+ghost use Rattle.dns_text.specs.Rows.{IsTextOnly, unled};
 ghost use Rattle.dns_scan.specs.Token.{Token};
 ghost use Rattle.dns_text.specs.Uncertain.{IsTextOf, labels_of, text_of};
 
@@ -14,12 +15,12 @@ use crate::UncertainName;
 use dns_name::Octets;
 use dns_name::laws::{dotted_text_reads_back, relative_text_reads_back, text_spells_one_name};
 
-/// Under each layout the text of a document splits into rows with the tokens of its own rows, and with no others
-/// (RFC 1035 5.1). The tokens are words and quoted strings, the comments have no line feed and stand in blocks, and a
+/// Under each layout the text of a document splits into rows with the tokens of its own rows, and with no others. White space
+/// leads none of them, so each has an owner of its own (RFC 1035 5.1). The tokens are words and quoted strings, the comments have no line feed and stand in blocks, and a
 /// line end stands behind the last piece.
 pub fn printed_documents_split()
     ensures { (layout : Layout) (document : List Piece) (rows : List (List Token)) → HasRows 0 document rows
-        → IsRowsOnly (document_text layout document) rows }
+        → IsTextOnly (document_text layout document) (map unled rows) }
 {}
 
 /// What the text of a document is under each layout, said by what stands between its pieces.

@@ -1,1 +1,4 @@
 pub mod PlainRow
+pub mod NameInText
+pub mod Entry
+pub mod Entries
