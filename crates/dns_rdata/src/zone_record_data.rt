@@ -9,6 +9,16 @@ use crate::{
 };
 use dns_name::{Octets, RecordData, Rtype, ToName, UnknownRecordData};
 
+/// Makes data of any type of the data of one type, or hands on why there is none.
+macro_rules! held {
+    ($variant:ident, $rdata:expr) => {
+        match $rdata {
+            Ok(rdata) => Ok(ZoneRecordData::$variant(rdata)),
+            Err(error) => Err(error),
+        }
+    };
+}
+
 mod canonical;
 mod compare;
 mod compose;

@@ -1,21 +1,13 @@
 //! The fields of data, as the getters of its type return them.
-use crate::given::{Given, Read};
+use crate::given::Read;
 use dns_name::RecordData;
 use dns_rdata::ZoneRecordData;
-use rows::{Answer, Row, RowError};
-use std::alloc::Global;
+use rows::{Answer, RowError};
 
-/// Answers the type of data and its fields.
-pub fn answer(alloc: Global, row: &mut Row<'_>, out: &mut Answer) -> Result<(), RowError> {
-    let given = Given::of(row)?;
-    let octets = row.octets(alloc)?;
-    match given.read(octets.as_slice()) {
-        Ok(rdata) => {
-            out.shown(&rdata.rtype().to_int())?;
-            names(&rdata, out)
-        }
-        Err(error) => out.refused(&error),
-    }
+/// Writes the type of data and its fields.
+pub fn answer(rdata: &Read<'_>, out: &mut Answer) -> Result<(), RowError> {
+    out.shown(&rdata.rtype().to_int())?;
+    names(rdata, out)
 }
 
 /// Writes the fields of data of a type that has one name.

@@ -1,7 +1,10 @@
 //! Data that a row gives: its type, and a message in which it stands from a place to the end.
+use crate::zone_data::{answer_method, layout_of};
 use dns_name::{ParseAnyRecordData, ParseError, ParsedName, Parser, Rtype, UnknownRecordData};
 use dns_rdata::ZoneRecordData;
-use rows::{Row, RowError};
+use dns_text::ZonefileFmt;
+use rows::{Answer, Row, RowError};
+use std::alloc::Global;
 
 /// Data in a message.
 pub type Read<'a> = ZoneRecordData<&'a [u8], ParsedName<&'a [u8]>>;
@@ -10,31 +13,65 @@ pub type Read<'a> = ZoneRecordData<&'a [u8], ParsedName<&'a [u8]>>;
 #[derive(Clone, Copy)]
 pub struct Given {
     rtype: Rtype,
+    place: usize,
     is_opaque: bool,
 }
 
 impl Given {
-    /// Takes a type.
+    /// Takes a type, and the place behind its `@` if there is one.
     pub fn of(row: &mut Row<'_>) -> Result<Self, RowError> {
         let word = row.word()?;
-        let (is_opaque, mnemonic) = match word.strip_prefix("\\#") {
-            Some(mnemonic) => (true, mnemonic),
+        let (is_opaque, word) = match word.strip_prefix("\\#") {
+            Some(word) => (true, word),
             None => (false, word),
         };
-        match mnemonic.parse() {
-            Ok(rtype) => Ok(Given { rtype, is_opaque }),
-            Err(_) => Err(RowError::BadWord),
+        let (mnemonic, place) = match word.split_once('@') {
+            Some((mnemonic, place)) => (mnemonic, place),
+            None => (word, "0"),
+        };
+        match (mnemonic.parse(), place.parse()) {
+            (Ok(rtype), Ok(place)) => Ok(Given {
+                rtype,
+                place,
+                is_opaque,
+            }),
+            _ => Err(RowError::BadWord),
         }
     }
 
-    /// The data of these octets: its fields, or where it is opaque the octets.
+    /// The data of these octets: its fields from the place on, or where it is opaque all octets.
     pub fn read<'a>(self, octets: &'a [u8]) -> Result<Read<'a>, ParseError> {
-        if !self.is_opaque {
-            return ZoneRecordData::parse_any_rdata(self.rtype, &mut Parser::from_ref(octets));
+        if self.is_opaque {
+            return match UnknownRecordData::from_octets(self.rtype, octets) {
+                Ok(rdata) => Ok(ZoneRecordData::Unknown(rdata)),
+                Err(_) => Err(ParseError::ShortInput),
+            };
         }
-        match UnknownRecordData::from_octets(self.rtype, octets) {
-            Ok(rdata) => Ok(ZoneRecordData::Unknown(rdata)),
+        let mut parser = Parser::from_ref(octets);
+        match parser.advance(self.place) {
+            Ok(()) => ZoneRecordData::parse_any_rdata(self.rtype, &mut parser),
             Err(_) => Err(ParseError::ShortInput),
         }
+    }
+}
+
+/// Answers a method of data that the row gives, or why there is no such data.
+pub fn answer(alloc: Global, row: &mut Row<'_>, out: &mut Answer) -> Result<(), RowError> {
+    let given = Given::of(row)?;
+    let octets = row.octets(alloc)?;
+    match given.read(octets.as_slice()) {
+        Ok(rdata) => answer_method(alloc, row.call(), &rdata, out),
+        Err(error) => out.refused(&error),
+    }
+}
+
+/// Answers the text of data under a layout, as a literal.
+pub fn answer_layout(alloc: Global, row: &mut Row<'_>, out: &mut Answer) -> Result<(), RowError> {
+    let kind = layout_of(row)?;
+    let given = Given::of(row)?;
+    let octets = row.octets(alloc)?;
+    match given.read(octets.as_slice()) {
+        Ok(rdata) => out.named(&rdata.display_zonefile(kind).to_string(alloc)?.as_str()),
+        Err(error) => out.refused(&error),
     }
 }

@@ -1,17 +1,23 @@
 //! Data that is made of its fields.
 use dns_name::{ComposeRecordData, LongRecordData};
-use dns_rdata::{A, Aaaa, Caa, Dnskey, Ds};
+use dns_rdata::{A, Aaaa, Caa, Dnskey, Ds, Hinfo};
 use dns_text::CharStr;
 use rows::{Answer, Row, RowError};
 use std::alloc::Global;
+use std::fmt::Display;
+use std::net::Ipv4Addr;
 
-/// Writes how many octets data has and how many with pointers, or why there is none.
-fn len_or<D: ComposeRecordData + Drop>(
-    out: &mut Answer,
+/// Writes the type and how many octets data has, or its text if that is what is called, or why there is none.
+fn made<D: ComposeRecordData + Display + Drop>(
+    method: &str,
     rdata: Result<D, LongRecordData>,
+    out: &mut Answer,
 ) -> Result<(), RowError> {
     match rdata {
         Ok(rdata) => {
+            if method == "to_string" {
+                return out.shown(&rdata);
+            }
             out.shown(&rdata.rtype())?;
             out.named(&rdata.rdlen(false))
         }
@@ -19,24 +25,71 @@ fn len_or<D: ComposeRecordData + Drop>(
     }
 }
 
-pub fn answer(alloc: Global, row: &mut Row<'_>, out: &mut Answer) -> Result<(), RowError> {
+/// Answers a call of a type that is an address: the address that it then gives.
+pub fn answer_address(row: &mut Row<'_>, out: &mut Answer) -> Result<(), RowError> {
     match row.call() {
+        "A::from_octets" => {
+            let [a, b, c, d] = row.value::<Ipv4Addr>()?.octets();
+            out.shown(&A::from_octets(a, b, c, d))
+        }
+        "A::set_addr" => {
+            let mut a = A::new(row.value()?);
+            a.set_addr(row.value()?);
+            out.shown(&a.addr())
+        }
+        "Aaaa::set_addr" => {
+            let mut aaaa = Aaaa::new(row.value()?);
+            aaaa.set_addr(row.value()?);
+            out.octets(aaaa.addr().octets().as_slice())
+        }
         "A::new" => out.shown(&A::new(row.value()?)),
         "Aaaa::new" => out.shown(&Aaaa::new(row.value()?)),
-        "Ds::new" => len_or(
-            out,
-            Ds::new(row.value()?, row.value()?, row.value()?, row.octets(alloc)?),
-        ),
-        "Dnskey::new" => len_or(
-            out,
-            Dnskey::new(row.value()?, row.value()?, row.value()?, row.octets(alloc)?),
-        ),
-        _ => {
-            let flags = row.value()?;
-            let Ok(tag) = CharStr::from_octets(row.octets(alloc)?) else {
-                return Err(RowError::BadWord);
-            };
-            len_or(out, Caa::new(flags, tag, row.octets(alloc)?))
-        }
+        _ => Err(RowError::UnknownCall),
+    }
+}
+
+/// Takes a string.
+fn string(alloc: Global, row: &mut Row<'_>) -> Result<CharStr<Vec<u8>>, RowError> {
+    match CharStr::from_octets(row.octets(alloc)?) {
+        Ok(string) => Ok(string),
+        Err(_) => Err(RowError::BadWord),
+    }
+}
+
+/// Answers how HINFO data is made: its text.
+pub fn answer_hinfo(alloc: Global, row: &mut Row<'_>, out: &mut Answer) -> Result<(), RowError> {
+    let cpu = string(alloc, row)?;
+    out.shown(&Hinfo::new(cpu, string(alloc, row)?))
+}
+
+/// Answers how CAA data is made.
+pub fn answer_caa(alloc: Global, row: &mut Row<'_>, out: &mut Answer) -> Result<(), RowError> {
+    let flags = row.value()?;
+    let tag = string(alloc, row)?;
+    made(row.method(), Caa::new(flags, tag, row.octets(alloc)?), out)
+}
+
+/// Answers how DNSKEY data is made.
+pub fn answer_dnskey(alloc: Global, row: &mut Row<'_>, out: &mut Answer) -> Result<(), RowError> {
+    let (flags, protocol, algorithm) = (row.value()?, row.value()?, row.value()?);
+    let key = Dnskey::new(flags, protocol, algorithm, row.octets(alloc)?);
+    made(row.method(), key, out)
+}
+
+/// Answers how DS data is made, or the digest that it gives away.
+pub fn answer_ds(alloc: Global, row: &mut Row<'_>, out: &mut Answer) -> Result<(), RowError> {
+    let (key_tag, algorithm, digest_type) = (row.value()?, row.value()?, row.value()?);
+    let ds = Ds::new(key_tag, algorithm, digest_type, row.octets(alloc)?);
+    if row.method() == "into_digest" {
+        return digest(ds, out);
+    }
+    made(row.method(), ds, out)
+}
+
+/// Writes the digest that data gives away.
+fn digest(ds: Result<Ds<Vec<u8>>, LongRecordData>, out: &mut Answer) -> Result<(), RowError> {
+    match ds {
+        Ok(ds) => out.octets(ds.into_digest().as_slice()),
+        Err(error) => out.refused(&error),
     }
 }

@@ -11,7 +11,7 @@ fn hashed(rdata: &Read<'_>) -> u64 {
     state.finish()
 }
 
-/// Answers a comparison, of `eq` also whether both have one hash.
+/// Answers a comparison.
 pub fn answer(alloc: Global, row: &mut Row<'_>, out: &mut Answer) -> Result<(), RowError> {
     let one = Given::of(row)?;
     let mut both = row.octets(alloc)?;
@@ -21,17 +21,27 @@ pub fn answer(alloc: Global, row: &mut Row<'_>, out: &mut Answer) -> Result<(), 
     let Some((front, back)) = both.as_slice().split_at_checked(len) else {
         return Err(RowError::BadWord);
     };
-    let (Ok(one), Ok(other)) = (one.read(front), other.read(back)) else {
-        return Err(RowError::BadWord);
-    };
-    match row.call() {
+    match (one.read(front), other.read(back)) {
+        (Ok(one), Ok(other)) => compared(row.call(), &one, &other, out),
+        _ => Err(RowError::BadWord),
+    }
+}
+
+/// Writes how the values stand to each other, of `eq` also whether both have one hash.
+fn compared(
+    call: &str,
+    one: &Read<'_>,
+    other: &Read<'_>,
+    out: &mut Answer,
+) -> Result<(), RowError> {
+    match call {
         "eq" => {
-            out.shown(&(one == other))?;
-            out.shown(&(hashed(&one) == hashed(&other)))
+            out.shown(&(*one == *other))?;
+            out.shown(&(hashed(one) == hashed(other)))
         }
-        "cmp" => out.named(&one.cmp(&other)),
-        "partial_cmp" => out.named(&one.partial_cmp(&other)),
-        "canonical_cmp" => out.named(&one.canonical_cmp(&other)),
-        _ => out.shown(&one.canonical_lt(&other)),
+        "cmp" => out.named(&one.cmp(other)),
+        "partial_cmp" => out.named(&one.partial_cmp(other)),
+        "canonical_cmp" => out.named(&one.canonical_cmp(other)),
+        _ => out.shown(&one.canonical_lt(other)),
     }
 }

@@ -1,11 +1,14 @@
 //! TXT data: strings in a row, and how they are built (RFC 1035 3.3.14).
 use dns_rdata::{Txt, TxtAppendError, TxtBuilder};
-use dns_text::CharStr;
+use dns_text::{CharStr, IterScanner};
 use rows::{Answer, Row, RowError};
 use std::alloc::Global;
 
 /// Answers a call of TXT data, whose octets are the argument. A long text is cut into strings, whose lengths stand there.
 pub fn answer(alloc: Global, row: &mut Row<'_>, out: &mut Answer) -> Result<(), RowError> {
+    if row.call() == "Txt::scan" {
+        return scanned(alloc, row, out);
+    }
     let octets = row.octets(alloc)?;
     if row.call() == "Txt::build_from_slice" {
         return match Txt::<Vec<u8>>::build_from_slice(alloc, octets.as_slice()) {
@@ -40,6 +43,23 @@ pub fn answer(alloc: Global, row: &mut Row<'_>, out: &mut Answer) -> Result<(), 
             Err(error) => out.refused(&error),
         },
         _ => Err(RowError::UnknownCall),
+    }
+}
+
+/// Answers how many octets the data has that is scanned from so many words, each of so many octets.
+fn scanned(alloc: Global, row: &mut Row<'_>, out: &mut Answer) -> Result<(), RowError> {
+    let (count, len): (u16, u16) = (row.value()?, row.value()?);
+    let mut words = String::new(alloc);
+    for _ in 0..count {
+        for _ in 0..len {
+            words.push('a')?;
+        }
+        words.push('\n')?;
+    }
+    let mut scanner = IterScanner::new(alloc, words.as_str().lines())?;
+    match Txt::scan(&mut scanner) {
+        Ok(txt) => out.shown(&txt.len()),
+        Err(error) => out.refused(&error),
     }
 }
 

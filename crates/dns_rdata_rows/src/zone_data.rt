@@ -1,13 +1,15 @@
 //! Data of any type: scanned, parsed, composed and printed.
-use crate::given::{Given, Read};
+use crate::fields;
+use crate::given::Read;
 use dns_name::{
     ComposeRecordData, FlattenInto, Name, Octets, OctetsFrom, ParseAnyRecordData, ParseRecordData,
     Parser, Rtype, ToName,
 };
 use dns_rdata::ZoneRecordData;
-use dns_text::{DisplayKind, IterScanner, Scanner, ZonefileFmt};
+use dns_text::{DisplayKind, IterScanner, Scanner};
 use rows::{Answer, Row, RowError};
 use std::alloc::Global;
+use std::error::Error;
 
 /// Data that owns its octets.
 type Owned = ZoneRecordData<Vec<u8>, Name<Vec<u8>>>;
@@ -28,20 +30,39 @@ pub fn shown<Octs: Octets, N: ToName>(
     }
 }
 
-/// Answers a method of data that writes it, or how many octets it has.
-pub fn answer(alloc: Global, row: &mut Row<'_>, out: &mut Answer) -> Result<(), RowError> {
-    let given = Given::of(row)?;
-    let octets = row.octets(alloc)?;
-    let rdata = match given.read(octets.as_slice()) {
-        Ok(rdata) => rdata,
-        Err(error) => return out.refused(&error),
-    };
-    let mut target = Vec::new(alloc);
-    let outcome = match row.call() {
+/// Writes the octets and the text of data, or why there is none.
+fn shown_or<Octs: Octets + Drop, N: ToName + Drop, E: Error + Drop>(
+    alloc: Global,
+    rdata: Result<ZoneRecordData<Octs, N>, E>,
+    out: &mut Answer,
+) -> Result<(), RowError> {
+    match rdata {
+        Ok(rdata) => shown(alloc, &rdata, out),
+        Err(error) => out.refused(&error),
+    }
+}
+
+/// Answers a method of data.
+pub fn answer_method(
+    alloc: Global,
+    call: &str,
+    rdata: &Read<'_>,
+    out: &mut Answer,
+) -> Result<(), RowError> {
+    match call {
+        "fields" => fields::answer(rdata, out),
         "rdlen" => {
             out.named(&rdata.rdlen(false))?;
-            return out.named(&rdata.rdlen(true));
+            out.named(&rdata.rdlen(true))
         }
+        _ => composed(alloc, call, rdata, out),
+    }
+}
+
+/// Writes the octets that a method of data appends.
+fn composed(alloc: Global, call: &str, rdata: &Read<'_>, out: &mut Answer) -> Result<(), RowError> {
+    let mut target = Vec::new(alloc);
+    let outcome = match call {
         "compose_rdata" => rdata.compose_rdata(&mut target),
         "compose_canonical_rdata" => rdata.compose_canonical_rdata(&mut target),
         "compose_len_rdata" => rdata.compose_len_rdata(&mut target),
@@ -54,19 +75,13 @@ pub fn answer(alloc: Global, row: &mut Row<'_>, out: &mut Answer) -> Result<(), 
     }
 }
 
-/// Answers the text of data under a layout, as a literal.
-pub fn answer_layout(alloc: Global, row: &mut Row<'_>, out: &mut Answer) -> Result<(), RowError> {
-    let kind = match row.word()? {
-        "Simple" => DisplayKind::Simple,
-        "Tabbed" => DisplayKind::Tabbed,
-        "Multiline" => DisplayKind::Multiline,
-        _ => return Err(RowError::BadWord),
-    };
-    let given = Given::of(row)?;
-    let octets = row.octets(alloc)?;
-    match given.read(octets.as_slice()) {
-        Ok(rdata) => out.named(&rdata.display_zonefile(kind).to_string(alloc)?.as_str()),
-        Err(error) => out.refused(&error),
+/// Takes a layout.
+pub fn layout_of(row: &mut Row<'_>) -> Result<DisplayKind, RowError> {
+    match row.word()? {
+        "Simple" => Ok(DisplayKind::Simple),
+        "Tabbed" => Ok(DisplayKind::Tabbed),
+        "Multiline" => Ok(DisplayKind::Multiline),
+        _ => Err(RowError::BadWord),
     }
 }
 
@@ -76,10 +91,15 @@ pub fn answer_scan(alloc: Global, row: &mut Row<'_>, out: &mut Answer) -> Result
     let words = row.lines(alloc)?;
     let mut scanner = IterScanner::new(alloc, words.as_str().lines())?;
     let rdata: Result<Owned, _> = ZoneRecordData::scan(rtype, &mut scanner);
-    match rdata {
-        Ok(rdata) => shown(alloc, &rdata, out)?,
-        Err(error) => out.refused(&error)?,
-    }
+    shown_or(alloc, rdata, out)?;
+    left(&mut scanner, out)
+}
+
+/// Writes the words that are left, with `|` before them.
+pub fn left<S: Scanner>(scanner: &mut S, out: &mut Answer) -> Result<(), RowError>
+where
+    S::Error: Drop,
+{
     if scanner.continues() {
         out.shown(&"|")?;
     }
@@ -94,32 +114,36 @@ pub fn answer_scan(alloc: Global, row: &mut Row<'_>, out: &mut Answer) -> Result
 }
 
 /// A type, a place and a message.
-fn placed(alloc: Global, row: &mut Row<'_>) -> Result<(Rtype, usize, Vec<u8>), RowError> {
+pub fn placed(alloc: Global, row: &mut Row<'_>) -> Result<(Rtype, usize, Vec<u8>), RowError> {
     Ok((row.value()?, row.value()?, row.octets(alloc)?))
+}
+
+/// A parser of a message at a place.
+pub fn parser_at(message: &[u8], place: usize) -> Result<Parser<'_>, RowError> {
+    let mut parser = Parser::from_ref(message);
+    match parser.advance(place) {
+        Ok(()) => Ok(parser),
+        Err(_) => Err(RowError::BadWord),
+    }
 }
 
 /// Answers the data that stands in a message from a place on, and the parser's place then.
 pub fn answer_parse(alloc: Global, row: &mut Row<'_>, out: &mut Answer) -> Result<(), RowError> {
     let (rtype, place, message) = placed(alloc, row)?;
-    let mut parser = Parser::from_ref(message.as_slice());
-    let Ok(()) = parser.advance(place) else {
-        return Err(RowError::BadWord);
-    };
-    let rdata: Result<Read<'_>, _> = if row.call() == "ZoneRecordData::parse_any_rdata" {
-        ZoneRecordData::parse_any_rdata(rtype, &mut parser)
-    } else {
-        match ZoneRecordData::parse_rdata(rtype, &mut parser) {
-            Ok(Some(rdata)) => Ok(rdata),
-            Ok(None) => {
-                out.shown(&"None")?;
-                return out.shown(&parser.pos());
-            }
-            Err(error) => Err(error),
-        }
-    };
-    match rdata {
-        Ok(rdata) => shown(alloc, &rdata, out)?,
-        Err(error) => out.refused(&error)?,
+    let mut parser = parser_at(message.as_slice(), place)?;
+    let rdata: Result<Read<'_>, _> = ZoneRecordData::parse_any_rdata(rtype, &mut parser);
+    shown_or(alloc, rdata, out)?;
+    out.shown(&parser.pos())
+}
+
+/// Answers the same by the call that takes data of some types alone.
+pub fn answer_taken(alloc: Global, row: &mut Row<'_>, out: &mut Answer) -> Result<(), RowError> {
+    let (rtype, place, message) = placed(alloc, row)?;
+    let mut parser = parser_at(message.as_slice(), place)?;
+    let rdata: Result<Option<Read<'_>>, _> = ZoneRecordData::parse_rdata(rtype, &mut parser);
+    match rdata.transpose() {
+        Some(rdata) => shown_or(alloc, rdata, out)?,
+        None => out.shown(&"None")?,
     }
     out.shown(&parser.pos())
 }
@@ -127,10 +151,7 @@ pub fn answer_parse(alloc: Global, row: &mut Row<'_>, out: &mut Answer) -> Resul
 /// Answers the data that stands in a message from a place on, once it owns its octets.
 pub fn answer_owned(alloc: Global, row: &mut Row<'_>, out: &mut Answer) -> Result<(), RowError> {
     let (rtype, place, message) = placed(alloc, row)?;
-    let mut parser = Parser::from_ref(message.as_slice());
-    let Ok(()) = parser.advance(place) else {
-        return Err(RowError::BadWord);
-    };
+    let mut parser = parser_at(message.as_slice(), place)?;
     let rdata: Read<'_> = match ZoneRecordData::parse_any_rdata(rtype, &mut parser) {
         Ok(rdata) => rdata,
         Err(error) => return out.refused(&error),
@@ -140,8 +161,5 @@ pub fn answer_owned(alloc: Global, row: &mut Row<'_>, out: &mut Answer) -> Resul
     } else {
         Owned::try_octets_from(alloc, rdata)
     };
-    match owned {
-        Ok(owned) => shown(alloc, &owned, out),
-        Err(error) => out.refused(&error),
-    }
+    shown_or(alloc, owned, out)
 }

@@ -18,29 +18,29 @@ impl<'a> ParseAnyRecordData<'a> for ZoneRecordData<&'a [u8], ParsedName<&'a [u8]
     ghost reads_any = { λ message place number rdata. ReadsData message place number (data_of rdata) };
 
     fn parse_any_rdata(rtype: Rtype, parser: &mut Parser<'a>) -> Result<Self, ParseError> {
-        Ok(match rtype {
-            Rtype::A => ZoneRecordData::A(A::parse(parser)?),
-            Rtype::NS => ZoneRecordData::Ns(Ns::parse(parser)?),
-            Rtype::MD => ZoneRecordData::Md(Md::parse(parser)?),
-            Rtype::MF => ZoneRecordData::Mf(Mf::parse(parser)?),
-            Rtype::CNAME => ZoneRecordData::Cname(Cname::parse(parser)?),
-            Rtype::SOA => ZoneRecordData::Soa(Soa::parse(parser)?),
-            Rtype::MB => ZoneRecordData::Mb(Mb::parse(parser)?),
-            Rtype::MG => ZoneRecordData::Mg(Mg::parse(parser)?),
-            Rtype::MR => ZoneRecordData::Mr(Mr::parse(parser)?),
-            Rtype::PTR => ZoneRecordData::Ptr(Ptr::parse(parser)?),
-            Rtype::HINFO => ZoneRecordData::Hinfo(Hinfo::parse(parser)?),
-            Rtype::MINFO => ZoneRecordData::Minfo(Minfo::parse(parser)?),
-            Rtype::MX => ZoneRecordData::Mx(Mx::parse(parser)?),
-            Rtype::TXT => ZoneRecordData::Txt(Txt::parse(parser)?),
-            Rtype::RP => ZoneRecordData::Rp(Rp::parse(parser)?),
-            Rtype::AAAA => ZoneRecordData::Aaaa(Aaaa::parse(parser)?),
-            Rtype::SRV => ZoneRecordData::Srv(Srv::parse(parser)?),
-            Rtype::DS => ZoneRecordData::Ds(Ds::parse(parser)?),
-            Rtype::DNSKEY => ZoneRecordData::Dnskey(Dnskey::parse(parser)?),
-            Rtype::CAA => ZoneRecordData::Caa(Caa::parse(parser)?),
-            _ => ZoneRecordData::Unknown(UnknownRecordData::parse_any_rdata(rtype, parser)?),
-        })
+        match rtype {
+            Rtype::A => held!(A, A::parse(parser)),
+            Rtype::NS => held!(Ns, Ns::parse(parser)),
+            Rtype::MD => held!(Md, Md::parse(parser)),
+            Rtype::MF => held!(Mf, Mf::parse(parser)),
+            Rtype::CNAME => held!(Cname, Cname::parse(parser)),
+            Rtype::SOA => held!(Soa, Soa::parse(parser)),
+            Rtype::MB => held!(Mb, Mb::parse(parser)),
+            Rtype::MG => held!(Mg, Mg::parse(parser)),
+            Rtype::MR => held!(Mr, Mr::parse(parser)),
+            Rtype::PTR => held!(Ptr, Ptr::parse(parser)),
+            Rtype::HINFO => held!(Hinfo, Hinfo::parse(parser)),
+            Rtype::MINFO => held!(Minfo, Minfo::parse(parser)),
+            Rtype::MX => held!(Mx, Mx::parse(parser)),
+            Rtype::TXT => held!(Txt, Txt::parse(parser)),
+            Rtype::RP => held!(Rp, Rp::parse(parser)),
+            Rtype::AAAA => held!(Aaaa, Aaaa::parse(parser)),
+            Rtype::SRV => held!(Srv, Srv::parse(parser)),
+            Rtype::DS => held!(Ds, Ds::parse(parser)),
+            Rtype::DNSKEY => held!(Dnskey, Dnskey::parse(parser)),
+            Rtype::CAA => held!(Caa, Caa::parse(parser)),
+            _ => held!(Unknown, UnknownRecordData::parse_any_rdata(rtype, parser)),
+        }
     }
 }
 
