@@ -8,7 +8,7 @@ use Rattle.zone_text.specs.Records.{AreRecordsOf}
 use Rattle.zone_core.specs.Sent.{IsQueryFor, IsSent, message, with_soa_again}
 use Rattle.zone_core.specs.Frames.{frames}
 use Rattle.zone_core.specs.Transfer.{IsTransfer}
-use Rattle.zone_core.specs.Tried.{soa, address, query, sizes}
+use Rattle.zone_core.proofs.TriedZone.{soa, address, query, sizes}
 use Rattle.zone_core.proofs.SentTransfers.{sent_is_transfer}
 
 one_label : (octet : ℕ) → IsName ((octet ∷ []) ∷ [])

@@ -10,6 +10,7 @@ use Rattle.dns_label.specs.Labels.{labels_at}
 use Rattle.dns_label.proofs.Spelling.{labels_at-reads, spelled-written}
 use Rattle.dns_wire.specs.Flat.{IsWritten}
 use Rattle.dns_wire.proofs.Flat.{flat-written}
+use Rattle.dns_header.specs.Head.{after_length, fixed_octets}
 use Rattle.dns_message.specs.Record.{IsRecord, record_octets}
 use Rattle.zone_text.specs.Record.{Record}
 use Rattle.zone_text.specs.Stored.{IsStored, AreStored, record_in, record_with, records_at, starts}
@@ -242,15 +243,8 @@ owner_found octets read rest name r is whole is_name at same =
     let regrouped : octets ≡ wire r.owner ++ behind_owner r [] = whole ∙ sym (append-nil (record_octets r)) ∙ record_regrouped r [] in
     (wire_fronts name r.owner rest (behind_owner r []) is_name.labels is.owner.labels (sym at ∙ same ∙ regrouped)).0
 
-joined : (a b c d e f : List ℕ) → (a ++ (b ++ c ++ d)) ++ (e ++ f) ≡ a ++ b ++ c ++ d ++ e ++ f
-joined a b c d e f = simp append_assoc
-
 -- a record that is written part by part: its owner, its numbers, and its data behind their length
 pub written_record : (first second third : List ℕ) (r : Record) → first ≡ wire r.owner
-    → second ≡ first ++ (to_be_bytes w16 r.rtype ++ to_be_bytes w16 r.class ++ to_be_bytes w32 r.ttl)
-    → third ≡ second ++ (to_be_bytes w16 (length r.rdata) ++ r.rdata) → third ≡ record_octets r
+    → second ≡ first ++ fixed_octets r.rtype r.class r.ttl → third ≡ second ++ after_length r.rdata → third ≡ record_octets r
 written_record first second third r owner numbers data' =
-    let tail = to_be_bytes w16 (length r.rdata) ++ r.rdata in
-    let middle = to_be_bytes w16 r.rtype ++ to_be_bytes w16 r.class ++ to_be_bytes w32 r.ttl in
-    data' ∙ ap (λ l. l ++ tail) (numbers ∙ ap (λ l. l ++ middle) owner)
-    ∙ joined (wire r.owner) (to_be_bytes w16 r.rtype) (to_be_bytes w16 r.class) (to_be_bytes w32 r.ttl) (to_be_bytes w16 (length r.rdata)) r.rdata
+    data' ∙ ap (λ l. l ++ after_length r.rdata) (numbers ∙ ap (λ l. l ++ fixed_octets r.rtype r.class r.ttl) owner)
