@@ -75,7 +75,7 @@ sent_in_form form (soa ∷ others) class query max stream fits are asks allowed 
     let rest = behind_soa query class soa others asks.asks are.each.1 are.zone.1 in
     let first : IsInZoneOf query soa = record {
       class = are.each.0.class_is ∙ sym asks.asks.class_is;
-      under = ([], sym asks.asks.name);
+      under = record { front = []; whole_is = sym asks.asks.name };
       spellable = are.each.0.spellable;
     } in
     let transfer : IsTransferIn form query stream (soa ∷ others) = record {
