@@ -29,7 +29,7 @@ pub record StartsWithOption (octets : List ℕ) (option : EdnsOption) (rest : Li
   pub spelled : octets ≡ option_octets option ++ rest
   pub is : IsOption option
 
--- the option at the start of octets, and what stands behind it
+-- the option at the start of octets, and what follows it
 abbrev pub first_option : List ℕ → EdnsOption
 first_option octets = record { code = number_at octets 0; octets = take (number_at octets 2) (drop 4 octets) }
 

@@ -28,7 +28,7 @@ pub record StartsWithWord (text word rest : List ℕ) : Type 0 where
   pub ends : EmptyOrStartsWithPassing is_whitespace rest more
 
 -- The words ask for a type in a class. A first word that is a class stands before the type; any other is the type, and the class
--- may stand behind it, or is IN. Further words mean nothing.
+-- may follow it, or is IN. Further words mean nothing.
 pub data AsksFor (text : List ℕ) : ℕ → ℕ → Type 0 where
   class_first : {word rest next behind : List ℕ} {qtype qclass : ℕ} → StartsWithWord text word rest → class_read word ≡ Some qclass
       → StartsWithWord rest next behind → type_read next ≡ Some qtype → AsksFor text qtype qclass

@@ -63,14 +63,14 @@ pub(super) fn are_options(octets: &[u8]) -> bool
     true
 }
 
-/// The code and the octets of the option at the start, and what stands behind it. Fails if no whole option stands there.
+/// The code and the octets of the option at the start, and what follows it. Fails if no whole option stands there.
 fn split_option(octets: &[u8]) -> Result<(OptionCode, &[u8], &[u8]), ShortInput>
     ensures ok { IfOk result (λ found. StartsWithOption octets.now (record { code = found.0; octets = found.1.now }) found.2.now) }
     ensures err { OnErr result ((option : EdnsOption) (rest : List ℕ) → StartsWithOption octets.now option rest → ⊥) }
 {
     let mut parser = Parser::from_ref(octets);
-    let code = OptionCode::from_int(parser.parse_u16_be()?);
+    let code = parser.parse_u16_be()?;
     let len = parser.parse_u16_be()?;
     let value = parser.parse_octets(usize::from(len))?;
-    Ok((code, value, parser.peek_all()))
+    Ok((OptionCode::from_int(code), value, parser.peek_all()))
 }
