@@ -6,3 +6,5 @@ pub mod Fields
 pub mod FlagTexts
 pub mod Questions
 pub mod WrittenQuestions
+pub mod Options
+pub mod QuestionWords

@@ -1,5 +1,7 @@
 pub mod Header
 pub mod Head
+pub mod HeadLaws
+pub mod HeadOrder
 pub mod Record
 pub mod Written
 pub mod ParsedRecord
@@ -8,10 +10,15 @@ pub mod FlagWords
 pub mod HeaderBits
 pub mod HeaderCounts
 pub mod HeaderFields
+pub mod Opt
+pub mod OptFields
 pub mod Question
 pub mod QuestionLaws
 pub mod QuestionOrder
 pub mod QuestionParts
+pub mod QuestionText
 pub mod Shown
 pub mod RecordOrder
 pub mod RecordLaws
+pub mod RecordParts
+pub mod SkipsRecord

@@ -1,8 +1,13 @@
 -- A record in a message, whose data is not looked into yet.
-use Rattle.std.specs.Prelude.{◌≡◌, ℕ, Bool, true, List, take}
-use Rattle.dns_octets.specs.Parser.{octets_of, place_of}
+use Rattle.std.specs.Prelude.{◌≡◌, ℕ, Bool, true, List, take, nat_eq}
+use Rattle.std.specs.Cmp.{IsEquivalence, on_equiv, and_equiv, nat_eq_equiv}
+use Rattle.std.specs.Cmp.Lexicographic.{pointwise, lists_equiv}
+use Rattle.std.specs.Ordering.{on, eq_of_both}
+use Rattle.dns_octets.specs.Parser.{octets_of, place_of, rest_of}
 use Rattle.dns_octets.specs.declared.parser.Parser.{Parser}
 use Rattle.dns_header.specs.Head.{Head, ReadsWhole}
+use Rattle.dns_header.specs.HeadLaws.{heads_equivalence}
+use Rattle.dns_header.specs.HeadOrder.{heads_eq}
 use Rattle.dns_header.specs.Record.{RecordOf, NoData}
 
 -- what is in front of the data, and the parser that stands in front of them and ends with them
@@ -30,3 +35,12 @@ pub record IsRecordOf {Data : Type 0} (reads : List ℕ → ℕ → ℕ → Data
 -- they are no data of the type
 abbrev pub HasNoData : {Data : Type 0} → (List ℕ → ℕ → ℕ → Data → Type 0) → Parsed → Type 0
 HasNoData {Data} reads parsed = (rdata : Data) → reads (octets_of parsed.rdata) (place_of parsed.rdata) parsed.head.rtype rdata → ⊥
+
+-- the same head, owners up to ASCII case (RFC 4343), and octet for octet the same data
+abbrev pub parsed_eq : Parsed → Parsed → Bool
+parsed_eq = eq_of_both (on (λ parsed. parsed.head) heads_eq) (on (λ parsed. rest_of parsed.rdata) (pointwise nat_eq))
+
+pub parsed_equivalence : IsEquivalence parsed_eq
+parsed_equivalence =
+    and_equiv (on_equiv (λ (parsed : Parsed). parsed.head) heads_equivalence)
+    (on_equiv (λ (parsed : Parsed). rest_of parsed.rdata) (lists_equiv nat_eq_equiv))

@@ -23,7 +23,7 @@ questions_total =
     then_total (on_total (λ (q : Question). q.name) labels_total)
     (then_total (on_total (λ (q : Question). q.qtype) nat_cmp_total) (on_total (λ (q : Question). q.qclass) nat_cmp_total))
 
-both_tie : (r s : Ordering) → is_eq (ordering_then r s) ≡ (is_eq r && is_eq s)
+pub both_tie : (r s : Ordering) → is_eq (ordering_then r s) ≡ (is_eq r && is_eq s)
 both_tie Less s = refl
 both_tie Equal s = refl
 both_tie Greater s = refl

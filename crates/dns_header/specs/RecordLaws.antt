@@ -1,21 +1,18 @@
 -- Equality of records is an equivalence, their order a total one that ties exactly those that are equal, where that holds of
--- their data.
-use Rattle.std.specs.Prelude.{◌≡◌, ◌&&◌, ℕ, Bool, List}
-use Rattle.std.proofs.Common.{refl}
-use Rattle.std.specs.Cmp.{IsPartialEquivalence, IsEquivalence, IsTotalOrder, partial_equiv_from_equiv, on_per, on_equiv, on_total, and_per, and_equiv, nat_eq_equiv, nat_cmp_total, unsigned_ties}
+-- their data, and equal records hash alike, where equal data does.
+use Rattle.std.specs.Prelude.{◌≡◌, ◌&&◌, ◌∷◌, [], ◌++◌, ℕ, Bool, List, IsTrue}
+use Rattle.std.specs.Int.{to_be_bytes, w16}
+use Rattle.std.proofs.Common.{ap}
+use Rattle.std.specs.Cmp.{IsPartialEquivalence, IsEquivalence, IsTotalOrder, partial_equiv_from_equiv, on_per, on_equiv, on_total, and_per, and_equiv, nat_eq_equiv, nat_cmp_total, unsigned_ties, unsigned_Decides, first_so, second_so}
 use Rattle.std.proofs.lemmas.Cmp.{then_total}
 use Rattle.std.specs.Ordering.{is_eq, eq_by_cmp, nat_cmp, ordering_then}
 use Rattle.std.specs.declared.cmp.Ordering.{Ordering}
-use Rattle.std.specs.declared.cmp.Ordering.TheVariants.{Less, Equal, Greater}
 use Rattle.dns_wire.specs.Order.{labels_order}
-use Rattle.dns_flat.specs.OrderLaws.{labels_equivalence, labels_total, labels_ties}
+use Rattle.dns_flat.specs.OrderLaws.{labels_equivalence, labels_total, labels_ties, labels_alike}
 use Rattle.dns_header.specs.Record.{RecordOf}
 use Rattle.dns_header.specs.RecordOrder.{records_eq, records_cmp}
-
-both_tie : (r s : Ordering) → is_eq (ordering_then r s) ≡ (is_eq r && is_eq s)
-both_tie Less s = refl
-both_tie Equal s = refl
-both_tie Greater s = refl
+use Rattle.dns_header.specs.RecordParts.{record_keys}
+use Rattle.dns_header.specs.QuestionLaws.{both_tie}
 
 module _ {Owner Data : Type 0} (labels : Owner → List (List ℕ)) where
   pub records_partly_equivalent : {equal : Data → Data → Bool} → IsPartialEquivalence equal → IsPartialEquivalence (records_eq labels equal)
@@ -49,3 +46,13 @@ module _ {Owner Data : Type 0} (labels : Owner → List (List ℕ)) where
       let behind = both_tie (nat_cmp a.class b.class) (compare a.rdata b.rdata) in
       let all = both_tie (labels_order (labels a.owner) (labels b.owner)) (ordering_then (nat_cmp a.class b.class) (compare a.rdata b.rdata)) in
       cc
+
+  pub records_alike : (equal : Data → Data → Bool) (keys : Data → List (List ℕ)) → ((x y : Data) → IsTrue (equal x y) → keys x ≡ keys y)
+      → (a b : RecordOf Owner Data) → IsTrue (records_eq labels equal a b) → record_keys labels keys a ≡ record_keys labels keys b
+  unfolding records_eq
+  records_alike equal keys alike a b same =
+      let behind = second_so _ _ same in
+      let owner = labels_alike (labels a.owner) (labels b.owner) (first_so _ _ same) in
+      let class : a.class ≡ b.class = (unsigned_Decides a.class b.class).0 (first_so _ _ behind) in
+      let rdata = alike a.rdata b.rdata (second_so _ _ behind) in
+      λ i. ap (λ l. l) owner i ++ to_be_bytes w16 (class i) ∷ rdata i

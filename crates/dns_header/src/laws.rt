@@ -1,10 +1,14 @@
-//! Laws of headers and questions. Each function does nothing; what it ensures is the law.
+//! Laws of headers, questions, records and options. Each function does nothing; what it ensures is the law.
 ghost use Rattle.std.specs.Prelude.{◌≡◌, ◌<◌, ◌+◌, ◌^◌, ◌++◌, ℕ, List, length};
 ghost use Rattle.dns_label.specs.Name.{IsName};
 ghost use Rattle.dns_header.specs.HeaderFields.{fields_of, header_octets};
+ghost use Rattle.std.specs.List.{AllByRecursion};
+ghost use Rattle.dns_header.specs.Head.{Head, ReadsWhole};
 ghost use Rattle.dns_header.specs.HeaderCounts.{counts_of, counts_octets};
+ghost use Rattle.dns_header.specs.Opt.{EdnsOption, IsOption, options_of, options_octets};
 ghost use Rattle.dns_header.specs.Question as spec;
 ghost use Rattle.dns_header.specs.Question.{ReadsQuestion, SkipsQuestion, question_octets};
+ghost use Rattle.dns_header.specs.SkipsRecord.{SkipsRecord};
 
 use crate::{Header, HeaderCounts};
 
@@ -33,4 +37,15 @@ pub fn questions_in_full_are_read()
     ensures { (message front rest : List ℕ) (question : spec.Question) → IsName question.name → question.qtype < 2 ^ 16
         → question.qclass < 2 ^ 16 → message ≡ front ++ (question_octets question ++ rest)
         → ReadsQuestion message (length front) question (length front + length (question_octets question)) }
+{}
+
+/// Where a record is parsed, a reader that follows no pointer stops at the same place.
+pub fn record_skip_stops_where_parse_stops()
+    ensures { (message : List ℕ) (place data_place next : ℕ) (head : Head (List (List ℕ)))
+        → ReadsWhole message place head data_place next → SkipsRecord message place next }
+{}
+
+/// The octets of options are cut into these options.
+pub fn options_are_cut_from_their_octets()
+    ensures { (options : List EdnsOption) → AllByRecursion IsOption options → options_of (options_octets options) ≡ options }
 {}

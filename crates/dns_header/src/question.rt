@@ -3,11 +3,14 @@ ghost use Rattle.std.specs.Prelude.{◌≡◌};
 
 mod compose;
 mod convert;
+mod error;
+mod from_str;
 mod order;
 mod read;
 
 pub use compose::ComposeQuestion;
 use dns_name::{Class, Rtype};
+pub use error::{FromStrError, PresentationError};
 pub(crate) use order::same_names;
 
 /// A question: a name, a type and a class.

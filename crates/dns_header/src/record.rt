@@ -8,19 +8,25 @@ ghost use Rattle.dns_octets.specs.Builder.{GrowsTo, IsPast};
 ghost use Rattle.dns_octets.specs.declared.error.AppendError.TheVariants.{ShortBuf, BadLength};
 ghost use Rattle.dns_name.specs.Page.{write};
 ghost use Rattle.dns_name.specs.RecordData.{page_of};
-ghost use Rattle.dns_header.specs.Record.{RecordOf, ReadsData, with_labels};
+ghost use Rattle.dns_header.specs.Record.{ReadsData, with_labels};
+ghost use Rattle.std.specs.Borrow.{sem, follows};
+ghost use Rattle.dns_header.specs.contracts.record.Record.{the_row};
+ghost use Rattle.dns_header.specs.RecordParts.{with_data, IsConvertedRecord};
 ghost use Rattle.dns_header.specs.Written.{parts_of, written_of, canonical_of, data_length};
 
 mod convert;
 mod order;
+mod parse_error;
 mod show;
 
 use crate::RecordHeader;
 use crate::compose::{compose_canonical_parts, compose_parts};
 use dns_name::{
-    AppendError, Class, ComposeRecordData, Composer, ParseError, ParseRecordData, ParsedName,
-    Parser, RecordData, Rtype, ToName, Ttl,
+    AppendError, Class, ComposeRecordData, Composer, OctetsFrom, ParseError, ParseRecordData,
+    ParsedName, Parser, RecordData, Rtype, ToName, Ttl,
 };
+pub use parse_error::RecordParseError;
+use std::alloc::Global;
 use std::marker::Model;
 
 /// A resource record: a name, and data of the type and class that there is about it, for so long (RFC 1035 3.2.1).
@@ -33,6 +39,8 @@ pub struct Record<N, Data> {
 }
 
 impl<N, Data> Model for Record<N, Data> {
+    ghost use Rattle.dns_header.specs.Record.{RecordOf};
+
     ghost Value = { RecordOf N Data };
 
     ghost view = { λ rr. record { owner = rr.owner; class = rr.class; ttl = rr.ttl; rdata = rr.data } };
@@ -81,6 +89,14 @@ impl<N, Data> Record<N, Data> {
         &self.data
     }
 
+    /// The data, to be changed. The rest of the record stays.
+    pub fn data_mut(&mut self) -> &mut Data
+        ensures value { result.now ≡ self.old.rdata }
+        ensures* writes_back { sem 𝓛 (follows (the_row N.row Data.row) Data.row self.entry.ghost_name result.ghost_name (with_data self.old)) }
+    {
+        &mut self.data
+    }
+
     /// Gives the record another class.
     pub fn set_class(&mut self, class: Class)
         ensures { self.new ≡ record { owner = self.old.owner; class = class; ttl = self.old.ttl; rdata = self.old.rdata } }
@@ -109,6 +125,26 @@ impl<N, Data> Record<N, Data> {
         ensures { (result.0 ≡ self.owner) × (result.1 ≡ self.rdata) }
     {
         (self.owner, self.data)
+    }
+}
+
+impl<N: Drop, Data> Record<N, Data> {
+    /// Converts the owner, and then the data, of another record.
+    ///
+    /// Fails as the conversion of the owner does, and else as that of the data does.
+    pub fn from_record<Source, SourceData>(
+        alloc: Global,
+        source: Record<Source, SourceData>,
+    ) -> Result<Self, AppendError>
+    where
+        N: OctetsFrom<Source>,
+        Data: OctetsFrom<SourceData>,
+        SourceData: Drop,
+        ensures { IsConvertedRecord N.octets_from_gives Data.octets_from_gives source result }
+    {
+        let owner = N::try_octets_from(alloc, source.owner)?;
+        let rdata = Data::try_octets_from(alloc, source.data)?;
+        Ok(Record::new(owner, source.class, source.ttl, rdata))
     }
 }
 

@@ -12,6 +12,8 @@ ghost use Rattle.dns_name.specs.ParsedName.{labels_of};
 ghost use Rattle.dns_header.specs.Head.{Head, labelled, fixed_octets, head_parts, canonical_head, ReadsHead, ReadsWhole, NoHead, NoWhole, HeadIsCut, WholeIsCut};
 ghost use Rattle.dns_header.specs.Record.{RecordOf, ReadsData, NoData, DataIsRefused};
 
+mod order;
+
 use crate::Record;
 use crate::compose::{compose_canonical_head, compose_head, fixed};
 use dns_name::{

@@ -7,6 +7,7 @@
 pub mod laws;
 
 pub use dns_header::{
-    ComposeQuestion, ComposeRecord, CountOverflow, Flags, FlagsFromStrError, Header, HeaderCounts,
-    HeaderSection, ParsedRecord, Question, Record, RecordHeader,
+    ComposeQuestion, ComposeRecord, CountOverflow, Flags, FlagsFromStrError, FromStrError, Header,
+    HeaderCounts, HeaderSection, Opt, OptHeader, OptIter, OptRecord, ParsedRecord,
+    PresentationError, Question, Record, RecordHeader, RecordParseError,
 };

@@ -5,6 +5,7 @@
 #![tactic(auto)]
 
 mod headers;
+mod options;
 mod parsed;
 mod questions;
 mod records;
@@ -22,6 +23,9 @@ impl Calls for MessageCalls {
         match row.family() {
             "Header" | "Flags" => headers::answer(alloc, row, out),
             "HeaderCounts" | "HeaderSection" => sections::answer(alloc, row, out),
+            "Opt" => options::answer_options(alloc, row, out),
+            "OptHeader" => options::answer_header(row, out),
+            "OptRecord" => options::answer_record(alloc, row, out),
             "Question" => questions::answer(alloc, row, out),
             "Record" => records::answer(alloc, row, out),
             "RecordHeader" => parsed::answer_header(alloc, row, out),

@@ -1,4 +1,5 @@
 //! Records in messages: heads, and data that is read at once or later (RFC 1035 4.1.3).
+use crate::records::hash_of;
 use dns_message::{ParsedRecord, Record, RecordHeader};
 use dns_name::{Name, ParseError, ParsedName, Parser, ToName, Ttl};
 use dns_rdata::ZoneRecordData;
@@ -58,8 +59,12 @@ fn maybe_record_or(
 
 /// Answers a call of heads.
 pub fn answer_header(alloc: Global, row: &mut Row<'_>, out: &mut Answer) -> Result<(), RowError> {
-    if row.call() == "RecordHeader::compose" || row.call() == "RecordHeader::compose_canonical" {
-        return answer_composed(alloc, row, out);
+    match row.call() {
+        "RecordHeader::compose" | "RecordHeader::compose_canonical" => {
+            return answer_composed(alloc, row, out);
+        }
+        "RecordHeader::eq" | "RecordHeader::cmp" => return answer_compared(alloc, row, out),
+        _ => {}
     }
     let place = row.value()?;
     let message = row.octets(alloc)?;
@@ -97,12 +102,28 @@ fn answer_data<'a>(
     }
 }
 
-/// Answers the octets of a head.
-fn answer_composed(alloc: Global, row: &mut Row<'_>, out: &mut Answer) -> Result<(), RowError> {
+/// The head of an owner, a TTL, a class, a type and a length of data.
+fn header_of(alloc: Global, row: &mut Row<'_>) -> Result<RecordHeader<Name<Vec<u8>>>, RowError> {
     let owner = name_of(alloc, row)?;
     let ttl = Ttl::from_secs(row.value()?);
     let class = row.value()?;
-    let header = RecordHeader::new(owner, row.value()?, class, ttl, row.value()?);
+    Ok(RecordHeader::new(owner, row.value()?, class, ttl, row.value()?))
+}
+
+/// Answers how two heads stand to one another: whether they are equal and hash alike, or their order.
+fn answer_compared(alloc: Global, row: &mut Row<'_>, out: &mut Answer) -> Result<(), RowError> {
+    let header = header_of(alloc, row)?;
+    let other = header_of(alloc, row)?;
+    if row.call() == "RecordHeader::cmp" {
+        return out.named(&header.cmp(&other));
+    }
+    out.shown(&(header == other))?;
+    out.shown(&(hash_of(&header) == hash_of(&other)))
+}
+
+/// Answers the octets of a head.
+fn answer_composed(alloc: Global, row: &mut Row<'_>, out: &mut Answer) -> Result<(), RowError> {
+    let header = header_of(alloc, row)?;
     let mut target = Vec::new(alloc);
     let outcome = if row.call() == "RecordHeader::compose" {
         header.compose(&mut target)
@@ -120,6 +141,19 @@ pub fn answer(alloc: Global, row: &mut Row<'_>, out: &mut Answer) -> Result<(), 
     let place = row.value()?;
     let message = row.octets(alloc)?;
     let mut parser = at_place(message.as_slice(), place)?;
+    if row.call() == "ParsedRecord::skip" {
+        match ParsedRecord::skip(&mut parser) {
+            Ok(()) => out.shown(&"ok")?,
+            Err(error) => out.refused(&error)?,
+        }
+        return out.shown(&parser.pos());
+    }
+    if row.call() == "ParsedRecord::eq" {
+        let other = row.octets(alloc)?;
+        let record = ParsedRecord::parse(&mut parser);
+        let mut parser = Parser::from_ref(other.as_slice());
+        return out.shown(&(record == ParsedRecord::parse(&mut parser)));
+    }
     match ParsedRecord::parse(&mut parser) {
         Ok(parsed) => match row.call() {
             "ParsedRecord::parse" => {

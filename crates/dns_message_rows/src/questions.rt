@@ -1,11 +1,11 @@
 //! Questions (RFC 1035 4.1.2).
 use crate::parsed::{at_place, name_of};
+use crate::records::hash_of;
 use dns_message::Question;
 use dns_name::{CanonicalOrd, Name, ToName};
 use rows::{Answer, Row, RowError};
 use std::alloc::Global;
 use std::fmt::Display;
-use std::hash::{DefaultHasher, Hash, Hasher};
 
 type Owned = Question<Name<Vec<u8>>>;
 
@@ -14,15 +14,12 @@ fn question_of(alloc: Global, row: &mut Row<'_>) -> Result<Owned, RowError> {
     Ok(Question::new(name_of(alloc, row)?, row.value()?, row.value()?))
 }
 
-fn hashed(question: &Owned) -> u64 {
-    let mut state = DefaultHasher::new();
-    question.hash(&mut state);
-    state.finish()
-}
-
 pub fn answer(alloc: Global, row: &mut Row<'_>, out: &mut Answer) -> Result<(), RowError> {
     if row.call() == "Question::parse" || row.call() == "Question::skip" {
         return answer_parser(alloc, row, out);
+    }
+    if row.call() == "Question::from_str" {
+        return answer_text(alloc, row, out);
     }
     let question = question_of(alloc, row)?;
     match row.call() {
@@ -38,7 +35,7 @@ pub fn answer(alloc: Global, row: &mut Row<'_>, out: &mut Answer) -> Result<(), 
         "Question::eq" => {
             let other = question_of(alloc, row)?;
             out.shown(&(question == other))?;
-            out.shown(&(hashed(&question) == hashed(&other)))
+            out.shown(&(hash_of(&question) == hash_of(&other)))
         }
         "Question::cmp" => out.named(&question.cmp(&question_of(alloc, row)?)),
         "Question::partial_cmp" => out.named(&question.partial_cmp(&question_of(alloc, row)?)),
@@ -52,6 +49,16 @@ fn parts<N: ToName + Display>(question: &Question<N>, out: &mut Answer) -> Resul
     out.shown(question.qname())?;
     out.shown(&question.qtype())?;
     out.shown(&question.qclass())
+}
+
+/// Answers the question that a text spells, or the text of the error.
+fn answer_text(alloc: Global, row: &mut Row<'_>, out: &mut Answer) -> Result<(), RowError> {
+    let text = row.text(alloc)?;
+    let question: Result<Owned, _> = Question::from_str(alloc, text.as_str());
+    match question {
+        Ok(question) => parts(&question, out),
+        Err(error) => out.refused(&error),
+    }
 }
 
 /// Answers the question in a message, or that one is skipped.

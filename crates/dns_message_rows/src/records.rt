@@ -6,6 +6,7 @@ use dns_rdata::ZoneRecordData;
 use dns_text::{DisplayKind, IterScanner, ZonefileFmt};
 use rows::{Answer, Row, RowError};
 use std::alloc::Global;
+use std::hash::{DefaultHasher, Hash, Hasher};
 
 type Owned = Record<Name<Vec<u8>>, ZoneRecordData<Vec<u8>, Name<Vec<u8>>>>;
 
@@ -38,6 +39,13 @@ fn words_of(alloc: Global, row: &mut Row<'_>) -> Result<String, RowError> {
         words.push('\n')?;
     }
     Ok(words)
+}
+
+/// The hash of a value.
+pub fn hash_of<T: Hash>(value: &T) -> u64 {
+    let mut state = DefaultHasher::new();
+    value.hash(&mut state);
+    state.finish()
 }
 
 pub fn answer(alloc: Global, row: &mut Row<'_>, out: &mut Answer) -> Result<(), RowError> {
@@ -75,6 +83,7 @@ pub fn answer(alloc: Global, row: &mut Row<'_>, out: &mut Answer) -> Result<(), 
             }
         }
         "Record::eq" => out.shown(&(rr == record_of(alloc, row)?)),
+        "Record::hash" => out.shown(&(hash_of(&rr) == hash_of(&record_of(alloc, row)?))),
         "Record::cmp" => out.named(&rr.cmp(&record_of(alloc, row)?)),
         "Record::canonical_cmp" => out.named(&rr.canonical_cmp(&record_of(alloc, row)?)),
         _ => Err(RowError::UnknownCall),

@@ -6,6 +6,10 @@
 #[cfg(test)]
 mod header;
 #[cfg(test)]
+mod opt;
+#[cfg(test)]
 mod question;
 #[cfg(test)]
 mod record;
+#[cfg(test)]
+mod record_parts;

@@ -1,7 +1,7 @@
 //! Questions of several types, and over octets of several kinds.
 
 use arrayvec::ArrayVec;
-use dns_header::{ComposeQuestion, Question};
+use dns_header::{ComposeQuestion, FromStrError, PresentationError, Question};
 use dns_name::{AppendError, Class, Name, OctetsFrom, ParsedName, Parser, Rtype};
 use std::test::Fail;
 
@@ -56,5 +56,25 @@ fn makes_converts_and_takes_apart(rt: HostRuntime) -> Result<(), Fail> {
     let flat = Question::new(Name::from_slice(b"\x01b\x01a\0")?, Rtype::MX, Class::CH);
     let small: Question<Name<ArrayVec<u8, 5>>> = Question::try_octets_from(rt.alloc(), flat)?;
     assert!(rt; small.to_string(rt.alloc())?.as_str() == "b.a.\tMX\tCH");
+    Ok(())
+}
+
+#[test]
+fn a_text_is_read_over_octets_of_any_kind(rt: HostRuntime) -> Result<(), Fail> {
+    let small: Question<Name<ArrayVec<u8, 5>>> = Question::from_str(rt.alloc(), "b.a MX CH")?;
+    assert!(rt; small.qname().as_slice() == b"\x01b\x01a\0".as_slice());
+    let long: Result<Question<Name<ArrayVec<u8, 5>>>, FromStrError> = Question::from_str(
+        rt.alloc(),
+        "b.ab MX CH",
+    );
+    assert!(rt; long.err() == Some(FromStrError::ShortBuf));
+    let none: Result<Question<Name<Vec<u8>>>, FromStrError> = Question::from_str(
+        rt.alloc(),
+        "a IN",
+    );
+    let missing = FromStrError::Presentation(PresentationError::MissingQtype);
+    assert!(rt; none.err() == Some(missing));
+    assert!(rt; FromStrError::ShortBuf.to_string(rt.alloc())?.as_str() == "short buffer");
+    assert!(rt; missing.to_string(rt.alloc())?.as_str() == "missing qtype");
     Ok(())
 }

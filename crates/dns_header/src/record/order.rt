@@ -1,14 +1,16 @@
-//! Records beside one another.
+//! Equality, orders and the hash of records.
 ghost use Rattle.std.proofs.Common.{refl};
 ghost use Rattle.std.specs.Cmp.{partial_order_from_total, partial_order_from_own_ties};
 ghost use Rattle.std.specs.Ordering.{as_partial_cmp};
 ghost use Rattle.dns_header.specs.RecordOrder.{records_eq, records_cmp, canonical_records_cmp};
-ghost use Rattle.dns_header.specs.RecordLaws.{records_partly_equivalent, records_equivalent, records_total, records_ties};
+ghost use Rattle.dns_header.specs.RecordLaws.{records_partly_equivalent, records_equivalent, records_total, records_ties, records_alike};
+ghost use Rattle.dns_header.specs.RecordParts.{record_keys};
 
 use super::Record;
 use crate::question::same_names;
 use dns_name::{CanonicalOrd, RecordData, ToName};
 use std::cmp::Ordering;
+use std::hash::{Hash, Hasher};
 
 /// The same owner up to ASCII case (RFC 4343), class and data. The TTL doesn't count (RFC 2136 1.1.1).
 impl<N: ToName, Data: PartialEq> PartialEq for Record<N, Data> {
@@ -69,5 +71,18 @@ impl<N: ToName, Data: RecordData + CanonicalOrd> CanonicalOrd for Record<N, Data
         self.class
             .cmp(&other.class)
             .then(self.owner.name_cmp(&other.owner).then(behind))
+    }
+}
+
+/// Hashes the owner in lower case, the class and the data. The TTL doesn't count.
+impl<N: ToName, Data: Hash> Hash for Record<N, Data> {
+    ghost hash_input = { record_keys N.name Data.hash_input };
+
+    ghost respects_eq = { records_alike N.name Data.eq Data.hash_input Data.respects_eq };
+
+    fn hash<H: Hasher>(&self, state: &mut H) {
+        self.owner.name_hash(state);
+        state.write(&self.class.to_int().to_be_bytes());
+        self.data.hash(state);
     }
 }

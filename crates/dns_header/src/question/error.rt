@@ -1,0 +1,61 @@
+//! Why no question is made of a text.
+ghost use Rattle.std.specs.Prelude.{◌≡◌};
+ghost use Rattle.dns_header.specs.declared.question.error.FromStrError.TheVariants.{Presentation};
+ghost use Rattle.dns_header.specs.QuestionText.{name_fault};
+
+use thiserror::Error;
+
+/// Why no question is made of a text.
+#[derive(Clone, Copy, Debug, PartialEq, Eq, Error)]
+pub enum FromStrError {
+    /// The text spells no question.
+    #[error("{0}")]
+    Presentation(PresentationError),
+    /// There is no memory or no room for the name.
+    #[error("short buffer")]
+    ShortBuf,
+}
+
+/// Why a text spells no question.
+#[derive(Clone, Copy, Debug, PartialEq, Eq, Error)]
+pub enum PresentationError {
+    /// The first word spells no name.
+    #[error("{0}")]
+    BadName(dns_name::PresentationError),
+    /// There is no word.
+    #[error("missing qname")]
+    MissingQname,
+    /// Nothing follows the name.
+    #[error("missing class and qtype")]
+    MissingClassAndQtype,
+    /// Nothing follows the name and the class.
+    #[error("missing qtype")]
+    MissingQtype,
+    /// The word after the type is no class.
+    #[error("invalid class")]
+    BadClass,
+    /// The word after the name, or after the name and the class, is no type.
+    #[error("invalid qtype")]
+    BadQtype,
+}
+
+impl From<PresentationError> for FromStrError {
+    ghost from_gives = { λ reason error. error ≡ Presentation reason };
+
+    fn from(reason: PresentationError) -> FromStrError {
+        FromStrError::Presentation(reason)
+    }
+}
+
+impl From<dns_name::FromStrError> for FromStrError {
+    ghost from_gives = { λ reason error. error ≡ name_fault reason };
+
+    fn from(reason: dns_name::FromStrError) -> FromStrError {
+        match reason {
+            dns_name::FromStrError::Presentation(reason) => {
+                FromStrError::Presentation(PresentationError::BadName(reason))
+            }
+            dns_name::FromStrError::ShortBuf => FromStrError::ShortBuf,
+        }
+    }
+}
