@@ -17,7 +17,6 @@ pub mod ReadEach
 pub mod CutFields
 mod LongRows
 pub mod ComposedRows
-pub mod DataDocuments
 pub mod PrintedTexts
 pub mod PrintedRows
 pub mod PrintedTokens

@@ -1,6 +1,6 @@
 -- How data is printed: a block with its fields' texts.
 use Rattle.std.specs.Prelude.{◌≡◌, ◌==◌, ℕ, List, [], ◌∷◌, ◌++◌, Option, Some, None, codes, decimal, map, if◌then◌else◌}
-use Rattle.std.specs.List.{flat_map}
+use Rattle.std.specs.List.{AllByRecursion, flat_map}
 use Rattle.std.specs.Net.Text.{ipv4_text, hex_groups_text}
 use Rattle.std.specs.Net.Addr.{segments_of}
 use Rattle.dns_label.specs.Printed.{printed_name}
@@ -9,7 +9,7 @@ use Rattle.dns_scan.specs.StringText.{quoted_text, unquoted_text}
 use Rattle.dns_text.specs.Document.{Piece}
 use Rattle.dns_text.specs.Document.Piece.{Token, Comment}
 use Rattle.dns_text.specs.Documents.{block_of}
-use Rattle.dns_fields.specs.Fields.{Field, number8, number16, number32, ipv4, ipv6, compressible, uncompressed, string, strings, tag, rest_text, rest16, rest64, octets, IsRow}
+use Rattle.dns_fields.specs.Fields.{Field, number8, number16, number32, ipv4, ipv6, compressible, uncompressed, string, strings, tag, rest_text, rest16, rest64}
 
 -- one token, or none where it would be empty
 abbrev pub one_unless_empty : List ℕ → List (List ℕ)
@@ -63,9 +63,6 @@ commented (Some comment ∷ comments) (field ∷ row) = field_pieces field ++ Co
 abbrev pub data_pieces : ℕ → List Field → List Piece
 data_pieces rtype row = commented (comments_of rtype) row
 
--- data of a type that has fields, and its document: a block with the pieces of its row
-pub record IsDataDocument (rtype : ℕ) (data' : List ℕ) (document : List Piece) : Type 0 where
-  pub row : List Field
-  pub is_row : IsRow rtype row
-  pub octets_are : data' ≡ octets row
-  pub is : document ≡ block_of (data_pieces rtype row)
+-- No tag of the row is empty: that of a CAA record has at least one character (RFC 8659 4.1), and text has no token for none.
+abbrev pub TagsAreSome : List Field → Type 0
+TagsAreSome row = AllByRecursion (λ field. field ≡ tag [] → ⊥) row

@@ -1,17 +1,17 @@
 //! Laws of record data. Each function does nothing; what it ensures is the law.
 ghost use Rattle.std.specs.Prelude.{◌≡◌, ◌++◌, [], Some, ℕ, List, IsTrue, length};
 ghost use Rattle.std.specs.Cmp.Lexicographic.{slice_cmp};
-ghost use Rattle.std.specs.List.{AllByRecursion, AllZip};
+ghost use Rattle.std.specs.List.{AllZip};
 ghost use Rattle.std.specs.Ordering.{is_eq, nat_cmp};
 ghost use Rattle.dns_label.specs.Octets.{AreOctets};
 ghost use Rattle.dns_label.specs.NameText.{IsNameText};
 ghost use Rattle.dns_scan.specs.Token.{Token};
 ghost use Rattle.dns_text.specs.DocumentRows.{WritesToken};
 ghost use Rattle.dns_fields.specs.Alike.{keys, rows_eq, rows_cmp, canonical_rows_cmp};
-ghost use Rattle.dns_fields.specs.Fields.{Kind, Field, tag, octets, canonical_octets, IsRow, IsData, kinds_of};
+ghost use Rattle.dns_fields.specs.Fields.{Kind, Field, octets, canonical_octets, IsRow, IsData, kinds_of};
 ghost use Rattle.dns_fields.specs.Reading.{ReadsRow};
 ghost use Rattle.dns_fields.specs.Scanned.{ScansData};
-ghost use Rattle.dns_fields.specs.Shown.{row_tokens};
+ghost use Rattle.dns_fields.specs.Shown.{TagsAreSome, row_tokens};
 ghost use Rattle.dns_fields.specs.SpelledNames.{SpellOne, SpellPrinted};
 
 use dns_name::laws::{dotted_text_reads_back, text_spells_one_name};
@@ -39,7 +39,7 @@ pub fn data_is_read_as_one_row()
 /// text is one name at most. There are such tokens unless the row has an empty tag, which is printed as no text.
 pub fn printed_data_scans_back<S: Scanner>(scanner: &S)
     ensures written { (rtype : ℕ) (row : List Field) → IsRow rtype row → AreOctets (octets row)
-        → AllByRecursion (λ field. field ≡ tag [] → ⊥) row → (tokens : List Token) × AllZip WritesToken tokens (row_tokens row) }
+        → TagsAreSome row → (tokens : List Token) × AllZip WritesToken tokens (row_tokens row) }
     ensures scans { (rtype : ℕ) (row : List Field) (tokens : List Token) → IsRow rtype row
         → AreOctets (octets row)
         → SpellPrinted (S.names scanner.now)
