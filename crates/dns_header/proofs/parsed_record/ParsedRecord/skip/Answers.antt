@@ -46,3 +46,19 @@ returns-in_err-advance-2-clause-short c =
     let whole : behind + 10 ≤ length message = search rules in
     told_of c.from_residual-in_err-advance-2.result ShortInput c.from_residual-in_err-advance-2.ensures.1
     (λ same. in_data _ c.in_ok-skip.ensures.ok whole (omega (arith, short, number)), λ cut. refl)
+
+pub returns-clause-ok : goal.returns-clause-ok
+returns-clause-ok c =
+    let message = octets_of c.args.parser.now in
+    let behind = place_of c.skip.new.parser in
+    let number : c.in_ok-len.len ≡ number_at message (behind + 8) = search rules in
+    let next : place_of c.advance-2.new.self ≡ behind + 10 + c.in_ok-len.len = search rules in
+    let whole : behind + 10 ≤ length message = search rules in
+    let within : place_of c.advance-2.new.self ≤ length message = search rules in
+    record {
+      behind = behind;
+      owner = c.in_ok-skip.ensures.ok;
+      whole = whole;
+      ends = next ∙ ap (λ n. behind + 10 + n) number;
+      within = within;
+    }
