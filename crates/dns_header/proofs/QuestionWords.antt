@@ -17,6 +17,6 @@ first_word E old new (Some word) steps = record {
   some = steps.2;
   blank = steps.3;
   solid = steps.4;
-  more = steps.5;
-  ends = steps.6;
+  more = steps.5.0;
+  ends = steps.5.1;
 }
