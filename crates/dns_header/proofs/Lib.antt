@@ -8,3 +8,4 @@ pub mod Questions
 pub mod WrittenQuestions
 pub mod Options
 pub mod QuestionWords
+pub mod Skips

@@ -21,8 +21,9 @@ impl<'a> ParsedRecord<'a> {
     {
         let mut ahead = *parser;
         ParsedName::skip(&mut ahead)?;
-        let fixed = ahead.parse_octets(10)?;
-        ahead.advance(usize::from(u16::from_be_bytes([fixed[8], fixed[9]])))?;
+        ahead.advance(8)?;
+        let len = ahead.parse_u16_be()?;
+        ahead.advance(usize::from(len))?;
         *parser = ahead;
         Ok(())
     }

@@ -20,7 +20,7 @@ returns-in_err-value-clause-err c =
     let len_is : to_be_bytes w16 c.in_ok-len.len ≡ take 2 (drop 2 c.args.octets.now) = search rules in
     let same : octets_of c.parse_u16_be-2.new.self ≡ c.args.octets.now = search rules in
     let place : place_of c.parse_u16_be-2.new.self ≡ 4 =
-    omega (arith, c.in_ok-len.ensures.place.place, c.in_ok-code.ensures.place.place, c.from_ref.ensures.place) in
+    omega (arith, c.in_ok-len.ensures.place.place, c.in_ok-code.ensures.place.place, c.from_ref-parser.ensures.place) in
     on_err c.from_residual-in_err-value.result
     (λ option rest starts.
     let long = option_length c.args.octets.now option rest c.in_ok-len.len starts len_is (omega arith) in
