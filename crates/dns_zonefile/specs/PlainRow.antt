@@ -2,9 +2,7 @@
 -- each an unquoted token, with spaces between them and nothing else (RFC 1035 5.1). Names have their last dot.
 use Rattle.std.specs.Prelude.{◌≡◌, ◌≢◌, ◌<◌, ◌^◌, ℕ, List, [], ◌∷◌, ◌++◌, length, Some, slice_index, false}
 use Rattle.std.specs.List.{AllByRecursion, flat_map}
-use Rattle.std.specs.Int.{to_be_bytes, w32}
 use Rattle.std.specs.Net.Grammar.{IsDotted}
-use Rattle.dns_label.specs.Name.{wire}
 use Rattle.dns_label.specs.NameText.{IsAbsoluteText}
 use Rattle.dns_label.specs.Symbol.{spelled}
 use Rattle.dns_label.specs.declared.symbol.Symbol.{Symbol}
