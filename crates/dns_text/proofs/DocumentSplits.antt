@@ -113,28 +113,32 @@ no_gap : (layout : Layout) (line : List Piece) → is_first layout line ≡ true
 no_gap layout line first =
     ap (λ (b : Bool). if b then [] else (if is_inside line then data_gap layout line else outer_gap layout)) first
 
+first_open : (line : List Piece) (inside : Bool) → is_inside line ≡ inside → is_first Multiline (Open ∷ line) ≡ true
+    → (is_first Multiline line ≡ true → depth line ≡ 0) → depth (Open ∷ line) ≡ 0
+first_open line true is first outside =
+    let behind : is_first Multiline line ≡ true =
+    sym (ap (λ (b : Bool). if (if b then false else true) then false else is_first Multiline line) is) ∙ first in
+    let bad : true ≡ false = sym is ∙ is_outside_at line (outside behind) in cc
+first_open line false is first outside =
+    let bad : false ≡ true =
+    sym (ap (λ (b : Bool). if (if b then false else true) then false else is_first Multiline line) is) ∙ first in cc
+
+first_close : (line : List Piece) (last : Bool) → (depth line == 1) ≡ last → is_first Multiline (Close ∷ line) ≡ true
+    → (is_first Multiline line ≡ true → depth line ≡ 0) → depth (Close ∷ line) ≡ 0
+first_close line true is first outside =
+    let bad : false ≡ true = sym (ap (λ (b : Bool). if b then false else is_first Multiline line) is) ∙ first in cc
+first_close line false is first outside =
+    let behind : is_first Multiline line ≡ true =
+    sym (ap (λ (b : Bool). if b then false else is_first Multiline line) is) ∙ first in
+    ap (λ (n : ℕ). n - 1) (outside behind)
+
 -- under Multiline a line begins outside of blocks, since the marks of a block are seen
 first_is_outside : (line : List Piece) → is_first Multiline line ≡ true → depth line ≡ 0
 first_is_outside [] first = refl
 first_is_outside (token_piece text ∷ line) first = cc
 first_is_outside (Comment text ∷ line) first = cc
-first_is_outside (Open ∷ line) first = by (is_inside line) refl
-  where
-    by : (inside : Bool) → is_inside line ≡ inside → depth (Open ∷ line) ≡ 0
-    by true is =
-        let behind : is_first Multiline line ≡ true =
-        sym (ap (λ (b : Bool). if (if b then false else true) then false else is_first Multiline line) is) ∙ first in
-        let bad : true ≡ false = sym is ∙ is_outside_at line (first_is_outside line behind) in cc
-    by false is =
-        let bad : false ≡ true =
-        sym (ap (λ (b : Bool). if (if b then false else true) then false else is_first Multiline line) is) ∙ first in cc
-first_is_outside (Close ∷ line) first = by (depth line == 1) refl
-  where
-    by : (last : Bool) → (depth line == 1) ≡ last → depth (Close ∷ line) ≡ 0
-    by true is = let bad : false ≡ true = sym (ap (λ (b : Bool). if b then false else is_first Multiline line) is) ∙ first in cc
-    by false is =
-        let behind : is_first Multiline line ≡ true = sym (ap (λ (b : Bool). if b then false else is_first Multiline line) is) ∙ first in
-        ap (λ (n : ℕ). n - 1) (first_is_outside line behind)
+first_is_outside (Open ∷ line) first = first_open line (is_inside line) refl first (first_is_outside line)
+first_is_outside (Close ∷ line) first = first_close line (depth line == 1) refl first (first_is_outside line)
 first_is_outside (Newline ∷ line) first = first_is_outside line first
 
 -- a piece that is not seen

@@ -108,16 +108,18 @@ no_row : {inside : Bool} {row : List Token} {rest : List ℕ} → Row inside [] 
 no_row (end next) = no_next next
 no_row (token out left next others) = no_next next
 
+none_after : (octet : ℕ) (text : List ℕ) (feed : Bool) → (octet == 10) ≡ feed → has_feed (octet ∷ text) ≡ false
+    → (has_feed text ≡ false → from_feed text ≡ []) → from_feed (octet ∷ text) ≡ []
+none_after octet text true is none' behind =
+    let bad : true ≡ false = sym (ap (λ (b : Bool). if b then true else has_feed text) is) ∙ none' in cc
+none_after octet text false is none' behind =
+    ap (λ (b : Bool). if b then octet ∷ text else from_feed text) is
+    ∙ behind (sym (ap (λ (b : Bool). if b then true else has_feed text) is) ∙ none')
+
 -- what is left of a text without a line feed behind its comment
 none_from_feed : (text : List ℕ) → has_feed text ≡ false → from_feed text ≡ []
 none_from_feed [] none' = refl
-none_from_feed (octet ∷ text) none' = by (octet == 10) refl
-  where
-    by : (feed : Bool) → (octet == 10) ≡ feed → from_feed (octet ∷ text) ≡ []
-    by true is = let bad : true ≡ false = sym (ap (λ (b : Bool). if b then true else has_feed text) is) ∙ none' in cc
-    by false is =
-        ap (λ (b : Bool). if b then octet ∷ text else from_feed text) is
-        ∙ none_from_feed text (sym (ap (λ (b : Bool). if b then true else has_feed text) is) ∙ none')
+none_from_feed (octet ∷ text) none' = none_after octet text (octet == 10) refl none' (none_from_feed text)
 
 -- where a text ends there is no token, and no row
 abbrev head_if_no_gap : Bool → ℕ → Head
@@ -127,36 +129,43 @@ head_if_no_gap inside octet =
     else (if octet == 41 then (if inside then Go false else Refused)
     else (if octet == 59 then Comment else (if octet == 34 then Quote else Word))))
 
+end_after_feed : (text : List ℕ) {found : Option Token} {out : Bool} {rest : List ℕ} (feed : Bool) → has_feed text ≡ feed
+    → not (has_feed text) ≡ true → Next false (from_feed text) found out rest → ⊥
+end_after_feed text true is none' behind = let bad : false ≡ true = sym (ap not is) ∙ none' in cc
+end_after_feed text {found} {out} {rest} false is none' behind =
+    no_next (subst (λ (l : List ℕ). Next false l found out rest) (none_from_feed text is) behind)
+
+end_at_mark : (octet : ℕ) (text : List ℕ) {found : Option Token} {out : Bool} {rest : List ℕ} (mark : Bool) → (octet == 59) ≡ mark
+    → is_gap octet ≡ false → is_end (octet ∷ text) ≡ true → Next false (octet ∷ text) found out rest → ⊥
+end_at_mark octet text {found} {out} {rest} true is gap ends next =
+    let at : octet ≡ 59 = (Decides-eqb octet 59).0 is in
+    let ended : not (has_feed text) ≡ true = subst (λ (n : ℕ). is_end (n ∷ text) ≡ true) at ends in
+    end_after_feed text (has_feed text) refl ended (after_at false octet text rest found out Comment (ap (head_of false) at) next)
+end_at_mark octet text false is gap ends next =
+    let bad : false ≡ true =
+    sym (ap (λ (b : Bool). if b then is_end text else (if octet == 59 then not (has_feed text) else false)) gap
+    ∙ ap (λ (b : Bool). if b then not (has_feed text) else false) is) ∙ ends in cc
+
+at_end : (octet : ℕ) (text : List ℕ) {found : Option Token} {out : Bool} {rest : List ℕ} (gap : Bool) → is_gap octet ≡ gap
+    → is_end (octet ∷ text) ≡ true → Next false (octet ∷ text) found out rest
+    → (is_end text ≡ true → Next false text found out rest → ⊥) → ⊥
+at_end octet text {found} {out} {rest} true is ends next behind =
+    behind (sym (ap (λ (b : Bool). if b then is_end text else (if octet == 59 then not (has_feed text) else false)) is) ∙ ends)
+    (after_at false octet text rest found out (Go false) (ap (λ (b : Bool). if b then Go false else head_if_no_gap false octet) is) next)
+at_end octet text false is ends next behind = end_at_mark octet text (octet == 59) refl is ends next
+
 no_next_at_end : (text : List ℕ) {found : Option Token} {out : Bool} {rest : List ℕ} → is_end text ≡ true
     → Next false text found out rest → ⊥
 no_next_at_end [] ends next = no_next next
-no_next_at_end (octet ∷ text) {found} {out} {rest} ends next = by_gap (is_gap octet) refl
-  where
-    by_feed : (feed : Bool) → has_feed text ≡ feed → not (has_feed text) ≡ true → Next false (from_feed text) found out rest → ⊥
-    by_feed true is none' behind = let bad : false ≡ true = sym (ap not is) ∙ none' in cc
-    by_feed false is none' behind = no_next (subst (λ (l : List ℕ). Next false l found out rest) (none_from_feed text is) behind)
-    by_mark : (mark : Bool) → (octet == 59) ≡ mark → is_gap octet ≡ false → ⊥
-    by_mark true is gap =
-        let at : octet ≡ 59 = (Decides-eqb octet 59).0 is in
-        let ended : not (has_feed text) ≡ true =
-        subst (λ (n : ℕ). is_end (n ∷ text) ≡ true) at ends in
-        by_feed (has_feed text) refl ended
-        (after_at false octet text rest found out Comment (ap (head_of false) at) next)
-    by_mark false is gap =
-        let bad : false ≡ true =
-        sym (ap (λ (b : Bool). if b then is_end text else (if octet == 59 then not (has_feed text) else false)) gap
-        ∙ ap (λ (b : Bool). if b then not (has_feed text) else false) is) ∙ ends in cc
-    by_gap : (gap : Bool) → is_gap octet ≡ gap → ⊥
-    by_gap true is =
-        let behind : is_end text ≡ true =
-        sym (ap (λ (b : Bool). if b then is_end text else (if octet == 59 then not (has_feed text) else false)) is) ∙ ends in
-        no_next_at_end text behind (after_at false octet text rest found out (Go false)
-        (ap (λ (b : Bool). if b then Go false else head_if_no_gap false octet) is) next)
-    by_gap false is = by_mark (octet == 59) refl is
+no_next_at_end (octet ∷ text) {found} {out} {rest} ends next =
+    at_end octet text (is_gap octet) refl ends next (λ behind next'. no_next_at_end text behind next')
 
 no_row_at_end : {text : List ℕ} {row : List Token} {rest : List ℕ} → is_end text ≡ true → Row false text row rest → ⊥
 no_row_at_end {text} ends (end next) = no_next_at_end text ends next
 no_row_at_end {text} ends (token out left next others) = no_next_at_end text ends next
+
+abbrev row_of : List ℕ → List Token → TokenRow
+row_of text tokens = record { led = is_led text; tokens = tokens }
 
 one_begin : {text rest rest' : List ℕ} {rows rows' : List TokenRow} → BeginsWithRows text rows rest → is_end rest ≡ true
     → BeginsWithRows text rows' rest' → is_end rest' ≡ true → rows' ≡ rows
@@ -167,8 +176,7 @@ one_begin {text} (more {tokens = row} {rows = rows} first behind) ends
     (more {rest = rest'} {tokens = row'} {rows = rows'} first' behind') ends' =
     let same = one_row first row' _ first' in
     let there = one_begin behind ends (subst (λ (l : List ℕ). BeginsWithRows l rows' rest') (sym same.1) behind') ends' in
-    let row_is : record TokenRow { led = is_led text; tokens = row } ≡ record { led = is_led text; tokens = row' } =
-    ap (λ (l : List Token). record TokenRow { led = is_led text; tokens = l }) same.0 in
+    let row_is : row_of text row ≡ row_of text row' = ap (row_of text) same.0 in
     cc
 
 pub one_text : {text : List ℕ} {rows : List TokenRow} → IsText text rows → (others : List TokenRow) → IsText text others

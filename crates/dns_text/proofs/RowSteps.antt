@@ -21,14 +21,17 @@ pub data Split : Bool → List ℕ → List (List Token) → Type 0 where
   row : {inside : Bool} {text rest : List ℕ} {tokens : List Token} {rows : List (List Token)} → Row inside text tokens rest
       → is_led rest ≡ false → Split false rest rows → Split inside text (tokens ∷ rows)
 
-unled_row : (led : Bool) (tokens : List Token) → led ≡ false → unled tokens ≡ record { led = led; tokens = tokens }
-unled_row led tokens is = ap (λ (b : Bool). record TokenRow { led = b; tokens = tokens }) (sym is)
+abbrev row_with : List Token → Bool → TokenRow
+row_with tokens led = record { led = led; tokens = tokens }
+
+unled_row : (led : Bool) (tokens : List Token) → led ≡ false → row_with tokens led ≡ unled tokens
+unled_row led tokens is = ap (row_with tokens) is
 
 pub rows_of : {text : List ℕ} {rows : List (List Token)} → is_led text ≡ false → Split false text rows
     → BeginsWithRows text (map unled rows) []
 rows_of is nothing = none
 rows_of {text} is (row {tokens = tokens} {rows = rows} first next others) =
-    subst (λ (r : TokenRow). BeginsWithRows text (r ∷ map unled rows) []) (sym (unled_row (is_led text) tokens is))
+    subst (λ (r : TokenRow). BeginsWithRows text (r ∷ map unled rows) []) (unled_row (is_led text) tokens is)
     (more first (rows_of next others))
 
 -- behind white space or a parenthesis

@@ -3,7 +3,6 @@ use Rattle.std.proofs.Common.{◌≡◌, ◌<◌, ℕ, suc, List, [], ◌∷◌,
 use Rattle.dns_label.specs.Octets.{AreOctets}
 use Rattle.dns_scan.specs.Encodings.{encoded_16}
 use Rattle.dns_scan.proofs.HexWords.{hex_encoded}
-use Rattle.dns_text.specs.Document.{Piece}
 use Rattle.dns_text.specs.Document.Piece.{Token}
 use Rattle.dns_text.specs.Documents.{unknown_tokens}
 

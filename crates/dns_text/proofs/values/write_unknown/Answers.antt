@@ -1,4 +1,4 @@
-use Rattle.std.proofs.Common.{◌≡◌, ◌<◌, ◌∷◌, [], List, ℕ, OnOk, length, decimal, subst, arith, rules}
+use Rattle.std.proofs.Common.{◌<◌, ◌∷◌, [], List, OnOk, length, decimal, subst, arith, rules}
 use Rattle.dns_scan.specs.Encodings.{encoded_16}
 use Rattle.dns_scan.proofs.HexWords.{octets_by_place}
 use Rattle.dns_text.specs.Document.{Piece}
