@@ -3,4 +3,4 @@ pub use Rattle.dns_fields.proofs.DataDocuments
 pub mod Fronts
 pub mod Pairs
 pub mod ScanAny
-mod PrintedData
+pub mod PrintedData
