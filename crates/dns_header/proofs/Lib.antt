@@ -1,4 +1,5 @@
 pub mod Heads
+mod Tried
 pub mod Composing
 pub mod Headers
 pub mod Fields

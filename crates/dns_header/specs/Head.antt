@@ -74,10 +74,17 @@ abbrev pub head_parts : Head (List (List ℕ)) → Parts
 head_parts head =
     Named head.owner (Octets (fixed_octets head.rtype head.class head.ttl ++ to_be_bytes w16 head.data_len) End)
 
--- the canonical form, given that of the data (RFC 4034 6.2)
+-- data after its length
+abbrev pub after_length : List ℕ → List ℕ
+after_length data' = to_be_bytes w16 (length data') ++ data'
+
+-- a record with no name compressed, given the octets of its data
+abbrev pub record_octets : List (List ℕ) → ℕ → ℕ → ℕ → List ℕ → List ℕ
+record_octets owner rtype class ttl data' = wire owner ++ fixed_octets rtype class ttl ++ after_length data'
+
+-- the canonical form, given that of the data: the owner is in lower case (RFC 4034 6.2)
 abbrev pub canonical_record : List (List ℕ) → ℕ → ℕ → ℕ → List ℕ → List ℕ
-canonical_record owner rtype class ttl data' =
-    wire (low owner) ++ fixed_octets rtype class ttl ++ to_be_bytes w16 (length data') ++ data'
+canonical_record owner rtype class ttl data' = record_octets (low owner) rtype class ttl data'
 
 abbrev pub canonical_head : Head (List (List ℕ)) → List ℕ
 canonical_head head =

@@ -12,7 +12,6 @@ pub mod Question
 pub mod QuestionLaws
 pub mod QuestionOrder
 pub mod QuestionParts
-pub mod Tried
 pub mod Shown
 pub mod RecordOrder
 pub mod RecordLaws

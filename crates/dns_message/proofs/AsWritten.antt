@@ -1,6 +1,6 @@
 -- A record that is spelled as it is written is read.
 use Rattle.std.proofs.Common.{◌≡◌, ℕ, ◌+◌, ◌≤◌, List, [], ◌∷◌, ◌++◌, length, drop, sym, ap, subst, arith, length-append, length-drop}
-use Rattle.std.specs.Int.{to_be_bytes, w16, w32}
+use Rattle.std.specs.Int.{to_be_bytes, w16}
 use Rattle.std.specs.List.{AllByRecursion}
 use Rattle.dns_label.specs.Name.{wire}
 use Rattle.dns_name.specs.SpelledParts.{Spells}
@@ -9,6 +9,7 @@ use Rattle.dns_name.specs.Page.{Parts}
 use Rattle.dns_name.specs.Page.Parts.{End, Octets, Named, Counted}
 use Rattle.dns_rdata.specs.Fields.{Field, IsField}
 use Rattle.dns_rdata.specs.Fields.Field.{number8, number16, number32, ipv4, ipv6, compressible, uncompressed, string, strings, tag, rest_text, rest16, rest64}
+use Rattle.dns_header.specs.Head.{fixed_octets}
 use Rattle.dns_header.proofs.WrittenQuestions.{reads-written}
 use Rattle.dns_message.specs.Record.{Record, IsRecord, IsWritten, ReadsRecord, ReadsPlainRecord, read_parts, written_parts, record_octets}
 use Rattle.dns_message.specs.Record.IsRead.{typed, opaque}
@@ -68,26 +69,24 @@ as_written_read r good (fields row is_row is) spelled = record {
 }
 as_written_read r good (untold none) spelled = record { is_record = good; parts = _; read = opaque none; spelled = spelled }
 
--- a record has some octets
-some_wire : (name : List (List ℕ)) → 1 ≤ length (wire name)
-some_wire [] = omega arith
-some_wire (label ∷ name) = omega arith
+-- a name takes at least one octet, and a record at least eleven
+pub least_wire : (name : List (List ℕ)) → 1 ≤ length (wire name)
+least_wire [] = omega arith
+least_wire (label ∷ name) = omega arith
 
-six_lengths : (a b c d e f : List ℕ)
-    → length (a ++ b ++ c ++ d ++ e ++ f) ≡ length a + length b + length c + length d + length e + length f
-six_lengths a b c d e f = simp length-append
+four_lengths : (a b c d : List ℕ) → length (a ++ b ++ (c ++ d)) ≡ length a + length b + (length c + length d)
+four_lengths a b c d = simp length-append
 
-some_record : (r : Record) → 1 ≤ length (record_octets r)
-some_record r =
+pub least_record : (r : Record) → 11 ≤ length (record_octets r)
+least_record r =
     omega (
       arith,
-      some_wire r.owner,
-      six_lengths (wire r.owner) (to_be_bytes w16 r.rtype) (to_be_bytes w16 r.class)
-          (to_be_bytes w32 r.ttl) (to_be_bytes w16 (length r.rdata)) r.rdata,
+      least_wire r.owner,
+      four_lengths (wire r.owner) (fixed_octets r.rtype r.class r.ttl) (to_be_bytes w16 (length r.rdata)) r.rdata,
     )
 
--- so they stand within the message
-place_within : (message : List ℕ) (place : ℕ) (front rest : List ℕ) → drop place message ≡ front ++ rest → 1 ≤ length front
+-- what takes some octets stands within the message
+pub place_within : (message : List ℕ) (place : ℕ) (front rest : List ℕ) → drop place message ≡ front ++ rest → 1 ≤ length front
     → place ≤ length message
 place_within message place front rest at some =
     omega (arith, length-drop place message, ap (length {A = ℕ}) at, length-append front rest)
@@ -95,6 +94,6 @@ place_within message place front rest at some =
 -- a record that is written out, at a place
 pub plain_read : {message : List ℕ} {place next : ℕ} {r : Record} → ReadsPlainRecord message place r next → ReadsRecord message place r next
 plain_read {message} {place} {r = r} plain =
-    let within = place_within message place (record_octets r) plain.rest plain.at (some_record r) in
+    let within = place_within message place (record_octets r) plain.rest plain.at (omega (arith, least_record r)) in
     let P : ℕ → Type 0 = λ next. ReadsRecord message place r next in
     subst P (sym plain.ends) (record-written message place r plain.rest plain.at within plain.is_record plain.data_is)

@@ -12,6 +12,7 @@ use Rattle.dns_rdata.specs.Fields.{IsRow, kinds_of}
 use Rattle.dns_rdata.specs.Data as data_specs
 use Rattle.dns_rdata.specs.Data.{Data, number_of}
 use Rattle.dns_rdata.specs.Data.Data.{typed as in_fields, untyped}
+use Rattle.dns_rdata.specs.DataOctets.{data_octets}
 use Rattle.dns_header.specs.Header.{number_at}
 use Rattle.dns_header.specs.Head as head_specs
 use Rattle.dns_header.specs.Head.{Head, ReadsHead, ReadsWhole, fixed_octets}
@@ -22,7 +23,7 @@ use Rattle.dns_message.specs.Record.{Record, IsRecord, IsRead, ReadsRecord, read
 use Rattle.dns_message.specs.Record.IsRead.{typed, opaque}
 use Rattle.dns_message.specs.Record.{IsWritten}
 use Rattle.dns_message.specs.Record.IsWritten.{fields as in_row, untold}
-use Rattle.dns_message.specs.Held.{data_octets, record_of, written_parts_of, TakesRecord}
+use Rattle.dns_message.specs.Held.{record_of, written_parts_of, TakesRecord}
 use Rattle.dns_message.proofs.Numbers.{AreOctets, number16, number32}
 use Rattle.dns_header.proofs.Heads.{heads_one}
 use Rattle.dns_message.proofs.Opened.{opened}

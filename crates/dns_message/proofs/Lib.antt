@@ -1,9 +1,12 @@
+pub mod Plain
 pub mod Written
 pub mod WrittenRecords
 pub mod Opened
 pub mod ReadRecords
-mod Numbers
+pub mod Numbers
 mod SpelledQuestions
 mod AnswerHeaders
 mod HeldRecords
-mod AsWritten
+pub mod AsWritten
+mod Tried
+pub mod Spellable

@@ -17,7 +17,7 @@ octets_from (suc place) [] each = tt
 octets_from (suc place) (x ∷ text) each = octets_from place text each.1
 
 -- the number in the first two octets, and the one in the first four
-front16 : (text : List ℕ) → AreOctets text → 2 ≤ length text
+pub front16 : (text : List ℕ) → AreOctets text → 2 ≤ length text
     → (from_be_bytes w16 (take 2 text) < 2 ^ 16) × (text ≡ to_be_bytes w16 (from_be_bytes w16 (take 2 text)) ++ drop 2 text)
 front16 [] each enough = absurd (omega arith)
 front16 (a ∷ []) each enough = absurd (omega arith)
@@ -29,7 +29,7 @@ front16 (a ∷ b ∷ rest) each enough =
     be_bytes_2 front (from_be_bytes w16 front) refl (octet_at front (each.0, (each.1.0, tt))) refl in
     (omega arith, ap (λ l. l ++ rest) (sym same))
 
-front32 : (text : List ℕ) → AreOctets text → 4 ≤ length text
+pub front32 : (text : List ℕ) → AreOctets text → 4 ≤ length text
     → (from_be_bytes w32 (take 4 text) < 2 ^ 32) × (text ≡ to_be_bytes w32 (from_be_bytes w32 (take 4 text)) ++ drop 4 text)
 front32 [] each enough = absurd (omega arith)
 front32 (a ∷ []) each enough = absurd (omega arith)

@@ -1,5 +1,5 @@
 -- Parts whose names are written out are spelled, whatever stands around them.
-use Rattle.std.proofs.Common.{◌≡◌, ℕ, ◌+◌, ◌<◌, ◌≤◌, ◌^◌, List, [], ◌++◌, length, take, drop, refl, sym, ap, ◌∙◌, subst, arith, append_assoc, append-nil, length-append, length-drop, length-take-le}
+use Rattle.std.proofs.Common.{◌≡◌, ℕ, ◌+◌, ◌<◌, ◌≤◌, ◌^◌, List, [], ◌++◌, length, take, drop, refl, sym, ap, ◌∙◌, subst, arith, append_assoc, append-nil, length-append, length-take-le}
 use Rattle.std.specs.Prelude.{⊤}
 use Rattle.std.specs.Int.{to_be_bytes, w16}
 use Rattle.std.proofs.lemmas.List.{drop-take, take_at}
@@ -7,7 +7,7 @@ use Rattle.dns_label.specs.Name.{IsName, wire}
 use Rattle.dns_label.proofs.Spelling.{drop_behind}
 use Rattle.dns_name.specs.SpelledParts.{Spells}
 use Rattle.dns_header.proofs.WrittenQuestions.{reads-written, within_message}
-use Rattle.dns_message.specs.Item.{plain}
+use Rattle.dns_message.proofs.Plain.{plain}
 use Rattle.dns_name.specs.Page.{Parts}
 use Rattle.dns_name.specs.Page.Parts.{End, Octets, Named, Counted}
 use Rattle.dns_name.specs.SpelledParts.Spells.{nothing, octets, named, counted}

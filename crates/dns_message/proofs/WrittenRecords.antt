@@ -1,15 +1,16 @@
 -- Records whose names are written out are read.
-use Rattle.std.proofs.Common.{◌≡◌, ℕ, ◌+◌, ◌<◌, ◌≤◌, ◌^◌, List, [], ◌∷◌, ◌++◌, length, take, drop, refl, sym, ap, ◌∙◌, subst, arith, append_assoc, append-nil, length-append}
-use Rattle.std.specs.Int.{to_be_bytes, w16, w32}
+use Rattle.std.proofs.Common.{◌≡◌, ℕ, ◌+◌, ◌≤◌, List, [], ◌∷◌, ◌++◌, length, drop, refl, sym, ap, ◌∙◌, subst, append_assoc, append-nil}
+use Rattle.std.specs.Int.{to_be_bytes, w16}
 use Rattle.std.specs.List.{AllByRecursion}
-use Rattle.dns_label.specs.Name.{IsName, wire}
+use Rattle.dns_label.specs.Name.{wire}
 use Rattle.dns_rdata.specs.Fields.{Field, IsField, IsData, field_octets, octets}
 use Rattle.dns_rdata.specs.Fields.Field.{number8, number16, number32, ipv4, ipv6, compressible, uncompressed, string, strings, tag, rest_text, rest16, rest64}
 use Rattle.dns_rdata.specs.Fields.IsData.{typed as typed_data, opaque as opaque_data}
 use Rattle.dns_name.specs.SpelledParts.{Spells}
-use Rattle.dns_message.specs.Item.{plain}
+use Rattle.dns_message.proofs.Plain.{plain}
 use Rattle.dns_name.specs.Page.{Parts}
 use Rattle.dns_name.specs.Page.Parts.{End, Octets}
+use Rattle.dns_header.specs.Head.{fixed_octets}
 use Rattle.dns_message.specs.Record.{Record, IsRecord, IsRead, ReadsRecord, read_parts, record_parts, record_octets}
 use Rattle.dns_message.specs.Record.IsRead.{typed, opaque}
 use Rattle.dns_message.proofs.Written.{AreWritable, spells-written}
@@ -54,14 +55,13 @@ pub writable-read : (row : List Field) → AllByRecursion IsField row → AreWri
 writable-read [] each = tt
 writable-read (field ∷ row) each = writable_first field row each.0 (writable-read row each.1)
 
-regrouped : (a b c d e f : List ℕ) → a ++ ((b ++ c ++ d) ++ (e ++ f ++ [])) ≡ a ++ b ++ c ++ d ++ e ++ f
-regrouped a b c d e f = simp (append_assoc, append-nil)
+regrouped : (a b c d : List ℕ) → a ++ (b ++ (c ++ d ++ [])) ≡ a ++ b ++ (c ++ d)
+regrouped a b c d = simp (append_assoc, append-nil)
 
 -- the parts of a record around those of its data are the record's octets
 pub plain-record : (r : Record) (parts : Parts) → plain parts ≡ r.rdata → plain (record_parts r parts) ≡ record_octets r
 plain-record r parts is =
-    rw is (regrouped (wire r.owner) (to_be_bytes w16 r.rtype) (to_be_bytes w16 r.class) (to_be_bytes w32 r.ttl)
-    (to_be_bytes w16 (length r.rdata)) r.rdata)
+    rw is (regrouped (wire r.owner) (fixed_octets r.rtype r.class r.ttl) (to_be_bytes w16 (length r.rdata)) r.rdata)
 
 pub writable-record : (r : Record) (parts : Parts) → plain parts ≡ r.rdata → IsRecord r → AreWritable parts → AreWritable (record_parts r parts)
 writable-record r parts is good can = (good.owner, (rw is good.rdata, can, tt))

@@ -1,18 +1,13 @@
 -- What the code holds of a record in a message, beside the record that a transfer has.
 use Rattle.std.specs.Prelude.{ℕ, List}
 use Rattle.dns_name.specs.Page.{Parts}
-use Rattle.dns_rdata.specs.Fields.{octets}
 use Rattle.dns_rdata.specs.Data as data_specs
-use Rattle.dns_rdata.specs.Data.{Data, typed, untyped, number_of}
+use Rattle.dns_rdata.specs.Data.{Data, number_of}
+use Rattle.dns_rdata.specs.DataOctets.{data_octets}
 use Rattle.dns_header.specs.Head.{Head, ReadsWhole}
 use Rattle.dns_header.specs.Record.{RecordOf, ReadsData}
 use Rattle.dns_header.specs.Written as written
 use Rattle.dns_message.specs.Record.{Record}
-
--- the octets of data with every name written out; opaque data is its octets (RFC 3597)
-abbrev pub data_octets : Data → List ℕ
-data_octets (typed number row) = octets row
-data_octets (untyped unknown) = unknown.octets
 
 -- the record that is held, whose type is that of its data
 abbrev pub record_of : RecordOf (List (List ℕ)) Data → Record

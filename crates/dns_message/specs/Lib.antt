@@ -1,6 +1,4 @@
-pub mod Item
 pub mod Record
 pub mod Held
 pub mod Answer
 pub mod Printed
-pub mod Tried

@@ -2,7 +2,7 @@
 use Rattle.std.specs.Prelude.{◌≡◌, List}
 use Rattle.dns_text.specs.Document.{Piece}
 use Rattle.dns_header.specs.Shown.{record_document}
-use Rattle.dns_rdata.specs.Shown.{IsDataDocument}
+use Rattle.dns_rdata.specs.DataOctets.{IsDataDocument}
 use Rattle.dns_message.specs.Record.{Record}
 
 -- a record, and its document

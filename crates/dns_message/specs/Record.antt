@@ -1,8 +1,7 @@
 -- Resource records (RFC 1035 3.2.1), and the parts by which a message spells them.
-use Rattle.std.specs.Prelude.{◌≡◌, ◌+◌, ◌<◌, ◌^◌, ℕ, List, [], ◌∷◌, ◌++◌, length, drop, Option, Some, None}
-use Rattle.std.specs.Int.{to_be_bytes, w16, w32}
-use Rattle.dns_label.specs.Name.{IsName, wire}
-use Rattle.dns_rdata.specs.Fields.{Field, number8, number16, number32, ipv4, ipv6, compressible, uncompressed, string, strings, tag, rest_text, rest16, rest64, field_octets, octets, IsRow, IsData, kinds_of}
+use Rattle.std.specs.Prelude.{◌≡◌, ◌+◌, ◌<◌, ◌^◌, ℕ, List, ◌++◌, length, drop, None}
+use Rattle.dns_label.specs.Name.{IsName}
+use Rattle.dns_rdata.specs.Fields.{Field, octets, IsRow, IsData, kinds_of}
 use Rattle.dns_name.specs.SpelledParts.{Spells}
 pub use Rattle.dns_rdata.specs.Reading.{read_parts}
 pub use Rattle.dns_rdata.specs.Written.{written_parts}
@@ -43,9 +42,7 @@ pub data IsWritten (r : Record) : Parts → Type 0 where
 
 -- the record with every name written out
 abbrev pub record_octets : Record → List ℕ
-record_octets r =
-    wire r.owner ++ to_be_bytes w16 r.rtype ++ to_be_bytes w16 r.class ++ to_be_bytes w32 r.ttl
-    ++ to_be_bytes w16 (length r.rdata) ++ r.rdata
+record_octets r = head.record_octets r.owner r.rtype r.class r.ttl r.rdata
 
 -- The message has the record at a place, and `next` is the place behind it.
 pub record ReadsRecord (message : List ℕ) (place : ℕ) (r : Record) (next : ℕ) : Type 0 where

@@ -1,12 +1,13 @@
 //! Laws of messages: what the code reads and writes, and what the definitions of a transfer say of a message, is the same. Each
 //! function does nothing; what it ensures is the law.
-ghost use Rattle.std.specs.Prelude.{◌≡◌, ◌<◌, ◌+◌, ◌^◌, ◌++◌, ℕ, Bool, List, length};
+ghost use Rattle.std.specs.Prelude.{◌≡◌, ◌≢◌, ◌<◌, ◌+◌, ◌^◌, ◌++◌, ℕ, Bool, List, length, slice_index};
 ghost use Rattle.dns_label.specs.Octets.{AreOctets};
 ghost use Rattle.dns_name.specs.Page.{Parts};
 ghost use Rattle.dns_name.specs.SpelledParts.{Spells};
 ghost use Rattle.dns_rdata.specs.Fields.{IsData};
 ghost use Rattle.dns_rdata.specs.Data as data_specs;
 ghost use Rattle.dns_rdata.specs.Data.{Data};
+ghost use Rattle.dns_rdata.specs.DataOctets.{IsSpellable};
 ghost use Rattle.dns_header.specs.Header.{answer_header};
 ghost use Rattle.dns_header.specs.HeaderFields.{fields_of};
 ghost use Rattle.dns_header.specs.HeaderCounts.{counts_in};
@@ -72,4 +73,12 @@ pub fn written_records_are_read()
         → ReadsRecord message (length front) r (length front + length (record_octets r)) }
     ensures plain { (message : List ℕ) (place next : ℕ) (r : Record) → ReadsPlainRecord message place r next
         → ReadsRecord message place r next }
+{}
+
+/// Text can spell data of a type exactly if it is not that of CAA, or its second octet, which is the length of the tag, is not 0
+/// (RFC 8659 4.1).
+pub fn text_spells_data_whose_tag_is_not_empty()
+    ensures there { (rtype : ℕ) (data' : List ℕ) → IsData rtype data' → IsSpellable rtype data' → rtype ≡ 257
+        → slice_index data' 1 ≢ 0 }
+    ensures back { (rtype : ℕ) (data' : List ℕ) → (rtype ≡ 257 → slice_index data' 1 ≢ 0) → IsSpellable rtype data' }
 {}

@@ -12,7 +12,7 @@ abbrev pub IsAnyData : Data → Type 0
 IsAnyData (typed number row) = IsRow number row × AreOctets (octets row)
 IsAnyData (untyped unknown) = (length unknown.octets < 2 ^ 16) × AreOctets unknown.octets
 
--- no tag in it is empty, which would be printed as no text
+-- No tag in it is empty: that of a CAA record has at least one character (RFC 8659 4.1), and text has no token for none.
 abbrev pub HasNoEmptyTag : Data → Type 0
 HasNoEmptyTag (typed number row) = AllByRecursion (λ field. field ≡ tag [] → ⊥) row
 HasNoEmptyTag (untyped unknown) = ⊤

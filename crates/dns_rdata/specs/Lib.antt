@@ -6,6 +6,7 @@ pub use Rattle.dns_fields.specs.Scanned
 pub use Rattle.dns_fields.specs.Shown
 pub mod Data
 pub mod DataTokens
+pub mod DataOctets
 pub mod DataLaws
 pub mod Tried
 pub mod ZoneData

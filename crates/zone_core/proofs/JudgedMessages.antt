@@ -7,7 +7,8 @@ use Rattle.zone_text.specs.Record.{Record}
 use Rattle.zone_text.specs.Zone.{soa_type}
 use Rattle.zone_core.specs.Query.{AxfrQuery}
 use Rattle.zone_core.specs.Transfer.{WrittenOut, IsInZoneOf, SpellsRecords, HasAnswerHeader, IsAnswer, HasRecord}
-use Rattle.zone_text.specs.Records.{IsTypeToday, IsSpellable}
+use Rattle.zone_text.specs.Records.{IsTypeToday}
+use Rattle.zone_text.proofs.SpellableData.{today_is_spellable}
 use Rattle.zone_core.specs.Transfer.SpellsRecords.{none}
 use Rattle.zone_core.specs.Receiving.{IsOpen, IsClosed, KeepsRulesTo, IsMessageFault}
 use Rattle.zone_core.specs.declared.receive.error.ReceiveError.{ReceiveError}
@@ -95,16 +96,12 @@ record_fault query front first message group place next r e keeps some has (inr 
 record_fault query front first message group place next r e keeps some has (inr (one, inr (two, inr (three, inr (four, inr (five, no_more)))))) = absurd no_more
 
 -- a record that keeps the rules behind others makes them a lawful list again
-today_is_spellable : (r : Record) → IsTypeToday r.rtype → IsSpellable r
-today_is_spellable r (inl is) = λ caa. absurd (omega arith)
-today_is_spellable r (inr is) = λ caa. absurd (omega arith)
-
 lawful_push : (query : AxfrQuery) (front : List Record) (r : Record) → IsOpen query front → IsTypeToday r.rtype
     → AllKept (record_rules query front r) → IsLawful query (front ++ r ∷ [])
 lawful_push query [] r open_ today (first, (class, (under, rest))) =
-    inl (first.0, first.1, (record { class = class; under = under; spellable = today_is_spellable r today }, tt), tt)
+    inl (first.0, first.1, (record { class = class; under = under; spellable = today_is_spellable r.rtype r.rdata today }, tt), tt)
 lawful_push query (soa ∷ others) r open_ today (first, (class, (under, (last, rest)))) =
-    let is : IsInZoneOf query r = record { class = class; under = under; spellable = today_is_spellable r today } in
+    let is : IsInZoneOf query r = record { class = class; under = under; spellable = today_is_spellable r.rtype r.rdata today } in
     elim (cases_eq r.rtype soa_type) [
       | inl soa_again ↦ inr (record {
         front = soa ∷ others;

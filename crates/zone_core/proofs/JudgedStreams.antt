@@ -17,7 +17,8 @@ use Rattle.zone_text.proofs.Each.{all_append}
 use Rattle.zone_core.proofs.AnswerGroups.{answers_push, first_of_stream, joined_push}
 use Rattle.zone_core.proofs.FrontFrames.{frames_push}
 use Rattle.zone_core.proofs.LawfulRecords.{closed_not_open}
-use Rattle.zone_text.proofs.NameFronts.{AreOctets, octet_at, front_of, octets_front, octets_behind}
+use Rattle.dns_message.proofs.Numbers.{octet_at}
+use Rattle.zone_text.proofs.NameFronts.{AreOctets, front_of, octets_front, octets_behind}
 use Rattle.zone_core.proofs.DecidedRules.{HasData}
 use Rattle.zone_core.proofs.JudgedMessages.{message_judged}
 use Rattle.zone_core.proofs.JudgedMessages.Verdict.{at_fault, answers}

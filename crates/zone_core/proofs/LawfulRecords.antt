@@ -75,7 +75,7 @@ closing_record query (soa ∷ others) last transferred closes =
     record {
       first = tt;
       class = sym closes.1.class ∙ transferred.2.0.class;
-      under = ([], sym closes.1.owner ∙ transferred.1);
+      under = record { front = []; whole_is = sym closes.1.owner ∙ transferred.1 };
       last = λ is. closes.1;
       not_closed = λ closed. closed_no_front query (soa ∷ others) [] closed (subst P (sym (append-nil (soa ∷ others))) transferred);
     }

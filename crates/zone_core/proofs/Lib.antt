@@ -11,6 +11,7 @@ pub mod TakenRecords
 pub mod Cuttings
 pub mod Greedy
 pub mod Tried
+pub mod TriedZone
 pub mod Plain
 pub mod Framing
 pub mod WrittenAnswers

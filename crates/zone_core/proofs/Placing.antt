@@ -13,20 +13,15 @@ use Rattle.zone_core.specs.Sent.{message, size}
 use Rattle.zone_core.specs.Cutting.{IsFullCut, FitsNotBehind}
 use Rattle.zone_core.specs.Sending.{IsFor, Stands, StandsWhole, LastStands, LastIs, HoldsGroups, Holds, HasNoRoom, FitsNowhere, before_count, behind_count, counted_message}
 use Rattle.zone_core.specs.declared.sender.Sender.{Sender}
+use Rattle.dns_message.proofs.AsWritten.{least_record}
 use Rattle.zone_core.proofs.Plain.{size_is, records_append}
 use Rattle.zone_text.proofs.Patched.{written_over}
 use Rattle.zone_core.proofs.Greedy.{full_cut_goes_on, full_cut_opens, not_behind_last}
 
--- a record takes octets
-pub record_long : (r : Record) → 10 ≤ length (record_octets r)
-record_long r =
-    let head : List ℕ = wire r.owner in
-    omega (arith, length-append {A = ℕ})
-
 -- records take at least as many octets as they are
 pub few_records : (group : List Record) → length group ≤ length (flat_map record_octets group)
 few_records [] = omega arith
-few_records (r ∷ group) = omega (arith, few_records group, record_long r, length-append (record_octets r) (flat_map record_octets group))
+few_records (r ∷ group) = omega (arith, few_records group, least_record r, length-append (record_octets r) (flat_map record_octets group))
 
 -- a message takes the octets of one more record
 pub size-push : (query : AxfrQuery) (group : List Record) (r : Record) → size query (push group r) ≡ size query group + length (record_octets r)

@@ -1,5 +1,5 @@
 -- Records that stand written out at a place, by what a parser takes off one after another.
-use Rattle.std.proofs.Common.{◌≡◌, ℕ, ◌+◌, ◌-◌, ◌<◌, ◌≤◌, ◌^◌, List, ◌++◌, length, take, drop, refl, sym, ap, ◌∙◌, subst, arith, append_assoc, length-append, length-drop, Bool, false, true, IsTrue, inl, inr}
+use Rattle.std.proofs.Common.{◌≡◌, ℕ, ◌+◌, ◌-◌, ◌<◌, ◌≤◌, ◌^◌, List, ◌++◌, length, take, drop, refl, sym, ap, ◌∙◌, subst, arith, append_assoc, length-append, length-drop, Bool, false, true, IsTrue}
 use Rattle.std.specs.Int.{to_be_bytes, w16, w32}
 use Rattle.std.specs.List.{AllByRecursion}
 use Rattle.std.proofs.Math.Seq.{take-append_seam}
@@ -12,7 +12,9 @@ use Rattle.dns_rdata.proofs.Fronts.{same_fronts, same_number16}
 use Rattle.dns_message.specs.Record.{ReadsPlainRecord, record_octets}
 use Rattle.zone_text.specs.Record.{Record}
 use Rattle.zone_text.specs.Records.{AreOctets, IsRecordOf, IsTypeToday}
+use Rattle.zone_text.proofs.RecordFronts.{record_regrouped}
 use Rattle.zone_text.proofs.SoaOctets.{front_one}
+use Rattle.zone_text.proofs.SpellableData.{today_is_spellable}
 use Rattle.zone_text.proofs.Decided.{too_few}
 use Rattle.zone_text.proofs.NameFronts.{octets_behind, octets_front}
 use Rattle.zone_text.proofs.PrintedTexts.{wire_back}
@@ -44,9 +46,6 @@ abbrev pub behind_owner : ℕ → ℕ → ℕ → ℕ → List ℕ → List ℕ
 behind_owner rtype class ttl len rest =
     to_be_bytes w16 rtype ++ (to_be_bytes w16 class ++ (to_be_bytes w32 ttl ++ (to_be_bytes w16 len ++ rest)))
 
-six_parts : (a b c d e f rest : List ℕ) → a ++ b ++ c ++ d ++ e ++ f ++ rest ≡ a ++ (b ++ (c ++ (d ++ (e ++ (f ++ rest)))))
-six_parts a b c d e f rest = simp append_assoc
-
 pub parts_taken : (whole rest1 rest2 rest3 rest4 rest5 : List ℕ) (owner : List (List ℕ)) (rtype class ttl len : ℕ)
     → whole ≡ wire owner ++ rest1 → rest1 ≡ to_be_bytes w16 rtype ++ rest2 → rest2 ≡ to_be_bytes w16 class ++ rest3
     → rest3 ≡ to_be_bytes w32 ttl ++ rest4 → rest4 ≡ to_be_bytes w16 len ++ rest5
@@ -58,9 +57,7 @@ parts_taken whole rest1 rest2 rest3 rest4 rest5 owner rtype class ttl len first 
 
 pub record_parts : (r : Record) (rest : List ℕ)
     → record_octets r ++ rest ≡ wire r.owner ++ behind_owner r.rtype r.class r.ttl (length r.rdata) (r.rdata ++ rest)
-record_parts r rest =
-    six_parts (wire r.owner) (to_be_bytes w16 r.rtype) (to_be_bytes w16 r.class) (to_be_bytes w32 r.ttl)
-    (to_be_bytes w16 (length r.rdata)) r.rdata rest
+record_parts r rest = record_regrouped r rest
 
 -- behind the owner there is no record in less than ten octets
 pub no_room : (message : List ℕ) (place : ℕ) (owner : List (List ℕ)) (behind : List ℕ) → IsName owner
@@ -147,23 +144,14 @@ plain_record message place next r rest is_name rtype class ttl rdata data_is at 
 pub known_record : (class : ℕ) (r : Record) → IsName r.owner → r.rtype < 2 ^ 16 → r.class < 2 ^ 16 → r.ttl < 2 ^ 32
     → length r.rdata < 2 ^ 16 → IsTypeToday r.rtype → IsData r.rtype r.rdata → r.class ≡ class → AllByRecursion AreOctets r.owner
     → AreOctets r.rdata → IsRecordOf class r
-known_record class r is_name rtype class_fits ttl rdata (inl soa) data_is class_is owner_octets data_octets = record {
+known_record class r is_name rtype class_fits ttl rdata today data_is class_is owner_octets data_octets = record {
   lawful = record { owner = is_name; rtype = rtype; class = class_fits; ttl = ttl; rdata = rdata };
   data_is = data_is;
   class_is = class_is;
-  spellable = λ other. absurd (omega (arith, soa, other));
+  spellable = today_is_spellable r.rtype r.rdata today;
   owner_octets = owner_octets;
   data_octets = data_octets;
-  today = inl soa;
-}
-known_record class r is_name rtype class_fits ttl rdata (inr address) data_is class_is owner_octets data_octets = record {
-  lawful = record { owner = is_name; rtype = rtype; class = class_fits; ttl = ttl; rdata = rdata };
-  data_is = data_is;
-  class_is = class_is;
-  spellable = λ other. absurd (omega (arith, address, other));
-  owner_octets = owner_octets;
-  data_octets = data_octets;
-  today = inr address;
+  today = today;
 }
 
 -- both, for what was read part by part

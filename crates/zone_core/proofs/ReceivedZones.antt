@@ -11,7 +11,10 @@ behind_first : (query : AxfrQuery) (soa : Record) (others : List Record) → low
     → AllByRecursion (IsInZoneOf query) others → AllByRecursion (λ r. r.rtype ≢ soa_type) others → AllByRecursion (IsBehindSoa soa) others
 behind_first query soa [] same inside not_soa = tt
 behind_first query soa (r ∷ others) same inside not_soa = (
-  record { no_soa = not_soa.0; under = (inside.0.under.0, inside.0.under.1 ∙ ap (λ l. inside.0.under.0 ++ l) (sym same)) },
+  record {
+    no_soa = not_soa.0;
+    under = record { front = inside.0.under.front; whole_is = inside.0.under.whole_is ∙ ap (λ l. inside.0.under.front ++ l) (sym same) };
+  },
   behind_first query soa others same inside.1 not_soa.1,
 )
 

@@ -36,7 +36,8 @@ same_soa soa is (opaque none short) =
 
 -- a name under the zone's apex is under the query's name
 under_query : (query : AxfrQuery) (apex name : List (List ℕ)) → low query.name ≡ low apex → IsUnder apex name → IsUnder query.name name
-under_query query apex name same under = (under.0, under.1 ∙ ap (λ l. under.0 ++ l) (sym same))
+under_query query apex name same under =
+    record { front = under.front; whole_is = under.whole_is ∙ ap (λ l. under.front ++ l) (sym same) }
 
 behind_soa : (query : AxfrQuery) (class : ℕ) (soa : Record) (others : List Record) → AsksFor query soa.owner class
     → AllByRecursion (IsSendable class) others → AllByRecursion (IsBehindSoa soa) others
@@ -74,7 +75,7 @@ sent_in_form form (soa ∷ others) class query max stream fits are asks allowed 
     let rest = behind_soa query class soa others asks.asks are.each.1 are.zone.1 in
     let first : IsInZoneOf query soa = record {
       class = are.each.0.class_is ∙ sym asks.asks.class_is;
-      under = ([], sym asks.asks.name);
+      under = record { front = []; whole_is = sym asks.asks.name };
       spellable = are.each.0.spellable;
     } in
     let transfer : IsTransferIn form query stream (soa ∷ others) = record {

@@ -9,10 +9,19 @@ use Rattle.zone_core.specs.Query.{AxfrQuery}
 use Rattle.zone_core.specs.Transfer.{WrittenOut, HasRecord, AsksAgain, HasAnswerHeader, SpellsRecords}
 use Rattle.zone_core.specs.Transfer.SpellsRecords.{none, one}
 use Rattle.zone_core.specs.Receiving.{IsOpen, IsClosed, IsRecordFault, IsMessageFault, KeepsRulesTo}
-use Rattle.zone_core.specs.Intake.{IsFaultOr, StandsAt, TakesRecord, HasTaken}
+use Rattle.zone_core.specs.Intake.{IsFaultOr, StandsAt, TakesRecord}
 use Rattle.zone_core.specs.Intake.StandsAt.{begun, ended}
 use Rattle.zone_core.specs.declared.receive.error.ReceiveError.{ReceiveError}
 use Rattle.zone_core.specs.declared.receive.error.ReceiveError.TheVariants as receive_error
+
+-- The parser stands behind the first records of a message, which keep all rules behind those in front.
+pub record HasTaken (query : AxfrQuery) (front : List Record) (first : Bool) (message : List ℕ) (count : ℕ) (parser : Parser)
+    (held : List Record) (closed : Bool) : Type 0 where
+  pub group : List Record
+  pub octets : octets_of parser ≡ message
+  pub counted : length group ≡ count
+  pub rules : KeepsRulesTo query front first message group (place_of parser)
+  pub stands : StandsAt query held closed (front ++ group)
 
 -- what stands is lawful
 stands_lawful : {query : AxfrQuery} {held front : List Record} {closed : Bool} → StandsAt query held closed front

@@ -5,10 +5,11 @@ use Rattle.dns_rdata.specs.Fields.{Field}
 use Rattle.dns_rdata.specs.Fields.Field.{compressible, number32, ipv4}
 use Rattle.dns_rdata.specs.Fields.IsData.{typed}
 use Rattle.zone_text.specs.Records.{AreRecordsOf}
+use Rattle.zone_text.proofs.SpellableData.{today_is_spellable}
 use Rattle.zone_core.specs.Sent.{IsQueryFor, IsSent, message, with_soa_again}
 use Rattle.zone_core.specs.Frames.{frames}
 use Rattle.zone_core.specs.Transfer.{IsTransfer}
-use Rattle.zone_core.specs.Tried.{soa, address, query, sizes}
+use Rattle.zone_core.proofs.TriedZone.{soa, address, query, sizes}
 use Rattle.zone_core.proofs.SentTransfers.{sent_is_transfer}
 
 one_label : (octet : ℕ) → IsName ((octet ∷ []) ∷ [])
@@ -25,7 +26,7 @@ are_records = record {
       lawful = record { owner = one_label 97; rtype = omega arith; class = omega arith; ttl = omega arith; rdata = omega arith };
       data_is = typed soa_row (record { kinds = refl; each = (one_label 98, (one_label 99, (omega arith, (omega arith, (omega arith, (omega arith, (omega arith, tt))))))); short = omega arith }) refl;
       class_is = refl;
-      spellable = λ is. absurd (omega (arith, is));
+      spellable = today_is_spellable 6 soa.rdata (inl refl);
       owner_octets = ((omega arith, tt), tt);
       data_octets = search rules;
       today = inl refl;
@@ -35,7 +36,7 @@ are_records = record {
         lawful = record { owner = one_label 97; rtype = omega arith; class = omega arith; ttl = omega arith; rdata = omega arith };
         data_is = typed (ipv4 (1 ∷ 2 ∷ 3 ∷ 4 ∷ []) ∷ []) (record { kinds = refl; each = (refl, tt); short = omega arith }) refl;
         class_is = refl;
-        spellable = λ is. absurd (omega (arith, is));
+        spellable = today_is_spellable 1 address.rdata (inr refl);
         owner_octets = ((omega arith, tt), tt);
         data_octets = (omega arith, (omega arith, (omega arith, (omega arith, tt))));
         today = inr refl;
@@ -43,7 +44,7 @@ are_records = record {
       tt,
     ),
   );
-  zone = (refl, (record { no_soa = λ is. absurd (omega (arith, is)); under = ([], refl) }, tt));
+  zone = (refl, (record { no_soa = λ is. absurd (omega (arith, is)); under = record { front = []; whole_is = refl } }, tt));
 }
 
 asks : IsQueryFor (soa ∷ address ∷ []) 1 query

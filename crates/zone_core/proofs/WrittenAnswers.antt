@@ -1,14 +1,14 @@
 -- A message that is sent is an answer with its group of records.
 use Rattle.std.proofs.Common.{◌≡◌, ℕ, ◌+◌, ◌*◌, ◌<◌, ◌≤◌, ◌^◌, Bool, false, List, [], ◌∷◌, ◌++◌, length, drop, map, refl, sym, ◌∙◌, subst, arith, append_assoc, append-nil, length-append, inr}
 use Rattle.std.specs.Prelude.{flat_map, ⊤}
-use Rattle.std.specs.Int.{to_be_bytes, w16, w32}
 use Rattle.std.specs.List.{AllByRecursion}
-use Rattle.dns_label.specs.Name.{IsName, wire}
+use Rattle.dns_label.specs.Name.{IsName}
 use Rattle.dns_label.proofs.Spelling.{drop_behind}
 use Rattle.dns_header.specs.Question.{Question, question_octets}
 use Rattle.dns_message.specs.Record.{record_octets}
 use Rattle.dns_header.proofs.Headers.{header_says}
 use Rattle.dns_header.proofs.WrittenQuestions.{within_message, question-written}
+use Rattle.dns_message.proofs.AsWritten.{least_record}
 use Rattle.dns_message.proofs.WrittenRecords.{record-written}
 use Rattle.zone_text.specs.Record.{Record}
 use Rattle.zone_core.specs.Query.{AxfrQuery, question_of}
@@ -19,24 +19,7 @@ use Rattle.zone_core.specs.Transfer.{Form, Standard, WrittenOut, HasQuestion, Ha
 use Rattle.zone_core.specs.Transfer.SpellsRecords.{none, one}
 use Rattle.zone_core.proofs.Plain.{size_is}
 
--- a record takes at least eleven octets
-pub least_wire : (name : List (List ℕ)) → 1 ≤ length (wire name)
-least_wire [] = omega arith
-least_wire (label ∷ name) = omega arith
-
-six_lengths : (a b c d e f : List ℕ)
-    → length (a ++ b ++ c ++ d ++ e ++ f) ≡ length a + length b + length c + length d + length e + length f
-six_lengths a b c d e f = simp length-append
-
-pub least_record : (r : Record) → 11 ≤ length (record_octets r)
-least_record r =
-    omega (
-      arith,
-      least_wire r.owner,
-      six_lengths (wire r.owner) (to_be_bytes w16 r.rtype) (to_be_bytes w16 r.class)
-          (to_be_bytes w32 r.ttl) (to_be_bytes w16 (length r.rdata)) r.rdata,
-    )
-
+-- records take at least eleven octets each
 records_are_few : (group : List Record) → 11 * length group ≤ length (flat_map record_octets group)
 records_are_few [] = omega arith
 records_are_few (r ∷ group) =

@@ -1,31 +1,19 @@
 -- What is written out is as the standard has it.
-use Rattle.std.proofs.Common.{◌≡◌, ℕ, ◌≤◌, Bool, true, false, List, [], ◌∷◌, ◌++◌, length, drop, sym, ap, subst, arith, length-append, length-drop, inl, inr}
+use Rattle.std.proofs.Common.{ℕ, ◌≤◌, Bool, true, false, List, [], ◌∷◌, ◌++◌, length, sym, subst, arith, length-append, inl, inr}
 use Rattle.std.specs.Int.{to_be_bytes, w16}
 use Rattle.dns_label.specs.Name.{wire}
 use Rattle.dns_header.specs.Question.{Question, ReadsQuestion, ReadsPlainQuestion, question_octets}
-use Rattle.dns_message.specs.Record.{ReadsRecord, record_octets}
 use Rattle.dns_header.proofs.WrittenQuestions.{question-written}
-use Rattle.dns_message.proofs.WrittenRecords.{record-written}
+use Rattle.dns_message.proofs.AsWritten.{least_wire, place_within, plain_read}
 use Rattle.zone_text.specs.Record.{Record}
 use Rattle.zone_core.specs.Query.{AxfrQuery}
 use Rattle.zone_core.specs.Transfer.{Standard, WrittenOut, HasRecord, AsksAgain, SpellsRecords, IsAnswer, AreAnswers, IsTransfer, IsTransferIn}
 use Rattle.zone_core.specs.Transfer.SpellsRecords.{none, one}
-use Rattle.zone_core.proofs.WrittenAnswers.{least_record, least_wire}
-
--- a place at which something is written out is within the message
-pub place_within : (message : List ℕ) (place : ℕ) (front rest : List ℕ) → drop place message ≡ front ++ rest → 1 ≤ length front
-    → place ≤ length message
-place_within message place front rest at some =
-    omega (arith, length-drop place message, ap length at, length-append front rest)
 
 -- a record that is written out is as the standard has it
 pub written_record : {message : List ℕ} {place next : ℕ} {r : Record} → HasRecord WrittenOut message place r next
     → HasRecord Standard message place r next
-written_record {message} {place} {r = r} has =
-    let plain = has.0 in
-    let within = place_within message place (record_octets r) plain.rest plain.at (omega (arith, least_record r)) in
-    let P : ℕ → Type 0 = λ next. ReadsRecord message place r next in
-    subst P (sym plain.ends) (record-written message place r plain.rest plain.at within plain.is_record plain.data_is)
+written_record has = plain_read has.0
 
 -- and so is a question
 pub written_question : {message : List ℕ} {place next : ℕ} {q : Question} → ReadsPlainQuestion message place q next

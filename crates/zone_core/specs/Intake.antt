@@ -1,8 +1,6 @@
 -- What a receiver holds while a stream comes in. Only contracts inside the crate speak of it.
 use Rattle.std.specs.Prelude.{◌≡◌, ◌+◌, ℕ, Bool, true, false, List, ◌++◌, length, take, drop, ⊤}
 use Rattle.std.specs.List.{AllByRecursion, push}
-use Rattle.dns_octets.specs.declared.parser.Parser.{Parser}
-use Rattle.dns_octets.specs.Parser.{octets_of, place_of}
 use Rattle.dns_header.specs.Question.{Question}
 use Rattle.zone_text.specs.Record as spec
 use Rattle.zone_core.specs.Query.{AxfrQuery}
@@ -10,7 +8,7 @@ use Rattle.zone_core.specs.Frames.{frame, frames, IsFramable, IsPartial}
 use Rattle.zone_core.specs.Cutting.{joined}
 use Rattle.zone_text.specs.Records.{IsRecordOf}
 use Rattle.zone_core.specs.Transfer.{WrittenOut, HasRecord, IsAnswer, AreAnswers, IsTransferred, ClosesTransfer, IsTransferIn}
-use Rattle.zone_core.specs.Receiving.{IsOpen, KeepsRulesTo}
+use Rattle.zone_core.specs.Receiving.{IsOpen}
 use Rattle.zone_core.specs.declared.receive.error.ReceiveError.{ReceiveError}
 use Rattle.zone_core.specs.declared.receive.error.ReceiveError.TheVariants as receive_error
 use Rattle.zone_core.specs.declared.receive.rules.Placing.{Placing}
@@ -43,15 +41,6 @@ pub record TakesRecord (query : AxfrQuery) (message : List ℕ) (place next : �
   pub r : spec.Record
   pub has : HasRecord WrittenOut message place r next
   pub stands : StandsAt query held closed (push front r)
-
--- The parser stands behind the first records of a message, which keep all rules behind those in front.
-pub record HasTaken (query : AxfrQuery) (front : List spec.Record) (first : Bool) (message : List ℕ) (count : ℕ) (parser : Parser)
-    (held : List spec.Record) (closed : Bool) : Type 0 where
-  pub group : List spec.Record
-  pub octets : octets_of parser ≡ message
-  pub counted : length group ≡ count
-  pub rules : KeepsRulesTo query front first message group (place_of parser)
-  pub stands : StandsAt query held closed (front ++ group)
 
 -- The message was an answer, and its records are held behind those in front.
 pub record TakesMessage (query : AxfrQuery) (front : List spec.Record) (first : Bool) (message : List ℕ) (held : List spec.Record)

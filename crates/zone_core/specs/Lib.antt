@@ -8,4 +8,3 @@ pub mod Intake
 pub mod Received
 pub mod Sent
 pub mod Sending
-pub mod Tried

@@ -6,7 +6,8 @@ use Rattle.dns_header.specs.Header.{is_response, opcode_of, rcode_of, question_c
 use Rattle.dns_header.specs.Question.{Question, ReadsQuestion, ReadsPlainQuestion}
 use Rattle.dns_message.specs.Record.{ReadsRecord, ReadsPlainRecord}
 use Rattle.zone_text.specs.Record.{Record}
-use Rattle.zone_text.specs.Records.{IsTypeToday, IsSpellable, SameSoa}
+use Rattle.dns_rdata.specs.DataOctets.{IsSpellable}
+use Rattle.zone_text.specs.Records.{IsTypeToday, SameSoa}
 use Rattle.zone_text.specs.Zone.{IsUnder, axfr_type, soa_type}
 use Rattle.zone_core.specs.Query.{AxfrQuery}
 use Rattle.zone_core.specs.Frames.{frames, IsFramable}
@@ -83,7 +84,7 @@ AreAnswers form query first (message ∷ messages) (group ∷ groups) =
 pub record IsInZoneOf (query : AxfrQuery) (r : Record) : Type 0 where
   pub class : r.class ≡ query.class
   pub under : IsUnder query.name r.owner
-  pub spellable : IsSpellable r
+  pub spellable : IsSpellable r.rtype r.rdata
 
 -- The records of a transfer without the last SOA: the first is the SOA of the query's name, and no other is an SOA.
 abbrev pub IsTransferred : AxfrQuery → List Record → Type 0

@@ -33,5 +33,7 @@ mod PrintedWords
 mod PrintedDocuments
 pub mod PrintedTexts
 pub mod StoredRecords
+mod DataDocuments
 mod PrintedOnce
+pub mod SpellableData
 pub mod Each

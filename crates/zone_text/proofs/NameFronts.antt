@@ -4,17 +4,12 @@ use Rattle.std.specs.Int.{to_be_bytes, from_be_bytes, w16, w32}
 use Rattle.std.specs.List.{AllByRecursion}
 use Rattle.std.proofs.lemmas.Bool.{cases_lt}
 use Rattle.std.proofs.lemmas.List.{take-append-drop}
-use Rattle.std.proofs.lemmas.Nat.{be_bytes_2, be_bytes_4}
 use Rattle.dns_label.specs.Name.{IsLabel, IsName, wire}
 use Rattle.dns_rdata.proofs.Fronts.{same_fronts}
+use Rattle.dns_message.proofs.Numbers.{front16, front32}
 use Rattle.zone_text.proofs.Decided.{Decided}
 use Rattle.zone_text.proofs.Each.{all_fronts}
 pub use Rattle.zone_text.specs.Records.{AreOctets}
-
-pub octet_at : (text : List ℕ) → AreOctets text → (i : ℕ) → get_or text i 0 < 256
-octet_at [] each i = omega arith
-octet_at (x ∷ text) each zero = each.0
-octet_at (x ∷ text) each (suc i) = octet_at text each.1 i
 
 pub octets_behind : (text front rest : List ℕ) → text ≡ front ++ rest → AreOctets text → AreOctets rest
 octets_behind text front rest is each =
@@ -49,15 +44,9 @@ pub record Number16Front (text : List ℕ) : Type 0 where
   pub at : text ≡ to_be_bytes w16 n ++ rest
 
 pub number16_front : (text : List ℕ) → AreOctets text → 2 ≤ length text → Number16Front text
-number16_front [] each enough = absurd (omega arith)
-number16_front (a ∷ []) each enough = absurd (omega arith)
-number16_front (a ∷ b ∷ rest) each enough =
-    let front : List ℕ = a ∷ b ∷ [] in
-    let first : a < 256 = each.0 in
-    let second : b < 256 = each.1.0 in
-    let same : to_be_bytes w16 (from_be_bytes w16 front) ≡ front =
-    be_bytes_2 front (from_be_bytes w16 front) refl (octet_at front (each.0, (each.1.0, tt))) refl in
-    record { n = from_be_bytes w16 front; rest = rest; small = omega arith; at = ap (λ l. l ++ rest) (sym same) }
+number16_front text each enough =
+    let front = front16 text each enough in
+    record { n = from_be_bytes w16 (take 2 text); rest = drop 2 text; small = front.0; at = front.1 }
 
 pub record Number32Front (text : List ℕ) : Type 0 where
   pub n : ℕ
@@ -66,19 +55,9 @@ pub record Number32Front (text : List ℕ) : Type 0 where
   pub at : text ≡ to_be_bytes w32 n ++ rest
 
 pub number32_front : (text : List ℕ) → AreOctets text → 4 ≤ length text → Number32Front text
-number32_front [] each enough = absurd (omega arith)
-number32_front (a ∷ []) each enough = absurd (omega arith)
-number32_front (a ∷ b ∷ []) each enough = absurd (omega arith)
-number32_front (a ∷ b ∷ c ∷ []) each enough = absurd (omega arith)
-number32_front (a ∷ b ∷ c ∷ d ∷ rest) each enough =
-    let front : List ℕ = a ∷ b ∷ c ∷ d ∷ [] in
-    let first : a < 256 = each.0 in
-    let second : b < 256 = each.1.0 in
-    let third : c < 256 = each.1.1.0 in
-    let fourth : d < 256 = each.1.1.1.0 in
-    let same : to_be_bytes w32 (from_be_bytes w32 front) ≡ front =
-    be_bytes_4 front (from_be_bytes w32 front) refl (octet_at front (first, (second, (third, (fourth, tt))))) refl in
-    record { n = from_be_bytes w32 front; rest = rest; small = omega arith; at = ap (λ l. l ++ rest) (sym same) }
+number32_front text each enough =
+    let front = front32 text each enough in
+    record { n = from_be_bytes w32 (take 4 text); rest = drop 4 text; small = front.0; at = front.1 }
 
 -- a name at the front is one
 pub wire_fronts : (name other : List (List ℕ)) (more rest : List ℕ) → AllByRecursion IsLabel name → AllByRecursion IsLabel other

@@ -5,13 +5,13 @@ use Rattle.dns_text.specs.Document.{Layout, Piece, document_text}
 use Rattle.dns_text.specs.Document.Piece.{Newline}
 use Rattle.dns_header.specs.Shown.{record_document}
 use Rattle.dns_rdata.specs.Fields.{IsData}
-use Rattle.dns_rdata.specs.Shown.{IsDataDocument}
-use Rattle.dns_rdata.proofs.DataDocuments as data_documents
+use Rattle.dns_rdata.specs.DataOctets.{IsDataDocument}
 use Rattle.dns_message.specs.Printed.{IsDocument}
 use Rattle.zone_text.specs.Record.{Record}
 use Rattle.zone_text.specs.Records.{IsRecordOf}
 use Rattle.zone_text.specs.Printed.{IsPrinted}
 use Rattle.zone_text.specs.Printed.IsPrinted.{none, more}
+use Rattle.zone_text.proofs.DataDocuments as data_documents
 use Rattle.zone_text.proofs.PrintedRows.{data_at}
 
 one_document : (r : Record) (d e : List Piece) → IsDocument r d → IsDocument r e → d ≡ e

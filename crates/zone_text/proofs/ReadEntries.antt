@@ -23,6 +23,7 @@ use Rattle.zone_text.specs.ZoneText.{Entries}
 use Rattle.zone_text.specs.Entry.{SpellsData}
 use Rattle.zone_text.specs.ZoneText.Entries.{none, empty, entry}
 use Rattle.zone_text.proofs.Each.{all_append}
+use Rattle.zone_text.proofs.SpellableData.{today_is_spellable}
 use Rattle.zone_text.proofs.ReadOctets.{absolute_octets, wire_octets, address_octets, numbers_octets}
 
 -- entries behind entries
@@ -91,15 +92,19 @@ soa-row m r n1 n2 n3 n4 n5 m_is r_is f1 f2 f3 f4 f5 = record {
       omega (arith, length-append (wire m) (wire r ++ numbers), length-append (wire r) numbers, m_is.short, r_is.short);
 }
 
+small_type : {rtype : ℕ} → (rtype ≡ soa_type) ⊎ (rtype ≡ 1) → rtype < 2 ^ 16
+small_type (inl is) = omega (arith, is)
+small_type (inr is) = omega (arith, is)
+
 -- a row of a type that is read today makes a record of the class
 pub row-lawful : (class rtype seconds : ℕ) (name : List (List ℕ)) (row : List Field) → IsRow rtype row → IsName name → seconds < 2 ^ 32
-    → class < 2 ^ 16 → (rtype ≡ soa_type) ⊎ (rtype ≡ 1) → rtype < 257 → AllByRecursion AreOctets name → AreOctets (octets row)
+    → class < 2 ^ 16 → (rtype ≡ soa_type) ⊎ (rtype ≡ 1) → AllByRecursion AreOctets name → AreOctets (octets row)
     → IsRecordOf class (record { owner = name; rtype = rtype; class = class; ttl = seconds; rdata = octets row })
-row-lawful class rtype seconds name row is name_is ttl_fits fits today below name_octets row_octets = record {
-  lawful = record { owner = name_is; rtype = omega arith; class = fits; ttl = ttl_fits; rdata = is.short };
+row-lawful class rtype seconds name row is name_is ttl_fits fits today name_octets row_octets = record {
+  lawful = record { owner = name_is; rtype = small_type today; class = fits; ttl = ttl_fits; rdata = is.short };
   data_is = typed row is refl;
   class_is = refl;
-  spellable = λ e. absurd (omega arith);
+  spellable = today_is_spellable rtype (octets row) today;
   owner_octets = name_octets;
   data_octets = row_octets;
   today = today;
@@ -109,7 +114,7 @@ row-lawful class rtype seconds name row is name_is ttl_fits fits today below nam
 pub record-lawful : {class : ℕ} {each : List (List ℕ)} {r : Record} → RecordWords class each r → class < 2 ^ 16 → IsRecordOf class r
 record-lawful {class} (words {name = name} {seconds = seconds} {row = row} owner ttl class_is type_is (a {address = address} dotted)) fits =
     let four : length address ≡ 4 = ap (length {A = ℕ}) dotted.value in
-    row-lawful class 1 seconds name row (address-row address four) (absolute-is-name owner) ttl.fits fits (inr refl) (omega arith)
+    row-lawful class 1 seconds name row (address-row address four) (absolute-is-name owner) ttl.fits fits (inr refl)
     (absolute_octets owner) (subst AreOctets (sym (append-nil address)) (address_octets dotted))
 record-lawful {class} (words {name = name} {seconds = seconds} {row = row} owner ttl class_is type_is
     (soa {m = m} {r = r} {n1 = n1} {n2 = n2} {n3 = n3} {n4 = n4} {n5 = n5} m_is r_is f1 f2 f3 f4 f5)) fits =
@@ -119,7 +124,7 @@ record-lawful {class} (words {name = name} {seconds = seconds} {row = row} owner
     let numbers_wire = flat_map (to_be_bytes w32) numbers in
     let P : ℕ → Type 0 = λ octet. octet < 2 ^ 8 in
     row-lawful class 6 seconds name row (soa-row m r n1 n2 n3 n4 n5 m_name r_name f1.fits f2.fits f3.fits f4.fits f5.fits)
-    (absolute-is-name owner) ttl.fits fits (inl refl) (omega arith) (absolute_octets owner)
+    (absolute-is-name owner) ttl.fits fits (inl refl) (absolute_octets owner)
     (all_append P (wire m) (wire r ++ numbers_wire) (wire_octets m m_name.labels (absolute_octets m_is))
     (all_append P (wire r) numbers_wire (wire_octets r r_name.labels (absolute_octets r_is))
     (numbers_octets numbers (f1.fits, (f2.fits, (f3.fits, (f4.fits, (f5.fits, tt))))))))

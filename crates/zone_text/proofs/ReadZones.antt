@@ -1,6 +1,7 @@
 -- The reading of a zone's text, entry by entry.
-use Rattle.std.proofs.Common.{◌≡◌, ◌≢◌, ℕ, ◌+◌, ◌<◌, ◌^◌, List, [], ◌∷◌, ◌++◌, length, refl, sym, ap, ◌∙◌, subst, arith, append-nil}
+use Rattle.std.proofs.Common.{◌≡◌, ◌≢◌, ℕ, ◌+◌, ◌<◌, ◌^◌, List, [], ◌∷◌, ◌++◌, length, true, refl, sym, ap, ◌∙◌, subst, arith, append-nil}
 use Rattle.std.specs.List.{AllByRecursion}
+use Rattle.dns_text.specs.Tokens.{is_end}
 use Rattle.zone_text.specs.Record.{Record}
 use Rattle.zone_text.specs.Records.{IsRecordOf, AreRecordsOf}
 use Rattle.zone_text.specs.Zone.{IsBehindSoa, IsZoneFront, any_class, soa_type}
@@ -8,10 +9,22 @@ use Rattle.zone_text.specs.ZoneText.{Entries, IsZoneText, IsZoneFault, Reaches}
 use Rattle.zone_text.specs.ZoneText.Entries.{none}
 use Rattle.zone_text.specs.Entry.{EndsBehindRows}
 use Rattle.zone_text.specs.Rules.{BreaksRule}
-use Rattle.zone_text.specs.Reading.{BeginsWith, IsWhole, StopsReading}
+use Rattle.zone_text.specs.Reading.{StopsReading}
 use Rattle.zone_text.specs.declared.zone_error.ZoneError.{ZoneError}
 use Rattle.zone_text.specs.declared.zone_error.ZoneError.TheVariants.{ClassAny, Text, FirstNotSoa, SecondSoa, OutOfZone, NoSoa, OutOfMemory}
 use Rattle.zone_text.proofs.ReadEntries.{entries-append, entry-lawful}
+
+-- the text begins with these records, and they keep a zone's rules
+pub record BeginsWith (class : ℕ) (text : List ℕ) (records : List Record) (rest : List ℕ) : Type 0 where
+  pub entries : Entries class text records rest
+  pub lawful : IsZoneFront records
+  pub each : AllByRecursion (IsRecordOf class) records
+
+-- the text is these records, and they keep a zone's rules
+pub record IsWhole (class : ℕ) (text : List ℕ) (records : List Record) : Type 0 where
+  pub rest : List ℕ
+  pub begins : BeginsWith class text records rest
+  pub ends : is_end rest ≡ true
 
 pub begins-none : (class : ℕ) (text : List ℕ) (records : List Record) → records ≡ [] → BeginsWith class text records text
 begins-none class text records is =

@@ -16,7 +16,8 @@ use Rattle.dns_zonefile.specs.PlainRow.DataWords.{a as a_data, soa as soa_data}
 use Rattle.dns_wire.specs.declared.text.FromStrError.{FromStrError}
 use Rattle.dns_wire.specs.declared.text.FromStrError.TheVariants.{Presentation, ShortBuf}
 use Rattle.dns_wire.specs.Text.{IsRefused}
-use Rattle.zone_text.specs.Entry.{texts_of, behind_length, SpellsData, OnText, error_of_name}
+use Rattle.dns_header.specs.Head.{after_length}
+use Rattle.zone_text.specs.Entry.{texts_of, SpellsData, OnText, error_of_name}
 use Rattle.zone_text.specs.declared.text.entry.EntryError.{EntryError}
 use Rattle.zone_text.specs.declared.text.entry.EntryError.TheVariants.{Text, OutOfMemory}
 
@@ -77,14 +78,14 @@ a_made (word ∷ []) address v some few dotted is =
 a_made (word ∷ other ∷ words) address v some few dotted is = absurd (omega arith)
 
 -- an address behind its length
-pub address_behind_length : (address : List ℕ) (d : ℕ) → length address ≡ 4
-    → 0 ∷ 4 ∷ get_or address 0 d ∷ get_or address 1 d ∷ get_or address 2 d ∷ get_or address 3 d ∷ [] ≡ behind_length address
-address_behind_length [] d four = absurd (omega (arith, four))
-address_behind_length (a ∷ []) d four = absurd (omega (arith, four))
-address_behind_length (a ∷ b ∷ []) d four = absurd (omega (arith, four))
-address_behind_length (a ∷ b ∷ c ∷ []) d four = absurd (omega (arith, four))
-address_behind_length (a ∷ b ∷ c ∷ e ∷ []) d four = refl
-address_behind_length (a ∷ b ∷ c ∷ e ∷ f ∷ address) d four = absurd (omega (arith, four))
+pub address_after_length : (address : List ℕ) (d : ℕ) → length address ≡ 4
+    → 0 ∷ 4 ∷ get_or address 0 d ∷ get_or address 1 d ∷ get_or address 2 d ∷ get_or address 3 d ∷ [] ≡ after_length address
+address_after_length [] d four = absurd (omega (arith, four))
+address_after_length (a ∷ []) d four = absurd (omega (arith, four))
+address_after_length (a ∷ b ∷ []) d four = absurd (omega (arith, four))
+address_after_length (a ∷ b ∷ c ∷ []) d four = absurd (omega (arith, four))
+address_after_length (a ∷ b ∷ c ∷ e ∷ []) d four = refl
+address_after_length (a ∷ b ∷ c ∷ e ∷ f ∷ address) d four = absurd (omega (arith, four))
 
 pub numbers_length : (numbers : List ℕ) → length (flat_map (to_be_bytes w32) numbers) ≡ 4 * length numbers
 numbers_length [] = refl
@@ -114,11 +115,11 @@ soa_few mname rname numbers m r five =
     omega (arith, m.short, r.short, five, numbers_length numbers, length-append (wire mname ++ wire rname) (flat_map (to_be_bytes w32) numbers), length-append (wire mname) (wire rname))
 
 -- and they stand behind their length, where it was written there
-pub soa_behind_length : (old m r numbers whole new : List ℕ) (len : ℕ) → ThreeParts old m r numbers whole
+pub soa_after_length : (old m r numbers whole new : List ℕ) (len : ℕ) → ThreeParts old m r numbers whole
     → len ≡ length whole - length old - 2
     → ((front there behind : List ℕ) → whole ≡ front ++ (there ++ behind) → length front ≡ length old → length there ≡ 2
-    → new ≡ front ++ (to_be_bytes w16 len ++ behind)) → new ≡ old ++ behind_length (m ++ r ++ numbers)
-soa_behind_length old m r numbers whole new len parts len_is put =
+    → new ≡ front ++ (to_be_bytes w16 len ++ behind)) → new ≡ old ++ after_length (m ++ r ++ numbers)
+soa_after_length old m r numbers whole new len parts len_is put =
     let long : len ≡ length (m ++ r ++ numbers) = omega (arith, len_is, parts.long) in
     put old (0 ∷ 0 ∷ []) (m ++ r ++ numbers) parts.joined refl refl ∙ ap (λ n. old ++ (to_be_bytes w16 n ++ (m ++ r ++ numbers))) long
 

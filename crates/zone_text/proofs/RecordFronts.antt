@@ -25,7 +25,7 @@ abbrev pub behind_owner : Record → List ℕ → List ℕ
 behind_owner r rest =
     to_be_bytes w16 r.rtype ++ (to_be_bytes w16 r.class ++ (to_be_bytes w32 r.ttl ++ (to_be_bytes w16 (length r.rdata) ++ (r.rdata ++ rest))))
 
-regrouped : (a b c d e f g : List ℕ) → (a ++ b ++ c ++ d ++ e ++ f) ++ g ≡ a ++ (b ++ (c ++ (d ++ (e ++ (f ++ g)))))
+regrouped : (a b c d e f g : List ℕ) → (a ++ (b ++ c ++ d) ++ (e ++ f)) ++ g ≡ a ++ (b ++ (c ++ (d ++ (e ++ (f ++ g)))))
 regrouped a b c d e f g = simp append_assoc
 
 pub record_regrouped : (r : Record) (rest : List ℕ) → record_octets r ++ rest ≡ wire r.owner ++ behind_owner r rest

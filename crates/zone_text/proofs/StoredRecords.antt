@@ -4,12 +4,15 @@ use Rattle.std.specs.Prelude.{slice_get}
 use Rattle.std.specs.Int.{to_be_bytes, from_be_bytes, w16, w32}
 use Rattle.std.specs.List.{AllByRecursion, flat_map}
 use Rattle.std.proofs.Math.Seq.{take-append_seam, drop-append_seam}
+use Rattle.std.proofs.lemmas.List.{drop-drop}
 use Rattle.std.proofs.lemmas.Nat.{from_be_bytes-to_be_bytes_2, from_be_bytes-to_be_bytes_4}
 use Rattle.dns_label.specs.Name.{IsName, wire}
 use Rattle.dns_label.specs.Labels.{labels_at}
 use Rattle.dns_label.proofs.Spelling.{labels_at-reads, spelled-written}
 use Rattle.dns_wire.specs.Flat.{IsWritten}
 use Rattle.dns_wire.proofs.Flat.{flat-written}
+use Rattle.dns_header.specs.Header.{number_at}
+use Rattle.dns_header.specs.Head.{after_length, fixed_octets}
 use Rattle.dns_message.specs.Record.{IsRecord, record_octets}
 use Rattle.zone_text.specs.Record.{Record}
 use Rattle.zone_text.specs.Stored.{IsStored, AreStored, record_in, record_with, records_at, starts}
@@ -47,6 +50,13 @@ record_in_written octets rest r is whole =
 -- one that the octets are
 pub record_in_whole : (octets : List ℕ) (r : Record) → IsRecord r → octets ≡ record_octets r → record_in octets ≡ r
 record_in_whole octets r is whole = record_in_written octets [] r is (whole ∙ sym (append-nil (record_octets r)))
+
+-- the class of a stored record stands two octets after its owner
+pub class_at : (octets : List ℕ) (len : ℕ) → IsStored octets len → number_at octets (len + 2) ≡ (record_in octets).class
+unfolding record_in
+class_at octets len stored =
+    ap (λ n. number_at octets (n + 2)) stored.owner
+    ∙ ap (λ l. from_be_bytes w16 (take 2 l)) (sym (drop-drop 2 (length (wire (labels_at octets 0))) octets))
 
 pub stored_of : (octets : List ℕ) (len : ℕ) (r : Record) → IsRecord r → octets ≡ record_octets r → len ≡ length (wire r.owner)
     → IsStored octets len
@@ -242,15 +252,8 @@ owner_found octets read rest name r is whole is_name at same =
     let regrouped : octets ≡ wire r.owner ++ behind_owner r [] = whole ∙ sym (append-nil (record_octets r)) ∙ record_regrouped r [] in
     (wire_fronts name r.owner rest (behind_owner r []) is_name.labels is.owner.labels (sym at ∙ same ∙ regrouped)).0
 
-joined : (a b c d e f : List ℕ) → (a ++ (b ++ c ++ d)) ++ (e ++ f) ≡ a ++ b ++ c ++ d ++ e ++ f
-joined a b c d e f = simp append_assoc
-
 -- a record that is written part by part: its owner, its numbers, and its data behind their length
 pub written_record : (first second third : List ℕ) (r : Record) → first ≡ wire r.owner
-    → second ≡ first ++ (to_be_bytes w16 r.rtype ++ to_be_bytes w16 r.class ++ to_be_bytes w32 r.ttl)
-    → third ≡ second ++ (to_be_bytes w16 (length r.rdata) ++ r.rdata) → third ≡ record_octets r
+    → second ≡ first ++ fixed_octets r.rtype r.class r.ttl → third ≡ second ++ after_length r.rdata → third ≡ record_octets r
 written_record first second third r owner numbers data' =
-    let tail = to_be_bytes w16 (length r.rdata) ++ r.rdata in
-    let middle = to_be_bytes w16 r.rtype ++ to_be_bytes w16 r.class ++ to_be_bytes w32 r.ttl in
-    data' ∙ ap (λ l. l ++ tail) (numbers ∙ ap (λ l. l ++ middle) owner)
-    ∙ joined (wire r.owner) (to_be_bytes w16 r.rtype) (to_be_bytes w16 r.class) (to_be_bytes w32 r.ttl) (to_be_bytes w16 (length r.rdata)) r.rdata
+    data' ∙ ap (λ l. l ++ after_length r.rdata) (numbers ∙ ap (λ l. l ++ fixed_octets r.rtype r.class r.ttl) owner)

@@ -1,12 +1,12 @@
 -- What the reader of entries gives. Only contracts inside the crate speak of it.
 use Rattle.std.specs.Prelude.{◌≡◌, ◌≢◌, ◌==◌, ◌||◌, ◌≤◌, ◌<◌, ◌^◌, ◌++◌, ℕ, Bool, true, false, not, nat_lt, List, [], length, map, slice_index, ⊤}
-use Rattle.std.specs.Int.{to_be_bytes, w16}
 use Rattle.std.specs.Borrow.{Bor}
 use Rattle.std.specs.List.{AllByRecursion}
 use Rattle.dns_label.specs.declared.symbol.Symbol.{Symbol}
 use Rattle.dns_label.specs.declared.symbol.Symbol.TheVariants.{Char}
 use Rattle.dns_label.specs.Symbol.{spelled}
 use Rattle.dns_text.specs.Tokens.{IsEmptyRow, IsIn, is_end}
+use Rattle.dns_header.specs.Head.{after_length}
 use Rattle.dns_rdata.specs.Fields.{Field, octets}
 use Rattle.dns_zonefile.specs.PlainRow.{DataWords, PlainRow, RecordWords}
 use Rattle.dns_wire.specs.declared.text.FromStrError.{FromStrError}
@@ -61,15 +61,11 @@ pub record SpellsData (rtype : ℕ) (words : List (List ℕ)) (data' : List ℕ)
   pub spelled : DataWords rtype words row
   pub is : data' ≡ octets row
 
--- data behind its length, as a record has it (RFC 1035 3.2.1)
-abbrev pub behind_length : List ℕ → List ℕ
-behind_length data' = to_be_bytes w16 (length data') ++ data'
-
--- the data was appended that the words spell of the type, behind its length
+-- the data was appended that the words spell of the type, after its length
 pub record AppendsData (rtype : ℕ) (words : List (List ℕ)) (old new : List ℕ) : Type 0 where
   pub appended : List ℕ
   pub spells : SpellsData rtype words appended
-  pub whole : new ≡ old ++ behind_length appended
+  pub whole : new ≡ old ++ after_length appended
   pub few : length appended < 2 ^ 16
 
 -- what an error for the text says. An error for want of memory says nothing.

@@ -1,7 +1,8 @@
 -- What is known of the records of a zone.
-use Rattle.std.specs.Prelude.{◌≡◌, ◌≢◌, ◌⊎◌, ℕ, List, map, slice_index}
+use Rattle.std.specs.Prelude.{◌≡◌, ◌⊎◌, ℕ, List, map}
 use Rattle.dns_label.specs.Name.{low}
 use Rattle.dns_rdata.specs.Fields.{Field, IsRow, octets, lowered, IsData}
+use Rattle.dns_rdata.specs.DataOctets.{IsSpellable}
 use Rattle.zone_text.specs.Zone.{IsZone, a_type, soa_type}
 use Rattle.std.specs.List.{AllByRecursion}
 pub use Rattle.dns_label.specs.Octets.{AreOctets}
@@ -11,10 +12,6 @@ use Rattle.zone_text.specs.Record.{Record}
 -- the types that are received today
 abbrev pub IsTypeToday : ℕ → Type 0
 IsTypeToday rtype = (rtype ≡ soa_type) ⊎ (rtype ≡ a_type)
-
--- A CAA record (257) can be spelled in text only where its tag, whose length is the second octet, is not empty (RFC 8659 4.1).
-abbrev pub IsSpellable : Record → Type 0
-IsSpellable r = r.rtype ≡ 257 → slice_index r.rdata 1 ≢ 0
 
 -- two SOA records that are equal, names up to ASCII case
 pub record SameSoa (soa other : Record) : Type 0 where
@@ -32,7 +29,7 @@ pub record IsSendable (class : ℕ) (r : Record) : Type 0 where
   pub lawful : IsRecord r
   pub data_is : IsData r.rtype r.rdata
   pub class_is : r.class ≡ class
-  pub spellable : IsSpellable r
+  pub spellable : IsSpellable r.rtype r.rdata
 
 -- A zone of the class, of records of any types.
 pub record AreSendable (class : ℕ) (records : List Record) : Type 0 where
@@ -44,7 +41,7 @@ pub record IsRecordOf (class : ℕ) (r : Record) : Type 0 where
   pub lawful : IsRecord r
   pub data_is : IsData r.rtype r.rdata
   pub class_is : r.class ≡ class
-  pub spellable : IsSpellable r
+  pub spellable : IsSpellable r.rtype r.rdata
   pub owner_octets : AllByRecursion AreOctets r.owner
   pub data_octets : AreOctets r.rdata
   pub today : IsTypeToday r.rtype

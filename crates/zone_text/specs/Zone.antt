@@ -1,7 +1,8 @@
 -- Which records are a zone: one SOA, the first, and then others at or under its owner (RFC 1035 5.2, RFC 5936 2.2).
-use Rattle.std.specs.Prelude.{◌≡◌, ◌≢◌, ◌++◌, ℕ, List, [], ◌∷◌, ⊤}
+use Rattle.std.specs.Prelude.{◌≡◌, ◌≢◌, ℕ, List, [], ◌∷◌, ⊤}
 use Rattle.std.specs.List.{AllByRecursion}
 use Rattle.dns_label.specs.Name.{low}
+use Rattle.dns_wire.specs.Suffix.{EndsWith}
 use Rattle.zone_text.specs.Record.{Record}
 
 -- the numbers of the types and classes that the rules speak of (RFC 1035 3.2.2; 3.2.3 for AXFR, 3.2.5 for any class)
@@ -19,7 +20,7 @@ any_class = 255
 
 -- the name is the apex or a name under it (RFC 1034 3.1), names compared up to ASCII case (RFC 4343)
 abbrev pub IsUnder : List (List ℕ) → List (List ℕ) → Type 0
-IsUnder apex name = (front : List (List ℕ)) × (low name ≡ front ++ low apex)
+IsUnder apex name = EndsWith (low name) (low apex)
 
 -- a record that may stand behind the SOA
 pub record IsBehindSoa (soa r : Record) : Type 0 where

@@ -59,7 +59,7 @@ returns-then-not-is_under-clause-err c =
       has,
       first_rule there xs stands,
       same,
-      λ under. let told = c.is_under.ensures.1 (record { front = under.0; whole_is = under.1 }) in cc,
+      λ under. let told = c.is_under.ensures.1 under in cc,
     )
 
 -- what the test for a later SOA says
@@ -109,7 +109,7 @@ returns-then-not-is_same_soa-clause-err c =
       has,
       first_rule there xs stands,
       same,
-      (under.front, under.whole_is),
+      under,
       λ keeps.
           let told = c.is_same_soa.ensures.1 (last_broken c.args.front.now c.record_at.result r stands c.record_at.ensures keeps rtype) in cc,
     )
@@ -134,7 +134,7 @@ returns-then-closed-clause-err c =
       has,
       first_rule there xs stands,
       same,
-      (under.front, under.whole_is),
+      under,
       last xs stands,
       stands_closed stands c.if-closed.true,
     )
@@ -151,7 +151,7 @@ returns-clause-ok c =
       | then-not-is_soa w ↦
           placed_inner c.args.front.now r c.if-not-is_soa.placing w.placing-is stands (first_rule there c.requires.stands.0 stands)
           (no_later joined w.if-not-is_soa.true)
-          (record { class = same; under = (under.front, under.whole_is); spellable = c.requires.next.1.spellable })
+          (record { class = same; under = under; spellable = c.requires.next.1.spellable })
       | else-not-is_soa+else-not-is_same_soa w ↦
           placed_last c.args.front.now w.record_at.result r c.if-not-is_soa.placing w.placing-is stands w.record_at.ensures
           (later joined w.if-not-is_soa.false) (w.is_same_soa.ensures.0 w.if-not-is_same_soa.false)

@@ -1,6 +1,7 @@
 use Rattle.std.proofs.Common.{◌≡◌, ◌+◌, ◌-◌, ◌++◌, ◌∙◌, length, refl, ap, arith}
 use Rattle.zone_core.proofs.Plain.{size_is}
-use Rattle.zone_core.proofs.Placing.{few_records, record_long, appended}
+use Rattle.dns_message.proofs.AsWritten.{least_record}
+use Rattle.zone_core.proofs.Placing.{few_records, appended}
 use Rattle.zone_core.proofs.sender.Sender.append.Goals as goal
 
 pub overflow_add-self : goal.overflow_add-self
@@ -9,7 +10,7 @@ overflow_add-self c =
     let group = c.requires.2 in
     let stands = c.requires.5 in
     let room = c.requires.6 in
-    omega (arith, few_records group, size_is query group, stands.is_for.small, stands.answers, room, record_long c.requires.7, ap length c.requires.8)
+    omega (arith, few_records group, size_is query group, stands.is_for.small, stands.answers, room, least_record c.requires.7, ap length c.requires.8)
 
 pub returns-clause-whole : goal.returns-clause-whole
 returns-clause-whole c = λ query front group mark count r is stands.

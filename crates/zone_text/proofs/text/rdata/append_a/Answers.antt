@@ -1,6 +1,6 @@
 use Rattle.std.proofs.Common.{◌++◌, ◌∙◌, ℕ, length, ap}
 use Rattle.zone_text.proofs.ReadEntries.{spelled-few}
-use Rattle.zone_text.proofs.RecordData.{a_none, a_made, address_behind_length}
+use Rattle.zone_text.proofs.RecordData.{a_none, a_made, address_after_length}
 use Rattle.zone_text.proofs.text.rdata.append_a.Goals as goal
 
 pub returns-in_default-parse_ascii-clause-err : goal.returns-in_default-parse_ascii-clause-err
@@ -14,6 +14,6 @@ returns-in_ok-extend_from_slice-in-len1-clause-ok c =
       spells = spells;
       whole =
           c.in_ok-extend_from_slice-in-len1.ensures.items
-          ∙ ap (λ l. c.args.octets.now.items ++ l) (address_behind_length c.octets.result 0 (ap (length {A = ℕ}) (c.octets.ensures ∙ c.in-Ok.ensures.value)));
+          ∙ ap (λ l. c.args.octets.now.items ++ l) (address_after_length c.octets.result 0 (ap (length {A = ℕ}) (c.octets.ensures ∙ c.in-Ok.ensures.value)));
       few = spelled-few spells;
     }

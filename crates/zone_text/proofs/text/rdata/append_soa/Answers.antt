@@ -2,7 +2,7 @@ use Rattle.std.proofs.Common.{◌-◌, ◌∷◌, [], refl, arith}
 use Rattle.dns_label.specs.Name.{wire}
 use Rattle.dns_wire.proofs.Texts.{absolute_name}
 use Rattle.zone_text.proofs.ReadEntries.{spelled-few}
-use Rattle.zone_text.proofs.RecordData.{text_exit, name_exit, none_of, number_of, no_refresh, no_retry, no_expire, no_minimum, no_mname, no_rname, soa_made, soa_few, soa_behind_length, three_parts}
+use Rattle.zone_text.proofs.RecordData.{text_exit, name_exit, none_of, number_of, no_refresh, no_retry, no_expire, no_minimum, no_mname, no_rname, soa_made, soa_few, soa_after_length, three_parts}
 use Rattle.zone_text.proofs.text.rdata.append_soa.Goals as goal
 
 pub returns-in_err-ok_or-in-len7-2-clause-err : goal.returns-in_err-ok_or-in-len7-2-clause-err
@@ -57,7 +57,7 @@ returns-in_ok-append_numbers-in-len7-clause-ok c =
     record {
       appended = _;
       spells = spells;
-      whole = soa_behind_length _ _ _ _ _ _ (c.len.result - c.len-place.result - 2) parts (omega (arith, c.len.ensures, c.len-place.ensures))
+      whole = soa_after_length _ _ _ _ _ _ (c.len.result - c.len-place.result - 2) parts (omega (arith, c.len.ensures, c.len-place.ensures))
           (λ front there behind is at two. c.put_number.ensures front there behind is (omega (arith, at, c.len-place.ensures)) two);
       few = spelled-few spells;
     }
