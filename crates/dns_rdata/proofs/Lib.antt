@@ -2,4 +2,4 @@ pub use Rattle.dns_fields.proofs.ComposedRows
 pub mod Fronts
 pub mod Pairs
 pub mod ScanAny
-mod PrintedData
+pub mod PrintedData

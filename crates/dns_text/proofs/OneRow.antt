@@ -160,7 +160,7 @@ no_next_at_end [] ends next = no_next next
 no_next_at_end (octet ∷ text) {found} {out} {rest} ends next =
     at_end octet text (is_gap octet) refl ends next (λ behind next'. no_next_at_end text behind next')
 
-no_row_at_end : {text : List ℕ} {row : List Token} {rest : List ℕ} → is_end text ≡ true → Row false text row rest → ⊥
+pub no_row_at_end : {text : List ℕ} {row : List Token} {rest : List ℕ} → is_end text ≡ true → Row false text row rest → ⊥
 no_row_at_end {text} ends (end next) = no_next_at_end text ends next
 no_row_at_end {text} ends (token out left next others) = no_next_at_end text ends next
 

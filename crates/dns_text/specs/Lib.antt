@@ -1,6 +1,5 @@
 pub mod Tokens
 pub mod Rows
-pub mod Numbers
 pub mod Document
 pub mod Layout
 pub mod Writing

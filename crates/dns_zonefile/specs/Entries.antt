@@ -1,5 +1,5 @@
 -- The entries of a zone file (RFC 1035 5.1): its rows with tokens, each read in the context that those before it leave.
-use Rattle.std.specs.Prelude.{◌≡◌, ◌≢◌, ℕ, suc, Bool, List, [], ◌∷◌, ◌++◌, length}
+use Rattle.std.specs.Prelude.{◌≢◌, ℕ, suc, Bool, List, [], ◌∷◌, ◌++◌, length}
 use Rattle.dns_text.specs.Rows.{BeginsWithRows, BreaksAfter, IsText, TokenRow}
 use Rattle.dns_zonefile.specs.Entry.{Context, Entry, IsEntry}
 

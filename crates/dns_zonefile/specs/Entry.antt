@@ -1,6 +1,7 @@
 -- What a row of a zone file says (RFC 1035 5.1, RFC 2308 4).
-use Rattle.std.specs.Prelude.{◌≡◌, ◌≢◌, ◌^◌, ℕ, List, [], ◌∷◌, Option, Some, None, true, false, unwrap_or, option_or, codes, ◌++◌}
-use Rattle.std.specs.List.{list_all, map}
+use Rattle.std.specs.Prelude.{◌≡◌, ◌^◌, ℕ, List, [], ◌∷◌, Option, Some, None, true, false, map, unwrap_or, codes, ◌++◌}
+use Rattle.std.specs.Option.{option_or}
+use Rattle.std.specs.List.{list_all}
 use Rattle.std.specs.Char.{is_ascii, is_ascii_digit, to_ascii_lowercase}
 use Rattle.dns_values.specs.Mnemonic.{class_read, number_spelled, type_read}
 use Rattle.dns_scan.specs.Token.{Token, IsWord, SpellsOctets, unquoted}

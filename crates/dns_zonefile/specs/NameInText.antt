@@ -1,5 +1,5 @@
 -- Which name a token of a zone file spells (RFC 1035 5.1).
-use Rattle.std.specs.Prelude.{◌≡◌, ◌≢◌, ℕ, List, [], ◌∷◌, ◌++◌, Option, Some}
+use Rattle.std.specs.Prelude.{◌≢◌, ℕ, List, [], ◌∷◌, ◌++◌, Option, Some}
 use Rattle.dns_label.specs.Name.{IsName}
 use Rattle.dns_label.specs.NameText.{IsAbsoluteText, IsRelativeText}
 

@@ -2,15 +2,13 @@
 -- each an unquoted token, with spaces between them and nothing else (RFC 1035 5.1). Names have their last dot.
 use Rattle.std.specs.Prelude.{◌≡◌, ◌≢◌, ◌<◌, ◌^◌, ℕ, List, [], ◌∷◌, ◌++◌, length, Some, slice_index, false}
 use Rattle.std.specs.List.{AllByRecursion, flat_map}
-use Rattle.std.specs.Int.{to_be_bytes, w32}
 use Rattle.std.specs.Net.Grammar.{IsDotted}
-use Rattle.dns_label.specs.Name.{wire}
 use Rattle.dns_label.specs.NameText.{IsAbsoluteText}
 use Rattle.dns_label.specs.Symbol.{spelled}
 use Rattle.dns_label.specs.declared.symbol.Symbol.{Symbol}
 use Rattle.dns_values.specs.Mnemonic.{class_read, type_read}
 use Rattle.dns_text.specs.Tokens.{IsIn}
-use Rattle.dns_text.specs.Numbers.{IsNumberText}
+use Rattle.dns_values.specs.Mnemonic.{number_spelled}
 use Rattle.dns_rdata.specs.Fields.{Field, number32, ipv4, compressible, octets}
 use Rattle.dns_message.specs.Record.{Record}
 
@@ -41,15 +39,15 @@ pub data DataWords : ℕ → List (List ℕ) → List Field → Type 0 where
   a : {word address : List ℕ} → IsDotted word address → DataWords 1 (word ∷ []) (ipv4 address ∷ [])
   soa : {mname rname serial refresh retry expire minimum : List ℕ} {m r : List (List ℕ)} {n1 n2 n3 n4 n5 : ℕ}
       → IsAbsoluteText mname m → IsAbsoluteText rname r
-      → IsNumberText (2 ^ 32) serial n1 → IsNumberText (2 ^ 32) refresh n2 → IsNumberText (2 ^ 32) retry n3
-      → IsNumberText (2 ^ 32) expire n4 → IsNumberText (2 ^ 32) minimum n5
+      → number_spelled (2 ^ 32) serial ≡ Some n1 → number_spelled (2 ^ 32) refresh ≡ Some n2 → number_spelled (2 ^ 32) retry ≡ Some n3
+      → number_spelled (2 ^ 32) expire ≡ Some n4 → number_spelled (2 ^ 32) minimum ≡ Some n5
       → DataWords 6 (mname ∷ rname ∷ serial ∷ refresh ∷ retry ∷ expire ∷ minimum ∷ [])
       (compressible m ∷ compressible r ∷ number32 n1 ∷ number32 n2 ∷ number32 n3 ∷ number32 n4 ∷ number32 n5 ∷ [])
 
 -- the record of the class that the words spell
 pub data RecordWords (class : ℕ) : List (List ℕ) → Record → Type 0 where
   words : {owner ttl class_word type_word : List ℕ} {data_words : List (List ℕ)} {name : List (List ℕ)} {seconds rtype : ℕ}
-      {row : List Field} → IsAbsoluteText owner name → IsNumberText (2 ^ 32) ttl seconds → class_read class_word ≡ Some class
+      {row : List Field} → IsAbsoluteText owner name → number_spelled (2 ^ 32) ttl ≡ Some seconds → class_read class_word ≡ Some class
       → type_read type_word ≡ Some rtype → DataWords rtype data_words row
       → RecordWords class (owner ∷ ttl ∷ class_word ∷ type_word ∷ data_words)
       (record { owner = name; rtype = rtype; class = class; ttl = seconds; rdata = octets row })

@@ -9,7 +9,7 @@ use Rattle.dns_text.specs.Tokens.{IsEmptyRow, is_end}
 use Rattle.dns_text.specs.Tokens.Next.{ended, goes, comment}
 use Rattle.dns_label.specs.NameText.{IsAbsoluteText}
 use Rattle.dns_values.specs.Mnemonic.{class_read, type_read}
-use Rattle.dns_text.specs.Numbers.{IsNumberText}
+use Rattle.dns_values.specs.Mnemonic.{number_spelled}
 use Rattle.dns_zonefile.specs.PlainRow.{RecordWords, DataWords, Words}
 use Rattle.dns_zonefile.specs.PlainRow.DataWords.{a as a_data, soa as soa_data}
 use Rattle.dns_rdata.specs.Fields.{Field}
@@ -69,7 +69,7 @@ passed_refused class text rest passed goes_on tokens no_record = record {
 -- the words of a record
 pub record Parts (class : ℕ) (texts : List (List ℕ)) (r : spec.Record) : Type 0 where
   pub owner_is : IsAbsoluteText (get_or texts 0 []) r.owner
-  pub ttl_is : IsNumberText (2 ^ 32) (get_or texts 1 []) r.ttl
+  pub ttl_is : number_spelled (2 ^ 32) (get_or texts 1 []) ≡ Some r.ttl
   pub class_is : class_read (get_or texts 2 []) ≡ Some class
   pub type_is : type_read (get_or texts 3 []) ≡ Some r.rtype
   pub data_is : SpellsData r.rtype (drop 4 texts) r.rdata
@@ -140,7 +140,7 @@ handed_exit (Err OutOfMemory) OutOfMemory gives known deny = tt
 -- the record that the words spell
 pub record_made : (class : ℕ) (held front rest : List (Bor (List ℕ))) (owner : List (List ℕ)) (ttl seconds rtype : ℕ) (v : List ℕ)
     → 4 ≤ length held → front ≡ take 4 held → rest ≡ drop 4 held → IsAbsoluteText (get_or front 0 no_word).now owner
-    → IsNumberText (2 ^ 32) (get_or front 1 no_word).now seconds → ttl ≡ seconds
+    → number_spelled (2 ^ 32) (get_or front 1 no_word).now ≡ Some seconds → ttl ≡ seconds
     → class_read (get_or front 2 no_word).now ≡ Some class → type_read (get_or front 3 no_word).now ≡ Some rtype
     → SpellsData rtype (texts_of rest) v
     → RecordWords class (texts_of held) (record { owner = owner; rtype = rtype; class = class; ttl = ttl; rdata = v })
@@ -152,7 +152,7 @@ record_made class (w0 ∷ w1 ∷ w2 ∷ w3 ∷ held) front rest owner ttl second
     let at3 : w3.now ≡ (get_or front 3 no_word).now = held_text all front 3 is (omega arith) in
     let others : texts_of held ≡ texts_of rest = held_rest all rest is' in
     let owner_is' = subst (λ (l : List ℕ). IsAbsoluteText l owner) (sym at0) owner_is in
-    let ttl_is' = subst (λ (n : ℕ). IsNumberText (2 ^ 32) w1.now n) (sym same) (subst (λ (l : List ℕ). IsNumberText (2 ^ 32) l seconds) (sym at1) ttl_is) in
+    let ttl_is' = subst (λ (n : ℕ). number_spelled (2 ^ 32) w1.now ≡ Some n) (sym same) (subst (λ (l : List ℕ). number_spelled (2 ^ 32) l ≡ Some seconds) (sym at1) ttl_is) in
     let spelled = subst (λ (l : List (List ℕ)). DataWords rtype l data'.row) (sym others) data'.spelled in
     subst (λ (l : List ℕ). RecordWords class (texts_of all) (record { owner = owner; rtype = rtype; class = class; ttl = ttl; rdata = l })) (sym data'.is)
     (words owner_is' ttl_is' (ap class_read at2 ∙ class_is) (ap type_read at3 ∙ type_is) spelled)

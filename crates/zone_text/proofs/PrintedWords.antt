@@ -15,13 +15,12 @@ use Rattle.dns_label.specs.Name.{IsName}
 use Rattle.dns_label.specs.NameText.{IsAbsoluteText, is_dot, onto, parts_of}
 use Rattle.dns_label.specs.NameText.IsAbsoluteText.{root, labels as has_labels}
 use Rattle.dns_label.specs.Printed.{printed_symbol, printed_label, printed_labels, printed_name}
-use Rattle.dns_values.specs.Mnemonic.{classes, text_of, text_written, class_written}
+use Rattle.dns_values.specs.Mnemonic.{classes, number_spelled, text_of, text_written, class_written}
 use Rattle.dns_text.specs.Tokens.{IsIn}
-use Rattle.dns_text.specs.Numbers.{IsNumberText}
 use Rattle.dns_zonefile.specs.PlainRow.{IsUnquoted}
 use Rattle.zone_text.specs.Records.{AreOctets}
 use Rattle.zone_text.proofs.Each.{all_append}
-use Rattle.zone_text.proofs.NumberTexts.{number_of_digits}
+use Rattle.zone_text.proofs.NumberTexts.{IsNumberText, number_is_spelled, number_of_digits}
 use Rattle.zone_text.proofs.WordSymbols.{chars_written, differs}
 use Rattle.zone_text.proofs.PrintedSymbols.{StandsFor, plain_in, printed_stands}
 
@@ -64,15 +63,18 @@ digits_plain (c ∷ digits) test =
     (plain_between c (omega arith) (omega arith) (λ e. omega arith), digits_plain digits (digits_behind c digits test))
 
 -- a number of 32 bits
-pub number_text : (n : ℕ) → n < 2 ^ 32 → IsNumberText (2 ^ 32) (decimal n) n
-number_text n fits =
+decimal_number : (n : ℕ) → n < 2 ^ 32 → IsNumberText (2 ^ 32) (decimal n) n
+decimal_number n fits =
     let is = decimal_is_IsNumeral n (omega arith) in record { digits = is.0; is = sym is.1; fits = fits }
 
+pub number_text : (n : ℕ) → n < 2 ^ 32 → number_spelled (2 ^ 32) (decimal n) ≡ Some n
+number_text n fits = number_is_spelled (2 ^ 32) (decimal n) n (decimal_number n fits)
+
 pub number_plain : (n : ℕ) → n < 2 ^ 32 → ArePlain (decimal n)
-number_plain n fits = digits_plain (decimal n) (number_of_digits (2 ^ 32) (decimal n) n (number_text n fits))
+number_plain n fits = digits_plain (decimal n) (number_of_digits (2 ^ 32) (decimal n) n (decimal_number n fits))
 
 pub number_word : (n : ℕ) → n < 2 ^ 32 → IsUnquoted (decimal n)
-number_word n fits = plain_word (decimal n) (number_plain n fits) (number_text n fits).digits.0
+number_word n fits = plain_word (decimal n) (number_plain n fits) (decimal_number n fits).digits.0
 
 -- four numbers with dots between them
 dot_plain : ArePlain (codes ".")

@@ -23,6 +23,7 @@ use Rattle.zone_text.specs.ZoneText.{Entries}
 use Rattle.zone_text.specs.Entry.{SpellsData}
 use Rattle.zone_text.specs.ZoneText.Entries.{none, empty, entry}
 use Rattle.zone_text.proofs.Each.{all_append}
+use Rattle.zone_text.proofs.NumberTexts.{spelled_fits}
 use Rattle.zone_text.proofs.SpellableData.{today_is_spellable}
 use Rattle.zone_text.proofs.ReadOctets.{absolute_octets, wire_octets, address_octets, numbers_octets}
 
@@ -114,7 +115,7 @@ row-lawful class rtype seconds name row is name_is ttl_fits fits today name_octe
 pub record-lawful : {class : ℕ} {each : List (List ℕ)} {r : Record} → RecordWords class each r → class < 2 ^ 16 → IsRecordOf class r
 record-lawful {class} (words {name = name} {seconds = seconds} {row = row} owner ttl class_is type_is (a {address = address} dotted)) fits =
     let four : length address ≡ 4 = ap (length {A = ℕ}) dotted.value in
-    row-lawful class 1 seconds name row (address-row address four) (absolute-is-name owner) ttl.fits fits (inr refl)
+    row-lawful class 1 seconds name row (address-row address four) (absolute-is-name owner) (spelled_fits _ _ _ ttl) fits (inr refl)
     (absolute_octets owner) (subst AreOctets (sym (append-nil address)) (address_octets dotted))
 record-lawful {class} (words {name = name} {seconds = seconds} {row = row} owner ttl class_is type_is
     (soa {m = m} {r = r} {n1 = n1} {n2 = n2} {n3 = n3} {n4 = n4} {n5 = n5} m_is r_is f1 f2 f3 f4 f5)) fits =
@@ -123,11 +124,11 @@ record-lawful {class} (words {name = name} {seconds = seconds} {row = row} owner
     let numbers : List ℕ = n1 ∷ n2 ∷ n3 ∷ n4 ∷ n5 ∷ [] in
     let numbers_wire = flat_map (to_be_bytes w32) numbers in
     let P : ℕ → Type 0 = λ octet. octet < 2 ^ 8 in
-    row-lawful class 6 seconds name row (soa-row m r n1 n2 n3 n4 n5 m_name r_name f1.fits f2.fits f3.fits f4.fits f5.fits)
-    (absolute-is-name owner) ttl.fits fits (inl refl) (absolute_octets owner)
+    row-lawful class 6 seconds name row (soa-row m r n1 n2 n3 n4 n5 m_name r_name (spelled_fits _ _ _ f1) (spelled_fits _ _ _ f2) (spelled_fits _ _ _ f3) (spelled_fits _ _ _ f4) (spelled_fits _ _ _ f5))
+    (absolute-is-name owner) (spelled_fits _ _ _ ttl) fits (inl refl) (absolute_octets owner)
     (all_append P (wire m) (wire r ++ numbers_wire) (wire_octets m m_name.labels (absolute_octets m_is))
     (all_append P (wire r) numbers_wire (wire_octets r r_name.labels (absolute_octets r_is))
-    (numbers_octets numbers (f1.fits, (f2.fits, (f3.fits, (f4.fits, (f5.fits, tt))))))))
+    (numbers_octets numbers ((spelled_fits _ _ _ f1), ((spelled_fits _ _ _ f2), ((spelled_fits _ _ _ f3), ((spelled_fits _ _ _ f4), ((spelled_fits _ _ _ f5), tt))))))))
 
 -- an entry is a record of the class
 pub entry-lawful : {class : ℕ} {text rest : List ℕ} {r : Record} → Entries class text (r ∷ []) rest → class < 2 ^ 16 → IsRecordOf class r
@@ -141,7 +142,7 @@ row-few (soa {m = m} {r = r} {n1 = n1} {n2 = n2} {n3 = n3} {n4 = n4} {n5 = n5} m
     omega (
       arith,
       ap (length {A = ℕ}) is,
-      (soa-row m r n1 n2 n3 n4 n5 (absolute-is-name m_is) (absolute-is-name r_is) f1.fits f2.fits f3.fits f4.fits f5.fits).short,
+      (soa-row m r n1 n2 n3 n4 n5 (absolute-is-name m_is) (absolute-is-name r_is) (spelled_fits _ _ _ f1) (spelled_fits _ _ _ f2) (spelled_fits _ _ _ f3) (spelled_fits _ _ _ f4) (spelled_fits _ _ _ f5)).short,
     )
 
 -- data that words spell is as long as a record's may be

@@ -9,7 +9,7 @@ use Rattle.std.specs.declared.net.ipv4_addr.Ipv4Addr.{Ipv4Addr}
 use Rattle.std.specs.Net.Grammar.{IsDotted, IsIpv4Text}
 use Rattle.dns_label.specs.Name.{IsName, wire}
 use Rattle.dns_label.specs.NameText.{IsAbsoluteText}
-use Rattle.dns_text.specs.Numbers.{IsNumberText}
+use Rattle.dns_values.specs.Mnemonic.{number_spelled}
 use Rattle.dns_rdata.specs.Fields.{Field, ipv4, compressible, number32}
 use Rattle.dns_zonefile.specs.PlainRow.{DataWords}
 use Rattle.dns_zonefile.specs.PlainRow.DataWords.{a as a_data, soa as soa_data}
@@ -42,9 +42,9 @@ none_of None d e is p = p
 none_of (Some x) d e is p = cc
 
 pub number_of : {E : Type 0} (text : List ℕ) (o : Option ℕ) (d : E) (x : ℕ) → ◌≡◌ {A = Result ℕ E} (Ok x) (ok_or o d)
-    → IfSome o (IsNumberText (2 ^ 32) text) → IsNumberText (2 ^ 32) text x
+    → IfSome o (λ n. number_spelled (2 ^ 32) text ≡ Some n) → number_spelled (2 ^ 32) text ≡ Some x
 number_of text None d x is p = cc
-number_of text (Some y) d x is p = let same : y ≡ x = cc in subst (λ (n : ℕ). IsNumberText (2 ^ 32) text n) same p
+number_of text (Some y) d x is p = let same : y ≡ x = cc in subst (λ (n : ℕ). number_spelled (2 ^ 32) text ≡ Some n) same p
 
 -- the text of a word that the program holds
 abbrev pub no_word : Bor (List ℕ)
@@ -134,11 +134,11 @@ pub record SoaWords (words : List (List ℕ)) : Type 0 where
   pub minimum : ℕ
   pub mname_is : IsAbsoluteText (get_or words 0 []) mname
   pub rname_is : IsAbsoluteText (get_or words 1 []) rname
-  pub serial_is : IsNumberText (2 ^ 32) (get_or words 2 []) serial
-  pub refresh_is : IsNumberText (2 ^ 32) (get_or words 3 []) refresh
-  pub retry_is : IsNumberText (2 ^ 32) (get_or words 4 []) retry
-  pub expire_is : IsNumberText (2 ^ 32) (get_or words 5 []) expire
-  pub minimum_is : IsNumberText (2 ^ 32) (get_or words 6 []) minimum
+  pub serial_is : number_spelled (2 ^ 32) (get_or words 2 []) ≡ Some serial
+  pub refresh_is : number_spelled (2 ^ 32) (get_or words 3 []) ≡ Some refresh
+  pub retry_is : number_spelled (2 ^ 32) (get_or words 4 []) ≡ Some retry
+  pub expire_is : number_spelled (2 ^ 32) (get_or words 5 []) ≡ Some expire
+  pub minimum_is : number_spelled (2 ^ 32) (get_or words 6 []) ≡ Some minimum
 
 soa_words : {t : ℕ} {words : List (List ℕ)} {row : List Field} → DataWords t words row → t ≡ 6 → SoaWords words
 soa_words (a_data dotted) is = absurd (omega arith)
@@ -160,36 +160,36 @@ soa_words (soa_data {m = m} {r = r} {n1 = n1} {n2 = n2} {n3 = n3} {n4 = n4} {n5 
 }
 
 -- a word that is no number of them, and one that is no name
-no_number_at : (words : List (Bor (List ℕ))) (i n : ℕ) → ((n : ℕ) → IsNumberText (2 ^ 32) (get_or words i no_word).now n → ⊥)
-    → IsNumberText (2 ^ 32) (get_or (texts_of words) i []) n → ⊥
-no_number_at words i n none is = none n (subst (λ (l : List ℕ). IsNumberText (2 ^ 32) l n) (text_is words i) is)
+no_number_at : (words : List (Bor (List ℕ))) (i n : ℕ) → ((n : ℕ) → number_spelled (2 ^ 32) (get_or words i no_word).now ≡ Some n → ⊥)
+    → number_spelled (2 ^ 32) (get_or (texts_of words) i []) ≡ Some n → ⊥
+no_number_at words i n none is = none n (subst (λ (l : List ℕ). number_spelled (2 ^ 32) l ≡ Some n) (text_is words i) is)
 
 no_name_at : (words : List (Bor (List ℕ))) (i : ℕ) (name : List (List ℕ))
     → ((name : List (List ℕ)) → IsAbsoluteText (get_or words i no_word).now name → ⊥)
     → IsAbsoluteText (get_or (texts_of words) i []) name → ⊥
 no_name_at words i name none is = none name (subst (λ (l : List ℕ). IsAbsoluteText l name) (text_is words i) is)
 
-pub no_serial : (words : List (Bor (List ℕ))) → ((n : ℕ) → IsNumberText (2 ^ 32) (get_or words 2 no_word).now n → ⊥)
+pub no_serial : (words : List (Bor (List ℕ))) → ((n : ℕ) → number_spelled (2 ^ 32) (get_or words 2 no_word).now ≡ Some n → ⊥)
     → (v : List ℕ) → SpellsData 6 (texts_of words) v → ⊥
 no_serial words none v spells =
     let here = soa_words spells.spelled refl in no_number_at words 2 here.serial none here.serial_is
 
-pub no_refresh : (words : List (Bor (List ℕ))) → ((n : ℕ) → IsNumberText (2 ^ 32) (get_or words 3 no_word).now n → ⊥)
+pub no_refresh : (words : List (Bor (List ℕ))) → ((n : ℕ) → number_spelled (2 ^ 32) (get_or words 3 no_word).now ≡ Some n → ⊥)
     → (v : List ℕ) → SpellsData 6 (texts_of words) v → ⊥
 no_refresh words none v spells =
     let here = soa_words spells.spelled refl in no_number_at words 3 here.refresh none here.refresh_is
 
-pub no_retry : (words : List (Bor (List ℕ))) → ((n : ℕ) → IsNumberText (2 ^ 32) (get_or words 4 no_word).now n → ⊥)
+pub no_retry : (words : List (Bor (List ℕ))) → ((n : ℕ) → number_spelled (2 ^ 32) (get_or words 4 no_word).now ≡ Some n → ⊥)
     → (v : List ℕ) → SpellsData 6 (texts_of words) v → ⊥
 no_retry words none v spells =
     let here = soa_words spells.spelled refl in no_number_at words 4 here.retry none here.retry_is
 
-pub no_expire : (words : List (Bor (List ℕ))) → ((n : ℕ) → IsNumberText (2 ^ 32) (get_or words 5 no_word).now n → ⊥)
+pub no_expire : (words : List (Bor (List ℕ))) → ((n : ℕ) → number_spelled (2 ^ 32) (get_or words 5 no_word).now ≡ Some n → ⊥)
     → (v : List ℕ) → SpellsData 6 (texts_of words) v → ⊥
 no_expire words none v spells =
     let here = soa_words spells.spelled refl in no_number_at words 5 here.expire none here.expire_is
 
-pub no_minimum : (words : List (Bor (List ℕ))) → ((n : ℕ) → IsNumberText (2 ^ 32) (get_or words 6 no_word).now n → ⊥)
+pub no_minimum : (words : List (Bor (List ℕ))) → ((n : ℕ) → number_spelled (2 ^ 32) (get_or words 6 no_word).now ≡ Some n → ⊥)
     → (v : List ℕ) → SpellsData 6 (texts_of words) v → ⊥
 no_minimum words none v spells =
     let here = soa_words spells.spelled refl in no_number_at words 6 here.minimum none here.minimum_is
@@ -206,9 +206,9 @@ no_rname words none v spells =
 
 pub soa_made : (words : List (Bor (List ℕ))) (m r : List (List ℕ)) (n1 n2 n3 n4 n5 : ℕ) (v : List ℕ) → 7 ≤ length words
     → length words < 8 → IsAbsoluteText (get_or words 0 no_word).now m → IsAbsoluteText (get_or words 1 no_word).now r
-    → IsNumberText (2 ^ 32) (get_or words 2 no_word).now n1 → IsNumberText (2 ^ 32) (get_or words 3 no_word).now n2
-    → IsNumberText (2 ^ 32) (get_or words 4 no_word).now n3 → IsNumberText (2 ^ 32) (get_or words 5 no_word).now n4
-    → IsNumberText (2 ^ 32) (get_or words 6 no_word).now n5
+    → number_spelled (2 ^ 32) (get_or words 2 no_word).now ≡ Some n1 → number_spelled (2 ^ 32) (get_or words 3 no_word).now ≡ Some n2
+    → number_spelled (2 ^ 32) (get_or words 4 no_word).now ≡ Some n3 → number_spelled (2 ^ 32) (get_or words 5 no_word).now ≡ Some n4
+    → number_spelled (2 ^ 32) (get_or words 6 no_word).now ≡ Some n5
     → v ≡ wire m ++ wire r ++ flat_map (to_be_bytes w32) (n1 ∷ n2 ∷ n3 ∷ n4 ∷ n5 ∷ []) → SpellsData 6 (texts_of words) v
 soa_made (w0 ∷ w1 ∷ w2 ∷ w3 ∷ w4 ∷ w5 ∷ w6 ∷ []) m r n1 n2 n3 n4 n5 v some few is0 is1 is2 is3 is4 is5 is6 is = record {
   row = compressible m ∷ compressible r ∷ number32 n1 ∷ number32 n2 ∷ number32 n3 ∷ number32 n4 ∷ number32 n5 ∷ [];

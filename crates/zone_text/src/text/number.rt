@@ -1,11 +1,11 @@
 //! Numbers in text.
-ghost use Rattle.std.specs.Prelude.{◌≡◌, ◌^◌, ℕ, IfSome, IfNone};
-ghost use Rattle.dns_text.specs.Numbers.{IsNumberText};
+ghost use Rattle.std.specs.Prelude.{◌≡◌, ◌^◌, ℕ, Some, IfSome, IfNone};
+ghost use Rattle.dns_values.specs.Mnemonic.{number_spelled};
 
 /// The number of 32 bits that the digits spell. None where there is anything but digits, a sign too.
 pub(crate) fn parse_number(text: &[u8]) -> Option<u32>
-    ensures found { IfSome result (IsNumberText (2 ^ 32) text.now) }
-    ensures none { IfNone result ((n : ℕ) → IsNumberText (2 ^ 32) text.now n → ⊥) }
+    ensures found { IfSome result (λ n. number_spelled (2 ^ 32) text.now ≡ Some n) }
+    ensures none { IfNone result ((n : ℕ) → number_spelled (2 ^ 32) text.now ≡ Some n → ⊥) }
 {
     if text.is_empty() {
         return None;

@@ -1,12 +1,15 @@
 use Rattle.std.proofs.Common.{sym, arith}
 use Rattle.zone_text.proofs.HeldWords.{none_given}
-use Rattle.zone_text.proofs.NumberTexts.{some_octets, counted_more, no_digit, too_large, counted_whole}
+use Rattle.zone_text.proofs.NumberTexts.{no_octets, some_octets, counted_more, no_digit, too_large, counted_whole}
 use Rattle.zone_text.proofs.text.number.parse_number.Goals as goal
+
+pub returns-then-is_empty-clause-none : goal.returns-then-is_empty-clause-none
+returns-then-is_empty-clause-none c = no_octets c.args.text.now (sym c.if-is_empty.ensures)
 
 pub returns-in_err-digit-clause-none : goal.returns-in_err-digit-clause-none
 returns-in_err-digit-clause-none c =
     none_given c.from_residual.ensures (λ n is.
-    no_digit c.args.text.now _ _ n c.loop-octet-test.true c.from.ensures c.in_err-digit.ensures.value is)
+    no_digit _ c.args.text.now _ _ n c.loop-octet-test.true c.from.ensures c.in_err-digit.ensures.value is)
 
 pub returns-in_err-checked_mul-clause-none : goal.returns-in_err-checked_mul-clause-none
 returns-in_err-checked_mul-clause-none c =

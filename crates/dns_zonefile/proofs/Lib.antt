@@ -1,0 +1,5 @@
+pub mod OneNameInText
+pub mod OneEntry
+pub mod RowFronts
+pub mod OneList
+mod Tried
