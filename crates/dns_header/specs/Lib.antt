@@ -3,6 +3,7 @@ pub mod Head
 pub mod Record
 pub mod Written
 pub mod ParsedRecord
+pub mod SkipsRecord
 pub mod Flags
 pub mod FlagWords
 pub mod HeaderBits

@@ -7,6 +7,8 @@ ghost use Rattle.dns_header.specs.Head.{labelled, NoWhole, WholeIsCut};
 ghost use Rattle.dns_header.specs.ParsedRecord.{Parsed, HoldsRecord, IsRecordOf, HasNoData};
 ghost use Rattle.dns_header.specs.Record.{with_labels};
 
+mod skip;
+
 use crate::{Record, RecordHeader};
 use dns_name::{
     Class, ParseAnyRecordData, ParseError, ParseRecordData, ParsedName, Parser, Rtype, Ttl,
