@@ -5,3 +5,4 @@ pub mod Fields
 pub mod FlagTexts
 pub mod Questions
 pub mod WrittenQuestions
+pub mod Skipped

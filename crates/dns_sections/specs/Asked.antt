@@ -10,6 +10,7 @@ use Rattle.dns_header.specs.QuestionOrder.{questions_eq}
 use Rattle.dns_header.specs.ParsedRecord.{Parsed, HoldsRecord, IsRecordOf}
 use Rattle.dns_header.specs.Record.{RecordOf}
 use Rattle.dns_sections.specs.Cursor.{Cursor, Reading}
+use Rattle.dns_sections.specs.Questions.{first_question}
 use Rattle.dns_sections.specs.Given.{GivesAsked, IsTaken}
 use Rattle.dns_sections.specs.Sections.{Begins, SectionCursor, IsSectionOf}
 use Rattle.dns_sections.specs.declared.section.Section.TheVariants.{Answer, Additional}
@@ -26,25 +27,25 @@ pub record IsSoleQuestion (message : List ℕ) (question : Question) : Type 0 wh
   pub next : ℕ
   pub reads : ReadsQuestion message 12 question next
 
--- all questions of a message, each of which reads
-pub record HasQuestions (message : List ℕ) (questions : List Question) : Type 0 where
-  pub count : length questions ≡ question_count message
+-- the questions that a cursor has left, each of which reads
+pub record HasQuestions (cursor : Cursor) (questions : List Question) : Type 0 where
+  pub count : cursor.left ≡ Ok (length questions)
   pub next : ℕ
-  pub reading : Reading ReadsQuestion message 12 questions next
+  pub reading : Reading ReadsQuestion cursor.message cursor.place questions next
 
--- the messages ask the same: all of their questions read, and are equal one by one, names up to ASCII case (RFC 4343)
-pub record AskTheSame (message other : List ℕ) : Type 0 where
+-- the cursors have the same questions left: all of them read, and are equal one by one, names up to ASCII case (RFC 4343)
+pub record AskTheSame (here there : Cursor) : Type 0 where
   pub questions : List Question
   pub others : List Question
-  pub here : HasQuestions message questions
-  pub there : HasQuestions other others
+  pub reads : HasQuestions here questions
+  pub other_reads : HasQuestions there others
   pub same : pointwise questions_eq questions others ≡ true
 
 -- an answer to a query: a response with its id and its questions
 pub record IsAnswerTo (query answer : List ℕ) : Type 0 where
   pub response : is_response answer ≡ true
   pub id : id_of answer ≡ id_of query
-  pub same : AskTheSame answer query
+  pub same : AskTheSame (first_question answer) (first_question query)
 
 -- a section's first record of a type that is taken, with its data
 pub record IsFirstTaken {Data : Type 0} (takes : ℕ → Bool) (reads : List ℕ → ℕ → ℕ → Data → Type 0) (at : SectionCursor)

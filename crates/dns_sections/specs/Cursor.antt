@@ -1,5 +1,5 @@
 -- Cursors: places in the questions or records of a message, which stand one after another (RFC 1035 4.1).
-use Rattle.std.specs.Prelude.{◌≡◌, ◌↔◌, ◌<◌, ◌-◌, ℕ, suc, List, Option, Some, None, Result, Ok, Err, IfOk}
+use Rattle.std.specs.Prelude.{◌≡◌, ◌↔◌, ◌<◌, ◌-◌, ℕ, suc, List, [], ◌∷◌, Option, Some, None, Result, Ok, Err, IfOk}
 use Rattle.std.specs.Iterator.{Count, at_most}
 use Rattle.dns_octets.specs.declared.error.ParseError.{ParseError}
 use Rattle.dns_octets.specs.declared.error.ParseError.TheVariants.{ShortInput}
@@ -43,32 +43,31 @@ module _ {Item : Type 0} (Reads : List ℕ → ℕ → Item → ℕ → Type 0) 
       × IsRefusal (IsNone old.message old.place) (IsCut old.message old.place) error
       × (new ≡ record { message = old.message; place = old.place; left = Err error })
 
-  -- The items that the message has from a place on, so many, and the place behind them.
-  pub data Reading (message : List ℕ) : ℕ → List Item → ℕ → Type 0 where
-    none : {place : ℕ} → Reading message place [] place
-    more : {place behind next : ℕ} {item : Item} {items : List Item} → Reads message place item behind
-        → Reading message behind items next → Reading message place (item ∷ items) next
+-- The items that the message has from a place on, so many, and the place behind them.
+pub data Reading {Item : Type 0} (Reads : List ℕ → ℕ → Item → ℕ → Type 0) (message : List ℕ) : ℕ → List Item → ℕ → Type 0 where
+  none : {place : ℕ} → Reading Reads message place [] place
+  more : {place behind next : ℕ} {item : Item} {items : List Item} → Reads message place item behind
+      → Reading Reads message behind items next → Reading Reads message place (item ∷ items) next
 
--- What is passed without being read: `Skips` leads behind an item at a place.
+-- So many items are passed without being read, one after another: `Skips` leads behind an item at a place.
+pub data Passes (Skips : List ℕ → ℕ → ℕ → Type 0) (message : List ℕ) : ℕ → ℕ → ℕ → Type 0 where
+  none : {place : ℕ} → Passes Skips message place 0 place
+  more : {place behind next count : ℕ} → Skips message place behind → Passes Skips message behind count next
+      → Passes Skips message place (suc count) next
+
 module _ (Skips : List ℕ → ℕ → ℕ → Type 0) (IsCut : List ℕ → ℕ → Type 0) where
-  -- so many items are passed, one after another
-  pub data Passes (message : List ℕ) : ℕ → ℕ → ℕ → Type 0 where
-    none : {place : ℕ} → Passes message place 0 place
-    more : {place behind next count : ℕ} → Skips message place behind → Passes message behind count next
-        → Passes message place (suc count) next
-
   -- one of so many cannot be passed, with this error
   pub record IsStuck (message : List ℕ) (place count : ℕ) (error : ParseError) : Type 0 where
     pub passed : ℕ
     pub few : passed < count
     pub at : ℕ
-    pub passes : Passes message place passed at
+    pub passes : Passes Skips message place passed at
     pub refused : IsRefusal ((next : ℕ) → Skips message at next → ⊥) (IsCut message at) error
 
   -- what comes of passing all that a cursor has left: the place behind it, or an error, which is that of an item that did not read before
   pub data PassesAll : Cursor → Result ℕ ParseError → Type 0 where
     again : {cursor : Cursor} {error : ParseError} → cursor.left ≡ Err error → PassesAll cursor (Err error)
-    whole : {cursor : Cursor} {left next : ℕ} → cursor.left ≡ Ok left → Passes cursor.message cursor.place left next
+    whole : {cursor : Cursor} {left next : ℕ} → cursor.left ≡ Ok left → Passes Skips cursor.message cursor.place left next
         → PassesAll cursor (Ok next)
     stuck : {cursor : Cursor} {left : ℕ} {error : ParseError} → cursor.left ≡ Ok left → IsStuck cursor.message cursor.place left error
         → PassesAll cursor (Err error)

@@ -1,9 +1,15 @@
 -- Questions as the items of a message's section (RFC 1035 4.1.2).
-use Rattle.std.specs.Prelude.{◌⊎◌, ℕ, List}
+use Rattle.std.specs.Prelude.{◌⊎◌, ℕ, List, Ok}
 use Rattle.dns_label.specs.Spelled.{Reads}
 use Rattle.dns_wire.specs.Cut.{IsCut}
 use Rattle.dns_wire.specs.Skip.{Skips}
-use Rattle.dns_header.specs.Question.{Question, ReadsQuestion, SkipsQuestion, EndsInQuestion}
+use Rattle.dns_header.specs.Header.{question_count}
+use Rattle.dns_header.specs.Question.{Question, ReadsQuestion, EndsInQuestion}
+use Rattle.dns_sections.specs.Cursor.{Cursor}
+
+-- the cursor at a message's first question, behind the header's twelve octets
+abbrev pub first_question : List ℕ → Cursor
+first_question message = record { message = message; place = 12; left = Ok (question_count message) }
 
 -- no question stands at the place
 abbrev pub NoQuestion : List ℕ → ℕ → Type 0

@@ -19,7 +19,7 @@ pub(crate) struct ItemCursor<'a> {
 impl<'a> ItemCursor<'a> {
     /// A cursor at the parser's place, with so many items left.
     pub(crate) fn new(parser: Parser<'a>, left: u16) -> Self
-        ensures { cursor_of result ≡ record { message = octets_of parser; place = place_of parser; left = Ok left } }
+        ensures { cursor_of result ≡ record { message = octets_of parser.entry; place = place_of parser.entry; left = Ok left } }
     {
         ItemCursor {
             parser,
@@ -67,12 +67,13 @@ impl<'a> ItemCursor<'a> {
     /// Passes the items that are left, and leaves a parser behind them. Fails with the error of the first that cannot be passed, or of
     /// the one that did not read before.
     pub(crate) fn pass_all<I: Item<'a>>(self) -> Result<Parser<'a>, ParseError>
-        ensures passes { MatchResult result (λ parser. PassesAll I.skips I.skip_is_cut (cursor_of self) (Ok (place_of parser)))
-            (λ error. PassesAll I.skips I.skip_is_cut (cursor_of self) (Err error)) }
-        ensures same { IfOk result (λ parser. octets_of parser ≡ (cursor_of self).message) }
+        ensures passes { MatchResult result (λ parser. PassesAll I.skips I.skip_is_cut (cursor_of self.entry) (Ok (place_of parser)))
+            (λ error. PassesAll I.skips I.skip_is_cut (cursor_of self.entry) (Err error)) }
+        ensures same { IfOk result (λ parser. octets_of parser ≡ (cursor_of self.entry).message) }
     {
         let mut parser = self.parser;
-        for _ in 0..self.left? {
+        let left = self.left?;
+        for _ in 0..left {
             I::skip(&mut parser)?;
         }
         Ok(parser)

@@ -21,7 +21,7 @@ impl<'a> MessageIter<'a> {
 
     /// The records from this place on, if there is one.
     pub(crate) fn from_section(section: Option<RecordSection<'a>>) -> Self
-        ensures { all_at result ≡ option_map (λ at. records_at at) section }
+        ensures { all_at result ≡ option_map (λ at. records_at at) section.entry }
     {
         MessageIter { section }
     }

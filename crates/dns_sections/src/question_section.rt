@@ -1,10 +1,10 @@
 //! The question section.
-ghost use Rattle.std.specs.Prelude.{◌≡◌, ◌≤◌, ℕ, Ok, Err, MatchResult, length};
+ghost use Rattle.std.specs.Prelude.{◌≡◌, ◌≤◌, ℕ, true, false, Ok, Err, MatchResult, length};
 ghost use Rattle.dns_octets.specs.Parser.{octets_of};
-ghost use Rattle.dns_header.specs.Header.{question_count};
 ghost use Rattle.dns_header.specs.Question.{SkipsQuestion};
+ghost use Rattle.dns_sections.specs.Asked.{AskTheSame};
 ghost use Rattle.dns_sections.specs.Cursor.{PassesAll};
-ghost use Rattle.dns_sections.specs.Questions.{QuestionSkipIsCut};
+ghost use Rattle.dns_sections.specs.Questions.{first_question, QuestionSkipIsCut};
 ghost use Rattle.dns_sections.specs.Sections.{at_start};
 ghost use Rattle.dns_sections.specs.Seen.{questions_at, records_at};
 ghost use Rattle.dns_sections.specs.declared.section.Section.TheVariants.{Answer};
@@ -27,7 +27,7 @@ impl<'a> QuestionSection<'a> {
     /// The questions of a message, whose octets these are.
     pub(crate) fn of_message(octets: &'a [u8]) -> Self
         requires { 12 ≤ length octets.now }
-        ensures { questions_at result ≡ record { message = octets.now; place = 12; left = Ok (question_count octets.now) } }
+        ensures { questions_at result ≡ first_question octets.now }
     {
         let mut parser = Parser::from_ref(octets);
         let _: Result<(), ShortInput> = parser.advance(12);
@@ -48,20 +48,44 @@ impl<'a> QuestionSection<'a> {
     /// first question that cannot be passed, or of the one that did not read before.
     pub fn answer(self) -> Result<RecordSection<'a>, ParseError>
         ensures { MatchResult result
-            (λ section. (next : ℕ) × PassesAll SkipsQuestion QuestionSkipIsCut (questions_at self) (Ok next)
-            × (records_at section ≡ at_start (questions_at self).message Answer next))
-            (λ error. PassesAll SkipsQuestion QuestionSkipIsCut (questions_at self) (Err error)) }
+            (λ section. (next : ℕ) × PassesAll SkipsQuestion QuestionSkipIsCut (questions_at self.entry) (Ok next)
+            × (records_at section ≡ at_start (questions_at self.entry).message Answer next))
+            (λ error. PassesAll SkipsQuestion QuestionSkipIsCut (questions_at self.entry) (Err error)) }
     {
         let parser = self.cursor.pass_all::<Question<ParsedName<&'a [u8]>>>()?;
         Ok(RecordSection::at_start(parser, Section::first()))
     }
 
+    /// Whether the other cursor has the same questions left: all of them read, here and there, and are equal in order, names up to
+    /// ASCII case (RFC 4343).
+    pub fn asks_the_same(self, other: QuestionSection<'_>) -> bool
+        ensures yes { result ≡ true → AskTheSame (questions_at self.entry) (questions_at other.entry) }
+        ensures no { result ≡ false → AskTheSame (questions_at self.entry) (questions_at other.entry) → ⊥ }
+    {
+        let (Ok(left), Ok(asked)) = (self.cursor.left(), other.cursor.left()) else {
+            return false;
+        };
+        if left != asked {
+            return false;
+        }
+        let (mut here, mut there) = (self, other);
+        for _ in 0..left {
+            let (Some(Ok(question)), Some(Ok(other))) = (here.next(), there.next()) else {
+                return false;
+            };
+            if question != other {
+                return false;
+            }
+        }
+        true
+    }
+
     /// The same as `answer`.
     pub fn next_section(self) -> Result<RecordSection<'a>, ParseError>
         ensures { MatchResult result
-            (λ section. (next : ℕ) × PassesAll SkipsQuestion QuestionSkipIsCut (questions_at self) (Ok next)
-            × (records_at section ≡ at_start (questions_at self).message Answer next))
-            (λ error. PassesAll SkipsQuestion QuestionSkipIsCut (questions_at self) (Err error)) }
+            (λ section. (next : ℕ) × PassesAll SkipsQuestion QuestionSkipIsCut (questions_at self.entry) (Ok next)
+            × (records_at section ≡ at_start (questions_at self.entry).message Answer next))
+            (λ error. PassesAll SkipsQuestion QuestionSkipIsCut (questions_at self.entry) (Err error)) }
     {
         self.answer()
     }

@@ -30,7 +30,7 @@ pub struct AnyRecordIter<'a, Data> {
 impl<'a> RecordSection<'a> {
     /// The records whose types `Data` takes; the others are skipped.
     pub fn limit_to<Data: ParseRecordData<'a>>(self) -> RecordIter<'a, Data>
-        ensures at { asked_at result ≡ records_at self }
+        ensures at { asked_at result ≡ records_at self.entry }
         ensures any_class { only_in result ≡ false }
     {
         RecordIter {
@@ -42,7 +42,7 @@ impl<'a> RecordSection<'a> {
 
     /// The records of class IN whose types `Data` takes; the others are skipped.
     pub fn limit_to_in<Data: ParseRecordData<'a>>(self) -> RecordIter<'a, Data>
-        ensures at { asked_at result ≡ records_at self }
+        ensures at { asked_at result ≡ records_at self.entry }
         ensures in_class { only_in result ≡ true }
     {
         RecordIter {
@@ -54,7 +54,7 @@ impl<'a> RecordSection<'a> {
 
     /// All records, with their data.
     pub fn into_records<Data: ParseAnyRecordData<'a>>(self) -> AnyRecordIter<'a, Data>
-        ensures { any_at result ≡ records_at self }
+        ensures { any_at result ≡ records_at self.entry }
     {
         AnyRecordIter {
             section: self,
@@ -66,7 +66,7 @@ impl<'a> RecordSection<'a> {
 impl<'a, Data> RecordIter<'a, Data> {
     /// The section from the next record on, whatever its type.
     pub fn unwrap(self) -> RecordSection<'a>
-        ensures { records_at result ≡ asked_at self }
+        ensures { records_at result ≡ asked_at self.entry }
     {
         self.section
     }
@@ -74,8 +74,8 @@ impl<'a, Data> RecordIter<'a, Data> {
     /// The section that follows, as `RecordSection::next_section` gives it. Data that did not read is no error here.
     pub fn next_section(self) -> Result<Option<RecordSection<'a>>, ParseError>
         ensures { MatchResult result
-            (λ found. LeadsOn (asked_at self) (Ok (option_map (λ section. records_at section) found)))
-            (λ error. LeadsOn (asked_at self) (Err error)) }
+            (λ found. LeadsOn (asked_at self.entry) (Ok (option_map (λ section. records_at section) found)))
+            (λ error. LeadsOn (asked_at self.entry) (Err error)) }
     {
         self.section.next_section()
     }
@@ -84,7 +84,7 @@ impl<'a, Data> RecordIter<'a, Data> {
 impl<'a, Data> AnyRecordIter<'a, Data> {
     /// The section from the next record on.
     pub fn unwrap(self) -> RecordSection<'a>
-        ensures { records_at result ≡ any_at self }
+        ensures { records_at result ≡ any_at self.entry }
     {
         self.section
     }
@@ -92,8 +92,8 @@ impl<'a, Data> AnyRecordIter<'a, Data> {
     /// The section that follows, as `RecordSection::next_section` gives it. Data that did not read is no error here.
     pub fn next_section(self) -> Result<Option<RecordSection<'a>>, ParseError>
         ensures { MatchResult result
-            (λ found. LeadsOn (any_at self) (Ok (option_map (λ section. records_at section) found)))
-            (λ error. LeadsOn (any_at self) (Err error)) }
+            (λ found. LeadsOn (any_at self.entry) (Ok (option_map (λ section. records_at section) found)))
+            (λ error. LeadsOn (any_at self.entry) (Err error)) }
     {
         self.section.next_section()
     }

@@ -23,8 +23,8 @@ pub struct RecordSection<'a> {
 impl<'a> RecordSection<'a> {
     /// A cursor at the first record of the section, before which the parser stands.
     pub(crate) fn at_start(parser: Parser<'a>, section: Section) -> Self
-        requires { 12 ≤ length (octets_of parser) }
-        ensures { records_at result ≡ at_start (octets_of parser) section (place_of parser) }
+        requires { 12 ≤ length (octets_of parser.entry) }
+        ensures { records_at result ≡ at_start (octets_of parser.entry) section (place_of parser.entry) }
     {
         let count = section.count(HeaderCounts::for_message_slice(parser.as_slice()));
         RecordSection {
@@ -51,8 +51,8 @@ impl<'a> RecordSection<'a> {
     /// Fails with the error of the first record that cannot be passed, or of the one that did not read before.
     pub fn next_section(self) -> Result<Option<Self>, ParseError>
         ensures { MatchResult result
-            (λ found. LeadsOn (records_at self) (Ok (option_map (λ section. records_at section) found)))
-            (λ error. LeadsOn (records_at self) (Err error)) }
+            (λ found. LeadsOn (records_at self.entry) (Ok (option_map (λ section. records_at section) found)))
+            (λ error. LeadsOn (records_at self.entry) (Err error)) }
     {
         let Some(section) = self.section.next_section() else { return Ok(None) };
         let parser = self.cursor.pass_all::<ParsedRecord<'a>>()?;
@@ -61,9 +61,9 @@ impl<'a> RecordSection<'a> {
 
     /// The section that follows where one does; the caller's is not the last.
     pub(crate) fn following(self) -> Result<Self, ParseError>
-        requires { (section : Section) × (following (records_at self).section ≡ Some section) }
-        ensures { MatchResult result (λ found. LeadsOn (records_at self) (Ok (Some (records_at found))))
-            (λ error. LeadsOn (records_at self) (Err error)) }
+        requires { (section : Section) × (following (records_at self.entry).section ≡ Some section) }
+        ensures { MatchResult result (λ found. LeadsOn (records_at self.entry) (Ok (Some (records_at found))))
+            (λ error. LeadsOn (records_at self.entry) (Err error)) }
     {
         match self.next_section()? {
             Some(section) => Ok(section),

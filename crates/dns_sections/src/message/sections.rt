@@ -1,7 +1,7 @@
 //! The sections of a message.
-ghost use Rattle.std.specs.Prelude.{◌≡◌, Ok, Some, MatchResult};
-ghost use Rattle.dns_header.specs.Header.{question_count};
+ghost use Rattle.std.specs.Prelude.{◌≡◌, MatchResult};
 ghost use Rattle.dns_sections.specs.Message.{octets_in};
+ghost use Rattle.dns_sections.specs.Questions.{first_question};
 ghost use Rattle.dns_sections.specs.Sections.{IsAllOf, IsSectionOf, IsOutOfReach};
 ghost use Rattle.dns_sections.specs.Seen.{all_at, questions_at, records_at};
 ghost use Rattle.dns_sections.specs.declared.section.Section.TheVariants.{Answer, Authority, Additional};
@@ -12,22 +12,14 @@ use dns_name::{Octets, ParseError};
 impl<Octs: Octets> Message<Octs> {
     /// The question section.
     pub fn question(&self) -> QuestionSection<'_>
-        ensures { questions_at result ≡ record {
-          message = octets_in Octs.list self.now;
-          place = 12;
-          left = Ok (question_count (octets_in Octs.list self.now));
-        } }
+        ensures { questions_at result ≡ first_question (octets_in Octs.list self.now) }
     {
         QuestionSection::of_message(self.as_slice())
     }
 
     /// The zone section of an update, which is its question section (RFC 2136 2.3).
     pub fn zone(&self) -> QuestionSection<'_>
-        ensures { questions_at result ≡ record {
-          message = octets_in Octs.list self.now;
-          place = 12;
-          left = Ok (question_count (octets_in Octs.list self.now));
-        } }
+        ensures { questions_at result ≡ first_question (octets_in Octs.list self.now) }
     {
         self.question()
     }
@@ -85,11 +77,7 @@ impl<Octs: Octets> Message<Octs> {
         ParseError,
     >
         ensures { MatchResult result
-            (λ all. (questions_at all.0 ≡ record {
-              message = octets_in Octs.list self.now;
-              place = 12;
-              left = Ok (question_count (octets_in Octs.list self.now));
-            })
+            (λ all. (questions_at all.0 ≡ first_question (octets_in Octs.list self.now))
             × IsSectionOf (octets_in Octs.list self.now) Answer (records_at all.1)
             × IsSectionOf (octets_in Octs.list self.now) Authority (records_at all.2)
             × IsSectionOf (octets_in Octs.list self.now) Additional (records_at all.3))

@@ -1,0 +1,30 @@
+-- How many records are left where a cursor goes on into the sections that follow.
+use Rattle.std.proofs.Common.{◌≡◌, ◌<◌, ◌≤◌, ◌+◌, ℕ, List, Some, None, Ok, Err, ap, arith, refl}
+use Rattle.std.specs.Prelude.{Option, Result}
+use Rattle.std.specs.Iterator.{size}
+use Rattle.dns_octets.specs.declared.error.ParseError.{ParseError}
+use Rattle.dns_sections.specs.Cursor.{Cursor, items_left}
+use Rattle.dns_sections.specs.Sections.{SectionCursor, LeadsOn, all_left, following}
+use Rattle.dns_sections.specs.declared.section.Section.{Section}
+use Rattle.dns_sections.specs.declared.section.Section.TheVariants.{Answer, Authority, Additional}
+
+-- fewer where a section follows
+pub less-on : {cursor : Cursor} {section : Section} {behind : Option SectionCursor}
+    → LeadsOn (record { cursor = cursor; section = section }) (Ok behind)
+    → size (all_left behind) < size (all_left (Some (record { cursor = cursor; section = section })))
+less-on {section = Answer} (LeadsOn.last none) = let no : ⊥ = cc in absurd no
+less-on {section = Authority} (LeadsOn.last none) = let no : ⊥ = cc in absurd no
+less-on {section = Additional} (LeadsOn.last none) = omega arith
+less-on {section = Answer} (LeadsOn.on {section = Answer} leads passes) = let no : ⊥ = cc in absurd no
+less-on {section = Answer} (LeadsOn.on {section = Authority} leads passes) = omega arith
+less-on {section = Answer} (LeadsOn.on {section = Additional} leads passes) = let no : ⊥ = cc in absurd no
+less-on {section = Authority} (LeadsOn.on {section = Answer} leads passes) = let no : ⊥ = cc in absurd no
+less-on {section = Authority} (LeadsOn.on {section = Authority} leads passes) = let no : ⊥ = cc in absurd no
+less-on {section = Authority} (LeadsOn.on {section = Additional} leads passes) = omega arith
+less-on {section = Additional} (LeadsOn.on leads passes) = let no : ⊥ = cc in absurd no
+
+-- at least one, an error, where no section can be reached
+pub one-stuck : {cursor : Cursor} {section : Section} → 0 < size (all_left (Some (record { cursor = cursor; section = section })))
+one-stuck {section = Answer} = omega arith
+one-stuck {section = Authority} = omega arith
+one-stuck {section = Additional} = omega arith

@@ -1,0 +1,15 @@
+-- Records that are not asked for are gone over.
+use Rattle.std.proofs.Common.{◌≡◌, ◌∙◌, ap, ℕ, List, Some, Ok, sym}
+use Rattle.std.specs.Prelude.{Option, Result}
+use Rattle.dns_octets.specs.declared.error.ParseError.{ParseError}
+use Rattle.dns_header.specs.ParsedRecord.{Parsed}
+use Rattle.dns_header.specs.Record.{RecordOf}
+use Rattle.dns_sections.specs.Cursor.{Cursor}
+use Rattle.dns_sections.specs.Given.{GivesRecord, GoesOver, GivesAsked}
+
+pub passed-on : {Data : Type 0} {IsAsked : Parsed → Type 0} {reads : List ℕ → ℕ → ℕ → Data → Type 0} {old mid new : Cursor} {parsed : Parsed}
+    {result : Option (Result (RecordOf (List (List ℕ)) Data) ParseError)} → GivesRecord old (Some (Ok parsed)) mid → (IsAsked parsed → ⊥)
+    → GivesAsked IsAsked reads mid result new → GivesAsked IsAsked reads old result new
+passed-on gives no (GivesAsked.found over none at asked given) = GivesAsked.found (GoesOver.on gives over) (no, none) at asked given
+passed-on gives no (GivesAsked.broken over none at) = GivesAsked.broken (GoesOver.on gives over) (no, none) at
+passed-on gives no (GivesAsked.ended over none at) = GivesAsked.ended (GoesOver.on gives over) (no, none) at
