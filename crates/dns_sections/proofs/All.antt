@@ -24,7 +24,7 @@ less-on {section = Authority} (LeadsOn.on {section = Additional} leads passes) =
 less-on {section = Additional} (LeadsOn.on leads passes) = let no : ⊥ = cc in absurd no
 
 -- at least one, an error, where no section can be reached
-pub one-stuck : {cursor : Cursor} {section : Section} → 0 < size (all_left (Some (record { cursor = cursor; section = section })))
-one-stuck {section = Answer} = omega arith
-one-stuck {section = Authority} = omega arith
-one-stuck {section = Additional} = omega arith
+pub one-stuck : (cursor : Cursor) (section : Section) → 0 < size (all_left (Some (record { cursor = cursor; section = section })))
+one-stuck cursor Answer = omega arith
+one-stuck cursor Authority = omega arith
+one-stuck cursor Additional = omega arith

@@ -48,27 +48,27 @@ module _ {message : List ℕ} {before section : Section} where
   section-stuck {at} {error} follows is leads = start-stuck follows is.begins (subst (λ c. LeadsOn c (Err error)) is.is leads)
 
 -- what comes of going on to the answer section, behind all questions
-pub answers : {A : Type 0} {at : A → SectionCursor} {message : List ℕ} {cursor : Cursor} (result : Result A ParseError)
+pub answers : {A : Type 0} (at : A → SectionCursor) {message : List ℕ} {cursor : Cursor} (result : Result A ParseError)
     → cursor ≡ record { message = message; place = 12; left = Ok (question_count message) }
     → MatchResult result
     (λ found. (next : ℕ) × PassesAll SkipsQuestion QuestionSkipIsCut cursor (Ok next) × (at found ≡ at_start cursor.message Answer next))
     (λ error. PassesAll SkipsQuestion QuestionSkipIsCut cursor (Err error))
     → MatchResult result (λ found. IsSectionOf message Answer (at found)) (IsOutOfReach message Answer)
-answers {at = at} {message = message} (Ok found) is passed = record {
+answers at {message} (Ok found) is passed = record {
   place = passed.0;
   begins = Begins.first (from-all (subst (λ c. PassesAll SkipsQuestion QuestionSkipIsCut c (Ok passed.0)) is passed.1));
   is = subst (λ c. at found ≡ at_start c.message Answer passed.0) is passed.2;
 }
-answers (Err error) is passed =
+answers at (Err error) is passed =
     IsOutOfReach.question (from-stuck (subst (λ c. PassesAll SkipsQuestion QuestionSkipIsCut c (Err error)) is passed))
 
 -- what comes of going on from a section that was reached to the one that follows
-pub goes-on : {A : Type 0} {at : A → SectionCursor} {message : List ℕ} {before section : Section} {from : SectionCursor} (result : Result A ParseError)
+pub goes-on : {A : Type 0} (at : A → SectionCursor) {message : List ℕ} {before section : Section} {from : SectionCursor} (result : Result A ParseError)
     → following before ≡ Some section → IsSectionOf message before from
     → MatchResult result (λ found. LeadsOn from (Ok (Some (at found)))) (λ error. LeadsOn from (Err error))
     → MatchResult result (λ found. IsSectionOf message section (at found)) (IsOutOfReach message section)
-goes-on (Ok found) follows is leads = section-on follows is leads
-goes-on (Err error) follows is leads = section-stuck follows is leads
+goes-on at (Ok found) follows is leads = section-on follows is leads
+goes-on at (Err error) follows is leads = section-stuck follows is leads
 
 -- a section that another one follows leads on
 pub leads-somewhere : {at : SectionCursor} {section : Section} → following at.section ≡ Some section → LeadsOn at (Ok None) → ⊥

@@ -1,7 +1,8 @@
 -- Items that are passed, one after another.
 use Rattle.std.proofs.Common.{◌≡◌, ◌<◌, ◌≤◌, ℕ, suc, List, ◌+◌, Ok, Err, MatchResult, arith, refl, subst, sym}
 use Rattle.std.specs.Result.{IsErrAnd}
-use Rattle.std.specs.Prelude.{Result}
+use Rattle.std.specs.Prelude.{◌↔◌, Result, OnErr, IfErr}
+use Rattle.dns_octets.specs.declared.error.ParseError.TheVariants.{ShortInput}
 use Rattle.dns_octets.specs.declared.error.ParseError.{ParseError}
 use Rattle.dns_sections.specs.Cursor.{Cursor, Passes, IsRefusal, IsStuck, PassesAll}
 use Rattle.dns_sections.specs.Cursor.Passes.{none, more}
@@ -23,3 +24,9 @@ pub refused : {A E : Type 0} (result : Result A E) (error : E) (OnOk : A → Typ
     → MatchResult result OnOk OnErr
 refused (Ok value) error OnOk OnErr is holds = absurd is
 refused (Err other) error OnOk OnErr is holds = subst OnErr (sym is) holds
+
+-- why an item is refused, by two clauses
+pub refusal : {A : Type 0} (IsNone IsCut : Type 0) (result : Result A ParseError) → OnErr result IsNone → IfErr result (λ error. (error ≡ ShortInput) ↔ IsCut)
+    → IfErr result (IsRefusal IsNone IsCut)
+refusal IsNone IsCut (Ok value) nothing short = _
+refusal IsNone IsCut (Err error) nothing short = record { none = nothing; short = short }

@@ -1,13 +1,6 @@
 //! The question section.
 ghost use Rattle.std.specs.Prelude.{◌≡◌, ◌≤◌, ℕ, true, false, Ok, Err, MatchResult, length};
 ghost use Rattle.dns_octets.specs.Parser.{octets_of};
-ghost use Rattle.dns_header.specs.Question.{SkipsQuestion};
-ghost use Rattle.dns_sections.specs.Asked.{AskTheSame};
-ghost use Rattle.dns_sections.specs.Cursor.{PassesAll};
-ghost use Rattle.dns_sections.specs.Questions.{first_question, QuestionSkipIsCut};
-ghost use Rattle.dns_sections.specs.Sections.{at_start};
-ghost use Rattle.dns_sections.specs.Seen.{questions_at, records_at};
-ghost use Rattle.dns_sections.specs.declared.section.Section.TheVariants.{Answer};
 
 use crate::cursor::ItemCursor;
 use crate::{RecordSection, Section};
@@ -24,6 +17,14 @@ pub struct QuestionSection<'a> {
 }
 
 impl<'a> QuestionSection<'a> {
+    ghost use Rattle.dns_header.specs.Question.{SkipsQuestion};
+    ghost use Rattle.dns_sections.specs.Asked.{AskTheSame};
+    ghost use Rattle.dns_sections.specs.Cursor.{PassesAll};
+    ghost use Rattle.dns_sections.specs.Questions.{first_question, QuestionSkipIsCut};
+    ghost use Rattle.dns_sections.specs.Sections.{at_start};
+    ghost use Rattle.dns_sections.specs.Seen.{questions_at, records_at};
+    ghost use Rattle.dns_sections.specs.declared.section.Section.TheVariants.{Answer};
+
     /// The questions of a message, whose octets these are.
     pub(crate) fn of_message(octets: &'a [u8]) -> Self
         requires { 12 ≤ length octets.now }
@@ -96,6 +97,7 @@ impl<'a> Iterator for QuestionSection<'a> {
     ghost use Rattle.dns_header.specs.QuestionParts.{question_of};
     ghost use Rattle.dns_sections.specs.Cursor.{items_left};
     ghost use Rattle.dns_sections.specs.Given.{GivesQuestion, seen};
+    ghost use Rattle.dns_sections.specs.Seen.{questions_at};
 
     type Item = Result<Question<ParsedName<&'a [u8]>>, ParseError>;
 

@@ -1,5 +1,5 @@
 //! Cursors over records with their data.
-ghost use Rattle.std.specs.Prelude.{◌≡◌, Ok, Err, MatchResult, option_map};
+ghost use Rattle.std.specs.Prelude.{◌≡◌, true, false, Ok, Err, MatchResult, option_map};
 ghost use Rattle.dns_sections.specs.Sections.{LeadsOn};
 ghost use Rattle.dns_sections.specs.Seen.{records_at, asked_at, only_in, any_at};
 

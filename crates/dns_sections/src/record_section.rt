@@ -1,9 +1,6 @@
 //! The sections of records.
 ghost use Rattle.std.specs.Prelude.{◌≡◌, ◌≤◌, Ok, Err, Some, MatchResult, length, option_map};
 ghost use Rattle.dns_octets.specs.Parser.{octets_of, place_of};
-ghost use Rattle.dns_sections.specs.Sections.{at_start, following, LeadsOn};
-ghost use Rattle.dns_sections.specs.Seen.{records_at};
-ghost use Rattle.dns_sections.specs.declared.section.Section.{Section};
 
 use crate::Section;
 use crate::cursor::ItemCursor;
@@ -21,9 +18,13 @@ pub struct RecordSection<'a> {
 }
 
 impl<'a> RecordSection<'a> {
+    ghost use Rattle.dns_sections.specs.Sections.{at_start, following, LeadsOn};
+    ghost use Rattle.dns_sections.specs.Seen.{records_at};
+    ghost use Rattle.dns_sections.specs.declared.section.Section.{Section};
+
     /// A cursor at the first record of the section, before which the parser stands.
     pub(crate) fn at_start(parser: Parser<'a>, section: Section) -> Self
-        requires { 12 ≤ length (octets_of parser.entry) }
+        requires { 12 ≤ length (octets_of parser) }
         ensures { records_at result ≡ at_start (octets_of parser.entry) section (place_of parser.entry) }
     {
         let count = section.count(HeaderCounts::for_message_slice(parser.as_slice()));
@@ -61,7 +62,7 @@ impl<'a> RecordSection<'a> {
 
     /// The section that follows where one does; the caller's is not the last.
     pub(crate) fn following(self) -> Result<Self, ParseError>
-        requires { (section : Section) × (following (records_at self.entry).section ≡ Some section) }
+        requires { (section : Section) × (following (records_at self).section ≡ Some section) }
         ensures { MatchResult result (λ found. LeadsOn (records_at self.entry) (Ok (Some (records_at found))))
             (λ error. LeadsOn (records_at self.entry) (Err error)) }
     {
@@ -75,6 +76,7 @@ impl<'a> RecordSection<'a> {
 impl<'a> Iterator for RecordSection<'a> {
     ghost use Rattle.dns_sections.specs.Cursor.{items_left};
     ghost use Rattle.dns_sections.specs.Given.{GivesRecord};
+    ghost use Rattle.dns_sections.specs.Seen.{records_at};
 
     type Item = Result<ParsedRecord<'a>, ParseError>;
 

@@ -10,8 +10,8 @@ impl<Octs: Octets> Message<Octs> {
     pub fn from_octets(octets: Octs) -> Result<Self, ShortMessage>
     where
         Octs: Drop,
-        ensures ok { IfOk result (λ message. held_by message ≡ octets.entry) }
-        ensures enough { IsOk result ↔ (12 ≤ length (Octs.list octets.entry)) }
+        ensures ok { IfOk result (λ message. held_by message ≡ octets) }
+        ensures enough { IsOk result ↔ (12 ≤ length (Octs.list octets)) }
     {
         if octets.octets().len() < 12 {
             return Err(ShortMessage);
@@ -21,9 +21,9 @@ impl<Octs: Octets> Message<Octs> {
 
     /// The message of these octets, which are handed back if there are fewer than twelve.
     pub fn try_from_octets(octets: Octs) -> Result<Self, Octs>
-        ensures ok { IfOk result (λ message. held_by message ≡ octets.entry) }
-        ensures enough { IsOk result ↔ (12 ≤ length (Octs.list octets.entry)) }
-        ensures back { IfErr result (λ refused. refused ≡ octets.entry) }
+        ensures ok { IfOk result (λ message. held_by message ≡ octets) }
+        ensures enough { IsOk result ↔ (12 ≤ length (Octs.list octets)) }
+        ensures back { IfErr result (λ refused. refused ≡ octets) }
     {
         if octets.octets().len() < 12 {
             return Err(octets);
@@ -40,7 +40,7 @@ impl<Octs: Octets> Message<Octs> {
 
     /// What holds the octets.
     pub fn into_octets(self) -> Octs
-        ensures { result ≡ held_by self.entry }
+        ensures { result ≡ held_by self }
     {
         self.octets
     }
