@@ -1,9 +1,11 @@
 -- How many records are left where a cursor goes on into the sections that follow.
-use Rattle.std.proofs.Common.{◌≡◌, ◌<◌, ◌≤◌, ◌+◌, ℕ, List, Some, None, Ok, Err, ap, arith, refl}
+use Rattle.std.proofs.Common.{◌≡◌, ◌∙◌, subst, sym, ◌<◌, ◌≤◌, ◌+◌, ℕ, List, Some, None, Ok, Err, ap, arith, refl}
 use Rattle.std.specs.Prelude.{Option, Result}
 use Rattle.std.specs.Iterator.{size}
 use Rattle.dns_octets.specs.declared.error.ParseError.{ParseError}
 use Rattle.dns_sections.specs.Cursor.{Cursor, items_left}
+use Rattle.dns_header.specs.ParsedRecord.{Parsed}
+use Rattle.dns_sections.specs.Given.{GivesRecord, GivesAll}
 use Rattle.dns_sections.specs.Sections.{SectionCursor, LeadsOn, all_left, following}
 use Rattle.dns_sections.specs.declared.section.Section.{Section}
 use Rattle.dns_sections.specs.declared.section.Section.TheVariants.{Answer, Authority, Additional}
@@ -28,3 +30,20 @@ pub one-stuck : (cursor : Cursor) (section : Section) → 0 < size (all_left (So
 one-stuck cursor Answer = omega arith
 one-stuck cursor Authority = omega arith
 one-stuck cursor Additional = omega arith
+
+-- a step within a section
+module _ {old new : SectionCursor} (same : new.section ≡ old.section) where
+  there : new ≡ record { cursor = new.cursor; section = old.section }
+  there = λ i. record { cursor = new.cursor; section = same i }
+
+  pub item-given : {parsed : Parsed} {section : Section} → section ≡ new.section → GivesRecord old.cursor (Some (Ok parsed)) new.cursor
+      → GivesAll (Some old) (Some (Ok (record { parsed = parsed; section = section }))) (Some new)
+  item-given {parsed} {section} is gives =
+      subst (λ (s : Section). GivesAll (Some old) (Some (Ok (record { parsed = parsed; section = s }))) (Some new)) (sym (is ∙ same))
+      (subst (λ (c : SectionCursor). GivesAll (Some old) (Some (Ok (record { parsed = parsed; section = old.section }))) (Some c)) (sym there)
+      (GivesAll.item gives))
+
+  pub error-given : {error : ParseError} → GivesRecord old.cursor (Some (Err error)) new.cursor
+      → GivesAll (Some old) (Some (Err error)) (Some new)
+  error-given {error} gives =
+      subst (λ (c : SectionCursor). GivesAll (Some old) (Some (Err error)) (Some c)) (sym there) (GivesAll.broken gives)

@@ -1,11 +1,12 @@
 -- Records that are not asked for are gone over.
-use Rattle.std.proofs.Common.{◌≡◌, ◌∙◌, ap, ℕ, List, Some, Ok, sym}
-use Rattle.std.specs.Prelude.{Option, Result}
+use Rattle.std.proofs.Common.{◌≡◌, ◌∙◌, ℕ, Bool, true, false, nat_eq, List, Some, None, Ok, Err, IfOk, OnErr, refl, ap, subst, sym, eq-eqb}
+use Rattle.std.proofs.lemmas.Bool.{eqb-true, false≢true}
+use Rattle.std.specs.Prelude.{Option, Result, not}
 use Rattle.dns_octets.specs.declared.error.ParseError.{ParseError}
-use Rattle.dns_header.specs.ParsedRecord.{Parsed}
+use Rattle.dns_header.specs.ParsedRecord.{Parsed, IsRecordOf, HasNoData}
 use Rattle.dns_header.specs.Record.{RecordOf}
 use Rattle.dns_sections.specs.Cursor.{Cursor}
-use Rattle.dns_sections.specs.Given.{GivesRecord, GoesOver, GivesAsked}
+use Rattle.dns_sections.specs.Given.{GivesRecord, GoesOver, GivesAsked, seen}
 
 pub passed-on : {Data : Type 0} {IsAsked : Parsed → Type 0} {reads : List ℕ → ℕ → ℕ → Data → Type 0} {old mid new : Cursor} {parsed : Parsed}
     {result : Option (Result (RecordOf (List (List ℕ)) Data) ParseError)} → GivesRecord old (Some (Ok parsed)) mid → (IsAsked parsed → ⊥)
@@ -18,3 +19,28 @@ passed-on gives never (GivesAsked.ended over none at) = GivesAsked.ended (GoesOv
 abbrev pub GivesThere : {Data : Type 0} → (Parsed → Type 0) → (List ℕ → ℕ → ℕ → Data → Type 0) → Cursor → Cursor → Type 0
 GivesThere {Data} IsAsked reads here there = (result : Option (Result (RecordOf (List (List ℕ)) Data) ParseError)) (new : Cursor)
     → GivesAsked IsAsked reads here result new → GivesAsked IsAsked reads there result new
+
+-- a record that is asked for, with its data or without
+pub found-here : {Data X : Type 0} {IsAsked : Parsed → Type 0} {reads : List ℕ → ℕ → ℕ → Data → Type 0} {old new : Cursor} {parsed : Parsed}
+    (view : X → RecordOf (List (List ℕ)) Data) (result : Result X ParseError) → GivesRecord old (Some (Ok parsed)) new → IsAsked parsed
+    → IfOk result (λ rr. IsRecordOf reads parsed (view rr)) → OnErr result (HasNoData reads parsed)
+    → GivesAsked IsAsked reads old (seen view (Some result)) new
+found-here view (Ok rr) gives asked is none = GivesAsked.found GoesOver.here tt gives asked is
+found-here view (Err error) gives asked is none = GivesAsked.found GoesOver.here tt gives asked none
+
+-- nothing is left
+pub ended-here : {Data : Type 0} (IsAsked : Parsed → Type 0) (reads : List ℕ → ℕ → ℕ → Data → Type 0) {old new : Cursor}
+    → GivesRecord old None new → GivesAsked IsAsked reads old None new
+ended-here IsAsked reads {old} {new} gives =
+    subst (λ c. GivesAsked IsAsked reads old None c) (sym gives.1) (GivesAsked.ended GoesOver.here tt (gives.0, refl))
+
+-- what a test of the class says
+pub class-one : (class : ℕ) → false ≡ not (nat_eq class 1) → class ≡ 1
+class-one class test = by (nat_eq class 1) refl
+  where
+    by : (b : Bool) → nat_eq class 1 ≡ b → class ≡ 1
+    by true is = eqb-true class 1 is
+    by false is = let wrong : false ≡ true = test ∙ ap not is in absurd (false≢true wrong)
+
+pub not-one : (class : ℕ) → true ≡ not (nat_eq class 1) → class ≡ 1 → ⊥
+not-one class test is = let wrong : true ≡ false = test ∙ ap not (eq-eqb class 1 is) in false≢true (sym wrong)

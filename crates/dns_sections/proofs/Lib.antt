@@ -3,4 +3,3 @@ pub mod Reached
 pub mod Steps
 pub mod Asked
 pub mod All
-pub mod Same

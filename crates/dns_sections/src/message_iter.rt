@@ -42,19 +42,22 @@ impl<'a> Iterator for MessageIter<'a> {
 
     fn next(&mut self) -> Option<Self::Item> {
         while let Some(mut section) = self.section {
-            if let Some(item) = section.next() {
-                self.section = Some(section);
-                return Some(match item {
-                    Ok(record) => Ok((record, section.section())),
-                    Err(error) => Err(error),
-                });
-            }
-            match section.next_section() {
-                Ok(behind) => self.section = behind,
-                Err(error) => {
-                    self.section = None;
+            match section.next() {
+                Some(Ok(record)) => {
+                    self.section = Some(section);
+                    return Some(Ok((record, section.section())));
+                }
+                Some(Err(error)) => {
+                    self.section = Some(section);
                     return Some(Err(error));
                 }
+                None => match section.next_section() {
+                    Ok(behind) => self.section = behind,
+                    Err(error) => {
+                        self.section = None;
+                        return Some(Err(error));
+                    }
+                },
             }
         }
         None

@@ -1,5 +1,5 @@
 //! The question section.
-ghost use Rattle.std.specs.Prelude.{◌≡◌, ◌≤◌, ℕ, true, false, Ok, Err, MatchResult, length};
+ghost use Rattle.std.specs.Prelude.{◌≡◌, ◌≤◌, ℕ, Ok, Err, MatchResult, length};
 ghost use Rattle.dns_octets.specs.Parser.{octets_of};
 
 use crate::cursor::ItemCursor;
@@ -18,7 +18,6 @@ pub struct QuestionSection<'a> {
 
 impl<'a> QuestionSection<'a> {
     ghost use Rattle.dns_header.specs.Question.{SkipsQuestion};
-    ghost use Rattle.dns_sections.specs.Asked.{AskTheSame};
     ghost use Rattle.dns_sections.specs.Cursor.{PassesAll};
     ghost use Rattle.dns_sections.specs.Questions.{first_question, QuestionSkipIsCut};
     ghost use Rattle.dns_sections.specs.Sections.{at_start};
@@ -55,30 +54,6 @@ impl<'a> QuestionSection<'a> {
     {
         let parser = self.cursor.pass_all::<Question<ParsedName<&'a [u8]>>>()?;
         Ok(RecordSection::at_start(parser, Section::first()))
-    }
-
-    /// Whether the other cursor has the same questions left: all of them read, here and there, and are equal in order, names up to
-    /// ASCII case (RFC 4343).
-    pub fn asks_the_same(self, other: QuestionSection<'_>) -> bool
-        ensures yes { result ≡ true → AskTheSame (questions_at self.entry) (questions_at other.entry) }
-        ensures no { result ≡ false → AskTheSame (questions_at self.entry) (questions_at other.entry) → ⊥ }
-    {
-        let (Ok(left), Ok(asked)) = (self.cursor.left(), other.cursor.left()) else {
-            return false;
-        };
-        if left != asked {
-            return false;
-        }
-        let (mut here, mut there) = (self, other);
-        for _ in 0..left {
-            let (Some(Ok(question)), Some(Ok(other))) = (here.next(), there.next()) else {
-                return false;
-            };
-            if question != other {
-                return false;
-            }
-        }
-        true
     }
 
     /// The same as `answer`.

@@ -146,9 +146,10 @@ impl<'a, Data: ParseAnyRecordData<'a>> Iterator for AnyRecordIter<'a, Data> {
     ghost remaining = { λ iter. items_left (any_at iter).cursor };
 
     fn next(&mut self) -> Option<Self::Item> {
-        match self.section.next()? {
-            Ok(record) => Some(record.into_any_record()),
-            Err(error) => Some(Err(error)),
+        match self.section.next() {
+            Some(Ok(record)) => Some(record.into_any_record()),
+            Some(Err(error)) => Some(Err(error)),
+            None => None,
         }
     }
 }
