@@ -32,18 +32,19 @@ one-stuck cursor Authority = omega arith
 one-stuck cursor Additional = omega arith
 
 -- a step within a section
-module _ {old new : SectionCursor} (same : new.section ≡ old.section) where
+module _ (old new : SectionCursor) (same : new.section ≡ old.section) where
   there : new ≡ record { cursor = new.cursor; section = old.section }
   there = λ i. record { cursor = new.cursor; section = same i }
 
-  pub item-given : {parsed : Parsed} {section : Section} → section ≡ new.section → GivesRecord old.cursor (Some (Ok parsed)) new.cursor
+  pub item-given : (parsed : Parsed) (section : Section) → section ≡ new.section → GivesRecord old.cursor (Some (Ok parsed)) new.cursor
       → GivesAll (Some old) (Some (Ok (record { parsed = parsed; section = section }))) (Some new)
-  item-given {parsed} {section} is gives =
+  item-given parsed section is gives =
       subst (λ (s : Section). GivesAll (Some old) (Some (Ok (record { parsed = parsed; section = s }))) (Some new)) (sym (is ∙ same))
       (subst (λ (c : SectionCursor). GivesAll (Some old) (Some (Ok (record { parsed = parsed; section = old.section }))) (Some c)) (sym there)
-      (GivesAll.item gives))
+      (GivesAll.item {old = old.cursor} {new = new.cursor} {section = old.section} {parsed = parsed} gives))
 
-  pub error-given : {error : ParseError} → GivesRecord old.cursor (Some (Err error)) new.cursor
+  pub error-given : (error : ParseError) → GivesRecord old.cursor (Some (Err error)) new.cursor
       → GivesAll (Some old) (Some (Err error)) (Some new)
-  error-given {error} gives =
-      subst (λ (c : SectionCursor). GivesAll (Some old) (Some (Err error)) (Some c)) (sym there) (GivesAll.broken gives)
+  error-given error gives =
+      subst (λ (c : SectionCursor). GivesAll (Some old) (Some (Err error)) (Some c)) (sym there)
+      (GivesAll.broken {old = old.cursor} {new = new.cursor} {section = old.section} {error = error} gives)

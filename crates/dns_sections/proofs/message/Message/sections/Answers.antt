@@ -10,21 +10,21 @@ use Rattle.dns_sections.proofs.message.Message.sections.Goals as goal
 pub returns-in_err-answer : goal.returns-in_err-answer
 returns-in_err-answer g c =
     let out : IsOutOfReach (octets_in g.Octs.Octets.list c.args.self.now) Answer c.in_err-answer.field-0.0 =
-    answers records_at (Err c.in_err-answer.field-0.0) c.question.ensures c.in_err-answer.ensures in
+    answers records_at (Err c.in_err-answer.field-0.0) c.question-question.ensures c.in_err-answer.ensures in
     refused c.from_residual.result c.in_err-answer.field-0.0 _ _ c.from_residual.ensures.1
     (IsOutOfReach.earlier {before = Authority} refl (IsOutOfReach.earlier {before = Answer} refl out))
 
 pub returns-in_err-authority : goal.returns-in_err-authority
 returns-in_err-authority g c =
     let first : IsSectionOf (octets_in g.Octs.Octets.list c.args.self.now) Answer (records_at c.in_ok-answer.answer) =
-    answers records_at (Ok c.in_ok-answer.answer) c.question.ensures c.in_ok-answer.ensures in
+    answers records_at (Ok c.in_ok-answer.answer) c.question-question.ensures c.in_ok-answer.ensures in
     refused c.from_residual-in_err-authority.result c.in_err-authority.field-0.0 _ _ c.from_residual-in_err-authority.ensures.1
     (IsOutOfReach.earlier {before = Authority} refl (section-stuck refl first c.in_err-authority.ensures))
 
 pub following-requires-2 : goal.following-requires-2
 following-requires-2 g c =
     let first : IsSectionOf (octets_in g.Octs.Octets.list c.args.self.now) Answer (records_at c.in_ok-answer.answer) =
-    answers records_at (Ok c.in_ok-answer.answer) c.question.ensures c.in_ok-answer.ensures in
+    answers records_at (Ok c.in_ok-answer.answer) c.question-question.ensures c.in_ok-answer.ensures in
     let second : IsSectionOf (octets_in g.Octs.Octets.list c.args.self.now) Authority (records_at c.in_ok-authority.authority) =
     section-on refl first c.in_ok-authority.ensures in
     (Additional, ap (λ s. following s.section) second.is)
@@ -32,7 +32,7 @@ following-requires-2 g c =
 pub returns-in_err-additional : goal.returns-in_err-additional
 returns-in_err-additional g c =
     let first : IsSectionOf (octets_in g.Octs.Octets.list c.args.self.now) Answer (records_at c.in_ok-answer.answer) =
-    answers records_at (Ok c.in_ok-answer.answer) c.question.ensures c.in_ok-answer.ensures in
+    answers records_at (Ok c.in_ok-answer.answer) c.question-question.ensures c.in_ok-answer.ensures in
     let second : IsSectionOf (octets_in g.Octs.Octets.list c.args.self.now) Authority (records_at c.in_ok-authority.authority) =
     section-on refl first c.in_ok-authority.ensures in
     refused c.from_residual-in_err-additional.result c.in_err-additional.field-0.0 _ _ c.from_residual-in_err-additional.ensures.1
@@ -41,7 +41,7 @@ returns-in_err-additional g c =
 pub returns : goal.returns
 returns g c =
     let first : IsSectionOf (octets_in g.Octs.Octets.list c.args.self.now) Answer (records_at c.in_ok-answer.answer) =
-    answers records_at (Ok c.in_ok-answer.answer) c.question.ensures c.in_ok-answer.ensures in
+    answers records_at (Ok c.in_ok-answer.answer) c.question-question.ensures c.in_ok-answer.ensures in
     let second : IsSectionOf (octets_in g.Octs.Octets.list c.args.self.now) Authority (records_at c.in_ok-authority.authority) =
     section-on refl first c.in_ok-authority.ensures in
-    (c.question.ensures, first, second, section-on refl second c.in_ok-additional.ensures)
+    (c.question-question.ensures, first, second, section-on refl second c.in_ok-additional.ensures)
