@@ -3,3 +3,4 @@ pub mod Reached
 pub mod Steps
 pub mod Asked
 pub mod All
+pub mod First

@@ -2,6 +2,7 @@
 ghost use Rattle.std.specs.Prelude.{◌≤◌, length};
 
 mod opened;
+mod questions;
 mod sections;
 mod views;
 
