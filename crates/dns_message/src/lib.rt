@@ -1,7 +1,7 @@
 //! Messages: headers, questions, records, how they are read and built (RFC 1035 4.1).
 //!
-//! Its part `dns_header`, which it hands on, has headers, questions and records. Whole messages are definitions and laws alone
-//! today.
+//! It hands on its parts: `dns_header` has headers, questions and records, and `dns_sections` messages and the cursors over their
+//! sections. Messages that are built are definitions and laws alone today.
 #![tactic(auto)]
 
 pub mod laws;
@@ -10,4 +10,8 @@ pub use dns_header::{
     ComposeQuestion, ComposeRecord, CountOverflow, Flags, FlagsFromStrError, FromStrError, Header,
     HeaderCounts, HeaderSection, Opt, OptHeader, OptIter, OptRecord, ParsedRecord,
     PresentationError, Question, Record, RecordHeader, RecordParseError,
+};
+pub use dns_sections::{
+    AnyRecordIter, Message, MessageIter, QuestionSection, RecordIter, RecordSection, Section,
+    ShortMessage,
 };

@@ -1,0 +1,46 @@
+-- The first question of a message.
+use Rattle.std.proofs.Common.{◌≡◌, ◌∙◌, ◌+◌, ◌<◌, ℕ, List, Some, None, Ok, Err, ap, subst, sym, arith}
+use Rattle.std.specs.Prelude.{Option, Result}
+use Rattle.dns_octets.specs.declared.error.ParseError.{ParseError}
+use Rattle.dns_label.proofs.Spelling.{reads_one}
+use Rattle.dns_header.specs.Header.{number_at, question_count}
+use Rattle.dns_header.specs.Question.{Question, ReadsQuestion}
+use Rattle.dns_sections.specs.Cursor.{Cursor}
+use Rattle.dns_sections.specs.Given.{GivesQuestion}
+use Rattle.dns_sections.specs.Questions.{first_question}
+use Rattle.dns_sections.specs.Asked.{IsFirstQuestion}
+
+module _ (message : List ℕ) (at new : Cursor) (is : at ≡ first_question message) where
+  first-given : (question : Question) → GivesQuestion (first_question message) (Some (Ok question)) new → IsFirstQuestion message question
+  first-given question gives =
+      let count : question_count message ≡ gives.0 = cc (gives.1.0) in record {
+        some = omega (arith, count, gives.1.1);
+        next = new.place;
+        reads = gives.2;
+      }
+
+  pub first-is : (question : Question) → GivesQuestion at (Some (Ok question)) new → IsFirstQuestion message question
+  first-is question gives = first-given question (subst (λ (c : Cursor). GivesQuestion c (Some (Ok question)) new) is gives)
+
+  pub first-none : GivesQuestion at None new → (question : Question) → IsFirstQuestion message question → ⊥
+  first-none gives question first =
+      let spent = subst (λ (c : Cursor). GivesQuestion c None new) is gives in
+      omega (arith, spent.0, first.some)
+
+  pub first-bad : (error : ParseError) → GivesQuestion at (Some (Err error)) new → (question : Question) → IsFirstQuestion message question → ⊥
+  first-bad error gives question first =
+      let refused = subst (λ (c : Cursor). GivesQuestion c (Some (Err error)) new) is gives in
+      refused.2.none question first.next first.reads
+
+-- one question stands at a place
+pub question-one : {message : List ℕ} {place next end : ℕ} {question other : Question} → ReadsQuestion message place question next
+    → ReadsQuestion message place other end → (question ≡ other) × (next ≡ end)
+question-one {message} {question = question} {other = other} reads others =
+    let one = reads_one reads.name others.name in
+    let qtype : question.qtype ≡ other.qtype = reads.qtype ∙ ap (number_at message) one.1 ∙ sym others.qtype in
+    let qclass : question.qclass ≡ other.qclass = reads.qclass ∙ ap (λ n. number_at message (n + 2)) one.1 ∙ sym others.qclass in
+    (λ i. record { name = one.0 i; qtype = qtype i; qclass = qclass i }, reads.ends ∙ ap (λ n. n + 4) one.1 ∙ sym others.ends)
+
+-- a message has one first question
+pub first-one : (message : List ℕ) (question other : Question) → IsFirstQuestion message question → IsFirstQuestion message other → question ≡ other
+first-one message question other first second = (question-one first.reads second.reads).0

@@ -1,0 +1,8 @@
+pub mod Cursor
+pub mod Questions
+pub mod Sections
+pub mod Given
+pub mod Seen
+pub mod Message
+pub mod Asked
+pub mod Canonical

@@ -1,0 +1,25 @@
+//! Messages and their sections: cursors over questions and records (RFC 1035 4.1).
+//!
+//! A message is twelve octets of header, then questions, then records in three sections. A section is read one item at a time; a
+//! cursor is a place in it, and is copied to read on from there twice.
+//!
+//! A part of `dns_message`, which hands all of it on.
+#![tactic(auto)]
+
+mod cursor;
+mod error;
+mod item;
+mod message;
+mod message_iter;
+mod question_section;
+mod record_iter;
+mod record_section;
+mod section;
+
+pub use error::ShortMessage;
+pub use message::Message;
+pub use message_iter::MessageIter;
+pub use question_section::QuestionSection;
+pub use record_iter::{AnyRecordIter, RecordIter};
+pub use record_section::RecordSection;
+pub use section::Section;

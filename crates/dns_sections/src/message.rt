@@ -1,0 +1,27 @@
+//! Messages.
+ghost use Rattle.std.specs.Prelude.{◌≤◌, length};
+
+mod opened;
+mod questions;
+mod sections;
+mod views;
+
+use dns_name::Octets;
+use std::alloc::AllocError;
+
+/// A message: the twelve octets of its header and whatever follows them (RFC 1035 4.1).
+///
+/// What follows is read when it is asked for, so a message may have items that do not read.
+#[derive(Debug, Drop)]
+pub struct Message<Octs: Octets> {
+    octets: Octs,
+    ghost header: { 12 ≤ length (Octs.list octets) },
+}
+
+impl<Octs: Octets + Copy> Clone for Message<Octs> {
+    fn clone(&self) -> Result<Self, AllocError> {
+        Ok(*self)
+    }
+}
+
+impl<Octs: Octets + Copy> Copy for Message<Octs> {}

@@ -1,0 +1,50 @@
+//! What a message asks.
+ghost use Rattle.std.specs.Prelude.{◌≡◌, ◌⊎◌, true, false, IfSome, IfNone};
+ghost use Rattle.dns_name.specs.ParsedName.{labels_of};
+ghost use Rattle.dns_header.specs.Question as spec;
+ghost use Rattle.dns_header.specs.QuestionParts.{question_of};
+ghost use Rattle.dns_sections.specs.Asked.{IsFirstQuestion};
+ghost use Rattle.dns_sections.specs.Message.{octets_in};
+
+use crate::Message;
+use dns_header::Question;
+use dns_name::{Octets, ParsedName, Rtype};
+
+impl<Octs: Octets> Message<Octs> {
+    /// The first question, or None where there is none or it does not read.
+    pub fn first_question(&self) -> Option<Question<ParsedName<&[u8]>>>
+        ensures some { IfSome result (λ question. IsFirstQuestion (octets_in Octs.list self.now) (question_of labels_of question)) }
+        ensures none { IfNone result ((question : spec.Question) → IsFirstQuestion (octets_in Octs.list self.now) question → ⊥) }
+    {
+        match self.question().next() {
+            Some(Ok(question)) => Some(question),
+            Some(Err(_)) => None,
+            None => None,
+        }
+    }
+
+    /// The type that the first question asks for, or None where there is none or it does not read.
+    pub fn qtype(&self) -> Option<Rtype>
+        ensures some { IfSome result (λ rtype. (question : spec.Question)
+            × IsFirstQuestion (octets_in Octs.list self.now) question × (rtype ≡ question.qtype)) }
+        ensures none { IfNone result ((question : spec.Question) → IsFirstQuestion (octets_in Octs.list self.now) question → ⊥) }
+    {
+        match self.first_question() {
+            Some(question) => Some(question.qtype()),
+            None => None,
+        }
+    }
+
+    /// Whether the first question asks for a zone transfer: its type is IXFR (251) or AXFR (252).
+    pub fn is_xfr(&self) -> bool
+        ensures yes { result ≡ true → (question : spec.Question) × IsFirstQuestion (octets_in Octs.list self.now) question
+            × ((question.qtype ≡ 251) ⊎ (question.qtype ≡ 252)) }
+        ensures no { result ≡ false → (question : spec.Question) → IsFirstQuestion (octets_in Octs.list self.now) question
+            → (question.qtype ≡ 251) ⊎ (question.qtype ≡ 252) → ⊥ }
+    {
+        match self.qtype() {
+            Some(rtype) => rtype == Rtype::IXFR || rtype == Rtype::AXFR,
+            None => false,
+        }
+    }
+}

@@ -1,0 +1,86 @@
+//! The question section.
+ghost use Rattle.std.specs.Prelude.{◌≡◌, ◌≤◌, ℕ, Ok, Err, MatchResult, length};
+ghost use Rattle.dns_octets.specs.Parser.{octets_of};
+
+use crate::cursor::ItemCursor;
+use crate::{RecordSection, Section};
+use dns_header::{HeaderCounts, Question};
+use dns_name::{ParseError, ParsedName, Parser, ShortInput};
+
+/// A cursor over the questions of a message (RFC 1035 4.1.2).
+///
+/// A question that does not read is an error, once, and nothing is given behind it.
+#[derive(Clone, Copy, Debug)]
+pub struct QuestionSection<'a> {
+    cursor: ItemCursor<'a>,
+    ghost header: { 12 ≤ length (octets_of cursor.parser) },
+}
+
+impl<'a> QuestionSection<'a> {
+    ghost use Rattle.dns_header.specs.Question.{SkipsQuestion};
+    ghost use Rattle.dns_sections.specs.Cursor.{PassesAll};
+    ghost use Rattle.dns_sections.specs.Questions.{first_question, QuestionSkipIsCut};
+    ghost use Rattle.dns_sections.specs.Sections.{at_start};
+    ghost use Rattle.dns_sections.specs.Seen.{questions_at, records_at};
+    ghost use Rattle.dns_sections.specs.declared.section.Section.TheVariants.{Answer};
+
+    /// The questions of a message, whose octets these are.
+    pub(crate) fn of_message(octets: &'a [u8]) -> Self
+        requires { 12 ≤ length octets.now }
+        ensures { questions_at result ≡ first_question octets.now }
+    {
+        let mut parser = Parser::from_ref(octets);
+        let _: Result<(), ShortInput> = parser.advance(12);
+        let count = HeaderCounts::for_message_slice(octets).qdcount();
+        QuestionSection {
+            cursor: ItemCursor::new(parser, count),
+        }
+    }
+
+    /// How many octets of the message come before the next question.
+    pub fn pos(&self) -> usize
+        ensures { result ≡ (questions_at self.now).place }
+    {
+        self.cursor.pos()
+    }
+
+    /// The answer section, which follows the questions that are left. No pointer of theirs is followed. Fails with the error of the
+    /// first question that cannot be passed, or of the one that did not read before.
+    pub fn answer(self) -> Result<RecordSection<'a>, ParseError>
+        ensures { MatchResult result
+            (λ section. (next : ℕ) × PassesAll SkipsQuestion QuestionSkipIsCut (questions_at self.entry) (Ok next)
+            × (records_at section ≡ at_start (questions_at self.entry).message Answer next))
+            (λ error. PassesAll SkipsQuestion QuestionSkipIsCut (questions_at self.entry) (Err error)) }
+    {
+        let parser = self.cursor.pass_all::<Question<ParsedName<&'a [u8]>>>()?;
+        Ok(RecordSection::at_start(parser, Section::first()))
+    }
+
+    /// The same as `answer`.
+    pub fn next_section(self) -> Result<RecordSection<'a>, ParseError>
+        ensures { MatchResult result
+            (λ section. (next : ℕ) × PassesAll SkipsQuestion QuestionSkipIsCut (questions_at self.entry) (Ok next)
+            × (records_at section ≡ at_start (questions_at self.entry).message Answer next))
+            (λ error. PassesAll SkipsQuestion QuestionSkipIsCut (questions_at self.entry) (Err error)) }
+    {
+        self.answer()
+    }
+}
+
+impl<'a> Iterator for QuestionSection<'a> {
+    ghost use Rattle.dns_name.specs.ParsedName.{labels_of};
+    ghost use Rattle.dns_header.specs.QuestionParts.{question_of};
+    ghost use Rattle.dns_sections.specs.Cursor.{items_left};
+    ghost use Rattle.dns_sections.specs.Given.{GivesQuestion, seen};
+    ghost use Rattle.dns_sections.specs.Seen.{questions_at};
+
+    type Item = Result<Question<ParsedName<&'a [u8]>>, ParseError>;
+
+    ghost next_gives = { λ old result new. GivesQuestion (questions_at old) (seen (question_of labels_of) result) (questions_at new) };
+
+    ghost remaining = { λ section. items_left (questions_at section) };
+
+    fn next(&mut self) -> Option<Self::Item> {
+        self.cursor.next_item()
+    }
+}
