@@ -1,12 +1,12 @@
 -- How many records are left where a cursor goes on into the sections that follow.
-use Rattle.std.proofs.Common.{◌≡◌, ◌∙◌, subst, sym, ◌<◌, ◌≤◌, ◌+◌, ℕ, List, Some, None, Ok, Err, ap, arith, refl}
-use Rattle.std.specs.Prelude.{Option, Result}
+use Rattle.std.proofs.Common.{◌≡◌, ◌∙◌, subst, sym, ◌<◌, Some, Ok, Err, arith}
+use Rattle.std.specs.Prelude.{Option}
 use Rattle.std.specs.Iterator.{size}
 use Rattle.dns_octets.specs.declared.error.ParseError.{ParseError}
-use Rattle.dns_sections.specs.Cursor.{Cursor, items_left}
+use Rattle.dns_sections.specs.Cursor.{Cursor}
 use Rattle.dns_header.specs.ParsedRecord.{Parsed}
 use Rattle.dns_sections.specs.Given.{GivesRecord, GivesAll}
-use Rattle.dns_sections.specs.Sections.{SectionCursor, LeadsOn, all_left, following}
+use Rattle.dns_sections.specs.Sections.{SectionCursor, LeadsOn, all_left}
 use Rattle.dns_sections.specs.declared.section.Section.{Section}
 use Rattle.dns_sections.specs.declared.section.Section.TheVariants.{Answer, Authority, Additional}
 

@@ -1,10 +1,9 @@
 -- Sections that are reached, and where cursors over them lead.
-use Rattle.std.proofs.Common.{◌≡◌, ℕ, List, Some, None, Ok, Err, MatchResult, refl, ap, subst, sym}
-use Rattle.std.specs.Prelude.{Option, Result}
+use Rattle.std.proofs.Common.{◌≡◌, ℕ, List, Some, None, Ok, Err, MatchResult, ap, subst}
+use Rattle.std.specs.Prelude.{Result}
 use Rattle.dns_octets.specs.declared.error.ParseError.{ParseError}
 use Rattle.dns_header.specs.Header.{question_count}
 use Rattle.dns_header.specs.Question.{SkipsQuestion}
-use Rattle.dns_header.specs.SkipsRecord.{SkipsRecord, SkipIsCut}
 use Rattle.dns_sections.specs.Cursor.{Cursor, Passes, IsStuck, PassesAll}
 use Rattle.dns_sections.specs.Questions.{QuestionSkipIsCut}
 use Rattle.dns_sections.specs.Sections.{following, Begins, IsOutOfReach, SectionCursor, at_start, IsSectionOf, LeadsOn}

@@ -1,5 +1,5 @@
 -- What a step of a cursor leaves: the same message, and fewer items.
-use Rattle.std.proofs.Common.{◌≡◌, ◌<◌, ◌≤◌, ◌-◌, ℕ, List, Some, None, Ok, Err, OnSome, ap, arith}
+use Rattle.std.proofs.Common.{◌≡◌, ◌<◌, ◌-◌, ℕ, List, Some, None, Ok, Err, OnSome, ap, arith}
 use Rattle.std.specs.Prelude.{Option, Result}
 use Rattle.std.specs.Iterator.{size}
 use Rattle.dns_octets.specs.declared.error.ParseError.{ParseError}

@@ -1,12 +1,11 @@
 -- Items that are passed, one after another.
-use Rattle.std.proofs.Common.{◌≡◌, ◌<◌, ◌≤◌, ℕ, suc, List, ◌+◌, Ok, Err, MatchResult, arith, refl, subst, sym}
+use Rattle.std.proofs.Common.{◌≡◌, ℕ, suc, List, ◌+◌, Ok, Err, MatchResult, arith, subst, sym}
 use Rattle.std.specs.Result.{IsErrAnd}
 use Rattle.std.specs.Prelude.{◌↔◌, Result, OnErr, IfErr}
 use Rattle.dns_octets.specs.declared.error.ParseError.TheVariants.{ShortInput}
 use Rattle.dns_octets.specs.declared.error.ParseError.{ParseError}
-use Rattle.dns_sections.specs.Cursor.{Cursor, Passes, IsRefusal, IsStuck, PassesAll}
+use Rattle.dns_sections.specs.Cursor.{Passes, IsRefusal}
 use Rattle.dns_sections.specs.Cursor.Passes.{none, more}
-use Rattle.dns_sections.specs.Cursor.PassesAll.{again, whole, stuck}
 
 -- one more is passed behind them
 pub passes-more : {Skips : List ℕ → ℕ → ℕ → Type 0} {message : List ℕ} {place count at behind : ℕ} → Passes Skips message place count at

@@ -1,8 +1,6 @@
 -- What a message says of itself and of another one (RFC 1035 4.1).
-use Rattle.std.specs.Prelude.{◌≡◌, ◌≢◌, ◌<◌, ◌⊎◌, ℕ, suc, Bool, true, false, List, [], ◌∷◌, ◌++◌, length, Option, Some, None, Result, Ok, Err, nat_eq}
-use Rattle.std.specs.List.{AllByRecursion}
+use Rattle.std.specs.Prelude.{◌≡◌, ◌<◌, ℕ, suc, Bool, true, false, List, length, Some, Result, Ok}
 use Rattle.std.specs.Cmp.Lexicographic.{pointwise}
-use Rattle.dns_label.specs.Name.{low}
 use Rattle.dns_octets.specs.declared.error.ParseError.{ParseError}
 use Rattle.dns_header.specs.Header.{id_of, is_response, question_count, additional_count}
 use Rattle.dns_header.specs.Question.{Question, ReadsQuestion}

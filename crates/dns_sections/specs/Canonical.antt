@@ -1,14 +1,7 @@
 -- The name that CNAME records of an answer lead to (RFC 1034 3.6.2).
-use Rattle.std.specs.Prelude.{◌≡◌, ◌≢◌, ℕ, suc, Bool, false, List, [], ◌∷◌, ◌++◌, Option, Some, None, Result, Ok, Err}
+use Rattle.std.specs.Prelude.{◌≡◌, ◌≢◌, ℕ, suc, List, ◌∷◌, ◌++◌}
 use Rattle.std.specs.List.{AllByRecursion}
 use Rattle.dns_label.specs.Name.{low}
-use Rattle.dns_octets.specs.declared.error.ParseError.{ParseError}
-use Rattle.dns_header.specs.Record.{RecordOf}
-use Rattle.dns_sections.specs.Cursor.{Cursor}
-use Rattle.dns_sections.specs.Given.{GivesAsked, IsTaken}
-use Rattle.dns_sections.specs.Asked.{IsFirstQuestion}
-use Rattle.dns_sections.specs.Sections.{SectionCursor, IsSectionOf}
-use Rattle.dns_sections.specs.declared.section.Section.TheVariants.{Answer}
 
 -- from an owner to the name that its CNAME record holds
 pub record Alias : Type 0 where

@@ -1,4 +1,4 @@
-use Rattle.std.proofs.Common.{◌≡◌, ◌∙◌, ℕ, Ok, Err, subst, refl, arith}
+use Rattle.std.proofs.Common.{◌≡◌, ◌∙◌, ℕ, subst, refl, arith}
 use Rattle.dns_octets.specs.Parser.{octets_of, place_of}
 use Rattle.dns_sections.specs.Cursor.{Passes, IsRefusal}
 use Rattle.dns_sections.specs.Cursor.Passes.{none}
