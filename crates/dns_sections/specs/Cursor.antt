@@ -1,5 +1,5 @@
 -- Cursors: places in the questions or records of a message, which stand one after another (RFC 1035 4.1).
-use Rattle.std.specs.Prelude.{◌≡◌, ◌↔◌, ◌<◌, ◌-◌, ℕ, suc, List, [], ◌∷◌, Option, Some, None, Result, Ok, Err, IfOk}
+use Rattle.std.specs.Prelude.{◌≡◌, ◌↔◌, ◌<◌, ◌-◌, ℕ, suc, List, Option, Some, None, Result, Ok, Err, IfOk}
 use Rattle.std.specs.Iterator.{Count, at_most}
 use Rattle.dns_octets.specs.declared.error.ParseError.{ParseError}
 use Rattle.dns_octets.specs.declared.error.ParseError.TheVariants.{ShortInput}
@@ -42,12 +42,6 @@ module _ {Item : Type 0} (Reads : List ℕ → ℕ → Item → ℕ → Type 0) 
   Gives old (Some (Err error)) new = (left : ℕ) × HasLeft old left
       × IsRefusal (IsNone old.message old.place) (IsCut old.message old.place) error
       × (new ≡ record { message = old.message; place = old.place; left = Err error })
-
--- The items that the message has from a place on, so many, and the place behind them.
-pub data Reading {Item : Type 0} (Reads : List ℕ → ℕ → Item → ℕ → Type 0) (message : List ℕ) : ℕ → List Item → ℕ → Type 0 where
-  none : {place : ℕ} → Reading Reads message place [] place
-  more : {place behind next : ℕ} {item : Item} {items : List Item} → Reads message place item behind
-      → Reading Reads message behind items next → Reading Reads message place (item ∷ items) next
 
 -- So many items are passed without being read, one after another: `Skips` leads behind an item at a place.
 pub data Passes (Skips : List ℕ → ℕ → ℕ → Type 0) (message : List ℕ) : ℕ → ℕ → ℕ → Type 0 where

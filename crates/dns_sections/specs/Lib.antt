@@ -5,4 +5,3 @@ pub mod Given
 pub mod Seen
 pub mod Message
 pub mod Asked
-pub mod Canonical
