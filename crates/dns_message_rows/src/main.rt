@@ -5,6 +5,7 @@
 #![tactic(auto)]
 
 mod headers;
+mod messages;
 mod options;
 mod parsed;
 mod questions;
@@ -23,6 +24,7 @@ impl Calls for MessageCalls {
         match row.family() {
             "Header" | "Flags" => headers::answer(alloc, row, out),
             "HeaderCounts" | "HeaderSection" => sections::answer(alloc, row, out),
+            "Message" => messages::answer(alloc, row, out),
             "Opt" => options::answer_options(alloc, row, out),
             "OptHeader" => options::answer_header(row, out),
             "OptRecord" => options::answer_record(alloc, row, out),

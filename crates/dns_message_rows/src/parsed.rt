@@ -8,7 +8,7 @@ use std::alloc::Global;
 use std::fmt::Display;
 
 /// A record whose name and data lie in a message.
-type Read<'a> = Record<ParsedName<&'a [u8]>, ZoneRecordData<&'a [u8], ParsedName<&'a [u8]>>>;
+pub type Read<'a> = Record<ParsedName<&'a [u8]>, ZoneRecordData<&'a [u8], ParsedName<&'a [u8]>>>;
 
 /// The name of a text.
 pub fn name_of(alloc: Global, row: &mut Row<'_>) -> Result<Name<Vec<u8>>, RowError> {
