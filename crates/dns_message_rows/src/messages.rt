@@ -98,7 +98,10 @@ fn all_heads(message: &Message<&[u8]>, out: &mut Answer) -> Result<(), RowError>
 }
 
 /// Writes the records of a section as a zone file has them.
-fn records(section: Result<RecordSection<'_>, ParseError>, out: &mut Answer) -> Result<(), RowError> {
+fn records(
+    section: Result<RecordSection<'_>, ParseError>,
+    out: &mut Answer,
+) -> Result<(), RowError> {
     let section = match section {
         Ok(section) => section,
         Err(error) => return out.refused(&error),

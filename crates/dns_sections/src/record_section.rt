@@ -55,7 +55,9 @@ impl<'a> RecordSection<'a> {
             (λ found. LeadsOn (records_at self.entry) (Ok (option_map (λ section. records_at section) found)))
             (λ error. LeadsOn (records_at self.entry) (Err error)) }
     {
-        let Some(section) = self.section.next_section() else { return Ok(None) };
+        let Some(section) = self.section.next_section() else {
+            return Ok(None)
+        };
         let parser = self.cursor.pass_all::<ParsedRecord<'a>>()?;
         Ok(Some(RecordSection::at_start(parser, section)))
     }

@@ -36,4 +36,4 @@ pub returns-clause-passes : goal.returns-clause-passes
 returns-clause-passes g c =
     let all : c.loop.counter ≡ c.in_ok-left.left = omega arith in
     whole c.in_ok-left.was (subst (λ n. Passes g.I.Item.skips (octets_of c.args.self.parser) (place_of c.args.self.parser) n (place_of c.loop.parser)) all
-        c.loop.invariant.passed)
+    c.loop.invariant.passed)

@@ -17,6 +17,6 @@ returns-else-eq-clause-no g c = λ none question first xfr.
     let one = first-one (octets_in g.Octs.Octets.list c.args.self.now) question some.0 first some.1 in
     let same : c.in-Some.rtype ≡ question.qtype = some.2 ∙ sym (ap (λ (q : Question). q.qtype) one) in
     elim xfr [
-      inl is ↦ differs c.in-Some.rtype 251 c.if-eq.ensures (same ∙ is)
+      | inl is ↦ differs c.in-Some.rtype 251 c.if-eq.ensures (same ∙ is)
       | inr is ↦ differs c.in-Some.rtype 252 (sym none ∙ c.eq-else-eq.ensures) (same ∙ is)
     ]

@@ -36,7 +36,7 @@ returns-in-Some-Ok-clause-steps c =
     let gives = subst (λ r. GivesRecord old.cursor (Some r) new.cursor) c.in-Some-Ok.field-0-is c.in-Some-Ok.ensures.steps.1 in
     let result = Some (Ok (record { parsed = c.in-Some-Ok.record; section = c.section.result })) in
     c.loop-self.invariant.gives result (Some new) (subst (λ s. GivesAll s result (Some new)) (sym place)
-        (item-given old new c.next.ensures.steps.0 c.in-Some-Ok.record c.section.result c.section.ensures gives))
+    (item-given old new c.next.ensures.steps.0 c.in-Some-Ok.record c.section.result c.section.ensures gives))
 
 pub returns-in-Some-Err-clause-steps : goal.returns-in-Some-Err-clause-steps
 returns-in-Some-Err-clause-steps c =
@@ -45,7 +45,7 @@ returns-in-Some-Err-clause-steps c =
     let place : all_at c.loop-self.self ≡ Some old = ap (λ s. option_map records_at s) c.in-Some.is in
     let gives = subst (λ r. GivesRecord old.cursor (Some r) new.cursor) c.in-Some-Err.field-0-is c.in-Some-Err.ensures.steps.1 in
     c.loop-self.invariant.gives (Some (Err c.in-Some-Err.error)) (Some new) (subst (λ s. GivesAll s (Some (Err c.in-Some-Err.error)) (Some new)) (sym place)
-        (error-given old new c.next.ensures.steps.0 c.in-Some-Err.error gives))
+    (error-given old new c.next.ensures.steps.0 c.in-Some-Err.error gives))
 
 pub returns-in-Err-clause-steps : goal.returns-in-Err-clause-steps
 returns-in-Err-clause-steps c =

@@ -18,7 +18,7 @@ returns-in-Err-clause-steps g c =
     let at = (asked_at c.loop-item.self).cursor in
     let behind = (records_at c.next.new.self).cursor in
     let gives = subst (λ r. GivesRecord at r behind) (c.in-Some.is ∙ ap Some c.in-Err.is)
-        c.next.ensures.steps.1 in
+    c.next.ensures.steps.1 in
     (c.next.ensures.steps.0 ∙ inv.section, inv.only, inv.gives _ _ (broken-here _ _ at behind c.in-Err.error gives))
 
 pub loop-item-preserved-then-ne : goal.loop-item-preserved-then-ne
@@ -27,7 +27,7 @@ loop-item-preserved-then-ne g c =
     let at = (asked_at c.loop-item.self).cursor in
     let behind = (records_at c.next.new.self).cursor in
     let gives = subst (λ r. GivesRecord at r behind) (c.in-Some.is ∙ ap Some c.in-Ok.is)
-        c.next.ensures.steps.1 in
+    c.next.ensures.steps.1 in
     let less = falls HoldsRecord NoWhole WholeIsCut at behind (Some (Ok c.in-Ok.record)) gives in record {
       section = c.next.ensures.steps.0 ∙ inv.section;
       only = inv.only;
@@ -41,15 +41,15 @@ returns-in-Ok-Some-clause-steps g c =
     let at = (asked_at c.loop-item.self).cursor in
     let behind = (records_at c.next.new.self).cursor in
     let gives = subst (λ r. GivesRecord at r behind) (c.in-Some.is ∙ ap Some c.in-Ok.is)
-        c.next.ensures.steps.1 in
+    c.next.ensures.steps.1 in
     let class : only_in c.args.self.now ≡ true → c.in-Ok.record.head.class ≡ 1 = elim c.else-self.branch [
-      else-self-via-then-self+else-ne w ↦ λ only. sym w.class.ensures ∙ class-one w.class.result w.if-ne.ensures
+      | else-self-via-then-self+else-ne w ↦ λ only. sym w.class.ensures ∙ class-one w.class.result w.if-ne.ensures
       | else-self-via-else-self w ↦ λ only. absurd (false≢true (sym w.if-self.false ∙ inv.only ∙ only))
     ] in
     let taken : g.Data.ParseRecordData.takes c.in-Ok.record.head.rtype ≡ true =
     sym c.in-Ok-Some.ensures.taken ∙ ap (λ f. is_some f) c.in-Ok-Some.field-0-is in
     let is = subst (λ f. IfSome f (λ rr. IsRecordOf g.Data.ParseRecordData.reads c.in-Ok.record (with_labels labels_of rr))) c.in-Ok-Some.field-0-is
-        c.in-Ok-Some.ensures.ok in
+    c.in-Ok-Some.ensures.ok in
     (c.next.ensures.steps.0 ∙ inv.section, inv.only, inv.gives _ _ (given-here _ _ at behind c.in-Ok.record (Ok (with_labels labels_of c.in-Ok-Some.record)) gives (taken, class) is))
 
 pub loop-item-preserved : goal.loop-item-preserved
@@ -58,7 +58,7 @@ loop-item-preserved g c =
     let at = (asked_at c.loop-item.self).cursor in
     let behind = (records_at c.next.new.self).cursor in
     let gives = subst (λ r. GivesRecord at r behind) (c.in-Some.is ∙ ap Some c.in-Ok.is)
-        c.next.ensures.steps.1 in
+    c.next.ensures.steps.1 in
     let none : g.Data.ParseRecordData.takes c.in-Ok.record.head.rtype ≡ false =
     sym c.in-Ok-None.ensures.taken ∙ ap (λ f. is_some f) c.in-Ok-None.field-0-is in
     let less = falls HoldsRecord NoWhole WholeIsCut at behind (Some (Ok c.in-Ok.record)) gives in record {
@@ -74,9 +74,9 @@ returns-in-Err-into_record-clause-steps g c =
     let at = (asked_at c.loop-item.self).cursor in
     let behind = (records_at c.next.new.self).cursor in
     let gives = subst (λ r. GivesRecord at r behind) (c.in-Some.is ∙ ap Some c.in-Ok.is)
-        c.next.ensures.steps.1 in
+    c.next.ensures.steps.1 in
     let class : only_in c.args.self.now ≡ true → c.in-Ok.record.head.class ≡ 1 = elim c.else-self.branch [
-      else-self-via-then-self+else-ne w ↦ λ only. sym w.class.ensures ∙ class-one w.class.result w.if-ne.ensures
+      | else-self-via-then-self+else-ne w ↦ λ only. sym w.class.ensures ∙ class-one w.class.result w.if-ne.ensures
       | else-self-via-else-self w ↦ λ only. absurd (false≢true (sym w.if-self.false ∙ inv.only ∙ only))
     ] in
     let err = c.in-Err-into_record.ensures.err in
