@@ -1,13 +1,10 @@
 //! Messages, and what the cursors over their sections give (RFC 1035 4.1).
-use crate::parsed::Read;
+use crate::parsed::record_or;
 use dns_message::{Message, ParsedRecord, Question, RecordSection, Section};
 use dns_name::{ParseError, ParsedName};
-use dns_rdata::{A, ZoneRecordData};
+use dns_rdata::A;
 use rows::{Answer, Row, RowError};
 use std::alloc::Global;
-
-/// Data of any type that lies in a message.
-type Data<'a> = ZoneRecordData<&'a [u8], ParsedName<&'a [u8]>>;
 
 pub fn answer(alloc: Global, row: &mut Row<'_>, out: &mut Answer) -> Result<(), RowError> {
     let octets = row.octets(alloc)?;
@@ -22,7 +19,7 @@ pub fn answer(alloc: Global, row: &mut Row<'_>, out: &mut Answer) -> Result<(), 
         "authority" | "update" => heads(message.authority(), out),
         "additional" => heads(message.additional(), out),
         "iter" => all_heads(&message, out),
-        "into_records" => records(message.answer(), out),
+        "records" => records(message.answer(), out),
         "limit_to" => addresses(message.answer(), false, out),
         "limit_to_in" => addresses(message.answer(), true, out),
         "sections" => sections(&message, out),
@@ -102,13 +99,13 @@ fn records(
     section: Result<RecordSection<'_>, ParseError>,
     out: &mut Answer,
 ) -> Result<(), RowError> {
-    let section = match section {
+    let mut section = match section {
         Ok(section) => section,
         Err(error) => return out.refused(&error),
     };
-    for record in section.into_records::<Data<'_>>() {
+    while let Some(record) = section.next() {
         match record {
-            Ok(record) => out.shown::<Read<'_>>(&record)?,
+            Ok(record) => record_or(out, record.into_any_record())?,
             Err(error) => out.refused(&error)?,
         }
     }

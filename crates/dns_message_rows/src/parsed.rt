@@ -8,7 +8,7 @@ use std::alloc::Global;
 use std::fmt::Display;
 
 /// A record whose name and data lie in a message.
-pub type Read<'a> = Record<ParsedName<&'a [u8]>, ZoneRecordData<&'a [u8], ParsedName<&'a [u8]>>>;
+type Read<'a> = Record<ParsedName<&'a [u8]>, ZoneRecordData<&'a [u8], ParsedName<&'a [u8]>>>;
 
 /// The name of a text.
 pub fn name_of(alloc: Global, row: &mut Row<'_>) -> Result<Name<Vec<u8>>, RowError> {
@@ -38,7 +38,7 @@ fn head<N: ToName + Display>(header: &RecordHeader<N>, out: &mut Answer) -> Resu
 }
 
 /// Writes a record, or why there is none.
-fn record_or(out: &mut Answer, rr: Result<Read<'_>, ParseError>) -> Result<(), RowError> {
+pub fn record_or(out: &mut Answer, rr: Result<Read<'_>, ParseError>) -> Result<(), RowError> {
     match rr {
         Ok(rr) => out.shown(&rr),
         Err(error) => out.refused(&error),
