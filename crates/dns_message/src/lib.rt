@@ -1,7 +1,7 @@
 //! Messages: headers, questions, records, how they are read and built (RFC 1035 4.1).
 //!
 //! It hands on its parts: `dns_header` has headers, questions and records, and `dns_sections` messages and the cursors over their
-//! sections. Messages that are built are definitions and laws alone today.
+//! sections. The builders of `dns_builder` and the targets of `dns_compress` are not handed on yet.
 #![tactic(auto)]
 
 pub mod laws;
@@ -12,6 +12,6 @@ pub use dns_header::{
     PresentationError, Question, Record, RecordHeader, RecordParseError,
 };
 pub use dns_sections::{
-    AnyRecordIter, Message, MessageIter, QuestionSection, RecordIter, RecordSection, Section,
-    ShortMessage,
+    AnyRecordIter, CopyRecordsError, Message, MessageIter, PushError, QuestionSection, RecordIter,
+    RecordSection, RecordTarget, Section, ShortMessage,
 };

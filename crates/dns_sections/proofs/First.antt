@@ -1,13 +1,14 @@
 -- The first question of a message.
 use Rattle.std.proofs.Common.{◌≡◌, ◌∙◌, ◌+◌, ℕ, List, Some, None, Ok, Err, ap, subst, sym, arith}
+use Rattle.std.specs.Prelude.{Result, IfErr}
 use Rattle.dns_octets.specs.declared.error.ParseError.{ParseError}
 use Rattle.dns_label.proofs.Spelling.{reads_one}
 use Rattle.dns_header.specs.Header.{number_at, question_count}
 use Rattle.dns_header.specs.Question.{Question, ReadsQuestion}
 use Rattle.dns_sections.specs.Cursor.{Cursor}
-use Rattle.dns_sections.specs.Given.{GivesQuestion}
+use Rattle.dns_sections.specs.Given.{GivesQuestion, seen}
 use Rattle.dns_sections.specs.Questions.{first_question}
-use Rattle.dns_sections.specs.Asked.{IsFirstQuestion}
+use Rattle.dns_sections.specs.Asked.{IsFirstQuestion, HasNoSoleQuestion}
 
 module _ (message : List ℕ) (at new : Cursor) (is : at ≡ first_question message) where
   first-given : (question : Question) → GivesQuestion (first_question message) (Some (Ok question)) new → IsFirstQuestion message question
@@ -30,6 +31,13 @@ module _ (message : List ℕ) (at new : Cursor) (is : at ≡ first_question mess
   first-bad error gives question first =
       let refused = subst (λ (c : Cursor). GivesQuestion c (Some (Err error)) new) is gives in
       refused.2.none question first.next first.reads
+
+  -- the one that is counted does not read
+  pub sole-bad : {X : Type 0} (view : X → Question) (result : Result X ParseError) → question_count message ≡ 1
+      → GivesQuestion at (seen view (Some result)) new → IfErr result (HasNoSoleQuestion message)
+  sole-bad view (Ok question) one gives = _
+  sole-bad view (Err error) one gives =
+      let refused = subst (λ (c : Cursor). GivesQuestion c (Some (Err error)) new) is gives in HasNoSoleQuestion.unread one refused.2
 
 -- one question stands at a place
 pub question-one : {message : List ℕ} {place next end : ℕ} {question other : Question} → ReadsQuestion message place question next

@@ -4,3 +4,12 @@ pub mod Steps
 pub mod Asked
 pub mod All
 pub mod First
+pub mod Written
+pub mod Last
+pub mod OneStep
+pub mod SameQuestions
+pub mod Copies
+pub mod FirstGiven
+pub mod GivenOnce
+pub mod AliasSteps
+pub mod Resolving

@@ -5,3 +5,9 @@ pub mod Given
 pub mod Seen
 pub mod Message
 pub mod Asked
+pub mod Answers
+pub mod Firsts
+pub mod Aliases
+pub mod Copied
+pub mod Refused
+pub mod Options

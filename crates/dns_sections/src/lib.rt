@@ -6,6 +6,7 @@
 //! A part of `dns_message`, which hands all of it on.
 #![tactic(auto)]
 
+mod aliases;
 mod cursor;
 mod error;
 mod item;
@@ -14,12 +15,14 @@ mod message_iter;
 mod question_section;
 mod record_iter;
 mod record_section;
+mod record_target;
 mod section;
 
-pub use error::ShortMessage;
+pub use error::{CopyRecordsError, PushError, ShortMessage};
 pub use message::Message;
 pub use message_iter::MessageIter;
 pub use question_section::QuestionSection;
 pub use record_iter::{AnyRecordIter, RecordIter};
 pub use record_section::RecordSection;
+pub use record_target::RecordTarget;
 pub use section::Section;

@@ -1,7 +1,13 @@
 //! Messages.
 ghost use Rattle.std.specs.Prelude.{◌≤◌, length};
 
+mod answers;
+mod changed;
+mod convert;
+mod copied;
+mod last;
 mod opened;
+mod options;
 mod questions;
 mod sections;
 mod views;

@@ -1,5 +1,5 @@
 //! The question section.
-ghost use Rattle.std.specs.Prelude.{◌≡◌, ◌≤◌, ℕ, Ok, Err, MatchResult, length};
+ghost use Rattle.std.specs.Prelude.{◌≡◌, ◌≤◌, ℕ, true, false, Some, Ok, Err, IfSome, IfNone, MatchResult, length};
 ghost use Rattle.dns_octets.specs.Parser.{octets_of};
 
 use crate::cursor::ItemCursor;
@@ -18,7 +18,12 @@ pub struct QuestionSection<'a> {
 
 impl<'a> QuestionSection<'a> {
     ghost use Rattle.dns_header.specs.Question.{SkipsQuestion};
-    ghost use Rattle.dns_sections.specs.Cursor.{PassesAll};
+    ghost use Rattle.dns_name.specs.ParsedName.{labels_of};
+    ghost use Rattle.dns_header.specs.Question as spec;
+    ghost use Rattle.dns_header.specs.QuestionParts.{question_of};
+    ghost use Rattle.dns_sections.specs.Answers.{AskTheSame};
+    ghost use Rattle.dns_sections.specs.Cursor.{Cursor, PassesAll};
+    ghost use Rattle.dns_sections.specs.Given.{GivesQuestion};
     ghost use Rattle.dns_sections.specs.Questions.{first_question, QuestionSkipIsCut};
     ghost use Rattle.dns_sections.specs.Sections.{at_start};
     ghost use Rattle.dns_sections.specs.Seen.{questions_at, records_at};
@@ -64,6 +69,49 @@ impl<'a> QuestionSection<'a> {
             (λ error. PassesAll SkipsQuestion QuestionSkipIsCut (questions_at self.entry) (Err error)) }
     {
         self.answer()
+    }
+
+    /// The next question, or None where none is left or it does not parse.
+    fn next_read(&mut self) -> Option<Question<ParsedName<&'a [u8]>>>
+        ensures some { IfSome result (λ question. GivesQuestion (questions_at self.old) (Some (Ok (question_of labels_of question)))
+            (questions_at self.new)) }
+        ensures none { IfNone result ((question : spec.Question) (new : Cursor)
+            → GivesQuestion (questions_at self.old) (Some (Ok question)) new → ⊥) }
+    {
+        match self.next() {
+            Some(Ok(question)) => Some(question),
+            Some(Err(_)) => None,
+            None => None,
+        }
+    }
+
+    /// Whether both have the same questions left, in order, names up to ASCII case (RFC 4343). None is the same as one that does not
+    /// parse.
+    pub(crate) fn asks_the_same(mut self, mut other: QuestionSection<'a>) -> bool
+        ensures yes { result ≡ true → AskTheSame (questions_at self.entry) (questions_at other.entry) }
+        ensures no { result ≡ false → AskTheSame (questions_at self.entry) (questions_at other.entry) → ⊥ }
+    {
+        let Ok(left) = self.cursor.left() else {
+            return false;
+        };
+        let Ok(others) = other.cursor.left() else {
+            return false;
+        };
+        if left != others {
+            return false;
+        }
+        for _ in 0..left {
+            let Some(question) = self.next_read() else {
+                return false;
+            };
+            let Some(asked) = other.next_read() else {
+                return false;
+            };
+            if question != asked {
+                return false;
+            }
+        }
+        true
     }
 }
 

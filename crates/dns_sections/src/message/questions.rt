@@ -1,14 +1,15 @@
 //! What a message asks.
-ghost use Rattle.std.specs.Prelude.{◌≡◌, ◌⊎◌, true, false, IfSome, IfNone};
+ghost use Rattle.std.specs.Prelude.{◌≡◌, ◌⊎◌, true, false, IfSome, IfNone, IfOk, IfErr};
 ghost use Rattle.dns_name.specs.ParsedName.{labels_of};
+ghost use Rattle.dns_header.specs.Header.{question_count};
 ghost use Rattle.dns_header.specs.Question as spec;
 ghost use Rattle.dns_header.specs.QuestionParts.{question_of};
-ghost use Rattle.dns_sections.specs.Asked.{IsFirstQuestion};
+ghost use Rattle.dns_sections.specs.Asked.{IsFirstQuestion, HasNoSoleQuestion};
 ghost use Rattle.dns_sections.specs.Message.{octets_in};
 
 use crate::Message;
 use dns_header::Question;
-use dns_name::{Octets, ParsedName, Rtype};
+use dns_name::{Octets, ParseError, ParsedName, Rtype};
 
 impl<Octs: Octets> Message<Octs> {
     /// The first question, or None where there is none or it does not read.
@@ -20,6 +21,25 @@ impl<Octs: Octets> Message<Octs> {
             Some(Ok(question)) => Some(question),
             Some(Err(_)) => None,
             None => None,
+        }
+    }
+
+    /// Returns the question, if the message counts one alone.
+    ///
+    /// Fails with an error of the form if it counts none or several, and with the question's error if that does not parse.
+    pub fn sole_question(&self) -> Result<Question<ParsedName<&[u8]>>, ParseError>
+        ensures ok { IfOk result (λ question. (question_count (octets_in Octs.list self.now) ≡ 1)
+            × IsFirstQuestion (octets_in Octs.list self.now) (question_of labels_of question)) }
+        ensures err { IfErr result (HasNoSoleQuestion (octets_in Octs.list self.now)) }
+    {
+        match self.header_counts().qdcount() {
+            0 => return Err(ParseError::form_error("no question")),
+            1 => {}
+            _ => return Err(ParseError::form_error("multiple questions")),
+        }
+        match self.question().next() {
+            Some(question) => question,
+            None => Err(ParseError::form_error("no question")),
         }
     }
 

@@ -1,0 +1,75 @@
+-- Records that are gone over and copied, one after another.
+use Rattle.std.proofs.Common.{◌≡◌, ◌∙◌, ◌-◌, ℕ, List, [], ◌∷◌, ◌++◌, Some, Ok, Err, IfErr, ap, subst, sym}
+use Rattle.std.specs.List.{FoldsTo}
+use Rattle.std.specs.Prelude.{Option, Result}
+use Rattle.std.specs.Result.{IsErrAnd}
+use Rattle.dns_octets.specs.declared.error.ParseError.{ParseError}
+use Rattle.dns_header.specs.ParsedRecord.{Parsed}
+use Rattle.dns_header.specs.Written.{Written}
+use Rattle.dns_sections.specs.Copied.{HasUnread, Pushes, CopiesOne, CopiesSection, Tells}
+use Rattle.dns_sections.specs.Cursor.{Cursor, IsSpent}
+use Rattle.dns_sections.specs.Given.{GivesRecord, GoesOver}
+use Rattle.dns_sections.specs.Sections.{SectionCursor, IsSectionOf}
+use Rattle.dns_sections.specs.declared.error.CopyRecordsError.{CopyRecordsError}
+use Rattle.dns_sections.specs.declared.error.CopyRecordsError.TheVariants as copy
+use Rattle.dns_sections.specs.declared.error.PushError.{PushError}
+use Rattle.dns_sections.specs.declared.section.Section.{Section}
+
+-- one more is gone over behind them
+pub goes-behind : {old mid new : Cursor} {records : List Parsed} {parsed : Parsed} → GoesOver old records mid
+    → GivesRecord mid (Some (Ok parsed)) new → GoesOver old (records ++ parsed ∷ []) new
+goes-behind GoesOver.here gives = GoesOver.on gives GoesOver.here
+goes-behind (GoesOver.on first others) gives = GoesOver.on first (goes-behind others gives)
+
+-- no error is met on the way
+none-met : {old new : Cursor} {records : List Parsed} → GoesOver old records new → (left : ℕ) → old.left ≡ Ok left
+    → (still : ℕ) × (new.left ≡ Ok still)
+none-met GoesOver.here left is = (left, is)
+none-met (GoesOver.on gives others) left is = none-met others (gives.0 - 1) (ap (λ (c : Cursor). c.left) gives.3)
+
+-- so a cursor that is spent has nothing left
+all-gone : {old new : Cursor} {records : List Parsed} → GoesOver old records new → (left : ℕ) → old.left ≡ Ok left → IsSpent new
+    → new.left ≡ Ok 0
+all-gone {new = new} over left is spent =
+    let still = none-met over left is in
+    let zero : still.0 ≡ 0 = of_left new.left still.0 still.1 spent in still.1 ∙ ap Ok zero
+  where
+    of_left : (result : Result ℕ ParseError) (n : ℕ) → result ≡ Ok n → IsSpent (record { message = []; place = 0; left = result }) → n ≡ 0
+    of_left result n same spent =
+        subst (λ (r : Result ℕ ParseError). IsSpent (record { message = []; place = 0; left = r })) same spent
+
+-- the records of a section that was reached, all of them copied
+pub section-copied : {Op Item Target : Type 0} {asks : Op → Parsed → Option Item → Op → Type 0} {written : Item → Written}
+    {pushes : Pushes Target} {message : List ℕ} {section : Section} {at : SectionCursor} {old new : Op × Target}
+    → IsSectionOf message section at → (records : List Parsed) × (end : Cursor) × GoesOver at.cursor records end × IsSpent end
+    × FoldsTo (CopiesOne asks written pushes) old records new → CopiesSection asks written pushes message section old new
+section-copied {at = at} is (records, end, goes, spent, copies) = record {
+  records = records;
+  has = record {
+    at = at;
+    is_section = is;
+    new = end;
+    goes = goes;
+    all = all-gone goes _ (ap (λ (s : SectionCursor). s.cursor.left) is.is) spent;
+  };
+  copies = copies;
+}
+
+-- a record of a section that was reached, which does not read
+pub section-unread : {message : List ℕ} {section : Section} {at : SectionCursor} → IsSectionOf message section at → (error : ParseError)
+    → (records : List Parsed) × (mid : Cursor) × (new : Cursor) × GoesOver at.cursor records mid × GivesRecord mid (Some (Err error)) new
+    → (section : Section) × HasUnread message section error
+section-unread {section = section} is error (records, mid, new, goes, gives) = (section, HasUnread.unread is goes gives)
+
+-- an error that tells more
+pub tells-more : {Source Source' : ParseError → Type 0} {Target Target' : PushError → Type 0} (error : CopyRecordsError)
+    → ((e : ParseError) → Source e → Source' e) → ((e : PushError) → Target e → Target' e) → Tells Source Target error
+    → Tells Source' Target' error
+tells-more (copy.Parse error) of_source of_target tells = of_source error tells
+tells-more (copy.Push error) of_source of_target tells = of_target error tells
+
+-- an error that is handed on
+pub handed-on : {A E : Type 0} (result : Result A E) (error : E) (Holds : E → Type 0) → IsErrAnd result (λ e. e ≡ error) → Holds error
+    → IfErr result Holds
+handed-on (Ok value) error Holds is holds = absurd is
+handed-on (Err other) error Holds is holds = subst Holds (sym is) holds
