@@ -4,6 +4,9 @@
 //! word of the answer. Other names are texts, and other records stand as in a zone file.
 #![tactic(auto)]
 
+mod answers;
+mod changed_messages;
+mod copied_messages;
 mod headers;
 mod messages;
 mod options;
@@ -24,6 +27,9 @@ impl Calls for MessageCalls {
         match row.family() {
             "Header" | "Flags" => headers::answer(alloc, row, out),
             "HeaderCounts" | "HeaderSection" => sections::answer(alloc, row, out),
+            "Message" if changed_messages::answers(row.method()) => {
+                changed_messages::answer(alloc, row, out)
+            }
             "Message" => messages::answer(alloc, row, out),
             "Opt" => options::answer_options(alloc, row, out),
             "OptHeader" => options::answer_header(row, out),

@@ -1,4 +1,6 @@
 //! Messages, and what the cursors over their sections give (RFC 1035 4.1).
+use crate::answers;
+use crate::copied_messages::copy_records;
 use crate::parsed::record_or;
 use dns_message::{Message, ParsedRecord, Question, RecordSection, Section};
 use dns_name::{ParseError, ParsedName};
@@ -24,7 +26,8 @@ pub fn answer(alloc: Global, row: &mut Row<'_>, out: &mut Answer) -> Result<(), 
         "limit_to_in" => addresses(message.answer(), true, out),
         "sections" => sections(&message, out),
         "next_section" => next_section(&message, row.value()?, out),
-        _ => Err(RowError::UnknownCall),
+        "copy_records" => copy_records(alloc, &message, row, out),
+        _ => answers::answer(alloc, &message, row, out),
     }
 }
 
@@ -40,7 +43,8 @@ fn views(message: &Message<&[u8]>, out: &mut Answer) -> Result<(), RowError> {
     }
 }
 
-fn asked(question: &Question<ParsedName<&[u8]>>, out: &mut Answer) -> Result<(), RowError> {
+/// Writes a question.
+pub fn asked(question: &Question<ParsedName<&[u8]>>, out: &mut Answer) -> Result<(), RowError> {
     out.shown(question.qname())?;
     out.shown(&question.qtype())?;
     out.shown(&question.qclass())

@@ -8,7 +8,7 @@ use std::alloc::Global;
 type Read<'a> = Record<ParsedName<&'a [u8]>, Opt<&'a [u8]>>;
 
 /// Writes the code and the octets of each option.
-fn options(opt: &Opt<&[u8]>, out: &mut Answer) -> Result<(), RowError> {
+pub fn options(opt: &Opt<&[u8]>, out: &mut Answer) -> Result<(), RowError> {
     for (code, octets) in opt.iter() {
         out.shown(&code.to_int())?;
         out.octets(octets)?;
