@@ -1,3 +1,4 @@
+pub mod Remembered
 pub mod SameNames
 pub mod Standings
 pub mod Tails

@@ -1,0 +1,11 @@
+pub mod Framing
+pub mod Adding
+pub mod Lowered
+pub mod Maps
+pub mod Naming
+pub mod Orders
+pub mod Sound
+pub mod Spots
+pub mod SpotsFound
+pub mod Texts
+pub mod Walking

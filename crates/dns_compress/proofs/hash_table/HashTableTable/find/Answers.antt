@@ -1,0 +1,12 @@
+use Rattle.std.proofs.Common.{◌∙◌, ap, List, ℕ}
+use Rattle.dns_label.specs.Name.{wire}
+use Rattle.dns_name.specs.Spelling.{tree_spelling, place_in}
+use Rattle.dns_compress.proofs.Lowered.{place_lowered}
+use Rattle.dns_compress.proofs.hash_table.HashTableTable.find.Goals as goal
+
+pub returns : goal.returns
+returns c =
+    c.place.ensures
+    ∙ ap (λ (l : List ℕ). place_in tree_spelling c.args.self.now.suffixes.written.items l)
+    (c.as_slice.ensures.octets ∙ ap wire c.lowered.ensures.low)
+    ∙ place_lowered c.args.self.now.suffixes.written.items c.args.suffix.now c.requires c.lowered.ensures.name

@@ -1,0 +1,40 @@
+use Rattle.std.proofs.Common.{◌≡◌, ◌∙◌, ◌++◌, ap, sym, subst, true, ℕ, List, arith, length}
+use Rattle.std.specs.Prelude.{OnOk}
+use Rattle.dns_octets.specs.Builder.{Known}
+use Rattle.dns_label.specs.Name.{wire}
+use Rattle.dns_wire.proofs.LowNames.{length-wire-low}
+use Rattle.dns_name.specs.Spelling.{tree_spelling, hash_spelling}
+use Rattle.dns_compress.specs.Tables.{added, in_order}
+use Rattle.dns_compress.proofs.Adding.{added-lowered}
+use Rattle.dns_compress.proofs.Orders.{order_added, for_any}
+use Rattle.dns_compress.proofs.hash_table.HashTableTable.remember.Goals as goal
+
+pub remember-requires-clause-order : goal.remember-requires-clause-order
+remember-requires-clause-order c =
+    let same : added hash_spelling c.args.count c.args.place c.args.stop c.args.name.now
+    ≡ added tree_spelling c.args.count c.args.place c.args.stop c.for_ref.result =
+    added-lowered c.args.count c.args.place c.args.stop c.args.name.now
+    ∙ ap (λ (n : List (List ℕ)). added tree_spelling c.args.count c.args.place c.args.stop n) (sym (c.for_ref.ensures ∙ c.lowered-lowered.ensures.low)) in
+    subst (λ (l : Known). in_order tree_spelling (c.args.self.now.suffixes.written.items ++ l) ≡ true) same
+    (order_added _ c.args.count c.args.place c.args.stop c.args.name.now c.args.self.now.suffixes.order c.requires.sound c.requires.order
+    c.requires.behind)
+
+pub remember-requires-clause-room : goal.remember-requires-clause-room
+remember-requires-clause-room c =
+    omega (
+      arith,
+      c.requires.room,
+      length-wire-low c.args.name.now c.lowered-lowered.ensures.name,
+      ap (λ (n : List (List ℕ)). length (wire n)) (c.for_ref.ensures ∙ c.lowered-lowered.ensures.low),
+    )
+
+pub returns-clause-ok : goal.returns-clause-ok
+returns-clause-ok c =
+    subst (λ (l : Known). OnOk c.remember.result (c.remember.new.self.written.items ≡ c.args.self.now.suffixes.written.items ++ l))
+    (ap (λ (n : List (List ℕ)). added tree_spelling c.args.count c.args.place c.args.stop n) (c.for_ref.ensures ∙ c.lowered-lowered.ensures.low)
+    ∙ sym (added-lowered c.args.count c.args.place c.args.stop c.args.name.now))
+    c.remember.ensures.ok
+
+pub returns-clause-err : goal.returns-clause-err
+returns-clause-err c =
+    for_any c.remember.result c.args.self.now.suffixes.written.items c.remember.new.self.written.items c.remember.ensures.err

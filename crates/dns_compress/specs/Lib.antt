@@ -1,0 +1,5 @@
+pub mod Frame
+pub mod StreamTarget
+pub mod Spots
+pub mod Tables
+pub mod Walk

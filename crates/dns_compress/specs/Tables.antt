@@ -1,0 +1,28 @@
+-- What a table of suffixes remembers (RFC 1035 4.1.4).
+use Rattle.std.specs.Prelude.{ℕ, Bool, true, false, Option, None, nat_le, nat_eq, ◌&&◌, if◌then◌else◌, List, [], ◌∷◌, Vec, take, drop}
+use Rattle.std.specs.List.{list_all}
+use Rattle.std.specs.HashMap.{HashMap, get_by}
+use Rattle.std.specs.Cmp.Lexicographic.{pointwise}
+use Rattle.dns_octets.specs.Builder.{Standing, Known}
+use Rattle.dns_name.specs.Spelling.{Spelling, is_same, standings}
+
+-- any number of suffixes, the same up to case where it folds; there all new suffixes of a name are remembered or none
+abbrev pub unbounded : Bool → Spelling
+unbounded folds = record { folds = folds; most = None; far = folds }
+
+-- the suffixes of a name that begin with one of its first labels
+abbrev pub added : Spelling → ℕ → ℕ → ℕ → List (List ℕ) → Known
+added s count place stop name = standings s place stop (take count name) (drop count name)
+
+-- the other suffix may be remembered after this one: it is not the same, and stops no earlier
+abbrev pub goes_before : Spelling → Standing → Standing → Bool
+goes_before s one other = if is_same s one.suffix other.suffix then false else nat_le one.stop other.stop
+
+-- no two are the same, and they stop in order
+abbrev pub in_order : Spelling → Known → Bool
+in_order s [] = true
+in_order s (one ∷ known) = list_all (goes_before s one) known && in_order s known
+
+-- where a map by octets has the suffix
+abbrev pub place_of : {A S : Type 0} → HashMap (Vec ℕ A) ℕ S → List ℕ → Option ℕ
+place_of places suffix = get_by (λ key. pointwise nat_eq suffix key.items) places

@@ -1,0 +1,236 @@
+//! Targets that write names with pointers to what they remember.
+ghost use Rattle.std.specs.Prelude.{◌≡◌, ◌<◌, ◌≤◌, ◌+◌, ◌++◌, [], ℕ, List, Err, length, OnOk, OnErr};
+ghost use Rattle.dns_octets.specs.Builder.{IsWithin, IsPast};
+ghost use Rattle.dns_octets.specs.declared.error.AppendError.TheVariants.{ShortBuf, BadLength};
+ghost use Rattle.std.specs.Option.{ForSome};
+ghost use Rattle.dns_label.specs.Name.{IsName, wire};
+ghost use Rattle.dns_name.specs.Spelling.{name_text, known_after};
+ghost use Rattle.dns_name.specs.Remembered.{IsSound, patched};
+ghost use Rattle.dns_compress.specs.Walk.{IsWalked};
+
+use crate::append::append_walked;
+use crate::hash_table::HashTable;
+use crate::static_table::StaticTable;
+use crate::table::Table;
+use crate::tree_table::TreeTable;
+use crate::walk::{Walk, walk_labels};
+use arrayvec::ArrayVec;
+use dns_name::{
+    AppendError, Composer, FreezeBuilder, Name, Octets, OctetsBuilder, Remembers, ToName, Truncate,
+};
+use std::alloc::Global;
+
+/// A target that remembers at most 24 suffixes, up to ASCII case, and takes no memory for them.
+pub type StaticCompressor<Target> = Compressor<Target, StaticTable>;
+
+/// A target that remembers any number of suffixes, octet for octet.
+pub type TreeCompressor<Target> = Compressor<Target, TreeTable>;
+
+/// A target that remembers any number of suffixes, up to ASCII case.
+pub type HashCompressor<Target> = Compressor<Target, HashTable>;
+
+/// A target that writes names with pointers to suffixes that stand in it (RFC 1035 4.1.4).
+///
+/// It stands on a target that remembers nothing.
+#[derive(Drop)]
+pub struct Compressor<Target: Truncate, T: Table> {
+    target: Target,
+    table: T,
+    ghost plain: { Target.known target ≡ [] },
+    ghost sound: { ∥ IsSound T.spelling (T.known table (Target.list target)) (Target.list target) ∥₁ },
+}
+
+impl<Target: Truncate> Compressor<Target, StaticTable> {
+    /// Makes a compressor that remembers nothing yet.
+    pub fn new(target: Target) -> Self
+        requires { Target.known target ≡ [] }
+        ensures target { result.target ≡ target }
+        ensures known { result.table.written.items ≡ [] }
+    {
+        Compressor {
+            target,
+            table: StaticTable::new(),
+        }
+    }
+}
+
+impl<Target: Truncate> Compressor<Target, TreeTable> {
+    /// Makes a compressor that remembers nothing yet. What it remembers grows on this allocator.
+    pub fn new(alloc: Global, target: Target) -> Self
+        requires { Target.known target ≡ [] }
+        ensures target { result.target ≡ target }
+        ensures known { result.table.suffixes.written.items ≡ [] }
+    {
+        Compressor {
+            target,
+            table: TreeTable::new(alloc),
+        }
+    }
+}
+
+impl<Target: Truncate> Compressor<Target, HashTable> {
+    /// Makes a compressor that remembers nothing yet. What it remembers grows on this allocator.
+    pub fn new(alloc: Global, target: Target) -> Self
+        requires { Target.known target ≡ [] }
+        ensures target { result.target ≡ target }
+        ensures known { result.table.suffixes.written.items ≡ [] }
+    {
+        Compressor {
+            target,
+            table: HashTable::new(alloc),
+        }
+    }
+}
+
+impl<Target: Truncate, T: Table> Compressor<Target, T> {
+    /// Returns the target.
+    pub fn as_target(&self) -> &Target
+        ensures { result.now ≡ self.now.target }
+    {
+        &self.target
+    }
+
+    /// Returns the target.
+    pub fn into_target(self) -> Target
+    where
+        T: Drop,
+        ensures { result ≡ self.target }
+    {
+        let Compressor { target, .. } = self;
+        target
+    }
+
+    /// Returns the octets.
+    pub fn as_slice(&self) -> &[u8]
+        ensures { result.now ≡ Target.list self.now.target }
+    {
+        self.target.octets()
+    }
+}
+
+impl<Target: Truncate, T: Table> Compressor<Target, T> {
+    /// Walks over the labels of a name that is to be appended.
+    fn walk(&self, name: &Name<&[u8]>) -> Walk
+        ensures walked { IsWalked T.spelling (T.known self.now.table (Target.list self.now.target))
+            (length (T.known self.now.table (Target.list self.now.target)) + 0) (length (Target.list self.now.target)) name.now
+            result.labels result.front result.near result.target }
+        ensures front { result.front ≤ length (wire name.now) }
+        ensures near { ForSome result.target (λ place. place < 16384) }
+        ensures name { IsName name.now }
+    {
+        // (Its length tells that a name has at most 255 octets.)
+        let _len = name.len();
+        let octets = self.target.octets();
+        walk_labels(&self.table, octets, name, 0, octets.len())
+    }
+
+    /// Appends the name, all or nothing.
+    fn append_name(&mut self, name: &Name<&[u8]>) -> Result<(), AppendError>
+        ensures ok { OnOk result (Target.list self.new.target ≡ Target.list self.old.target
+            ++ name_text T.spelling (T.known self.old.table (Target.list self.old.target)) (length (Target.list self.old.target)) name.now) }
+        ensures known { OnOk result (T.known self.new.table (Target.list self.new.target)
+            ≡ known_after T.spelling (T.known self.old.table (Target.list self.old.target)) (length (Target.list self.old.target)) name.now) }
+        ensures err { OnErr result ((Target.list self.new.target ≡ Target.list self.old.target)
+            × (T.known self.new.table (Target.list self.new.target) ≡ T.known self.old.table (Target.list self.old.target))) }
+        ensures short { result ≡ Err ShortBuf → IsPast (Target.bound self.old.target) (length (Target.list self.old.target
+            ++ name_text T.spelling (T.known self.old.table (Target.list self.old.target)) (length (Target.list self.old.target)) name.now)) }
+        ensures fits { OnOk result (IsWithin (Target.bound self.old.target) (length (Target.list self.new.target))) }
+        ensures not_bad { result ≡ Err BadLength → ⊥ }
+        ensures same_bound { Target.bound self.new.target ≡ Target.bound self.old.target }
+        ensures stays { Target.stays self.old.target self.new.target }
+    {
+        let place = self.target.octets().len();
+        let walk = self.walk(name);
+        append_walked(&mut self.target, name.as_slice(), walk)?;
+        if !walk.near {
+            return Ok(());
+        }
+        let octets = self.target.octets();
+        match self
+            .table
+            .remember(octets, name, walk.labels, place, octets.len())
+        {
+            Ok(()) => Ok(()),
+            Err(_) => {
+                self.target.truncate(place);
+                Err(AppendError::OutOfMemory)
+            }
+        }
+    }
+}
+
+impl<Target: Truncate, T: Table> Octets for Compressor<Target, T> {
+    ghost list = { λ all. Target.list all.target };
+
+    fn octets(&self) -> &[u8] {
+        self.target.octets()
+    }
+}
+
+impl<Target: Truncate, T: Table> Remembers for Compressor<Target, T> {
+    ghost known = { λ all. T.known all.table (Target.list all.target) };
+}
+
+impl<Target: Truncate, T: Table> OctetsBuilder for Compressor<Target, T> {
+    ghost bound = { λ all. Target.bound all.target };
+
+    ghost stays = { λ old new. Target.stays old.target new.target };
+
+    ghost stays_on = { λ a b c first second. Target.stays_on a.target b.target c.target first second };
+
+    ghost stays_here = { λ a. Target.stays_here a.target };
+
+    fn append_slice(&mut self, octets: &[u8]) -> Result<(), AppendError> {
+        self.target.append_slice(octets)
+    }
+}
+
+impl<Target: Truncate, T: Table> Truncate for Compressor<Target, T> {
+    fn truncate(&mut self, len: usize) {
+        self.table.forget(len);
+        self.target.truncate(len);
+    }
+}
+
+impl<Target: Truncate + FreezeBuilder, T: Table + Drop> FreezeBuilder for Compressor<Target, T> {
+    type Octets = Target::Octets;
+
+    fn freeze(self) -> Target::Octets {
+        self.into_target().freeze()
+    }
+}
+
+impl<Target: Composer, T: Table> Composer for Compressor<Target, T> {
+    ghost spelling = { T.spelling };
+
+    fn append_compressed_name<N: ToName>(&mut self, name: &N) -> Result<(), AppendError> {
+        if let Some(octets) = name.as_flat_slice() {
+            return self.append_name(&Name::from_octets_unchecked(octets));
+        }
+        let mut octets: ArrayVec<u8, 255> = ArrayVec::new();
+        name.compose(&mut octets)?;
+        self.append_name(&Name::from_octets_unchecked(octets.as_slice()))
+    }
+
+    fn can_compress(&self) -> bool {
+        self.table.can_compress()
+    }
+
+    fn patch(&mut self, place: usize, octets: &[u8]) {
+        patch_plain(&mut self.target, place, octets);
+    }
+
+    ghost sound = { λ all. all.sound };
+}
+
+/// Writes over octets of a target that remembers nothing.
+fn patch_plain<Target: Composer>(target: &mut Target, place: usize, octets: &[u8])
+    requires plain { Target.known target.old ≡ [] }
+    requires within { place + length octets.now ≤ length (Target.list target.old) }
+    ensures octets { Target.list target.new ≡ patched (Target.list target.old) place octets.now }
+    ensures known { Target.known target.new ≡ [] }
+    ensures same_bound { Target.bound target.new ≡ Target.bound target.old }
+    ensures stays { Target.stays target.old target.new }
+{
+    target.patch(place, octets);
+}

@@ -1,0 +1,66 @@
+//! Tables of suffixes that are the same up to ASCII case.
+ghost use Rattle.std.specs.Prelude.{◌≡◌, [], refl};
+ghost use Rattle.dns_name.specs.Spelling.{hash_spelling};
+
+use crate::lower_case::lowered;
+use crate::suffix_map::SuffixMap;
+use crate::table::Table;
+use dns_name::Name;
+use std::alloc::{AllocError, Global};
+
+/// Any number of suffixes, the same up to ASCII case. They are kept in lower case.
+#[derive(Drop)]
+pub struct HashTable {
+    suffixes: SuffixMap,
+}
+
+impl HashTable {
+    /// Makes a table without suffixes, which grows on this allocator.
+    pub(crate) fn new(alloc: Global) -> Self
+        ensures { result.suffixes.written.items ≡ [] }
+    {
+        HashTable {
+            suffixes: SuffixMap::new(alloc),
+        }
+    }
+}
+
+impl Table for HashTable {
+    ghost spelling = { hash_spelling };
+
+    ghost known = { λ table _. table.suffixes.written.items };
+
+    fn find(&self, _octets: &[u8], suffix: &Name<&[u8]>) -> Option<usize> {
+        self.suffixes.place(lowered(suffix).as_slice())
+    }
+
+    fn may_stand(&self, _more: usize, _place: usize) -> bool {
+        true
+    }
+
+    fn can_compress(&self) -> bool {
+        true
+    }
+
+    fn remember(
+        &mut self,
+        _octets: &[u8],
+        name: &Name<&[u8]>,
+        count: usize,
+        place: usize,
+        stop: usize,
+    ) -> Result<(), AllocError> {
+        if count == 0 {
+            return Ok(());
+        }
+        let lowered = lowered(name);
+        self.suffixes
+            .remember(&lowered.for_ref(), count, place, stop)
+    }
+
+    fn forget(&mut self, len: usize) {
+        self.suffixes.cut(len);
+    }
+
+    ghost steady = { λ _ _ _ _ _. refl };
+}

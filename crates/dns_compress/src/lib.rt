@@ -1,0 +1,25 @@
+//! Targets of messages: behind their length, as TCP sends them, and with names that point to suffixes written before
+//! (RFC 1035 4.1.4, 4.2.2).
+//!
+//! A part of `dns_message`, which hands all of it on.
+#![tactic(auto)]
+
+mod append;
+mod compressor;
+mod hash_table;
+mod kept;
+mod lower_case;
+mod spot;
+mod static_table;
+mod stream_target;
+mod suffix_map;
+mod table;
+mod tree_table;
+mod walk;
+
+pub use compressor::{Compressor, HashCompressor, StaticCompressor, TreeCompressor};
+pub use hash_table::HashTable;
+pub use static_table::StaticTable;
+pub use stream_target::StreamTarget;
+pub use table::Table;
+pub use tree_table::TreeTable;

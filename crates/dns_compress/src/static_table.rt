@@ -1,0 +1,120 @@
+//! Tables of at most 24 suffixes, which take no memory.
+ghost use Rattle.std.specs.Prelude.{◌≡◌, ◌≤◌, ◌<◌, ◌+◌, ◌++◌, ◌↔◌, ◌^◌, [], List, ℕ, IsTrue, IfOk, OnErr, length};
+ghost use Rattle.dns_name.specs.ParsedName.{labels_of};
+ghost use Rattle.dns_name.specs.Remembered.{IsSound};
+ghost use Rattle.dns_label.specs.Name.{low, wire};
+ghost use Rattle.dns_label.specs.Spelled.{Reads};
+ghost use Rattle.dns_name.specs.Spelling.{static_spelling, place_in};
+ghost use Rattle.dns_compress.specs.Tables.{added};
+ghost use Rattle.dns_compress.specs.Spots.{read_again, read_all, spots_of};
+
+use crate::spot::Spot;
+use crate::table::Table;
+use arrayvec::ArrayVec;
+use dns_name::{Name, ParseError, ParsedName, Parser, ToName};
+use std::alloc::AllocError;
+
+/// At most 24 suffixes, the same up to ASCII case. They are compared as they stand in the octets.
+#[derive(Drop)]
+pub struct StaticTable {
+    written: ArrayVec<Spot, 24>,
+}
+
+impl StaticTable {
+    /// Makes a table without suffixes.
+    pub(crate) fn new() -> Self
+        ensures { result.written.items ≡ [] }
+    {
+        StaticTable {
+            written: ArrayVec::new(),
+        }
+    }
+
+    /// Adds where the suffixes of the name stand that begin with one of its first labels.
+    fn push_all(&mut self, name: &Name<&[u8]>, count: usize, place: usize, stop: usize)
+        requires few { length self.old.written.items + length (added static_spelling count place stop name.now) ≤ 24 }
+        requires room { place + length (wire name.now) < 2 ^ 64 }
+        ensures { self.new.written.items ≡ self.old.written.items ++ spots_of (added static_spelling count place stop name.now) }
+    {
+        if count == 0 {
+            return;
+        }
+        let Some((label, parent)) = name.split_first() else {
+            return;
+        };
+        self.written.push(Spot { place, stop });
+        self.push_all(&parent, count - 1, place + 1 + label.len(), stop);
+    }
+}
+
+/// Returns the first of these places where a name is read that is the same as the suffix, up to ASCII case.
+fn find_among(octets: &[u8], written: &[Spot], suffix: &Name<&[u8]>) -> Option<usize>
+    requires { ∥ IsSound static_spelling (read_all octets.now written.now) octets.now ∥₁ }
+    ensures { result ≡ place_in static_spelling (read_all octets.now written.now) (wire suffix.now) }
+{
+    // (Its length tells that the suffix is a name.)
+    let _len = suffix.len();
+    for spot in written {
+        if is_same_at(octets, spot.place, suffix) {
+            return Some(spot.place);
+        }
+    }
+    None
+}
+
+/// Returns whether the name that is read at the place is the same as the suffix, up to ASCII case.
+fn is_same_at(octets: &[u8], place: usize, suffix: &Name<&[u8]>) -> bool
+    ensures { (name : List (List ℕ)) (next : ℕ) → Reads octets.now place name next → IsTrue result ↔ (low name ≡ low suffix.now) }
+{
+    match name_at(octets, place) {
+        Ok(name) => name.name_eq(suffix),
+        Err(_) => false,
+    }
+}
+
+/// Reads the name at the place. Fails if no name is spelled there.
+fn name_at(octets: &[u8], place: usize) -> Result<ParsedName<&[u8]>, ParseError>
+    ensures ok { IfOk result (λ read. (name : List (List ℕ)) (next : ℕ) → Reads octets.now place name next → labels_of read ≡ name) }
+    ensures err { OnErr result ((name : List (List ℕ)) (next : ℕ) → Reads octets.now place name next → ⊥) }
+{
+    let mut parser = Parser::from_ref(octets);
+    parser.seek(place)?;
+    let name = ParsedName::parse(&mut parser)?;
+    Ok(name)
+}
+
+impl Table for StaticTable {
+    ghost spelling = { static_spelling };
+
+    ghost known = { λ table octets. read_all octets table.written.items };
+
+    fn find(&self, octets: &[u8], suffix: &Name<&[u8]>) -> Option<usize> {
+        find_among(octets, self.written.as_slice(), suffix)
+    }
+
+    fn may_stand(&self, more: usize, place: usize) -> bool {
+        self.written.len() + more < 24 && place < 16384
+    }
+
+    fn can_compress(&self) -> bool {
+        true
+    }
+
+    fn remember(
+        &mut self,
+        _octets: &[u8],
+        name: &Name<&[u8]>,
+        count: usize,
+        place: usize,
+        stop: usize,
+    ) -> Result<(), AllocError> {
+        self.push_all(name, count, place, stop);
+        Ok(())
+    }
+
+    fn forget(&mut self, len: usize) {
+        self.written.retain(|spot| spot.stop <= len);
+    }
+
+    ghost steady = { λ table old new _ sound. read_again table.written.items old new sound };
+}

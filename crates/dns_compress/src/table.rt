@@ -1,0 +1,59 @@
+//! Tables of the suffixes that are remembered.
+ghost use Rattle.std.specs.Prelude.{◌≡◌, ◌≤◌, ◌<◌, ◌+◌, ◌++◌, ◌^◌, List, ℕ, length, take, OnOk, OnErr};
+ghost use Rattle.dns_octets.specs.Builder.{Known, Standing, before};
+ghost use Rattle.dns_label.specs.Name.{wire};
+ghost use Rattle.dns_name.specs.Spelling.{Spelling, compresses, place_in, may_stand};
+ghost use Rattle.dns_name.specs.Remembered.{IsKnown, IsSound};
+ghost use Rattle.dns_compress.specs.Tables.{added};
+
+use dns_name::Name;
+use std::alloc::AllocError;
+
+/// What suffixes of names are looked up in.
+///
+/// A table may keep no more of a suffix than where it stands. So what it remembers is said of the table and of the octets
+/// that it remembers suffixes of.
+pub trait Table {
+    ghost spelling: { Spelling };
+
+    ghost known: { Self → List ℕ → Known };
+
+    /// Returns where the suffix stands, if it is remembered.
+    fn find(&self, octets: &[u8], suffix: &Name<&[u8]>) -> Option<usize>
+        requires { ∥ IsSound spelling (known self.now octets.now) octets.now ∥₁ }
+        ensures { result ≡ place_in spelling (known self.now octets.now) (wire suffix.now) };
+
+    /// Returns whether a suffix may be remembered at the place, where so many more are.
+    fn may_stand(&self, more: usize, place: usize) -> bool
+        requires { more ≤ 255 }
+        ensures { (octets : List ℕ) → result ≡ may_stand spelling (length (known self.now octets) + more) place };
+
+    /// Returns whether any suffix may be remembered.
+    fn can_compress(&self) -> bool
+        ensures { result ≡ compresses spelling };
+
+    /// Remembers the suffixes of a name that begin with one of its first labels. The name is spelled from the place on and
+    /// stops at `stop`. Remembers none of them if it fails, which it does if out of memory.
+    fn remember(
+        &mut self,
+        octets: &[u8],
+        name: &Name<&[u8]>,
+        count: usize,
+        place: usize,
+        stop: usize,
+    ) -> Result<(), AllocError>
+        requires sound { ∥ IsSound spelling (known self.old octets.now ++ added spelling count place stop name.now) octets.now ∥₁ }
+        requires order { (standing : Standing) → IsKnown standing (known self.old octets.now) → standing.stop ≤ place }
+        requires room { place + length (wire name.now) < 2 ^ 64 }
+        requires behind { place < stop }
+        ensures ok { OnOk result (known self.new octets.now ≡ known self.old octets.now ++ added spelling count place stop name.now) }
+        ensures err { OnErr result ((others : List ℕ) → known self.new others ≡ known self.old others) };
+
+    /// Forgets the suffixes that stop behind the length.
+    fn forget(&mut self, len: usize)
+        ensures { (octets : List ℕ) → ∥ IsSound spelling (known self.old octets) octets ∥₁
+            → known self.new (take len octets) ≡ before len (known self.old octets) };
+
+    ghost steady: { (table : Self) (old new : List ℕ) → ∥ IsSound spelling (known table old) old ∥₁
+        → ∥ IsSound spelling (known table old) new ∥₁ → known table new ≡ known table old };
+}

@@ -1,0 +1,60 @@
+//! Tables of suffixes that are the same octet for octet.
+ghost use Rattle.std.specs.Prelude.{◌≡◌, [], refl};
+ghost use Rattle.dns_name.specs.Spelling.{tree_spelling};
+
+use crate::suffix_map::SuffixMap;
+use crate::table::Table;
+use dns_name::Name;
+use std::alloc::{AllocError, Global};
+
+/// Any number of suffixes, the same octet for octet.
+#[derive(Drop)]
+pub struct TreeTable {
+    suffixes: SuffixMap,
+}
+
+impl TreeTable {
+    /// Makes a table without suffixes, which grows on this allocator.
+    pub(crate) fn new(alloc: Global) -> Self
+        ensures { result.suffixes.written.items ≡ [] }
+    {
+        TreeTable {
+            suffixes: SuffixMap::new(alloc),
+        }
+    }
+}
+
+impl Table for TreeTable {
+    ghost spelling = { tree_spelling };
+
+    ghost known = { λ table _. table.suffixes.written.items };
+
+    fn find(&self, _octets: &[u8], suffix: &Name<&[u8]>) -> Option<usize> {
+        self.suffixes.place(suffix.as_slice())
+    }
+
+    fn may_stand(&self, _more: usize, place: usize) -> bool {
+        place < 16384
+    }
+
+    fn can_compress(&self) -> bool {
+        true
+    }
+
+    fn remember(
+        &mut self,
+        _octets: &[u8],
+        name: &Name<&[u8]>,
+        count: usize,
+        place: usize,
+        stop: usize,
+    ) -> Result<(), AllocError> {
+        self.suffixes.remember(name, count, place, stop)
+    }
+
+    fn forget(&mut self, len: usize) {
+        self.suffixes.cut(len);
+    }
+
+    ghost steady = { λ _ _ _ _ _. refl };
+}

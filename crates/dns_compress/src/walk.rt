@@ -1,0 +1,79 @@
+//! How much of a name is written by its labels.
+ghost use Rattle.std.specs.Prelude.{◌≡◌, ◌≤◌, ◌<◌, ◌+◌, ◌^◌, ◌&&◌, length, true};
+ghost use Rattle.dns_label.specs.Name.{wire};
+ghost use Rattle.dns_name.specs.Spelling.{is_near};
+ghost use Rattle.dns_name.specs.Remembered.{IsSound};
+ghost use Rattle.dns_compress.specs.Walk.{IsWalked};
+
+use crate::table::Table;
+use dns_name::Name;
+
+/// How a name is written: its first labels one by one, and then the rest of it or a pointer.
+#[derive(Clone, Copy)]
+pub(crate) struct Walk {
+    /// How many labels are written one by one, those of a rest in full not counted.
+    pub labels: usize,
+    /// How many octets these labels have with their lengths.
+    pub front: usize,
+    /// Whether a pointer reaches each of them.
+    pub near: bool,
+    /// Where the pointer leads, or None if the rest of the name is written in full.
+    pub target: Option<usize>,
+}
+
+impl Walk {
+    /// No label, and then the pointer or the whole name.
+    fn stop(target: Option<usize>) -> Self
+        ensures { result ≡ record { labels = 0; front = 0; near = true; target = target } }
+    {
+        Walk {
+            labels: 0,
+            front: 0,
+            near: true,
+            target,
+        }
+    }
+
+    /// A label of so many octets at the place, and then these.
+    fn after(self, len: usize, place: usize) -> Self
+        requires labels { self.labels < 2 ^ 63 }
+        requires front { len + self.front < 2 ^ 63 }
+        ensures { result ≡ record { labels = self.labels + 1; front = len + self.front; near = is_near place && self.near; target = self.target } }
+    {
+        Walk {
+            labels: self.labels + 1,
+            front: len + self.front,
+            near: place < 16384 && self.near,
+            target: self.target,
+        }
+    }
+}
+
+/// Walks over the labels of a name from the place on, up to a suffix that is remembered or cannot be.
+pub(crate) fn walk_labels<T: Table>(
+    table: &T,
+    octets: &[u8],
+    name: &Name<&[u8]>,
+    more: usize,
+    place: usize,
+) -> Walk
+    requires sound { ∥ IsSound T.spelling (T.known table.now octets.now) octets.now ∥₁ }
+    requires room { place + length (wire name.now) < 2 ^ 64 }
+    requires few { more + length (wire name.now) ≤ 255 }
+    ensures walked { IsWalked T.spelling (T.known table.now octets.now) (length (T.known table.now octets.now) + more) place name.now
+        result.labels result.front result.near result.target }
+    ensures labels { result.labels + more ≤ 255 }
+    ensures front { result.front ≤ length (wire name.now) }
+{
+    let Some((label, parent)) = name.split_first() else {
+        return Walk::stop(None); // no pointer leads to the root
+    };
+    if let Some(target) = table.find(octets, name) {
+        return Walk::stop(Some(target));
+    }
+    if !table.may_stand(more, place) {
+        return Walk::stop(None);
+    }
+    let len = 1 + label.len();
+    walk_labels(table, octets, &parent, more + 1, place + len).after(len, place)
+}
