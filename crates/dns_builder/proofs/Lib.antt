@@ -1,0 +1,17 @@
+pub mod Patches
+pub mod SameBehind
+pub mod Grown
+pub mod Counts
+pub mod Sections
+pub mod DraftPages
+pub mod NewHeader
+pub mod Pushes
+pub mod GoesBack
+pub mod GoesOn
+pub mod Nothing
+pub mod FreeHeader
+pub mod Cleared
+pub mod Shown
+pub mod Going
+pub mod Asking
+pub mod Begun

@@ -1,0 +1,66 @@
+-- What the calls of a builder make of its message.
+use Rattle.std.specs.Prelude.{⊤, true, ◌≡◌, ◌≤◌, ◌<◌, ◌+◌, ◌*◌, ℕ, zero, suc, List, [], ◌∷◌, ◌++◌, length}
+use Rattle.dns_octets.specs.Builder.{IsPast}
+use Rattle.dns_name.specs.Spelling.{Spelling}
+use Rattle.dns_name.specs.Page.{Parts, write}
+use Rattle.dns_header.specs.Header.{number_at}
+use Rattle.dns_header.specs.HeaderFields.{fields_of}
+use Rattle.dns_builder.specs.Built.{Built, Draft}
+use Rattle.dns_sections.specs.declared.error.PushError.{PushError}
+use Rattle.dns_sections.specs.declared.error.PushError.TheVariants.{ShortBuf, BadLength, LimitExceeded, CountOverflow, OutOfMemory}
+
+-- so many sections are begun: later ones are dropped, and missing ones are empty
+abbrev pub sections_to : ℕ → List (List Parts) → List (List Parts)
+sections_to zero sections = []
+sections_to (suc count) [] = [] ∷ sections_to count []
+sections_to (suc count) (items ∷ sections) = items ∷ sections_to count sections
+
+abbrev pub going_to : ℕ → Built → Built
+going_to count built = record { header = built.header; sections = sections_to count built.sections }
+
+-- an item more in the last section that is begun
+abbrev pub onto_last : List Parts → List (List Parts) → Parts → List (List Parts)
+onto_last items [] item = (items ++ item ∷ []) ∷ []
+onto_last items (next ∷ sections) item = items ∷ onto_last next sections item
+
+abbrev pub with_item : Built → Parts → Built
+with_item built item = record { header = built.header; sections = grown built.sections }
+  where
+    grown : List (List Parts) → List (List Parts)
+    grown [] = []
+    grown (items ∷ sections) = onto_last items sections item
+
+abbrev pub with_header : Built → List ℕ → Built
+with_header built header = record { header = header; sections = built.sections }
+
+-- the header of the other message says that it was truncated (TC, RFC 1035 4.1.1), and all else is the same
+pub record IsTruncated (built truncated : Built) : Type 0 where
+  pub header : fields_of truncated.header ≡ record (fields_of built.header) { tc = true }
+  pub sections : truncated.sections ≡ built.sections
+
+-- how long the message is with the item behind it
+abbrev pub length_with : Spelling → Draft → Parts → ℕ
+length_with s draft item = length (write s draft.page item).octets
+
+-- how many items a section has by the header
+abbrev pub counted_at : ℕ → Draft → ℕ
+counted_at number draft = number_at draft.page.octets (4 + 2 * number)
+
+-- An item is taken: the message is then shorter than its limit, and the section had fewer than 65,535.
+pub record IsTakenBy (s : Spelling) (number : ℕ) (draft : Draft) (item : Parts) : Type 0 where
+  pub short : length_with s draft item < draft.limit
+  pub few : counted_at number draft < 65535
+
+-- Why an item is refused: the target is full; data is longer than 65,535 octets; the message would be as long as its limit; or the
+-- section has 65,535 already. Out of memory is where a growth was refused.
+abbrev pub IsRefusedBy : Spelling → ℕ → Draft → Parts → Type 0 → PushError → Type 0
+IsRefusedBy s number draft item IsLong ShortBuf = IsPast draft.bound (length_with s draft item)
+IsRefusedBy s number draft item IsLong BadLength = IsLong
+IsRefusedBy s number draft item IsLong LimitExceeded = draft.limit ≤ length_with s draft item
+IsRefusedBy s number draft item IsLong CountOverflow = (length_with s draft item < draft.limit) × (counted_at number draft ≡ 65535)
+IsRefusedBy s number draft item IsLong OutOfMemory = ⊤
+
+-- the limits stay
+pub record KeepsLimits (old new : Draft) : Type 0 where
+  pub limit : new.limit ≡ old.limit
+  pub bound : new.bound ≡ old.bound

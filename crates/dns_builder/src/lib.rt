@@ -1,0 +1,18 @@
+//! Builders of messages: sections are begun one after another, and items are pushed into the last one (RFC 1035 4.1).
+//!
+//! A part of `dns_message`, which hands all of it on.
+#![tactic(auto)]
+
+mod builder;
+mod draft;
+mod item;
+mod section;
+
+pub use builder::{
+    AdditionalBuilder, AnswerBuilder, AuthorityBuilder, MessageBuilder, QuestionBuilder,
+    RecordSectionBuilder, SectionBuilder,
+};
+pub use section::{
+    Additionals, Answers, Authorities, BegunSection, BuilderSection, OtherThan, Questions,
+    RecordsSection, Start,
+};
