@@ -1,0 +1,37 @@
+//! Rows of the calls of `dns_builder` and `dns_compress`: what messages they build, and which pushes they refuse.
+//!
+//! A row lists steps. A refusal is written where its step stands, and the octets are written last.
+#![tactic(auto)]
+
+mod answers;
+mod builders;
+mod questions;
+mod records;
+mod stage;
+mod targets;
+
+use rows::{Answer, Calls, Row, RowError, answer_rows};
+use std::alloc::Global;
+use std::process::ExitCode;
+
+/// The calls of `dns_builder` and `dns_compress`.
+struct BuilderCalls;
+
+impl Calls for BuilderCalls {
+    fn answer(&self, alloc: Global, row: &mut Row<'_>, out: &mut Answer) -> Result<(), RowError> {
+        match row.call() {
+            "Compressor::append" => targets::append_to_compressor(alloc, row, out),
+            "StreamTarget::append" => targets::append_to_stream(alloc, row, out),
+            "MessageBuilder::build" => builders::build(alloc, row, out),
+            "MessageBuilder::start_answer" => answers::start_answer(alloc, row, out),
+            "MessageBuilder::start_error" => answers::start_error(alloc, row, out),
+            "QuestionBuilder::over_array" => questions::over_array(row, out),
+            "QuestionBuilder::over_vec" => questions::over_vec(alloc, row, out),
+            _ => Err(RowError::UnknownCall),
+        }
+    }
+}
+
+fn main(rt: HostRuntime) -> ExitCode {
+    answer_rows(&rt, &BuilderCalls)
+}
