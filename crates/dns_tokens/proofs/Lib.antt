@@ -1,0 +1,4 @@
+pub mod PlainOctets
+pub mod TokenRuns
+pub mod Steps
+pub mod Rows

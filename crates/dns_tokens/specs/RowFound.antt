@@ -1,0 +1,27 @@
+-- What stands at a place of a text (RFC 1035 5.1).
+use Rattle.std.specs.Prelude.{◌≡◌, ◌<◌, ◌≤◌, ℕ, Bool, true, false, List, All, drop, length, map}
+use Rattle.dns_scan.specs.Token.{Token}
+use Rattle.dns_text.specs.Rows.{is_led}
+use Rattle.dns_text.specs.Tokens.{Row, is_end}
+use Rattle.dns_tokens.specs.TokenSpan.{IsMarked, token_in}
+use Rattle.dns_tokens.specs.declared.token_span.TokenSpan.{TokenSpan}
+use Rattle.dns_tokens.specs.declared.row.RowFound.{RowFound}
+use Rattle.dns_tokens.specs.declared.row.RowFound.TheVariants.{Row as Found, End, Broken}
+
+-- the tokens of the spans are a row at the place, and the text goes on at the next place
+pub record IsRowAt (text : List ℕ) (place : ℕ) (spans : List TokenSpan) (next : ℕ) (led : Bool) : Type 0 where
+  pub row : Row false (drop place text) (map (λ span. token_in text span) spans) (drop next text)
+  pub marked : All (IsMarked text) spans
+  pub leads : led ≡ is_led (drop place text)
+  pub behind : place < next
+  pub within : next ≤ length text
+
+-- no row stands there
+abbrev pub NoRow : List ℕ → Type 0
+NoRow text = (tokens : List Token) (rest : List ℕ) → Row false text tokens rest → ⊥
+
+-- a row, the end of the text, or neither
+abbrev pub StandsAt : List ℕ → ℕ → List TokenSpan → RowFound → Type 0
+StandsAt text place spans (Found next led) = IsRowAt text place spans next led
+StandsAt text place spans End = is_end (drop place text) ≡ true
+StandsAt text place spans Broken = (is_end (drop place text) ≡ false) × NoRow (drop place text)

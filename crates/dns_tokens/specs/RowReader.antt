@@ -1,0 +1,12 @@
+-- What a reader of rows is seen as: a text, what is left of it, and whether that stands inside parentheses.
+use Rattle.std.specs.Prelude.{ℕ, Bool, List, drop}
+use Rattle.dns_tokens.specs.declared.row_reader.RowReader.{RowReader}
+
+abbrev pub text_of : RowReader → List ℕ
+text_of reader = reader.text.now
+
+abbrev pub left_of : RowReader → List ℕ
+left_of reader = drop reader.place reader.text.now
+
+abbrev pub is_inside : RowReader → Bool
+is_inside reader = reader.inside

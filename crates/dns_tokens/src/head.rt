@@ -1,0 +1,44 @@
+//! What an octet means between two tokens.
+ghost use Rattle.std.specs.Prelude.{◌≡◌};
+ghost use Rattle.dns_text.specs.Tokens.{head_of as spec_head_of};
+ghost use Rattle.dns_tokens.specs.Head.{head_in};
+
+/// What an octet means between two tokens, outside or inside parentheses.
+#[derive(Clone, Copy)]
+pub(crate) enum Head {
+    /// Nothing. Whether what follows stands inside parentheses.
+    Go(bool),
+    Comment,
+    Feed,
+    Quote,
+    Word,
+    /// It must not stand there.
+    Refused,
+}
+
+/// Returns what the octet means between two tokens.
+pub(crate) fn head_of(inside: bool, octet: u8) -> Head
+    ensures { spec_head_of inside octet ≡ head_in result }
+{
+    match octet {
+        b' ' | b'\t' | b'\r' => Head::Go(inside),
+        b'\n' => { if inside { Head::Go(true) } else { Head::Feed } }
+        b'(' => {
+            if inside {
+                Head::Refused
+            } else {
+                Head::Go(true)
+            }
+        }
+        b')' => {
+            if inside {
+                Head::Go(false)
+            } else {
+                Head::Refused
+            }
+        }
+        b';' => Head::Comment,
+        b'"' => Head::Quote,
+        _ => Head::Word,
+    }
+}

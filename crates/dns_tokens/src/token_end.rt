@@ -1,0 +1,50 @@
+//! Where tokens end: behind their longest run of symbols.
+ghost use Rattle.std.specs.Prelude.{◌≤◌, length, drop, IfSome, IfNone};
+ghost use Rattle.dns_tokens.specs.TokenEnd.{HasEscape, NoEscape, RunsTo};
+
+use crate::octets::plain_end;
+use dns_name::Symbol;
+
+/// The end of a token's text.
+#[derive(Clone, Copy)]
+pub(crate) struct TokenEnd {
+    /// The place behind its last octet.
+    pub(crate) place: usize,
+    /// Whether a backslash stands in it.
+    pub(crate) has_escape: bool,
+}
+
+/// Returns where the longest run of a token's symbols ends that begins at the place.
+pub(crate) fn token_end(text: &[u8], place: usize, quoted: bool) -> TokenEnd
+    requires { place ≤ length text.now }
+    ensures run { RunsTo quoted text.now place result }
+    ensures behind { place ≤ result.place }
+    ensures within { result.place ≤ length text.now }
+{
+    let mut end = plain_end(text, place, quoted);
+    let mut has_escape = false;
+    while let Some(behind) = escape_end(text, end) {
+        end = plain_end(text, behind, quoted);
+        has_escape = true;
+    }
+    TokenEnd {
+        place: end,
+        has_escape,
+    }
+}
+
+/// Returns the place behind the escape that begins at the place. None if no escape begins there.
+fn escape_end(text: &[u8], place: usize) -> Option<usize>
+    requires { place ≤ length text.now }
+    ensures found { IfSome result (λ end. HasEscape (drop place text.now) (drop end text.now)) }
+    ensures within { IfSome result (λ end. end ≤ length text.now) }
+    ensures none { IfNone result (NoEscape (drop place text.now)) }
+{
+    let here = &text[place..];
+    let (&first, _) = here.split_first()?;
+    if first != b'\\' {
+        return None;
+    }
+    let (_, behind) = Symbol::split_from(here)?;
+    Some(text.len() - behind.len())
+}
