@@ -1,4 +1,3 @@
-pub mod OneNameInText
 pub mod OneEntry
 pub mod RowFronts
 pub mod OneList

@@ -12,14 +12,14 @@ use Rattle.dns_fields.proofs.ScannedOnce.{data_scanned_once}
 use Rattle.dns_rdata.specs.Data.{Data, ScansAnyData, number_of}
 use Rattle.dns_rdata.proofs.PrintedData.{any_one}
 use Rattle.dns_header.specs.Record.{RecordOf}
-use Rattle.dns_zonefile.specs.NameInText.{SpellsUnder}
+use Rattle.dns_row_scanner.specs.NameInText.{SpellsUnder}
 use Rattle.dns_zonefile.specs.Entry.{Context, Directs, Entry, HasOwner, IsClass, IsDirectiveWord, IsEntry, IsResource, IsTtl, IsType, States}
 use Rattle.dns_zonefile.specs.Entry.Entry.{Include, Resource}
 use Rattle.dns_zonefile.specs.Entry.Directs.{origin, ttl, include, include_at}
 use Rattle.dns_zonefile.specs.Entry.States.{nothing, ttl as ttl_alone, class as class_alone, ttl_class, class_ttl}
 use Rattle.dns_zonefile.specs.Entry.HasOwner.{last, own}
 use Rattle.dns_zonefile.specs.Entry.IsEntry.{directive, resource}
-use Rattle.dns_zonefile.proofs.OneNameInText.{one_under}
+use Rattle.dns_row_scanner.proofs.OneNameInText.{one_under}
 
 text_of : {text text' : List ℕ} → unquoted text ≡ unquoted text' → text ≡ text'
 text_of same = ap (λ (t : Token). t.text) same

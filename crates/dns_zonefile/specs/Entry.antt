@@ -8,7 +8,7 @@ use Rattle.dns_scan.specs.Token.{Token, IsWord, SpellsOctets, unquoted}
 use Rattle.dns_text.specs.Rows.{TokenRow}
 use Rattle.dns_rdata.specs.Data.{Data, ScansAnyData, number_of}
 use Rattle.dns_header.specs.Record.{RecordOf}
-use Rattle.dns_zonefile.specs.NameInText.{SpellsUnder}
+use Rattle.dns_row_scanner.specs.NameInText.{SpellsUnder}
 
 -- What the rows before have set: the origin, the last owner, the value of `$TTL`, the last TTL that was stated, and the class.
 pub record Context : Type 0 where

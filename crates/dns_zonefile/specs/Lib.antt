@@ -1,4 +1,3 @@
 pub mod PlainRow
-pub mod NameInText
 pub mod Entry
 pub mod Entries

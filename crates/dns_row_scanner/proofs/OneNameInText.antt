@@ -6,8 +6,8 @@ use Rattle.dns_label.specs.NameText.IsAbsoluteText.{root, labels as dotted}
 use Rattle.dns_wire.proofs.Parts.{parts_one}
 use Rattle.dns_wire.proofs.Wire.{last_same}
 use Rattle.dns_name.proofs.OneName.{one_absolute, last_dot_apart}
-use Rattle.dns_zonefile.specs.NameInText.{SpellsUnder}
-use Rattle.dns_zonefile.specs.NameInText.SpellsUnder.{at, absolute, relative}
+use Rattle.dns_row_scanner.specs.NameInText.{SpellsUnder}
+use Rattle.dns_row_scanner.specs.NameInText.SpellsUnder.{at, absolute, relative}
 
 same_parts : {text : List ℕ} {parts others : List (List ℕ)} → HasParts text parts → HasParts text others → parts ≡ others
 same_parts {parts = parts} {others = others} has other =

@@ -1,0 +1,2 @@
+pub mod NameInText
+pub mod EntryError

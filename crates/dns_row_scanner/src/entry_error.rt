@@ -1,0 +1,62 @@
+//! Why a row of a zone file is no entry.
+use dns_scan::ScannerError;
+use thiserror::Error;
+
+/// Why the tokens of a row are no entry of a zone file.
+#[derive(Clone, Copy, Debug, PartialEq, Eq, Error)]
+pub enum EntryError {
+    /// A token is none of those that may stand there.
+    #[error("{0}")]
+    Custom(&'static str),
+    /// A token is missing at the row's end.
+    #[error("unexpected end of entry")]
+    EndOfEntry,
+    /// Tokens are left behind the entry.
+    #[error("trailing tokens")]
+    TrailingTokens,
+    /// Out of memory.
+    #[error("out of memory")]
+    OutOfMemory,
+}
+
+impl ScannerError for EntryError {
+    ghost use Rattle.std.specs.Prelude.{◌≡◌, true, false};
+    ghost use Rattle.dns_row_scanner.specs.EntryError.{is_memory, is_end};
+    ghost use Rattle.dns_row_scanner.specs.declared.entry_error.EntryError.TheVariants.{Custom, EndOfEntry, OutOfMemory, TrailingTokens};
+
+    ghost is_short = { is_memory };
+
+    ghost is_end = { is_end };
+
+    fn custom(message: &'static str) -> Self
+        ensures short { is_memory result ≡ false }
+        ensures end { is_end result ≡ false }
+        ensures is { result ≡ Custom message.entry }
+    {
+        EntryError::Custom(message)
+    }
+
+    fn end_of_entry() -> Self
+        ensures short { is_memory result ≡ false }
+        ensures end { is_end result ≡ true }
+        ensures is { result ≡ EndOfEntry }
+    {
+        EntryError::EndOfEntry
+    }
+
+    fn short_buf() -> Self
+        ensures short { is_memory result ≡ true }
+        ensures end { is_end result ≡ false }
+        ensures is { result ≡ OutOfMemory }
+    {
+        EntryError::OutOfMemory
+    }
+
+    fn trailing_tokens() -> Self
+        ensures short { is_memory result ≡ false }
+        ensures end { is_end result ≡ false }
+        ensures is { result ≡ TrailingTokens }
+    {
+        EntryError::TrailingTokens
+    }
+}

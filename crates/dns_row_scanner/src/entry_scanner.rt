@@ -1,0 +1,12 @@
+//! Scanners that tell quoted tokens from others.
+ghost use Rattle.std.specs.Prelude.{◌≡◌, ◌∷◌, List, true, IsTrue, ◌↔◌};
+ghost use Rattle.dns_scan.specs.Token.{Token, Takes};
+
+use dns_scan::Scanner;
+
+/// A scanner over the tokens of a row that tells whether a token is quoted.
+pub trait EntryScanner: Scanner {
+    /// Returns whether there is a next token and it is quoted.
+    fn next_is_quoted(&self) -> bool
+        ensures { IsTrue result ↔ ((left : List Token) × Takes (λ token. token.quoted ≡ true) (Self.tokens self.now) left) };
+}
