@@ -127,7 +127,7 @@ module _ (names : List ℕ → List (List ℕ) → Type 0) (one : SpellOne names
       of_rest64 (λ f. ScansField names f tokens rest → rest64 octets ≡ f) other
       (λ others also. ap rest64 (decoded_one SixtyFour tokens scans.0 also.0 octets others scans.1 scans.2 also.1 also.2)) same
 
-  row_one : (row other : List Field) (tokens left rest : List Token) → map kind_of other ≡ map kind_of row → ScansRow names row tokens left
+  pub row_one : (row other : List Field) (tokens left rest : List Token) → map kind_of other ≡ map kind_of row → ScansRow names row tokens left
       → ScansRow names other tokens rest → (row ≡ other) × (left ≡ rest)
   row_one [] [] tokens left rest same scans also = (refl, scans ∙ sym also)
   row_one [] (other ∷ others) tokens left rest same scans also = absurd cc
