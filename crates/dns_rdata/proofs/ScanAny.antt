@@ -25,7 +25,7 @@ none_untyped names rtype tokens none (untyped unknown) left scans =
 pub none_typed : (names : List ℕ → List (List ℕ) → Type 0) (rtype n : ℕ) (tokens : List Token) → rtype ≡ n → IsUnmarked tokens
     → NoDataScans names n tokens → NoAnyDataScans names rtype tokens
 none_typed names rtype n tokens is unmarked none fits (typed number row) left scans =
-    none (λ long. fits (subst (λ n. ScansLong names n tokens) (sym is) long)) row left (subst (λ n. ScansData names n row tokens left) is scans.2)
+    none (λ long. fits unmarked (subst (λ n. ScansLong names n tokens) (sym is) long)) row left (subst (λ n. ScansData names n row tokens left) is scans.2)
 none_typed names rtype n tokens is unmarked none fits (untyped unknown) left scans = unmarked scans.1 scans.2
 
 pub same_back : (old new : List ℕ → List (List ℕ) → Type 0) → SameNames old new → SameNames new old
@@ -90,7 +90,8 @@ err_same (Ok rdata) Other old new same rtype before after is none = tt
 err_same (Err error) Other old new same rtype before after is none =
     λ other fits rdata left scans.
     none other
-    (λ long. fits (long_same new old (same_back old new same) rtype before (subst (λ tokens. ScansLong new rtype tokens) (sym is) long)))
+    (λ unmarked long. fits (λ words marked. unmarked words (sym is ∙ marked))
+    (long_same new old (same_back old new same) rtype before (subst (λ tokens. ScansLong new rtype tokens) (sym is) long)))
     rdata left (text_same old new same rtype before after is rdata left scans)
 
 pub left_behind_marker : {T E : Type 0} (result : Result T E) (before tokens left : List Token) → before ≡ marker ∷ tokens

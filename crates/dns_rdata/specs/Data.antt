@@ -92,10 +92,11 @@ ScansAnyData names rtype (untyped unknown) tokens left =
     (unknown.number ≡ rtype) × (words : List Token) × (tokens ≡ marker ∷ words) × IsUnknownData words unknown.octets
     × (left ≡ [])
 
--- If the tokens begin with no text of its fields that has too many octets, they begin with none of data of the type.
+-- If the tokens do not begin with a text of its fields that has too many octets, they begin with none of data of the type. Where the
+-- first one marks untyped data, there are no fields.
 abbrev pub NoAnyDataScans : (List ℕ → List (List ℕ) → Type 0) → ℕ → List Token → Type 0
 NoAnyDataScans names rtype tokens =
-    (ScansLong names rtype tokens → ⊥) → (rdata : Data) (left : List Token) → ScansAnyData names rtype rdata tokens left → ⊥
+    (IsUnmarked tokens → ScansLong names rtype tokens → ⊥) → (rdata : Data) (left : List Token) → ScansAnyData names rtype rdata tokens left → ⊥
 
 -- how the data is printed
 abbrev pub document_of : Data → List Piece
