@@ -35,6 +35,7 @@ impl Calls for MessageCalls {
             "OptHeader" => options::answer_header(row, out),
             "OptRecord" => options::answer_record(alloc, row, out),
             "Question" => questions::answer(alloc, row, out),
+            "QuestionSection" => questions::answer_section(alloc, row, out),
             "Record" => records::answer(alloc, row, out),
             "RecordHeader" => parsed::answer_header(alloc, row, out),
             _ => parsed::answer(alloc, row, out),

@@ -1,7 +1,7 @@
 //! Questions (RFC 1035 4.1.2).
 use crate::parsed::{at_place, name_of};
 use crate::records::hash_of;
-use dns_message::Question;
+use dns_message::{Message, Question};
 use dns_name::{CanonicalOrd, Name, ToName};
 use rows::{Answer, Row, RowError};
 use std::alloc::Global;
@@ -78,4 +78,17 @@ fn answer_parser(alloc: Global, row: &mut Row<'_>, out: &mut Answer) -> Result<(
         }
     }
     out.shown(&parser.pos())
+}
+
+/// Answers whether two messages ask the same questions.
+pub fn answer_section(alloc: Global, row: &mut Row<'_>, out: &mut Answer) -> Result<(), RowError> {
+    let octets = row.octets(alloc)?;
+    let others = row.octets(alloc)?;
+    let Ok(message) = Message::from_slice(octets.as_slice()) else {
+        return Err(RowError::BadWord);
+    };
+    let Ok(other) = Message::from_slice(others.as_slice()) else {
+        return Err(RowError::BadWord);
+    };
+    out.shown(&(message.question() == other.question()))
 }

@@ -1,12 +1,13 @@
 -- Records that are gone over and copied, one after another.
-use Rattle.std.proofs.Common.{◌≡◌, ◌∙◌, ◌-◌, ℕ, List, [], ◌∷◌, ◌++◌, Some, Ok, Err, IfErr, ap, subst, sym}
+use Rattle.std.proofs.lemmas.Fn.{FoldsTo-push}
+use Rattle.std.proofs.Common.{◌≡◌, ◌∙◌, ◌-◌, ℕ, List, [], ◌∷◌, ◌++◌, Some, Ok, Err, IfErr, refl, ap, subst, sym}
 use Rattle.std.specs.List.{FoldsTo}
 use Rattle.std.specs.Prelude.{Option, Result}
 use Rattle.std.specs.Result.{IsErrAnd}
 use Rattle.dns_octets.specs.declared.error.ParseError.{ParseError}
 use Rattle.dns_header.specs.ParsedRecord.{Parsed}
 use Rattle.dns_header.specs.Written.{Written}
-use Rattle.dns_sections.specs.Copied.{HasUnread, Pushes, CopiesOne, CopiesSection, Tells}
+use Rattle.dns_sections.specs.Copied.{Pushes, CopiesOne, CopiesFirst, CopiesSection}
 use Rattle.dns_sections.specs.Cursor.{Cursor, IsSpent}
 use Rattle.dns_sections.specs.Given.{GivesRecord, GoesOver}
 use Rattle.dns_sections.specs.Sections.{SectionCursor, IsSectionOf}
@@ -38,35 +39,32 @@ all-gone {new = new} over left is spent =
     of_left result n same spent =
         subst (λ (r : Result ℕ ParseError). IsSpent (record { message = []; place = 0; left = r })) same spent
 
--- the records of a section that was reached, all of them copied
-pub section-copied : {Op Item Target : Type 0} {asks : Op → Parsed → Option Item → Op → Type 0} {written : Item → Written}
-    {pushes : Pushes Target} {message : List ℕ} {section : Section} {at : SectionCursor} {old new : Op × Target}
-    → IsSectionOf message section at → (records : List Parsed) × (end : Cursor) × GoesOver at.cursor records end × IsSpent end
-    × FoldsTo (CopiesOne asks written pushes) old records new → CopiesSection asks written pushes message section old new
-section-copied {at = at} is (records, end, goes, spent, copies) = record {
-  records = records;
-  has = record {
+module _ {Op Item Target : Type 0} {asks : Op → Parsed → Option Item → Op → Type 0} {written : Item → Written} {pushes : Pushes Target} where
+  -- nothing is copied yet
+  pub none-copied : (from : Cursor) (state : Op × Target) → CopiesFirst asks written pushes from state state from
+  none-copied from state = record { records = []; goes = GoesOver.here; copies = refl }
+
+  -- one more is copied behind those that are
+  pub one-copied : {from behind new : Cursor} {old mid next : Op × Target} {parsed : Parsed} → CopiesFirst asks written pushes from old mid behind
+      → GivesRecord behind (Some (Ok parsed)) new → CopiesOne asks written pushes mid parsed next
+      → CopiesFirst asks written pushes from old next new
+  one-copied {old = old} {mid = mid} {next = next} {parsed = parsed} first gives copies = record {
+    records = first.records ++ parsed ∷ [];
+    goes = goes-behind first.goes gives;
+    copies = FoldsTo-push (CopiesOne asks written pushes) old first.records mid parsed next first.copies copies;
+  }
+
+  -- the records of a section that was reached, all of them copied
+  pub section-copied : {message : List ℕ} {section : Section} {at : SectionCursor} {old new : Op × Target} → IsSectionOf message section at
+      → (behind : Cursor) × IsSpent behind × CopiesFirst asks written pushes at.cursor old new behind
+      → CopiesSection asks written pushes message section old new
+  section-copied {at = at} is (behind, spent, copies) = record {
     at = at;
     is_section = is;
-    new = end;
-    goes = goes;
-    all = all-gone goes _ (ap (λ (s : SectionCursor). s.cursor.left) is.is) spent;
-  };
-  copies = copies;
-}
-
--- a record of a section that was reached, which does not read
-pub section-unread : {message : List ℕ} {section : Section} {at : SectionCursor} → IsSectionOf message section at → (error : ParseError)
-    → (records : List Parsed) × (mid : Cursor) × (new : Cursor) × GoesOver at.cursor records mid × GivesRecord mid (Some (Err error)) new
-    → (section : Section) × HasUnread message section error
-section-unread {section = section} is error (records, mid, new, goes, gives) = (section, HasUnread.unread is goes gives)
-
--- an error that tells more
-pub tells-more : {Source Source' : ParseError → Type 0} {Target Target' : PushError → Type 0} (error : CopyRecordsError)
-    → ((e : ParseError) → Source e → Source' e) → ((e : PushError) → Target e → Target' e) → Tells Source Target error
-    → Tells Source' Target' error
-tells-more (copy.Parse error) of_source of_target tells = of_source error tells
-tells-more (copy.Push error) of_source of_target tells = of_target error tells
+    behind = behind;
+    copies = copies;
+    all = all-gone copies.goes _ (ap (λ (s : SectionCursor). s.cursor.left) is.is) spent;
+  }
 
 -- an error that is handed on
 pub handed-on : {A E : Type 0} (result : Result A E) (error : E) (Holds : E → Type 0) → IsErrAnd result (λ e. e ≡ error) → Holds error

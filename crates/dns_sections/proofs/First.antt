@@ -2,12 +2,12 @@
 use Rattle.std.proofs.Common.{◌≡◌, ◌∙◌, ◌+◌, ℕ, List, Some, None, Ok, Err, ap, subst, sym, arith}
 use Rattle.std.specs.Prelude.{Result, IfErr}
 use Rattle.dns_octets.specs.declared.error.ParseError.{ParseError}
-use Rattle.dns_label.proofs.Spelling.{reads_one}
-use Rattle.dns_header.specs.Header.{number_at, question_count}
-use Rattle.dns_header.specs.Question.{Question, ReadsQuestion}
+use Rattle.dns_header.specs.Header.{question_count}
+use Rattle.dns_header.specs.Question.{Question}
 use Rattle.dns_sections.specs.Cursor.{Cursor}
 use Rattle.dns_sections.specs.Given.{GivesQuestion, seen}
 use Rattle.dns_sections.specs.Questions.{first_question}
+use Rattle.dns_sections.specs.QuestionsLeft.{question-one}
 use Rattle.dns_sections.specs.Asked.{IsFirstQuestion, HasNoSoleQuestion}
 
 module _ (message : List ℕ) (at new : Cursor) (is : at ≡ first_question message) where
@@ -38,15 +38,6 @@ module _ (message : List ℕ) (at new : Cursor) (is : at ≡ first_question mess
   sole-bad view (Ok question) one gives = _
   sole-bad view (Err error) one gives =
       let refused = subst (λ (c : Cursor). GivesQuestion c (Some (Err error)) new) is gives in HasNoSoleQuestion.unread one refused.2
-
--- one question stands at a place
-pub question-one : {message : List ℕ} {place next end : ℕ} {question other : Question} → ReadsQuestion message place question next
-    → ReadsQuestion message place other end → (question ≡ other) × (next ≡ end)
-question-one {message} {question = question} {other = other} reads others =
-    let one = reads_one reads.name others.name in
-    let qtype : question.qtype ≡ other.qtype = reads.qtype ∙ ap (number_at message) one.1 ∙ sym others.qtype in
-    let qclass : question.qclass ≡ other.qclass = reads.qclass ∙ ap (λ n. number_at message (n + 2)) one.1 ∙ sym others.qclass in
-    (λ i. record { name = one.0 i; qtype = qtype i; qclass = qclass i }, reads.ends ∙ ap (λ n. n + 4) one.1 ∙ sym others.ends)
 
 -- a message has one first question
 pub first-one : (message : List ℕ) (question other : Question) → IsFirstQuestion message question → IsFirstQuestion message other → question ≡ other

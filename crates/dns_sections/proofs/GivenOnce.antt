@@ -10,7 +10,7 @@ use Rattle.dns_header.specs.Record.{RecordOf}
 use Rattle.dns_header.proofs.Heads.{heads_one}
 use Rattle.dns_sections.specs.Cursor.{Cursor}
 use Rattle.dns_sections.specs.Given.{GivesRecord, GoesOver, IsGivenAs, GivesAsked}
-use Rattle.dns_sections.proofs.OneStep.{given-one, given-some, given-bad, given-read}
+use Rattle.dns_sections.specs.OneStep.{given-one, given-some, given-bad, given-read}
 
 -- records with the same head, whose data stand at the same place of the same octets
 pub record SayTheSame (parsed other : Parsed) : Type 0 where

@@ -6,7 +6,6 @@ pub mod All
 pub mod First
 pub mod Written
 pub mod Last
-pub mod OneStep
 pub mod SameQuestions
 pub mod Copies
 pub mod FirstGiven

@@ -1,10 +1,10 @@
 -- Cursors that have the same questions left.
-use Rattle.std.proofs.Common.{◌≡◌, ◌∙◌, ◌+◌, ◌<◌, ◌-◌, ℕ, suc, Bool, true, false, List, [], ◌∷◌, Some, None, Ok, Err, length, refl, ap, subst, sym, arith}
+use Rattle.std.proofs.Common.{◌≡◌, ◌∙◌, ◌+◌, ◌<◌, ◌-◌, ℕ, suc, Bool, true, false, List, [], ◌∷◌, Some, None, Ok, Err, length, refl, ap, sym, arith}
 use Rattle.std.specs.Cmp.{first_so, second_so}
 use Rattle.std.specs.Cmp.Derive.{both_true}
 use Rattle.std.specs.Cmp.Lexicographic.{pointwise, as_long}
 use Rattle.std.proofs.lemmas.Bool.{false≢true}
-use Rattle.std.specs.Prelude.{Result, not}
+use Rattle.std.specs.Prelude.{not}
 use Rattle.dns_octets.specs.declared.error.ParseError.{ParseError}
 use Rattle.dns_header.specs.Question.{Question, ReadsQuestion}
 use Rattle.dns_header.specs.QuestionOrder.{questions_eq}
@@ -12,8 +12,8 @@ use Rattle.dns_sections.specs.Answers.{HasQuestions, AskTheSame}
 use Rattle.dns_sections.specs.Cursor.{Cursor}
 use Rattle.dns_sections.specs.Given.{GivesQuestion}
 use Rattle.dns_sections.specs.Questions.{NoQuestion, QuestionIsCut}
-use Rattle.dns_sections.proofs.First.{question-one}
-use Rattle.dns_sections.proofs.OneStep.{given-one, given-some, given-read}
+use Rattle.dns_sections.specs.QuestionsLeft.{begin}
+use Rattle.dns_sections.specs.OneStep.{given-some, given-read}
 
 -- no question is given where the cursor gives none
 pub none-given : (old new behind : Cursor) (question : Question) → GivesQuestion old None new → GivesQuestion old (Some (Ok question)) behind → ⊥
@@ -34,23 +34,6 @@ left-length (HasQuestions.more {new = new} {others = others} gives rest) =
     let less : length others ≡ gives.0 - 1 = cc in
     let all : gives.0 ≡ suc (length others) = omega (arith, less, gives.1.1) in
     gives.1.0 ∙ ap (λ n. Ok n) all
-
--- questions that begin with one, and the others, which a cursor has left
-record BeginWith (question : Question) (behind : Cursor) (questions : List Question) : Type 0 where
-  others : List Question
-  is : questions ≡ question ∷ others
-  left : HasQuestions behind others
-
-begin : {old behind : Cursor} {question : Question} {questions : List Question} → GivesQuestion old (Some (Ok question)) behind
-    → HasQuestions old questions → BeginWith question behind questions
-begin gives (HasQuestions.none left) =
-    let zero : gives.0 ≡ 0 = cc (gives.1.0, left) in absurd (omega (arith, zero, gives.1.1))
-begin {old} {behind} {question} gives (HasQuestions.more {new = new} {question = other} {others = others} first rest) =
-    let one = given-one ReadsQuestion NoQuestion QuestionIsCut (λ q r. q ≡ r) (λ message place next end q r reads others. question-one reads others) old behind new question other gives first in record {
-      others = others;
-      is = ap (λ q. q ∷ others) (sym one.0);
-      left = subst (λ c. HasQuestions c others) (sym one.1) rest;
-    }
 
 -- a question is given where one is left
 some-given : {cursor : Cursor} {left : ℕ} {questions : List Question} → cursor.left ≡ Ok left → 0 < left → HasQuestions cursor questions

@@ -11,3 +11,8 @@ pub mod Aliases
 pub mod Copied
 pub mod Refused
 pub mod Options
+pub mod OneStep
+pub mod QuestionsLeft
+pub mod Decision
+pub mod DecidedNames
+pub mod DecidedQuestions

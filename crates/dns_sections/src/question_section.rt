@@ -2,6 +2,8 @@
 ghost use Rattle.std.specs.Prelude.{◌≡◌, ◌≤◌, ℕ, true, false, Some, Ok, Err, IfSome, IfNone, MatchResult, length};
 ghost use Rattle.dns_octets.specs.Parser.{octets_of};
 
+mod order;
+
 use crate::cursor::ItemCursor;
 use crate::{RecordSection, Section};
 use dns_header::{HeaderCounts, Question};

@@ -1,13 +1,9 @@
 //! Copying records from a message.
-ghost use Rattle.std.specs.Prelude.{◌⊎◌, List, Some, Err, IfOk, IfErr, OnOk};
-ghost use Rattle.std.specs.List.{FoldsTo};
-ghost use Rattle.dns_header.specs.ParsedRecord.{Parsed};
-ghost use Rattle.dns_sections.specs.Copied.{CopiesOne, CopiesSection, HasUnread, RefusesOne, Tells};
+ghost use Rattle.std.specs.Prelude.{IfOk, IfErr, OnOk};
+ghost use Rattle.dns_sections.specs.Copied.{CopiesFirst, CopiesSection, Stops, StopsAt};
 ghost use Rattle.dns_sections.specs.Cursor.{Cursor, IsSpent};
-ghost use Rattle.dns_sections.specs.Given.{GivesRecord, GoesOver};
 ghost use Rattle.dns_sections.specs.Message.{octets_in};
 ghost use Rattle.dns_sections.specs.Seen.{records_at};
-ghost use Rattle.dns_sections.specs.declared.section.Section as spec;
 ghost use Rattle.dns_sections.specs.declared.section.Section.TheVariants.{Answer, Authority, Additional};
 
 use crate::{CopyRecordsError, Message, RecordSection, RecordTarget};
@@ -24,7 +20,8 @@ impl<Octs: Octets> Message<Octs> {
     /// Copies the records of the three sections into a target, section by section and in their order (RFC 1035 4.1).
     ///
     /// For each record `op` answers what is pushed to the target, or None for nothing. Returns the target of the last section. Fails
-    /// with `Parse` if a question cannot be passed or a record does not read, and with `Push` if the target refuses what is pushed.
+    /// with `Parse` if a section cannot be reached or a record does not parse, and with `Push` if the target refuses what is pushed:
+    /// with whichever comes first, after everything before it is copied.
     pub fn copy_records<'s, T, R, F>(
         &'s self,
         target: T,
@@ -43,11 +40,8 @@ impl<Octs: Octets> Message<Octs> {
             × CopiesSection F.step R.written T.Next.pushes (octets_in Octs.list self.now) Authority (op1, two) (op2, begun)
             × T.Next.leads_to begun three
             × CopiesSection F.step R.written T.Next.Next.pushes (octets_in Octs.list self.now) Additional (op2, three) (op3, copied)) }
-        ensures err { IfErr result (Tells
-            (λ error. (section : spec.Section) × HasUnread (octets_in Octs.list self.now) section error)
-            (λ error. RefusesOne F.step R.written T.pushes error
-            ⊎ (RefusesOne F.step R.written T.Next.pushes error
-            ⊎ RefusesOne F.step R.written T.Next.Next.pushes error))) }
+        ensures err { IfErr result (Stops F.step R.written T.pushes T.leads_to T.Next.pushes T.Next.leads_to T.Next.Next.pushes
+            (octets_in Octs.list self.now) (op, target)) }
     {
         let mut target = target;
         let answer = self.answer()?;
@@ -74,12 +68,9 @@ where
     F: FnMut(ParsedRecord<'a>) -> Option<R>,
     requires { F.IsAlwaysCallable op.old }
     ensures callable { F.IsAlwaysCallable op.new }
-    ensures ok { OnOk result ((records : List Parsed) × (new : Cursor) × GoesOver (records_at section.entry).cursor records new
-        × IsSpent new × FoldsTo (CopiesOne F.step R.written T.pushes) (op.old, target.old) records (op.new, target.new)) }
-    ensures err { IfErr result (Tells
-        (λ error. (records : List Parsed) × (mid : Cursor) × (new : Cursor) × GoesOver (records_at section.entry).cursor records mid
-        × GivesRecord mid (Some (Err error)) new)
-        (RefusesOne F.step R.written T.pushes)) }
+    ensures ok { OnOk result ((new : Cursor) × IsSpent new
+        × CopiesFirst F.step R.written T.pushes (records_at section.entry).cursor (op.old, target.old) (op.new, target.new) new) }
+    ensures err { IfErr result (StopsAt F.step R.written T.pushes (records_at section.entry).cursor (op.old, target.old)) }
 {
     while let Some(record) = section.next() {
         if let Some(copy) = op(record?) {

@@ -1,40 +1,41 @@
-use Rattle.std.proofs.Common.{Ok, Err, inl, inr, refl, ap}
-use Rattle.dns_sections.specs.Copied.{HasUnread}
+use Rattle.std.proofs.Common.{refl, ap}
+use Rattle.dns_sections.specs.Copied.{StopsIn, Stops}
 use Rattle.dns_sections.specs.Message.{octets_in}
 use Rattle.dns_sections.specs.Sections.{IsSectionOf, following}
 use Rattle.dns_sections.specs.Seen.{records_at}
 use Rattle.dns_sections.specs.declared.error.CopyRecordsError.TheVariants.{Parse}
 use Rattle.dns_sections.specs.declared.section.Section.TheVariants.{Answer, Authority, Additional}
-use Rattle.dns_sections.proofs.Copies.{handed-on, section-copied, section-unread, tells-more}
+use Rattle.dns_sections.proofs.Copies.{handed-on, section-copied}
 use Rattle.dns_sections.proofs.Reached.{section-on, section-stuck}
 use Rattle.dns_sections.proofs.message.Message.copy_records.Goals as goal
 
 pub returns-in_err-answer-clause-err : goal.returns-in_err-answer-clause-err
 returns-in_err-answer-clause-err g c =
     handed-on c.from_residual.result (Parse c.in_err-answer.field-0.0) _ c.from_residual.ensures.1
-    (Answer, HasUnread.out_of_reach c.in_err-answer.ensures)
+    (Stops.in_answer (StopsIn.out_of_reach c.in_err-answer.ensures))
 
 pub returns-in_err-copy_section-clause-err : goal.returns-in_err-copy_section-clause-err
 returns-in_err-copy_section-clause-err g c =
     let first : IsSectionOf (octets_in g.Octs.Octets.list c.args.self.now) Answer (records_at c.in_ok-answer.answer) = c.in_ok-answer.ensures in
-    let error = c.in_err-copy_section.field-0.0 in
-    handed-on c.from_residual-in_err-copy_section.result error _ c.from_residual-in_err-copy_section.ensures.1
-    (tells-more error (section-unread first) (λ e refused. inl refused) c.in_err-copy_section.ensures.err)
+    handed-on c.from_residual-in_err-copy_section.result c.in_err-copy_section.field-0.0 _ c.from_residual-in_err-copy_section.ensures.1
+    (Stops.in_answer (StopsIn.stopped first c.in_err-copy_section.ensures.err))
 
 pub returns-in_err-authority-clause-err : goal.returns-in_err-authority-clause-err
 returns-in_err-authority-clause-err g c =
     let first : IsSectionOf (octets_in g.Octs.Octets.list c.args.self.now) Answer (records_at c.in_ok-answer.answer) = c.in_ok-answer.ensures in
     handed-on c.from_residual-in_err-authority.result (Parse c.in_err-authority.field-0.0) _ c.from_residual-in_err-authority.ensures.1
-    (Authority, HasUnread.out_of_reach (section-stuck refl first c.in_err-authority.ensures))
+    (Stops.in_authority (section-copied first c.in_ok-copy_section.ensures.ok) c.into_next-target.ensures
+    (StopsIn.out_of_reach (section-stuck refl first c.in_err-authority.ensures)))
 
 pub returns-in_err-copy_section-2-clause-err : goal.returns-in_err-copy_section-2-clause-err
 returns-in_err-copy_section-2-clause-err g c =
-    let error = c.in_err-copy_section-2.field-0.0 in
     let first : IsSectionOf (octets_in g.Octs.Octets.list c.args.self.now) Answer (records_at c.in_ok-answer.answer) = c.in_ok-answer.ensures in
     let second : IsSectionOf (octets_in g.Octs.Octets.list c.args.self.now) Authority (records_at c.in_ok-authority.authority) =
     section-on refl first c.in_ok-authority.ensures in
-    handed-on c.from_residual-in_err-copy_section-2.result error _ c.from_residual-in_err-copy_section-2.ensures.1
-    (tells-more error (section-unread second) (λ e refused. inr (inl refused)) c.in_err-copy_section-2.ensures.err)
+    handed-on c.from_residual-in_err-copy_section-2.result c.in_err-copy_section-2.field-0.0 _
+    c.from_residual-in_err-copy_section-2.ensures.1
+    (Stops.in_authority (section-copied first c.in_ok-copy_section.ensures.ok) c.into_next-target.ensures
+    (StopsIn.stopped second c.in_err-copy_section-2.ensures.err))
 
 pub following-requires-2 : goal.following-requires-2
 following-requires-2 g c =
@@ -49,18 +50,22 @@ returns-in_err-additional-clause-err g c =
     let second : IsSectionOf (octets_in g.Octs.Octets.list c.args.self.now) Authority (records_at c.in_ok-authority.authority) =
     section-on refl first c.in_ok-authority.ensures in
     handed-on c.from_residual-in_err-additional.result (Parse c.in_err-additional.field-0.0) _ c.from_residual-in_err-additional.ensures.1
-    (Additional, HasUnread.out_of_reach (section-stuck refl second c.in_err-additional.ensures))
+    (Stops.in_additional (section-copied first c.in_ok-copy_section.ensures.ok) c.into_next-target.ensures
+    (section-copied second c.in_ok-copy_section-2.ensures.ok) c.into_next-target-2.ensures
+    (StopsIn.out_of_reach (section-stuck refl second c.in_err-additional.ensures)))
 
 pub returns-in_err-copy_section-3-clause-err : goal.returns-in_err-copy_section-3-clause-err
 returns-in_err-copy_section-3-clause-err g c =
-    let error = c.in_err-copy_section-3.field-0.0 in
     let first : IsSectionOf (octets_in g.Octs.Octets.list c.args.self.now) Answer (records_at c.in_ok-answer.answer) = c.in_ok-answer.ensures in
     let second : IsSectionOf (octets_in g.Octs.Octets.list c.args.self.now) Authority (records_at c.in_ok-authority.authority) =
     section-on refl first c.in_ok-authority.ensures in
     let third : IsSectionOf (octets_in g.Octs.Octets.list c.args.self.now) Additional (records_at c.in_ok-additional.additional) =
     section-on refl second c.in_ok-additional.ensures in
-    handed-on c.from_residual-in_err-copy_section-3.result error _ c.from_residual-in_err-copy_section-3.ensures.1
-    (tells-more error (section-unread third) (λ e refused. inr (inr refused)) c.in_err-copy_section-3.ensures.err)
+    handed-on c.from_residual-in_err-copy_section-3.result c.in_err-copy_section-3.field-0.0 _
+    c.from_residual-in_err-copy_section-3.ensures.1
+    (Stops.in_additional (section-copied first c.in_ok-copy_section.ensures.ok) c.into_next-target.ensures
+    (section-copied second c.in_ok-copy_section-2.ensures.ok) c.into_next-target-2.ensures
+    (StopsIn.stopped third c.in_err-copy_section-3.ensures.err))
 
 pub returns-clause-ok : goal.returns-clause-ok
 returns-clause-ok g c =

@@ -1,4 +1,4 @@
-use Rattle.std.proofs.Common.{◌≡◌, ◌∙◌, ◌-◌, ◌<◌, ℕ, Ok, ap, arith}
+use Rattle.std.proofs.Common.{◌≡◌, ◌∙◌, ◌-◌, ◌<◌, Ok, ap, arith}
 use Rattle.dns_name.specs.ParsedName.{labels_of}
 use Rattle.dns_header.specs.QuestionParts.{question_of}
 use Rattle.dns_sections.specs.Seen.{questions_at}

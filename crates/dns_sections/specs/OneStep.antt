@@ -1,7 +1,7 @@
 -- What a cursor gives is one: where it gives an item, it gives no other, and nothing else.
 use Rattle.std.proofs.Common.{◌≡◌, ◌∙◌, ◌-◌, ℕ, List, Some, None, Ok, Err, IfOk, subst, sym, arith}
 use Rattle.dns_octets.specs.declared.error.ParseError.{ParseError}
-use Rattle.dns_sections.specs.Cursor.{Cursor, IsSpent, Gives}
+use Rattle.dns_sections.specs.Cursor.{Cursor, Gives}
 
 module _ {Item : Type 0} (Reads : List ℕ → ℕ → Item → ℕ → Type 0) (IsNone IsCut : List ℕ → ℕ → Type 0) where
   -- the same item, and the same place behind it
