@@ -41,60 +41,75 @@ pub struct Compressor<Target: Truncate, T: Table> {
 }
 
 impl<Target: Truncate> Compressor<Target, StaticTable> {
-    /// Makes a compressor that remembers nothing yet.
+    ghost use Rattle.dns_compress.specs.Compressor.{target_in, known_in};
+
+    /// Makes a compressor that remembers nothing yet. By condition its target remembers nothing.
     pub fn new(target: Target) -> Self
         requires { Target.known target ≡ [] }
-        ensures target { result.target ≡ target }
-        ensures known { result.table.written.items ≡ [] }
+        ensures target { target_in result ≡ target }
+        ensures known { known_in result ≡ [] }
     {
-        Compressor {
-            target,
-            table: StaticTable::new(),
-        }
+        Compressor::over(target, StaticTable::new())
     }
 }
 
 impl<Target: Truncate> Compressor<Target, TreeTable> {
-    /// Makes a compressor that remembers nothing yet. What it remembers grows on this allocator.
+    ghost use Rattle.dns_compress.specs.Compressor.{target_in, known_in};
+
+    /// Makes a compressor that remembers nothing yet. What it remembers grows on this allocator. By condition its target
+    /// remembers nothing.
     pub fn new(alloc: Global, target: Target) -> Self
         requires { Target.known target ≡ [] }
-        ensures target { result.target ≡ target }
-        ensures known { result.table.suffixes.written.items ≡ [] }
+        ensures target { target_in result ≡ target }
+        ensures known { known_in result ≡ [] }
     {
-        Compressor {
-            target,
-            table: TreeTable::new(alloc),
-        }
+        Compressor::over(target, TreeTable::new(alloc))
     }
 }
 
 impl<Target: Truncate> Compressor<Target, HashTable> {
-    /// Makes a compressor that remembers nothing yet. What it remembers grows on this allocator.
+    ghost use Rattle.dns_compress.specs.Compressor.{target_in, known_in};
+
+    /// Makes a compressor that remembers nothing yet. What it remembers grows on this allocator. By condition its target
+    /// remembers nothing.
     pub fn new(alloc: Global, target: Target) -> Self
         requires { Target.known target ≡ [] }
-        ensures target { result.target ≡ target }
-        ensures known { result.table.suffixes.written.items ≡ [] }
+        ensures target { target_in result ≡ target }
+        ensures known { known_in result ≡ [] }
     {
-        Compressor {
-            target,
-            table: HashTable::new(alloc),
-        }
+        Compressor::over(target, HashTable::new(alloc))
     }
 }
 
 impl<Target: Truncate, T: Table> Compressor<Target, T> {
-    /// Returns the target.
+    ghost use Rattle.dns_compress.specs.Compressor.{target_in, octets_in, known_in};
+
+    /// Puts an empty table over the target.
+    fn over(target: Target, table: T) -> Self
+        requires plain { Target.known target ≡ [] }
+        requires empty { T.known table (Target.list target) ≡ [] }
+        ensures target { target_in result ≡ target }
+        ensures known { known_in result ≡ [] }
+    {
+        Compressor { target, table }
+    }
+
+    /// Returns the target under this one, which holds the same octets and remembers nothing.
     pub fn as_target(&self) -> &Target
-        ensures { result.now ≡ self.now.target }
+        ensures target { result.now ≡ target_in self.now }
+        ensures octets { Target.list result.now ≡ octets_in self.now }
+        ensures known { Target.known result.now ≡ [] }
     {
         &self.target
     }
 
-    /// Returns the target.
+    /// Returns the target under this one, which holds the same octets and remembers nothing.
     pub fn into_target(self) -> Target
     where
         T: Drop,
-        ensures { result ≡ self.target }
+        ensures target { result ≡ target_in self }
+        ensures octets { Target.list result ≡ octets_in self }
+        ensures known { Target.known result ≡ [] }
     {
         let Compressor { target, .. } = self;
         target
@@ -102,7 +117,7 @@ impl<Target: Truncate, T: Table> Compressor<Target, T> {
 
     /// Returns the octets.
     pub fn as_slice(&self) -> &[u8]
-        ensures { result.now ≡ Target.list self.now.target }
+        ensures { result.now ≡ octets_in self.now }
     {
         self.target.octets()
     }
@@ -160,25 +175,31 @@ impl<Target: Truncate, T: Table> Compressor<Target, T> {
 }
 
 impl<Target: Truncate, T: Table> Octets for Compressor<Target, T> {
-    ghost list = { λ all. Target.list all.target };
+    ghost use Rattle.dns_compress.specs.Compressor.{octets_in};
+
+    ghost list = { octets_in };
 
     fn octets(&self) -> &[u8] {
-        self.target.octets()
+        self.as_slice()
     }
 }
 
 impl<Target: Truncate, T: Table> Remembers for Compressor<Target, T> {
-    ghost known = { λ all. T.known all.table (Target.list all.target) };
+    ghost use Rattle.dns_compress.specs.Compressor.{known_in};
+
+    ghost known = { known_in };
 }
 
 impl<Target: Truncate, T: Table> OctetsBuilder for Compressor<Target, T> {
-    ghost bound = { λ all. Target.bound all.target };
+    ghost use Rattle.dns_compress.specs.Compressor.{target_in};
 
-    ghost stays = { λ old new. Target.stays old.target new.target };
+    ghost bound = { λ compressor. Target.bound (target_in compressor) };
 
-    ghost stays_on = { λ a b c first second. Target.stays_on a.target b.target c.target first second };
+    ghost stays = { λ old new. Target.stays (target_in old) (target_in new) };
 
-    ghost stays_here = { λ a. Target.stays_here a.target };
+    ghost stays_on = { λ a b c first second. Target.stays_on (target_in a) (target_in b) (target_in c) first second };
+
+    ghost stays_here = { λ a. Target.stays_here (target_in a) };
 
     fn append_slice(&mut self, octets: &[u8]) -> Result<(), AppendError> {
         self.target.append_slice(octets)

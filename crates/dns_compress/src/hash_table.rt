@@ -26,9 +26,11 @@ impl HashTable {
 }
 
 impl Table for HashTable {
+    ghost use Rattle.dns_compress.specs.Seen.{lowered_in};
+
     ghost spelling = { hash_spelling };
 
-    ghost known = { λ table _. table.suffixes.written.items };
+    ghost known = { λ table _. lowered_in table };
 
     fn find(&self, _octets: &[u8], suffix: &Name<&[u8]>) -> Option<usize> {
         self.suffixes.place(lowered(suffix).as_slice())

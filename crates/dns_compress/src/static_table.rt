@@ -84,9 +84,11 @@ fn name_at(octets: &[u8], place: usize) -> Result<ParsedName<&[u8]>, ParseError>
 }
 
 impl Table for StaticTable {
+    ghost use Rattle.dns_compress.specs.Seen.{spots_in};
+
     ghost spelling = { static_spelling };
 
-    ghost known = { λ table octets. read_all octets table.written.items };
+    ghost known = { λ table octets. read_all octets (spots_in table) };
 
     fn find(&self, octets: &[u8], suffix: &Name<&[u8]>) -> Option<usize> {
         find_among(octets, self.written.as_slice(), suffix)
@@ -116,5 +118,5 @@ impl Table for StaticTable {
         self.written.retain(|spot| spot.stop <= len);
     }
 
-    ghost steady = { λ table old new _ sound. read_again table.written.items old new sound };
+    ghost steady = { λ table old new _ sound. read_again (spots_in table) old new sound };
 }

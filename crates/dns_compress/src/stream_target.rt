@@ -121,7 +121,9 @@ fn write_length<Target: Composer>(target: &mut Target)
 }
 
 impl<Target: Composer> Octets for StreamTarget<Target> {
-    ghost list = { λ stream. drop 2 (Target.list stream.target) };
+    ghost use Rattle.dns_compress.specs.StreamTarget.{message_in};
+
+    ghost list = { message_in Target.list };
 
     fn octets(&self) -> &[u8] {
         self.as_dgram_slice()
@@ -135,13 +137,13 @@ impl<Target: Composer> Remembers for StreamTarget<Target> {
 impl<Target: Composer> OctetsBuilder for StreamTarget<Target> {
     ghost use Rattle.dns_compress.specs.StreamTarget.{target_in, message_in};
 
-    ghost bound = { λ stream. message_bound (Target.bound stream.target) };
+    ghost bound = { λ stream. message_bound (Target.bound (target_in stream)) };
 
-    ghost stays = { λ old new. Target.stays old.target new.target };
+    ghost stays = { λ old new. Target.stays (target_in old) (target_in new) };
 
-    ghost stays_on = { λ a b c first second. Target.stays_on a.target b.target c.target first second };
+    ghost stays_on = { λ a b c first second. Target.stays_on (target_in a) (target_in b) (target_in c) first second };
 
-    ghost stays_here = { λ a. Target.stays_here a.target };
+    ghost stays_here = { λ a. Target.stays_here (target_in a) };
 
     fn append_slice(&mut self, octets: &[u8]) -> Result<(), AppendError>
         ensures ok { OnOk result (message_in Target.list self.new ≡ message_in Target.list self.old ++ octets.now) }
@@ -178,6 +180,8 @@ impl<Target: Composer> Truncate for StreamTarget<Target> {
 
 /// Names are written in full.
 impl<Target: Composer> Composer for StreamTarget<Target> {
+    ghost use Rattle.dns_compress.specs.StreamTarget.{message_in};
+
     ghost spelling = { plain };
 
     fn append_compressed_name<N: ToName>(&mut self, name: &N) -> Result<(), AppendError> {
@@ -192,5 +196,5 @@ impl<Target: Composer> Composer for StreamTarget<Target> {
         self.target.patch(place + 2, octets);
     }
 
-    ghost sound = { λ stream. ∣ sound_none plain (drop 2 (Target.list stream.target)) ∣₁ };
+    ghost sound = { λ stream. ∣ sound_none plain (message_in Target.list stream) ∣₁ };
 }

@@ -25,9 +25,11 @@ impl TreeTable {
 }
 
 impl Table for TreeTable {
+    ghost use Rattle.dns_compress.specs.Seen.{exact_in};
+
     ghost spelling = { tree_spelling };
 
-    ghost known = { λ table _. table.suffixes.written.items };
+    ghost known = { λ table _. exact_in table };
 
     fn find(&self, _octets: &[u8], suffix: &Name<&[u8]>) -> Option<usize> {
         self.suffixes.place(suffix.as_slice())
