@@ -15,3 +15,8 @@ pub mod Shown
 pub mod Going
 pub mod Asking
 pub mod Begun
+pub mod OnResults
+pub mod OptPages
+pub mod OptOptions
+pub mod OptWritten
+pub mod OptLeaves

@@ -4,5 +4,12 @@ pub mod Refused
 pub mod Gone
 pub mod Seen
 pub mod Moved
+pub mod Pushed
 pub mod Asked
 pub mod Answering
+pub mod OptBuilt
+pub mod OptSeen
+pub mod OptOption
+pub mod OptAsked
+pub mod OptClosed
+pub mod OptAdded

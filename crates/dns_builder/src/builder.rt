@@ -3,9 +3,12 @@ ghost use Rattle.std.specs.Prelude.{◌≡◌, length};
 
 mod answer;
 mod convert;
+mod opt;
 mod push;
+mod record_target;
 mod start;
 mod steps;
+mod stream;
 mod views;
 
 use crate::draft::Draft;

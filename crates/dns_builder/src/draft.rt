@@ -2,23 +2,26 @@
 ghost use Rattle.std.specs.Prelude.{◌≡◌, ◌≤◌, ◌<◌, ℕ, true, length, slice_index};
 ghost use Rattle.dns_name.specs.Remembered.{is_free};
 
+mod opt;
 mod push;
 mod steps;
 mod views;
 
+use crate::opt::OptBuilder;
 use arrayvec::ArrayVec;
 use dns_name::{AppendError, Composer};
 
 /// A message that is being built.
 #[derive(Debug, Drop)]
 pub(crate) struct Draft<Target: Composer> {
-    target: Target,
+    /// The target, and the OPT record that is built at its end if one is.
+    opt: OptBuilder<Target>,
     /// Where each section that is begun begins.
     starts: ArrayVec<usize, 4>,
     /// The message stays shorter.
     limit: usize,
-    ghost header: { 12 ≤ length (Target.list target) },
-    ghost free: { is_free 0 12 (Target.known target) ≡ true },
+    ghost header: { 12 ≤ length (Target.list opt.target) },
+    ghost free: { is_free 0 12 (Target.known opt.target) ≡ true },
     ghost behind: { (number : ℕ) → number < length starts.items → 12 ≤ slice_index starts.items number },
 }
 
@@ -40,7 +43,7 @@ impl<Target: Composer + Drop> Draft<Target> {
         target.truncate(0);
         target.append_slice(&[0; 12])?;
         Ok(Draft {
-            target,
+            opt: OptBuilder::over(target),
             starts: ArrayVec::new(),
             limit: usize::MAX,
         })

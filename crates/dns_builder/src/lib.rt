@@ -6,12 +6,14 @@
 mod builder;
 mod draft;
 mod item;
+mod opt;
 mod section;
 
 pub use builder::{
     AdditionalBuilder, AnswerBuilder, AuthorityBuilder, MessageBuilder, QuestionBuilder,
     RecordSectionBuilder, SectionBuilder,
 };
+pub use opt::OptBuilder;
 pub use section::{
     Additionals, Answers, Authorities, BegunSection, BuilderSection, OtherThan, Questions,
     RecordsSection, Start,

@@ -25,7 +25,10 @@ pub trait BegunSection: BuilderSection {
 }
 
 /// A mark of a section of records.
-pub trait RecordsSection: BegunSection {}
+pub trait RecordsSection: BegunSection {
+    /// The mark of the next section of records. That of the last one is its own.
+    type Next: BuilderSection;
+}
 
 /// No section is begun.
 #[derive(Debug, Drop)]
@@ -113,8 +116,14 @@ impl BegunSection for Additionals {
     ghost begun = { Prim.omega arith };
 }
 
-impl RecordsSection for Answers {}
+impl RecordsSection for Answers {
+    type Next = Authorities;
+}
 
-impl RecordsSection for Authorities {}
+impl RecordsSection for Authorities {
+    type Next = Additionals;
+}
 
-impl RecordsSection for Additionals {}
+impl RecordsSection for Additionals {
+    type Next = Additionals;
+}

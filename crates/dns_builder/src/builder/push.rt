@@ -88,7 +88,7 @@ impl<Target: Composer, S: RecordsSection> SectionBuilder<Target, S> {
     ghost use Rattle.dns_builder.specs.Seen.{draft_of, target_in};
 
     /// Appends a record and counts it, or leaves everything as it is.
-    fn push_record<R: ComposeRecord>(&mut self, record: &R) -> Result<(), PushError>
+    pub(super) fn push_record<R: ComposeRecord>(&mut self, record: &R) -> Result<(), PushError>
         ensures ok { (built : Built) → IsDraftOf Target.spelling built (draft_of self.old)
             → OnOk result (IsDraftOf Target.spelling (with_item built (parts_of (R.written «record».now))) (draft_of self.new)) }
         ensures taken { OnOk result (IsTakenBy Target.spelling (S.number - 1) (draft_of self.old) (parts_of (R.written «record».now))) }

@@ -14,7 +14,7 @@ impl<Target: Composer, S: BuilderSection> SectionBuilder<Target, S> {
     ghost use Rattle.dns_builder.specs.Seen.{draft_of, target_in};
 
     /// Goes to another section: drops later ones, and begins missing ones, which are empty.
-    fn go_to<To: BuilderSection>(self) -> SectionBuilder<Target, To>
+    pub(super) fn go_to<To: BuilderSection>(self) -> SectionBuilder<Target, To>
         ensures built { (built : Built) → IsDraftOf Target.spelling built (draft_of self)
             → IsDraftOf Target.spelling (going_to To.number built) (draft_of result) }
         ensures limits { KeepsLimits (draft_of self) (draft_of result) }

@@ -1,6 +1,7 @@
 //! Pushing an item.
-ghost use Rattle.std.specs.Prelude.{◌≡◌, ◌+◌, ◌*◌, ◌<◌, length, OnOk, OnErr, IfErr};
+ghost use Rattle.std.specs.Prelude.{◌≡◌, ◌≤◌, ◌+◌, ◌*◌, ◌<◌, length, take, OnOk, OnErr, IfErr};
 ghost use Rattle.std.specs.Int.{to_be_bytes, w16};
+ghost use Rattle.dns_octets.specs.Builder.{before};
 ghost use Rattle.dns_name.specs.RecordData.{page_of};
 ghost use Rattle.dns_name.specs.Remembered.{patched};
 ghost use Rattle.dns_builder.specs.Built.{Built, IsDraftOf};
@@ -28,15 +29,26 @@ impl<Target: Composer> Draft<Target> {
         ensures starts { (draft_in self.new).starts ≡ (draft_in self.old).starts }
         ensures stays { Target.stays (held_in self.old) (held_in self.new) }
     {
-        let len = self.target.octets().len();
-        item.append_to(&mut self.target)?;
-        match self.count_item(number) {
-            Ok(()) => Ok(()),
-            Err(error) => {
-                self.target.truncate(len);
-                Err(error)
-            }
+        let len = self.opt.target.octets().len();
+        item.append_to(&mut self.opt.target)?;
+        self.count_or_cut(number, len)
+    }
+
+    /// Counts an item that was appended behind so many octets, in the section of this number, or cuts it off.
+    pub(super) fn count_or_cut(&mut self, number: usize, len: usize) -> Result<(), PushError>
+        requires few { number < 4 }
+        requires header { 12 ≤ len }
+        ensures ok { OnOk result ((draft_in self.new) ≡ record (draft_in self.old) { page = page_of (patched (draft_in self.old).page.octets (4 + 2 * number) (to_be_bytes w16 (counted_at number (draft_in self.old) + 1))) (draft_in self.old).page.known }) }
+        ensures taken { OnOk result (IsCountedBy number (draft_in self.old)) }
+        ensures err { OnErr result ((draft_in self.new) ≡ record (draft_in self.old) { page = page_of (take len (draft_in self.old).page.octets) (before len (draft_in self.old).page.known) }) }
+        ensures why { IfErr result (IsUncounted number (draft_in self.old)) }
+        ensures stays { Target.stays (held_in self.old) (held_in self.new) }
+    {
+        let counted = self.count_item(number);
+        if counted.is_err() {
+            self.opt.target.truncate(len);
         }
+        counted
     }
 
     /// Counts an item that was appended, in the section of this number.
@@ -48,13 +60,13 @@ impl<Target: Composer> Draft<Target> {
         ensures why { IfErr result (IsUncounted number (draft_in self.old)) }
         ensures stays { Target.stays (held_in self.old) (held_in self.new) }
     {
-        if self.target.octets().len() >= self.limit {
+        if self.opt.target.octets().len() >= self.limit {
             return Err(PushError::LimitExceeded);
         }
         let Some(count) = self.count(number).checked_add(1) else {
             return Err(PushError::CountOverflow);
         };
-        self.target.patch(4 + 2 * number, &count.to_be_bytes());
+        self.opt.target.patch(4 + 2 * number, &count.to_be_bytes());
         Ok(())
     }
 
@@ -63,7 +75,7 @@ impl<Target: Composer> Draft<Target> {
         requires { number < 4 }
         ensures { result ≡ counted_at number (draft_in self.now) }
     {
-        let octets = self.target.octets();
+        let octets = self.opt.target.octets();
         let place = 4 + 2 * number;
         u16::from_be_bytes([octets[place], octets[place + 1]])
     }

@@ -46,8 +46,8 @@ impl<Target: Composer> Draft<Target> {
         ensures draft { (draft_in self.new) ≡ gone_back count (draft_in self.old) }
         ensures stays { Target.stays (held_in self.old) (held_in self.new) }
     {
-        self.target.truncate(self.starts[count]);
-        self.target.patch(4 + 2 * count, &[0; 8][2 * count..]);
+        self.opt.target.truncate(self.starts[count]);
+        self.opt.target.patch(4 + 2 * count, &[0; 8][2 * count..]);
         self.starts.truncate(count);
     }
 
@@ -58,7 +58,7 @@ impl<Target: Composer> Draft<Target> {
         ensures draft { (draft_in self.new) ≡ gone_on count (draft_in self.old) }
         ensures target { held_in self.new ≡ held_in self.old }
     {
-        let len = self.target.octets().len();
+        let len = self.opt.target.octets().len();
         for _ in self.starts.len()..count {
             self.starts.push(len);
         }

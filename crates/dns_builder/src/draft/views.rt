@@ -15,7 +15,7 @@ impl<Target: Composer> Draft<Target> {
     pub(crate) fn as_target(&self) -> &Target
         ensures { result.now ≡ held_in self.now }
     {
-        &self.target
+        &self.opt.target
     }
 
     /// The target.
@@ -23,7 +23,7 @@ impl<Target: Composer> Draft<Target> {
         ensures target { result ≡ held_in self }
         ensures header { 12 ≤ length (Target.list (held_in self)) }
     {
-        self.target
+        self.opt.target
     }
 
     /// The octets.
@@ -31,7 +31,7 @@ impl<Target: Composer> Draft<Target> {
         ensures octets { result.now ≡ (draft_in self.now).page.octets }
         ensures header { 12 ≤ length result.now }
     {
-        self.target.octets()
+        self.opt.target.octets()
     }
 
     /// The header without its counts.
@@ -56,7 +56,7 @@ impl<Target: Composer> Draft<Target> {
         ensures draft { draft_in self.new ≡ record (draft_in self.old) { page = page_of (patched (draft_in self.old).page.octets 0 header) (draft_in self.old).page.known } }
         ensures stays { Target.stays (held_in self.old) (held_in self.new) }
     {
-        self.target.patch(0, header.as_slice());
+        self.opt.target.patch(0, header.as_slice());
     }
 
     /// The limit of the length.

@@ -8,11 +8,11 @@ pub patch-requires-clause-free : goal.patch-requires-clause-free
 patch-requires-clause-free g c =
     let same : c.deref.result.now ≡ c.args.self.now.starts.items = search rules in
     let cut : g.Target.Remembers.known c.truncate.new.self
-    ≡ before (slice_index c.args.self.now.starts.items c.args.count) (g.Target.Remembers.known c.args.self.now.target) =
+    ≡ before (slice_index c.args.self.now.starts.items c.args.count) (g.Target.Remembers.known c.args.self.now.opt.target) =
     c.truncate.ensures.known
-    ∙ ap (λ (l : List ℕ). before (slice_index l c.args.count) (g.Target.Remembers.known c.args.self.now.target)) same in
+    ∙ ap (λ (l : List ℕ). before (slice_index l c.args.count) (g.Target.Remembers.known c.args.self.now.opt.target)) same in
     free_counts c.args.count (g.Target.Remembers.known c.truncate.new.self) c.requires.few
-    (free_cut (slice_index c.args.self.now.starts.items c.args.count) 12 (g.Target.Remembers.known c.args.self.now.target)
+    (free_cut (slice_index c.args.self.now.starts.items c.args.count) 12 (g.Target.Remembers.known c.args.self.now.opt.target)
     (g.Target.Remembers.known c.truncate.new.self) cut c.args.self.now.free)
 
 pub invariant_of-self : goal.invariant_of-self
@@ -20,15 +20,15 @@ invariant_of-self g c =
     let start : 12 ≤ slice_index c.args.self.now.starts.items c.args.count = c.args.self.now.behind c.args.count c.requires.begun in
     let same : c.deref.result.now ≡ c.args.self.now.starts.items = search rules in
     let cut : g.Target.Octets.list c.truncate.new.self
-    ≡ take (slice_index c.args.self.now.starts.items c.args.count) (g.Target.Octets.list c.args.self.now.target) =
+    ≡ take (slice_index c.args.self.now.starts.items c.args.count) (g.Target.Octets.list c.args.self.now.opt.target) =
     c.truncate.ensures.octets
-    ∙ ap (λ (l : List ℕ). take (slice_index l c.args.count) (g.Target.Octets.list c.args.self.now.target)) same in
+    ∙ ap (λ (l : List ℕ). take (slice_index l c.args.count) (g.Target.Octets.list c.args.self.now.opt.target)) same in
     let forgotten : g.Target.Remembers.known c.truncate.new.self
-    ≡ before (slice_index c.args.self.now.starts.items c.args.count) (g.Target.Remembers.known c.args.self.now.target) =
+    ≡ before (slice_index c.args.self.now.starts.items c.args.count) (g.Target.Remembers.known c.args.self.now.opt.target) =
     c.truncate.ensures.known
-    ∙ ap (λ (l : List ℕ). before (slice_index l c.args.count) (g.Target.Remembers.known c.args.self.now.target)) same in
+    ∙ ap (λ (l : List ℕ). before (slice_index l c.args.count) (g.Target.Remembers.known c.args.self.now.opt.target)) same in
     let long : 12 ≤ length (g.Target.Octets.list c.truncate.new.self) =
-    take-long 12 (slice_index c.args.self.now.starts.items c.args.count) (g.Target.Octets.list c.args.self.now.target)
+    take-long 12 (slice_index c.args.self.now.starts.items c.args.count) (g.Target.Octets.list c.args.self.now.opt.target)
     (g.Target.Octets.list c.truncate.new.self) cut start c.args.self.now.header in
     let longer : length (g.Target.Octets.list c.truncate.new.self) ≤ length (g.Target.Octets.list c.patch.new.self) =
     patched-long (4 + 2 * c.args.count) (g.Target.Octets.list c.truncate.new.self) _ (g.Target.Octets.list c.patch.new.self)
@@ -36,7 +36,7 @@ invariant_of-self g c =
     record {
       header = omega arith;
       free = free_same 12 (g.Target.Remembers.known c.truncate.new.self) (g.Target.Remembers.known c.patch.new.self) c.patch.ensures.known
-          (free_cut (slice_index c.args.self.now.starts.items c.args.count) 12 (g.Target.Remembers.known c.args.self.now.target)
+          (free_cut (slice_index c.args.self.now.starts.items c.args.count) 12 (g.Target.Remembers.known c.args.self.now.opt.target)
           (g.Target.Remembers.known c.truncate.new.self) forgotten c.args.self.now.free);
       behind = behind-take 12 c.args.count c.args.self.now.starts.items c.truncate-2.new.self.items c.truncate-2.ensures.items
           c.args.self.now.behind;
