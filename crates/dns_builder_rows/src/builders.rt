@@ -1,4 +1,5 @@
 //! Messages that are built section by section (RFC 1035 4.1).
+use crate::opts::OptRow;
 use crate::records::{name_of, record_of, record_of_octets};
 use crate::stage::Stage;
 use crate::targets::write_octets;
@@ -61,6 +62,7 @@ fn take_step<Target: Composer + Drop>(
         "limit" => return stage.set_push_limit(row.value()?),
         "rewind" => return stage.rewind(),
         "ask" => stage.push_question((name_of(alloc, row)?, row.value::<Rtype>()?))?,
+        "opt" => stage.push_opt(&OptRow::read(alloc, row)?)?,
         "octets" => stage.push_record(record_of_octets(alloc, row)?)?,
         "record" => stage.push_record(record_of(alloc, row)?)?,
         _ => return Err(RowError::BadWord),

@@ -5,9 +5,14 @@
 
 mod answers;
 mod builders;
+mod copied;
+mod opts;
+mod owners;
 mod questions;
+mod random;
 mod records;
 mod stage;
+mod stream;
 mod targets;
 
 use rows::{Answer, Calls, Row, RowError, answer_rows};
@@ -21,10 +26,17 @@ impl Calls for BuilderCalls {
     fn answer(&self, alloc: Global, row: &mut Row<'_>, out: &mut Answer) -> Result<(), RowError> {
         match row.call() {
             "Compressor::append" => targets::append_to_compressor(alloc, row, out),
+            "Compressor::append_owners" => owners::append_owners(alloc, row, out),
+            "Compressor::random_over_array" => random::over_array(alloc, row, out),
+            "Compressor::random_over_vec" => random::over_vec(alloc, row, out),
             "StreamTarget::append" => targets::append_to_stream(alloc, row, out),
             "MessageBuilder::build" => builders::build(alloc, row, out),
+            "MessageBuilder::new_stream_vec" => stream::new_stream_vec(alloc, row, out),
+            "MessageBuilder::two_answers" => stream::two_answers(alloc, row, out),
             "MessageBuilder::start_answer" => answers::start_answer(alloc, row, out),
             "MessageBuilder::start_error" => answers::start_error(alloc, row, out),
+            "AdditionalBuilder::opt_behind" => opts::opt_behind(alloc, row, out),
+            "AnswerBuilder::copy_cnames" => copied::copy_cnames(alloc, row, out),
             "QuestionBuilder::over_array" => questions::over_array(row, out),
             "QuestionBuilder::over_vec" => questions::over_vec(alloc, row, out),
             _ => Err(RowError::UnknownCall),

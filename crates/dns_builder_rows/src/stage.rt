@@ -1,4 +1,5 @@
 //! A builder in whichever section the last step left it.
+use crate::opts::OptRow;
 use dns_builder::{
     AdditionalBuilder, AnswerBuilder, AuthorityBuilder, BuilderSection, MessageBuilder,
     QuestionBuilder, SectionBuilder,
@@ -84,6 +85,14 @@ impl<Target: Composer + Drop> Stage<Target> {
             Stage::Answer(builder) => Ok(builder.push(record)),
             Stage::Authority(builder) => Ok(builder.push(record)),
             Stage::Additional(builder) => Ok(builder.push(record)),
+            _ => Err(RowError::BadWord),
+        }
+    }
+
+    /// Pushes an OPT record.
+    pub fn push_opt(&mut self, row: &OptRow) -> Result<Result<(), PushError>, RowError> {
+        match self {
+            Stage::Additional(builder) => Ok(builder.opt(|opt| row.apply(opt))),
             _ => Err(RowError::BadWord),
         }
     }

@@ -1,0 +1,84 @@
+//! OPT records as a row has them (RFC 6891 6.1).
+ghost use Rattle.dns_builder.specs.OptSeen.{LeavesMessage};
+
+use dns_builder::{MessageBuilder, OptBuilder};
+use dns_header::Record;
+use dns_name::{
+    AppendError, Class, Composer, Name, OptRcode, OptionCode, Rtype, Ttl, UnknownRecordData,
+};
+use rows::{Answer, Row, RowError};
+use std::alloc::Global;
+
+/// What is done to an OPT record.
+#[derive(Drop)]
+pub struct OptRow {
+    udp_payload_size: u16,
+    rcode: OptRcode,
+    version: u8,
+    dnssec_ok: bool,
+    code: OptionCode,
+    option_len: u16,
+    octets: Vec<u8>,
+    /// Whether the answer is Ok even if the option is refused.
+    is_lenient: bool,
+}
+
+impl OptRow {
+    /// Reads the payload size, the response code, the version and DO, the code, the length and the octets of an option, and whether its
+    /// refusal is told or dropped.
+    pub fn read(alloc: Global, row: &mut Row<'_>) -> Result<Self, RowError> {
+        Ok(OptRow {
+            udp_payload_size: row.value()?,
+            rcode: OptRcode::masked_from_int(row.value()?),
+            version: row.value()?,
+            dnssec_ok: row.value::<u8>()? == 1,
+            code: OptionCode::from_int(row.value()?),
+            option_len: row.value()?,
+            octets: row.octets(alloc)?,
+            is_lenient: match row.word()? {
+                "told" => false,
+                "dropped" => true,
+                _ => return Err(RowError::BadWord),
+            },
+        })
+    }
+
+    /// Sets the fields and pushes the option.
+    pub fn apply<Target: Composer>(&self, opt: &mut OptBuilder<Target>) -> Result<(), AppendError>
+        ensures { LeavesMessage Target.list Target.known Target.bound Target.stays opt.old opt.new }
+    {
+        opt.set_udp_payload_size(self.udp_payload_size);
+        opt.set_rcode(self.rcode);
+        opt.set_version(self.version);
+        opt.set_dnssec_ok(self.dnssec_ok);
+        let pushed = opt.push_raw_option(self.code, self.option_len, |target| {
+            target.append_slice(self.octets.as_slice())
+        });
+        if self.is_lenient { Ok(()) } else { pushed }
+    }
+}
+
+/// Pushes so many records of the root without data into a message over a vector, and then an OPT record. Writes the refusal, and then
+/// how many additional records the message has, its response code, and how many octets.
+pub fn opt_behind(alloc: Global, row: &mut Row<'_>, out: &mut Answer) -> Result<(), RowError> {
+    let Ok(builder) = MessageBuilder::new_vec(alloc) else {
+        return Err(RowError::OutOfMemory);
+    };
+    let mut builder = builder.additional();
+    let Ok(rdata) = UnknownRecordData::from_octets(Rtype::TXT, Vec::new(alloc)) else {
+        return Err(RowError::BadWord);
+    };
+    let record = Record::new(Name::root_slice(), Class::IN, Ttl::from_secs(0), rdata);
+    for _ in 0..row.value::<u32>()? {
+        if let Err(error) = builder.push(&record) {
+            return out.refused(&error);
+        }
+    }
+    let opt_row = OptRow::read(alloc, row)?;
+    if let Err(error) = builder.opt(|opt| opt_row.apply(opt)) {
+        out.refused(&error)?;
+    }
+    out.shown(&builder.counts().arcount())?;
+    out.shown(&builder.header().rcode().to_int())?;
+    out.shown(&builder.as_slice().len())
+}
