@@ -1,9 +1,9 @@
 #!/usr/bin/env python3
-"""build.py: builds the proved program, at build/zonewire.
+"""build.py [CRATE]: builds the proved program, at build/zonewire; or the program of another crate, at build/CRATE.
 
 The gate keeps what it has proved on this machine, and proves no crate twice. So the program is built by the gate: `rt ci` runs
 in a copy of the crates that the program stands on, without the crates of tests and the edits that must fail. The exit status
-is 1 where the gate refuses the copy; build/zonewire is then as it was."""
+is 1 where the gate refuses the copy; what stood in build/ is then as it was."""
 import os
 import shutil
 import subprocess
@@ -14,13 +14,12 @@ from pathlib import Path
 from edits import ROOT, lower, needs_of
 
 PROGRAM = "zone_main"
-TO = ROOT / "build" / "zonewire"
 
 
-def copy_to(room):
+def copy_to(room, program):
     """Makes the lean copy, and returns how many crates it has."""
     needs = needs_of()
-    wanted = {PROGRAM, *lower(PROGRAM, needs)}
+    wanted = {program, *lower(program, needs)}
     for name in wanted:
         shutil.copytree(ROOT / "crates" / name, room / "crates" / name, ignore=shutil.ignore_patterns("out", "must-fail"))
     lines = [it for it in (ROOT / "crates.txt").read_text().split("\n") if it.partition(":")[0] in wanted]
@@ -43,16 +42,18 @@ def run_gate(room):
 
 
 def main():
+    program = sys.argv[1] if sys.argv[1:] else PROGRAM
+    to = ROOT / "build" / ("zonewire" if program == PROGRAM else program)
     with tempfile.TemporaryDirectory(prefix="zonewire-") as name:
         room = Path(name)
-        count = copy_to(room)
+        count = copy_to(room, program)
         print(f"The gate builds the program in a copy of {count} crates. What it has proved on this machine, it takes over: after")
         print("`make test` this takes some minutes. Else it proves each crate first, for an hour or more.", flush=True)
         if not run_gate(room):
             return 1
-        TO.parent.mkdir(exist_ok=True)
-        shutil.copy(room / "crates" / PROGRAM / "out" / PROGRAM, TO.with_suffix(".new"))
-        os.replace(TO.with_suffix(".new"), TO)
+        to.parent.mkdir(exist_ok=True)
+        shutil.copy(room / "crates" / program / "out" / program, to.with_suffix(".new"))
+        os.replace(to.with_suffix(".new"), to)
     return 0
 
 
