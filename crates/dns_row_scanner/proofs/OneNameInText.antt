@@ -18,7 +18,7 @@ same_parts {parts = parts} {others = others} has other =
 at_parts : {text : List ℕ} → text ≡ 64 ∷ [] → HasParts text ((64 ∷ []) ∷ [])
 at_parts is = record { symbols = Char 64 ∷ []; each = (((omega arith, omega arith), λ same. omega arith), tt); written = is; between = refl }
 
-at_apart : {text : List ℕ} {name : List (List ℕ)} → text ≡ 64 ∷ [] → IsAbsoluteText text name → ⊥
+pub at_apart : {text : List ℕ} {name : List (List ℕ)} → text ≡ 64 ∷ [] → IsAbsoluteText text name → ⊥
 at_apart is (root dot) = let bad : ◌≡◌ {A = List ℕ} (64 ∷ []) (46 ∷ []) = sym is ∙ dot in
     let octets : ◌≡◌ {A = ℕ} 64 46 = ap (λ (l : List ℕ). get_or l 0 0) bad in omega (arith, octets)
 at_apart is (dotted {name = name} some has is_name) =

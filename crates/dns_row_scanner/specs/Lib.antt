@@ -1,2 +1,5 @@
 pub mod NameInText
 pub mod EntryError
+pub mod Gap
+pub mod RowToken
+pub mod RowScanner

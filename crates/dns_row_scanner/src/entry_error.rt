@@ -1,5 +1,6 @@
 //! Why a row of a zone file is no entry.
 use dns_scan::ScannerError;
+use std::alloc::AllocError;
 use thiserror::Error;
 
 /// Why the tokens of a row are no entry of a zone file.
@@ -17,6 +18,17 @@ pub enum EntryError {
     /// Out of memory.
     #[error("out of memory")]
     OutOfMemory,
+}
+
+impl From<AllocError> for EntryError {
+    ghost use Rattle.std.specs.Prelude.{◌≡◌};
+    ghost use Rattle.dns_row_scanner.specs.declared.entry_error.EntryError.TheVariants.{OutOfMemory};
+
+    ghost from_gives = { λ _ error. error ≡ OutOfMemory };
+
+    fn from(_: AllocError) -> EntryError {
+        EntryError::OutOfMemory
+    }
 }
 
 impl ScannerError for EntryError {

@@ -1,0 +1,61 @@
+-- The labels that were read from a text, and an origin behind them.
+use Rattle.std.proofs.Common.{◌≡◌, ℕ, ◌+◌, ◌<◌, ◌≤◌, List, [], ◌∷◌, ◌++◌, length, take, refl, sym, ◌∙◌, ap, subst, arith}
+use Rattle.std.proofs.lemmas.List.{take-take}
+use Rattle.std.proofs.Math.Seq.{take-append_seam}
+use Rattle.std.specs.List.{AllByRecursion}
+use Rattle.dns_label.specs.Name.{IsLabel, IsName, wire, labels_wire, with_root}
+use Rattle.dns_wire.specs.Chain.{before_root}
+use Rattle.dns_wire.specs.Draft.{Holds}
+use Rattle.dns_wire.specs.declared.text.draft.Spelling.{Spelling}
+use Rattle.dns_wire.proofs.Case.{wire_one}
+use Rattle.dns_wire.proofs.Drafts.{draft-name}
+use Rattle.dns_wire.proofs.Wire.{length-wire_is, length-wire-append, wire_is}
+use Rattle.dns_flat.proofs.Chains.{joined_name}
+
+-- the labels in front of the root's
+before_rooted : (name : List (List ℕ)) → AllByRecursion IsLabel name → before_root (with_root name) ≡ name
+before_rooted [] each = refl
+before_rooted ([] ∷ name) each = absurd (omega (arith, each.0.some))
+before_rooted ((octet ∷ text) ∷ name) each = ap (λ l. (octet ∷ text) ∷ l) (before_rooted name each.1)
+
+-- a chain of so few octets is not refused
+pub chain_fits : (front name : List (List ℕ)) → IsName name → length (labels_wire front) + length (wire name) ≤ 255
+    → 254 < length (labels_wire front) + length (labels_wire (before_root (with_root name))) → ⊥
+chain_fits front name is_name few long =
+    omega (arith, few, long, length-wire_is name, ap (λ (l : List (List ℕ)). length (labels_wire l)) (before_rooted name is_name.labels))
+
+-- the finished labels are a name
+pub held_name : (spelling : Spelling) (done : List (List ℕ)) → Holds spelling done [] → IsName done
+held_name spelling done holds =
+    let all = spelling.whole in
+    let few = spelling.few in
+    draft-name spelling.octets spelling.len done (omega arith) few holds.written holds.labels
+
+-- their octets
+pub front_octets : (spelling : Spelling) (done : List (List ℕ)) → Holds spelling done []
+    → take spelling.start spelling.octets ≡ labels_wire done
+front_octets spelling done holds =
+    let room = spelling.room in
+    sym (take-take spelling.start spelling.len spelling.octets (omega arith))
+    ∙ ap (take spelling.start) holds.written
+    ∙ ap (λ (n : ℕ). take n (labels_wire done ++ 0 ∷ [])) holds.place
+    ∙ take-append_seam (labels_wire done) (0 ∷ [])
+
+-- and no other name has these octets
+pub front_held : (spelling : Spelling) (done name : List (List ℕ)) → Holds spelling done []
+    → take spelling.start spelling.octets ≡ labels_wire name → Holds spelling name []
+front_held spelling done name holds made =
+    let same : wire done ≡ wire name =
+    wire_is done ∙ ap (λ l. l ++ 0 ∷ []) (sym (front_octets spelling done holds) ∙ made) ∙ sym (wire_is name) in
+    let P : List (List ℕ) → Type 0 = λ n. Holds spelling n [] in subst P (wire_one done name same) holds
+
+-- with the origin they are a name exactly if they have few octets
+pub origin_fits : (spelling : Spelling) (done origin : List (List ℕ)) → Holds spelling done [] → IsName origin
+    → length (take spelling.start spelling.octets) + length (wire origin) ≤ 255 → IsName (done ++ origin)
+origin_fits spelling done origin holds is_name few =
+    joined_name done origin (held_name spelling done holds) is_name (omega (arith, few, ap (length {A = ℕ}) (front_octets spelling done holds)))
+
+pub origin_long : (spelling : Spelling) (done origin : List (List ℕ)) → Holds spelling done [] → IsName (done ++ origin)
+    → 255 < length (take spelling.start spelling.octets) + length (wire origin) → ⊥
+origin_long spelling done origin holds is_name many =
+    omega (arith, many, is_name.short, length-wire-append done origin, ap (length {A = ℕ}) (front_octets spelling done holds))

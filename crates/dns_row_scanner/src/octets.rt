@@ -1,0 +1,100 @@
+//! The octets that the text of a token spells (RFC 1035 5.1).
+ghost use Rattle.std.specs.Prelude.{◌≡◌, List, ℕ, true, false, IfOk, IfErr, IfSome, IfNone};
+ghost use Rattle.std.specs.List.{list_all};
+ghost use Rattle.dns_label.specs.Symbol.{IsSymbol, is_plain, octet};
+ghost use Rattle.dns_row_scanner.specs.EntryError.{is_memory, is_end};
+ghost use Rattle.dns_scan.specs.StringText.{Spells, IsStringText};
+
+use crate::EntryError;
+use dns_name::Symbol;
+use dns_scan::CharStr;
+use std::alloc::Global;
+
+/// Returns whether these are printable characters other than the backslash. Each of them is a symbol that stands for itself.
+fn are_plain(text: &[u8]) -> bool
+    ensures { result ≡ list_all is_plain text.now }
+{
+    text.iter().all(|&octet| is_plain(octet))
+}
+
+/// Returns whether this is a printable character other than the backslash.
+fn is_plain(octet: u8) -> bool
+    ensures { result ≡ is_plain octet }
+{
+    b' ' <= octet && octet <= b'~' && octet != b'\\'
+}
+
+/// Returns the text if it has only printable characters other than the backslash.
+pub(crate) fn plain_text(text: &[u8]) -> Option<&str>
+    ensures some { IfSome result (λ word. (word.now ≡ text.now) × (list_all is_plain word.now ≡ true)) }
+    ensures none { IfNone result (list_all is_plain text.now ≡ false) }
+{
+    if !are_plain(text) {
+        return None;
+    }
+    match std::str::from_utf8(text) {
+        Ok(word) => Some(word),
+        Err(_) => unreachable!(),
+    }
+}
+
+/// Returns the octets that a text spells, each by a symbol. A text without a backslash is copied whole.
+///
+/// Fails with `Custom` if a part of the text is no symbol, and with `OutOfMemory` if out of memory.
+pub(crate) fn octets_of(alloc: Global, text: &[u8]) -> Result<Vec<u8>, EntryError>
+    ensures ok { IfOk result (λ octets. Spells text.now octets.items) }
+    ensures err { IfErr result (λ error. is_memory error ≡ false → (octets : List ℕ) → Spells text.now octets → ⊥) }
+    ensures end { IfErr result (λ error. is_end error ≡ false) }
+{
+    if are_plain(text) {
+        return Ok(Vec::from_slice(alloc, text)?);
+    }
+    symbols_octets(alloc, text)
+}
+
+/// Returns the octets that a text spells, read symbol by symbol.
+fn symbols_octets(alloc: Global, text: &[u8]) -> Result<Vec<u8>, EntryError>
+    ensures ok { IfOk result (λ octets. Spells text.now octets.items) }
+    ensures err { IfErr result (λ error. is_memory error ≡ false → (octets : List ℕ) → Spells text.now octets → ⊥) }
+    ensures end { IfErr result (λ error. is_end error ≡ false) }
+{
+    let mut octets = Vec::new(alloc);
+    let mut rest = text;
+    while !rest.is_empty() {
+        let Some((symbol, behind)) = Symbol::split_from(rest) else {
+            return Err(EntryError::Custom("bad symbol"));
+        };
+        match octets.push(octet_of(symbol)) {
+            Ok(()) => rest = behind,
+            Err(_) => return Err(EntryError::OutOfMemory),
+        }
+    }
+    Ok(octets)
+}
+
+/// Returns the octet that a symbol stands for.
+fn octet_of(symbol: Symbol) -> u8
+    requires { IsSymbol symbol }
+    ensures { result ≡ octet symbol }
+{
+    match symbol {
+        Symbol::Char(character) => character as u8,
+        Symbol::SimpleEscape(octet) | Symbol::DecimalEscape(octet) => octet,
+    }
+}
+
+/// Returns the character string that a text spells.
+///
+/// Fails with `Custom` if a part of the text is no symbol or it spells more than 255 octets, and with `OutOfMemory` if out of
+/// memory.
+pub(crate) fn string_of(alloc: Global, text: &[u8]) -> Result<CharStr<Vec<u8>>, EntryError>
+    ensures ok { IfOk result (λ string. IsStringText text.now string) }
+    ensures err { IfErr result (λ error. is_memory error ≡ false → (string : List ℕ) → IsStringText text.now string → ⊥) }
+    ensures end { IfErr result (λ error. is_end error ≡ false) }
+{
+    let octets = octets_of(alloc, text)?;
+    match CharStr::from_octets(octets) {
+        Ok(string) => Ok(string),
+        Err(_) => Err(EntryError::Custom("long character string")),
+    }
+}

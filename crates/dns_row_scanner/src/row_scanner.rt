@@ -1,0 +1,112 @@
+//! A scanner over the tokens of a row.
+ghost use Rattle.std.specs.Prelude.{◌≡◌, ◌∷◌, List, [], drop, map, option_copied, IfOk, IfErr, IfSome, IfNone, OnErr};
+ghost use Rattle.dns_row_scanner.specs.Gap.{end_in, gap_before};
+ghost use Rattle.dns_row_scanner.specs.RowToken.{token_of};
+ghost use Rattle.dns_row_scanner.specs.declared.entry_error.EntryError.TheVariants.{EndOfEntry};
+ghost use Rattle.dns_scan.specs.Token.{SameNames};
+ghost use Rattle.dns_tokens.specs.TokenSpan.{token_in};
+ghost use Rattle.dns_tokens.specs.declared.token_span.TokenSpan.{TokenSpan};
+
+mod scans;
+
+use crate::row_token::RowToken;
+use crate::{EntryError, EntryScanner};
+use dns_name::Name;
+use dns_tokens::TokenSpan;
+use std::alloc::Global;
+
+/// A scanner over the tokens of a zone file's row (RFC 1035 5.1). Names are spelled under an origin, if one is known.
+#[derive(Debug, Drop)]
+pub struct RowScanner<'t> {
+    alloc: Global,
+    text: &'t [u8],
+    /// The place behind what was taken of the text, the quote that closes a token too.
+    place: usize,
+    /// Where the tokens stand that are left.
+    left: &'t [TokenSpan],
+    origin: Option<&'t Name<Vec<u8>>>,
+}
+
+impl<'t> RowScanner<'t> {
+    ghost use Rattle.dns_row_scanner.specs.RowScanner.{gap_of, names_of, origin_of, tokens_of};
+
+    /// Returns a scanner over the tokens of the spans in the text. The row begins at the place. What is scanned grows on this
+    /// allocator.
+    ///
+    /// `read_row` finds the spans of a row. Of spans past the text's end the tokens end where the text ends.
+    pub fn new(
+        alloc: Global,
+        text: &'t [u8],
+        place: usize,
+        spans: &'t [TokenSpan],
+        origin: Option<&'t Name<Vec<u8>>>,
+    ) -> Self
+        ensures tokens { tokens_of result ≡ map (λ span. token_in text.now span) spans.now }
+        ensures origin { origin_of result ≡ option_copied origin.entry }
+        ensures gap { gap_of result ≡ gap_before text.now place spans.now }
+    {
+        RowScanner {
+            alloc,
+            text,
+            place,
+            left: spans,
+            origin,
+        }
+    }
+
+    /// Returns the next token, which stays.
+    fn peek(&self) -> Option<RowToken<'t>>
+        ensures some { IfSome result (λ token. tokens_of self.now ≡ token_of token ∷ drop 1 (tokens_of self.now)) }
+        ensures none { IfNone result (tokens_of self.now ≡ []) }
+    {
+        let (span, _) = self.left.split_first()?;
+        Some(RowToken {
+            text: span.text(self.text),
+            quoted: span.is_quoted(),
+        })
+    }
+
+    /// Takes the next token. Fails with `EndOfEntry` if there is none.
+    fn take_token(&mut self) -> Result<RowToken<'t>, EntryError>
+        ensures ok { IfOk result (λ token. tokens_of self.old ≡ token_of token ∷ tokens_of self.new) }
+        ensures err { OnErr result ((tokens_of self.old ≡ []) × (tokens_of self.new ≡ [])) }
+        ensures end { IfErr result (λ error. error ≡ EndOfEntry) }
+        ensures names { SameNames (names_of self.old) (names_of self.new) }
+        ensures gap { (span : TokenSpan) (spans : List TokenSpan) → self.old.left.now ≡ span ∷ spans
+            → gap_of self.new ≡ gap_before self.old.text.now (end_in self.old.text.now span) spans }
+    {
+        let Some((span, behind)) = self.left.split_first() else {
+            return Err(EntryError::EndOfEntry);
+        };
+        let token = RowToken {
+            text: span.text(self.text),
+            quoted: span.is_quoted(),
+        };
+        self.place = span.start().min(self.text.len())
+            + token.text.len()
+            + usize::from(token.quoted);
+        self.left = behind;
+        Ok(token)
+    }
+
+    /// Returns the octets between what was taken and the next token.
+    fn gap(&self) -> &'t [u8]
+        ensures { result.now ≡ gap_of self.now }
+    {
+        let Some((next, _)) = self.left.split_first() else {
+            return &[];
+        };
+        let end = next.start().saturating_sub(usize::from(next.is_quoted()));
+        let before = &self.text[..end.min(self.text.len())];
+        &before[self.place.min(before.len())..]
+    }
+}
+
+impl<'t> EntryScanner for RowScanner<'t> {
+    fn next_is_quoted(&self) -> bool {
+        match self.peek() {
+            Some(token) => token.quoted,
+            None => false,
+        }
+    }
+}
