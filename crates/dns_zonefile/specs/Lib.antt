@@ -1,3 +1,2 @@
-pub mod PlainRow
 pub mod Entry
 pub mod Entries

@@ -1,7 +1,7 @@
 -- Entries one behind the other, and that they take octets.
 use Rattle.std.proofs.Common.{◌<◌, ◌≤◌, ℕ, List, ◌∷◌, ◌++◌, length, ap, arith, length-append}
-use Rattle.dns_zonefile.specs.PlainRow.{Words}
-use Rattle.dns_zonefile.specs.PlainRow.Words.{last, more}
+use Rattle.zone_text.specs.PlainRow.{Words}
+use Rattle.zone_text.specs.PlainRow.Words.{last, more}
 use Rattle.zone_text.specs.Record.{Record}
 use Rattle.zone_text.specs.ZoneText.{Entries}
 use Rattle.zone_text.specs.ZoneText.Entries.{none, empty, entry}

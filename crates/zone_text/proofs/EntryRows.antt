@@ -10,10 +10,10 @@ use Rattle.dns_text.specs.Tokens.Next.{ended, goes, comment}
 use Rattle.dns_label.specs.NameText.{IsAbsoluteText}
 use Rattle.dns_values.specs.Mnemonic.{class_read, type_read}
 use Rattle.dns_values.specs.Mnemonic.{number_spelled}
-use Rattle.dns_zonefile.specs.PlainRow.{RecordWords, DataWords, Words}
-use Rattle.dns_zonefile.specs.PlainRow.DataWords.{a as a_data, soa as soa_data}
+use Rattle.zone_text.specs.PlainRow.{RecordWords, DataWords, Words}
+use Rattle.zone_text.specs.PlainRow.DataWords.{a as a_data, soa as soa_data}
 use Rattle.dns_rdata.specs.Fields.{Field}
-use Rattle.dns_zonefile.specs.PlainRow.RecordWords.{words}
+use Rattle.zone_text.specs.PlainRow.RecordWords.{words}
 use Rattle.zone_text.specs.Record as spec
 use Rattle.zone_text.specs.ZoneText.{Entries}
 use Rattle.zone_text.specs.ZoneText.Entries.{none, empty, entry}

@@ -3,7 +3,7 @@ use Rattle.std.proofs.Common.{◌≡◌, ◌<◌, ℕ, false, List, [], ◌∷�
 use Rattle.std.specs.Borrow.{Bor}
 use Rattle.std.specs.Option.{IfNone}
 use Rattle.dns_text.specs.Tokens.{IsRun, EndsToken}
-use Rattle.dns_zonefile.specs.PlainRow.{Words}
+use Rattle.zone_text.specs.PlainRow.{Words}
 use Rattle.zone_text.specs.Entry.{texts_of, StartsWithSpaces}
 use Rattle.zone_text.proofs.WordRows.{Split, split_last, split_more, split_no_word, split_no_row}
 

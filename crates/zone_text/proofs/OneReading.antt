@@ -2,7 +2,7 @@
 use Rattle.std.proofs.Common.{◌≡◌, ◌≢◌, ◌⊎◌, ◌+◌, ℕ, true, false, List, [], ◌∷◌, ◌++◌, length, refl, sym, ◌∙◌, ap, subst, append-nil, inl, inr}
 use Rattle.std.specs.List.{AllByRecursion}
 use Rattle.dns_text.specs.Tokens.{is_end}
-use Rattle.dns_zonefile.specs.PlainRow.{RecordWords}
+use Rattle.zone_text.specs.PlainRow.{RecordWords}
 use Rattle.zone_text.specs.Record.{Record}
 use Rattle.zone_text.specs.Zone.{IsUnder, IsZone, IsZoneFront, IsBehindSoa, any_class, soa_type}
 use Rattle.zone_text.specs.ZoneText.{Entries, IsRefused, IsZoneText, IsZoneFault, Reaches}

@@ -11,9 +11,9 @@ use Rattle.dns_label.specs.Name.{IsLabel}
 use Rattle.dns_label.specs.NameText.{HasParts, IsAbsoluteText, parts_of}
 use Rattle.dns_label.specs.NameText.IsAbsoluteText.{root, labels}
 use Rattle.dns_rdata.specs.Fields.{Field, ipv4, octets}
-use Rattle.dns_zonefile.specs.PlainRow.{DataWords, RecordWords}
-use Rattle.dns_zonefile.specs.PlainRow.DataWords.{a as a_data, soa as soa_data}
-use Rattle.dns_zonefile.specs.PlainRow.RecordWords.{words}
+use Rattle.zone_text.specs.PlainRow.{DataWords, RecordWords}
+use Rattle.zone_text.specs.PlainRow.DataWords.{a as a_data, soa as soa_data}
+use Rattle.zone_text.specs.PlainRow.RecordWords.{words}
 use Rattle.zone_text.specs.Record.{Record}
 use Rattle.zone_text.proofs.WordSymbols.{one_symbol}
 use Rattle.zone_text.proofs.NumberTexts.{one_value}

@@ -13,10 +13,10 @@ use Rattle.dns_rdata.specs.Fields.{Field, IsRow, octets}
 use Rattle.dns_rdata.specs.Fields.Field.{ipv4}
 use Rattle.dns_rdata.specs.Shown.{row_tokens}
 use Rattle.dns_message.specs.Printed.{IsDocument}
-use Rattle.dns_zonefile.specs.PlainRow.{AreSpaces, DataWords, IsUnquoted, PlainRow, RecordWords, Words}
-use Rattle.dns_zonefile.specs.PlainRow.DataWords.{a as a_words, soa as soa_words}
-use Rattle.dns_zonefile.specs.PlainRow.RecordWords.{words as spells}
-use Rattle.dns_zonefile.specs.PlainRow.Words.{last, more as more_words}
+use Rattle.zone_text.specs.PlainRow.{AreSpaces, DataWords, IsUnquoted, PlainRow, RecordWords, Words}
+use Rattle.zone_text.specs.PlainRow.DataWords.{a as a_words, soa as soa_words}
+use Rattle.zone_text.specs.PlainRow.RecordWords.{words as spells}
+use Rattle.zone_text.specs.PlainRow.Words.{last, more as more_words}
 use Rattle.zone_text.specs.Record.{Record}
 use Rattle.zone_text.specs.Records.{AreOctets, AreRecordsOf, IsRecordOf}
 use Rattle.zone_text.specs.Printed.{IsPrinted}

@@ -17,7 +17,7 @@ use Rattle.dns_label.specs.NameText.IsAbsoluteText.{root, labels as has_labels}
 use Rattle.dns_label.specs.Printed.{printed_symbol, printed_label, printed_labels, printed_name}
 use Rattle.dns_values.specs.Mnemonic.{classes, number_spelled, text_of, text_written, class_written}
 use Rattle.dns_text.specs.Tokens.{IsIn}
-use Rattle.dns_zonefile.specs.PlainRow.{IsUnquoted}
+use Rattle.zone_text.specs.PlainRow.{IsUnquoted}
 use Rattle.zone_text.specs.Records.{AreOctets}
 use Rattle.zone_text.proofs.Each.{all_append}
 use Rattle.zone_text.proofs.NumberTexts.{IsNumberText, number_is_spelled, number_of_digits}

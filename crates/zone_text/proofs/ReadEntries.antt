@@ -12,10 +12,10 @@ use Rattle.dns_text.specs.Tokens.Next.{ended, goes, comment, quoted, unquoted}
 use Rattle.dns_text.specs.Tokens.Row.{end}
 use Rattle.dns_rdata.specs.Fields.{Field, ipv4, compressible, number32, octets, IsRow}
 use Rattle.dns_rdata.specs.Fields.IsData.{typed}
-use Rattle.dns_zonefile.specs.PlainRow.{DataWords, Words, RecordWords}
-use Rattle.dns_zonefile.specs.PlainRow.Words.{last, more}
-use Rattle.dns_zonefile.specs.PlainRow.DataWords.{a, soa}
-use Rattle.dns_zonefile.specs.PlainRow.RecordWords.{words}
+use Rattle.zone_text.specs.PlainRow.{DataWords, Words, RecordWords}
+use Rattle.zone_text.specs.PlainRow.Words.{last, more}
+use Rattle.zone_text.specs.PlainRow.DataWords.{a, soa}
+use Rattle.zone_text.specs.PlainRow.RecordWords.{words}
 use Rattle.zone_text.specs.Record.{Record}
 use Rattle.zone_text.specs.Records.{AreOctets, IsRecordOf}
 use Rattle.zone_text.specs.Zone.{soa_type}

@@ -11,8 +11,8 @@ use Rattle.dns_label.specs.Name.{IsName, wire}
 use Rattle.dns_label.specs.NameText.{IsAbsoluteText}
 use Rattle.dns_values.specs.Mnemonic.{number_spelled}
 use Rattle.dns_rdata.specs.Fields.{Field, ipv4, compressible, number32}
-use Rattle.dns_zonefile.specs.PlainRow.{DataWords}
-use Rattle.dns_zonefile.specs.PlainRow.DataWords.{a as a_data, soa as soa_data}
+use Rattle.zone_text.specs.PlainRow.{DataWords}
+use Rattle.zone_text.specs.PlainRow.DataWords.{a as a_data, soa as soa_data}
 use Rattle.dns_wire.specs.declared.text.FromStrError.{FromStrError}
 use Rattle.dns_wire.specs.declared.text.FromStrError.TheVariants.{Presentation, ShortBuf}
 use Rattle.dns_wire.specs.Text.{IsRefused}

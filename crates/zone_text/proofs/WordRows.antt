@@ -8,8 +8,8 @@ use Rattle.dns_label.specs.declared.symbol.Symbol.TheVariants.{Char, SimpleEscap
 use Rattle.dns_label.specs.Symbol.{spelled}
 use Rattle.dns_text.specs.Tokens.{IsIn, IsRun, EndsToken, IsEmptyRow, stands_plain, is_end}
 use Rattle.dns_text.specs.Tokens.Head.{Word}
-use Rattle.dns_zonefile.specs.PlainRow.{IsUnquoted, AreSpaces, Words}
-use Rattle.dns_zonefile.specs.PlainRow.Words.{last, more}
+use Rattle.zone_text.specs.PlainRow.{IsUnquoted, AreSpaces, Words}
+use Rattle.zone_text.specs.PlainRow.Words.{last, more}
 use Rattle.zone_text.specs.Entry.{StartsWithSymbol, StartsWithSpaces}
 use Rattle.zone_text.proofs.WordSymbols.{symbol_first, ends_nil, ends_plain, ends_low, one_word, word_head, word_no_gap, differs, plain_differs}
 use Rattle.zone_text.proofs.EmptyRows.{Ends, after_at, ends_of_row, end_at_other}

@@ -8,7 +8,7 @@ use Rattle.dns_text.specs.Tokens.{IsIn, EndsToken, stands_plain}
 pub use Rattle.dns_text.proofs.TokenSymbols.{one_symbol, differs, plain_differs, word_no_gap, word_head}
 use Rattle.dns_text.proofs.TokenSymbols.{one_run}
 use Rattle.dns_text.proofs.TokenSymbols.{symbol_first as first_of_token, ends_nil as ends_token_nil, ends_plain as ends_token_plain, ends_low as ends_token_low}
-use Rattle.dns_zonefile.specs.PlainRow.{IsUnquoted}
+use Rattle.zone_text.specs.PlainRow.{IsUnquoted}
 
 -- characters without escapes are written as they are
 pub chars_written : (text : List ℕ) → text ≡ flat_map spelled (map Char text)

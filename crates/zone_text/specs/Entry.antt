@@ -8,7 +8,7 @@ use Rattle.dns_label.specs.Symbol.{spelled}
 use Rattle.dns_text.specs.Tokens.{IsEmptyRow, IsIn, is_end}
 use Rattle.dns_header.specs.Head.{after_length}
 use Rattle.dns_rdata.specs.Fields.{Field, octets}
-use Rattle.dns_zonefile.specs.PlainRow.{DataWords, PlainRow, RecordWords}
+use Rattle.zone_text.specs.PlainRow.{DataWords, PlainRow, RecordWords}
 use Rattle.dns_wire.specs.declared.text.FromStrError.{FromStrError}
 use Rattle.dns_wire.specs.declared.text.FromStrError.TheVariants.{Presentation, ShortBuf}
 use Rattle.zone_text.specs.Record as spec

@@ -1,4 +1,5 @@
 pub mod Record
+pub mod PlainRow
 pub mod Zone
 pub mod ZoneText
 pub mod Stored

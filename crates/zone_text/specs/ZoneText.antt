@@ -1,7 +1,7 @@
 -- Which text is a zone's, and else the first rule that it breaks.
 use Rattle.std.specs.Prelude.{◌≡◌, ◌≢◌, ◌+◌, ℕ, true, false, List, [], ◌∷◌, ◌++◌, length}
 use Rattle.dns_text.specs.Tokens.{IsEmptyRow, is_end}
-use Rattle.dns_zonefile.specs.PlainRow.{PlainRow, RecordWords}
+use Rattle.zone_text.specs.PlainRow.{PlainRow, RecordWords}
 use Rattle.zone_text.specs.Record.{Record}
 use Rattle.zone_text.specs.Zone.{IsUnder, IsZone, IsZoneFront, any_class, soa_type}
 use Rattle.zone_text.specs.declared.zone_error.ZoneError.{ZoneError}

@@ -1,7 +1,7 @@
 //! The entries of a zone's text: rows that are records, among rows without tokens (RFC 1035 5.1).
 ghost use Rattle.std.specs.Prelude.{◌≡◌, ◌++◌, List, ℕ, [], ◌∷◌, IfOk, IfErr, IfSome, IfNone, OnOk};
 ghost use Rattle.std.specs.Int.{to_be_bytes, w16, w32};
-ghost use Rattle.dns_zonefile.specs.PlainRow.{RecordWords};
+ghost use Rattle.zone_text.specs.PlainRow.{RecordWords};
 ghost use Rattle.zone_text.specs.Record as spec;
 ghost use Rattle.zone_text.specs.ZoneText.{Entries};
 ghost use Rattle.zone_text.specs.Entry.{texts_of, OnText, error_of_name, StartsWithRecord, EndsBehindRows, RefusedBehindRows};

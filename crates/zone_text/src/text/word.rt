@@ -1,7 +1,7 @@
 //! Words, which are unquoted tokens, and rows of them (RFC 1035 5.1).
 ghost use Rattle.std.specs.Prelude.{◌<◌, ◌≤◌, ◌↔◌, List, ℕ, false, length, IsTrue, IfSome, IfNone};
 ghost use Rattle.dns_text.specs.Tokens.{EndsToken, IsRun, Stands};
-ghost use Rattle.dns_zonefile.specs.PlainRow.{Words};
+ghost use Rattle.zone_text.specs.PlainRow.{Words};
 ghost use Rattle.zone_text.specs.Entry.{texts_of, is_from_asterisk, StartsWithPlain, StartsWithSymbol, StartsWithSpaces};
 
 use arrayvec::ArrayVec;

@@ -1,6 +1,6 @@
 use Rattle.std.proofs.Common.{◌≡◌, ◌<◌, ◌^◌, ◌++◌, ◌∙◌, ℕ, length, ap, arith, subst, sym, refl}
 use Rattle.dns_label.specs.Name.{wire}
-use Rattle.dns_zonefile.specs.PlainRow.{RecordWords}
+use Rattle.zone_text.specs.PlainRow.{RecordWords}
 use Rattle.zone_text.specs.Entry.{texts_of}
 use Rattle.zone_text.specs.Record.{Record}
 use Rattle.zone_text.proofs.ReadEntries.{record-lawful}

@@ -1,7 +1,7 @@
 use Rattle.zone_text.proofs.RecordData.{text_exit, none_of}
 use Rattle.zone_text.proofs.EntryRows.{handed_exit, no_words, no_record, found_of}
 use Rattle.std.proofs.Common.{subst}
-use Rattle.dns_zonefile.specs.PlainRow.{RecordWords, Words}
+use Rattle.zone_text.specs.PlainRow.{RecordWords, Words}
 use Rattle.zone_text.specs.Record.{Record}
 use Rattle.zone_text.specs.Entry.{texts_of}
 use Rattle.zone_text.proofs.text.entry.split_record.Goals as goal
