@@ -1,4 +1,8 @@
+pub mod OneStatement
 pub mod OneEntry
+pub mod Heads
+pub mod Directions
+pub mod Records
 pub mod RowFronts
 pub mod OneList
 mod Tried

@@ -1,6 +1,7 @@
 -- The entries of zone files, tried on texts that are written out.
-use Rattle.std.proofs.Common.{◌≡◌, ℕ, true, false, List, [], ◌∷◌, ◌++◌, Option, Some, None, refl, sym, ◌∙◌, subst, arith, ◌≤◌}
+use Rattle.std.proofs.Common.{◌≡◌, ℕ, true, false, List, [], ◌∷◌, ◌++◌, Option, Some, None, refl, sym, ◌∙◌, ap, subst, arith, ◌≤◌}
 use Rattle.std.specs.Prelude.{codes}
+use Rattle.std.specs.Option.{option_or}
 use Rattle.dns_label.specs.declared.symbol.Symbol.TheVariants.{Char, SimpleEscape, DecimalEscape}
 use Rattle.dns_values.specs.Mnemonic.{number_spelled}
 use Rattle.dns_scan.specs.Token.{Token, unquoted}
@@ -9,11 +10,14 @@ use Rattle.dns_text.specs.Tokens.Next.{ended, goes, unquoted as word}
 use Rattle.dns_text.specs.Tokens.Row.{end, token}
 use Rattle.dns_text.specs.Rows.{IsText, TokenRow, unled}
 use Rattle.dns_text.specs.Rows.BeginsWithRows.{none, more}
-use Rattle.dns_zonefile.specs.Entry.{Context, Entry, HasOwner, IsEntry, at_start}
+use Rattle.dns_zonefile.specs.Statement.{HasOwner, Says, Stated, Statement}
+use Rattle.dns_zonefile.specs.Statement.Statement.{SetTtl, StateRecord}
+use Rattle.dns_zonefile.specs.Statement.Directs.{ttl}
+use Rattle.dns_zonefile.specs.Statement.HasOwner.{last, own}
+use Rattle.dns_zonefile.specs.Statement.Says.{directive, resource}
+use Rattle.dns_zonefile.specs.Entry.{Context, Entry, Enters, IsEntry, at_start}
 use Rattle.dns_zonefile.specs.Entry.Entry.{Directive}
-use Rattle.dns_zonefile.specs.Entry.Directs.{ttl}
-use Rattle.dns_zonefile.specs.Entry.HasOwner.{last, own}
-use Rattle.dns_zonefile.specs.Entry.IsEntry.{directive, resource}
+use Rattle.dns_zonefile.specs.Entry.Enters.{ttl as sets_ttl, resource as enters_record}
 use Rattle.dns_zonefile.specs.Entries.{HasEntries, IsRefusedAfter, refused_number}
 use Rattle.dns_zonefile.specs.Entries.AreEntries.{none as no_entries, entry}
 use Rattle.dns_zonefile.specs.Entries.IsRefusedAfter.{no_entry}
@@ -87,9 +91,12 @@ ttl_row rest =
 ttl_says : (context : Context) → IsEntry context (unled (unquoted (codes "$TTL") ∷ unquoted (codes "5") ∷ [])) Directive
     (record context { default_ttl = Some 5 })
 unfolding number_spelled
-ttl_says context =
-    directive (record { unled = refl; text = codes "TTL"; others = unquoted (codes "5") ∷ []; is = refl })
-    (ttl (codes "$TTL", refl, refl) (refl, refl) refl)
+ttl_says context = record {
+  statement = SetTtl 5;
+  says = directive (record { unled = refl; text = codes "TTL"; others = unquoted (codes "5") ∷ []; is = refl })
+      (ttl (codes "$TTL", refl, refl) (refl, refl) refl);
+  enters = sets_ttl;
+}
 
 ttl_is_set : (context : Context) → HasEntries context (codes "$TTL 5" ++ 10 ∷ []) (Directive ∷ [])
 ttl_is_set context = record {
@@ -104,15 +111,29 @@ unfolding ttl_is_set
 ttl_is_five context = refl
 
 -- a row that white space leads is no record where no owner is known
-unknown_owner : {context : Context} {row : TokenRow} {name : List (List ℕ)} {tokens : List Token} → HasOwner context row name tokens
-    → row.led ≡ true → context.owner ≡ None → ⊥
-unknown_owner {name = name} (last is) led unknown = let bad : Some name ≡ None = sym is ∙ unknown in absurd cc
-unknown_owner (own is) led unknown = absurd cc
+unowned : {names : List ℕ → List (List ℕ) → Type 0} {row : TokenRow} {owner : Option (List (List ℕ))} {tokens : List Token}
+    → HasOwner names row owner tokens → row.led ≡ true → owner ≡ None
+unowned last led = refl
+unowned (own is) led = absurd cc
+
+missing : {context : Context} {stated : Stated} {found : Entry} {next : Context} → stated.owner ≡ None → context.owner ≡ None
+    → Enters context (StateRecord stated) found next → ⊥
+missing {context} {stated} unstated unknown (enters_record {owner = owner} is_owner is_class known) =
+    let bad : None ≡ Some owner = sym (ap (λ (o : Option (List (List ℕ))). option_or o context.owner) unstated ∙ unknown) ∙ is_owner in absurd cc
+
+stated_none : {context : Context} {names : List ℕ → List (List ℕ) → Type 0} {row : TokenRow} {stated : Stated} {tokens : List Token}
+    {found : Entry} {next : Context} → HasOwner names row stated.owner tokens → row.led ≡ true → context.owner ≡ None
+    → Enters context (StateRecord stated) found next → ⊥
+stated_none {context} {names} {row} {stated} owner led unknown made = missing (unowned owner led) unknown made
+
+no_owner : {context : Context} {names : List ℕ → List (List ℕ) → Type 0} {row : TokenRow} {statement : Statement} {found : Entry}
+    {next : Context} → row.led ≡ true → context.owner ≡ None → Says names row statement → Enters context statement found next → ⊥
+no_owner led unknown (directive is told) made = let bad : true ≡ false = sym led ∙ is.unled in cc
+no_owner led unknown (resource is) made = stated_none is.owner led unknown made
 
 says_nothing : {context : Context} {row : TokenRow} → row.led ≡ true → context.owner ≡ None → (found : Entry) (next : Context)
     → IsEntry context row found next → ⊥
-says_nothing led unknown found next (directive is says) = let bad : true ≡ false = sym led ∙ is.unled in cc
-says_nothing led unknown found next (resource is) = unknown_owner is.owner led unknown
+says_nothing led unknown found next is = no_owner led unknown is.says is.enters
 
 led_row : Row false (32 ∷ 97 ∷ 10 ∷ []) (unquoted (97 ∷ []) ∷ []) []
 led_row = token false (10 ∷ []) (goes 32 false refl (word 97 refl (a_run []) (omega arith))) (end (ended 10 refl))

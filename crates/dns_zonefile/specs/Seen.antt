@@ -1,0 +1,30 @@
+-- What contracts see of rows and statements.
+use Rattle.std.specs.Prelude.{ℕ, Bool, List, option_map, string_bytes}
+use Rattle.dns_scan.specs.Token.{Token}
+use Rattle.dns_text.specs.Rows.{TokenRow}
+use Rattle.dns_rdata.specs.ZoneData.{data_of}
+use Rattle.dns_zonefile.specs.Statement.{Stated, Statement}
+use Rattle.dns_zonefile.specs.Statement.Statement.{SetOrigin, SetTtl, NameFile, StateRecord}
+use Rattle.dns_zonefile.specs.declared.statement.Statement as code
+use Rattle.dns_zonefile.specs.declared.statement.Statement.TheVariants as made
+use Rattle.dns_zonefile.specs.declared.statement.Stated as stated
+
+-- a row of tokens, which white space leads or not
+abbrev pub row_of : Bool → List Token → TokenRow
+row_of led tokens = record { led = led; tokens = tokens }
+
+-- a record as a row states it, its names by what they spell
+abbrev pub stated_of : {Octs N : Type 0} → (N → List (List ℕ)) → stated.Stated Octs N → Stated
+stated_of name found = record {
+  owner = option_map name found.owner;
+  ttl = found.ttl;
+  class = found.class;
+  rdata = data_of found.rdata;
+}
+
+-- what a row says, its names by what they spell
+abbrev pub statement_of : {Octs N : Type 0} → (N → List (List ℕ)) → code.Statement Octs N → Statement
+statement_of name (made.SetOrigin origin) = SetOrigin (name origin)
+statement_of name (made.SetTtl seconds) = SetTtl seconds
+statement_of name (made.NameFile path origin) = NameFile (string_bytes path) (option_map name origin)
+statement_of name (made.StateRecord found) = StateRecord (stated_of name found)

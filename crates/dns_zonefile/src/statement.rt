@@ -1,0 +1,97 @@
+//! What a row says in itself, before the rows before it count (RFC 1035 5.1).
+ghost use Rattle.std.specs.Prelude.{◌≡◌, Bool, false, IfOk, IfErr};
+ghost use Rattle.dns_fields.specs.SpelledNames.{SpellOne};
+ghost use Rattle.dns_zonefile.specs.Statement as spec;
+ghost use Rattle.dns_zonefile.specs.Statement.{IsDirective, Says};
+ghost use Rattle.dns_zonefile.specs.Seen.{row_of, statement_of};
+
+mod directive;
+mod head;
+mod owner;
+
+use directive::{is_directive, scan_directive};
+use dns_name::{Class, Octets, ToName, Ttl};
+use dns_rdata::ZoneRecordData;
+use dns_row_scanner::EntryScanner;
+use dns_text::{Scanner, ScannerError};
+use head::scan_head;
+use owner::scan_owner;
+
+/// A record as a row states it (RFC 1035 5.1).
+#[derive(Drop)]
+pub struct Stated<Octs: Octets, N: ToName> {
+    /// The owner. None if white space leads the row, which then has the last owner.
+    pub owner: Option<N>,
+    /// The TTL, if the row states one.
+    pub ttl: Option<Ttl>,
+    /// The class, if the row states one.
+    pub class: Option<Class>,
+    /// The data, whose type is that of the record.
+    pub rdata: ZoneRecordData<Octs, N>,
+}
+
+/// What a row says.
+#[derive(Drop)]
+pub enum Statement<Octs: Octets, N: ToName> {
+    /// `$ORIGIN`.
+    SetOrigin(N),
+    /// `$TTL`.
+    SetTtl(Ttl),
+    /// `$INCLUDE`: the path of another file, and the origin for it, if one is stated.
+    NameFile(String, Option<N>),
+    /// A record.
+    StateRecord(Stated<Octs, N>),
+}
+
+/// Reads what a row says, which white space leads or not and whose tokens these are.
+///
+/// Fails with an error other than `short_buf` only if it says nothing. By condition a text spells one name at most.
+#[tactic(auto, using(crate::proofs::Records::says_direction, crate::proofs::Records::no_direction, crate::proofs::Records::led_no_directive, crate::proofs::Records::begins_no_directive))]
+pub fn scan_statement<S: EntryScanner>(
+    led: bool,
+    scanner: &mut S,
+) -> Result<Statement<S::Octets, S::Name>, S::Error>
+where
+    S::Name: Drop,
+    S::Error: Drop,
+    requires { SpellOne (S.names scanner.old) }
+    ensures ok { IfOk result (λ statement. Says (S.names scanner.old) (row_of led (S.tokens scanner.old)) (statement_of ⟦<S::Name as ToName>⟧.name statement)) }
+    ensures err { IfErr result (λ error. S.Error.is_short error ≡ false → (statement : spec.Statement)
+        → Says (S.names scanner.old) (row_of led (S.tokens scanner.old)) statement → ⊥) }
+{
+    if led {
+        return scan_record(led, scanner);
+    }
+    if is_directive(scanner) {
+        return scan_directive(scanner);
+    }
+    scan_record(led, scanner)
+}
+
+/// Reads the record that a row states, which is no directive.
+fn scan_record<S: EntryScanner>(
+    led: bool,
+    scanner: &mut S,
+) -> Result<Statement<S::Octets, S::Name>, S::Error>
+where
+    S::Name: Drop,
+    S::Error: Drop,
+    requires once { SpellOne (S.names scanner.old) }
+    requires bare { IsDirective (row_of led (S.tokens scanner.old)) → ⊥ }
+    ensures ok { IfOk result (λ statement. Says (S.names scanner.old) (row_of led (S.tokens scanner.old)) (statement_of ⟦<S::Name as ToName>⟧.name statement)) }
+    ensures err { IfErr result (λ error. S.Error.is_short error ≡ false → (statement : spec.Statement)
+        → Says (S.names scanner.old) (row_of led (S.tokens scanner.old)) statement → ⊥) }
+{
+    let owner = scan_owner(led, scanner)?;
+    let head = scan_head(scanner)?;
+    let rdata = ZoneRecordData::scan(head.rtype, scanner)?;
+    if scanner.continues() {
+        return Err(S::Error::trailing_tokens());
+    }
+    Ok(Statement::StateRecord(Stated {
+        owner,
+        ttl: head.ttl,
+        class: head.class,
+        rdata,
+    }))
+}

@@ -1,0 +1,152 @@
+//! What stands in a record's row between its owner and its data: a TTL and a class, if they are stated, and a type.
+ghost use Rattle.std.specs.Prelude.{◌≡◌, ◌^◌, List, ℕ, Option, Some, None, false, true, IfOk, IfErr, IfSome, IfNone, option_copied};
+ghost use Rattle.std.specs.List.{list_all};
+ghost use Rattle.std.specs.Char.{is_ascii_digit};
+ghost use Rattle.dns_values.specs.Mnemonic.{number_spelled};
+ghost use Rattle.dns_scan.specs.Token.{Token, SameNames, Takes};
+ghost use Rattle.dns_zonefile.specs.Statement.{HasHead};
+ghost use Rattle.dns_zonefile.specs.HeadWord.{Heads, IsHeadWord};
+
+use dns_name::{Class, Rtype, Serial, Ttl};
+use dns_row_scanner::EntryScanner;
+use dns_text::{Scanner, ScannerError};
+
+/// What stands before a record's data.
+#[derive(Clone, Copy)]
+pub(crate) struct RecordHead {
+    pub(crate) ttl: Option<Ttl>,
+    pub(crate) class: Option<Class>,
+    pub(crate) rtype: Rtype,
+}
+
+/// A word before a record's data.
+#[derive(Clone, Copy)]
+pub(crate) enum HeadWord {
+    Ttl(Ttl),
+    Class(Class),
+    Rtype(Rtype),
+}
+
+/// Reads the TTL and the class, if they are stated and in either order, and the type (RFC 1035 5.1).
+#[tactic(auto, using(crate::proofs::Heads::no_word, crate::proofs::Heads::with_type, crate::proofs::Heads::with_ttl, crate::proofs::Heads::with_class, crate::proofs::Heads::behind_ttl, crate::proofs::Heads::behind_class))]
+pub(crate) fn scan_head<S: EntryScanner>(scanner: &mut S) -> Result<RecordHead, S::Error>
+    ensures ok { IfOk result (λ head. HasHead (S.tokens scanner.old) head.ttl head.class head.rtype (S.tokens scanner.new)) }
+    ensures err { IfErr result (λ error. S.Error.is_short error ≡ false → (ttl class : Option ℕ) (rtype : ℕ) (left : List Token)
+        → HasHead (S.tokens scanner.old) ttl class rtype left → ⊥) }
+    ensures names { SameNames (S.names scanner.old) (S.names scanner.new) }
+{
+    match next_word(scanner)? {
+        HeadWord::Ttl(ttl) => {
+            let (class, rtype) = scan_class_and_type(scanner)?;
+            Ok(RecordHead {
+                ttl: Some(ttl),
+                class,
+                rtype,
+            })
+        }
+        HeadWord::Class(class) => {
+            let (ttl, rtype) = scan_ttl_and_type(scanner)?;
+            Ok(RecordHead {
+                ttl,
+                class: Some(class),
+                rtype,
+            })
+        }
+        HeadWord::Rtype(rtype) => Ok(RecordHead {
+            ttl: None,
+            class: None,
+            rtype,
+        }),
+    }
+}
+
+/// Reads the class, if it is stated, and the type.
+#[tactic(auto, using(crate::proofs::Heads::no_word, crate::proofs::Heads::with_type, crate::proofs::Heads::with_class, crate::proofs::Heads::behind_class, crate::proofs::Heads::no_ttl))]
+fn scan_class_and_type<S: EntryScanner>(scanner: &mut S) -> Result<(Option<Class>, Rtype), S::Error>
+    ensures ok { IfOk result (λ head. HasHead (S.tokens scanner.old) None head.0 head.1 (S.tokens scanner.new)) }
+    ensures err { IfErr result (λ error. S.Error.is_short error ≡ false → (class : Option ℕ) (rtype : ℕ) (left : List Token)
+        → HasHead (S.tokens scanner.old) None class rtype left → ⊥) }
+    ensures names { SameNames (S.names scanner.old) (S.names scanner.new) }
+{
+    match next_word(scanner)? {
+        HeadWord::Class(class) => Ok((Some(class), scan_type(scanner)?)),
+        HeadWord::Rtype(rtype) => Ok((None, rtype)),
+        HeadWord::Ttl(_) => Err(S::Error::custom("TTL stated twice")),
+    }
+}
+
+/// Reads the TTL, if it is stated, and the type.
+#[tactic(auto, using(crate::proofs::Heads::no_word, crate::proofs::Heads::with_type, crate::proofs::Heads::with_ttl, crate::proofs::Heads::behind_ttl, crate::proofs::Heads::no_class))]
+fn scan_ttl_and_type<S: EntryScanner>(scanner: &mut S) -> Result<(Option<Ttl>, Rtype), S::Error>
+    ensures ok { IfOk result (λ head. HasHead (S.tokens scanner.old) head.0 None head.1 (S.tokens scanner.new)) }
+    ensures err { IfErr result (λ error. S.Error.is_short error ≡ false → (ttl : Option ℕ) (rtype : ℕ) (left : List Token)
+        → HasHead (S.tokens scanner.old) ttl None rtype left → ⊥) }
+    ensures names { SameNames (S.names scanner.old) (S.names scanner.new) }
+{
+    match next_word(scanner)? {
+        HeadWord::Ttl(ttl) => Ok((Some(ttl), scan_type(scanner)?)),
+        HeadWord::Rtype(rtype) => Ok((None, rtype)),
+        HeadWord::Class(_) => Err(S::Error::custom("class stated twice")),
+    }
+}
+
+/// Reads the type.
+#[tactic(auto, using(crate::proofs::Heads::no_word, crate::proofs::Heads::with_type, crate::proofs::Heads::no_ttl, crate::proofs::Heads::no_class))]
+fn scan_type<S: EntryScanner>(scanner: &mut S) -> Result<Rtype, S::Error>
+    ensures ok { IfOk result (λ rtype. HasHead (S.tokens scanner.old) None None rtype (S.tokens scanner.new)) }
+    ensures err { IfErr result (λ error. S.Error.is_short error ≡ false → (rtype : ℕ) (left : List Token)
+        → HasHead (S.tokens scanner.old) None None rtype left → ⊥) }
+    ensures names { SameNames (S.names scanner.old) (S.names scanner.new) }
+{
+    match next_word(scanner)? {
+        HeadWord::Rtype(rtype) => Ok(rtype),
+        HeadWord::Ttl(_) => Err(S::Error::custom("type expected")),
+        HeadWord::Class(_) => Err(S::Error::custom("type expected")),
+    }
+}
+
+/// Reads one word.
+fn next_word<S: EntryScanner>(scanner: &mut S) -> Result<HeadWord, S::Error>
+    ensures ok { IfOk result (λ word. Takes (IsHeadWord word) (S.tokens scanner.old) (S.tokens scanner.new)) }
+    ensures err { IfErr result (λ error. S.Error.is_short error ≡ false → (word : HeadWord) (left : List Token)
+        → Takes (IsHeadWord word) (S.tokens scanner.old) left → ⊥) }
+    ensures names { SameNames (S.names scanner.old) (S.names scanner.new) }
+{
+    scanner.scan_ascii_str(word_of)
+}
+
+/// Returns what a word says: digits are a TTL, another word is a type, and only if it is none a class.
+#[tactic(auto, using(crate::proofs::Heads::number_alone))]
+fn word_of(text: &str) -> Option<HeadWord>
+    ensures some { IfSome result (λ word. Heads text.now word) }
+    ensures none { IfNone result ((word : HeadWord) → Heads text.now word → ⊥) }
+{
+    if are_digits(text) {
+        return match ttl_of(text) {
+            Some(ttl) => Some(HeadWord::Ttl(ttl)),
+            None => None,
+        };
+    }
+    if let Some(rtype) = Rtype::from_bytes(text.as_bytes()) {
+        return Some(HeadWord::Rtype(rtype));
+    }
+    match Class::from_bytes(text.as_bytes()) {
+        Some(class) => Some(HeadWord::Class(class)),
+        None => None,
+    }
+}
+
+/// Returns whether these are decimal digits alone.
+fn are_digits(text: &str) -> bool
+    ensures { result ≡ list_all is_ascii_digit text.now }
+{
+    text.as_bytes().iter().all(u8::is_ascii_digit)
+}
+
+/// Returns the TTL that digits spell.
+fn ttl_of(text: &str) -> Option<Ttl>
+    ensures { result ≡ number_spelled (2 ^ 32) text.now }
+{
+    let number: Serial = text.parse().ok()?;
+    Some(Ttl::from_secs(number.into_int()))
+}
