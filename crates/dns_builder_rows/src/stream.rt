@@ -34,15 +34,40 @@ pub fn new_stream_vec(alloc: Global, row: &mut Row<'_>, out: &mut Answer) -> Res
 
 /// Pushes two answers over a compressor over a stream target over a vector, and writes the length and the message.
 pub fn two_answers(alloc: Global, row: &mut Row<'_>, out: &mut Answer) -> Result<(), RowError> {
-    let kind = row.word()?;
+    match row.word()? {
+        "static" => two_over_static(alloc, row, out),
+        "tree" => two_over_tree(alloc, row, out),
+        "hash" => two_over_hash(alloc, row, out),
+        _ => Err(RowError::BadWord),
+    }
+}
+
+/// Pushes two answers over a compressor of the first kind.
+fn two_over_static(alloc: Global, row: &mut Row<'_>, out: &mut Answer) -> Result<(), RowError> {
     let first = record_of(alloc, row)?;
     let second = record_of(alloc, row)?;
-    let stream = match kind {
-        "static" => over_static(alloc, first, second),
-        "tree" => over_tree(alloc, first, second),
-        "hash" => over_hash(alloc, first, second),
-        _ => return Err(RowError::BadWord),
-    };
+    write_stream(over_static(alloc, first, second), out)
+}
+
+/// Pushes two answers over a compressor of the second kind.
+fn two_over_tree(alloc: Global, row: &mut Row<'_>, out: &mut Answer) -> Result<(), RowError> {
+    let first = record_of(alloc, row)?;
+    let second = record_of(alloc, row)?;
+    write_stream(over_tree(alloc, first, second), out)
+}
+
+/// Pushes two answers over a compressor of the third kind.
+fn two_over_hash(alloc: Global, row: &mut Row<'_>, out: &mut Answer) -> Result<(), RowError> {
+    let first = record_of(alloc, row)?;
+    let second = record_of(alloc, row)?;
+    write_stream(over_hash(alloc, first, second), out)
+}
+
+/// Writes the length and the message, or why a push was refused.
+fn write_stream(
+    stream: Result<StreamTarget<Vec<u8>>, PushError>,
+    out: &mut Answer,
+) -> Result<(), RowError> {
     match stream {
         Ok(stream) => write_octets(stream.as_stream_slice(), out),
         Err(error) => out.refused(&error),
