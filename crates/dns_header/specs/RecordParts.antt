@@ -8,6 +8,10 @@ use Rattle.dns_header.specs.Record.{RecordOf}
 abbrev pub with_data : {Owner Data : Type 0} → RecordOf Owner Data → Data → RecordOf Owner Data
 with_data rr rdata = record { owner = rr.owner; class = rr.class; ttl = rr.ttl; rdata = rdata }
 
+-- a record with another TTL
+abbrev pub with_ttl : {Owner Data : Type 0} → RecordOf Owner Data → ℕ → RecordOf Owner Data
+with_ttl rr ttl = record { owner = rr.owner; class = rr.class; ttl = ttl; rdata = rr.rdata }
+
 -- The result is the source with another owner and other data, which converting the source's gives, as `owner_gives` and
 -- `data_gives` say. The data is converted after the owner.
 abbrev pub IsConvertedRecord : {Owner Data Source SourceData E : Type 0} → (Source → Result Owner E → Type 0)

@@ -19,8 +19,14 @@ ghost use Rattle.dns_message.specs.Held.{TakesRecord, record_of, written_parts_o
 ghost use Rattle.dns_message.specs.Record.{Record, IsRecord, IsWritten, ReadsPlainRecord, ReadsRecord, record_octets};
 
 pub use dns_header::laws::{
-    counts_are_four_numbers, header_is_its_fields, question_skip_stops_where_parse_stops,
-    questions_in_full_are_read,
+    counts_are_four_numbers, header_is_its_fields, options_are_cut_from_their_octets,
+    question_orders_by_name_type_class, question_skip_stops_where_parse_stops,
+    questions_in_full_are_read, record_equality_order_and_hash_agree,
+    record_header_orders_by_fields, record_orders_by_owner_class_data,
+    record_skip_stops_where_parse_stops,
+};
+pub use dns_sections::laws::{
+    question_and_record_cursors_end, question_and_record_errors_come_once,
 };
 
 /// A message has a record at a place exactly where the code reads its head and its data there: a row of the fields of its type, or

@@ -1,11 +1,20 @@
 //! Messages: headers, questions, records, how they are read and built (RFC 1035 4.1).
 //!
-//! It hands on its parts: `dns_header` has headers, questions and records, and `dns_sections` messages and the cursors over their
-//! sections. The builders of `dns_builder` and the targets of `dns_compress` are not handed on yet.
+//! It hands on its parts: `dns_header` has headers, questions and records, `dns_sections` messages and the cursors over their
+//! sections, `dns_builder` the builders of messages, and `dns_compress` targets that compress or stand behind a length.
 #![tactic(auto)]
 
 pub mod laws;
 
+pub use dns_builder::{
+    AdditionalBuilder, Additionals, AnswerBuilder, Answers, Authorities, AuthorityBuilder,
+    BegunSection, BuilderSection, MessageBuilder, OptBuilder, OtherThan, QuestionBuilder,
+    Questions, RecordSectionBuilder, RecordsSection, SectionBuilder, Start,
+};
+pub use dns_compress::{
+    Compressor, HashCompressor, HashTable, StaticCompressor, StaticTable, StreamTarget, Table,
+    TreeCompressor, TreeTable,
+};
 pub use dns_header::{
     ComposeQuestion, ComposeRecord, CountOverflow, Flags, FlagsFromStrError, FromStrError, Header,
     HeaderCounts, HeaderSection, Opt, OptHeader, OptIter, OptRecord, ParsedRecord,

@@ -12,3 +12,4 @@ pub mod FirstGiven
 pub mod GivenOnce
 pub mod AliasSteps
 pub mod Resolving
+pub mod Ends

@@ -77,7 +77,7 @@ pub data LeadsOn : SectionCursor → Result (Option SectionCursor) ParseError �
       → PassesAll SkipsRecord SkipIsCut at.cursor (Err error) → LeadsOn at (Err error)
 
 -- No more items than this are given where a cursor goes on into the sections that follow: what is left, and an error once more.
-abbrev after : Counts → Section → ℕ
+abbrev pub after : Counts → Section → ℕ
 after counts Answer = counts.ns + (counts.ar + 3)
 after counts Authority = counts.ar + 2
 after counts Additional = 1

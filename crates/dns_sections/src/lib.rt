@@ -10,6 +10,7 @@ mod aliases;
 mod cursor;
 mod error;
 mod item;
+pub mod laws;
 mod message;
 mod message_iter;
 mod question_section;
