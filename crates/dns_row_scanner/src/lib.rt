@@ -15,7 +15,7 @@ use dns_name::{Chain, Name, RelativeName};
 pub use entry_error::EntryError;
 pub use entry_scanner::EntryScanner;
 pub use row_scanner::RowScanner;
-pub use scanned_name::scan_name;
+pub use scanned_name::{absolute, scan_name};
 
 /// A name that is scanned: its labels in the text, and behind them the root or the origin.
 pub type ScannedName = Chain<RelativeName<Vec<u8>>, Name<Vec<u8>>>;

@@ -59,8 +59,8 @@ fn is_at_sign(text: &[u8]) -> bool
     matches!(text, [b'@'])
 }
 
-/// Returns the name with no labels in front.
-fn absolute(alloc: Global, name: Name<Vec<u8>>) -> Result<ScannedName, AllocError>
+/// Returns the name as one that is scanned, with no labels in front. Fails if out of memory.
+pub fn absolute(alloc: Global, name: Name<Vec<u8>>) -> Result<ScannedName, AllocError>
     ensures { IfOk result (λ scanned. ⟦<ScannedName as ToName>⟧.name scanned ≡ name) }
 {
     let _octets = name.as_slice();
