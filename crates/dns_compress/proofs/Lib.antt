@@ -1,5 +1,6 @@
 pub mod Framing
 pub mod Adding
+pub mod Keys
 pub mod Lowered
 pub mod Maps
 pub mod Naming

@@ -4,11 +4,16 @@ use Rattle.std.specs.List.{list_all}
 use Rattle.std.specs.HashMap.{HashMap, get_by}
 use Rattle.std.specs.Cmp.Lexicographic.{pointwise}
 use Rattle.dns_octets.specs.Builder.{Standing, Known}
+use Rattle.dns_label.specs.Name.{low}
 use Rattle.dns_name.specs.Spelling.{Spelling, is_same, standings}
 
 -- any number of suffixes, the same up to case where it folds; there all new suffixes of a name are remembered or none
 abbrev pub unbounded : Bool → Spelling
 unbounded folds = record { folds = folds; most = None; far = folds }
+
+-- what a suffix is looked up by: the suffix in lower case, or as it is
+abbrev pub looked_up : Bool → List (List ℕ) → List (List ℕ)
+looked_up lowers suffix = if lowers then low suffix else suffix
 
 -- the suffixes of a name that begin with one of its first labels
 abbrev pub added : Spelling → ℕ → ℕ → ℕ → List (List ℕ) → Known

@@ -6,10 +6,12 @@ ghost use Rattle.std.specs.Option.{ForSome};
 ghost use Rattle.dns_label.specs.Name.{IsName, wire};
 ghost use Rattle.dns_name.specs.Spelling.{name_text, known_after};
 ghost use Rattle.dns_name.specs.Remembered.{IsSound, patched};
+ghost use Rattle.dns_compress.specs.Tables.{looked_up};
 ghost use Rattle.dns_compress.specs.Walk.{IsWalked};
 
 use crate::append::append_walked;
 use crate::hash_table::HashTable;
+use crate::lower_case::lowered;
 use crate::static_table::StaticTable;
 use crate::table::Table;
 use crate::tree_table::TreeTable;
@@ -124,8 +126,9 @@ impl<Target: Truncate, T: Table> Compressor<Target, T> {
 }
 
 impl<Target: Truncate, T: Table> Compressor<Target, T> {
-    /// Walks over the labels of a name that is to be appended.
-    fn walk(&self, name: &Name<&[u8]>) -> Walk
+    /// Walks over the labels of a name that is to be appended, whose suffixes are looked up by those of the key.
+    fn walk(&self, name: &Name<&[u8]>, key: &Name<&[u8]>) -> Walk
+        requires { key.now ≡ looked_up T.lowers name.now }
         ensures walked { IsWalked T.spelling (T.known self.now.table (Target.list self.now.target))
             (length (T.known self.now.table (Target.list self.now.target)) + 0) (length (Target.list self.now.target)) name.now
             result.labels result.front result.near result.target }
@@ -133,10 +136,11 @@ impl<Target: Truncate, T: Table> Compressor<Target, T> {
         ensures near { ForSome result.target (λ place. place < 16384) }
         ensures name { IsName name.now }
     {
-        // (Its length tells that a name has at most 255 octets.)
+        // (Their lengths tell that both have at most 255 octets.)
         let _len = name.len();
+        let _key_len = key.len();
         let octets = self.target.octets();
-        walk_labels(&self.table, octets, name, 0, octets.len())
+        walk_labels(&self.table, octets, key, 0, octets.len())
     }
 
     /// Appends the name, all or nothing.
@@ -154,8 +158,31 @@ impl<Target: Truncate, T: Table> Compressor<Target, T> {
         ensures same_bound { Target.bound self.new.target ≡ Target.bound self.old.target }
         ensures stays { Target.stays self.old.target self.new.target }
     {
+        if self.table.lowers() {
+            let key = lowered(name);
+            return self.append_by(name, &key.for_ref());
+        }
+        self.append_by(name, &name.for_ref())
+    }
+
+    /// Appends the name, whose suffixes are looked up by those of the key, all or nothing.
+    fn append_by(&mut self, name: &Name<&[u8]>, key: &Name<&[u8]>) -> Result<(), AppendError>
+        requires { key.now ≡ looked_up T.lowers name.now }
+        ensures ok { OnOk result (Target.list self.new.target ≡ Target.list self.old.target
+            ++ name_text T.spelling (T.known self.old.table (Target.list self.old.target)) (length (Target.list self.old.target)) name.now) }
+        ensures known { OnOk result (T.known self.new.table (Target.list self.new.target)
+            ≡ known_after T.spelling (T.known self.old.table (Target.list self.old.target)) (length (Target.list self.old.target)) name.now) }
+        ensures err { OnErr result ((Target.list self.new.target ≡ Target.list self.old.target)
+            × (T.known self.new.table (Target.list self.new.target) ≡ T.known self.old.table (Target.list self.old.target))) }
+        ensures short { result ≡ Err ShortBuf → IsPast (Target.bound self.old.target) (length (Target.list self.old.target
+            ++ name_text T.spelling (T.known self.old.table (Target.list self.old.target)) (length (Target.list self.old.target)) name.now)) }
+        ensures fits { OnOk result (IsWithin (Target.bound self.old.target) (length (Target.list self.new.target))) }
+        ensures not_bad { result ≡ Err BadLength → ⊥ }
+        ensures same_bound { Target.bound self.new.target ≡ Target.bound self.old.target }
+        ensures stays { Target.stays self.old.target self.new.target }
+    {
         let place = self.target.octets().len();
-        let walk = self.walk(name);
+        let walk = self.walk(name, key);
         append_walked(&mut self.target, name.as_slice(), walk)?;
         if !walk.near {
             return Ok(());
@@ -163,7 +190,7 @@ impl<Target: Truncate, T: Table> Compressor<Target, T> {
         let octets = self.target.octets();
         match self
             .table
-            .remember(octets, name, walk.labels, place, octets.len())
+            .remember(octets, name, key, walk.labels, place, octets.len())
         {
             Ok(()) => Ok(()),
             Err(_) => {

@@ -1,8 +1,7 @@
 //! Tables of suffixes that are the same up to ASCII case.
-ghost use Rattle.std.specs.Prelude.{◌≡◌, [], refl};
+ghost use Rattle.std.specs.Prelude.{◌≡◌, [], true, refl};
 ghost use Rattle.dns_name.specs.Spelling.{hash_spelling};
 
-use crate::lower_case::lowered;
 use crate::suffix_map::SuffixMap;
 use crate::table::Table;
 use dns_name::Name;
@@ -32,8 +31,14 @@ impl Table for HashTable {
 
     ghost known = { λ table _. lowered_in table };
 
-    fn find(&self, _octets: &[u8], suffix: &Name<&[u8]>) -> Option<usize> {
-        self.suffixes.place(lowered(suffix).as_slice())
+    ghost lowers = { true };
+
+    fn lowers(&self) -> bool {
+        true
+    }
+
+    fn find(&self, _octets: &[u8], key: &Name<&[u8]>) -> Option<usize> {
+        self.suffixes.place(key.as_slice())
     }
 
     fn may_stand(&self, _more: usize, _place: usize) -> bool {
@@ -48,16 +53,14 @@ impl Table for HashTable {
         &mut self,
         _octets: &[u8],
         name: &Name<&[u8]>,
+        key: &Name<&[u8]>,
         count: usize,
         place: usize,
         stop: usize,
     ) -> Result<(), AllocError> {
-        if count == 0 {
-            return Ok(());
-        }
-        let lowered = lowered(name);
-        self.suffixes
-            .remember(&lowered.for_ref(), count, place, stop)
+        // (Its length tells that a name has at most 255 octets.)
+        let _len = name.len();
+        self.suffixes.remember(key, count, place, stop)
     }
 
     fn forget(&mut self, len: usize) {

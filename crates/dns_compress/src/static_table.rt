@@ -1,5 +1,5 @@
 //! Tables of at most 24 suffixes, which take no memory.
-ghost use Rattle.std.specs.Prelude.{◌≡◌, ◌≤◌, ◌<◌, ◌+◌, ◌++◌, ◌↔◌, ◌^◌, [], List, ℕ, IsTrue, IfOk, OnErr, length};
+ghost use Rattle.std.specs.Prelude.{◌≡◌, false, ◌≤◌, ◌<◌, ◌+◌, ◌++◌, ◌↔◌, ◌^◌, [], List, ℕ, IsTrue, IfOk, OnErr, length};
 ghost use Rattle.dns_name.specs.ParsedName.{labels_of};
 ghost use Rattle.dns_name.specs.Remembered.{IsSound};
 ghost use Rattle.dns_label.specs.Name.{low, wire};
@@ -90,8 +90,14 @@ impl Table for StaticTable {
 
     ghost known = { λ table octets. read_all octets (spots_in table) };
 
-    fn find(&self, octets: &[u8], suffix: &Name<&[u8]>) -> Option<usize> {
-        find_among(octets, self.written.as_slice(), suffix)
+    ghost lowers = { false };
+
+    fn lowers(&self) -> bool {
+        false
+    }
+
+    fn find(&self, octets: &[u8], key: &Name<&[u8]>) -> Option<usize> {
+        find_among(octets, self.written.as_slice(), key)
     }
 
     fn may_stand(&self, more: usize, place: usize) -> bool {
@@ -106,6 +112,7 @@ impl Table for StaticTable {
         &mut self,
         _octets: &[u8],
         name: &Name<&[u8]>,
+        _key: &Name<&[u8]>,
         count: usize,
         place: usize,
         stop: usize,

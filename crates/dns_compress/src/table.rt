@@ -1,10 +1,10 @@
 //! Tables of the suffixes that are remembered.
-ghost use Rattle.std.specs.Prelude.{◌≡◌, ◌≤◌, ◌<◌, ◌+◌, ◌++◌, ◌^◌, List, ℕ, length, take, OnOk, OnErr};
+ghost use Rattle.std.specs.Prelude.{◌≡◌, ◌≤◌, ◌<◌, ◌+◌, ◌++◌, ◌^◌, List, ℕ, Bool, length, take, OnOk, OnErr};
 ghost use Rattle.dns_octets.specs.Builder.{Known, Standing, before};
-ghost use Rattle.dns_label.specs.Name.{wire};
+ghost use Rattle.dns_label.specs.Name.{IsName, wire};
 ghost use Rattle.dns_name.specs.Spelling.{Spelling, compresses, place_in, may_stand};
 ghost use Rattle.dns_name.specs.Remembered.{IsKnown, IsSound};
-ghost use Rattle.dns_compress.specs.Tables.{added};
+ghost use Rattle.dns_compress.specs.Tables.{added, looked_up};
 
 use dns_name::Name;
 use std::alloc::AllocError;
@@ -18,10 +18,17 @@ pub trait Table {
 
     ghost known: { Self → List ℕ → Known };
 
-    /// Returns where the suffix stands, if it is remembered.
-    fn find(&self, octets: &[u8], suffix: &Name<&[u8]>) -> Option<usize>
+    ghost lowers: { Bool };
+
+    /// Returns whether suffixes are looked up in lower case, and not as they are.
+    fn lowers(&self) -> bool
+        ensures { result ≡ lowers };
+
+    /// Returns where the suffix stands that is looked up by this key, if it is remembered.
+    fn find(&self, octets: &[u8], key: &Name<&[u8]>) -> Option<usize>
         requires { ∥ IsSound spelling (known self.now octets.now) octets.now ∥₁ }
-        ensures { result ≡ place_in spelling (known self.now octets.now) (wire suffix.now) };
+        ensures { (suffix : List (List ℕ)) → IsName suffix → key.now ≡ looked_up lowers suffix
+            → result ≡ place_in spelling (known self.now octets.now) (wire suffix) };
 
     /// Returns whether a suffix may be remembered at the place, where so many more are.
     fn may_stand(&self, more: usize, place: usize) -> bool
@@ -32,16 +39,19 @@ pub trait Table {
     fn can_compress(&self) -> bool
         ensures { result ≡ compresses spelling };
 
-    /// Remembers the suffixes of a name that begin with one of its first labels. The name is spelled from the place on and
-    /// stops at `stop`. Remembers none of them if it fails, which it does if out of memory.
+    /// Remembers the suffixes of a name that begin with one of its first labels, where its suffixes are looked up by those of
+    /// the key. The name is spelled from the place on and stops at `stop`. Remembers none of them if it fails, which it does
+    /// if out of memory.
     fn remember(
         &mut self,
         octets: &[u8],
         name: &Name<&[u8]>,
+        key: &Name<&[u8]>,
         count: usize,
         place: usize,
         stop: usize,
     ) -> Result<(), AllocError>
+        requires key { key.now ≡ looked_up lowers name.now }
         requires sound { ∥ IsSound spelling (known self.old octets.now ++ added spelling count place stop name.now) octets.now ∥₁ }
         requires order { (standing : Standing) → IsKnown standing (known self.old octets.now) → standing.stop ≤ place }
         requires room { place + length (wire name.now) < 2 ^ 64 }

@@ -1,5 +1,5 @@
 //! Tables of suffixes that are the same octet for octet.
-ghost use Rattle.std.specs.Prelude.{◌≡◌, [], refl};
+ghost use Rattle.std.specs.Prelude.{◌≡◌, [], false, refl};
 ghost use Rattle.dns_name.specs.Spelling.{tree_spelling};
 
 use crate::suffix_map::SuffixMap;
@@ -31,8 +31,14 @@ impl Table for TreeTable {
 
     ghost known = { λ table _. exact_in table };
 
-    fn find(&self, _octets: &[u8], suffix: &Name<&[u8]>) -> Option<usize> {
-        self.suffixes.place(suffix.as_slice())
+    ghost lowers = { false };
+
+    fn lowers(&self) -> bool {
+        false
+    }
+
+    fn find(&self, _octets: &[u8], key: &Name<&[u8]>) -> Option<usize> {
+        self.suffixes.place(key.as_slice())
     }
 
     fn may_stand(&self, _more: usize, place: usize) -> bool {
@@ -46,12 +52,13 @@ impl Table for TreeTable {
     fn remember(
         &mut self,
         _octets: &[u8],
-        name: &Name<&[u8]>,
+        _name: &Name<&[u8]>,
+        key: &Name<&[u8]>,
         count: usize,
         place: usize,
         stop: usize,
     ) -> Result<(), AllocError> {
-        self.suffixes.remember(name, count, place, stop)
+        self.suffixes.remember(key, count, place, stop)
     }
 
     fn forget(&mut self, len: usize) {

@@ -1,8 +1,9 @@
 //! How much of a name is written by its labels.
-ghost use Rattle.std.specs.Prelude.{◌≡◌, ◌≤◌, ◌<◌, ◌+◌, ◌^◌, ◌&&◌, length, true};
-ghost use Rattle.dns_label.specs.Name.{wire};
+ghost use Rattle.std.specs.Prelude.{◌≡◌, ◌≤◌, ◌<◌, ◌+◌, ◌^◌, ◌&&◌, List, ℕ, length, true};
+ghost use Rattle.dns_label.specs.Name.{IsName, wire};
 ghost use Rattle.dns_name.specs.Spelling.{is_near};
 ghost use Rattle.dns_name.specs.Remembered.{IsSound};
+ghost use Rattle.dns_compress.specs.Tables.{looked_up};
 ghost use Rattle.dns_compress.specs.Walk.{IsWalked};
 
 use crate::table::Table;
@@ -49,26 +50,28 @@ impl Walk {
     }
 }
 
-/// Walks over the labels of a name from the place on, up to a suffix that is remembered or cannot be.
+/// Walks over the labels of a name from the place on, up to a suffix that is remembered or cannot be. Its suffixes are looked
+/// up by those of the key.
 pub(crate) fn walk_labels<T: Table>(
     table: &T,
     octets: &[u8],
-    name: &Name<&[u8]>,
+    key: &Name<&[u8]>,
     more: usize,
     place: usize,
 ) -> Walk
     requires sound { ∥ IsSound T.spelling (T.known table.now octets.now) octets.now ∥₁ }
-    requires room { place + length (wire name.now) < 2 ^ 64 }
-    requires few { more + length (wire name.now) ≤ 255 }
-    ensures walked { IsWalked T.spelling (T.known table.now octets.now) (length (T.known table.now octets.now) + more) place name.now
+    requires room { place + length (wire key.now) < 2 ^ 64 }
+    requires few { more + length (wire key.now) ≤ 255 }
+    ensures walked { (name : List (List ℕ)) → IsName name → key.now ≡ looked_up T.lowers name
+        → IsWalked T.spelling (T.known table.now octets.now) (length (T.known table.now octets.now) + more) place name
         result.labels result.front result.near result.target }
     ensures labels { result.labels + more ≤ 255 }
-    ensures front { result.front ≤ length (wire name.now) }
+    ensures front { result.front ≤ length (wire key.now) }
 {
-    let Some((label, parent)) = name.split_first() else {
+    let Some((label, parent)) = key.split_first() else {
         return Walk::stop(None); // no pointer leads to the root
     };
-    if let Some(target) = table.find(octets, name) {
+    if let Some(target) = table.find(octets, key) {
         return Walk::stop(Some(target));
     }
     if !table.may_stand(more, place) {

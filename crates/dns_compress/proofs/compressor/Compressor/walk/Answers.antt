@@ -1,20 +1,21 @@
 use Rattle.std.proofs.Common.{◌+◌, length, List, ℕ, arith, subst}
 use Rattle.dns_compress.specs.Walk.{IsWalked}
+use Rattle.dns_compress.proofs.Keys.{key_long}
 use Rattle.dns_compress.proofs.Naming.{leads_near}
 use Rattle.dns_compress.proofs.compressor.Compressor.walk.Goals as goal
 
 pub walk_labels-requires-clause-room : goal.walk_labels-requires-clause-room
-walk_labels-requires-clause-room g c = omega (arith, c.octets-octets.type_inv.1, c.len-len.ensures.name.short)
+walk_labels-requires-clause-room g c = omega (arith, c.octets-octets.type_inv.1, c.len-key_len.ensures.name.short)
 
 pub walk_labels-requires-clause-few : goal.walk_labels-requires-clause-few
-walk_labels-requires-clause-few g c = omega (arith, c.len-len.ensures.name.short)
+walk_labels-requires-clause-few g c = omega (arith, c.len-key_len.ensures.name.short)
 
 pub returns-clause-walked : goal.returns-clause-walked
 returns-clause-walked g c =
     subst (λ (l : List ℕ). IsWalked g.T.Table.spelling (g.T.Table.known c.args.self.now.table l)
     (length (g.T.Table.known c.args.self.now.table l) + 0) (length l) c.args.name.now c.walk_labels.result.labels c.walk_labels.result.front
     c.walk_labels.result.near c.walk_labels.result.target)
-    c.octets-octets.ensures c.walk_labels.ensures.walked
+    c.octets-octets.ensures (c.walk_labels.ensures.walked c.args.name.now c.len-len.ensures.name c.requires)
 
 pub returns-clause-near : goal.returns-clause-near
 returns-clause-near g c =
@@ -24,5 +25,9 @@ returns-clause-near g c =
     (subst (λ (l : List ℕ). IsWalked g.T.Table.spelling (g.T.Table.known c.args.self.now.table l)
     (length (g.T.Table.known c.args.self.now.table l) + 0) (length l) c.args.name.now c.walk_labels.result.labels c.walk_labels.result.front
     c.walk_labels.result.near c.walk_labels.result.target)
-    c.octets-octets.ensures c.walk_labels.ensures.walked)
+    c.octets-octets.ensures (c.walk_labels.ensures.walked c.args.name.now c.len-len.ensures.name c.requires))
     c.args.self.now.sound
+
+pub returns-clause-front : goal.returns-clause-front
+returns-clause-front g c =
+    omega (arith, c.walk_labels.ensures.front, key_long g.T.Table.lowers c.args.key.now c.args.name.now c.len-len.ensures.name c.requires)

@@ -5,8 +5,7 @@ use Rattle.dns_compress.proofs.Lowered.{place_lowered}
 use Rattle.dns_compress.proofs.hash_table.HashTableTable.find.Goals as goal
 
 pub returns : goal.returns
-returns c =
+returns c = λ suffix is_name is.
     c.place.ensures
-    ∙ ap (λ (l : List ℕ). place_in tree_spelling c.args.self.now.suffixes.written.items l)
-    (c.as_slice.ensures.octets ∙ ap wire c.lowered.ensures.low)
-    ∙ place_lowered c.args.self.now.suffixes.written.items c.args.suffix.now c.requires c.lowered.ensures.name
+    ∙ ap (λ (l : List ℕ). place_in tree_spelling c.args.self.now.suffixes.written.items l) (c.as_slice.ensures.octets ∙ ap wire is)
+    ∙ place_lowered c.args.self.now.suffixes.written.items suffix c.requires is_name

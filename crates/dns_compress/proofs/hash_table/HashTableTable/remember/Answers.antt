@@ -12,9 +12,9 @@ use Rattle.dns_compress.proofs.hash_table.HashTableTable.remember.Goals as goal
 pub remember-requires-clause-order : goal.remember-requires-clause-order
 remember-requires-clause-order c =
     let same : added hash_spelling c.args.count c.args.place c.args.stop c.args.name.now
-    ≡ added tree_spelling c.args.count c.args.place c.args.stop c.for_ref.result =
+    ≡ added tree_spelling c.args.count c.args.place c.args.stop c.args.key.now =
     added-lowered c.args.count c.args.place c.args.stop c.args.name.now
-    ∙ ap (λ (n : List (List ℕ)). added tree_spelling c.args.count c.args.place c.args.stop n) (sym (c.for_ref.ensures ∙ c.lowered-lowered.ensures.low)) in
+    ∙ ap (λ (n : List (List ℕ)). added tree_spelling c.args.count c.args.place c.args.stop n) (sym c.requires.key) in
     subst (λ (l : Known). in_order tree_spelling (c.args.self.now.suffixes.written.items ++ l) ≡ true) same
     (order_added _ c.args.count c.args.place c.args.stop c.args.name.now c.args.self.now.suffixes.order c.requires.sound c.requires.order
     c.requires.behind)
@@ -24,14 +24,14 @@ remember-requires-clause-room c =
     omega (
       arith,
       c.requires.room,
-      length-wire-low c.args.name.now c.lowered-lowered.ensures.name,
-      ap (λ (n : List (List ℕ)). length (wire n)) (c.for_ref.ensures ∙ c.lowered-lowered.ensures.low),
+      length-wire-low c.args.name.now c.len-len.ensures.name,
+      ap (λ (n : List (List ℕ)). length (wire n)) c.requires.key,
     )
 
 pub returns-clause-ok : goal.returns-clause-ok
 returns-clause-ok c =
     subst (λ (l : Known). OnOk c.remember.result (c.remember.new.self.written.items ≡ c.args.self.now.suffixes.written.items ++ l))
-    (ap (λ (n : List (List ℕ)). added tree_spelling c.args.count c.args.place c.args.stop n) (c.for_ref.ensures ∙ c.lowered-lowered.ensures.low)
+    (ap (λ (n : List (List ℕ)). added tree_spelling c.args.count c.args.place c.args.stop n) c.requires.key
     ∙ sym (added-lowered c.args.count c.args.place c.args.stop c.args.name.now))
     c.remember.ensures.ok
 
