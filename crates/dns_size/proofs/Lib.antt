@@ -1,0 +1,10 @@
+pub mod Sameness
+pub mod Costs
+pub mod Texts
+pub mod NameTexts
+pub mod Sizes
+pub mod Joins
+pub mod FullNames
+pub mod FreeCosts
+pub mod OwnSpelling
+pub mod DistinctSums

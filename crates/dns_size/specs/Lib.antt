@@ -1,0 +1,4 @@
+pub mod Cost
+pub mod CostSum
+pub mod Free
+pub mod Joined
