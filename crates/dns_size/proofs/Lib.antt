@@ -8,3 +8,4 @@ pub mod FullNames
 pub mod FreeCosts
 pub mod OwnSpelling
 pub mod DistinctSums
+pub mod Groups

@@ -2,3 +2,4 @@ pub mod Cost
 pub mod CostSum
 pub mod Free
 pub mod Joined
+pub mod Groups

@@ -1,11 +1,13 @@
 //! How many octets parts take that are written with pointers, and that no free spelling takes less.
-ghost use Rattle.std.specs.Prelude.{◌≡◌, ◌≤◌, ℕ, List, false, length, min};
+ghost use Rattle.std.specs.Prelude.{◌≡◌, ◌≤◌, ◌++◌, ℕ, List, false, length, min};
+ghost use Rattle.std.specs.List.{AllByRecursion};
 ghost use Rattle.dns_name.specs.Page.{Parts};
 ghost use Rattle.dns_name.specs.Spelling.{Spelling, plain, tree_spelling, hash_spelling};
 ghost use Rattle.dns_spelling.specs.Alike.{HaveNames};
 ghost use Rattle.dns_size.specs.Cost.{same_name, names_in, parts_cost, written};
 ghost use Rattle.dns_size.specs.CostSum.{AreTheSuffixes, suffixes_sum};
 ghost use Rattle.dns_size.specs.Free.{IsFree};
+ghost use Rattle.dns_size.specs.Groups.{HasOneHead, group_size};
 ghost use Rattle.dns_size.specs.Joined.{AreAsLong, join_parts};
 
 /// Parts that are written by a tree or by a hash table take their cost if what is written, or the cost, is at most 16,384
@@ -56,4 +58,19 @@ pub fn no_free_spelling_is_shorter()
     ensures hash { (parts : Parts) (message : List ℕ) → HaveNames parts → IsFree message parts → length message ≤ 16384
         → length (written hash_spelling parts) ≤ length message }
     ensures own { (s : Spelling) (parts : Parts) → s.folds ≡ false → IsFree (written s parts) parts }
+{}
+
+/// So a message of records, each given by its parts, that fits still fits without its first records, and without its last. Its
+/// head may count them, if it has the same names and as many octets for each group.
+pub fn groups_fit_in_part()
+    ensures plain { (head : List Parts → Parts) (front back : List Parts) → HasOneHead head
+        → (group_size plain head (λ parts. parts) front ≤ group_size plain head (λ parts. parts) (front ++ back))
+        × (group_size plain head (λ parts. parts) back ≤ group_size plain head (λ parts. parts) (front ++ back)) }
+    ensures tree { (head : List Parts → Parts) (front back : List Parts) (max : ℕ) → max ≤ 16384 → HasOneHead head
+        → group_size tree_spelling head (λ parts. parts) (front ++ back) ≤ max
+        → (group_size tree_spelling head (λ parts. parts) front ≤ max) × (group_size tree_spelling head (λ parts. parts) back ≤ max) }
+    ensures hash { (head : List Parts → Parts) (front back : List Parts) (max : ℕ) → max ≤ 16384 → HasOneHead head
+        → ((group : List Parts) → HaveNames (head group)) → AllByRecursion HaveNames (front ++ back)
+        → group_size hash_spelling head (λ parts. parts) (front ++ back) ≤ max
+        → (group_size hash_spelling head (λ parts. parts) front ≤ max) × (group_size hash_spelling head (λ parts. parts) back ≤ max) }
 {}
