@@ -38,3 +38,5 @@ pub mod Streams
 pub mod SendFaults
 pub mod PlainRecords
 pub mod RulesKept
+pub mod CuttingsWhere
+pub mod SpelledCuts

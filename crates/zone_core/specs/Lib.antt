@@ -8,3 +8,4 @@ pub mod Intake
 pub mod Received
 pub mod Sent
 pub mod Sending
+pub mod Spelled

@@ -6,6 +6,7 @@ mod framing;
 mod query;
 mod received;
 mod sent;
+mod spelled;
 
 pub use cutting::{
     blocked_record_fits_no_cutting, blocked_record_is_one, cut_or_blocked, full_cut_is_fewest,
@@ -18,6 +19,9 @@ pub use received::{
     transfers_are_one, written_out_is_standard,
 };
 pub use sent::sent_is_a_transfer;
+pub use spelled::{
+    free_messages_are_no_fewer, hash_full_cut_is_fewest, tree_full_cut_is_fewest,
+};
 pub use zone_text::laws::{
     one_zone_fault, printed_text_is_the_zones, records_have_one_printed_text, text_has_one_reading,
     zone_text_breaks_no_rule,
