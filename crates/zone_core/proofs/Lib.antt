@@ -40,3 +40,4 @@ pub mod PlainRecords
 pub mod RulesKept
 pub mod CuttingsWhere
 pub mod SpelledCuts
+pub mod SpelledSums

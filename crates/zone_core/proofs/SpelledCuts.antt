@@ -1,14 +1,14 @@
 -- Full cuts into messages whose names are written with pointers to any suffix.
 use Rattle.std.proofs.Common.{◌≡◌, ℕ, ◌≤◌, true, List, [], ◌∷◌, ◌++◌, length, refl, arith}
-use Rattle.std.specs.List.{AllByRecursion, AllZip}
+use Rattle.std.specs.List.{AllByRecursion}
 use Rattle.dns_name.specs.Spelling.{tree_spelling, hash_spelling}
 use Rattle.dns_name.specs.Page.{Parts}
 use Rattle.dns_label.specs.Name.{IsName}
 use Rattle.dns_spelling.specs.Alike.{HaveNames}
 use Rattle.dns_size.specs.Cost.{names_in}
-use Rattle.dns_size.specs.Groups.{HasOneHead}
-use Rattle.dns_size.proofs.Sizes.{any_proper, names_proper}
-use Rattle.dns_size.proofs.Groups.{front_fits, back_fits, free_group, all_any}
+use Rattle.dns_size.specs.Groups.{HasOneHead, group_parts}
+use Rattle.dns_size.proofs.Sizes.{AllProper, any_proper, names_proper}
+use Rattle.dns_size.proofs.Groups.{front_fits, back_fits, proper_group, free_group, all_any}
 use Rattle.zone_text.specs.Record.{Record}
 use Rattle.zone_core.specs.Query.{AxfrQuery}
 use Rattle.zone_core.specs.Cutting.{IsCutting, Fits, IsFullCut, IsBlocked, PartsFit}
@@ -47,6 +47,13 @@ hash_parts_fit query item max few is_name = record {
       (λ group. names_proper true (answer_head query group) (is_name, tt))
       (λ r names. names_proper true (item r) names) max refl few more xs all fits;
 }
+
+-- the names of such messages are proper
+pub hash_proper : (query : AxfrQuery) (item : Record → Parts) → IsName query.name → (group : List Record) → AllByRecursion (λ r. HaveNames (item r)) group
+    → AllProper true (names_in (group_parts (answer_head query) item group))
+hash_proper query item is_name group all =
+    proper_group (λ r. HaveNames (item r)) hash_spelling (answer_head query) item (one_head query)
+    (λ group. names_proper true (answer_head query group) (is_name, tt)) (λ r names. names_proper true (item r) names) group all
 
 -- the group of a free message takes no more
 pub free_takes : (query : AxfrQuery) (item : Record → Parts) (max : ℕ) → max ≤ 16384 → (message : List ℕ) (group : List Record)

@@ -1,12 +1,15 @@
 -- Messages that carry groups of records, with names spelled in any way (RFC 5936 2.2, RFC 1035 4.1.4). `item` has the parts of
 -- each record.
-use Rattle.std.specs.Prelude.{◌≤◌, ℕ, List, length}
+use Rattle.std.specs.Prelude.{◌≤◌, ◌+◌, ℕ, List, [], ◌∷◌, length, flat_map, sum_by}
 use Rattle.std.specs.List.{AllZip}
 use Rattle.dns_name.specs.Spelling.{Spelling}
 use Rattle.dns_name.specs.Page.{Parts}
 use Rattle.dns_name.specs.Page.Parts.{Octets}
 use Rattle.dns_header.specs.Header.{answer_header}
 use Rattle.dns_header.specs.Question.{question_parts}
+use Rattle.dns_message.specs.Record.{record_parts}
+use Rattle.dns_size.specs.Cost.{same_name, names_in, octets_in}
+use Rattle.dns_size.specs.CostSum.{first_label, ends_cost}
 use Rattle.dns_size.specs.Free.{IsFree}
 use Rattle.dns_size.specs.Groups.{group_parts, group_size}
 use Rattle.zone_text.specs.Record.{Record}
@@ -28,3 +31,18 @@ pub record SpellsGroup (query : AxfrQuery) (item : Record → Parts) (max : ℕ)
 -- and messages the groups, one each
 abbrev pub SpellGroups : AxfrQuery → (Record → Parts) → ℕ → List (List ℕ) → List (List Record) → Type 0
 SpellGroups query item max messages groups = AllZip (SpellsGroup query item max) messages groups
+
+-- the parts of each record, given those of its data
+abbrev pub record_items : (Record → Parts) → Record → Parts
+record_items data_parts r = record_parts r (data_parts r)
+
+-- the names of a message: the query's, and of each record the owner and those in its data
+abbrev pub message_names : AxfrQuery → (Record → Parts) → List Record → List (List (List ℕ))
+message_names query data_parts group = query.name ∷ flat_map (λ r. r.owner ∷ names_in (data_parts r)) group
+
+-- The octets of a message as a sum: 12 of the header; 4 of the question's type and class; of each record 10 of its type, class,
+-- TTL and length, and those of its data outside its names; the first labels of the distinct suffixes; and the ends of the names.
+abbrev pub message_sum : Spelling → AxfrQuery → (Record → Parts) → List Record → List (List (List ℕ)) → ℕ
+message_sum s query data_parts group suffixes =
+    12 + 4 + sum_by (λ r. 10 + octets_in (data_parts r)) group
+    + sum_by first_label suffixes + ends_cost (same_name s) [] (message_names query data_parts group)

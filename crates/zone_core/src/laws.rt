@@ -20,7 +20,8 @@ pub use received::{
 };
 pub use sent::sent_is_a_transfer;
 pub use spelled::{
-    free_messages_are_no_fewer, hash_full_cut_is_fewest, tree_full_cut_is_fewest,
+    free_messages_are_no_fewer, hash_full_cut_is_fewest, message_octets_are_a_sum,
+    tree_full_cut_is_fewest, written_records_have_names,
 };
 pub use zone_text::laws::{
     one_zone_fault, printed_text_is_the_zones, records_have_one_printed_text, text_has_one_reading,

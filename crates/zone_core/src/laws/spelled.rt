@@ -1,18 +1,42 @@
 //! What holds of cuttings into messages whose names are written with pointers, whatever the parts of a record are. `item` has
 //! them.
 
-ghost use Rattle.std.specs.Prelude.{ℕ, ◌≤◌, List, length};
+ghost use Rattle.std.specs.Prelude.{◌≡◌, ℕ, ◌≤◌, List, length, min};
 ghost use Rattle.std.specs.List.{AllByRecursion};
 ghost use Rattle.dns_label.specs.Name.{IsName};
 ghost use Rattle.dns_name.specs.Spelling.{tree_spelling, hash_spelling};
 ghost use Rattle.dns_name.specs.Page.{Parts};
+ghost use Rattle.dns_message.specs.Record.{IsRecord, IsWritten};
+ghost use Rattle.dns_size.specs.Cost.{same_name};
+ghost use Rattle.dns_size.specs.CostSum.{AreTheSuffixes};
 ghost use Rattle.dns_size.specs.Free.{IsFree};
 ghost use Rattle.dns_size.specs.Groups.{group_parts};
 ghost use Rattle.dns_spelling.specs.Alike.{HaveNames};
 ghost use Rattle.zone_text.specs.Record.{Record};
 ghost use Rattle.zone_core.specs.Cutting.{IsCutting, Fits, IsFullCut, IsBlocked, PartsFit};
 ghost use Rattle.zone_core.specs.Query.{AxfrQuery};
-ghost use Rattle.zone_core.specs.Spelled.{answer_head, spelled_size, SpellGroups};
+ghost use Rattle.zone_core.specs.Spelled.{answer_head, spelled_size, SpellGroups, record_items, message_names, message_sum};
+
+/// Where a tree or a hash table remembers suffixes, the octets of a message are a sum, if these or the sum are at most 16,384:
+/// 12 of the header; 4 of the question's type and class; of each record 10, and those of its data outside the names that may be
+/// compressed; for each distinct suffix of the names but the root, one and the length of its first label; and for each
+/// name one if it is the root or the first with its last label, two else.
+pub fn message_octets_are_a_sum()
+    ensures tree { (query : AxfrQuery) (data_parts : Record → Parts) (group : List Record) (suffixes : List (List (List ℕ))) →
+        AreTheSuffixes (same_name tree_spelling) (message_names query data_parts group) suffixes →
+        min (message_sum tree_spelling query data_parts group suffixes) (spelled_size tree_spelling query (record_items data_parts) group) ≤ 16384 →
+        spelled_size tree_spelling query (record_items data_parts) group ≡ message_sum tree_spelling query data_parts group suffixes }
+    ensures hash { (query : AxfrQuery) (data_parts : Record → Parts) (group : List Record) (suffixes : List (List (List ℕ))) →
+        IsName query.name → AllByRecursion (λ r. HaveNames (record_items data_parts r)) group →
+        AreTheSuffixes (same_name hash_spelling) (message_names query data_parts group) suffixes →
+        min (message_sum hash_spelling query data_parts group suffixes) (spelled_size hash_spelling query (record_items data_parts) group) ≤ 16384 →
+        spelled_size hash_spelling query (record_items data_parts) group ≡ message_sum hash_spelling query data_parts group suffixes }
+{}
+
+/// The names among the parts that a writer gives of a record are names.
+pub fn written_records_have_names()
+    ensures { (r : Record) (parts : Parts) → IsRecord r → IsWritten r parts → HaveNames parts }
+{}
 
 /// Where a tree remembers suffixes, a message of at most 16,384 octets still fits without its first records and without its
 /// last. So a full cut has the fewest groups of all cuttings that fit, and where a record is blocked no cutting fits.
