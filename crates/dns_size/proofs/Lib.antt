@@ -9,3 +9,4 @@ pub mod FreeCosts
 pub mod OwnSpelling
 pub mod DistinctSums
 pub mod Groups
+mod Tried
