@@ -42,7 +42,7 @@ label_step : (test : Bool) (place k x next : ℕ) → place + 1 + k + x ≤ next
 label_step true place k x next within some = omega arith
 label_step false place k x next within some = omega arith
 
--- a name's text is as long as its cost
+-- a name takes its cost at least
 pub name_lower : {message : List ℕ} {before : List Stand} {place : ℕ} {name : List (List ℕ)} {own : List Stand} {next : ℕ} (f : Test) → Covers f before
     → SpellsNameFreely message before place name own next → place + name_cost f name ≤ next
 name_lower f covers (root rest at) = omega arith

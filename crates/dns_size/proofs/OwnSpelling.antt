@@ -1,12 +1,13 @@
 -- What is written by a spelling that does not fold is itself free: so the cost is attained.
-use Rattle.std.proofs.Common.{◌≡◌, ℕ, ◌≤◌, ◌+◌, ◌/◌, ◌%◌, ◌⊎◌, inl, inr, Bool, true, false, Option, Some, None, List, [], ◌∷◌, ◌++◌, length, take, drop, refl, sym, ap, ◌∙◌, subst, arith, append_assoc, append-nil, length-append, length-take, drop-drop}
+use Rattle.std.proofs.Common.{◌≡◌, ℕ, ◌≤◌, ◌+◌, ◌/◌, ◌%◌, ◌⊎◌, inl, inr, Bool, true, false, Option, Some, None, List, [], ◌∷◌, ◌++◌, length, take, drop, refl, sym, ap, ◌∙◌, subst, arith, append_assoc, append-nil, length-append, length-take}
 use Rattle.std.specs.Prelude.{if◌then◌else◌}
 use Rattle.std.specs.List.{list_all}
 use Rattle.std.specs.Int.{to_be_bytes, w16}
-use Rattle.std.proofs.Math.Seq.{drop-append_seam, take-append_seam}
+use Rattle.std.proofs.Math.Seq.{take-append_seam}
 use Rattle.std.proofs.lemmas.List.{drop-take}
 use Rattle.dns_octets.specs.Builder.{Standing, Known}
 use Rattle.dns_label.specs.Name.{wire}
+use Rattle.dns_label.proofs.Spelling.{drop_behind}
 use Rattle.dns_name.specs.Spelling.{Spelling, remembered_form, is_same, place_in, may_stand, split_from, split_text, name_text, if_near, known_after, is_near}
 use Rattle.dns_name.specs.Page.{Page, Parts}
 use Rattle.dns_name.specs.Page.Parts.{End, Octets, Named, Counted}
@@ -19,12 +20,6 @@ use Rattle.dns_name.specs.RecordData.{page_of}
 use Rattle.dns_size.specs.Cost.{written}
 use Rattle.dns_size.proofs.Sameness.{exact_form}
 use Rattle.dns_size.proofs.Texts.{text_by, text_from, added_by, added_from, text_is, known_is}
-
-pub drop_behind : (message : List ℕ) (place behind : ℕ) (before rest : List ℕ) → drop place message ≡ before ++ rest
-    → behind ≡ place + length before → drop behind message ≡ rest
-drop_behind message place behind before rest at is =
-    ap (λ n. drop n message) is ∙ sym (drop-drop (length before) place message) ∙ ap (λ l. drop (length before) l) at
-    ∙ drop-append_seam before rest
 
 one-append_left : {one : Stand} {a : List Stand} (b : List Stand) → IsOneOf one a → IsOneOf one (a ++ b)
 one-append_left b first = first
