@@ -1,5 +1,5 @@
 -- What stands before a record's data, read word by word.
-use Rattle.std.proofs.Common.{◌≡◌, ◌^◌, ℕ, true, false, List, [], ◌∷◌, ◌++◌, Option, Some, None, refl, sym, ◌∙◌, ap, subst}
+use Rattle.std.proofs.Common.{◌≡◌, ◌^◌, ℕ, true, false, List, ◌∷◌, ◌++◌, Option, Some, None, refl, sym, ◌∙◌, ap, subst}
 use Rattle.std.specs.List.{list_all}
 use Rattle.std.specs.Char.{is_ascii_digit}
 use Rattle.dns_values.specs.Mnemonic.{number_spelled}
@@ -9,7 +9,7 @@ use Rattle.dns_zonefile.specs.Statement.States.{nothing, ttl, class, ttl_class, 
 use Rattle.dns_zonefile.specs.HeadWord.{Heads, IsHeadWord}
 use Rattle.dns_zonefile.specs.declared.statement.head.HeadWord.{HeadWord}
 use Rattle.dns_zonefile.specs.declared.statement.head.HeadWord.TheVariants.{Ttl, Class, Rtype}
-use Rattle.dns_zonefile.proofs.OneStatement.{ttl_of, class_of, type_of, ttl_ttl, ttl_class', ttl_type, class_ttl', class_class, class_type, type_type}
+use Rattle.dns_zonefile.proofs.OneStatement.{ttl_ttl, ttl_type, class_ttl', class_class, class_type, type_type}
 
 -- a token says one thing
 word_one : (word other : HeadWord) (token : Token) → IsHeadWord word token → IsHeadWord other token → word ≡ other

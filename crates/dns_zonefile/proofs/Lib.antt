@@ -6,3 +6,5 @@ pub mod Records
 pub mod RowFronts
 pub mod OneList
 mod Tried
+mod Entering
+mod Going

@@ -1,12 +1,12 @@
 -- The row of a record, read part by part.
-use Rattle.std.proofs.Common.{◌≡◌, ◌≢◌, ◌<◌, ◌≤◌, ℕ, Bool, true, false, List, [], ◌∷◌, length, map, Option, Some, None, refl, sym, ◌∙◌, ap, subst, arith}
-use Rattle.dns_scan.specs.Token.{Token, SameNames, marker, unquoted}
+use Rattle.std.proofs.Common.{◌≡◌, ◌≢◌, ◌<◌, ℕ, Bool, true, false, List, [], ◌∷◌, length, map, Option, Some, None, refl, sym, ◌∙◌, ap, subst, arith}
+use Rattle.dns_scan.specs.Token.{Token, SameNames, unquoted}
 use Rattle.dns_text.specs.Rows.{TokenRow}
-use Rattle.dns_fields.specs.Fields.{Field, kind_of, kinds_of, octets}
+use Rattle.dns_fields.specs.Fields.{Field, kind_of, octets}
 use Rattle.dns_fields.specs.Scanned.{ScansData, ScansLong}
 use Rattle.dns_fields.specs.SpelledNames.{SpellOne}
 use Rattle.dns_fields.proofs.ScannedOnce.{data_scanned_once, row_one}
-use Rattle.dns_rdata.specs.Data.{Data, typed, untyped, IsUnmarked, NoAnyDataScans, ScansAnyData, number_of}
+use Rattle.dns_rdata.specs.Data.{Data, typed, untyped, NoAnyDataScans, ScansAnyData, number_of}
 use Rattle.dns_rdata.proofs.PrintedData.{any_one}
 use Rattle.dns_rdata.proofs.ScanAny.{same_back, text_same}
 use Rattle.dns_zonefile.specs.Directive.{BeginsDirective}

@@ -4,3 +4,7 @@ pub mod Entries
 pub mod Seen
 pub mod Directive
 pub mod HeadWord
+pub mod Error
+pub mod Reader
+pub mod ReaderSeen
+pub mod RowRead

@@ -1,10 +1,16 @@
--- What contracts see of rows and statements.
-use Rattle.std.specs.Prelude.{ℕ, Bool, List, option_map, string_bytes}
+-- What contracts see of rows, statements and entries.
+use Rattle.std.specs.Prelude.{ℕ, Bool, List, ◌++◌, Option, Some, None, option_map, string_bytes}
+use Rattle.dns_flat.specs.ChainParts.{left_of, right_of}
 use Rattle.dns_scan.specs.Token.{Token}
 use Rattle.dns_text.specs.Rows.{TokenRow}
 use Rattle.dns_rdata.specs.ZoneData.{data_of}
+use Rattle.dns_zonefile.specs.Entry.{Context, Entry}
+use Rattle.dns_zonefile.specs.Entry.Entry.{Directive, Include, Resource}
 use Rattle.dns_zonefile.specs.Statement.{Stated, Statement}
 use Rattle.dns_zonefile.specs.Statement.Statement.{SetOrigin, SetTtl, NameFile, StateRecord}
+use Rattle.dns_zonefile.specs.declared.context.Context as kept
+use Rattle.dns_zonefile.specs.declared.entry.Entry as found
+use Rattle.dns_zonefile.specs.declared.entry.Entry.TheVariants as entries
 use Rattle.dns_zonefile.specs.declared.statement.Statement as code
 use Rattle.dns_zonefile.specs.declared.statement.Statement.TheVariants as made
 use Rattle.dns_zonefile.specs.declared.statement.Stated as stated
@@ -28,3 +34,24 @@ statement_of name (made.SetOrigin origin) = SetOrigin (name origin)
 statement_of name (made.SetTtl seconds) = SetTtl seconds
 statement_of name (made.NameFile path origin) = NameFile (string_bytes path) (option_map name origin)
 statement_of name (made.StateRecord found) = StateRecord (stated_of name found)
+
+-- what the rows before have set
+abbrev pub context_of : kept.Context → Context
+context_of context = record {
+  origin = context.origin;
+  owner = context.owner;
+  default_ttl = context.default_ttl;
+  last_ttl = context.last_ttl;
+  class = context.class;
+}
+
+-- an entry, its names by what they spell
+abbrev pub entry_of : Option found.Entry → Entry
+entry_of None = Directive
+entry_of (Some (entries.Record rr)) = Resource (record {
+  owner = left_of rr.owner ++ right_of rr.owner;
+  class = rr.class;
+  ttl = rr.ttl;
+  rdata = data_of rr.rdata;
+})
+entry_of (Some (entries.Include path origin)) = Include (string_bytes path) (option_map (λ name. left_of name ++ right_of name) origin)

@@ -4,7 +4,14 @@
 //! definitions and their law alone.
 #![tactic(auto)]
 
+mod context;
+mod entry;
+mod error;
 pub mod laws;
 mod statement;
+mod zonefile;
 
+pub use entry::{Entry, ScannedRecord, ScannedRecordData};
+pub use error::Error;
 pub use statement::{Stated, Statement, scan_statement};
+pub use zonefile::Zonefile;

@@ -1,7 +1,7 @@
 use Rattle.std.proofs.Common.{subst}
 use Rattle.std.specs.Str.{IsAscii, IsNotAscii}
 use Rattle.std.proofs.lemmas.Result.{err_from_is_err_and}
-use Rattle.dns_zonefile.proofs.Directions.{ended, no_bare, no_octets, no_origin_later, not_ascii, origin_later, path_alone}
+use Rattle.dns_zonefile.proofs.Directions.{ended, no_octets, no_origin_later, not_ascii, origin_later, path_alone}
 use Rattle.dns_zonefile.proofs.statement.directive.scan_file.Goals as goal
 
 pub returns-in_err-path-clause-err : goal.returns-in_err-path-clause-err

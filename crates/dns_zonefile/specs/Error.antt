@@ -1,0 +1,10 @@
+-- What an error of a zone file tells.
+use Rattle.std.specs.Prelude.{ℕ}
+use Rattle.dns_row_scanner.specs.declared.entry_error.EntryError.{EntryError}
+use Rattle.dns_zonefile.specs.declared.error.Error.{Error}
+
+abbrev pub line_of : Error → ℕ
+line_of error = error.line
+
+abbrev pub reason_of : Error → EntryError
+reason_of error = error.reason

@@ -1,0 +1,66 @@
+-- Readers of zone files, and what they give (RFC 1035 5.1).
+use Rattle.std.specs.Prelude.{◌≡◌, ◌≢◌, ◌+◌, ◌==◌, ℕ, suc, true, false, if◌then◌else◌, List, [], ◌∷◌, ◌++◌, Option, Some, None, Result, Ok, Err, take, drop, length}
+use Rattle.std.specs.List.{AllByRecursion}
+use Rattle.dns_text.specs.Rows.{BeginsWithRows, TokenRow}
+use Rattle.dns_text.specs.Tokens.{is_end}
+use Rattle.dns_tokens.specs.RowFound.{NoRow}
+use Rattle.dns_row_scanner.specs.EntryError.{is_memory}
+use Rattle.dns_row_scanner.specs.declared.entry_error.EntryError.{EntryError}
+use Rattle.dns_zonefile.specs.Entries.{AreEntries}
+use Rattle.dns_zonefile.specs.Entry.{Context, Entry, IsEntry, at_start}
+use Rattle.dns_zonefile.specs.Entry.Entry.{Directive}
+
+-- The text that a reader was handed, where the rows begin that are not yet read, what those before them have set, and how many entries
+-- they are.
+pub record Reader : Type 0 where
+  pub text : List ℕ
+  pub place : ℕ
+  pub context : Context
+  pub count : ℕ
+
+-- what is not yet read
+abbrev pub left_of : Reader → List ℕ
+left_of reader = drop reader.place reader.text
+
+-- The reader goes over rows, which are these entries.
+pub record GoesOver (old : Reader) (entries : List Entry) (new : Reader) : Type 0 where
+  pub rows : List TokenRow
+  pub begins : BeginsWithRows (left_of old) rows (left_of new)
+  pub are : AreEntries old.context rows entries new.context
+  pub count : new.count ≡ old.count + length entries
+  pub text : new.text ≡ old.text
+
+-- What stands at its place is refused: no row, though the text goes on; or a row with tokens that is no entry.
+pub data IsRefusedAt (reader : Reader) : Type 0 where
+  broken : is_end (left_of reader) ≡ false → NoRow (left_of reader) → IsRefusedAt reader
+  no_entry : {row : TokenRow} {rest : List ℕ} → BeginsWithRows (left_of reader) (row ∷ []) rest → row.tokens ≢ []
+      → ((entry : Entry) (after : Context) → IsEntry reader.context row entry after → ⊥) → IsRefusedAt reader
+
+-- directives, which change the rows behind them alone
+abbrev pub AreDirectives : List Entry → Type 0
+AreDirectives entries = AllByRecursion (λ entry. entry ≡ Directive) entries
+
+-- What a reader gives: it goes over directives to the next record or include, to the end of the text, or to what is refused. Where
+-- memory is refused, it says nothing of the row.
+pub data Gives (old : Reader) : Result (Option Entry) EntryError → Reader → Type 0 where
+  given : (directives : List Entry) {entry : Entry} {new : Reader} → AreDirectives directives → entry ≢ Directive
+      → GoesOver old (directives ++ entry ∷ []) new → Gives old (Ok (Some entry)) new
+  ended : {directives : List Entry} {new : Reader} → AreDirectives directives → GoesOver old directives new
+      → is_end (left_of new) ≡ true → Gives old (Ok None) new
+  refused : {directives : List Entry} {new : Reader} {error : EntryError} → AreDirectives directives → GoesOver old directives new
+      → IsRefusedAt new → is_memory error ≡ false → Gives old (Err error) new
+  out_of_memory : {directives : List Entry} {new : Reader} {error : EntryError} → AreDirectives directives → GoesOver old directives new
+      → is_memory error ≡ true → Gives old (Err error) new
+
+-- the reader of a text that was not yet begun, without an origin and a class
+abbrev pub start_of_text : List ℕ → Reader
+start_of_text text = record { text = text; place = 0; context = at_start None None; count = 0 }
+
+-- the number of the line behind these octets, from 1: each line feed (10) ends a line
+abbrev pub line_behind : List ℕ → ℕ
+line_behind [] = 1
+line_behind (octet ∷ before) = if octet == 10 then suc (line_behind before) else line_behind before
+
+-- the line in which a place of a text stands
+abbrev pub line_at : List ℕ → ℕ → ℕ
+line_at text place = line_behind (take place text)

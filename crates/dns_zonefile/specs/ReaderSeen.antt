@@ -1,0 +1,39 @@
+-- What contracts see of readers of zone files.
+use Rattle.std.specs.Prelude.{ℕ, ◌+◌, if◌then◌else◌, Option, Some, None, Result, Ok, Err, is_some}
+use Rattle.dns_row_scanner.specs.declared.entry_error.EntryError.{EntryError}
+use Rattle.dns_zonefile.specs.Entry.{Entry}
+use Rattle.dns_zonefile.specs.Error.{reason_of}
+use Rattle.dns_zonefile.specs.Reader.{Reader}
+use Rattle.dns_zonefile.specs.Seen.{context_of, entry_of}
+use Rattle.dns_zonefile.specs.declared.entry.Entry as found
+use Rattle.dns_zonefile.specs.declared.error.Error.{Error}
+use Rattle.dns_zonefile.specs.declared.zonefile.Zonefile.{Zonefile}
+
+-- a reader of a zone file
+abbrev pub reader_of : Zonefile → Reader
+reader_of zonefile = record {
+  text = zonefile.text.items;
+  place = zonefile.place;
+  context = context_of zonefile.context;
+  count = zonefile.count;
+}
+
+-- why it reads nothing more
+abbrev pub refused_in : Zonefile → Option Error
+refused_in zonefile = zonefile.refused
+
+-- how many entries it has met, the refused one too
+abbrev pub entries_met : Zonefile → ℕ
+entries_met zonefile = zonefile.count + (if is_some zonefile.refused then 1 else 0)
+
+-- what a call answers
+abbrev pub given_in : Result (Option found.Entry) EntryError → Result (Option Entry) EntryError
+given_in (Ok None) = Ok None
+given_in (Ok (Some entry)) = Ok (Some (entry_of (Some entry)))
+given_in (Err error) = Err error
+
+-- the same, with the reason of an error alone
+abbrev pub given_of : Result (Option found.Entry) Error → Result (Option Entry) EntryError
+given_of (Ok None) = Ok None
+given_of (Ok (Some entry)) = Ok (Some (entry_of (Some entry)))
+given_of (Err error) = Err (reason_of error)

@@ -1,0 +1,24 @@
+//! Entries of zone files.
+use dns_header::Record;
+use dns_rdata::ZoneRecordData;
+use dns_row_scanner::{ScannedName, ScannedString};
+
+/// The data of a record that is scanned.
+pub type ScannedRecordData = ZoneRecordData<Vec<u8>, ScannedName>;
+
+/// A record that is scanned.
+pub type ScannedRecord = Record<ScannedName, ScannedRecordData>;
+
+/// What a row of a zone file is, unless it is a directive that changes the rows behind it alone (RFC 1035 5.1).
+#[derive(Debug, Drop)]
+pub enum Entry {
+    /// A record.
+    Record(ScannedRecord),
+    /// `$INCLUDE`, which names another file.
+    Include {
+        /// The path of the file.
+        path: ScannedString,
+        /// The origin for the file, if the row states one.
+        origin: Option<ScannedName>,
+    },
+}
