@@ -19,7 +19,7 @@ use Rattle.dns_zonefile.specs.declared.entry.Entry.TheVariants as entries
 use Rattle.dns_zonefile.proofs.OneEntry.{under_once}
 use Rattle.dns_zonefile.proofs.OneStatement.{one_statement}
 
-begins-on : {text mid rest : List ℕ} {rows others : List TokenRow} → BeginsWithRows text rows mid → BeginsWithRows mid others rest
+pub begins-on : {text mid rest : List ℕ} {rows others : List TokenRow} → BeginsWithRows text rows mid → BeginsWithRows mid others rest
     → BeginsWithRows text (rows ++ others) rest
 begins-on BeginsWithRows.none others = others
 begins-on (BeginsWithRows.more row begins) others = BeginsWithRows.more row (begins-on begins others)

@@ -8,3 +8,4 @@ pub mod OneList
 mod Tried
 mod Entering
 mod Going
+mod GivenEntries

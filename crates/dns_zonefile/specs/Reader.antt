@@ -8,7 +8,7 @@ use Rattle.dns_row_scanner.specs.EntryError.{is_memory}
 use Rattle.dns_row_scanner.specs.declared.entry_error.EntryError.{EntryError}
 use Rattle.dns_zonefile.specs.Entries.{AreEntries}
 use Rattle.dns_zonefile.specs.Entry.{Context, Entry, IsEntry, at_start}
-use Rattle.dns_zonefile.specs.Entry.Entry.{Directive}
+use Rattle.dns_zonefile.specs.Entry.Entry.{Directive, Include, Resource}
 
 -- The text that a reader was handed, where the rows begin that are not yet read, what those before them have set, and how many entries
 -- they are.
@@ -64,3 +64,16 @@ line_behind (octet ∷ before) = if octet == 10 then suc (line_behind before) el
 -- the line in which a place of a text stands
 abbrev pub line_at : List ℕ → ℕ → ℕ
 line_at text place = line_behind (take place text)
+
+-- A reader that is asked again and again gives these entries, and stands there then.
+pub data GivesEach : Reader → List Entry → Reader → Type 0 where
+  none : {reader : Reader} → GivesEach reader [] reader
+  more : {old mid new : Reader} {entry : Entry} {entries : List Entry} → Gives old (Ok (Some entry)) mid → GivesEach mid entries new
+      → GivesEach old (entry ∷ entries) new
+
+-- the records and includes among entries
+abbrev pub without_directives : List Entry → List Entry
+without_directives [] = []
+without_directives (Resource rr ∷ entries) = Resource rr ∷ without_directives entries
+without_directives (Include path origin ∷ entries) = Include path origin ∷ without_directives entries
+without_directives (Directive ∷ entries) = without_directives entries

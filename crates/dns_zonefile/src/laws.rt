@@ -1,7 +1,10 @@
 //! Laws of zone files. Each function does nothing; what it ensures is the law.
-ghost use Rattle.std.specs.Prelude.{◌≡◌, ℕ, List};
+ghost use Rattle.std.specs.Prelude.{◌≡◌, ◌+◌, ℕ, suc, false, List, None, Ok, Err, length};
+ghost use Rattle.dns_row_scanner.specs.EntryError.{is_memory};
+ghost use Rattle.dns_row_scanner.specs.declared.entry_error.EntryError.{EntryError};
 ghost use Rattle.dns_zonefile.specs.Entry.{Context, Entry};
 ghost use Rattle.dns_zonefile.specs.Entries.{HasEntries, IsRefusedAfter, refused_number};
+ghost use Rattle.dns_zonefile.specs.Reader.{Gives, GivesEach, Reader, left_of, without_directives};
 
 /// A text has its entries in one way: it is at most one list of entries to its end, is refused after at most one, and not both.
 /// So the number of the entry that is refused is one (RFC 1035 5.1).
@@ -12,4 +15,19 @@ pub fn texts_have_one_list_of_entries()
         → IsRefusedAfter start text others → (entries ≡ others) × (refused_number entries ≡ refused_number others) }
     ensures not_both { (start : Context) (text : List ℕ) (entries others : List Entry) → HasEntries start text entries
         → IsRefusedAfter start text others → ⊥ }
+{}
+
+/// What a reader gives, asked again and again, are the records and includes of its text, in order (RFC 1035 5.1).
+///
+/// `whole`: where it gives None at last, the text that it had not yet read has these entries, and directives between them, and all
+/// of them are counted. `refused`: where it fails, and not for want of memory, the text is refused behind these entries, and the
+/// number of the refused one is known.
+pub fn readers_give_the_entries_of_their_text()
+    ensures whole { (old mid new : Reader) (entries : List Entry) → GivesEach old entries mid → Gives mid (Ok None) new
+        → (all : List Entry) × HasEntries old.context (left_of old) all × (entries ≡ without_directives all)
+        × (new.count ≡ old.count + length all) }
+    ensures refused { (old mid new : Reader) (entries : List Entry) (error : EntryError) → GivesEach old entries mid
+        → Gives mid (Err error) new → is_memory error ≡ false
+        → (all : List Entry) × IsRefusedAfter old.context (left_of old) all × (entries ≡ without_directives all)
+        × (suc new.count ≡ old.count + refused_number all) }
 {}

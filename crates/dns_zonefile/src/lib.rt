@@ -1,7 +1,9 @@
-//! Zone files: the rows of a text as entries (RFC 1035 5.1).
+//! Zone files: the entries of a text, one after another (RFC 1035 5.1).
 //!
-//! Today the crate reads what a row says in itself. What the rows before it have set, and with it the entries of a file, stand in
-//! definitions and their law alone.
+//! A `Zonefile` is handed a text and gives its records, and the files that it includes; directives change what the rows behind them
+//! say. `scan_statement` reads what one row says in itself.
+//!
+//! It hands on its parts: `dns_tokens` has the tokens and rows of a text, and `dns_row_scanner` the scanner over a row.
 #![tactic(auto)]
 
 mod context;
@@ -11,6 +13,10 @@ pub mod laws;
 mod statement;
 mod zonefile;
 
+pub use dns_row_scanner::{
+    EntryError, EntryScanner, RowScanner, ScannedName, ScannedString, absolute, scan_name,
+};
+pub use dns_tokens::{BrokenRow, RowFound, RowReader, TokenSpan, read_row};
 pub use entry::{Entry, ScannedRecord, ScannedRecordData};
 pub use error::Error;
 pub use statement::{Stated, Statement, scan_statement};

@@ -1,0 +1,111 @@
+//! Readers that are handed a text and asked for entries, step by step.
+use dns_name::{Class, ComposeRecordData, Name, ToName};
+use dns_zonefile::{Entry, ScannedRecord, Zonefile};
+use rows::{Answer, Row, RowError};
+use std::alloc::Global;
+
+/// Answers steps of a reader without a text.
+pub fn answer(alloc: Global, row: &mut Row<'_>, out: &mut Answer) -> Result<(), RowError> {
+    let mut zonefile = Zonefile::new(alloc);
+    take_steps(alloc, &mut zonefile, row, out)
+}
+
+/// Answers steps of a reader with room for a text.
+pub fn answer_with_capacity(
+    alloc: Global,
+    row: &mut Row<'_>,
+    out: &mut Answer,
+) -> Result<(), RowError> {
+    let mut zonefile = Zonefile::with_capacity(alloc, row.value()?)?;
+    take_steps(alloc, &mut zonefile, row, out)
+}
+
+/// Answers steps of a reader of a text.
+pub fn answer_of_text(alloc: Global, row: &mut Row<'_>, out: &mut Answer) -> Result<(), RowError> {
+    let mut zonefile = Zonefile::from_vec(alloc, row.text_octets(alloc)?);
+    take_steps(alloc, &mut zonefile, row, out)
+}
+
+/// Takes the steps that the words of a row name.
+fn take_steps(
+    alloc: Global,
+    zonefile: &mut Zonefile,
+    row: &mut Row<'_>,
+    out: &mut Answer,
+) -> Result<(), RowError> {
+    for _ in 0..u32::MAX {
+        if !row.has_more() {
+            return Ok(());
+        }
+        take_step(alloc, zonefile, row, out)?;
+    }
+    Ok(())
+}
+
+/// Takes a step: `text` and a text, `origin` and octets, `class` and a number, `next`, `number`.
+fn take_step(
+    alloc: Global,
+    zonefile: &mut Zonefile,
+    row: &mut Row<'_>,
+    out: &mut Answer,
+) -> Result<(), RowError> {
+    match row.word()? {
+        "text" => {
+            let text = row.text_octets(alloc)?;
+            zonefile.extend_from_slice(text.as_slice())?;
+            Ok(())
+        }
+        "origin" => match Name::from_octets(row.octets(alloc)?) {
+            Ok(origin) => {
+                zonefile.set_origin(origin);
+                Ok(())
+            }
+            Err(_) => Err(RowError::BadWord),
+        },
+        "class" => {
+            zonefile.set_default_class(Class::from_int(row.value()?));
+            Ok(())
+        }
+        "next" => show_next(alloc, zonefile, out),
+        "number" => out.shown(&zonefile.entry_number()),
+        _ => Err(RowError::BadWord),
+    }
+}
+
+/// Writes the next entry, `end`, or why there is none.
+fn show_next(alloc: Global, zonefile: &mut Zonefile, out: &mut Answer) -> Result<(), RowError> {
+    match zonefile.next_entry() {
+        Ok(Some(entry)) => show_entry(alloc, &entry, out),
+        Ok(None) => out.shown(&"end"),
+        Err(error) => out.refused(&error),
+    }
+}
+
+/// Writes an entry.
+fn show_entry(alloc: Global, entry: &Entry, out: &mut Answer) -> Result<(), RowError> {
+    match entry {
+        Entry::Record(record) => show_record(alloc, record, out),
+        Entry::Include { path, origin } => {
+            out.shown(&"include")?;
+            out.shown(&path.as_str())?;
+            match origin {
+                Some(origin) => out.octets(origin.to_vec(alloc)?.as_slice()),
+                None => Ok(()),
+            }
+        }
+    }
+}
+
+/// Writes a record: its owner, TTL, class and type, and the octets of its data.
+fn show_record(alloc: Global, record: &ScannedRecord, out: &mut Answer) -> Result<(), RowError> {
+    let owner = record.owner().to_vec(alloc)?;
+    out.shown(&owner)?;
+    out.shown(&record.ttl().as_secs())?;
+    out.shown(&record.class())?;
+    out.shown(&record.rtype())?;
+    let mut target = Vec::new(alloc);
+    match record.data().compose_rdata(&mut target) {
+        Ok(()) => out.octets(target.as_slice()),
+        Err(error) => out.refused(&error),
+    }
+}

@@ -1,0 +1,26 @@
+//! Rows of the calls of `dns_zonefile`: what each call returns for the values that stand in `stdin`.
+#![tactic(auto)]
+
+mod entries;
+
+use rows::{Answer, Calls, Row, RowError, answer_rows};
+use std::alloc::Global;
+use std::process::ExitCode;
+
+/// The calls of `dns_zonefile`.
+struct ZonefileCalls;
+
+impl Calls for ZonefileCalls {
+    fn answer(&self, alloc: Global, row: &mut Row<'_>, out: &mut Answer) -> Result<(), RowError> {
+        match row.call() {
+            "Zonefile::new" => entries::answer(alloc, row, out),
+            "Zonefile::with_capacity" => entries::answer_with_capacity(alloc, row, out),
+            "Zonefile::from_vec" => entries::answer_of_text(alloc, row, out),
+            _ => Err(RowError::UnknownCall),
+        }
+    }
+}
+
+fn main(rt: HostRuntime) -> ExitCode {
+    answer_rows(&rt, &ZonefileCalls)
+}
