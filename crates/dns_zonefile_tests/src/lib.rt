@@ -1,4 +1,4 @@
-//! Tests of the parts of `dns_zonefile`: names under an origin, and rows that are scanned.
+//! Tests of `dns_zonefile` and its parts: names under an origin, rows that are scanned, and readers.
 //!
 //! They stand in a crate of their own, so that a check of the tests doesn't check `dns_zonefile` once more.
 #![tactic(auto)]
@@ -7,3 +7,5 @@
 mod names;
 #[cfg(test)]
 mod rows;
+#[cfg(test)]
+mod zonefile;
