@@ -1,6 +1,5 @@
 -- What a reader gives, asked again and again, are the entries of its text.
-use Rattle.std.proofs.Common.{◌≡◌, ◌≢◌, ◌+◌, ◌++◌, ◌∙◌, ℕ, suc, true, false, List, [], ◌∷◌, Some, None, Ok, Err, length, refl, ap, sym, arith, length-append}
-use Rattle.dns_text.specs.Tokens.{is_end}
+use Rattle.std.proofs.Common.{◌≡◌, ◌+◌, ◌++◌, ◌∙◌, suc, true, false, List, [], ◌∷◌, None, Ok, Err, length, refl, ap, sym, arith}
 use Rattle.dns_row_scanner.specs.EntryError.{is_memory}
 use Rattle.dns_row_scanner.specs.declared.entry_error.EntryError.{EntryError}
 use Rattle.dns_zonefile.specs.Entries.{HasEntries, IsRefusedAfter, refused_number}

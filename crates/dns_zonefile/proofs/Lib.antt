@@ -9,3 +9,4 @@ mod Tried
 mod Entering
 mod Going
 mod GivenEntries
+mod Lengthened

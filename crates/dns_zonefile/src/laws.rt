@@ -1,9 +1,10 @@
 //! Laws of zone files. Each function does nothing; what it ensures is the law.
-ghost use Rattle.std.specs.Prelude.{◌≡◌, ◌+◌, ℕ, suc, false, List, None, Ok, Err, length};
+ghost use Rattle.std.specs.Prelude.{◌≡◌, ◌+◌, ◌++◌, ℕ, suc, [], false, List, None, Ok, Err, length};
 ghost use Rattle.dns_row_scanner.specs.EntryError.{is_memory};
 ghost use Rattle.dns_row_scanner.specs.declared.entry_error.EntryError.{EntryError};
 ghost use Rattle.dns_zonefile.specs.Entry.{Context, Entry};
-ghost use Rattle.dns_zonefile.specs.Entries.{HasEntries, IsRefusedAfter, refused_number};
+ghost use Rattle.dns_text.specs.Rows.{BeginsWithRows, TokenRow};
+ghost use Rattle.dns_zonefile.specs.Entries.{AreEntries, HasEntries, IsRefusedAfter, refused_number};
 ghost use Rattle.dns_zonefile.specs.Reader.{Gives, GivesEach, Reader, left_of, without_directives};
 
 /// A text has its entries in one way: it is at most one list of entries to its end, is refused after at most one, and not both.
@@ -15,6 +16,14 @@ pub fn texts_have_one_list_of_entries()
         → IsRefusedAfter start text others → (entries ≡ others) × (refused_number entries ≡ refused_number others) }
     ensures not_both { (start : Context) (text : List ℕ) (entries others : List Entry) → HasEntries start text entries
         → IsRefusedAfter start text others → ⊥ }
+{}
+
+/// A text that goes on behind its last whole row has the entries of that text, and more: those of what follows, in the context
+/// that the rows have left.
+pub fn longer_texts_have_more_entries()
+    ensures { (start after : Context) (text more : List ℕ) (rows : List TokenRow) (entries all : List Entry) → BeginsWithRows text rows []
+        → AreEntries start rows entries after → HasEntries start (text ++ more) all
+        → (behind : List Entry) × (all ≡ entries ++ behind) × HasEntries after more behind }
 {}
 
 /// What a reader gives, asked again and again, are the records and includes of its text, in order (RFC 1035 5.1).
