@@ -26,6 +26,26 @@ pub fn answer_of_text(alloc: Global, row: &mut Row<'_>, out: &mut Answer) -> Res
     take_steps(alloc, &mut zonefile, row, out)
 }
 
+/// Answers how many entries a text has that is repeated so many times, of class IN where none is stated.
+pub fn answer_count(alloc: Global, row: &mut Row<'_>, out: &mut Answer) -> Result<(), RowError> {
+    let count: u32 = row.value()?;
+    let once = row.text_octets(alloc)?;
+    let mut text = Vec::new(alloc);
+    for _ in 0..count {
+        text.extend_from_slice(once.as_slice())?;
+    }
+    let mut zonefile = Zonefile::from_vec(alloc, text);
+    zonefile.set_default_class(Class::IN);
+    for _ in 0..u32::MAX {
+        match zonefile.next_entry() {
+            Ok(Some(_)) => {}
+            Ok(None) => break,
+            Err(error) => return out.refused(&error),
+        }
+    }
+    out.shown(&zonefile.entry_number())
+}
+
 /// Takes the steps that the words of a row name.
 fn take_steps(
     alloc: Global,

@@ -1,0 +1,45 @@
+#!/usr/bin/env python3
+"""Times how the rows of zone files are read as entries.
+
+It runs the proved program of `crates/dns_zonefile_rows` (`python3 tools/build.py dns_zonefile_rows` makes it, at
+build/dns_zonefile_rows) on one row for each kind of text: the text is repeated so many times, and its entries are counted. For
+each it prints the processor time an entry. Each is run five times, and the fastest counts."""
+import argparse
+import tempfile
+from pathlib import Path
+from urllib.parse import quote
+
+from measure import run_once
+
+RUNS = 5
+TIMES = 200_000
+KINDS = {
+    "addresses": "a.example.com. 3600 IN A 192.0.2.1\n",
+    "relative": "$ORIGIN example.com.\nwww 3600 IN CNAME web\n",
+    "strings": 'a.example.com. 3600 IN TXT "some text" "and more \\" of it"\n',
+    "rows": "a.example.com. IN SOA b.example.com. c.example.com. (\n 1 ; serial\n 2 3 4 5 )\n",
+    "comments": "; a comment, and nothing else\n\n",
+}
+
+
+def nanoseconds(program, text, times, folder):
+    row, answer = folder / "row", folder / "answer"
+    row.write_text(f"Zonefile::count {times} {quote(text, safe='$()/;:,=+!*')}\n")
+    seconds = min(run_once([program], row, answer).seconds for _ in range(RUNS))
+    return seconds * 1e9 / times, answer.read_text().strip()
+
+
+def main():
+    parser = argparse.ArgumentParser(description=__doc__, formatter_class=argparse.RawDescriptionHelpFormatter)
+    parser.add_argument("program", help="the proved program of dns_zonefile_rows")
+    parser.add_argument("times", nargs="?", type=int, default=TIMES, help="how many times each text")
+    arguments = parser.parse_args()
+    print(f"{arguments.times:,} times\n  {'':<12}{'octets':>8}{'ns':>8}{'entries':>12}")
+    with tempfile.TemporaryDirectory() as folder:
+        for kind, text in KINDS.items():
+            time, entries = nanoseconds(arguments.program, text, arguments.times, Path(folder))
+            print(f"  {kind:<12}{len(text):8}{time:8.0f}{entries:>12}")
+
+
+if __name__ == "__main__":
+    main()
