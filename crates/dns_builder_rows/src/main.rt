@@ -11,6 +11,7 @@ mod owners;
 mod questions;
 mod random;
 mod records;
+mod refused;
 mod stage;
 mod stream;
 mod targets;
@@ -35,6 +36,10 @@ impl Calls for BuilderCalls {
             "MessageBuilder::two_answers" => stream::two_answers(alloc, row, out),
             "MessageBuilder::start_answer" => answers::start_answer(alloc, row, out),
             "MessageBuilder::start_error" => answers::start_error(alloc, row, out),
+            "MessageBuilder::refused_in_turn" => refused::refused_in_turn(alloc, row, out),
+            "AdditionalBuilder::opt_refused_in_turn" => {
+                refused::opt_refused_in_turn(alloc, row, out)
+            }
             "AdditionalBuilder::opt_behind" => opts::opt_behind(alloc, row, out),
             "AnswerBuilder::copy_cnames" => copied::copy_cnames(alloc, row, out),
             "QuestionBuilder::over_array" => questions::over_array(row, out),
