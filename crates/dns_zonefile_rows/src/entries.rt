@@ -1,6 +1,6 @@
 //! Readers that are handed a text and asked for entries, step by step.
 use dns_name::{Class, ComposeRecordData, Name, ToName};
-use dns_zonefile::{Entry, ScannedRecord, Zonefile};
+use dns_zonefile::{Entry, Error, ScannedRecord, Zonefile};
 use rows::{Answer, Row, RowError};
 use std::alloc::Global;
 
@@ -36,14 +36,25 @@ pub fn answer_count(alloc: Global, row: &mut Row<'_>, out: &mut Answer) -> Resul
     }
     let mut zonefile = Zonefile::from_vec(alloc, text);
     zonefile.set_default_class(Class::IN);
+    match read_to_end(&mut zonefile) {
+        Ok(()) => out.shown(&zonefile.entry_number()),
+        Err(error) => out.refused(&error),
+    }
+}
+
+/// Reads the entries that are left.
+fn read_to_end(zonefile: &mut Zonefile) -> Result<(), Error> {
     for _ in 0..u32::MAX {
-        match zonefile.next_entry() {
-            Ok(Some(_)) => {}
-            Ok(None) => break,
-            Err(error) => return out.refused(&error),
+        if !reads_one(zonefile)? {
+            break;
         }
     }
-    out.shown(&zonefile.entry_number())
+    Ok(())
+}
+
+/// Reads the next entry, and returns whether there is one.
+fn reads_one(zonefile: &mut Zonefile) -> Result<bool, Error> {
+    Ok(zonefile.next_entry()?.is_some())
 }
 
 /// Takes the steps that the words of a row name.
