@@ -20,3 +20,4 @@ pub mod OptPages
 pub mod OptOptions
 pub mod OptWritten
 pub mod OptLeaves
+pub mod MovedDown

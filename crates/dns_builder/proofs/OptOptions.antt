@@ -9,6 +9,7 @@ use Rattle.dns_octets.specs.declared.error.AppendError.{AppendError}
 use Rattle.dns_octets.specs.declared.error.AppendError.TheVariants.{ShortBuf, OutOfMemory, BadLength}
 use Rattle.dns_octets.proofs.Grows.{GrowsTo-append}
 use Rattle.dns_header.specs.Opt.{option_octets}
+use Rattle.dns_builder.specs.OptReplaced.{RefusesOctets}
 use Rattle.dns_builder.specs.OptOption.{OnlyGrows, Writes, AddsOption, RefusesOption}
 
 -- what a refused append answers
@@ -70,3 +71,12 @@ module _ {F Target : Type 0} (closure : Once F (MutBor Target × Unit {0}) (Resu
       RefusesOption.no_room (subst (IsPast bound) (let same : length (here ++ head) ≡ length here + 4 = omega (arith, length-append here head) in same) (short (λ _. refused ShortBuf)))
   no-head bound used head OutOfMemory four short bad = RefusesOption.no_memory
   no-head bound used head BadLength four short bad = absurd (bad (λ _. refused BadLength))
+
+-- octets are refused
+pub no-octets : (here octets : List ℕ) (bound : Option ℕ) (error : AppendError)
+    → (refused error ≡ refused ShortBuf → IsPast bound (length (here ++ octets))) → (refused error ≡ refused BadLength → ⊥)
+    → RefusesOctets here bound (length octets) error
+no-octets here octets bound ShortBuf short bad =
+    RefusesOctets.no_room (subst (IsPast bound) (length-append here octets) (short (λ _. refused ShortBuf)))
+no-octets here octets bound OutOfMemory short bad = RefusesOctets.no_memory
+no-octets here octets bound BadLength short bad = absurd (bad (λ _. refused BadLength))

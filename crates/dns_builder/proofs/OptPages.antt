@@ -1,6 +1,6 @@
 -- What an OPT record is on a page: the octets before its options, and these.
-use Rattle.std.proofs.Common.{◌≡◌, ◌≤◌, ◌+◌, ◌-◌, ℕ, true, List, [], ◌∷◌, ◌++◌, length, take, drop, inl, ◌∙◌, ap, arith, length-append, length-drop, append_assoc}
-use Rattle.std.proofs.lemmas.List.{append-nil, length-take, take-append-le, drop-append-le}
+use Rattle.std.proofs.Common.{◌≡◌, ◌≤◌, ◌<◌, ◌+◌, ◌-◌, ℕ, true, List, [], ◌∷◌, ◌++◌, length, take, drop, inl, sym, ◌∙◌, ap, arith, length-append, length-drop, append_assoc}
+use Rattle.std.proofs.lemmas.List.{append-nil, length-take, take-append-drop, take-append-le, drop-append-le, drop_at}
 use Rattle.std.specs.Int.{to_be_bytes, w16, w32}
 use Rattle.dns_octets.specs.Builder.{Known}
 use Rattle.dns_name.specs.Spelling.{Spelling, name_text, known_after, split_from}
@@ -25,11 +25,11 @@ length-last-few octets count = omega (arith, length-drop (length octets - count)
 start-more : (octets tail : List ℕ) (count more : ℕ) → more ≡ count + length tail → length (octets ++ tail) - more ≡ length octets - count
 start-more octets tail count more is = omega (arith, length-append octets tail)
 
-pub front-more : (octets tail new : List ℕ) (count more : ℕ) → new ≡ octets ++ tail → more ≡ count + length tail
-    → take (length new - more) new ≡ take (length octets - count) octets
-front-more octets tail new count more is counts =
-    ap (λ l. take (length l - more) l) is ∙ ap (λ n. take n (octets ++ tail)) (start-more octets tail count more counts)
-    ∙ take-append-le (length octets - count) octets tail (omega arith)
+pub front-more : (octets tail new : List ℕ) (count more replaced : ℕ) → new ≡ octets ++ tail → more ≡ count + length tail
+    → take (length new - more - replaced) new ≡ take (length octets - count - replaced) octets
+front-more octets tail new count more replaced is counts =
+    ap (λ l. take (length l - more - replaced) l) is ∙ ap (λ n. take (n - replaced) (octets ++ tail)) (start-more octets tail count more counts)
+    ∙ take-append-le (length octets - count - replaced) octets tail (omega arith)
 
 pub last-more : (octets tail new : List ℕ) (count more : ℕ) → new ≡ octets ++ tail → more ≡ count + length tail
     → drop (length new - more) new ≡ drop (length octets - count) octets ++ tail
@@ -38,8 +38,38 @@ last-more octets tail new count more is counts =
     ∙ drop-append-le (length octets - count) octets tail (omega arith)
 
 -- the front is as long as it begins where the rest does
-pub start-front : (octets front : List ℕ) (count : ℕ) → take (length octets - count) octets ≡ front → length octets - count ≡ length front
-start-front octets front count is = omega (arith, ap (length {A = ℕ}) is, length-take (length octets - count) octets)
+pub start-front : (octets front : List ℕ) (begin : ℕ) → begin ≤ length octets → take begin octets ≡ front → begin ≡ length front
+start-front octets front begin within is = omega (arith, ap (length {A = ℕ}) is, length-take begin octets)
+
+-- Options that replaced others are moved down to where these begin.
+module _ (octets : List ℕ) (count replaced : ℕ) where
+  abbrev pub behind-replaced : ℕ
+  behind-replaced = length octets - count
+
+  abbrev pub without-replaced : List ℕ
+  without-replaced = take (behind-replaced - replaced) octets ++ drop behind-replaced octets
+
+  pub none-replaced : (behind-replaced - replaced < behind-replaced → ⊥) → octets ≡ without-replaced
+  none-replaced none =
+      sym (take-append-drop behind-replaced octets)
+      ∙ ap (λ n. take n octets ++ drop behind-replaced octets) (let same : behind-replaced ≡ behind-replaced - replaced = omega (arith, none) in same)
+
+  module _ (some : behind-replaced - replaced < behind-replaced) (new : List ℕ) (is : new ≡ without-replaced) where
+    pub start-moved : length new - count ≡ behind-replaced - replaced
+    start-moved = omega (
+      arith,
+      some,
+      ap (length {A = ℕ}) is,
+      length-append (take (behind-replaced - replaced) octets) (drop behind-replaced octets),
+      length-take (behind-replaced - replaced) octets,
+      length-drop behind-replaced octets,
+    )
+
+    pub options-moved : drop (length new - count) new ≡ drop behind-replaced octets
+    options-moved =
+        (λ i. drop (start-moved i) (is i))
+        ∙ drop_at (take (behind-replaced - replaced) octets) (drop behind-replaced octets) (behind-replaced - replaced)
+        (omega (arith, length-take (behind-replaced - replaced) octets))
 
 -- nothing that is remembered stands behind a page
 pub free_behind : (len begin end : ℕ) (known : Known) → StopsBefore len known → len ≤ begin → is_free begin end known ≡ true

@@ -1,5 +1,5 @@
 -- An OPT record that a closure built is written on the page.
-use Rattle.std.proofs.Common.{◌≡◌, ◌≤◌, ◌+◌, ℕ, List, [], ◌++◌, Ok, Err, Option, Some, None, length, take, refl, sym, ◌∙◌, ap, subst, arith, length-append, append_assoc}
+use Rattle.std.proofs.Common.{◌≡◌, ◌≤◌, ◌+◌, ℕ, List, [], ◌++◌, Ok, Err, Option, Some, None, length, take, drop, refl, sym, ◌∙◌, ap, subst, arith, length-append, append_assoc}
 use Rattle.std.specs.Prelude.{Result, IfOk, OnOk, OnErr}
 use Rattle.std.specs.Borrow.{MutBor}
 use Rattle.std.specs.Fn.{Once, FnOnceReturnsAtMut}
@@ -43,28 +43,36 @@ module _ {Target : Type 0} (list_of : Target → List ℕ) (known_of : Target �
     (keeps : Target → Target → Type 0) (page : List ℕ) (first last : OptBuilder Target)
     (start : start_of list_of first ≡ length page + 11) (octets : list_of first.target ≡ page ++ zeros)
     (leaves : LeavesMessage list_of known_of bound_of keeps first last) where
-  -- what the closure leaves before the options
+  -- what the closure leaves before the data
   front : take (start_of list_of last) (list_of last.target) ≡ page ++ zeros
   front = leaves.front
       ∙ take_all (start_of list_of first) (list_of first.target) (omega (arith, start, ap (length {A = ℕ}) octets, length-append page zeros)) ∙ octets
 
   pub start-last : start_of list_of last ≡ length page + 11
-  start-last = start-front (list_of last.target) (page ++ zeros) last.rdlen front ∙ length-append page zeros
+  start-last = start-front (list_of last.target) (page ++ zeros) (start_of list_of last) (omega arith) front ∙ length-append page zeros
 
-  pub octets-last : list_of last.target ≡ page ++ (zeros ++ (opt_in list_of last).options)
+  -- the octets without the options that others replaced
+  abbrev pub kept : List ℕ
+  kept = take (start_of list_of last) (list_of last.target) ++ (opt_in list_of last).options
+
+  kept-is : kept ≡ page ++ (zeros ++ (opt_in list_of last).options)
+  kept-is = ap (λ l. l ++ (opt_in list_of last).options) front ∙ append_assoc page zeros (opt_in list_of last).options
+
+  octets-last : list_of last.target ≡ page ++ (zeros ++ drop (start_of list_of last) (list_of last.target))
   octets-last = sym (take-append-drop (start_of list_of last) (list_of last.target))
-      ∙ ap (λ l. l ++ (opt_in list_of last).options) front ∙ append_assoc page zeros (opt_in list_of last).options
+      ∙ ap (λ l. l ++ drop (start_of list_of last) (list_of last.target)) front
+      ∙ append_assoc page zeros (drop (start_of list_of last) (list_of last.target))
 
   -- the page that the record is written on
-  pub octets-new : (new : List ℕ) (w : WritesFields (start_of list_of last) (opt_in list_of last) (list_of last.target) new)
+  pub octets-new : (new : List ℕ) (w : WritesFields (start_of list_of last) (opt_in list_of last) kept new)
       → new ≡ page ++ opt_octets last.fields.payload_size w.ttl (opt_in list_of last).options
-  octets-new new w = patch_opt page last.fields.payload_size w.ttl (start_of list_of last) (opt_in list_of last).options (list_of last.target) new
-      octets-last start-last w.written
+  octets-new new w = patch_opt page last.fields.payload_size w.ttl (start_of list_of last) (opt_in list_of last).options kept new
+      kept-is start-last w.written
 
   -- whatever comes of it, the page has grown
   pub grown : {T E : Type 0} (result : Result T E) (known more : Known) (new : List ℕ) → more ≡ known
       → OnErr result (new ≡ list_of last.target)
-      → OnOk result (WritesFields (start_of list_of last) (opt_in list_of last) (list_of last.target) new)
+      → OnOk result (WritesFields (start_of list_of last) (opt_in list_of last) kept new)
       → GrowsTo page known new more
   grown (Ok value) known more new same err written = GrowsTo-append page known new more _ (octets-new new written) same
   grown (Err error) known more new same err written = GrowsTo-append page known new more _ (err ∙ octets-last) same
@@ -74,7 +82,7 @@ module _ {Target : Type 0} (list_of : Target → List ℕ) (known_of : Target �
       (empty : opt_in list_of first ≡ empty_opt (take 4 page)) (said : fields_of first.header ≡ fields_of page)
       (called : FnOnceReturnsAtMut closure op first answer last) where
     writes : (header new : List ℕ) → header ≡ last.header → refusal last.refused answer ≡ None → length (opt_in list_of last).options ≤ 65535
-        → WritesFields (start_of list_of last) (opt_in list_of last) (list_of last.target) new
+        → WritesFields (start_of list_of last) (opt_in list_of last) kept new
         → WritesOpt closure (opt_in list_of) op s (page_of page known) header (page_of new known)
     writes header new sets unrefused short w =
         let fine = accepted last.refused answer unrefused in
@@ -106,7 +114,7 @@ module _ {Target : Type 0} (list_of : Target → List ℕ) (known_of : Target �
     pub written : (result : Result (List ℕ) AppendError) (more : Known) (new : List ℕ) → more ≡ known
         → IfOk result (λ header. header ≡ last.header) → OnOk result (refusal last.refused answer ≡ None)
         → OnOk result (length (opt_in list_of last).options ≤ 65535)
-        → OnOk result (WritesFields (start_of list_of last) (opt_in list_of last) (list_of last.target) new)
+        → OnOk result (WritesFields (start_of list_of last) (opt_in list_of last) kept new)
         → IfOk result (λ header. WritesOpt closure (opt_in list_of) op s (page_of page known) header (page_of new more))
     written (Ok header) more new same sets unrefused short w =
         subst (λ (k : Known). WritesOpt closure (opt_in list_of) op s (page_of page known) header (page_of new k)) (sym same)

@@ -10,6 +10,7 @@ pub mod Answering
 pub mod OptBuilt
 pub mod OptSeen
 pub mod OptOption
+pub mod OptReplaced
 pub mod OptAsked
 pub mod OptClosed
 pub mod OptAdded

@@ -19,22 +19,26 @@ target_of builder = builder.target
 
 module _ {Target : Type 0} (list_of : Target → List ℕ) where
   -- where the options begin in the octets of the target
+  abbrev pub options_start : OptBuilder Target → ℕ
+  options_start builder = length (list_of builder.target) - builder.rdlen
+
+  -- where the data of the record begins: with the options that others replaced, if there are any
   abbrev pub start_of : OptBuilder Target → ℕ
-  start_of builder = length (list_of builder.target) - builder.rdlen
+  start_of builder = options_start builder - builder.replaced
 
   -- what a builder of an OPT record holds
   abbrev pub opt_in : OptBuilder Target → OptBuilt
   opt_in builder = record {
     header = builder.header;
     fields = builder.fields;
-    options = drop (start_of builder) (list_of builder.target);
+    options = drop (options_start builder) (list_of builder.target);
     refused = builder.refused;
   }
 
 module _ {Target : Type 0} (list_of : Target → List ℕ) (known_of : Target → Known) (bound_of : Target → Option ℕ)
     (keeps : Target → Target → Type 0) where
-  -- Of the message nothing changes but the OPT record and the response code: what stands before the options, what the target remembers
-  -- and may hold, and every other bit of the header stay.
+  -- Of the message nothing changes but the OPT record and the response code: what stands before the record's data, what the target
+  -- remembers and may hold, and every other bit of the header stay.
   pub record LeavesMessage (old new : OptBuilder Target) : Type 0 where
     pub front : take (start_of list_of new) (list_of new.target) ≡ take (start_of list_of old) (list_of old.target)
     pub known : known_of new.target ≡ known_of old.target

@@ -4,7 +4,9 @@ ghost use Rattle.dns_builder.specs.OptSeen.{target_of};
 
 mod append;
 mod fields;
+mod move_down;
 mod option;
+mod replace;
 
 use dns_header::{Header, OptHeader};
 use dns_name::{AppendError, Composer};
@@ -18,6 +20,8 @@ pub struct OptBuilder<Target: Composer> {
     pub(crate) target: Target,
     /// How many octets of options stand at the end of the target.
     rdlen: u16,
+    /// How many octets of options that these replaced stand before them.
+    replaced: usize,
     /// The header that the message has with the record.
     header: Header,
     fields: OptHeader,
@@ -33,6 +37,7 @@ impl<Target: Composer> OptBuilder<Target> {
         OptBuilder {
             target,
             rdlen: 0,
+            replaced: 0,
             header: Header::new(),
             fields: OptHeader::new(),
             refused: None,

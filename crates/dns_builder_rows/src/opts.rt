@@ -2,7 +2,7 @@
 ghost use Rattle.dns_builder.specs.OptSeen.{LeavesMessage};
 
 use dns_builder::{MessageBuilder, OptBuilder};
-use dns_header::Record;
+use dns_header::{Opt, OptRecord, Record};
 use dns_name::{
     AppendError, Class, Composer, Name, OptRcode, OptionCode, Rtype, Ttl, UnknownRecordData,
 };
@@ -19,13 +19,46 @@ pub struct OptRow {
     code: OptionCode,
     option_len: u16,
     octets: Vec<u8>,
-    /// Whether the answer is Ok even if the option is refused.
-    is_lenient: bool,
+    behind: Behind,
+}
+
+/// What comes of the option.
+#[derive(Drop)]
+enum Behind {
+    /// Its refusal is told.
+    Told,
+    /// The answer is Ok even if it is refused.
+    Dropped,
+    /// It is replaced, and the fields too, with those of this record.
+    Replaced(OptRecord<Vec<u8>>),
+}
+
+impl Behind {
+    /// Reads whether the option's refusal is told, or dropped, or by which record all is replaced: its payload size, its TTL and the
+    /// octets of its options.
+    fn read(alloc: Global, row: &mut Row<'_>) -> Result<Self, RowError> {
+        match row.word()? {
+            "told" => Ok(Behind::Told),
+            "dropped" => Ok(Behind::Dropped),
+            "replaced" => Ok(Behind::Replaced(record_of(alloc, row)?)),
+            _ => Err(RowError::BadWord),
+        }
+    }
+}
+
+/// Reads an OPT record: its payload size, its TTL and the octets of its options.
+fn record_of(alloc: Global, row: &mut Row<'_>) -> Result<OptRecord<Vec<u8>>, RowError> {
+    let class = Class::from_int(row.value()?);
+    let ttl = Ttl::from_secs(row.value()?);
+    match Opt::from_octets(row.octets(alloc)?) {
+        Ok(opt) => Ok(OptRecord::from_record(Record::new(Name::root_slice(), class, ttl, opt))),
+        Err(_) => Err(RowError::BadWord),
+    }
 }
 
 impl OptRow {
-    /// Reads the payload size, the response code, the version and DO, the code, the length and the octets of an option, and whether its
-    /// refusal is told or dropped.
+    /// Reads the payload size, the response code, the version and DO, the code, the length and the octets of an option, and what comes
+    /// of it.
     pub fn read(alloc: Global, row: &mut Row<'_>) -> Result<Self, RowError> {
         Ok(OptRow {
             udp_payload_size: row.value()?,
@@ -35,15 +68,11 @@ impl OptRow {
             code: OptionCode::from_int(row.value()?),
             option_len: row.value()?,
             octets: row.octets(alloc)?,
-            is_lenient: match row.word()? {
-                "told" => false,
-                "dropped" => true,
-                _ => return Err(RowError::BadWord),
-            },
+            behind: Behind::read(alloc, row)?,
         })
     }
 
-    /// Sets the fields and pushes the option.
+    /// Sets the fields and pushes the option, and replaces both if the row says so.
     pub fn apply<Target: Composer>(&self, opt: &mut OptBuilder<Target>) -> Result<(), AppendError>
         ensures { LeavesMessage Target.list Target.known Target.bound Target.stays opt.old opt.new }
     {
@@ -54,7 +83,11 @@ impl OptRow {
         let pushed = opt.push_raw_option(self.code, self.option_len, |target| {
             target.append_slice(self.octets.as_slice())
         });
-        if self.is_lenient { Ok(()) } else { pushed }
+        match &self.behind {
+            Behind::Told => pushed,
+            Behind::Dropped => Ok(()),
+            Behind::Replaced(source) => opt.clone_from(source),
+        }
     }
 }
 

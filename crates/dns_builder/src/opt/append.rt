@@ -1,17 +1,18 @@
 //! An OPT record that a closure builds.
 ghost use Rattle.std.specs.Prelude.{◌≡◌, ◌≤◌, ◌+◌, ◌-◌, ◌++◌, [], ◌∷◌, None, Some, Err, true, length, take, IfOk, OnOk, IfErr, OnErr};
 ghost use Rattle.std.specs.Int.{to_be_bytes, w16, w32};
-ghost use Rattle.dns_octets.specs.Builder.{GrowsTo, IsPast};
+ghost use Rattle.dns_octets.specs.Builder.{GrowsTo, IsPast, Standing};
 ghost use Rattle.dns_octets.specs.declared.error.AppendError.TheVariants.{ShortBuf, BadLength};
 ghost use Rattle.dns_header.specs.HeaderFields.{fields_of};
 ghost use Rattle.dns_name.specs.RecordData.{page_of};
-ghost use Rattle.dns_name.specs.Remembered.{is_free};
+ghost use Rattle.dns_name.specs.Remembered.{IsKnown};
 ghost use Rattle.dns_builder.specs.OptAsked.{WritesOpt, RefusesRecord, refusal};
 ghost use Rattle.dns_builder.specs.OptBuilt.{empty_opt};
 ghost use Rattle.dns_builder.specs.OptClosed.{WritesFields};
-ghost use Rattle.dns_builder.specs.OptSeen.{opt_in, start_of, target_of, OnlyBuilds};
+ghost use Rattle.dns_builder.specs.OptSeen.{opt_in, options_start, start_of, target_of, OnlyBuilds};
 
 use super::OptBuilder;
+use super::move_down::move_down;
 use dns_header::{Header, OptHeader};
 use dns_name::{AppendError, Class, Composer, Ttl};
 
@@ -85,6 +86,7 @@ impl<Target: Composer> OptBuilder<Target> {
         self.target
             .append_slice(&[0, 0, 41, 0, 0, 0, 0, 0, 0, 0, 0])?;
         self.rdlen = 0;
+        self.replaced = 0;
         self.header = header;
         self.fields = OptHeader::new();
         self.refused = None;
@@ -94,11 +96,13 @@ impl<Target: Composer> OptBuilder<Target> {
     /// Writes what the record says beside its options, unless the record is refused. Returns the header.
     fn close(&mut self, answered: Result<(), AppendError>) -> Result<Header, AppendError>
         requires behind { 8 ≤ start_of Target.list self.old }
-        requires free { is_free (start_of Target.list self.old - 8) (start_of Target.list self.old) (Target.known (target_of self.old)) ≡ true }
+        requires stops { (standing : Standing) → IsKnown standing (Target.known (target_of self.old)) → standing.stop ≤ start_of Target.list self.old - 8 }
         ensures header { IfOk result (λ header. header ≡ (opt_in Target.list self.old).header) }
         ensures unrefused { OnOk result (refusal (opt_in Target.list self.old).refused answered ≡ None) }
         ensures short { OnOk result (length (opt_in Target.list self.old).options ≤ 65535) }
-        ensures written { OnOk result (WritesFields (start_of Target.list self.old) (opt_in Target.list self.old) (Target.list (target_of self.old)) (Target.list (target_of self.new))) }
+        ensures written { OnOk result (WritesFields (start_of Target.list self.old) (opt_in Target.list self.old)
+            (take (start_of Target.list self.old) (Target.list (target_of self.old)) ++ (opt_in Target.list self.old).options)
+            (Target.list (target_of self.new))) }
         ensures err { OnErr result (Target.list (target_of self.new) ≡ Target.list (target_of self.old)) }
         ensures why { IfErr result (λ error. refusal (opt_in Target.list self.old).refused answered ≡ Some error) }
         ensures known { Target.known (target_of self.new) ≡ Target.known (target_of self.old) }
@@ -109,14 +113,43 @@ impl<Target: Composer> OptBuilder<Target> {
             return Err(error);
         }
         answered?;
+        self.drop_replaced();
         self.write_fields();
         Ok(self.header)
     }
 
-    /// Writes the class, the TTL and the length of the data.
+    /// Moves the options to where those that they replaced begin.
+    fn drop_replaced(&mut self)
+        requires stops { (standing : Standing) → IsKnown standing (Target.known (target_of self.old)) → standing.stop ≤ start_of Target.list self.old - 8 }
+        ensures octets { Target.list (target_of self.new)
+            ≡ take (start_of Target.list self.old) (Target.list (target_of self.old)) ++ (opt_in Target.list self.old).options }
+        ensures opt { opt_in Target.list self.new ≡ opt_in Target.list self.old }
+        ensures start { start_of Target.list self.new ≡ start_of Target.list self.old }
+        ensures known { Target.known (target_of self.new) ≡ Target.known (target_of self.old) }
+        ensures same_bound { Target.bound (target_of self.new) ≡ Target.bound (target_of self.old) }
+        ensures stays { Target.stays (target_of self.old) (target_of self.new) }
+    {
+        let from = self.options_start();
+        let to = from.saturating_sub(self.replaced);
+        if to < from {
+            move_down(&mut self.target, from, to);
+            self.replaced = 0;
+        }
+    }
+
+    /// Returns where the options begin in the target.
+    pub(super) fn options_start(&self) -> usize
+        ensures { result ≡ options_start Target.list self.now }
+    {
+        let len = self.target.octets().len();
+        len.saturating_sub(usize::from(self.rdlen))
+    }
+
+    /// Writes the class, the TTL and the length of the data, which are the options alone.
     fn write_fields(&mut self)
         requires behind { 8 ≤ start_of Target.list self.old }
-        requires free { is_free (start_of Target.list self.old - 8) (start_of Target.list self.old) (Target.known (target_of self.old)) ≡ true }
+        requires alone { start_of Target.list self.old ≡ options_start Target.list self.old }
+        requires stops { (standing : Standing) → IsKnown standing (Target.known (target_of self.old)) → standing.stop ≤ start_of Target.list self.old - 8 }
         ensures written { WritesFields (start_of Target.list self.old) (opt_in Target.list self.old) (Target.list (target_of self.old)) (Target.list (target_of self.new)) }
         ensures short { length (opt_in Target.list self.old).options ≤ 65535 }
         ensures header { (opt_in Target.list self.new).header ≡ (opt_in Target.list self.old).header }
@@ -125,7 +158,7 @@ impl<Target: Composer> OptBuilder<Target> {
         ensures stays { Target.stays (target_of self.old) (target_of self.new) }
     {
         let head = head_octets(self.fields.class(), self.fields.ttl(), self.rdlen);
-        let start = self.target.octets().len() - usize::from(self.rdlen);
+        let start = self.options_start();
         self.target.patch(start - 8, &head);
     }
 }

@@ -1,14 +1,11 @@
-use Rattle.std.proofs.Common.{◌≡◌, ◌-◌, ◌∙◌, true, length, subst, refl, sym, arith}
+use Rattle.std.proofs.Common.{◌∙◌, subst, refl, arith}
 use Rattle.std.specs.Fn.{FnOnceReturnsAtMut}
 use Rattle.std.proofs.lemmas.Result.{IfErr-weaker}
-use Rattle.dns_octets.specs.Builder.{Known}
 use Rattle.dns_octets.proofs.Grows.{GrowsTo-same}
-use Rattle.dns_name.specs.Remembered.{is_free}
+use Rattle.dns_name.specs.Remembered.{IsKnown}
 use Rattle.dns_name.proofs.Soundness.{merely-within}
 use Rattle.dns_builder.specs.OptAsked.RefusesRecord.{closed}
-use Rattle.dns_builder.specs.OptSeen.{start_of}
 use Rattle.dns_builder.proofs.Begun.{handed-on}
-use Rattle.dns_builder.proofs.OptPages.{free_behind}
 use Rattle.dns_builder.proofs.OptWritten.{start-last, grown, written, no-zeros}
 use Rattle.dns_builder.proofs.opt.OptBuilder.build_opt.Goals as goal
 
@@ -31,18 +28,17 @@ close-requires-clause-behind g c =
     c.in_ok-begin.ensures.octets leaves in
     omega (arith, start)
 
-pub close-requires-clause-free : goal.close-requires-clause-free
-close-requires-clause-free g c =
+pub close-requires-clause-stops : goal.close-requires-clause-stops
+close-requires-clause-stops g c standing is =
     let called : FnOnceReturnsAtMut g.F.FnOnce c.args.op c.begin.new.self c.op-answered.result c.op-answered.new.arg2 =
     record { shown = _; shows = refl; left = _; met = c.op-answered.ensures; leaves = refl } in
     let leaves = c.requires.builds c.begin.new.self c.op-answered.new.arg2 c.op-answered.result called in
     let start = start-last g.Target.Octets.list g.Target.Remembers.known g.Target.OctetsBuilder.bound g.Target.OctetsBuilder.stays
     (g.Target.Octets.list c.args.self.now.target) c.begin.new.self c.op-answered.new.arg2 c.in_ok-begin.ensures.start
     c.in_ok-begin.ensures.octets leaves in
-    subst (λ (k : Known). is_free (start_of g.Target.Octets.list c.op-answered.new.arg2 - 8) (start_of g.Target.Octets.list c.op-answered.new.arg2) k ≡ true)
-    (sym (leaves.known ∙ c.begin.ensures.known))
-    (free_behind (length (g.Target.Octets.list c.args.self.now.target)) _ _ (g.Target.Remembers.known c.args.self.now.target)
-    (merely-within (g.met.Target.Composer.sound c.args.self.now.target)) (omega (arith, start)))
+    let stops = merely-within (g.met.Target.Composer.sound c.args.self.now.target) standing
+    (subst (IsKnown standing) (leaves.known ∙ c.begin.ensures.known) is) in
+    omega (arith, start, stops)
 
 pub returns-clause-ok : goal.returns-clause-ok
 returns-clause-ok g c =

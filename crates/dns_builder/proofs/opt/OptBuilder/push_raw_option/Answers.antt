@@ -39,7 +39,7 @@ returns-in-Ok-clause-leaves g c =
     let adds = c.in-Ok.ensures.ok in
     record {
       front = front-more (g.Target.Octets.list c.args.self.now.target) (option_octets (record { code = c.args.code; octets = adds.octets }))
-          (g.Target.Octets.list c.append_option.new.target) c.args.self.now.rdlen c.in-Ok.rdlen adds.is
+          (g.Target.Octets.list c.append_option.new.target) c.args.self.now.rdlen c.in-Ok.rdlen c.args.self.now.replaced adds.is
           (omega (arith, c.in-Ok.ensures.rdlen, adds.long, option-long c.args.code adds.octets));
       known = c.append_option.ensures.grows.known;
       bound = c.append_option.ensures.grows.bound;
@@ -64,7 +64,7 @@ returns-in-Err-clause-leaves g c =
     let here = ap (length {A = ℕ}) c.octets-len.ensures in
     let same = octets_back (length c.octets-len.result.now) _ (only-grown c.append_option.ensures.grows) here c.truncate.ensures.octets in
     record {
-      front = ap (λ (l : List ℕ). take (length l - c.args.self.now.rdlen) l) same;
+      front = ap (λ (l : List ℕ). take (length l - c.args.self.now.rdlen - c.args.self.now.replaced) l) same;
       known = known_back (length c.octets-len.result.now) _ (merely-within (g.met.Target.Composer.sound c.args.self.now.target))
           (only-grown c.append_option.ensures.grows) here c.truncate.ensures.known;
       bound = c.truncate.ensures.same_bound ∙ c.append_option.ensures.grows.bound;
