@@ -4,10 +4,13 @@ ghost use Rattle.dns_compress.specs.OctetHasher.{step};
 
 use std::hash::Hasher;
 
-/// A hasher for octets that come one by one, as those of a slice do: a rotation for each, and one multiplication in the end.
+/// 2^64 divided by the golden ratio.
+const MULTIPLIER: u64 = 0x9e37_79b9_7f4a_7c15;
+
+/// A fast hasher of slices of octets, which `Hash` writes one by one: a rotation for each, and one multiplication in the end.
 ///
-/// It has no secret. Whoever picks the names can make them collide, and a look-up then takes as long as there are suffixes in
-/// the message.
+/// Its seed is fixed. So whoever picks the names can make them collide, and a look-up then takes as long as there are suffixes
+/// in the message.
 #[derive(Clone, Copy, Default)]
 pub(crate) struct OctetHasher {
     state: u64,
@@ -20,18 +23,18 @@ impl Hasher for OctetHasher {
 
     ghost finish = { finish };
 
+    /// Returns a hash of which each bit depends on all of the state, since a map takes its places from the low bits and its
+    /// tags from high ones.
     #[tactic(auto, unfolding(crate::specs::OctetHasher::finish))]
-    /// Mixes all bits of the state into the high and the low ones: a map takes its tags and places from both.
     fn finish(&self) -> u64 {
-        let product = self.state as u128 * 0x9e37_79b9_7f4a_7c15;
+        let product = self.state as u128 * MULTIPLIER as u128;
         (product & 0xFFFF_FFFF_FFFF_FFFF) as u64 ^ (product >> 64) as u64
     }
 
     #[tactic(auto, unfolding(crate::specs::OctetHasher::write))]
     fn write(&mut self, octets: &[u8]) {
-        if let [a, b, c, d, e, f, g, h] = *octets {
-            let word = u64::from_le_bytes([a, b, c, d, e, f, g, h]);
-            self.state = step(self.state, word);
+        if let Some(word) = octets.as_array::<8>() {
+            self.state = step(self.state, u64::from_le_bytes(*word));
             return;
         }
         let mut state = self.state;
@@ -46,13 +49,12 @@ impl Hasher for OctetHasher {
         self.state = step(self.state, octet as u64);
     }
 
-    #[tactic(auto, unfolding(crate::specs::OctetHasher::write))]
-    fn write_usize(&mut self, length: usize) {
-        self.state = step(self.state, length as u64);
+    fn write_usize(&mut self, len: usize) {
+        self.state = step(self.state, len as u64);
     }
 }
 
-/// Returns the state after an octet or a word.
+/// Returns the state after an octet, or after a word of eight.
 fn step(state: u64, word: u64) -> u64
     ensures { result ≡ step state word }
 {

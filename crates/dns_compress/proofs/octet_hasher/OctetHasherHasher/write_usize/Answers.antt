@@ -8,4 +8,4 @@ pub returns : goal.returns
 unfolding write le_bytes
 returns c =
     ap (λ n. record { state = n }) (c.step-self.ensures
-    ∙ ap (step c.args.self.now.state) (sym (from_le_bytes-to_le_bytes_8 c.args.length c.ranges.length.fits)))
+    ∙ ap (step c.args.self.now.state) (sym (from_le_bytes-to_le_bytes_8 c.args.len c.ranges.len.fits)))

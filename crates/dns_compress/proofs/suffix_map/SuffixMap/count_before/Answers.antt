@@ -9,8 +9,8 @@ loop-count-preserved c =
     let one_more : suc (c.loop-count.count - 1) ≡ c.loop-count.count = omega arith in (
       omega (arith, c.loop-count.invariant.0),
       before-skipped c.args.self.now.spots.entries c.args.len (c.loop-count.count - 1) c.index.result.now c.index.ensures c.if-index-len.true
-      ∙ ap (λ n. before c.args.len (take n (kept c.args.self.now.spots))) one_more
-      ∙ c.loop-count.invariant.1,
+          ∙ ap (λ n. before c.args.len (take n (kept c.args.self.now.spots))) one_more
+          ∙ c.loop-count.invariant.1,
     )
 
 pub returns-else-index-len : goal.returns-else-index-len
