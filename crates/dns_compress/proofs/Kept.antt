@@ -39,7 +39,7 @@ module _ {A : Type 0} where
       by_test false is on = rw (nat_list_eq_equiv.symm entry.0.items suffix, is) on
 
   -- what is not remembered has no entry
-  pub no_entry : (entries : List (Vec ℕ A × Spot)) (suffix : List ℕ) → place_in tree_spelling (map kept_at entries) suffix ≡ None
+  no_entry : (entries : List (Vec ℕ A × Spot)) (suffix : List ℕ) → place_in tree_spelling (map kept_at entries) suffix ≡ None
       → lookup (λ key. pointwise nat_eq suffix key.items) entries ≡ None
   no_entry entries suffix none = none_there _ (sym (place_kept entries suffix) ∙ none)
 
@@ -69,10 +69,10 @@ module _ {A : Type 0} where
       (first_in_order n (map kept_at entries) order)
 
   -- the first suffixes and one more
-  pub record EndsIn (entries : List (Vec ℕ A × Spot)) (n : ℕ) (spot : Spot) : Type 0 where
-    pub last : Standing
-    pub ends : take (suc n) (map kept_at entries) ≡ take n (map kept_at entries) ++ last ∷ []
-    pub stop : last.stop ≡ spot.stop
+  record EndsIn (entries : List (Vec ℕ A × Spot)) (n : ℕ) (spot : Spot) : Type 0 where
+    last : Standing
+    ends : take (suc n) (map kept_at entries) ≡ take n (map kept_at entries) ++ last ∷ []
+    stop : last.stop ≡ spot.stop
 
   ends_in : (entries : List (Vec ℕ A × Spot)) (n : ℕ) (spot : Spot) → slice_get (values_of entries) n ≡ Some spot → EndsIn entries n spot
   ends_in [] n spot at = absurd (cc)

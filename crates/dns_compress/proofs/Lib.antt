@@ -1,7 +1,7 @@
 pub mod Framing
 pub mod Adding
-pub mod Kept
 pub mod InOrder
+pub mod Kept
 pub mod Keys
 pub mod Lowered
 pub mod Naming

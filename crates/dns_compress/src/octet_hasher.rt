@@ -7,7 +7,8 @@ use std::hash::Hasher;
 /// 2^64 divided by the golden ratio.
 const MULTIPLIER: u64 = 0x9e37_79b9_7f4a_7c15;
 
-/// A fast hasher of slices of octets, which `Hash` writes one by one: a rotation for each, and one multiplication in the end.
+/// A fast hasher of slices of octets, which `Hash` writes one by one: a rotation and an xor for each, and one
+/// multiplication in the end.
 ///
 /// Its seed is fixed. So whoever picks the names can make them collide, and a look-up then takes as long as there are suffixes
 /// in the message.
