@@ -8,7 +8,7 @@ use Rattle.dns_label.specs.Name.{wire, low}
 use Rattle.dns_name.specs.Spelling.{Spelling, tree_spelling, hash_spelling, remembered_form, standings}
 use Rattle.dns_name.proofs.Folding.{form-exact}
 use Rattle.dns_compress.specs.Tables.{added, in_order}
-use Rattle.dns_compress.proofs.Maps.{in_order-front}
+use Rattle.dns_compress.proofs.InOrder.{in_order-front}
 
 -- no label, no suffix
 pub added-none : (s : Spelling) (place stop : ℕ) (count : ℕ) (name : List (List ℕ)) → count ≡ 0 → added s count place stop name ≡ []

@@ -1,8 +1,9 @@
 pub mod Framing
 pub mod Adding
+pub mod InOrder
+pub mod Kept
 pub mod Keys
 pub mod Lowered
-pub mod Maps
 pub mod Naming
 pub mod Orders
 pub mod Sound

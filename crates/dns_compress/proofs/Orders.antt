@@ -14,7 +14,7 @@ use Rattle.dns_name.proofs.Folding.{same_is, same_from}
 use Rattle.dns_name.proofs.Distinct.{others}
 use Rattle.dns_name.proofs.Spelled.{StopsBefore}
 use Rattle.dns_compress.specs.Tables.{added, goes_before, in_order}
-use Rattle.dns_compress.proofs.Maps.{before_parts}
+use Rattle.dns_compress.proofs.InOrder.{before_parts}
 
 -- none stops before an earlier one
 abbrev Ascends : Known → Type 0

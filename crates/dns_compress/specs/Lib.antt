@@ -1,5 +1,7 @@
 pub mod Compressor
 pub mod Frame
+pub mod Kept
+pub mod OctetHasher
 pub mod Seen
 pub mod StreamTarget
 pub mod Spots

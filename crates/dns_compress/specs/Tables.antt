@@ -1,8 +1,6 @@
 -- What a table of suffixes remembers (RFC 1035 4.1.4).
-use Rattle.std.specs.Prelude.{ℕ, Bool, true, false, Option, None, nat_le, nat_eq, ◌&&◌, if◌then◌else◌, List, [], ◌∷◌, Vec, take, drop}
+use Rattle.std.specs.Prelude.{ℕ, Bool, true, false, None, nat_le, ◌&&◌, if◌then◌else◌, List, [], ◌∷◌, take, drop}
 use Rattle.std.specs.List.{list_all}
-use Rattle.std.specs.HashMap.{HashMap, get_by}
-use Rattle.std.specs.Cmp.Lexicographic.{pointwise}
 use Rattle.dns_octets.specs.Builder.{Standing, Known}
 use Rattle.dns_label.specs.Name.{low}
 use Rattle.dns_name.specs.Spelling.{Spelling, is_same, standings}
@@ -27,7 +25,3 @@ goes_before s one other = if is_same s one.suffix other.suffix then false else n
 abbrev pub in_order : Spelling → Known → Bool
 in_order s [] = true
 in_order s (one ∷ known) = list_all (goes_before s one) known && in_order s known
-
--- where a map by octets has the suffix
-abbrev pub place_of : {A S : Type 0} → HashMap (Vec ℕ A) ℕ S → List ℕ → Option ℕ
-place_of places suffix = get_by (λ key. pointwise nat_eq suffix key.items) places

@@ -1,6 +1,7 @@
 //! Tables of suffixes that are the same up to ASCII case.
 ghost use Rattle.std.specs.Prelude.{◌≡◌, [], true, refl};
 ghost use Rattle.dns_name.specs.Spelling.{hash_spelling};
+ghost use Rattle.dns_compress.specs.Kept.{kept};
 
 use crate::suffix_map::SuffixMap;
 use crate::table::Table;
@@ -16,7 +17,7 @@ pub struct HashTable {
 impl HashTable {
     /// Makes a table without suffixes, which grows on this allocator.
     pub(crate) fn new(alloc: Global) -> Self
-        ensures { result.suffixes.written.items ≡ [] }
+        ensures { kept result.suffixes.spots ≡ [] }
     {
         HashTable {
             suffixes: SuffixMap::new(alloc),

@@ -7,8 +7,8 @@
 mod append;
 mod compressor;
 mod hash_table;
-mod kept;
 mod lower_case;
+mod octet_hasher;
 mod spot;
 mod static_table;
 mod stream_target;

@@ -1,6 +1,7 @@
 //! Tables of suffixes that are the same octet for octet.
 ghost use Rattle.std.specs.Prelude.{◌≡◌, [], false, refl};
 ghost use Rattle.dns_name.specs.Spelling.{tree_spelling};
+ghost use Rattle.dns_compress.specs.Kept.{kept};
 
 use crate::suffix_map::SuffixMap;
 use crate::table::Table;
@@ -16,7 +17,7 @@ pub struct TreeTable {
 impl TreeTable {
     /// Makes a table without suffixes, which grows on this allocator.
     pub(crate) fn new(alloc: Global) -> Self
-        ensures { result.suffixes.written.items ≡ [] }
+        ensures { kept result.suffixes.spots ≡ [] }
     {
         TreeTable {
             suffixes: SuffixMap::new(alloc),
