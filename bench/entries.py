@@ -1,9 +1,10 @@
 #!/usr/bin/env python3
-"""Times how the rows of zone files are read as entries.
+"""Times how the rows of zone files are read as entries, and how long texts are read that are no zone's.
 
 It runs the proved program of `crates/dns_zonefile_rows` (`python3 tools/build.py dns_zonefile_rows` makes it, at
 build/dns_zonefile_rows) on one row for each kind of text: the text is repeated so many times, and its entries are counted. For
-each it prints the processor time an entry. Each is run five times, and the fastest counts."""
+each it prints the processor time an entry. Each is run five times, and the fastest counts. Behind that it prints the time an
+octet of texts of one long row, of many rows, or of what is never closed, once as long and then twice: it has to stay the same."""
 import argparse
 import tempfile
 from pathlib import Path
@@ -20,6 +21,21 @@ KINDS = {
     "rows": "a.example.com. IN SOA b.example.com. c.example.com. (\n 1 ; serial\n 2 3 4 5 )\n",
     "comments": "; a comment, and nothing else\n\n",
 }
+LONG = 1_000_000
+
+
+def long_texts(octets):
+    """Texts of about so many octets: one row of words, of parentheses, of a comment, of quotes and of one that stays open, empty
+    rows, and origins."""
+    return {
+        "words": "x " * (octets // 2),
+        "parentheses": "( ) " * (octets // 4),
+        "comment": ";" * octets,
+        "quotes": '"x" ' * (octets // 4),
+        "open quote": '"' + "x" * octets,
+        "empty rows": "\n" * octets,
+        "origins": "$ORIGIN a.\n" * (octets // 11),
+    }
 
 
 def nanoseconds(program, text, times, folder):
@@ -27,6 +43,14 @@ def nanoseconds(program, text, times, folder):
     row.write_text(f"Zonefile::count {times} {quote(text, safe='$()/;:,=+!*')}\n")
     seconds = min(run_once([program], row, answer).seconds for _ in range(RUNS))
     return seconds * 1e9 / times, answer.read_text().strip()
+
+
+def report_long(program, folder):
+    print(f"once, ns an octet of\n  {'':<12}{LONG:10,}{2 * LONG:10,}")
+    texts = [long_texts(LONG), long_texts(2 * LONG)]
+    for kind in texts[0]:
+        times = [nanoseconds(program, some[kind], 1, folder)[0] / len(some[kind]) for some in texts]
+        print(f"  {kind:<12}{times[0]:10.1f}{times[1]:10.1f}")
 
 
 def main():
@@ -39,6 +63,7 @@ def main():
         for kind, text in KINDS.items():
             time, entries = nanoseconds(arguments.program, text, arguments.times, Path(folder))
             print(f"  {kind:<12}{len(text):8}{time:8.0f}{entries:>12}")
+        report_long(arguments.program, Path(folder))
 
 
 if __name__ == "__main__":
