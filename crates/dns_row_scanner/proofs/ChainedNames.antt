@@ -1,5 +1,5 @@
 -- The labels that were read from a text, and an origin behind them.
-use Rattle.std.proofs.Common.{◌≡◌, ℕ, ◌+◌, ◌<◌, ◌≤◌, List, [], ◌∷◌, ◌++◌, length, take, refl, sym, ◌∙◌, ap, subst, arith}
+use Rattle.std.proofs.Common.{◌≡◌, ℕ, ◌+◌, ◌<◌, ◌≤◌, List, [], ◌∷◌, ◌++◌, length, take, refl, sym, ◌∙◌, ap, subst, arith, append_assoc}
 use Rattle.std.proofs.lemmas.List.{take-take}
 use Rattle.std.proofs.Math.Seq.{take-append_seam}
 use Rattle.std.specs.List.{AllByRecursion}
@@ -9,7 +9,7 @@ use Rattle.dns_wire.specs.Draft.{Holds}
 use Rattle.dns_wire.specs.declared.text.draft.Spelling.{Spelling}
 use Rattle.dns_wire.proofs.Case.{wire_one}
 use Rattle.dns_wire.proofs.Drafts.{draft-name}
-use Rattle.dns_wire.proofs.Wire.{length-wire_is, length-wire-append, wire_is}
+use Rattle.dns_wire.proofs.Wire.{labels_wire-append, length-wire_is, length-wire-append, wire_is}
 use Rattle.dns_flat.proofs.Chains.{joined_name}
 
 -- the labels in front of the root's
@@ -59,3 +59,26 @@ pub origin_long : (spelling : Spelling) (done origin : List (List ℕ)) → Hold
     → 255 < length (take spelling.start spelling.octets) + length (wire origin) → ⊥
 origin_long spelling done origin holds is_name many =
     omega (arith, many, is_name.short, length-wire-append done origin, ap (length {A = ℕ}) (front_octets spelling done holds))
+
+-- the finished labels are one name
+pub held_one : (spelling : Spelling) (done other : List (List ℕ)) → Holds spelling done [] → Holds spelling other [] → done ≡ other
+held_one spelling done other holds also =
+    wire_one done other
+    (wire_is done ∙ ap (λ l. l ++ 0 ∷ []) (sym (front_octets spelling done holds) ∙ front_octets spelling other also) ∙ sym (wire_is other))
+
+-- of a name they have few octets with the origin
+pub few_octets : (spelling : Spelling) (front done origin : List (List ℕ)) → Holds spelling front [] → Holds spelling done []
+    → IsName (done ++ origin) → length (labels_wire front) + length (wire origin) ≤ 255
+few_octets spelling front done origin held holds is_name =
+    omega (
+      arith,
+      is_name.short,
+      length-wire-append done origin,
+      ap (length {A = ℕ}) (sym (front_octets spelling front held) ∙ front_octets spelling done holds),
+    )
+
+-- their octets, and behind them those of the origin, are the octets of both
+pub wire-append : (front more : List (List ℕ)) {octets : List ℕ} → octets ≡ wire more → labels_wire front ++ octets ≡ wire (front ++ more)
+wire-append front more is =
+    ap (λ l. labels_wire front ++ l) (is ∙ wire_is more) ∙ sym (append_assoc (labels_wire front) (labels_wire more) (0 ∷ []))
+    ∙ ap (λ l. l ++ 0 ∷ []) (sym (labels_wire-append front more)) ∙ sym (wire_is (front ++ more))

@@ -6,15 +6,15 @@ use Rattle.dns_row_scanner.specs.Gap.{gap_before}
 use Rattle.dns_row_scanner.specs.NameInText.{SpellsUnder}
 use Rattle.dns_row_scanner.specs.declared.row_scanner.RowScanner.{RowScanner}
 
-abbrev pub tokens_of : RowScanner → List Token
+abbrev pub tokens_of : {N : Type 0} → RowScanner N → List Token
 tokens_of scanner = map (λ span. token_in scanner.text.now span) scanner.left.now
 
-abbrev pub origin_of : RowScanner → Option (List (List ℕ))
+abbrev pub origin_of : {N : Type 0} → RowScanner N → Option (List (List ℕ))
 origin_of scanner = option_copied scanner.origin
 
 -- a text spells a name under the origin
-abbrev pub names_of : RowScanner → List ℕ → List (List ℕ) → Type 0
+abbrev pub names_of : {N : Type 0} → RowScanner N → List ℕ → List (List ℕ) → Type 0
 names_of scanner = SpellsUnder (origin_of scanner)
 
-abbrev pub gap_of : RowScanner → List ℕ
+abbrev pub gap_of : {N : Type 0} → RowScanner N → List ℕ
 gap_of scanner = gap_before scanner.text.now scanner.place scanner.left.now

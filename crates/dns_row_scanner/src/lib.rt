@@ -6,19 +6,27 @@
 mod entry_error;
 mod entry_scanner;
 mod gap;
+mod inline_name;
 mod octets;
 mod row_scanner;
 mod row_token;
 mod scanned_name;
+mod text_name;
 
+use arrayvec::ArrayVec;
 use dns_name::{Chain, Name, RelativeName};
 pub use entry_error::EntryError;
 pub use entry_scanner::EntryScanner;
+pub use inline_name::to_inline_name;
 pub use row_scanner::RowScanner;
 pub use scanned_name::{absolute, scan_name};
+pub use text_name::TextName;
 
 /// A name that is scanned: its labels in the text, and behind them the root or the origin.
 pub type ScannedName = Chain<RelativeName<Vec<u8>>, Name<Vec<u8>>>;
+
+/// A name that is scanned, in an array, which takes no memory: a name has at most 255 octets (RFC 1035 2.3.4).
+pub type InlineName = Name<ArrayVec<u8, 255>>;
 
 /// A text that is scanned.
 pub type ScannedString = String;

@@ -10,14 +10,16 @@ ghost use Rattle.dns_tokens.specs.declared.token_span.TokenSpan.{TokenSpan};
 mod scans;
 
 use crate::row_token::RowToken;
-use crate::{EntryError, EntryScanner};
+use crate::{EntryError, EntryScanner, ScannedName, TextName};
 use dns_name::Name;
 use dns_tokens::TokenSpan;
 use std::alloc::Global;
+use std::marker::PhantomData;
 
-/// A scanner over the tokens of a zone file's row (RFC 1035 5.1). Names are spelled under an origin, if one is known.
+/// A scanner over the tokens of a zone file's row (RFC 1035 5.1), which gives names of the type `N`. They are spelled under an
+/// origin, if one is known.
 #[derive(Debug, Drop)]
-pub struct RowScanner<'t> {
+pub struct RowScanner<'t, N = ScannedName> {
     alloc: Global,
     text: &'t [u8],
     /// The place behind what was taken of the text, the quote that closes a token too.
@@ -25,9 +27,10 @@ pub struct RowScanner<'t> {
     /// Where the tokens stand that are left.
     left: &'t [TokenSpan],
     origin: Option<&'t Name<Vec<u8>>>,
+    names: PhantomData<N>,
 }
 
-impl<'t> RowScanner<'t> {
+impl<'t, N> RowScanner<'t, N> {
     ghost use Rattle.dns_row_scanner.specs.RowScanner.{gap_of, names_of, origin_of, tokens_of};
 
     /// Returns a scanner over the tokens of the spans in the text. The row begins at the place. What is scanned grows on this
@@ -51,6 +54,7 @@ impl<'t> RowScanner<'t> {
             place,
             left: spans,
             origin,
+            names: PhantomData,
         }
     }
 
@@ -102,7 +106,7 @@ impl<'t> RowScanner<'t> {
     }
 }
 
-impl<'t> EntryScanner for RowScanner<'t> {
+impl<'t, N: TextName> EntryScanner for RowScanner<'t, N> {
     fn next_is_quoted(&self) -> bool {
         match self.peek() {
             Some(token) => token.quoted,

@@ -3,18 +3,18 @@
 use super::RowScanner;
 use crate::gap::ends_white;
 use crate::octets::{octets_of, string_of};
-use crate::{EntryError, ScannedName};
+use crate::{EntryError, TextName};
 use dns_name::Compose;
 use dns_scan::{CharStr, Scanner};
 
-impl<'t> Scanner for RowScanner<'t> {
+impl<'t, N: TextName> Scanner for RowScanner<'t, N> {
     ghost use Rattle.dns_row_scanner.specs.RowScanner.{gap_of, names_of, tokens_of};
 
     type Octets = Vec<u8>;
 
     type OctetsBuilder = Vec<u8>;
 
-    type Name = ScannedName;
+    type Name = N;
 
     type Error = EntryError;
 
@@ -66,12 +66,12 @@ impl<'t> Scanner for RowScanner<'t> {
         }
     }
 
-    fn scan_name(&mut self) -> Result<ScannedName, EntryError> {
+    fn scan_name(&mut self) -> Result<N, EntryError> {
         let token = self.take_token()?;
         if token.quoted {
             return Err(EntryError::Custom("quoted name"));
         }
-        crate::scan_name(self.alloc, token.text, self.origin)
+        N::scan_name(self.alloc, token.text, self.origin)
     }
 
     fn scan_string(&mut self) -> Result<String, EntryError> {

@@ -7,30 +7,30 @@ use Rattle.dns_row_scanner.specs.RowToken.{token_of}
 use Rattle.dns_row_scanner.proofs.row_scanner.scans.RowScannerScanner.scan_ascii_entry.Goals as goal
 
 pub returns-in_default-clause-ok : goal.returns-in_default-clause-ok
-returns-in_default-clause-ok c =
+returns-in_default-clause-ok g c =
     (entering_end IsWord _ _ _ c.loop-token.invariant.0 c.in_default.ensures.err.0, c.in_default.ensures.err.1)
 
 pub returns-in_default-clause-names : goal.returns-in_default-clause-names
-returns-in_default-clause-names c = same_names_join _ _ _ c.loop-token.invariant.1 c.take_token.ensures.names
+returns-in_default-clause-names g c = same_names_join _ _ _ c.loop-token.invariant.1 c.take_token.ensures.names
 
 pub returns-in_default-word-clause-err : goal.returns-in_default-word-clause-err
-returns-in_default-word-clause-err c = λ short text entry.
+returns-in_default-word-clause-err g c = λ short text entry.
     entering_none IsWord _ _ _ (token_of c.in-Ok.token) _ c.loop-token.invariant.0 c.in-Ok.ensures.ok c.in_default-word.ensures.none text entry
 
 pub returns-in_default-word-clause-left : goal.returns-in_default-word-clause-left
-returns-in_default-word-clause-left c = ending_more _ _ _ _ c.loop-token.invariant.0.ending c.in-Ok.ensures.ok
+returns-in_default-word-clause-left g c = ending_more _ _ _ _ c.loop-token.invariant.0.ending c.in-Ok.ensures.ok
 
 pub returns-in_default-word-clause-names : goal.returns-in_default-word-clause-names
-returns-in_default-word-clause-names c = same_names_join _ _ _ c.loop-token.invariant.1 c.take_token.ensures.names
+returns-in_default-word-clause-names g c = same_names_join _ _ _ c.loop-token.invariant.1 c.take_token.ensures.names
 
 pub returns-in-Err-clause-left : goal.returns-in-Err-clause-left
-returns-in-Err-clause-left c = ending_more _ _ _ _ c.loop-token.invariant.0.ending c.in-Ok.ensures.ok
+returns-in-Err-clause-left g c = ending_more _ _ _ _ c.loop-token.invariant.0.ending c.in-Ok.ensures.ok
 
 pub returns-in-Err-clause-names : goal.returns-in-Err-clause-names
-returns-in-Err-clause-names c = same_names_join _ _ _ c.loop-token.invariant.1 c.take_token.ensures.names
+returns-in-Err-clause-names g c = same_names_join _ _ _ c.loop-token.invariant.1 c.take_token.ensures.names
 
 pub loop-token-preserved : goal.loop-token-preserved
-loop-token-preserved c =
+loop-token-preserved g c =
     let P : List ℕ → Type 0 = λ l. Entering IsWord (tokens_of c.args.self.now) (tokens_of c.take_token.new.self) l in (
       subst P (sym c.in-Ok-push_str.ensures.bytes)
           (entering_more IsWord _ _ _ (token_of c.in-Ok.token) _ c.in-Some.word.now c.loop-token.invariant.0 c.in-Ok.ensures.ok c.in-Some.ensures.some),

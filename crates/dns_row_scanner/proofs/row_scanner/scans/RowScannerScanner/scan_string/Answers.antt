@@ -9,20 +9,20 @@ use Rattle.dns_row_scanner.specs.RowToken.{token_of}
 use Rattle.dns_row_scanner.proofs.row_scanner.scans.RowScannerScanner.scan_string.Goals as goal
 
 pub returns-in_err-octets-clause-left : goal.returns-in_err-octets-clause-left
-returns-in_err-octets-clause-left c = always_on_err c.from_residual-in_err-octets.result (one_taken _ _ _ c.in_ok-token.ensures.ok)
+returns-in_err-octets-clause-left g c = always_on_err c.from_residual-in_err-octets.result (one_taken _ _ _ c.in_ok-token.ensures.ok)
 
 pub returns-in_err-octets-clause-err : goal.returns-in_err-octets-clause-err
-returns-in_err-octets-clause-err c =
+returns-in_err-octets-clause-err g c =
     let p = err_from_is_err_and c.from_residual-in_err-octets.result c.from_residual-in_err-octets.ensures.1 in
     rw (p.1, p.2)
     (λ short text left utf8.
     not_taken (SpellsOctets text) _ _ left (token_of c.in_ok-token.token) c.in_ok-token.ensures.ok (c.in_err-octets.ensures.err short text))
 
 pub returns-clause-left : goal.returns-clause-left
-returns-clause-left c = one_taken _ _ _ c.in_ok-token.ensures.ok
+returns-clause-left g c = one_taken _ _ _ c.in_ok-token.ensures.ok
 
 pub returns-clause-err : goal.returns-clause-err
-returns-clause-err c = λ short text left utf8.
+returns-clause-err g c = λ short text left utf8.
     not_taken (SpellsOctets text) _ _ left (token_of c.in_ok-token.token) c.in_ok-token.ensures.ok
     (λ spells.
     let same = spells_one _ c.in_ok-octets.octets.items text c.in_ok-octets.ensures.ok spells in

@@ -1,0 +1,127 @@
+//! Names that the texts of tokens spell (RFC 1035 5.1), whatever holds them.
+ghost use Rattle.std.specs.Prelude.{◌≡◌, ◌<◌, ◌↔◌, ◌∷◌, ◌++◌, List, ℕ, [], true, false, length, option_copied, IfOk, IfErr, IsTrue};
+ghost use Rattle.dns_label.specs.Name.{IsName, wire};
+ghost use Rattle.dns_wire.specs.Draft.{Holds, IsNew};
+ghost use Rattle.dns_row_scanner.specs.EntryError.{is_memory, is_end};
+ghost use Rattle.dns_row_scanner.specs.NameInText.{SpellsUnder};
+
+use crate::EntryError;
+use dns_name::{Name, Octets, ToName};
+use dns_wire::text::Spelling;
+use std::alloc::{AllocError, Global};
+
+/// A name that the text of a token spells. What holds it grows on the allocator that is handed in, if it grows at all.
+pub trait TextName: ToName + Drop + Sized {
+    /// Returns the same name. Fails if out of memory.
+    fn of_name<Octs: Octets>(alloc: Global, name: &Name<Octs>) -> Result<Self, AllocError>
+        ensures { IfOk result (λ made. Self.name made ≡ name.now) };
+
+    /// Returns the name of the finished labels and the root. By condition there is a label. Fails if out of memory.
+    fn of_labels(alloc: Global, spelling: &Spelling) -> Result<Self, AllocError>
+        requires labels { (labels : List (List ℕ)) × Holds spelling.now labels [] }
+        requires some { IsNew spelling.now → ⊥ }
+        ensures { IfOk result (λ made. Holds spelling.now (Self.name made) [] × IsName (Self.name made) × (0 < length (Self.name made))) };
+
+    /// Returns the name of the finished labels and the origin behind them. By condition they are a name. Fails if out of memory.
+    fn of_labels_under(
+        alloc: Global,
+        spelling: &Spelling,
+        origin: &Name<Vec<u8>>,
+    ) -> Result<Self, AllocError>
+        requires { (labels : List (List ℕ)) × Holds spelling.now labels [] × IsName (labels ++ origin.now) }
+        ensures { IfOk result (λ made. (labels : List (List ℕ)) × Holds spelling.now labels []
+            × IsName (labels ++ origin.now) × (Self.name made ≡ labels ++ origin.now)) };
+
+    /// Returns the name that a token's text spells under the origin, if one is known (RFC 1035 5.1).
+    ///
+    /// `@` alone is the origin. A name with its last dot is absolute. Behind one without it the origin follows.
+    ///
+    /// Fails with `Custom` if the text spells no name: if a part of it is no symbol, a label is empty or has more than 63
+    /// octets, the name has more than 255, or the origin is wanted and there is none. Fails with `OutOfMemory` if it spells a
+    /// name, and there is no memory for it.
+    final fn scan_name(
+        alloc: Global,
+        text: &[u8],
+        origin: Option<&Name<Vec<u8>>>,
+    ) -> Result<Self, EntryError>
+        ensures ok { IfOk result (λ name. SpellsUnder (option_copied origin.entry) text.now (Self.name name)) }
+        ensures err { IfErr result (λ error. is_memory error ≡ false → (name : List (List ℕ)) → SpellsUnder (option_copied origin.entry) text.now name → ⊥) }
+        ensures memory { IfErr result (λ error. is_memory error ≡ true → (name : List (List ℕ)) × SpellsUnder (option_copied origin.entry) text.now name) }
+        ensures end { IfErr result (λ error. is_end error ≡ false) }
+    {
+        if is_at_sign(text) {
+            let Some(origin) = origin else {
+                return Err(EntryError::Custom("no origin"));
+            };
+            return Ok(Self::of_name(alloc, origin)?);
+        }
+        let Ok(read) = Spelling::read_text(text) else {
+            return Err(EntryError::Custom("invalid name"));
+        };
+        let Some(mut spelling) = read else {
+            return Ok(Self::of_name(alloc, &Name::root_ref())?);
+        };
+        if !spelling.has_open_label() {
+            return dotted(alloc, &spelling);
+        }
+        let Some(origin) = origin else {
+            return Err(EntryError::Custom("relative name without an origin"));
+        };
+        match spelling.end_label() {
+            Ok(()) => relative(alloc, &spelling, origin),
+            Err(_) => Err(EntryError::Custom("empty label")),
+        }
+    }
+}
+
+/// Returns whether the text is `@` alone.
+fn is_at_sign(text: &[u8]) -> bool
+    ensures { IsTrue result ↔ (text.now ≡ 64 ∷ []) }
+{
+    matches!(text, [b'@'])
+}
+
+/// Returns the name of the finished labels and the root. Fails with `Custom` exactly if there is no label.
+fn dotted<N: TextName>(alloc: Global, spelling: &Spelling) -> Result<N, EntryError>
+    requires { (labels : List (List ℕ)) × Holds spelling.now labels [] }
+    ensures ok { IfOk result (λ made. Holds spelling.now (N.name made) [] × IsName (N.name made) × (0 < length (N.name made))) }
+    ensures err { IfErr result (λ error. is_memory error ≡ false → IsNew spelling.now) }
+    ensures memory { IfErr result (λ error. is_memory error ≡ true → IsNew spelling.now → ⊥) }
+    ensures end { IfErr result (λ error. is_end error ≡ false) }
+{
+    if spelling.is_new() {
+        return Err(EntryError::Custom("empty name"));
+    }
+    Ok(N::of_labels(alloc, spelling)?)
+}
+
+/// Returns the name of the finished labels and the origin behind them. Fails with `Custom` exactly if it is too long.
+fn relative<N: TextName>(
+    alloc: Global,
+    spelling: &Spelling,
+    origin: &Name<Vec<u8>>,
+) -> Result<N, EntryError>
+    requires { (labels : List (List ℕ)) × Holds spelling.now labels [] }
+    ensures ok { IfOk result (λ made. (labels : List (List ℕ)) × Holds spelling.now labels []
+        × IsName (labels ++ origin.now) × (N.name made ≡ labels ++ origin.now)) }
+    ensures err { IfErr result (λ error. is_memory error ≡ false → (labels : List (List ℕ)) → Holds spelling.now labels [] → IsName (labels ++ origin.now) → ⊥) }
+    ensures memory { IfErr result (λ error. is_memory error ≡ true → (labels : List (List ℕ)) × Holds spelling.now labels [] × IsName (labels ++ origin.now)) }
+    ensures end { IfErr result (λ error. is_end error ≡ false) }
+{
+    if spelling.labels().len() + origin.len() > 255 {
+        return Err(EntryError::Custom("long domain name"));
+    }
+    Ok(N::of_labels_under(alloc, spelling, origin)?)
+}
+
+/// Returns the octets of the finished labels and the root's. By condition there is a label.
+pub(crate) fn finished_octets(spelling: &Spelling) -> &[u8]
+    requires labels { (labels : List (List ℕ)) × Holds spelling.now labels [] }
+    requires some { IsNew spelling.now → ⊥ }
+    ensures { (name : List (List ℕ)) × Holds spelling.now name [] × IsName name × (0 < length name) × (result.now ≡ wire name) }
+{
+    match spelling.finished() {
+        Ok(octets) => octets,
+        Err(_) => unreachable!(),
+    }
+}
