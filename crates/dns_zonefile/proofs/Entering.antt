@@ -1,5 +1,5 @@
 -- What a statement makes of its context, as the code has both.
-use Rattle.std.proofs.Common.{◌≡◌, ℕ, List, Global, String, Option, Some, subst, sym}
+use Rattle.std.proofs.Common.{◌≡◌, ℕ, List, Global, String, Option, Some, subst, sym, ◌∙◌}
 use Rattle.std.specs.Prelude.{option_map, string_bytes, unwrap_or}
 use Rattle.std.specs.Option.{option_or}
 use Rattle.dns_rdata.specs.Data.{Data}
@@ -57,3 +57,15 @@ pub no_record_enters : (old : Context) (stated : Stated) (entry : Entry) (after 
     → option_or old.class stated.class ≡ Some number → ⊥) → Enters old (StateRecord stated) entry after → ⊥
 no_record_enters old stated entry after none (Enters.resource {owner = owner} {class = class} is_owner is_class known) =
     none owner class is_owner is_class known
+
+-- the same, as the code takes it over
+pub record_taken_over : (old new : kept.Context) (owner : Option (List (List ℕ))) (ttl class : Option ℕ) (rdata : Data)
+    (name last : List (List ℕ)) (number seconds last_ttl : ℕ) → option_or owner old.owner ≡ Some name
+    → (option_or class old.class ≡ Some number) × (option_or old.class class ≡ Some number)
+    → seconds ≡ unwrap_or (option_or ttl old.default_ttl) old.last_ttl → last_ttl ≡ unwrap_or ttl old.last_ttl → last ≡ name
+    → context_of new ≡ record (context_of old) { owner = Some last; last_ttl = last_ttl; class = Some number }
+    → Enters (context_of old) (StateRecord (record { owner = owner; ttl = ttl; class = class; rdata = rdata }))
+    (Resource (record { owner = name; class = number; ttl = seconds; rdata = rdata })) (context_of new)
+record_taken_over old new owner ttl class rdata name last number seconds last_ttl is_owner is_class is_ttl is_last_ttl is_last sets =
+    record_enters old new owner ttl class rdata name number seconds is_owner is_class is_ttl
+    (sets ∙ (λ i. record (context_of old) { owner = Some (is_last i); last_ttl = is_last_ttl i; class = Some number }))

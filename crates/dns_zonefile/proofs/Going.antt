@@ -68,9 +68,9 @@ passed-on {entries = entries} passed are goes =
     (passed.0 ++ entries, directives-on passed.0 entries passed.1 are, goes-on passed.2 goes)
 
 -- a record or an include is no directive
-pub no-directive : (entry : found.Entry) → entry_of (Some entry) ≡ Directive → ⊥
-no-directive (entries.Record rr) is = let no : ⊥ = cc in no
-no-directive (entries.Include path origin) is = let no : ⊥ = cc in no
+pub no-directive : {N : Type 0} (name : N → List (List ℕ)) (entry : found.Entry N) → entry_of name (Some entry) ≡ Directive → ⊥
+no-directive name (entries.Record rr) is = let no : ⊥ = cc in no
+no-directive name (entries.Include path origin) is = let no : ⊥ = cc in no
 
 -- what is given behind them
 pub given-behind : {old mid new : Reader} {entry : Entry} → HasPassed old mid → (entry ≡ Directive → ⊥) → GoesOver mid (entry ∷ []) new

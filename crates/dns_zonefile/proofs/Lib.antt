@@ -10,3 +10,6 @@ mod Entering
 mod Going
 mod GivenEntries
 mod Lengthened
+mod InFull
+mod ShortData
+mod HandedOn

@@ -8,3 +8,4 @@ pub mod Error
 pub mod Reader
 pub mod ReaderSeen
 pub mod RowRead
+pub mod Composed

@@ -1,5 +1,5 @@
 -- What contracts see of readers of zone files.
-use Rattle.std.specs.Prelude.{ℕ, ◌+◌, if◌then◌else◌, Option, Some, None, Result, Ok, Err, is_some}
+use Rattle.std.specs.Prelude.{ℕ, List, ◌+◌, if◌then◌else◌, Option, Some, None, Result, Ok, Err, is_some}
 use Rattle.dns_row_scanner.specs.declared.entry_error.EntryError.{EntryError}
 use Rattle.dns_zonefile.specs.Entry.{Entry}
 use Rattle.dns_zonefile.specs.Error.{reason_of}
@@ -26,14 +26,14 @@ refused_in zonefile = zonefile.refused
 abbrev pub entries_met : Zonefile → ℕ
 entries_met zonefile = zonefile.count + (if is_some zonefile.refused then 1 else 0)
 
--- what a call answers
-abbrev pub given_in : Result (Option found.Entry) EntryError → Result (Option Entry) EntryError
-given_in (Ok None) = Ok None
-given_in (Ok (Some entry)) = Ok (Some (entry_of (Some entry)))
-given_in (Err error) = Err error
+-- what a call answers, its names by what they spell
+abbrev pub given_in : {N : Type 0} → (N → List (List ℕ)) → Result (Option (found.Entry N)) EntryError → Result (Option Entry) EntryError
+given_in name (Ok None) = Ok None
+given_in name (Ok (Some entry)) = Ok (Some (entry_of name (Some entry)))
+given_in name (Err error) = Err error
 
 -- the same, with the reason of an error alone
-abbrev pub given_of : Result (Option found.Entry) Error → Result (Option Entry) EntryError
-given_of (Ok None) = Ok None
-given_of (Ok (Some entry)) = Ok (Some (entry_of (Some entry)))
-given_of (Err error) = Err (reason_of error)
+abbrev pub given_of : {N : Type 0} → (N → List (List ℕ)) → Result (Option (found.Entry N)) Error → Result (Option Entry) EntryError
+given_of name (Ok None) = Ok None
+given_of name (Ok (Some entry)) = Ok (Some (entry_of name (Some entry)))
+given_of name (Err error) = Err (reason_of error)

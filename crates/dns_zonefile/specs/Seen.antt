@@ -1,9 +1,11 @@
 -- What contracts see of rows, statements and entries.
-use Rattle.std.specs.Prelude.{ℕ, Bool, List, ◌++◌, Option, Some, None, option_map, string_bytes}
-use Rattle.dns_flat.specs.ChainParts.{left_of, right_of}
+use Rattle.std.specs.Prelude.{ℕ, Bool, List, Option, Some, None, option_map, string_bytes}
 use Rattle.dns_scan.specs.Token.{Token}
 use Rattle.dns_text.specs.Rows.{TokenRow}
+use Rattle.dns_header.specs.Record.{RecordOf}
+use Rattle.dns_rdata.specs.Data.{Data}
 use Rattle.dns_rdata.specs.ZoneData.{data_of}
+use Rattle.dns_rdata.specs.declared.zone_record_data.ZoneRecordData.{ZoneRecordData}
 use Rattle.dns_zonefile.specs.Entry.{Context, Entry}
 use Rattle.dns_zonefile.specs.Entry.Entry.{Directive, Include, Resource}
 use Rattle.dns_zonefile.specs.Statement.{Stated, Statement}
@@ -45,13 +47,12 @@ context_of context = record {
   class = context.class;
 }
 
+-- a record, its names by what they spell
+abbrev pub record_of : {Octs N : Type 0} → (N → List (List ℕ)) → RecordOf N (ZoneRecordData Octs N) → RecordOf (List (List ℕ)) Data
+record_of name rr = record { owner = name rr.owner; class = rr.class; ttl = rr.ttl; rdata = data_of rr.rdata }
+
 -- an entry, its names by what they spell
-abbrev pub entry_of : Option found.Entry → Entry
-entry_of None = Directive
-entry_of (Some (entries.Record rr)) = Resource (record {
-  owner = left_of rr.owner ++ right_of rr.owner;
-  class = rr.class;
-  ttl = rr.ttl;
-  rdata = data_of rr.rdata;
-})
-entry_of (Some (entries.Include path origin)) = Include (string_bytes path) (option_map (λ name. left_of name ++ right_of name) origin)
+abbrev pub entry_of : {N : Type 0} → (N → List (List ℕ)) → Option (found.Entry N) → Entry
+entry_of name None = Directive
+entry_of name (Some (entries.Record rr)) = Resource (record_of name rr)
+entry_of name (Some (entries.Include path origin)) = Include (string_bytes path) (option_map name origin)

@@ -4,14 +4,16 @@ ghost use Rattle.std.specs.Option.{option_or};
 ghost use Rattle.dns_row_scanner.specs.EntryError.{is_memory};
 ghost use Rattle.dns_zonefile.specs.Entry as spec;
 ghost use Rattle.dns_zonefile.specs.Entry.{Enters, at_start};
-ghost use Rattle.dns_rdata.specs.ZoneData.{data_of};
-ghost use Rattle.dns_zonefile.specs.Seen.{context_of, entry_of, statement_of};
+ghost use Rattle.dns_zonefile.specs.RowRead.{IsTaken};
+ghost use Rattle.dns_zonefile.specs.Seen.{context_of, entry_of, stated_of, statement_of};
+ghost use Rattle.dns_zonefile.specs.Statement.{IsShort};
 ghost use Rattle.dns_zonefile.specs.Statement.Statement.{SetOrigin, StateRecord};
 
-use crate::{Entry, ScannedRecordData, Stated, Statement};
+use crate::record_sink::RecordSink;
+use crate::{Entry, Stated, Statement};
 use dns_header::Record;
 use dns_name::{Class, Name, ToName, Ttl};
-use dns_row_scanner::{EntryError, ScannedName, absolute};
+use dns_row_scanner::{EntryError, InlineName, TextName, to_inline_name};
 use std::alloc::Global;
 
 /// What the rows before have set.
@@ -19,7 +21,7 @@ use std::alloc::Global;
 pub(crate) struct Context {
     pub(crate) origin: Option<Name<Vec<u8>>>,
     /// The owner of the last record.
-    pub(crate) owner: Option<Name<Vec<u8>>>,
+    pub(crate) owner: Option<InlineName>,
     /// The value of `$TTL`.
     pub(crate) default_ttl: Option<Ttl>,
     /// The last TTL that a record stated.
@@ -29,10 +31,12 @@ pub(crate) struct Context {
 
 /// What stands before the data of a record.
 #[derive(Drop)]
-pub(crate) struct EnteredHead {
-    pub(crate) owner: ScannedName,
+pub(crate) struct EnteredHead<N: TextName> {
+    pub(crate) owner: N,
     pub(crate) class: Class,
     pub(crate) ttl: Ttl,
+    /// The last TTL that a record stated, this one counted.
+    pub(crate) last_ttl: Ttl,
 }
 
 impl Context {
@@ -49,20 +53,24 @@ impl Context {
         }
     }
 
-    /// Returns the entry that a statement makes, and takes over what it sets. A directive is None.
+    /// Returns the entry that a statement makes, and takes over what it sets. A directive is None. The sink takes a record first.
     ///
     /// Fails with an error other than `OutOfMemory` only if it makes none. Nothing is taken over then.
     #[tactic(auto, using(crate::proofs::Entering::statement_enters, crate::proofs::Entering::ttl_enters, crate::proofs::Entering::file_enters))]
-    pub(crate) fn enter(
+    pub(crate) fn enter<N: TextName, S: RecordSink>(
         &mut self,
         alloc: Global,
-        statement: Statement<Vec<u8>, ScannedName>,
-    ) -> Result<Option<Entry>, EntryError>
-        ensures ok { IfOk result (λ entry. Enters (context_of self.old) (statement_of ⟦<ScannedName as ToName>⟧.name statement) (entry_of entry)
+        statement: Statement<Vec<u8>, N>,
+        sink: &mut S,
+    ) -> Result<Option<Entry<N>>, EntryError>
+        requires { IsShort (statement_of N.name statement) }
+        ensures ok { IfOk result (λ entry. Enters (context_of self.old) (statement_of N.name statement) (entry_of N.name entry)
             (context_of self.new)) }
         ensures err { IfErr result (λ error. is_memory error ≡ false → (entry : spec.Entry) (after : spec.Context)
-            → Enters (context_of self.old) (statement_of ⟦<ScannedName as ToName>⟧.name statement) entry after → ⊥) }
+            → Enters (context_of self.old) (statement_of N.name statement) entry after → ⊥) }
         ensures same { OnErr result (self.new ≡ self.old) }
+        ensures taken { IfOk result (λ entry. IsTaken S.takes N.name entry (S.octets sink.old) (S.octets sink.new)) }
+        ensures kept { OnErr result (S.octets sink.new ≡ S.octets sink.old) }
     {
         match statement {
             Statement::SetOrigin(name) => self.enter_origin(alloc, &name),
@@ -71,132 +79,135 @@ impl Context {
                 Ok(None)
             }
             Statement::NameFile(path, origin) => Ok(Some(Entry::Include { path, origin })),
-            Statement::StateRecord(stated) => {
-                let Stated {
-                    owner,
-                    ttl,
-                    class,
-                    rdata,
-                } = stated;
-                self.enter_record(alloc, owner, ttl, class, rdata)
-            }
+            Statement::StateRecord(stated) => self.enter_record(alloc, stated, sink),
         }
     }
 
     /// Takes over an origin.
     #[tactic(auto, using(crate::proofs::Entering::origin_enters))]
-    fn enter_origin(
+    fn enter_origin<N: TextName>(
         &mut self,
         alloc: Global,
-        name: &ScannedName,
-    ) -> Result<Option<Entry>, EntryError>
-        ensures ok { IfOk result (λ entry. Enters (context_of self.old) (SetOrigin (⟦<ScannedName as ToName>⟧.name name.now)) (entry_of entry)
+        name: &N,
+    ) -> Result<Option<Entry<N>>, EntryError>
+        ensures ok { IfOk result (λ entry. Enters (context_of self.old) (SetOrigin (N.name name.now)) (entry_of N.name entry)
             (context_of self.new)) }
         ensures err { IfErr result (λ error. (is_memory error ≡ true) × (self.new ≡ self.old)) }
+        ensures none { IfOk result (λ entry. entry ≡ None) }
     {
         self.origin = Some(name.to_vec(alloc)?);
         Ok(None)
     }
 
-    /// Returns the record whose row states this owner, TTL and class, each if it has it, and this data. Takes over what it sets.
-    #[tactic(auto, using(crate::proofs::Entering::record_enters, crate::proofs::Entering::no_record_enters))]
-    fn enter_record(
+    /// Returns the record that a row states, which the sink takes, and takes over what it sets.
+    #[tactic(auto, using(crate::proofs::Entering::record_taken_over, crate::proofs::Entering::no_record_enters))]
+    fn enter_record<N: TextName, S: RecordSink>(
         &mut self,
         alloc: Global,
-        owner: Option<ScannedName>,
-        ttl: Option<Ttl>,
-        class: Option<Class>,
-        rdata: ScannedRecordData,
-    ) -> Result<Option<Entry>, EntryError>
-        ensures ok { IfOk result (λ entry. Enters (context_of self.old)
-            (StateRecord (record { owner = option_map ⟦<ScannedName as ToName>⟧.name owner; ttl = ttl; class = class; rdata = data_of rdata }))
-            (entry_of entry) (context_of self.new)) }
+        stated: Stated<Vec<u8>, N>,
+        sink: &mut S,
+    ) -> Result<Option<Entry<N>>, EntryError>
+        requires { IsShort (StateRecord (stated_of N.name stated)) }
+        ensures ok { IfOk result (λ entry. Enters (context_of self.old) (StateRecord (stated_of N.name stated)) (entry_of N.name entry)
+            (context_of self.new)) }
         ensures err { IfErr result (λ error. is_memory error ≡ false → (entry : spec.Entry) (after : spec.Context)
-            → Enters (context_of self.old)
-            (StateRecord (record { owner = option_map ⟦<ScannedName as ToName>⟧.name owner; ttl = ttl; class = class; rdata = data_of rdata }))
-            entry after → ⊥) }
+            → Enters (context_of self.old) (StateRecord (stated_of N.name stated)) entry after → ⊥) }
         ensures same { OnErr result (self.new ≡ self.old) }
+        ensures taken { IfOk result (λ entry. IsTaken S.takes N.name entry (S.octets sink.old) (S.octets sink.new)) }
+        ensures kept { OnErr result (S.octets sink.new ≡ S.octets sink.old) }
     {
-        match self.enter_head(alloc, owner, ttl, class) {
-            Ok(head) => {
-                let record = Record::new(head.owner, head.class, head.ttl, rdata);
-                Ok(Some(Entry::Record(record)))
-            }
-            Err(error) => Err(error),
+        let Stated {
+            owner,
+            ttl,
+            class,
+            rdata,
+        } = stated;
+        let head = match self.head_of(alloc, owner, ttl, class) {
+            Ok(head) => head,
+            Err(error) => return Err(error),
+        };
+        let EnteredHead {
+            owner,
+            class,
+            ttl,
+            last_ttl,
+        } = head;
+        let last_owner = to_inline_name(&owner);
+        let resource = Record::new(owner, class, ttl, rdata);
+        match sink.take(&resource) {
+            Ok(()) => {}
+            Err(error) => return Err(error),
         }
+        self.take_over(last_owner, last_ttl, class);
+        Ok(Some(Entry::Record(resource)))
     }
 
-    /// Returns the owner, class and TTL of the record whose row states these, each if it has it. Takes over what they set.
-    fn enter_head(
-        &mut self,
+    /// Takes over what a record sets.
+    fn take_over(&mut self, owner: InlineName, last_ttl: Ttl, class: Class)
+        ensures { context_of self.new ≡ record (context_of self.old) { owner = Some owner; last_ttl = last_ttl; class = Some class } }
+    {
+        self.owner = Some(owner);
+        self.last_ttl = last_ttl;
+        self.class = Some(class);
+    }
+
+    /// Returns the owner, class and TTL of the record whose row states these, each if it has it.
+    fn head_of<N: TextName>(
+        &self,
         alloc: Global,
-        owner: Option<ScannedName>,
+        owner: Option<N>,
         ttl: Option<Ttl>,
         class: Option<Class>,
-    ) -> Result<EnteredHead, EntryError>
-        ensures owner { IfOk result (λ head. option_or (option_map ⟦<ScannedName as ToName>⟧.name owner) self.old.owner
-            ≡ Some (⟦<ScannedName as ToName>⟧.name head.owner)) }
-        ensures class { IfOk result (λ head. (option_or class self.old.class ≡ Some head.class)
-            × (option_or self.old.class class ≡ Some head.class)) }
-        ensures ttl { IfOk result (λ head. head.ttl ≡ unwrap_or (option_or ttl self.old.default_ttl) self.old.last_ttl) }
-        ensures sets { IfOk result (λ head. context_of self.new ≡ record (context_of self.old) {
-          owner = Some (⟦<ScannedName as ToName>⟧.name head.owner);
-          last_ttl = unwrap_or ttl self.old.last_ttl;
-          class = Some head.class;
-        }) }
+    ) -> Result<EnteredHead<N>, EntryError>
+        ensures owner { IfOk result (λ head. option_or (option_map N.name owner) self.now.owner ≡ Some (N.name head.owner)) }
+        ensures class { IfOk result (λ head. (option_or class self.now.class ≡ Some head.class)
+            × (option_or self.now.class class ≡ Some head.class)) }
+        ensures ttl { IfOk result (λ head. head.ttl ≡ unwrap_or (option_or ttl self.now.default_ttl) self.now.last_ttl) }
+        ensures last_ttl { IfOk result (λ head. head.last_ttl ≡ unwrap_or ttl self.now.last_ttl) }
         ensures err { IfErr result (λ error. is_memory error ≡ false → (name : List (List ℕ)) (number : ℕ)
-            → option_or (option_map ⟦<ScannedName as ToName>⟧.name owner) self.old.owner ≡ Some name
-            → option_or class self.old.class ≡ Some number → option_or self.old.class class ≡ Some number → ⊥) }
-        ensures same { OnErr result (self.new ≡ self.old) }
+            → option_or (option_map N.name owner) self.now.owner ≡ Some name
+            → option_or class self.now.class ≡ Some number → option_or self.now.class class ≡ Some number → ⊥) }
     {
         let class = match agreed_class(self.class, class) {
             Ok(class) => class,
             Err(error) => return Err(error),
         };
-        let owner = match self.enter_owner(alloc, owner) {
+        let owner = match self.owner_of(alloc, owner) {
             Ok(owner) => owner,
             Err(error) => return Err(error),
         };
-        let ttl = match ttl {
-            Some(stated) => {
-                self.last_ttl = stated;
-                stated
-            }
-            None => self.default_ttl.unwrap_or(self.last_ttl),
+        let (ttl, last_ttl) = match ttl {
+            Some(stated) => (stated, stated),
+            None => (self.default_ttl.unwrap_or(self.last_ttl), self.last_ttl),
         };
-        self.class = Some(class);
-        Ok(EnteredHead { owner, class, ttl })
+        Ok(EnteredHead {
+            owner,
+            class,
+            ttl,
+            last_ttl,
+        })
     }
 
-    /// Returns the owner of a record whose row states this one, or none and has the last one. It is the last one then.
-    fn enter_owner(
-        &mut self,
-        alloc: Global,
-        stated: Option<ScannedName>,
-    ) -> Result<ScannedName, EntryError>
-        ensures ok { IfOk result (λ owner. (option_or (option_map ⟦<ScannedName as ToName>⟧.name stated) self.old.owner
-            ≡ Some (⟦<ScannedName as ToName>⟧.name owner))
-            × (self.new ≡ record self.old { owner = Some (⟦<ScannedName as ToName>⟧.name owner) })) }
-        ensures err { IfErr result (λ error. is_memory error ≡ false
-            → option_or (option_map ⟦<ScannedName as ToName>⟧.name stated) self.old.owner ≡ None) }
-        ensures same { OnErr result (self.new ≡ self.old) }
+    /// Returns the owner of a record whose row states this one, or none and has the last one.
+    fn owner_of<N: TextName>(&self, alloc: Global, stated: Option<N>) -> Result<N, EntryError>
+        ensures ok { IfOk result (λ owner. option_or (option_map N.name stated) self.now.owner ≡ Some (N.name owner)) }
+        ensures err { IfErr result (λ error. is_memory error ≡ false → option_or (option_map N.name stated) self.now.owner ≡ None) }
     {
-        let Some(owner) = stated else {
-            return self.last_owner(alloc);
-        };
-        self.owner = Some(owner.to_vec(alloc)?);
-        Ok(owner)
+        match stated {
+            Some(owner) => Ok(owner),
+            None => self.last_owner(alloc),
+        }
     }
 
     /// Returns the owner of the last record.
-    fn last_owner(&self, alloc: Global) -> Result<ScannedName, EntryError>
-        ensures ok { IfOk result (λ owner. self.now.owner ≡ Some (⟦<ScannedName as ToName>⟧.name owner)) }
+    fn last_owner<N: TextName>(&self, alloc: Global) -> Result<N, EntryError>
+        ensures ok { IfOk result (λ owner. self.now.owner ≡ Some (N.name owner)) }
         ensures err { IfErr result (λ error. is_memory error ≡ false → self.now.owner ≡ None) }
     {
         let Some(owner) = &self.owner else {
             return Err(EntryError::Custom("no owner stated before"));
         };
-        Ok(absolute(alloc, owner.to_vec(alloc)?)?)
+        Ok(N::of_name(alloc, owner)?)
     }
 }
 

@@ -1,7 +1,8 @@
 //! Entries of zone files.
 use dns_header::Record;
+use dns_name::ToName;
 use dns_rdata::ZoneRecordData;
-use dns_row_scanner::{ScannedName, ScannedString};
+use dns_row_scanner::{InlineName, ScannedName, ScannedString};
 
 /// The data of a record that is scanned.
 pub type ScannedRecordData = ZoneRecordData<Vec<u8>, ScannedName>;
@@ -11,14 +12,28 @@ pub type ScannedRecord = Record<ScannedName, ScannedRecordData>;
 
 /// What a row of a zone file is, unless it is a directive that changes the rows behind it alone (RFC 1035 5.1).
 #[derive(Debug, Drop)]
-pub enum Entry {
+pub enum Entry<N: ToName = ScannedName> {
     /// A record.
-    Record(ScannedRecord),
+    Record(Record<N, ZoneRecordData<Vec<u8>, N>>),
     /// `$INCLUDE`, which names another file.
     Include {
         /// The path of the file.
         path: ScannedString,
         /// The origin for the file, if the row states one.
-        origin: Option<ScannedName>,
+        origin: Option<N>,
+    },
+}
+
+/// What a row of a zone file is, as `Entry`, where the octets of a record stand in a vector.
+#[derive(Debug, Drop)]
+pub enum ComposedEntry {
+    /// A record, whose octets are the last of the vector.
+    Record,
+    /// `$INCLUDE`, which names another file.
+    Include {
+        /// The path of the file.
+        path: ScannedString,
+        /// The origin for the file, if the row states one.
+        origin: Option<InlineName>,
     },
 }

@@ -10,14 +10,16 @@ mod context;
 mod entry;
 mod error;
 pub mod laws;
+mod record_sink;
 mod statement;
 mod zonefile;
 
 pub use dns_row_scanner::{
-    EntryError, EntryScanner, RowScanner, ScannedName, ScannedString, absolute, scan_name,
+    EntryError, EntryScanner, InlineName, RowScanner, ScannedName, ScannedString, TextName,
+    absolute, scan_name, to_inline_name,
 };
 pub use dns_tokens::{BrokenRow, RowFound, RowReader, TokenSpan, read_row};
-pub use entry::{Entry, ScannedRecord, ScannedRecordData};
+pub use entry::{ComposedEntry, Entry, ScannedRecord, ScannedRecordData};
 pub use error::Error;
 pub use statement::{Stated, Statement, scan_statement};
 pub use zonefile::Zonefile;

@@ -1,6 +1,6 @@
 //! Readers that are handed a text and asked for entries, step by step.
 use dns_name::{Class, ComposeRecordData, Name, ToName};
-use dns_zonefile::{Entry, Error, ScannedRecord, Zonefile};
+use dns_zonefile::{ComposedEntry, Entry, Error, ScannedRecord, Zonefile};
 use rows::{Answer, Row, RowError};
 use std::alloc::Global;
 
@@ -39,6 +39,41 @@ pub fn answer_count(alloc: Global, row: &mut Row<'_>, out: &mut Answer) -> Resul
     match read_to_end(&mut zonefile) {
         Ok(()) => out.shown(&zonefile.entry_number()),
         Err(error) => out.refused(&error),
+    }
+}
+
+/// Answers the octets of a text's records, of class IN where none is stated, behind one another up to the end or to what is
+/// refused. Its includes come first, and why it is refused.
+pub fn answer_octets(alloc: Global, row: &mut Row<'_>, out: &mut Answer) -> Result<(), RowError> {
+    let mut zonefile = Zonefile::from_vec(alloc, row.text_octets(alloc)?);
+    zonefile.set_default_class(Class::IN);
+    let mut octets = Vec::new(alloc);
+    for _ in 0..u32::MAX {
+        if !appends_one(alloc, &mut zonefile, &mut octets, out)? {
+            break;
+        }
+    }
+    out.octets(octets.as_slice())
+}
+
+/// Appends the octets of the next entry, and returns whether there is one. Writes an include, and why there is none.
+fn appends_one(
+    alloc: Global,
+    zonefile: &mut Zonefile,
+    octets: &mut Vec<u8>,
+    out: &mut Answer,
+) -> Result<bool, RowError> {
+    match zonefile.next_octets(octets) {
+        Ok(Some(ComposedEntry::Record)) => Ok(true),
+        Ok(Some(ComposedEntry::Include { path, origin })) => {
+            show_include(alloc, path.as_str(), origin.as_ref(), out)?;
+            Ok(true)
+        }
+        Ok(None) => Ok(false),
+        Err(error) => {
+            out.refused(&error)?;
+            Ok(false)
+        }
     }
 }
 
@@ -117,13 +152,23 @@ fn show_entry(alloc: Global, entry: &Entry, out: &mut Answer) -> Result<(), RowE
     match entry {
         Entry::Record(record) => show_record(alloc, record, out),
         Entry::Include { path, origin } => {
-            out.shown(&"include")?;
-            out.shown(&path.as_str())?;
-            match origin {
-                Some(origin) => out.octets(origin.to_vec(alloc)?.as_slice()),
-                None => Ok(()),
-            }
+            show_include(alloc, path.as_str(), origin.as_ref(), out)
         }
+    }
+}
+
+/// Writes the path of a file, and the origin for it, if there is one.
+fn show_include<N: ToName>(
+    alloc: Global,
+    path: &str,
+    origin: Option<&N>,
+    out: &mut Answer,
+) -> Result<(), RowError> {
+    out.shown(&"include")?;
+    out.shown(&path)?;
+    match origin {
+        Some(origin) => out.octets(origin.to_vec(alloc)?.as_slice()),
+        None => Ok(()),
     }
 }
 

@@ -6,6 +6,8 @@
 #[cfg(test)]
 mod names;
 #[cfg(test)]
+mod octets;
+#[cfg(test)]
 mod rows;
 #[cfg(test)]
 mod zonefile;

@@ -1,0 +1,33 @@
+-- What a call gives that writes records behind octets.
+use Rattle.std.specs.Prelude.{◌≡◌, ℕ, List, ◌++◌, Option, Some, None, Result, Ok, Err, String, string_bytes}
+use Rattle.std.specs.Global.{Global}
+use Rattle.dns_header.specs.Head.{record_octets}
+use Rattle.dns_header.specs.Record.{RecordOf}
+use Rattle.dns_rdata.specs.Data.{Data, number_of}
+use Rattle.dns_rdata.specs.DataOctets.{data_octets}
+use Rattle.dns_row_scanner.specs.declared.entry_error.EntryError.{EntryError}
+use Rattle.dns_zonefile.specs.Entry.{Entry}
+use Rattle.dns_zonefile.specs.Entry.Entry.{Include, Resource}
+use Rattle.dns_zonefile.specs.Error.{reason_of}
+use Rattle.dns_zonefile.specs.declared.entry.ComposedEntry.{ComposedEntry}
+use Rattle.dns_zonefile.specs.declared.entry.ComposedEntry.TheVariants as composed
+use Rattle.dns_zonefile.specs.declared.error.Error.{Error}
+
+-- the octets of a record with every name written out (RFC 1035 3.2.1)
+abbrev pub octets_of : RecordOf (List (List ℕ)) Data → List ℕ
+octets_of rr = record_octets rr.owner (number_of rr.rdata) rr.class rr.ttl (data_octets rr.rdata)
+
+-- What is given is handed on so, by the octets before it and behind it: the octets of a record stand behind those before. Nothing else
+-- changes them.
+pub data HandsOn (old : List ℕ) : Result (Option Entry) EntryError → Result (Option ComposedEntry) EntryError → List ℕ → Type 0 where
+  resource : {rr : RecordOf (List (List ℕ)) Data} {new : List ℕ} → new ≡ old ++ octets_of rr
+      → HandsOn old (Ok (Some (Resource rr))) (Ok (Some composed.Record)) new
+  include : {path : String Global} {origin : Option (List (List ℕ))}
+      → HandsOn old (Ok (Some (Include (string_bytes path) origin))) (Ok (Some (composed.Include path origin))) old
+  ended : HandsOn old (Ok None) (Ok None) old
+  refused : {error : EntryError} → HandsOn old (Err error) (Err error) old
+
+-- a result, with the reason of its error alone
+abbrev pub with_reason : {T : Type 0} → Result T Error → Result T EntryError
+with_reason (Ok value) = Ok value
+with_reason (Err error) = Err (reason_of error)
