@@ -2,9 +2,10 @@
 """Times how the rows of zone files are read as entries, and how long texts are read that are no zone's.
 
 It runs the proved program of `crates/dns_zonefile_rows` (`python3 tools/build.py dns_zonefile_rows` makes it, at
-build/dns_zonefile_rows) on one row for each kind of text: the text is repeated so many times, and its entries are counted. For
-each it prints the processor time an entry. Each is run five times, and the fastest counts. Behind that it prints the time an
-octet of texts of one long row, of many rows, or of what is never closed, once as long and then twice: it has to stay the same."""
+build/dns_zonefile_rows) on one row for each kind of text: the text is repeated so many times, and its entries are counted, or the
+octets of its records. For each it prints the processor time of one time. Each is run five times, and the fastest counts. Behind
+that it prints the time an octet of texts of one long row, of many rows, or of what is never closed, once as long and then twice: it
+has to stay the same."""
 import argparse
 import tempfile
 from pathlib import Path
@@ -38,18 +39,17 @@ def long_texts(octets):
     }
 
 
-def nanoseconds(program, text, times, folder):
+def nanoseconds(program, call, text, times, folder):
     row, answer = folder / "row", folder / "answer"
-    row.write_text(f"Zonefile::count {times} {quote(text, safe='$()/;:,=+!*')}\n")
-    seconds = min(run_once([program], row, answer).seconds for _ in range(RUNS))
-    return seconds * 1e9 / times, answer.read_text().strip()
+    row.write_text(f"Zonefile::{call} {times} {quote(text, safe='$()/;:,=+!*')}\n")
+    return min(run_once([program], row, answer).seconds for _ in range(RUNS)) * 1e9 / times
 
 
 def report_long(program, folder):
     print(f"once, ns an octet of\n  {'':<12}{LONG:10,}{2 * LONG:10,}")
     texts = [long_texts(LONG), long_texts(2 * LONG)]
     for kind in texts[0]:
-        times = [nanoseconds(program, some[kind], 1, folder)[0] / len(some[kind]) for some in texts]
+        times = [nanoseconds(program, "count_octets", some[kind], 1, folder) / len(some[kind]) for some in texts]
         print(f"  {kind:<12}{times[0]:10.1f}{times[1]:10.1f}")
 
 
@@ -58,11 +58,12 @@ def main():
     parser.add_argument("program", help="the proved program of dns_zonefile_rows")
     parser.add_argument("times", nargs="?", type=int, default=TIMES, help="how many times each text")
     arguments = parser.parse_args()
-    print(f"{arguments.times:,} times\n  {'':<12}{'octets':>8}{'ns':>8}{'entries':>12}")
+    print(f"{arguments.times:,} times, ns\n  {'':<12}{'octets':>8}{'next_entry':>12}{'next_octets':>13}")
     with tempfile.TemporaryDirectory() as folder:
         for kind, text in KINDS.items():
-            time, entries = nanoseconds(arguments.program, text, arguments.times, Path(folder))
-            print(f"  {kind:<12}{len(text):8}{time:8.0f}{entries:>12}")
+            calls = ["count", "count_octets"]
+            times = [nanoseconds(arguments.program, call, text, arguments.times, Path(folder)) for call in calls]
+            print(f"  {kind:<12}{len(text):8}{times[0]:12.0f}{times[1]:13.0f}")
         report_long(arguments.program, Path(folder))
 
 

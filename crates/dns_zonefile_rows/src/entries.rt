@@ -28,6 +28,29 @@ pub fn answer_of_text(alloc: Global, row: &mut Row<'_>, out: &mut Answer) -> Res
 
 /// Answers how many entries a text has that is repeated so many times, of class IN where none is stated.
 pub fn answer_count(alloc: Global, row: &mut Row<'_>, out: &mut Answer) -> Result<(), RowError> {
+    let mut zonefile = repeated(alloc, row)?;
+    match read_to_end(&mut zonefile) {
+        Ok(()) => out.shown(&zonefile.entry_number()),
+        Err(error) => out.refused(&error),
+    }
+}
+
+/// Answers how many octets the records of such a text have.
+pub fn answer_count_octets(
+    alloc: Global,
+    row: &mut Row<'_>,
+    out: &mut Answer,
+) -> Result<(), RowError> {
+    let mut zonefile = repeated(alloc, row)?;
+    let mut octets = Vec::new(alloc);
+    match append_to_end(&mut zonefile, &mut octets) {
+        Ok(()) => out.shown(&octets.len()),
+        Err(error) => out.refused(&error),
+    }
+}
+
+/// Returns a reader of a text that is repeated so many times.
+fn repeated(alloc: Global, row: &mut Row<'_>) -> Result<Zonefile, RowError> {
     let count: u32 = row.value()?;
     let once = row.text_octets(alloc)?;
     let mut text = Vec::new(alloc);
@@ -36,10 +59,7 @@ pub fn answer_count(alloc: Global, row: &mut Row<'_>, out: &mut Answer) -> Resul
     }
     let mut zonefile = Zonefile::from_vec(alloc, text);
     zonefile.set_default_class(Class::IN);
-    match read_to_end(&mut zonefile) {
-        Ok(()) => out.shown(&zonefile.entry_number()),
-        Err(error) => out.refused(&error),
-    }
+    Ok(zonefile)
 }
 
 /// Answers the octets of a text's records, of class IN where none is stated, behind one another up to the end or to what is
@@ -90,6 +110,21 @@ fn read_to_end(zonefile: &mut Zonefile) -> Result<(), Error> {
 /// Reads the next entry, and returns whether there is one.
 fn reads_one(zonefile: &mut Zonefile) -> Result<bool, Error> {
     Ok(zonefile.next_entry()?.is_some())
+}
+
+/// Appends the octets of the records that are left.
+fn append_to_end(zonefile: &mut Zonefile, octets: &mut Vec<u8>) -> Result<(), Error> {
+    for _ in 0..u32::MAX {
+        if !appends_next(zonefile, octets)? {
+            break;
+        }
+    }
+    Ok(())
+}
+
+/// Appends the octets of the next record, and returns whether there is an entry.
+fn appends_next(zonefile: &mut Zonefile, octets: &mut Vec<u8>) -> Result<bool, Error> {
+    Ok(zonefile.next_octets(octets)?.is_some())
 }
 
 /// Takes the steps that the words of a row name.

@@ -17,6 +17,7 @@ impl Calls for ZonefileCalls {
             "Zonefile::with_capacity" => entries::answer_with_capacity(alloc, row, out),
             "Zonefile::from_vec" => entries::answer_of_text(alloc, row, out),
             "Zonefile::count" => entries::answer_count(alloc, row, out),
+            "Zonefile::count_octets" => entries::answer_count_octets(alloc, row, out),
             "Zonefile::octets" => entries::answer_octets(alloc, row, out),
             _ => Err(RowError::UnknownCall),
         }
