@@ -10,6 +10,6 @@ pub loop-index-preserved : goal.loop-index-preserved
 loop-index-preserved c =
     let front : List Record = take c.loop-index.index c.args.records.now in
     let there = element_at c.args.records.now c.loop-index.index (omega arith) in
-    subst (λ l. AllZip IsCanonicalOf l c.push.new.self.items) (sym {A = List Record} (take-next c.args.records.now c.loop-index.index there.0 there.1))
-    (subst (AllZip IsCanonicalOf (front ++ there.0 ∷ [])) (sym c.in_ok-push.ensures.items)
+    subst (λ l. AllZip IsCanonicalOf l c.push.new.self.items) (sym (take-next c.args.records.now c.loop-index.index there.0 there.1))
+    (subst (AllZip IsCanonicalOf (front ++ there.0 ∷ [])) (sym {A = List Record} c.in_ok-push.ensures.items)
     (AllZip-push IsCanonicalOf front c.loop-index.forms.items there.0 c.form_at.result c.loop-index.invariant (c.form_at.ensures there.0 there.1)))
