@@ -7,6 +7,7 @@ ghost use Rattle.dns_message.specs.Record.{record_octets};
 ghost use Rattle.dns_rdata.specs.Data.{number_of, canonical_of};
 ghost use Rattle.dns_rdata.specs.Fields.{IsData};
 ghost use Rattle.dns_rdata.specs.ZoneData.{data_of};
+ghost use Rattle.dns_wire.specs.Order.{labels_order};
 ghost use Rattle.zone_canonical.specs.Canonical.{IsCanonicalData, IsCanonicalOf, canonical_cmp};
 ghost use Rattle.zone_canonical.specs.CanonicalLaws.{canonical_total};
 
@@ -49,6 +50,14 @@ impl<'a> CanonicalRecord<'a> {
         CanonicalRecord {
             parsed: Record::new(record.owner(), record.class(), record.ttl(), rdata),
         }
+    }
+
+    /// Compares the owners, label by label from the right (RFC 4034 6.1).
+    #[tactic(auto, using(crate::proofs::Orders::order_low))]
+    fn cmp_owner(&self, other: &Self) -> Ordering
+        ensures { result ≡ labels_order self.now.owner other.now.owner }
+    {
+        self.parsed.owner().name_cmp(other.parsed.owner())
     }
 
     /// Appends the octets of the record in canonical form. Fails only if out of memory.
@@ -112,7 +121,7 @@ impl<'a> Ord for CanonicalRecord<'a> {
     ghost matches_eq = { λ _ _. refl };
 
     fn cmp(&self, other: &Self) -> Ordering {
-        match self.parsed.owner().name_cmp(other.parsed.owner()) {
+        match self.cmp_owner(other) {
             Ordering::Equal => {
                 let (one, two) = (&self.parsed, &other.parsed);
                 let fixed = one

@@ -1,4 +1,4 @@
-use Rattle.std.proofs.Common.{◌≡◌, ◌∙◌, rules}
+use Rattle.std.proofs.Common.{◌≡◌, sym, ◌∙◌, rules}
 use Rattle.std.specs.Ordering.{nat_cmp}
 use Rattle.std.specs.declared.cmp.Ordering.TheVariants.{Equal}
 use Rattle.dns_wire.specs.Order.{labels_order}
@@ -10,10 +10,10 @@ use Rattle.zone_canonical.proofs.canonical_record.CanonicalRecordOrd.cmp.Goals a
 
 pub returns-in-Equal : goal.returns-in-Equal
 returns-in-Equal c =
-    let tied : c.name_cmp.result ≡ Equal = search rules in
-    by_rest c.self.inside.parsed c.other.inside.parsed c.name_cmp.result c.canonical_cmp.result c.cmp.result c.cmp-in-Equal.result
+    let tied : c.cmp_owner.result ≡ Equal = search rules in
+    by_rest c.self.inside.parsed c.other.inside.parsed c.cmp_owner.result c.canonical_cmp.result c.cmp.result c.cmp-in-Equal.result
     c.then-fixed.result c.then.result tied
-    (c.name_cmp.ensures ∙ (λ i. labels_order (c.owner.ensures i) (c.owner-2.ensures i)))
+    (c.cmp_owner.ensures ∙ (λ i. labels_order (sym c.self.view_is i).owner (sym c.other.view_is i).owner))
     (c.canonical_cmp.ensures ∙ (λ i. canonical_data_cmp (data_of (c.data.ensures i)) (data_of (c.data-in-Equal.ensures i))))
     (c.cmp.ensures ∙ (λ i. nat_cmp (c.ttl.ensures i) (c.ttl-in-Equal.ensures i)))
     (c.cmp-in-Equal.ensures ∙ (λ i. nat_cmp (c.class.ensures i) (c.class-in-Equal.ensures i)))
@@ -21,7 +21,4 @@ returns-in-Equal c =
     ∙ (λ i. canonical_cmp (c.self.view_is i) (c.other.view_is i))
 
 pub returns-in_default : goal.returns-in_default
-returns-in_default c =
-    by_owner c.self.inside.parsed c.other.inside.parsed c.name_cmp.result c.in_default.not-Equal
-    (c.name_cmp.ensures ∙ (λ i. labels_order (c.owner.ensures i) (c.owner-2.ensures i)))
-    ∙ (λ i. canonical_cmp (c.self.view_is i) (c.other.view_is i))
+returns-in_default c = by_owner c.args.self.now c.args.other.now c.cmp_owner.result c.in_default.not-Equal c.cmp_owner.ensures
