@@ -1,0 +1,9 @@
+mod Ascending
+mod Forms
+mod SortedForms
+mod LawfulForms
+mod ReadData
+mod SameOctets
+mod Alike
+mod ZoneForms
+mod Orders

@@ -1,0 +1,4 @@
+pub mod Canonical
+pub mod CanonicalLaws
+pub mod Parsed
+pub mod Tried
