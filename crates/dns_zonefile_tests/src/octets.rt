@@ -1,6 +1,6 @@
 //! The octets of records, composed straight behind a vector, with ample memory.
 use dns_name::{Class, ToName};
-use dns_zonefile::{ComposedEntry, Entry, Zonefile};
+use dns_zonefile::{ComposedEntry, Zonefile};
 use std::alloc::Global;
 use std::test::Fail;
 
@@ -48,20 +48,5 @@ fn octets(rt: HostRuntime) -> Result<(), Fail> {
     assert!(rt; end.is_none());
     assert!(rt; octets.as_slice() == expected(alloc)?.as_slice());
     assert!(rt; zonefile.entry_number() == 5);
-    Ok(())
-}
-
-#[test]
-fn as_composed(rt: HostRuntime) -> Result<(), Fail> {
-    let alloc = rt.alloc();
-    let mut zonefile = reader(alloc)?;
-    let mut octets = Vec::from_slice(alloc, b"hi")?;
-    for _ in 0..3u32 {
-        let Some(Entry::Record(record)) = zonefile.next_entry()? else {
-            panic!(rt; "no record");
-        };
-        record.compose(&mut octets)?;
-    }
-    assert!(rt; octets.as_slice() == expected(alloc)?.as_slice());
     Ok(())
 }
