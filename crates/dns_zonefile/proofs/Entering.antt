@@ -1,5 +1,5 @@
 -- What a statement makes of its context, as the code has both.
-use Rattle.std.proofs.Common.{◌≡◌, ℕ, List, Global, String, Option, Some, subst, sym, ◌∙◌}
+use Rattle.std.proofs.Common.{◌≡◌, ℕ, List, Global, String, Option, Some, None, subst, sym, ◌∙◌}
 use Rattle.std.specs.Prelude.{option_map, string_bytes, unwrap_or}
 use Rattle.std.specs.Option.{option_or}
 use Rattle.dns_rdata.specs.Data.{Data}
@@ -51,19 +51,23 @@ record_enters old new owner ttl class rdata name number seconds is_owner is_clas
     (record (context_of old) { owner = Some name; last_ttl = unwrap_or ttl old.last_ttl; class = Some number })) (sym is_ttl)
     (Enters.resource is_owner is_class.0 is_class.1))
 
--- no entry is made where the owner or the class is not known
-pub no_record_enters : (old : Context) (stated : Stated) (entry : Entry) (after : Context)
-    → ((name : List (List ℕ)) (number : ℕ) → option_or stated.owner old.owner ≡ Some name → option_or stated.class old.class ≡ Some number
-    → option_or old.class stated.class ≡ Some number → ⊥) → Enters old (StateRecord stated) entry after → ⊥
-no_record_enters old stated entry after none (Enters.resource {owner = owner} {class = class} is_owner is_class known) =
-    none owner class is_owner is_class known
+-- no entry is made where the class is not known, or the owner is not
+pub no_class_enters : (old : Context) (stated : Stated) (entry : Entry) (after : Context)
+    → ((number : ℕ) → option_or stated.class old.class ≡ Some number → option_or old.class stated.class ≡ Some number → ⊥)
+    → Enters old (StateRecord stated) entry after → ⊥
+no_class_enters old stated entry after none (Enters.resource {class = class} is_owner is_class known) = none class is_class known
+
+pub no_owner_enters : (old : Context) (stated : Stated) (entry : Entry) (after : Context) → option_or stated.owner old.owner ≡ None
+    → Enters old (StateRecord stated) entry after → ⊥
+no_owner_enters old stated entry after none (Enters.resource {owner = owner} is_owner is_class known) =
+    let bad : None ≡ Some owner = sym none ∙ is_owner in absurd cc
 
 -- the same, as the code takes it over
 pub record_taken_over : (old new : kept.Context) (owner : Option (List (List ℕ))) (ttl class : Option ℕ) (rdata : Data)
     (name last : List (List ℕ)) (number seconds last_ttl : ℕ) → option_or owner old.owner ≡ Some name
     → (option_or class old.class ≡ Some number) × (option_or old.class class ≡ Some number)
     → seconds ≡ unwrap_or (option_or ttl old.default_ttl) old.last_ttl → last_ttl ≡ unwrap_or ttl old.last_ttl → last ≡ name
-    → context_of new ≡ record (context_of old) { owner = Some last; last_ttl = last_ttl; class = Some number }
+    → context_of new ≡ record (context_of old) { owner = option_or (Some last) old.owner; last_ttl = last_ttl; class = Some number }
     → Enters (context_of old) (StateRecord (record { owner = owner; ttl = ttl; class = class; rdata = rdata }))
     (Resource (record { owner = name; class = number; ttl = seconds; rdata = rdata })) (context_of new)
 record_taken_over old new owner ttl class rdata name last number seconds last_ttl is_owner is_class is_ttl is_last_ttl is_last sets =

@@ -71,7 +71,7 @@ whole {new = new} each (Gives.ended are goes ends) =
       went.goes.count,
     )
 
-refused-there : {old new : Reader} {all : List Entry} → GoesOver old all new → IsRefusedAt new → IsRefusedAfter old.context (left_of old) all
+pub refused-there : {old new : Reader} {all : List Entry} → GoesOver old all new → IsRefusedAt new → IsRefusedAfter old.context (left_of old) all
 refused-there {new = new} goes (IsRefusedAt.broken goes_on no_row) =
     IsRefusedAfter.broken (record { rest = left_of new; begins = goes.begins; goes_on = goes_on; no_row = no_row }) goes.are
 refused-there goes (IsRefusedAt.no_entry begins some none) = IsRefusedAfter.no_entry (begins-on goes.begins begins) goes.are some none

@@ -1,30 +1,26 @@
 -- Readers that go over rows.
-use Rattle.std.proofs.Common.{◌≡◌, ◌≢◌, ◌<◌, ◌+◌, ◌++◌, ◌∙◌, ℕ, Bool, true, false, List, [], ◌∷◌, Option, Some, None, Ok, Err, drop, length, map, refl, subst, sym, arith, length-append}
+use Rattle.std.proofs.Common.{◌≡◌, ◌≢◌, ◌<◌, ◌+◌, ◌++◌, ◌∙◌, ℕ, Bool, true, false, List, [], ◌∷◌, Some, None, Ok, Err, drop, length, map, refl, subst, sym, arith, length-append}
 use Rattle.dns_text.specs.Rows.{BeginsWithRows, TokenRow}
 use Rattle.dns_text.specs.Tokens.{is_end}
 use Rattle.dns_tokens.specs.RowFound.{IsRowAt}
 use Rattle.dns_tokens.specs.TokenSpan.{token_in}
 use Rattle.dns_tokens.specs.declared.token_span.TokenSpan.{TokenSpan}
 use Rattle.dns_row_scanner.specs.EntryError.{is_memory}
-use Rattle.dns_row_scanner.specs.NameInText.{SpellsUnder}
 use Rattle.dns_row_scanner.specs.declared.entry_error.EntryError.{EntryError}
 use Rattle.dns_zonefile.specs.Entries.{AreEntries}
-use Rattle.dns_zonefile.specs.Entry.{Context, Entry, Enters}
+use Rattle.dns_zonefile.specs.Entry.{Context, Entry, IsEntry}
 use Rattle.dns_zonefile.specs.Entry.Entry.{Directive}
 use Rattle.dns_zonefile.specs.Reader.{AreDirectives, Gives, GoesOver, IsRefusedAt, Reader, left_of}
 use Rattle.dns_zonefile.specs.Seen.{entry_of, row_of}
-use Rattle.dns_zonefile.specs.Statement.{Says, Statement}
 use Rattle.dns_zonefile.specs.declared.entry.Entry as found
 use Rattle.dns_zonefile.specs.declared.entry.Entry.TheVariants as entries
-use Rattle.dns_zonefile.proofs.OneEntry.{under_once}
-use Rattle.dns_zonefile.proofs.OneStatement.{one_statement}
 
 pub begins-on : {text mid rest : List ℕ} {rows others : List TokenRow} → BeginsWithRows text rows mid → BeginsWithRows mid others rest
     → BeginsWithRows text (rows ++ others) rest
 begins-on BeginsWithRows.none others = others
 begins-on (BeginsWithRows.more row begins) others = BeginsWithRows.more row (begins-on begins others)
 
-are-on : {context mid after : Context} {rows others : List TokenRow} {entries more : List Entry} → AreEntries context rows entries mid
+pub are-on : {context mid after : Context} {rows others : List TokenRow} {entries more : List Entry} → AreEntries context rows entries mid
     → AreEntries mid others more after → AreEntries context (rows ++ others) (entries ++ more) after
 are-on AreEntries.none more = more
 are-on (AreEntries.bare are) more = AreEntries.bare (are-on are more)
@@ -92,15 +88,10 @@ length-zero : {A : Type 0} (all : List A) → length all ≡ 0 → all ≡ []
 length-zero [] none = refl
 length-zero (item ∷ others) none = absurd (omega (arith, none))
 
--- what is said of the same tokens under the same origin
-pub same-says : {origin origin' : Option (List (List ℕ))} {text text' : List ℕ} {spans spans' : List TokenSpan} {led : Bool}
-    {statement : Statement} → origin ≡ origin' → text ≡ text' → spans ≡ spans'
-    → Says (SpellsUnder origin) (row_of led (map (λ span. token_in text span) spans)) statement
-    → Says (SpellsUnder origin') (row_of led (map (λ span. token_in text' span) spans')) statement
-same-says {origin} {origin'} {text} {text'} {spans} {spans'} {led} {statement} origins texts all says =
-    subst (λ (o : Option (List (List ℕ))). Says (SpellsUnder o) (row_of led (map (λ span. token_in text' span) spans')) statement) origins
-    (subst (λ (t : List ℕ). Says (SpellsUnder origin) (row_of led (map (λ span. token_in t span) spans')) statement) texts
-    (subst (λ (s : List TokenSpan). Says (SpellsUnder origin) (row_of led (map (λ span. token_in text span) s)) statement) all says))
+-- the row of the same tokens
+pub same-row : {text text' : List ℕ} {spans spans' : List TokenSpan} {led : Bool} → text ≡ text' → spans ≡ spans'
+    → row_of led (map (λ span. token_in text span) spans) ≡ row_of led (map (λ span. token_in text' span) spans')
+same-row {led = led} texts all = λ i. row_of led (map (λ span. token_in (texts i) span) (all i))
 
 -- one row
 module _ (text : List ℕ) (place next : ℕ) (spans : List TokenSpan) (led : Bool) (row : IsRowAt text place spans next led) where
@@ -121,16 +112,14 @@ module _ (text : List ℕ) (place next : ℕ) (spans : List TokenSpan) (led : Bo
     text = refl;
   }
 
-  pub goes-entry : (context after : Context) (count : ℕ) (statement : Statement) (entry other : Entry) → entry ≡ other
-      → Says (SpellsUnder context.origin) (row_of led (map (λ span. token_in text span) spans)) statement → Enters context statement entry after
-      → GoesOver (record { text = text; place = place; context = context; count = count }) (other ∷ [])
+  pub goes-entry : (context after : Context) (count : ℕ) (entry : Entry)
+      → IsEntry context (row_of led (map (λ span. token_in text span) spans)) entry after
+      → GoesOver (record { text = text; place = place; context = context; count = count }) (entry ∷ [])
       (record { text = text; place = next; context = after; count = count + 1 })
-  goes-entry context after count statement entry other same says enters = record {
+  goes-entry context after count entry is = record {
     rows = row_of led (map (λ span. token_in text span) spans) ∷ [];
     begins = begins-there;
-    are = AreEntries.entry
-        (record { statement = statement; says = says; enters = subst (λ (e : Entry). Enters context statement e after) same enters })
-        AreEntries.none;
+    are = AreEntries.entry is AreEntries.none;
     count = omega arith;
     text = refl;
   }
@@ -142,17 +131,7 @@ module _ (text : List ℕ) (place next : ℕ) (spans : List TokenSpan) (led : Bo
       by [] some none = omega (arith, some)
       by (span ∷ others) some none = let no : ⊥ = cc in no
 
-  pub refused-unsaid : (context : Context) (count : ℕ) → 0 < length spans
-      → ((statement : Statement) → Says (SpellsUnder context.origin) (row_of led (map (λ span. token_in text span) spans)) statement → ⊥)
+  pub refused-row : (context : Context) (count : ℕ) → 0 < length spans
+      → ((entry : Entry) (after : Context) → IsEntry context (row_of led (map (λ span. token_in text span) spans)) entry after → ⊥)
       → IsRefusedAt (record { text = text; place = place; context = context; count = count })
-  refused-unsaid context count some none =
-      IsRefusedAt.no_entry begins-there (some-tokens some) (λ entry after is. none is.statement is.says)
-
-  pub refused-unentered : (context : Context) (count : ℕ) (statement : Statement) → 0 < length spans
-      → Says (SpellsUnder context.origin) (row_of led (map (λ span. token_in text span) spans)) statement
-      → ((entry : Entry) (after : Context) → Enters context statement entry after → ⊥)
-      → IsRefusedAt (record { text = text; place = place; context = context; count = count })
-  refused-unentered context count statement some says none =
-      IsRefusedAt.no_entry begins-there (some-tokens some)
-      (λ entry after is. none entry after
-      (subst (λ (s : Statement). Enters context s entry after) (one_statement (under_once context.origin) is.says says) is.enters))
+  refused-row context count some none = IsRefusedAt.no_entry begins-there (some-tokens some) none

@@ -132,7 +132,7 @@ rows-on {rest = rest} more (BeginsWithRows.more {text = text} {tokens = tokens} 
     (BeginsWithRows.more (row-on more row) (rows-on more begins))
 
 -- the entries of the first rows, and of the others
-record Parted (context : Context) (front others : List TokenRow) (all : List Entry) (after : Context) : Type 0 where
+pub record Parted (context : Context) (front others : List TokenRow) (all : List Entry) (after : Context) : Type 0 where
   pub first : List Entry
   pub between : Context
   pub behind : List Entry
@@ -140,7 +140,7 @@ record Parted (context : Context) (front others : List TokenRow) (all : List Ent
   pub begins : AreEntries context front first between
   pub goes_on : AreEntries between others behind after
 
-parted : {context after : Context} {rows : List TokenRow} (front : List TokenRow) {others : List TokenRow} {all : List Entry}
+pub parted : {context after : Context} {rows : List TokenRow} (front : List TokenRow) {others : List TokenRow} {all : List Entry}
     → rows ≡ front ++ others → AreEntries context rows all after → Parted context front others all after
 parted {context} {after} [] {all = all} same are = record {
   first = [];

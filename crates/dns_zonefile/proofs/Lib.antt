@@ -7,9 +7,8 @@ pub mod RowFronts
 pub mod OneList
 mod Tried
 mod Entering
-mod Going
-mod GivenEntries
-mod Lengthened
-mod InFull
-mod ShortData
-mod HandedOn
+pub mod Going
+pub mod GivenEntries
+pub mod Lengthened
+mod Forms
+mod ComposedRows

@@ -96,7 +96,7 @@ cut {context} (row ∷ front) {more} is (entry {next = next} {row = row'} {rows 
     add_entry (subst (λ (r : TokenRow). IsEntry context r found next) first has) (cut front behind are)
 
 -- a row with tokens that says nothing is not among the rows of entries
-abbrev SaysNothing : Context → TokenRow → Type 0
+abbrev pub SaysNothing : Context → TokenRow → Type 0
 SaysNothing context row = (found : Entry) (next : Context) → IsEntry context row found next → ⊥
 
 says_something : {context : Context} {rows : List TokenRow} {row : TokenRow} {more : List TokenRow} {entries : List Entry} {after : Context}
@@ -108,7 +108,7 @@ says_something {row = row} same (bare {led = led} are) some nothing =
 says_something {context} {row = row} same (entry {next = next} {row = row'} {entry = found} is are) some nothing =
     let first : row' ≡ row = cc in nothing found next (subst (λ (r : TokenRow). IsEntry context r found next) first is)
 
-within : {start between after : Context} (rows front more : List TokenRow) {row : TokenRow} {entries others : List Entry}
+pub within : {start between after : Context} (rows front more : List TokenRow) {row : TokenRow} {entries others : List Entry}
     → rows ≡ front ++ row ∷ more → AreEntries start rows entries after → AreEntries start front others between → row.tokens ≢ []
     → SaysNothing between row → ⊥
 within rows front more {row = row} same all begins some nothing =
@@ -117,7 +117,7 @@ within rows front more {row = row} same all begins some nothing =
     says_something refl at.goes_on some (λ found next is. nothing found next (subst (λ (c : Context). IsEntry c row found next) there is))
 
 -- rows with such a row behind them, and more
-behind_one : (front : List TokenRow) (row : TokenRow) (more : List TokenRow) → (front ++ row ∷ []) ++ more ≡ front ++ row ∷ more
+pub behind_one : (front : List TokenRow) (row : TokenRow) (more : List TokenRow) → (front ++ row ∷ []) ++ more ≡ front ++ row ∷ more
 behind_one front row more = append_assoc front (row ∷ []) more
 
 -- the last of the rows

@@ -29,7 +29,7 @@ pub begins_no_directive : {led : Bool} {tokens : List Token} → (BeginsDirectiv
 begins_no_directive none is = none (record { text = is.text; others = is.others; is = is.is })
 
 -- data of a type has its number
-number_is : (names : Names) (rtype : ℕ) (rdata : Data) (tokens left : List Token) → ScansAnyData names rtype rdata tokens left
+pub number_is : (names : Names) (rtype : ℕ) (rdata : Data) (tokens left : List Token) → ScansAnyData names rtype rdata tokens left
     → number_of rdata ≡ rtype
 number_is names rtype (typed number row) tokens left scans = scans.1
 number_is names rtype (untyped unknown) tokens left scans = scans.0
@@ -63,7 +63,7 @@ pub no_owner : {names : Names} {row : TokenRow} {stated : Stated}
     → ((owner : Option (List (List ℕ))) (tokens : List Token) → HasOwner names row owner tokens → ⊥) → StatesRecord names row stated → ⊥
 no_owner {stated = stated} none is = none stated.owner is.tokens is.owner
 
-one_rest : {names : Names} {row row' : TokenRow} {owner owner' : Option (List (List ℕ))} {tokens tokens' : List Token} → row ≡ row'
+pub one_rest : {names : Names} {row row' : TokenRow} {owner owner' : Option (List (List ℕ))} {tokens tokens' : List Token} → row ≡ row'
     → HasOwner names row owner tokens → HasOwner names row' owner' tokens' → tokens ≡ tokens'
 one_rest same last last = ap (λ (r : TokenRow). r.tokens) same
 one_rest same last (own also) = let bad = ap (λ (r : TokenRow). r.led) same in absurd cc
@@ -90,10 +90,16 @@ not_long {names} {rtype} {row} {tokens} {left} once scans long =
     let below = scans.short in
     omega (arith, above, below)
 
-no_any : {names : Names} {rtype : ℕ} {tokens : List Token} → SpellOne names → NoAnyDataScans names rtype tokens → (rdata : Data)
+pub no_any : {names : Names} {rtype : ℕ} {tokens : List Token} → SpellOne names → NoAnyDataScans names rtype tokens → (rdata : Data)
     (left : List Token) → ScansAnyData names rtype rdata tokens left → ⊥
 no_any {names} {rtype} once none (typed number row) left scans = none (λ unmarked long. not_long once scans.2 long) (typed number row) left scans
 no_any once none (untyped unknown) left scans = none (λ unmarked long. unmarked scans.1 scans.2) (untyped unknown) left scans
+
+-- data that tokens stand behind ends no row
+pub none_whole : {names : Names} (rtype : ℕ) (tokens : List Token) {left : List Token} (rdata : Data) → SpellOne names
+    → ScansAnyData names rtype rdata tokens left → left ≢ [] → (other : Data) → ScansAnyData names rtype other tokens [] → ⊥
+none_whole {names} rtype tokens {left} rdata once scans some other whole =
+    some (any_one names (data_scanned_once names) rtype rdata other tokens left [] once scans whole).1
 
 -- the data tokens of a record, behind an owner and a head that were read
 module _ {names later : Names} {row : TokenRow} {owner : Option (List (List ℕ))} {ttl class : Option ℕ} {rtype : ℕ}
@@ -112,6 +118,9 @@ module _ {names later : Names} {row : TokenRow} {owner : Option (List (List ℕ)
 
   pub no_data : NoAnyDataScans later rtype behind → ⊥
   no_data none = no_any once_later none stated.rdata [] there
+
+  pub no_text : ((rdata : Data) → ScansAnyData later rtype rdata behind [] → ⊥) → ⊥
+  no_text none = none stated.rdata there
 
   pub more_left : (rdata : Data) (left : List Token) → ScansAnyData later rtype rdata behind left → left ≢ [] → ⊥
   more_left rdata left scans some =
@@ -160,3 +169,7 @@ module _ {names : Names} {row : TokenRow} (bare : IsDirective row → ⊥) where
     pub not_all : {statement : Statement} → SpellOne names → (rdata : Data) (left : List Token) → ScansAnyData last' rtype rdata behind left
         → left ≢ [] → Says names row statement → ⊥
     not_all once rdata left scans some says = no_record bare (λ stated is. more_left once has head (same_on same on) is rdata left scans some) says
+
+    pub not_texted : {statement : Statement} → SpellOne names → ((rdata : Data) → ScansAnyData last' rtype rdata behind [] → ⊥)
+        → Says names row statement → ⊥
+    not_texted once none says = no_record bare (λ stated is. no_text once has head (same_on same on) is none) says

@@ -1,9 +1,10 @@
 -- What a call gives that writes records behind octets.
-use Rattle.std.specs.Prelude.{◌≡◌, ℕ, List, ◌++◌, Option, Some, None, Result, Ok, Err, String, string_bytes}
+use Rattle.std.specs.Prelude.{◌≡◌, ◌<◌, ◌^◌, ℕ, List, ◌++◌, length, Option, Some, None, Result, Ok, Err, String, string_bytes}
 use Rattle.std.specs.Global.{Global}
+use Rattle.dns_label.specs.Name.{IsName}
 use Rattle.dns_header.specs.Head.{record_octets}
 use Rattle.dns_header.specs.Record.{RecordOf}
-use Rattle.dns_rdata.specs.Data.{Data, number_of}
+use Rattle.dns_rdata.specs.Data.{Data, is_untyped, number_of}
 use Rattle.dns_rdata.specs.DataOctets.{data_octets}
 use Rattle.dns_row_scanner.specs.declared.entry_error.EntryError.{EntryError}
 use Rattle.dns_zonefile.specs.Entry.{Entry}
@@ -17,11 +18,19 @@ use Rattle.dns_zonefile.specs.declared.error.Error.{Error}
 abbrev pub octets_of : RecordOf (List (List ℕ)) Data → List ℕ
 octets_of rr = record_octets rr.owner (number_of rr.rdata) rr.class rr.ttl (data_octets rr.rdata)
 
--- What is given is handed on so, by the octets before it and behind it: the octets of a record stand behind those before. Nothing else
--- changes them.
+-- Octets hold the parts of a record: its owner is a name, and each number and the length of its data fit (RFC 1035 3.2.1).
+pub record IsHeld (rr : RecordOf (List (List ℕ)) Data) : Type 0 where
+  pub owner : IsName rr.owner
+  pub rtype : number_of rr.rdata < 2 ^ 16
+  pub class : rr.class < 2 ^ 16
+  pub ttl : rr.ttl < 2 ^ 32
+  pub rdata : length (data_octets rr.rdata) < 2 ^ 16
+
+-- What is given is handed on so, by the octets before it and behind it: the octets of a record, which hold its parts, stand behind
+-- those before. Nothing else changes them.
 pub data HandsOn (old : List ℕ) : Result (Option Entry) EntryError → Result (Option ComposedEntry) EntryError → List ℕ → Type 0 where
-  resource : {rr : RecordOf (List (List ℕ)) Data} {new : List ℕ} → new ≡ old ++ octets_of rr
-      → HandsOn old (Ok (Some (Resource rr))) (Ok (Some composed.Record)) new
+  resource : {rr : RecordOf (List (List ℕ)) Data} {new : List ℕ} → IsHeld rr → new ≡ old ++ octets_of rr
+      → HandsOn old (Ok (Some (Resource rr))) (Ok (Some (composed.Record (is_untyped rr.rdata)))) new
   include : {path : String Global} {origin : Option (List (List ℕ))}
       → HandsOn old (Ok (Some (Include (string_bytes path) origin))) (Ok (Some (composed.Include path origin))) old
   ended : HandsOn old (Ok None) (Ok None) old

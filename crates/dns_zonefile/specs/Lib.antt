@@ -9,3 +9,4 @@ pub mod Reader
 pub mod ReaderSeen
 pub mod RowRead
 pub mod Composed
+pub mod ComposedRow

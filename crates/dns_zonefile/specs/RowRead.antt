@@ -1,39 +1,41 @@
 -- What one row gives a reader. Only contracts inside the crate speak of it.
-use Rattle.std.specs.Prelude.{◌≡◌, ◌<◌, true, ℕ, List, [], ◌∷◌, Option, Some, None}
+use Rattle.std.specs.Prelude.{◌≡◌, ◌≢◌, ◌<◌, true, ℕ, List, [], ◌∷◌, Option, Some, None, Result, Ok, Err}
 use Rattle.dns_text.specs.Tokens.{is_end}
-use Rattle.dns_header.specs.Record.{RecordOf}
-use Rattle.dns_header.specs.Written.{Written, written_of}
-use Rattle.dns_rdata.specs.Data.{Data, number_of, parts_of}
+use Rattle.dns_row_scanner.specs.declared.entry_error.EntryError.{EntryError}
 use Rattle.dns_zonefile.specs.Entry.{Entry}
-use Rattle.dns_zonefile.specs.Reader.{AreDirectives, GoesOver, Reader, left_of}
-use Rattle.dns_zonefile.specs.Seen.{entry_of, record_of}
-use Rattle.dns_zonefile.specs.declared.entry.Entry as found
-use Rattle.dns_zonefile.specs.declared.entry.Entry.TheVariants as entries
+use Rattle.dns_zonefile.specs.Entry.Entry.{Directive}
+use Rattle.dns_zonefile.specs.Reader.{AreDirectives, Gives, GoesOver, Reader, left_of}
 use Rattle.dns_zonefile.specs.declared.zonefile.read.RowRead.{RowRead}
 use Rattle.dns_zonefile.specs.declared.zonefile.read.RowRead.TheVariants.{Passed, Found, Ended}
 
+-- how an entry is given, by the octets before it and after it
+abbrev pub Form : Type 0 → Type 1
+Form Given = List ℕ → Entry → Given → List ℕ → Type 0
+
+-- a directive gives nothing and changes no octets; another entry is given
+abbrev pub IsGiven : {Given : Type 0} → Form Given → List ℕ → Entry → Option Given → List ℕ → Type 0
+IsGiven gives old entry None new = (entry ≡ Directive) × (new ≡ old)
+IsGiven gives old entry (Some given) new = (entry ≢ Directive) × gives old entry given new
+
 -- nothing, where it has no tokens, or is a directive; a record or an include; or the end, where there is no row
-abbrev pub ReadsRow : {N : Type 0} → (N → List (List ℕ)) → Reader → RowRead N → Reader → Type 0
-ReadsRow name old Passed new = (entries : List Entry) × AreDirectives entries × GoesOver old entries new × (old.place < new.place)
-ReadsRow name old (Found entry) new = GoesOver old (entry_of name (Some entry) ∷ []) new
-ReadsRow name old Ended new = (is_end (left_of old) ≡ true) × (new ≡ old)
+abbrev pub ReadsRow : {Given : Type 0} → Form Given → Reader → List ℕ → RowRead Given → Reader → List ℕ → Type 0
+ReadsRow gives old before Passed new after =
+    (entries : List Entry) × AreDirectives entries × GoesOver old entries new × (old.place < new.place) × (after ≡ before)
+ReadsRow gives old before (Found given) new after =
+    (entry : Entry) × (entry ≢ Directive) × GoesOver old (entry ∷ []) new × gives before entry given after
+ReadsRow gives old before Ended new after = (is_end (left_of old) ≡ true) × (new ≡ old) × (after ≡ before)
 
--- a record with the parts of its data
-abbrev pub as_written : RecordOf (List (List ℕ)) Data → Written
-as_written rr = written_of (λ labels. labels) number_of parts_of rr
+-- what a reader gives is handed on in a form
+pub data IsInForm {Given : Type 0} (gives : Form Given) (old : List ℕ) : Result (Option Entry) EntryError → Result (Option Given) EntryError
+    → List ℕ → Type 0 where
+  found : {entry : Entry} {given : Given} {new : List ℕ} → gives old entry given new
+      → IsInForm gives old (Ok (Some entry)) (Ok (Some given)) new
+  ended : IsInForm gives old (Ok None) (Ok None) old
+  refused : {error : EntryError} → IsInForm gives old (Err error) (Err error) old
 
--- how a record changes octets
-abbrev pub Takes : Type 1
-Takes = Written → List ℕ → List ℕ → Type 0
-
--- the octets before an entry and behind it: a record is taken, and nothing else changes them
-abbrev pub IsTaken : {N : Type 0} → Takes → (N → List (List ℕ)) → Option (found.Entry N) → List ℕ → List ℕ → Type 0
-IsTaken takes name None old new = new ≡ old
-IsTaken takes name (Some (entries.Record rr)) old new = takes (as_written (record_of name rr)) old new
-IsTaken takes name (Some (entries.Include path origin)) old new = new ≡ old
-
--- the entry that a row is, if it is a record or an include
-abbrev pub found_in : {N : Type 0} → RowRead N → Option (found.Entry N)
-found_in Passed = None
-found_in (Found entry) = Some entry
-found_in Ended = None
+-- a reader gives it, and it is handed on so
+pub record GivesInForm {Given : Type 0} (gives : Form Given) (old : Reader) (before : List ℕ) (result : Result (Option Given) EntryError)
+    (new : Reader) (after : List ℕ) : Type 0 where
+  pub given : Result (Option Entry) EntryError
+  pub is : Gives old given new
+  pub so : IsInForm gives before given result after

@@ -1,5 +1,5 @@
 -- What a row of a zone file says in itself (RFC 1035 5.1, RFC 2308 4): of the rows before it, only the origin of names counts.
-use Rattle.std.specs.Prelude.{◌≡◌, ◌≤◌, ◌^◌, ℕ, List, [], ◌∷◌, Option, Some, None, true, false, map, length, codes, ◌++◌, ⊤}
+use Rattle.std.specs.Prelude.{◌≡◌, ◌^◌, ℕ, List, [], ◌∷◌, Option, Some, None, true, false, map, codes, ◌++◌}
 use Rattle.std.specs.List.{list_all}
 use Rattle.std.specs.Char.{is_ascii_digit, to_ascii_lowercase}
 use Rattle.std.specs.Str.{IsAscii}
@@ -7,7 +7,6 @@ use Rattle.dns_values.specs.Mnemonic.{class_read, number_spelled, type_read}
 use Rattle.dns_scan.specs.Token.{Token, IsWord, SpellsOctets, unquoted}
 use Rattle.dns_text.specs.Rows.{TokenRow}
 use Rattle.dns_rdata.specs.Data.{Data, ScansAnyData, number_of}
-use Rattle.dns_rdata.specs.DataOctets.{data_octets}
 
 -- a record as a row states it: its owner, TTL and class, each if the row has it, and its data
 pub record Stated : Type 0 where
@@ -24,13 +23,6 @@ pub data Statement : Type 0 where
   -- `$INCLUDE`: the path of another file, and the origin for it, if one is stated
   NameFile : List ℕ → Option (List (List ℕ)) → Statement
   StateRecord : Stated → Statement
-
--- the data of a record that is stated has at most 65,535 octets (RFC 1035 3.2.1)
-abbrev pub IsShort : Statement → Type 0
-IsShort (SetOrigin name) = ⊤
-IsShort (SetTtl seconds) = ⊤
-IsShort (NameFile path origin) = ⊤
-IsShort (StateRecord stated) = length (data_octets stated.rdata) ≤ 65535
 
 -- which names texts spell
 abbrev pub Names : Type 1

@@ -1,15 +1,13 @@
 //! What the rows of a zone file set for the rows behind them (RFC 1035 5.1, RFC 2308 4).
-ghost use Rattle.std.specs.Prelude.{◌≡◌, List, ℕ, Some, None, true, false, IfOk, IfErr, OnErr, option_map, unwrap_or};
+ghost use Rattle.std.specs.Prelude.{◌≡◌, ◌<◌, ◌^◌, ◌++◌, List, ℕ, Some, None, true, false, IfOk, IfErr, OnOk, OnErr, option_map, unwrap_or};
 ghost use Rattle.std.specs.Option.{option_or};
+ghost use Rattle.dns_label.specs.Name.{IsName, wire};
 ghost use Rattle.dns_row_scanner.specs.EntryError.{is_memory};
 ghost use Rattle.dns_zonefile.specs.Entry as spec;
 ghost use Rattle.dns_zonefile.specs.Entry.{Enters, at_start};
-ghost use Rattle.dns_zonefile.specs.RowRead.{IsTaken};
 ghost use Rattle.dns_zonefile.specs.Seen.{context_of, entry_of, stated_of, statement_of};
-ghost use Rattle.dns_zonefile.specs.Statement.{IsShort};
 ghost use Rattle.dns_zonefile.specs.Statement.Statement.{SetOrigin, StateRecord};
 
-use crate::record_sink::RecordSink;
 use crate::{Entry, Stated, Statement};
 use dns_header::Record;
 use dns_name::{Class, Name, ToName, Ttl};
@@ -29,10 +27,9 @@ pub(crate) struct Context {
     pub(crate) class: Option<Class>,
 }
 
-/// What stands before the data of a record.
-#[derive(Drop)]
-pub(crate) struct EnteredHead<N: TextName> {
-    pub(crate) owner: N,
+/// What the context makes of a TTL and a class that a record's row states.
+#[derive(Clone, Copy)]
+pub(crate) struct KnownHead {
     pub(crate) class: Class,
     pub(crate) ttl: Ttl,
     /// The last TTL that a record stated, this one counted.
@@ -53,24 +50,20 @@ impl Context {
         }
     }
 
-    /// Returns the entry that a statement makes, and takes over what it sets. A directive is None. The sink takes a record first.
+    /// Returns the entry that a statement makes, and takes over what it sets. A directive is None.
     ///
     /// Fails with an error other than `OutOfMemory` only if it makes none. Nothing is taken over then.
     #[tactic(auto, using(crate::proofs::Entering::statement_enters, crate::proofs::Entering::ttl_enters, crate::proofs::Entering::file_enters))]
-    pub(crate) fn enter<N: TextName, S: RecordSink>(
+    pub(crate) fn enter<N: TextName>(
         &mut self,
         alloc: Global,
         statement: Statement<Vec<u8>, N>,
-        sink: &mut S,
     ) -> Result<Option<Entry<N>>, EntryError>
-        requires { IsShort (statement_of N.name statement) }
         ensures ok { IfOk result (λ entry. Enters (context_of self.old) (statement_of N.name statement) (entry_of N.name entry)
             (context_of self.new)) }
         ensures err { IfErr result (λ error. is_memory error ≡ false → (entry : spec.Entry) (after : spec.Context)
             → Enters (context_of self.old) (statement_of N.name statement) entry after → ⊥) }
         ensures same { OnErr result (self.new ≡ self.old) }
-        ensures taken { IfOk result (λ entry. IsTaken S.takes N.name entry (S.octets sink.old) (S.octets sink.new)) }
-        ensures kept { OnErr result (S.octets sink.new ≡ S.octets sink.old) }
     {
         match statement {
             Statement::SetOrigin(name) => self.enter_origin(alloc, &name),
@@ -79,7 +72,7 @@ impl Context {
                 Ok(None)
             }
             Statement::NameFile(path, origin) => Ok(Some(Entry::Include { path, origin })),
-            Statement::StateRecord(stated) => self.enter_record(alloc, stated, sink),
+            Statement::StateRecord(stated) => self.enter_record(alloc, stated),
         }
     }
 
@@ -100,21 +93,17 @@ impl Context {
     }
 
     /// Returns the record that a row states, which the sink takes, and takes over what it sets.
-    #[tactic(auto, using(crate::proofs::Entering::record_taken_over, crate::proofs::Entering::no_record_enters))]
-    fn enter_record<N: TextName, S: RecordSink>(
+    #[tactic(auto, using(crate::proofs::Entering::record_taken_over, crate::proofs::Entering::no_class_enters, crate::proofs::Entering::no_owner_enters))]
+    fn enter_record<N: TextName>(
         &mut self,
         alloc: Global,
         stated: Stated<Vec<u8>, N>,
-        sink: &mut S,
     ) -> Result<Option<Entry<N>>, EntryError>
-        requires { IsShort (StateRecord (stated_of N.name stated)) }
         ensures ok { IfOk result (λ entry. Enters (context_of self.old) (StateRecord (stated_of N.name stated)) (entry_of N.name entry)
             (context_of self.new)) }
         ensures err { IfErr result (λ error. is_memory error ≡ false → (entry : spec.Entry) (after : spec.Context)
             → Enters (context_of self.old) (StateRecord (stated_of N.name stated)) entry after → ⊥) }
         ensures same { OnErr result (self.new ≡ self.old) }
-        ensures taken { IfOk result (λ entry. IsTaken S.takes N.name entry (S.octets sink.old) (S.octets sink.new)) }
-        ensures kept { OnErr result (S.octets sink.new ≡ S.octets sink.old) }
     {
         let Stated {
             owner,
@@ -122,70 +111,82 @@ impl Context {
             class,
             rdata,
         } = stated;
-        let head = match self.head_of(alloc, owner, ttl, class) {
-            Ok(head) => head,
-            Err(error) => return Err(error),
-        };
-        let EnteredHead {
-            owner,
-            class,
-            ttl,
-            last_ttl,
-        } = head;
-        let last_owner = to_inline_name(&owner);
-        let resource = Record::new(owner, class, ttl, rdata);
-        match sink.take(&resource) {
-            Ok(()) => {}
-            Err(error) => return Err(error),
-        }
-        self.take_over(last_owner, last_ttl, class);
-        Ok(Some(Entry::Record(resource)))
-    }
-
-    /// Takes over what a record sets.
-    fn take_over(&mut self, owner: InlineName, last_ttl: Ttl, class: Class)
-        ensures { context_of self.new ≡ record (context_of self.old) { owner = Some owner; last_ttl = last_ttl; class = Some class } }
-    {
-        self.owner = Some(owner);
-        self.last_ttl = last_ttl;
-        self.class = Some(class);
-    }
-
-    /// Returns the owner, class and TTL of the record whose row states these, each if it has it.
-    fn head_of<N: TextName>(
-        &self,
-        alloc: Global,
-        owner: Option<N>,
-        ttl: Option<Ttl>,
-        class: Option<Class>,
-    ) -> Result<EnteredHead<N>, EntryError>
-        ensures owner { IfOk result (λ head. option_or (option_map N.name owner) self.now.owner ≡ Some (N.name head.owner)) }
-        ensures class { IfOk result (λ head. (option_or class self.now.class ≡ Some head.class)
-            × (option_or self.now.class class ≡ Some head.class)) }
-        ensures ttl { IfOk result (λ head. head.ttl ≡ unwrap_or (option_or ttl self.now.default_ttl) self.now.last_ttl) }
-        ensures last_ttl { IfOk result (λ head. head.last_ttl ≡ unwrap_or ttl self.now.last_ttl) }
-        ensures err { IfErr result (λ error. is_memory error ≡ false → (name : List (List ℕ)) (number : ℕ)
-            → option_or (option_map N.name owner) self.now.owner ≡ Some name
-            → option_or class self.now.class ≡ Some number → option_or self.now.class class ≡ Some number → ⊥) }
-    {
-        let class = match agreed_class(self.class, class) {
-            Ok(class) => class,
+        let known = match self.head_of(ttl, class) {
+            Ok(known) => known,
             Err(error) => return Err(error),
         };
         let owner = match self.owner_of(alloc, owner) {
             Ok(owner) => owner,
             Err(error) => return Err(error),
         };
+        let last_owner = to_inline_name(&owner);
+        let resource = Record::new(owner, known.class, known.ttl, rdata);
+        self.take_over(Some(last_owner), known.last_ttl, known.class);
+        Ok(Some(Entry::Record(resource)))
+    }
+
+    /// Takes over what a record sets. A row that states no owner has the last one.
+    pub(crate) fn take_over(&mut self, owner: Option<InlineName>, last_ttl: Ttl, class: Class)
+        ensures { context_of self.new ≡ record (context_of self.old) {
+          owner = option_or owner self.old.owner;
+          last_ttl = last_ttl;
+          class = Some class;
+        } }
+    {
+        if let Some(owner) = owner {
+            self.owner = Some(owner);
+        }
+        self.last_ttl = last_ttl;
+        self.class = Some(class);
+    }
+
+    /// Returns the class and TTL of the record whose row states these, each if it has it.
+    pub(crate) fn head_of(
+        &self,
+        ttl: Option<Ttl>,
+        class: Option<Class>,
+    ) -> Result<KnownHead, EntryError>
+        ensures class { IfOk result (λ head. (option_or class self.now.class ≡ Some head.class)
+            × (option_or self.now.class class ≡ Some head.class)) }
+        ensures ttl { IfOk result (λ head. head.ttl ≡ unwrap_or (option_or ttl self.now.default_ttl) self.now.last_ttl) }
+        ensures last_ttl { IfOk result (λ head. head.last_ttl ≡ unwrap_or ttl self.now.last_ttl) }
+        ensures fits { IfOk result (λ head. (head.class < 2 ^ 16) × (head.ttl < 2 ^ 32)) }
+        ensures err { IfErr result (λ error. (is_memory error ≡ false) × ((number : ℕ) → option_or class self.now.class ≡ Some number
+            → option_or self.now.class class ≡ Some number → ⊥)) }
+    {
+        let class = match agreed_class(self.class, class) {
+            Ok(class) => class,
+            Err(error) => return Err(error),
+        };
         let (ttl, last_ttl) = match ttl {
             Some(stated) => (stated, stated),
             None => (self.default_ttl.unwrap_or(self.last_ttl), self.last_ttl),
         };
-        Ok(EnteredHead {
-            owner,
+        Ok(KnownHead {
             class,
             ttl,
             last_ttl,
         })
+    }
+
+    /// Appends the octets of the owner of a record whose row states this one, or none and has the last one.
+    pub(crate) fn append_owner(
+        &self,
+        stated: &Option<InlineName>,
+        octets: &mut Vec<u8>,
+    ) -> Result<(), EntryError>
+        ensures ok { OnOk result ((name : List (List ℕ)) × (option_or stated.now self.now.owner ≡ Some name) × IsName name
+            × (octets.new.items ≡ octets.old.items ++ wire name)) }
+        ensures err { IfErr result (λ error. is_memory error ≡ false → option_or stated.now self.now.owner ≡ None) }
+        ensures same { OnErr result (octets.new.items ≡ octets.old.items) }
+    {
+        match stated {
+            Some(owner) => append_name(owner, octets),
+            None => match &self.owner {
+                Some(owner) => append_name(owner, octets),
+                None => Err(EntryError::Custom("no owner stated before")),
+            },
+        }
     }
 
     /// Returns the owner of a record whose row states this one, or none and has the last one.
@@ -208,6 +209,18 @@ impl Context {
             return Err(EntryError::Custom("no owner stated before"));
         };
         Ok(N::of_name(alloc, owner)?)
+    }
+}
+
+/// Appends the octets of a name. Fails with `OutOfMemory`, and changes nothing then.
+fn append_name(name: &InlineName, octets: &mut Vec<u8>) -> Result<(), EntryError>
+    ensures ok { OnOk result (IsName name.now × (octets.new.items ≡ octets.old.items ++ wire name.now)) }
+    ensures err { IfErr result (λ error. is_memory error ≡ true) }
+    ensures same { OnErr result (octets.new.items ≡ octets.old.items) }
+{
+    match octets.extend_from_slice(name.as_slice()) {
+        Ok(()) => Ok(()),
+        Err(_) => Err(EntryError::OutOfMemory),
     }
 }
 

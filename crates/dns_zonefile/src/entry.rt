@@ -28,7 +28,10 @@ pub enum Entry<N: ToName = ScannedName> {
 #[derive(Debug, Drop)]
 pub enum ComposedEntry {
     /// A record, whose octets are the last of the vector.
-    Record,
+    Record {
+        /// Whether its data is opaque: the text has it as `\#`, or the type has no fields (RFC 3597).
+        untyped: bool,
+    },
     /// `$INCLUDE`, which names another file.
     Include {
         /// The path of the file.

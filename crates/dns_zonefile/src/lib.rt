@@ -8,9 +8,9 @@
 
 mod context;
 mod entry;
+mod entry_form;
 mod error;
 pub mod laws;
-mod record_sink;
 mod statement;
 mod zonefile;
 

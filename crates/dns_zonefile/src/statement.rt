@@ -1,6 +1,7 @@
 //! What a row says in itself, before the rows before it count (RFC 1035 5.1).
-ghost use Rattle.std.specs.Prelude.{◌≡◌, Bool, false, IfOk, IfErr};
+ghost use Rattle.std.specs.Prelude.{◌≡◌, Bool, false, IfOk, IfErr, IsTrue};
 ghost use Rattle.dns_fields.specs.SpelledNames.{SpellOne};
+ghost use Rattle.dns_zonefile.specs.Directive.{BeginsDirective};
 ghost use Rattle.dns_zonefile.specs.Statement as spec;
 ghost use Rattle.dns_zonefile.specs.Statement.{IsDirective, Says};
 ghost use Rattle.dns_zonefile.specs.Seen.{row_of, statement_of};
@@ -9,13 +10,14 @@ mod directive;
 mod head;
 mod owner;
 
-use directive::{is_directive, scan_directive};
+use directive::is_directive;
+pub(crate) use directive::scan_directive;
 use dns_name::{Class, Octets, ToName, Ttl};
 use dns_rdata::ZoneRecordData;
 use dns_row_scanner::EntryScanner;
 use dns_text::{Scanner, ScannerError};
-use head::scan_head;
-use owner::scan_owner;
+pub(crate) use head::scan_head;
+pub(crate) use owner::scan_owner;
 
 /// A record as a row states it (RFC 1035 5.1).
 #[derive(Drop)]
@@ -46,7 +48,7 @@ pub enum Statement<Octs: Octets, N: ToName> {
 /// Reads what a row says, which white space leads or not and whose tokens these are.
 ///
 /// Fails with an error other than `short_buf` only if it says nothing. By condition a text spells one name at most.
-#[tactic(auto, using(crate::proofs::Records::says_direction, crate::proofs::Records::no_direction, crate::proofs::Records::led_no_directive, crate::proofs::Records::begins_no_directive))]
+#[tactic(auto, using(crate::proofs::Records::says_direction, crate::proofs::Records::no_direction))]
 pub fn scan_statement<S: EntryScanner>(
     led: bool,
     scanner: &mut S,
@@ -59,13 +61,24 @@ where
     ensures err { IfErr result (λ error. S.Error.is_short error ≡ false → (statement : spec.Statement)
         → Says (S.names scanner.old) (row_of led (S.tokens scanner.old)) statement → ⊥) }
 {
-    if led {
-        return scan_record(led, scanner);
-    }
-    if is_directive(scanner) {
+    if begins_directive(led, scanner) {
         return scan_directive(scanner);
     }
     scan_record(led, scanner)
+}
+
+/// Returns whether the row is a directive. One that white space leads is none.
+#[tactic(auto, using(crate::proofs::Records::led_no_directive, crate::proofs::Records::begins_no_directive))]
+pub(crate) fn begins_directive<S: EntryScanner>(led: bool, scanner: &S) -> bool
+where
+    S::Error: Drop,
+    ensures yes { IsTrue result → (led ≡ false) × BeginsDirective (S.tokens scanner.now) }
+    ensures no { result ≡ false → IsDirective (row_of led (S.tokens scanner.now)) → ⊥ }
+{
+    if led {
+        return false;
+    }
+    is_directive(scanner)
 }
 
 /// Reads the record that a row states, which is no directive.

@@ -84,7 +84,7 @@ fn appends_one(
     out: &mut Answer,
 ) -> Result<bool, RowError> {
     match zonefile.next_octets(octets) {
-        Ok(Some(ComposedEntry::Record)) => Ok(true),
+        Ok(Some(ComposedEntry::Record { .. })) => Ok(true),
         Ok(Some(ComposedEntry::Include { path, origin })) => {
             show_include(alloc, path.as_str(), origin.as_ref(), out)?;
             Ok(true)

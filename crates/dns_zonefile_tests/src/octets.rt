@@ -33,7 +33,7 @@ fn octets(rt: HostRuntime) -> Result<(), Fail> {
     let mut octets = Vec::from_slice(alloc, b"hi")?;
     for _ in 0..3u32 {
         let entry = zonefile.next_octets(&mut octets)?;
-        assert!(rt; matches!(entry, Some(ComposedEntry::Record)));
+        assert!(rt; matches!(entry, Some(ComposedEntry::Record { .. })));
     }
     assert!(rt; octets.as_slice() == expected(alloc)?.as_slice());
     let Some(ComposedEntry::Include { path, origin }) = zonefile.next_octets(&mut octets)? else {

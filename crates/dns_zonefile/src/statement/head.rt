@@ -1,5 +1,5 @@
 //! What stands in a record's row between its owner and its data: a TTL and a class, if they are stated, and a type.
-ghost use Rattle.std.specs.Prelude.{◌≡◌, ◌^◌, List, ℕ, Option, Some, None, false, true, IfOk, IfErr, IfSome, IfNone, option_copied};
+ghost use Rattle.std.specs.Prelude.{◌≡◌, ◌<◌, ◌^◌, List, ℕ, Option, Some, None, false, true, IfOk, IfErr, IfSome, IfNone, option_copied};
 ghost use Rattle.std.specs.List.{list_all};
 ghost use Rattle.std.specs.Char.{is_ascii_digit};
 ghost use Rattle.dns_values.specs.Mnemonic.{number_spelled};
@@ -31,6 +31,7 @@ pub(crate) enum HeadWord {
 #[tactic(auto, using(crate::proofs::Heads::no_word, crate::proofs::Heads::with_type, crate::proofs::Heads::with_ttl, crate::proofs::Heads::with_class, crate::proofs::Heads::behind_ttl, crate::proofs::Heads::behind_class))]
 pub(crate) fn scan_head<S: EntryScanner>(scanner: &mut S) -> Result<RecordHead, S::Error>
     ensures ok { IfOk result (λ head. HasHead (S.tokens scanner.old) head.ttl head.class head.rtype (S.tokens scanner.new)) }
+    ensures fits { IfOk result (λ head. head.rtype < 2 ^ 16) }
     ensures err { IfErr result (λ error. S.Error.is_short error ≡ false → (ttl class : Option ℕ) (rtype : ℕ) (left : List Token)
         → HasHead (S.tokens scanner.old) ttl class rtype left → ⊥) }
     ensures names { SameNames (S.names scanner.old) (S.names scanner.new) }

@@ -1,0 +1,2 @@
+mod InFull
+pub mod Appending

@@ -1,0 +1,175 @@
+//! Data of any type that is scanned into octets.
+ghost use Rattle.std.specs.Prelude.{◌≡◌, ◌∷◌, [], ℕ, Some, None, false, true, IfErr, IfOk, IsTrue, OnErr, OnOk};
+ghost use Rattle.dns_fields.specs.Fields.{Compressible as one_name, kinds_of};
+ghost use Rattle.dns_fields.specs.Scanned.{NoDataScans};
+ghost use Rattle.dns_rdata.specs.Data.{IsUnmarked, NoAnyDataScans};
+ghost use Rattle.dns_scan.specs.Token.{SameNames, marker};
+ghost use Rattle.dns_scan_data.specs.Appended.{AppendsData, AppendsTyped, GoesOn};
+
+use crate::ScanRowInto;
+use dns_name::{LongRecordData, Octets, Rtype};
+use dns_rdata::rows::{
+    ARow, AaaaRow, CaaRow, DnskeyRow, DsRow, HinfoRow, MinfoRow, MxRow, NameRow, RpRow, SoaRow,
+    SrvRow, TxtRow,
+};
+use dns_text::{Scanner, ScannerError, scan_unknown_octets};
+
+/// Scans data of the type from the first tokens, takes these, and appends the data's octets with every name written out
+/// (RFC 1035 5.1). Returns whether the data is opaque.
+///
+/// If the first token is the unquoted `\#`, this is opaque data of any type (RFC 3597 5), which takes all tokens and need not
+/// have the fields of the type; a type without fields has this form alone. Tokens after the last field stay.
+///
+/// Fails with an error other than `short_buf` only if the tokens do not begin with data of the type of at most 65,535 octets.
+/// Nothing is appended then.
+pub fn scan_data_into<S: Scanner>(
+    rtype: Rtype,
+    scanner: &mut S,
+    octets: &mut Vec<u8>,
+) -> Result<bool, S::Error>
+where
+    S::Name: Drop,
+    S::Error: Drop,
+    ensures ok { IfOk result (λ untyped. AppendsData (S.names scanner.old) rtype (S.tokens scanner.old) (S.tokens scanner.new)
+        octets.old.items octets.new.items untyped) }
+    ensures err { IfErr result (λ error. S.Error.is_short error ≡ false
+        → NoAnyDataScans (S.names scanner.old) rtype (S.tokens scanner.old)) }
+    ensures same { OnErr result (octets.new.items ≡ octets.old.items) }
+    ensures names { SameNames (S.names scanner.old) (S.names scanner.new) }
+{
+    match scanner.scan_opt_unknown_marker() {
+        Ok(true) => scan_opaque_into(rtype, scanner, octets),
+        Ok(false) => scan_typed_into(rtype, scanner, octets),
+        Err(error) => Err(error),
+    }
+}
+
+/// Scans opaque data of the type after its marker.
+fn scan_opaque_into<S: Scanner>(
+    rtype: Rtype,
+    scanner: &mut S,
+    octets: &mut Vec<u8>,
+) -> Result<bool, S::Error>
+    ensures ok { IfOk result (λ untyped. AppendsData (S.names scanner.old) rtype (marker ∷ S.tokens scanner.old)
+        (S.tokens scanner.new) octets.old.items octets.new.items untyped) }
+    ensures err { IfErr result (λ error. S.Error.is_short error ≡ false
+        → NoAnyDataScans (S.names scanner.old) rtype (marker ∷ S.tokens scanner.old)) }
+    ensures same { OnErr result (octets.new.items ≡ octets.old.items) }
+    ensures names { SameNames (S.names scanner.old) (S.names scanner.new) }
+{
+    let opaque = match scan_unknown_octets(scanner) {
+        Ok(opaque) => opaque,
+        Err(error) => return Err(error),
+    };
+    match octets.extend_from_slice(opaque.octets()) {
+        Ok(()) => Ok(true),
+        Err(_) => Err(S::Error::short_buf()),
+    }
+}
+
+/// Scans the fields of data of the type.
+fn scan_typed_into<S: Scanner>(
+    rtype: Rtype,
+    scanner: &mut S,
+    octets: &mut Vec<u8>,
+) -> Result<bool, S::Error>
+where
+    S::Name: Drop,
+    S::Error: Drop,
+    requires { IsUnmarked (S.tokens scanner.old) }
+    ensures ok { IfOk result (λ untyped. AppendsData (S.names scanner.old) rtype (S.tokens scanner.old) (S.tokens scanner.new)
+        octets.old.items octets.new.items untyped) }
+    ensures err { IfErr result (λ error. S.Error.is_short error ≡ false
+        → NoAnyDataScans (S.names scanner.old) rtype (S.tokens scanner.old)) }
+    ensures same { OnErr result (octets.new.items ≡ octets.old.items) }
+    ensures names { SameNames (S.names scanner.old) (S.names scanner.new) }
+{
+    match scan_row_of_type(rtype, scanner, octets) {
+        Ok(()) => Ok(false),
+        Err(error) => Err(error),
+    }
+}
+
+/// Scans the row of the type, if it has one.
+fn scan_row_of_type<S: Scanner>(
+    rtype: Rtype,
+    scanner: &mut S,
+    octets: &mut Vec<u8>,
+) -> Result<(), S::Error>
+where
+    S::Name: Drop,
+    S::Error: Drop,
+    ensures ok { OnOk result (AppendsTyped (S.names scanner.old) rtype (S.tokens scanner.old) (S.tokens scanner.new)
+        octets.old.items octets.new.items) }
+    ensures err { IfErr result (λ error. S.Error.is_short error ≡ false
+        → NoDataScans (S.names scanner.old) rtype (S.tokens scanner.old)) }
+    ensures same { OnErr result (octets.new.items ≡ octets.old.items) }
+    ensures names { SameNames (S.names scanner.old) (S.names scanner.new) }
+{
+    if is_one_name(rtype) {
+        return scan_row_into::<S, NameRow<S::Name>>(rtype, scanner, octets);
+    }
+    match rtype {
+        Rtype::A => scan_row_into::<S, ARow>(rtype, scanner, octets),
+        Rtype::SOA => scan_row_into::<S, SoaRow<S::Name>>(rtype, scanner, octets),
+        Rtype::HINFO => scan_row_into::<S, HinfoRow<S::Octets>>(rtype, scanner, octets),
+        Rtype::MINFO => scan_row_into::<S, MinfoRow<S::Name>>(rtype, scanner, octets),
+        Rtype::MX => scan_row_into::<S, MxRow<S::Name>>(rtype, scanner, octets),
+        Rtype::TXT => scan_row_into::<S, TxtRow<S::Octets>>(rtype, scanner, octets),
+        Rtype::RP => scan_row_into::<S, RpRow<S::Name>>(rtype, scanner, octets),
+        Rtype::AAAA => scan_row_into::<S, AaaaRow>(rtype, scanner, octets),
+        Rtype::SRV => scan_row_into::<S, SrvRow<S::Name>>(rtype, scanner, octets),
+        Rtype::DS => scan_row_into::<S, DsRow<S::Octets>>(rtype, scanner, octets),
+        Rtype::DNSKEY => scan_row_into::<S, DnskeyRow<S::Octets>>(rtype, scanner, octets),
+        Rtype::CAA => scan_row_into::<S, CaaRow<S::Octets>>(rtype, scanner, octets),
+        _ => Err(S::Error::custom("'\\#' expected")),
+    }
+}
+
+/// Returns whether the data of the type is one name of RFC 1035.
+fn is_one_name(rtype: Rtype) -> bool
+    ensures yes { IsTrue result → kinds_of rtype ≡ Some (one_name ∷ []) }
+    ensures no { result ≡ false → kinds_of rtype ≡ Some (one_name ∷ []) → ⊥ }
+{
+    matches!(
+        rtype,
+        Rtype::NS
+            | Rtype::MD
+            | Rtype::MF
+            | Rtype::CNAME
+            | Rtype::MB
+            | Rtype::MG
+            | Rtype::MR
+            | Rtype::PTR
+    )
+}
+
+/// Scans a row of the type whose fields have at most 65,535 octets.
+fn scan_row_into<S: Scanner, R: ScanRowInto<S>>(
+    rtype: Rtype,
+    scanner: &mut S,
+    octets: &mut Vec<u8>,
+) -> Result<(), S::Error>
+    requires { kinds_of rtype ≡ Some R.kinds }
+    ensures ok { OnOk result (AppendsTyped (S.names scanner.old) rtype (S.tokens scanner.old) (S.tokens scanner.new)
+        octets.old.items octets.new.items) }
+    ensures err { IfErr result (λ error. S.Error.is_short error ≡ false
+        → NoDataScans (S.names scanner.old) rtype (S.tokens scanner.old)) }
+    ensures same { OnErr result (octets.new.items ≡ octets.old.items) }
+    ensures names { SameNames (S.names scanner.old) (S.names scanner.new) }
+{
+    let len = octets.len();
+    match R::scan_fields_into(scanner, octets) {
+        Ok(()) => {
+            if octets.len() - len > 65535 {
+                octets.truncate(len);
+                return Err(S::Error::custom(LongRecordData.as_str()));
+            }
+            Ok(())
+        }
+        Err(error) => {
+            octets.truncate(len);
+            Err(error)
+        }
+    }
+}

@@ -1,0 +1,101 @@
+//! Fields that are scanned into octets.
+ghost use Rattle.std.specs.Prelude.{◌≡◌, false, IfErr, OnOk};
+ghost use Rattle.dns_fields.specs.Scanned.{NoFieldScans};
+ghost use Rattle.dns_scan.specs.Token.{SameNames};
+ghost use Rattle.dns_scan_data.specs.Appended.{AppendsField, GoesOn};
+
+use dns_name::{FromBuilder, ToName};
+use dns_rdata::rows::{Compressible, FieldValue, ScanField, Tag, Uncompressed};
+use dns_text::{CharStr, Scanner, ScannerError};
+use std::net::{Ipv4Addr, Ipv6Addr};
+
+/// A field that is scanned into octets.
+pub trait ScanFieldInto<S: Scanner>: FieldValue {
+    /// Scans the field, takes its tokens, and appends its octets with every name written out.
+    ///
+    /// Fails with an error other than `short_buf` only if the tokens do not begin with such a field. A part of the field may
+    /// have been appended then.
+    fn scan_field_into(scanner: &mut S, octets: &mut Vec<u8>) -> Result<(), S::Error>
+        ensures ok { OnOk result (AppendsField (S.names scanner.old) Self.kind (S.tokens scanner.old) (S.tokens scanner.new)
+            octets.old.items octets.new.items) }
+        ensures err { IfErr result (λ error. S.Error.is_short error ≡ false
+            → NoFieldScans (S.names scanner.old) Self.kind (S.tokens scanner.old)) }
+        ensures names { SameNames (S.names scanner.old) (S.names scanner.new) }
+        ensures more { GoesOn octets.old.items octets.new.items };
+}
+
+impl<S: Scanner> ScanFieldInto<S> for u8 {
+    fn scan_field_into(scanner: &mut S, octets: &mut Vec<u8>) -> Result<(), S::Error> {
+        scan_and_append::<S, u8>(scanner, octets)
+    }
+}
+
+impl<S: Scanner> ScanFieldInto<S> for u16 {
+    fn scan_field_into(scanner: &mut S, octets: &mut Vec<u8>) -> Result<(), S::Error> {
+        scan_and_append::<S, u16>(scanner, octets)
+    }
+}
+
+impl<S: Scanner> ScanFieldInto<S> for u32 {
+    fn scan_field_into(scanner: &mut S, octets: &mut Vec<u8>) -> Result<(), S::Error> {
+        scan_and_append::<S, u32>(scanner, octets)
+    }
+}
+
+impl<S: Scanner> ScanFieldInto<S> for Ipv4Addr {
+    fn scan_field_into(scanner: &mut S, octets: &mut Vec<u8>) -> Result<(), S::Error> {
+        scan_and_append::<S, Ipv4Addr>(scanner, octets)
+    }
+}
+
+impl<S: Scanner> ScanFieldInto<S> for Ipv6Addr {
+    fn scan_field_into(scanner: &mut S, octets: &mut Vec<u8>) -> Result<(), S::Error> {
+        scan_and_append::<S, Ipv6Addr>(scanner, octets)
+    }
+}
+
+impl<N: ToName + Drop, S: Scanner<Name = N>> ScanFieldInto<S> for Compressible<N> {
+    fn scan_field_into(scanner: &mut S, octets: &mut Vec<u8>) -> Result<(), S::Error> {
+        scan_and_append::<S, Compressible<N>>(scanner, octets)
+    }
+}
+
+impl<N: ToName + Drop, S: Scanner<Name = N>> ScanFieldInto<S> for Uncompressed<N> {
+    fn scan_field_into(scanner: &mut S, octets: &mut Vec<u8>) -> Result<(), S::Error> {
+        scan_and_append::<S, Uncompressed<N>>(scanner, octets)
+    }
+}
+
+impl<Octs: FromBuilder + Drop, S: Scanner<Octets = Octs>> ScanFieldInto<S> for CharStr<Octs> {
+    fn scan_field_into(scanner: &mut S, octets: &mut Vec<u8>) -> Result<(), S::Error> {
+        scan_and_append::<S, CharStr<Octs>>(scanner, octets)
+    }
+}
+
+impl<Octs: FromBuilder + Drop, S: Scanner<Octets = Octs>> ScanFieldInto<S> for Tag<Octs> {
+    fn scan_field_into(scanner: &mut S, octets: &mut Vec<u8>) -> Result<(), S::Error> {
+        scan_and_append::<S, Tag<Octs>>(scanner, octets)
+    }
+}
+
+/// Scans a field and appends its octets.
+fn scan_and_append<S: Scanner, A: ScanField<S>>(
+    scanner: &mut S,
+    octets: &mut Vec<u8>,
+) -> Result<(), S::Error>
+    ensures ok { OnOk result (AppendsField (S.names scanner.old) A.kind (S.tokens scanner.old) (S.tokens scanner.new)
+        octets.old.items octets.new.items) }
+    ensures err { IfErr result (λ error. S.Error.is_short error ≡ false
+        → NoFieldScans (S.names scanner.old) A.kind (S.tokens scanner.old)) }
+    ensures names { SameNames (S.names scanner.old) (S.names scanner.new) }
+    ensures more { GoesOn octets.old.items octets.new.items }
+{
+    let field = match A::scan_field(scanner) {
+        Ok(field) => field,
+        Err(error) => return Err(error),
+    };
+    match field.compose_field(octets) {
+        Ok(()) => Ok(()),
+        Err(_) => Err(S::Error::short_buf()),
+    }
+}

@@ -1,0 +1,12 @@
+//! Data of a record, scanned from the tokens of an entry straight into octets (RFC 1035 5.1 and 3.2.1).
+//!
+//! A part of `dns_zonefile`. A field is scanned and its octets are appended at once, so nothing holds the data as a value.
+#![tactic(auto)]
+
+mod data;
+mod field;
+mod row;
+
+pub use data::scan_data_into;
+pub use field::ScanFieldInto;
+pub use row::ScanRowInto;

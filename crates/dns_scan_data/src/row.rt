@@ -1,0 +1,89 @@
+//! Rows of fields that are scanned into octets.
+ghost use Rattle.std.specs.Prelude.{◌≡◌, false, IfErr, OnOk};
+ghost use Rattle.dns_fields.specs.Scanned.{NoRowScans};
+ghost use Rattle.dns_scan.specs.Token.{SameNames};
+ghost use Rattle.dns_scan_data.specs.Appended.{AppendsRow, GoesOn};
+
+use crate::ScanFieldInto;
+use dns_name::FromBuilder;
+use dns_rdata::rows::{Last, Rest16, Rest64, RestText, Row, ScanRow, Strings};
+use dns_text::{Scanner, ScannerError};
+
+/// A row that is scanned into octets.
+pub trait ScanRowInto<S: Scanner>: Row {
+    /// Scans the fields one after another, takes their tokens, and appends their octets with every name written out.
+    ///
+    /// Fails with an error other than `short_buf` only if the tokens do not begin with such fields. Some of them may have been
+    /// appended then.
+    fn scan_fields_into(scanner: &mut S, octets: &mut Vec<u8>) -> Result<(), S::Error>
+        ensures ok { OnOk result (AppendsRow (S.names scanner.old) Self.kinds (S.tokens scanner.old) (S.tokens scanner.new)
+            octets.old.items octets.new.items) }
+        ensures err { IfErr result (λ error. S.Error.is_short error ≡ false
+            → NoRowScans (S.names scanner.old) Self.kinds (S.tokens scanner.old)) }
+        ensures names { SameNames (S.names scanner.old) (S.names scanner.new) }
+        ensures more { GoesOn octets.old.items octets.new.items };
+}
+
+impl<S: Scanner> ScanRowInto<S> for () {
+    fn scan_fields_into(scanner: &mut S, octets: &mut Vec<u8>) -> Result<(), S::Error> {
+        Ok(())
+    }
+}
+
+impl<S: Scanner, A: ScanFieldInto<S>, B: ScanRowInto<S>> ScanRowInto<S> for (A, B) {
+    fn scan_fields_into(scanner: &mut S, octets: &mut Vec<u8>) -> Result<(), S::Error> {
+        match A::scan_field_into(scanner, octets) {
+            Ok(()) => match B::scan_fields_into(scanner, octets) {
+                Ok(()) => Ok(()),
+                Err(error) => Err(error),
+            },
+            Err(error) => Err(error),
+        }
+    }
+}
+
+impl<Octs: FromBuilder + Drop, S: Scanner<Octets = Octs>> ScanRowInto<S> for Last<RestText<Octs>> {
+    fn scan_fields_into(scanner: &mut S, octets: &mut Vec<u8>) -> Result<(), S::Error> {
+        scan_and_append::<S, Last<RestText<Octs>>>(scanner, octets)
+    }
+}
+
+impl<Octs: FromBuilder + Drop, S: Scanner<Octets = Octs>> ScanRowInto<S> for Last<Rest16<Octs>> {
+    fn scan_fields_into(scanner: &mut S, octets: &mut Vec<u8>) -> Result<(), S::Error> {
+        scan_and_append::<S, Last<Rest16<Octs>>>(scanner, octets)
+    }
+}
+
+impl<Octs: FromBuilder + Drop, S: Scanner<Octets = Octs>> ScanRowInto<S> for Last<Rest64<Octs>> {
+    fn scan_fields_into(scanner: &mut S, octets: &mut Vec<u8>) -> Result<(), S::Error> {
+        scan_and_append::<S, Last<Rest64<Octs>>>(scanner, octets)
+    }
+}
+
+impl<Octs: FromBuilder + Drop, S: Scanner<Octets = Octs>> ScanRowInto<S> for Last<Strings<Octs>> {
+    fn scan_fields_into(scanner: &mut S, octets: &mut Vec<u8>) -> Result<(), S::Error> {
+        scan_and_append::<S, Last<Strings<Octs>>>(scanner, octets)
+    }
+}
+
+/// Scans a row as a value and appends its octets.
+fn scan_and_append<S: Scanner, R: ScanRow<S>>(
+    scanner: &mut S,
+    octets: &mut Vec<u8>,
+) -> Result<(), S::Error>
+    ensures ok { OnOk result (AppendsRow (S.names scanner.old) R.kinds (S.tokens scanner.old) (S.tokens scanner.new)
+        octets.old.items octets.new.items) }
+    ensures err { IfErr result (λ error. S.Error.is_short error ≡ false
+        → NoRowScans (S.names scanner.old) R.kinds (S.tokens scanner.old)) }
+    ensures names { SameNames (S.names scanner.old) (S.names scanner.new) }
+    ensures more { GoesOn octets.old.items octets.new.items }
+{
+    let row = match R::scan_fields(scanner) {
+        Ok(row) => row,
+        Err(error) => return Err(error),
+    };
+    match row.compose_fields(octets) {
+        Ok(()) => Ok(()),
+        Err(_) => Err(S::Error::short_buf()),
+    }
+}

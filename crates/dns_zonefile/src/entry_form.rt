@@ -1,0 +1,49 @@
+//! The forms in which the entries of rows are given.
+ghost use Rattle.std.specs.Prelude.{◌≡◌, List, ℕ, false, map, IfErr, IfOk, OnErr};
+ghost use Rattle.dns_row_scanner.specs.EntryError.{is_memory};
+ghost use Rattle.dns_tokens.specs.TokenSpan.{token_in};
+ghost use Rattle.dns_zonefile.specs.Entry as spec;
+ghost use Rattle.dns_zonefile.specs.Entry.{IsEntry};
+ghost use Rattle.dns_zonefile.specs.RowRead.{IsGiven};
+ghost use Rattle.dns_zonefile.specs.Seen.{context_of, row_of};
+
+mod octets;
+mod values;
+
+use crate::context::Context;
+use dns_row_scanner::EntryError;
+use dns_tokens::TokenSpan;
+use std::alloc::Global;
+pub(crate) use values::AsValues;
+
+/// A form in which entries are given.
+///
+/// `octets` are what it holds. `gives` relates an entry to what is given, and to these before and after.
+pub(crate) trait EntryForm {
+    type Given;
+
+    ghost octets: { Self → List ℕ };
+
+    ghost gives: { List ℕ → spec.Entry → Self.Given → List ℕ → Type 0 };
+
+    /// Returns the entry of the row whose tokens stand in the text from the place on, which white space leads or not, and takes
+    /// over what it sets. A directive is None.
+    ///
+    /// Fails with an error other than `OutOfMemory` only if the row is no entry. Nothing changes then.
+    fn take_row(
+        &mut self,
+        alloc: Global,
+        context: &mut Context,
+        text: &[u8],
+        place: usize,
+        spans: &[TokenSpan],
+        led: bool,
+    ) -> Result<Option<Self::Given>, EntryError>
+        ensures ok { IfOk result (λ given. (entry : spec.Entry)
+            × IsEntry (context_of context.old) (row_of led (map (λ span. token_in text.now span) spans.now)) entry (context_of context.new)
+            × IsGiven gives (octets self.old) entry given (octets self.new)) }
+        ensures err { IfErr result (λ error. is_memory error ≡ false → (entry : spec.Entry) (after : spec.Context)
+            → IsEntry (context_of context.old) (row_of led (map (λ span. token_in text.now span) spans.now)) entry after → ⊥) }
+        ensures same { OnErr result (context.new ≡ context.old) }
+        ensures kept { OnErr result (octets self.new ≡ octets self.old) };
+}

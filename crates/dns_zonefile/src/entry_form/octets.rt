@@ -1,0 +1,192 @@
+//! Records as octets behind a vector, composed where they are scanned.
+ghost use Rattle.std.specs.Prelude.{◌≡◌, ◌∷◌, ◌++◌, List, ℕ, [], Some, Ok, true, false, IfErr, IfOk, OnErr, OnOk};
+ghost use Rattle.dns_header.specs.Head.{fixed_octets};
+ghost use Rattle.dns_header.specs.Record.{RecordOf};
+ghost use Rattle.dns_rdata.specs.Data.{Data, ScansAnyData};
+ghost use Rattle.dns_row_scanner.specs.EntryError.{is_memory};
+ghost use Rattle.dns_row_scanner.specs.RowScanner.{names_of, tokens_of};
+ghost use Rattle.dns_scan_data.specs.Appended.{GoesOn};
+ghost use Rattle.dns_zonefile.specs.ComposedRow.{ComposesData, ComposesRecord, IsHandedOn};
+ghost use Rattle.dns_zonefile.specs.Entry as spec;
+ghost use Rattle.dns_zonefile.specs.Entry.{Enters};
+ghost use Rattle.dns_zonefile.specs.Entry.Entry.{Resource};
+ghost use Rattle.dns_zonefile.specs.Seen.{context_of, entry_of, row_of};
+ghost use Rattle.dns_zonefile.specs.Statement.{IsDirective, Says, Statement};
+
+use super::EntryForm;
+use crate::context::Context;
+use crate::statement::{begins_directive, scan_directive, scan_head, scan_owner};
+use crate::{ComposedEntry, Entry};
+use dns_name::{Class, Composer, Rtype, ToName, Ttl};
+use dns_row_scanner::{EntryError, InlineName, RowScanner};
+use dns_scan_data::scan_data_into;
+use dns_text::Scanner;
+use dns_tokens::TokenSpan;
+use std::alloc::Global;
+
+/// A record whose octets were appended: what its row sets, and whether its data is opaque.
+#[derive(Drop)]
+pub(crate) struct ComposedRecord {
+    /// The owner, if the row states one.
+    pub(crate) owner: Option<InlineName>,
+    pub(crate) class: Class,
+    /// The last TTL that a record stated, this one counted.
+    pub(crate) last_ttl: Ttl,
+    pub(crate) untyped: bool,
+}
+
+/// Appends the octets of each record with every name written out (RFC 1035 3.2.1).
+impl EntryForm for Vec<u8> {
+    ghost use Rattle.dns_zonefile.specs.Composed.{HandsOn};
+
+    type Given = ComposedEntry;
+
+    ghost octets = { λ octets. octets.items };
+
+    ghost gives = { λ old entry given new. HandsOn old (Ok (Some entry)) (Ok (Some given)) new };
+
+    fn take_row(
+        &mut self,
+        alloc: Global,
+        context: &mut Context,
+        text: &[u8],
+        place: usize,
+        spans: &[TokenSpan],
+        led: bool,
+    ) -> Result<Option<ComposedEntry>, EntryError> {
+        let origin = context.origin.as_ref();
+        let mut scanner: RowScanner<'_, InlineName> = RowScanner::new(
+            alloc, text, place, spans, origin,
+        );
+        if begins_directive(led, &scanner) {
+            let statement = match scan_directive(&mut scanner) {
+                Ok(statement) => statement,
+                Err(error) => return Err(error),
+            };
+            return match context.enter(alloc, statement) {
+                Ok(entry) => Ok(composed_of(entry)),
+                Err(error) => Err(error),
+            };
+        }
+        let len = self.len();
+        match append_record(led, context, &mut scanner, self) {
+            Ok(composed) => {
+                context.take_over(composed.owner, composed.last_ttl, composed.class);
+                Ok(Some(ComposedEntry::Record {
+                    untyped: composed.untyped,
+                }))
+            }
+            Err(error) => {
+                self.truncate(len);
+                Err(error)
+            }
+        }
+    }
+}
+
+/// Returns what is given of an entry that is no record.
+fn composed_of(entry: Option<Entry<InlineName>>) -> Option<ComposedEntry>
+    requires { (rr : RecordOf (List (List ℕ)) Data) → entry_of ⟦<InlineName as ToName>⟧.name entry ≡ Resource rr → ⊥ }
+    ensures { (octets : List ℕ) → IsHandedOn octets (entry_of ⟦<InlineName as ToName>⟧.name entry) result octets }
+{
+    match entry {
+        None => None,
+        Some(Entry::Include { path, origin }) => Some(ComposedEntry::Include { path, origin }),
+        Some(Entry::Record(_)) => unreachable!(),
+    }
+}
+
+/// Appends the octets of the record that a row states, which is no directive, or a part of them where it fails.
+fn append_record(
+    led: bool,
+    context: &Context,
+    scanner: &mut RowScanner<'_, InlineName>,
+    octets: &mut Vec<u8>,
+) -> Result<ComposedRecord, EntryError>
+    requires { IsDirective (row_of led (tokens_of scanner.old)) → ⊥ }
+    ensures ok { IfOk result (λ composed. ComposesRecord (names_of scanner.old) (context_of context.now)
+        (row_of led (tokens_of scanner.old)) composed octets.old.items octets.new.items) }
+    ensures err { IfErr result (λ error. is_memory error ≡ false → (statement : Statement) (entry : spec.Entry) (after : spec.Context)
+        → Says (names_of scanner.old) (row_of led (tokens_of scanner.old)) statement
+        → Enters (context_of context.now) statement entry after → ⊥) }
+    ensures more { OnErr result (GoesOn octets.old.items octets.new.items) }
+{
+    let owner = match scan_owner(led, scanner) {
+        Ok(owner) => owner,
+        Err(error) => return Err(error),
+    };
+    let head = match scan_head(scanner) {
+        Ok(head) => head,
+        Err(error) => return Err(error),
+    };
+    let known = match context.head_of(head.ttl, head.class) {
+        Ok(known) => known,
+        Err(error) => return Err(error),
+    };
+    match context.append_owner(&owner, octets) {
+        Ok(()) => {}
+        Err(error) => return Err(error),
+    }
+    match append_fixed(head.rtype, known.class, known.ttl, octets) {
+        Ok(()) => {}
+        Err(error) => return Err(error),
+    }
+    let untyped = match append_data(head.rtype, scanner, octets) {
+        Ok(untyped) => untyped,
+        Err(error) => return Err(error),
+    };
+    Ok(ComposedRecord {
+        owner,
+        class: known.class,
+        last_ttl: known.last_ttl,
+        untyped,
+    })
+}
+
+/// Appends the octets of a type, a class and a TTL, and two zeros for the length of the data. Fails with `OutOfMemory`, and changes
+/// nothing then.
+fn append_fixed(
+    rtype: Rtype,
+    class: Class,
+    ttl: Ttl,
+    octets: &mut Vec<u8>,
+) -> Result<(), EntryError>
+    ensures ok { OnOk result (octets.new.items ≡ octets.old.items ++ (fixed_octets rtype class ttl ++ 0 ∷ 0 ∷ [])) }
+    ensures err { IfErr result (λ error. is_memory error ≡ true) }
+    ensures same { OnErr result (octets.new.items ≡ octets.old.items) }
+{
+    let [a, b] = rtype.to_int().to_be_bytes();
+    let [c, d] = class.to_int().to_be_bytes();
+    let [e, f, g, h] = ttl.as_secs().to_be_bytes();
+    match octets.extend_from_slice(&[a, b, c, d, e, f, g, h, 0, 0]) {
+        Ok(()) => Ok(()),
+        Err(_) => Err(EntryError::OutOfMemory),
+    }
+}
+
+/// Appends the octets of data of the type, whose tokens end the row, and writes their length over the two zeros before them. Returns
+/// whether the data is opaque.
+fn append_data(
+    rtype: Rtype,
+    scanner: &mut RowScanner<'_, InlineName>,
+    octets: &mut Vec<u8>,
+) -> Result<bool, EntryError>
+    requires { (front : List ℕ) × (octets.old.items ≡ front ++ 0 ∷ 0 ∷ []) }
+    ensures ok { IfOk result (λ untyped. (front : List ℕ) → octets.old.items ≡ front ++ 0 ∷ 0 ∷ []
+        → ComposesData (names_of scanner.old) rtype (tokens_of scanner.old) front octets.new.items untyped) }
+    ensures err { IfErr result (λ error. is_memory error ≡ false → (rdata : Data)
+        → ScansAnyData (names_of scanner.old) rtype rdata (tokens_of scanner.old) [] → ⊥) }
+    ensures more { OnErr result (GoesOn octets.old.items octets.new.items) }
+{
+    let place = octets.len();
+    let untyped = match scan_data_into(rtype, scanner, octets) {
+        Ok(untyped) => untyped,
+        Err(error) => return Err(error),
+    };
+    if scanner.continues() {
+        return Err(EntryError::TrailingTokens);
+    }
+    let len = (octets.len() - place) as u16;
+    octets.patch(place - 2, &len.to_be_bytes());
+    Ok(untyped)
+}

@@ -1,0 +1,72 @@
+//! Entries as values.
+ghost use Rattle.std.specs.Prelude.{◌≡◌, false, map, option_copied, IfErr, IfOk};
+ghost use Rattle.dns_row_scanner.specs.EntryError.{is_memory};
+ghost use Rattle.dns_row_scanner.specs.NameInText.{SpellsUnder};
+ghost use Rattle.dns_tokens.specs.TokenSpan.{token_in};
+ghost use Rattle.dns_zonefile.specs.Seen.{row_of, statement_of};
+ghost use Rattle.dns_zonefile.specs.Statement as spec_statement;
+ghost use Rattle.dns_zonefile.specs.Statement.{Says};
+
+use super::EntryForm;
+use crate::context::Context;
+use crate::{Entry, Statement, scan_statement};
+use dns_name::{Name, ToName};
+use dns_row_scanner::{EntryError, RowScanner, ScannedName, TextName};
+use dns_tokens::TokenSpan;
+use std::alloc::Global;
+
+/// Gives entries as values.
+#[derive(Drop)]
+pub(crate) struct AsValues;
+
+impl EntryForm for AsValues {
+    ghost use Rattle.std.specs.Prelude.{◌≡◌, [], Some};
+    ghost use Rattle.dns_zonefile.specs.Seen.{entry_of};
+
+    type Given = Entry;
+
+    ghost octets = { λ _. [] };
+
+    ghost gives = { λ _ entry given _. entry ≡ entry_of ⟦<ScannedName as ToName>⟧.name (Some given) };
+
+    fn take_row(
+        &mut self,
+        alloc: Global,
+        context: &mut Context,
+        text: &[u8],
+        place: usize,
+        spans: &[TokenSpan],
+        led: bool,
+    ) -> Result<Option<Entry>, EntryError> {
+        let origin = context.origin.as_ref();
+        let statement: Statement<Vec<u8>, ScannedName> = match scan_row(
+            alloc, text, place, spans, led, origin,
+        ) {
+            Ok(statement) => statement,
+            Err(error) => return Err(error),
+        };
+        match context.enter(alloc, statement) {
+            Ok(entry) => Ok(entry),
+            Err(error) => Err(error),
+        }
+    }
+}
+
+/// Reads what the row says that begins at the place and whose tokens stand there, which white space leads or not.
+#[tactic(auto, using(crate::proofs::OneEntry::under_once))]
+fn scan_row<N: TextName>(
+    alloc: Global,
+    text: &[u8],
+    place: usize,
+    spans: &[TokenSpan],
+    led: bool,
+    origin: Option<&Name<Vec<u8>>>,
+) -> Result<Statement<Vec<u8>, N>, EntryError>
+    ensures ok { IfOk result (λ statement. Says (SpellsUnder (option_copied origin.entry))
+        (row_of led (map (λ span. token_in text.now span) spans.now)) (statement_of N.name statement)) }
+    ensures err { IfErr result (λ error. is_memory error ≡ false → (statement : spec_statement.Statement)
+        → Says (SpellsUnder (option_copied origin.entry)) (row_of led (map (λ span. token_in text.now span) spans.now)) statement → ⊥) }
+{
+    let mut scanner: RowScanner<'_, N> = RowScanner::new(alloc, text, place, spans, origin);
+    scan_statement(led, &mut scanner)
+}
