@@ -2,9 +2,10 @@
 """Times the proved program on zones of several sizes, and beside it the zone readers of other name servers.
 
 For each size: processor time a record (user and system), octets of its input a second, and the peak of its memory, for
-`send` (zone text to stream) and `receive` (that stream to text). Of the others those that are installed read the same
-text and one NS record more, without which some take no zone; their time is given as a ratio of the time of `send`. Each
-is run three times, and the fastest counts. A peak below some 20 MB is that of the measuring program itself."""
+`send` (zone text to stream), `receive` (that stream to text), `check` and `canon` (zone text to its canonical octets). Of
+the others those that are installed read the same text and one NS record more, without which some take no zone. The times
+of those that read text are given as a ratio of the time of `send`. Each is run three times, and the fastest counts. A
+peak below some 20 MB is that of the measuring program itself."""
 import argparse
 import os
 import shutil
@@ -78,12 +79,16 @@ def measure(program, records, folder):
         out.write(generate.name_server())
     sent = fastest([program, "send", "--spelling", "plain"], text, stream)
     received = fastest([program, "receive", "--apex", generate.APEX], stream, again)
+    checked = fastest([program, "check"], text, os.devnull)
+    canonical = fastest([program, "canon"], text, os.devnull)
     if text.read_bytes() != again.read_bytes():
         sys.exit("the text that was received is not the text that was sent")
     print(f"{records:,} records, {text.stat().st_size / 1e6:.1f} MB of text, {stream.stat().st_size / 1e6:.1f} MB of stream")
     print(f"  {'':<18}{'ns/record':>10}{'MB/s':>10}{'peak MB':>10}{'ratio':>8}")
     report("zonewire send", sent, records, text.stat().st_size, 1)
     report("zonewire receive", received, records, stream.stat().st_size)
+    report("zonewire check", checked, records, text.stat().st_size, checked.seconds / sent.seconds)
+    report("zonewire canon", canonical, records, text.stat().st_size, canonical.seconds / sent.seconds)
     for name, (words, _) in peers(str(with_server)).items():
         if not find(name):
             continue

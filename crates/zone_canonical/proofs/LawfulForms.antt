@@ -5,7 +5,7 @@ use Rattle.dns_label.specs.Name.{IsName}
 use Rattle.dns_wire.proofs.LowNames.{length-wire-low, low_name}
 use Rattle.dns_rdata.specs.Fields.{Field, number8, number16, number32, ipv4, ipv6, compressible, uncompressed, string, strings, tag, rest_text, rest16, rest64, IsField, field_octets, octets, lowered, canonical_octets}
 use Rattle.dns_message.specs.Record.{IsRecord}
-use Rattle.zone_text.specs.Record.{Record}
+use Rattle.zone_octets.specs.Record.{Record}
 use Rattle.zone_canonical.specs.Canonical.{IsCanonicalData, typed, opaque, IsCanonicalOf}
 
 length-lowered : (field : Field) → IsField field → length (field_octets (lowered field)) ≡ length (field_octets field)
@@ -23,14 +23,14 @@ length-lowered (rest_text text) is = refl
 length-lowered (rest16 text) is = refl
 length-lowered (rest64 text) is = refl
 
-pub length-canonical : (row : List Field) → AllByRecursion IsField row → length (canonical_octets row) ≡ length (octets row)
+length-canonical : (row : List Field) → AllByRecursion IsField row → length (canonical_octets row) ≡ length (octets row)
 length-canonical [] each = refl
 length-canonical (field ∷ row) each =
     length-append (field_octets (lowered field)) (canonical_octets row)
     ∙ (λ i. length-lowered field each.0 i + length-canonical row each.1 i)
     ∙ sym (length-append (field_octets field) (octets row))
 
-length-form : (rtype : ℕ) (data' form : List ℕ) → IsCanonicalData rtype data' form → length form ≡ length data'
+pub length-form : (rtype : ℕ) (data' form : List ℕ) → IsCanonicalData rtype data' form → length form ≡ length data'
 length-form rtype data' form (typed row is are form_is) =
     ap length form_is ∙ length-canonical row is.each ∙ sym (ap length are)
 length-form rtype data' form (opaque none form_is) = ap length form_is

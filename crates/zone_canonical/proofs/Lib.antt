@@ -2,8 +2,7 @@ mod Ascending
 mod Forms
 mod SortedForms
 mod LawfulForms
-mod ReadData
+mod TypedForms
 mod SameOctets
 mod Alike
-mod ZoneForms
 mod Orders

@@ -12,7 +12,7 @@ use Rattle.dns_header.specs.Record.{RecordOf}
 use Rattle.dns_rdata.specs.Data.{number_of, canonical_of, canonical_data_cmp}
 use Rattle.dns_rdata.specs.ZoneData.{data_of}
 use Rattle.dns_rdata.specs.declared.zone_record_data.ZoneRecordData.{ZoneRecordData}
-use Rattle.zone_text.specs.Record.{Record}
+use Rattle.zone_octets.specs.Record.{Record}
 use Rattle.zone_canonical.specs.Canonical.{canonical_cmp}
 use Rattle.zone_canonical.specs.Parsed.{form_of}
 use Rattle.zone_canonical.proofs.Forms.{low-low}

@@ -5,7 +5,7 @@ use Rattle.dns_header.specs.Record.{RecordOf}
 use Rattle.dns_rdata.specs.Data.{number_of, canonical_of}
 use Rattle.dns_rdata.specs.ZoneData.{data_of}
 use Rattle.dns_rdata.specs.declared.zone_record_data.ZoneRecordData.{ZoneRecordData}
-use Rattle.zone_text.specs.Record.{Record}
+use Rattle.zone_octets.specs.Record.{Record}
 
 abbrev pub form_of : {Octs N : Type 0} → RecordOf (List (List ℕ)) (ZoneRecordData Octs N) → Record
 form_of parsed = record {

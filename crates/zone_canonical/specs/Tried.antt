@@ -5,7 +5,7 @@ use Rattle.std.specs.declared.cmp.Ordering.TheVariants.{Less}
 use Rattle.std.proofs.Common.{arith}
 use Rattle.dns_label.specs.Name.{IsName}
 use Rattle.dns_rdata.specs.Fields.{Field, number32, ipv4, compressible, octets, IsRow}
-use Rattle.zone_text.specs.Record.{Record}
+use Rattle.zone_octets.specs.Record.{Record}
 use Rattle.zone_canonical.specs.Canonical.{IsCanonical, IsCanonicalOf, typed, canonical_cmp}
 
 abbrev soa_row : List Field

@@ -1,25 +1,22 @@
 //! Records in canonical form and order, before they are written (RFC 4034 6).
-ghost use Rattle.std.specs.Prelude.{◌≡◌, ◌++◌, ◌<◌, ◌^◌, length, OnOk};
+ghost use Rattle.std.specs.Prelude.{◌≡◌, ◌++◌, OnOk};
 ghost use Rattle.std.proofs.Common.{refl};
 ghost use Rattle.std.specs.Cmp.{partial_equiv_from_equiv, partial_order_from_total, partial_order_from_own_ties, eq_by_cmp_equiv};
 ghost use Rattle.std.specs.Ordering.{as_partial_cmp, eq_by_cmp};
 ghost use Rattle.dns_message.specs.Record.{record_octets};
-ghost use Rattle.dns_rdata.specs.Data.{number_of, canonical_of};
-ghost use Rattle.dns_rdata.specs.Fields.{IsData};
-ghost use Rattle.dns_rdata.specs.ZoneData.{data_of};
 ghost use Rattle.dns_wire.specs.Order.{labels_order};
-ghost use Rattle.zone_canonical.specs.Canonical.{IsCanonicalData, IsCanonicalOf, canonical_cmp};
+ghost use Rattle.zone_octets.specs.Typed.{HasLawfulData};
+ghost use Rattle.zone_canonical.specs.Canonical.{IsCanonicalOf, canonical_cmp};
 ghost use Rattle.zone_canonical.specs.CanonicalLaws.{canonical_total};
 
 use dns_header::Record;
-use dns_name::{
-    AppendError, CanonicalOrd, Name, ParseAnyRecordData, ParsedName, Parser, Rtype, ToName,
-};
+use dns_name::{AppendError, CanonicalOrd, Name, ParsedName, ToName};
 use dns_rdata::ZoneRecordData;
 use std::alloc::AllocError;
 use std::cmp::Ordering;
 use std::marker::Model;
-use zone_text::record as stored;
+use zone_octets::record as stored;
+use zone_octets::typed::typed_record;
 
 /// A stored record, seen in its canonical form (RFC 4034 6.2). Its parts are parsed in place, and nothing is copied.
 #[derive(Drop)]
@@ -29,7 +26,7 @@ pub(crate) struct CanonicalRecord<'a> {
 
 impl<'a> Model for CanonicalRecord<'a> {
     ghost use Rattle.std.specs.Prelude.{length, ◌<◌, ◌^◌};
-    ghost use Rattle.zone_text.specs.Record.{Record};
+    ghost use Rattle.zone_octets.specs.Record.{Record};
     ghost use Rattle.zone_canonical.specs.Parsed.{form_of};
 
     ghost Value = { Record };
@@ -40,15 +37,13 @@ impl<'a> Model for CanonicalRecord<'a> {
 }
 
 impl<'a> CanonicalRecord<'a> {
-    /// Returns the canonical form of a stored record of this type.
-    pub(crate) fn of_record(record: &stored::Record<'a>, rtype: Rtype) -> CanonicalRecord<'a>
-        requires type_is { rtype ≡ «record».now.rtype }
-        requires data_is { IsData «record».now.rtype «record».now.rdata }
+    /// Returns the canonical form of a stored record.
+    pub(crate) fn of_record(record: &stored::Record<'a>) -> CanonicalRecord<'a>
+        requires { HasLawfulData «record».now }
         ensures { IsCanonicalOf «record».now result }
     {
-        let rdata = parse_data(rtype, record.data());
         CanonicalRecord {
-            parsed: Record::new(record.owner(), record.class(), record.ttl(), rdata),
+            parsed: typed_record(record),
         }
     }
 
@@ -69,20 +64,6 @@ impl<'a> CanonicalRecord<'a> {
             Err(AppendError::OutOfMemory) => Err(AllocError),
             Err(_) => unreachable!(),
         }
-    }
-}
-
-/// Parses octets that are data of the type.
-fn parse_data<'a>(rtype: Rtype, octets: &'a [u8]) -> ZoneRecordData<&'a [u8], ParsedName<&'a [u8]>>
-    requires { IsData rtype octets.now }
-    ensures number { number_of (data_of result) ≡ rtype }
-    ensures canonical { IsCanonicalData rtype octets.now (canonical_of (data_of result)) }
-    ensures short { length (canonical_of (data_of result)) < 2 ^ 16 }
-{
-    let mut parser = Parser::from_ref(octets);
-    match ZoneRecordData::parse_any_rdata(rtype, &mut parser) {
-        Ok(rdata) => rdata,
-        Err(_) => unreachable!(),
     }
 }
 

@@ -1,7 +1,7 @@
 //! Laws of canonical octets. Each function does nothing; what it ensures is the law.
 ghost use Rattle.std.specs.Prelude.{◌≡◌, ◌↔◌, ℕ, List};
 ghost use Rattle.std.specs.List.{AllByRecursion, AllZip};
-ghost use Rattle.zone_text.specs.Record.{Record};
+ghost use Rattle.zone_octets.specs.Record.{Record};
 ghost use Rattle.zone_canonical.specs.Canonical.{HasCanonicalForm, IsCanonical, AreAlike, AreAmong};
 
 /// The canonical octets of records are determined by the records (RFC 4034 6).

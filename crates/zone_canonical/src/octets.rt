@@ -2,14 +2,12 @@
 ghost use Rattle.std.specs.Prelude.{◌≡◌, ◌<◌, length, slice_get, Some, IfOk, flat_map};
 ghost use Rattle.std.specs.List.{AllByRecursion, AllZip};
 ghost use Rattle.dns_message.specs.Record.{record_octets};
-ghost use Rattle.zone_text.specs.Record as spec;
+ghost use Rattle.zone_octets.specs.Record as spec;
 ghost use Rattle.zone_canonical.specs.Canonical.{HasCanonicalForm, IsCanonical, IsCanonicalOf};
 
 use crate::canonical_record::CanonicalRecord;
-use dns_name::Rtype;
 use std::alloc::{AllocError, Global};
-use zone_text::header::number_at;
-use zone_text::record_list::RecordList;
+use zone_octets::record_list::RecordList;
 
 /// Returns the canonical octets of the records (RFC 4034 6): the distinct ones in canonical form, in canonical order. Two lists
 /// of records have the same canonical octets exactly if they have the same records, up to ASCII case in names.
@@ -47,8 +45,7 @@ fn form_at(records: &RecordList, index: usize) -> CanonicalRecord<'_>
     ensures { (r : spec.Record) → slice_get records.now index ≡ Some r → IsCanonicalOf r result }
 {
     let record = records.record_at(index);
-    let rtype = number_at(records.octets_at(index), record.owner().len());
-    CanonicalRecord::of_record(&record, Rtype::from_int(rtype))
+    CanonicalRecord::of_record(&record)
 }
 
 /// Returns the octets of the forms, one after another.
@@ -61,6 +58,3 @@ fn octets_of(alloc: Global, forms: &[CanonicalRecord<'_>]) -> Result<Vec<u8>, Al
     }
     Ok(octets)
 }
-
-#[cfg(test)]
-mod tests;

@@ -9,17 +9,17 @@ use Rattle.dns_rdata.specs.Fields.Kind.{Compressible, Number32}
 use Rattle.dns_rdata.specs.Fields.IsData.{typed, opaque}
 use Rattle.dns_header.specs.Header.{is_response, opcode_of, rcode_of, question_count, authority_count, additional_count, id_of}
 use Rattle.dns_header.specs.Question.{Question}
-use Rattle.zone_text.specs.Record.{Record}
-use Rattle.zone_text.specs.Zone.{IsUnder, soa_type, axfr_type}
+use Rattle.zone_octets.specs.Record.{Record}
+use Rattle.zone_octets.specs.Zone.{IsUnder, soa_type, axfr_type}
 use Rattle.zone_core.specs.Query.{AxfrQuery}
 use Rattle.zone_core.specs.Transfer.{WrittenOut, AsksAgain, CountsAnswers, IsQuestionOf}
-use Rattle.zone_text.specs.Records.{SameSoa}
+use Rattle.zone_octets.specs.Records.{SameSoa}
 use Rattle.zone_core.specs.Receiving.{IsOpen, IsClosed, KeepsFirstRule, KeepsLastRule}
 use Rattle.zone_core.specs.declared.receive.error.ReceiveError.{ReceiveError}
-use Rattle.zone_text.proofs.Decided.{Decided, decided_both, decided_names, decided_end}
-use Rattle.zone_text.proofs.NameFronts.{AreOctets}
-use Rattle.zone_text.proofs.RowFronts.{row_one, are_plain, ArePlain, lowered_decided}
-use Rattle.zone_text.proofs.RecordFronts.{HasSomeQuestion, question_decided, question_one}
+use Rattle.zone_octets.proofs.Decided.{Decided, decided_both, decided_names, decided_end}
+use Rattle.zone_octets.proofs.NameFronts.{AreOctets}
+use Rattle.zone_octets.proofs.RowFronts.{row_one, are_plain, ArePlain, lowered_decided}
+use Rattle.zone_octets.proofs.RecordFronts.{HasSomeQuestion, question_decided, question_one}
 use Rattle.zone_core.proofs.LawfulRecords.{IsLawful, closed_not_open, lawful_record}
 use Rattle.zone_core.proofs.MessageFaults.{record_rules, head_rules}
 use Rattle.zone_core.proofs.OrderedRules.{Rules, FirstBroken, AllKept}

@@ -3,23 +3,23 @@ use Rattle.std.proofs.Common.{◌≡◌, ◌≢◌, ℕ, ◌+◌, ◌<◌, ◌�
 use Rattle.std.specs.List.{AllByRecursion}
 use Rattle.std.proofs.lemmas.Bool.{cases_lt, cases_eq}
 use Rattle.dns_header.specs.Header.{answer_count}
-use Rattle.zone_text.specs.Record.{Record}
-use Rattle.zone_text.specs.Zone.{soa_type}
+use Rattle.zone_octets.specs.Record.{Record}
+use Rattle.zone_octets.specs.Zone.{soa_type}
 use Rattle.zone_core.specs.Query.{AxfrQuery}
 use Rattle.zone_core.specs.Transfer.{WrittenOut, IsInZoneOf, SpellsRecords, HasAnswerHeader, IsAnswer, HasRecord}
-use Rattle.zone_text.specs.Records.{IsTypeToday}
-use Rattle.zone_text.proofs.SpellableData.{today_is_spellable}
+use Rattle.zone_octets.specs.Records.{IsTypeToday}
+use Rattle.zone_octets.proofs.SpellableData.{today_is_spellable}
 use Rattle.zone_core.specs.Transfer.SpellsRecords.{none}
 use Rattle.zone_core.specs.Receiving.{IsOpen, IsClosed, KeepsRulesTo, IsMessageFault}
 use Rattle.zone_core.specs.declared.receive.error.ReceiveError.{ReceiveError}
 use Rattle.zone_core.specs.declared.receive.error.ReceiveError.TheVariants as receive_error
-use Rattle.zone_text.proofs.Each.{all_append}
-use Rattle.zone_text.proofs.NameFronts.{AreOctets}
+use Rattle.zone_octets.proofs.Each.{all_append}
+use Rattle.zone_octets.proofs.NameFronts.{AreOctets}
 use Rattle.zone_core.proofs.SpelledRecords.{spelled_push}
 use Rattle.zone_core.proofs.LawfulRecords.{IsLawful, closed_not_open}
 use Rattle.zone_core.proofs.MessageFaults.{record_rules, head_rules}
 use Rattle.zone_core.proofs.OrderedRules.{FirstBroken, AllKept}
-use Rattle.zone_text.proofs.RecordFronts.{record_decided}
+use Rattle.zone_octets.proofs.RecordFronts.{record_decided}
 use Rattle.zone_core.proofs.DecidedRules.{HasData, judged, record_rules_decided, head_rules_decided}
 
 -- what a message is behind others with the records in front

@@ -4,7 +4,7 @@ use Rattle.std.specs.Int.{to_be_bytes, from_be_bytes, w16}
 use Rattle.std.specs.List.{AllByRecursion}
 use Rattle.std.proofs.lemmas.Bool.{cases_lt}
 use Rattle.std.proofs.lemmas.Nat.{be_bytes_2}
-use Rattle.zone_text.specs.Record.{Record}
+use Rattle.zone_octets.specs.Record.{Record}
 use Rattle.zone_core.specs.Query.{AxfrQuery}
 use Rattle.zone_core.specs.Frames.{frame, frames, IsFramable, IsPartial}
 use Rattle.zone_core.specs.Cutting.{joined}
@@ -13,12 +13,12 @@ use Rattle.zone_core.specs.Receiving.{IsOpen, IsClosed, IsBegun, IsMessageFault,
 use Rattle.zone_core.specs.declared.receive.error.ReceiveError.{ReceiveError}
 use Rattle.zone_core.proofs.Splits.{two_splits}
 use Rattle.zone_core.proofs.Splits.Compared.{same, longer, shorter}
-use Rattle.zone_text.proofs.Each.{all_append}
+use Rattle.zone_octets.proofs.Each.{all_append}
 use Rattle.zone_core.proofs.AnswerGroups.{answers_push, first_of_stream, joined_push}
 use Rattle.zone_core.proofs.FrontFrames.{frames_push}
 use Rattle.zone_core.proofs.LawfulRecords.{closed_not_open}
 use Rattle.dns_message.proofs.Numbers.{octet_at}
-use Rattle.zone_text.proofs.NameFronts.{AreOctets, front_of, octets_front, octets_behind}
+use Rattle.zone_octets.proofs.NameFronts.{AreOctets, front_of, octets_front, octets_behind}
 use Rattle.zone_core.proofs.DecidedRules.{HasData}
 use Rattle.zone_core.proofs.JudgedMessages.{message_judged}
 use Rattle.zone_core.proofs.JudgedMessages.Verdict.{at_fault, answers}

@@ -7,8 +7,8 @@ use Rattle.std.specs.Bool.{OnTrue, OnFalse}
 use Rattle.std.specs.Int.{to_be_bytes, w16}
 use Rattle.std.specs.List.{AllByRecursion, push}
 use Rattle.dns_label.proofs.Spelling.{drop_behind}
-use Rattle.zone_text.specs.Record.{Record}
-use Rattle.zone_text.specs.Records.{IsRecordOf}
+use Rattle.zone_octets.specs.Record.{Record}
+use Rattle.zone_octets.specs.Records.{IsRecordOf}
 use Rattle.zone_core.specs.Query.{AxfrQuery}
 use Rattle.zone_core.specs.Frames.{frame, frames, IsFramable}
 use Rattle.zone_core.specs.Cutting.{joined}
@@ -20,7 +20,7 @@ use Rattle.zone_core.specs.declared.receive.intake.Intake.{Intake}
 use Rattle.zone_core.specs.declared.query_error.QueryError.{QueryError}
 use Rattle.zone_core.specs.declared.receive.error.ReceiveError.{ReceiveError}
 use Rattle.zone_core.specs.declared.receive.error.ReceiveError.TheVariants as receive_error
-use Rattle.zone_text.proofs.Each.{all_append}
+use Rattle.zone_octets.proofs.Each.{all_append}
 use Rattle.zone_core.proofs.LawfulRecords.{closed_not_open}
 use Rattle.zone_core.proofs.AnswerGroups.{answers_push, first_of_stream}
 use Rattle.zone_core.proofs.Intakes.{rest_is}

@@ -1,8 +1,8 @@
 -- Records of a transfer so far: each keeps the rules behind those in front of it, and nothing follows the last SOA.
 use Rattle.std.proofs.Common.{◌≡◌, ◌≢◌, ◌⊎◌, List, [], ◌∷◌, ◌++◌, sym, ◌∙◌, subst, append-nil, inl, inr}
 use Rattle.std.specs.List.{AllByRecursion, push}
-use Rattle.zone_text.specs.Record.{Record}
-use Rattle.zone_text.specs.Zone.{IsUnder, soa_type}
+use Rattle.zone_octets.specs.Record.{Record}
+use Rattle.zone_octets.specs.Zone.{IsUnder, soa_type}
 use Rattle.zone_core.specs.Query.{AxfrQuery}
 use Rattle.zone_core.specs.Transfer.{IsInZoneOf, IsTransferred, ClosesTransfer}
 use Rattle.zone_core.specs.Receiving.{IsOpen, IsClosed, KeepsFirstRule, KeepsLastRule}

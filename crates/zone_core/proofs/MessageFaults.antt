@@ -1,8 +1,8 @@
 -- A message breaks one rule first, and one that carries records of a transfer breaks none.
 use Rattle.std.proofs.Common.{◌≡◌, ◌≢◌, ◌⊎◌, ℕ, ◌+◌, ◌<◌, ◌≤◌, Bool, true, false, List, ◌∷◌, ◌++◌, length, refl, sym, ap, ◌∙◌, subst, arith, append_assoc, inl, inr}
 use Rattle.dns_header.specs.Header.{is_response, opcode_of, rcode_of, answer_count, id_of}
-use Rattle.zone_text.specs.Record.{Record}
-use Rattle.zone_text.specs.Zone.{IsUnder}
+use Rattle.zone_octets.specs.Record.{Record}
+use Rattle.zone_octets.specs.Zone.{IsUnder}
 use Rattle.zone_core.specs.Query.{AxfrQuery}
 use Rattle.zone_core.specs.Transfer.{WrittenOut, HasRecord, AsksAgain, SpellsRecords, CountsAnswers, HasAnswerHeader, IsAnswer}
 use Rattle.zone_core.specs.Receiving.{IsClosed, KeepsFirstRule, KeepsLastRule, IsRecordFault, KeepsRulesTo, IsMessageFault}

@@ -1,7 +1,7 @@
 -- The first rule that a message breaks is one.
 use Rattle.std.proofs.Common.{◌≡◌, ℕ, ◌<◌, Bool, List, [], ◌++◌, length, sym, ◌∙◌, subst, arith, append-nil, inl, inr}
 use Rattle.std.proofs.lemmas.Bool.{cases_order}
-use Rattle.zone_text.specs.Record.{Record}
+use Rattle.zone_octets.specs.Record.{Record}
 use Rattle.zone_core.specs.Query.{AxfrQuery}
 use Rattle.zone_core.specs.Transfer.{WrittenOut, SpellsRecords}
 use Rattle.zone_core.specs.Receiving.{KeepsRulesTo}

@@ -5,7 +5,7 @@ use Rattle.std.proofs.lemmas.List.Concat.{flat_map-append}
 use Rattle.dns_label.proofs.Spelling.{reads_one}
 use Rattle.dns_header.specs.Question.{Question, ReadsQuestion}
 use Rattle.dns_message.proofs.ReadRecords.{record_one}
-use Rattle.zone_text.specs.Record.{Record}
+use Rattle.zone_octets.specs.Record.{Record}
 use Rattle.zone_core.specs.Query.{AxfrQuery}
 use Rattle.zone_core.specs.Cutting.{joined}
 use Rattle.zone_core.specs.Transfer.{Form, Standard, HasRecord, AsksAgain, SpellsRecords, IsAnswer, AreAnswers, IsTransfer, IsTransferIn}

@@ -11,7 +11,7 @@ use Rattle.dns_rdata.proofs.Fronts.{same_fronts, same_number16}
 use Rattle.dns_header.specs.Header.{question_count}
 use Rattle.zone_core.specs.Query.{AxfrQuery}
 use Rattle.zone_core.specs.Transfer.{WrittenOut, AsksAgain, HasAnswerHeader, IsQuestionOf}
-use Rattle.zone_text.proofs.SoaOctets.{front_one}
+use Rattle.zone_octets.proofs.SoaOctets.{front_one}
 
 -- a number of two octets, and what stands behind it
 pub number16_front : (m : List ℕ) (place n : ℕ) → place + 2 ≤ length m → to_be_bytes w16 n ≡ take 2 (drop place m)

@@ -10,14 +10,14 @@ use Rattle.dns_octets.specs.Parser.{GoesOn, octets_of, place_of, rest_of}
 use Rattle.dns_rdata.specs.Fields.{IsData}
 use Rattle.dns_rdata.proofs.Fronts.{same_fronts, same_number16}
 use Rattle.dns_message.specs.Record.{ReadsPlainRecord, record_octets}
-use Rattle.zone_text.specs.Record.{Record}
-use Rattle.zone_text.specs.Records.{AreOctets, IsRecordOf, IsTypeToday}
-use Rattle.zone_text.proofs.RecordFronts.{record_regrouped}
-use Rattle.zone_text.proofs.SoaOctets.{front_one}
-use Rattle.zone_text.proofs.SpellableData.{today_is_spellable}
-use Rattle.zone_text.proofs.Decided.{too_few}
-use Rattle.zone_text.proofs.NameFronts.{octets_behind, octets_front}
-use Rattle.zone_text.proofs.PrintedTexts.{wire_back}
+use Rattle.zone_octets.specs.Record.{Record}
+use Rattle.zone_octets.specs.Records.{AreOctets, IsRecordOf, IsTypeToday}
+use Rattle.zone_octets.proofs.RecordFronts.{record_regrouped}
+use Rattle.zone_octets.proofs.SoaOctets.{front_one}
+use Rattle.zone_octets.proofs.SpellableData.{today_is_spellable}
+use Rattle.zone_octets.proofs.Decided.{too_few}
+use Rattle.zone_octets.proofs.NameFronts.{octets_behind, octets_front}
+use Rattle.zone_octets.proofs.Each.{wire_back}
 
 -- octets that a parser takes off
 pub taken_off : (old new : Parser) (count : ℕ) (front : List ℕ) → GoesOn old new count → front ≡ take count (rest_of old)
@@ -151,7 +151,6 @@ known_record class r is_name rtype class_fits ttl rdata today data_is class_is o
   spellable = today_is_spellable r.rtype r.rdata today;
   owner_octets = owner_octets;
   data_octets = data_octets;
-  today = today;
 }
 
 -- both, for what was read part by part

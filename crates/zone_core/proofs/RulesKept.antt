@@ -3,17 +3,17 @@ use Rattle.std.proofs.Common.{◌≡◌, ◌≢◌, ℕ, Bool, true, false, List
 use Rattle.std.specs.Prelude.{not}
 use Rattle.std.specs.List.{AllByRecursion, slice_get, push}
 use Rattle.std.proofs.lemmas.Bool.{eqb-true, eq-eqb}
-use Rattle.zone_text.specs.Record.{Record}
-use Rattle.zone_text.specs.Zone.{soa_type}
+use Rattle.zone_octets.specs.Record.{Record}
+use Rattle.zone_octets.specs.Zone.{soa_type}
 use Rattle.zone_core.specs.Query.{AxfrQuery}
-use Rattle.zone_text.specs.Records.{IsRecordOf, SameSoa}
+use Rattle.zone_octets.specs.Records.{IsRecordOf, SameSoa}
 use Rattle.zone_core.specs.Transfer.{IsInZoneOf, IsTransferred, ClosesTransfer}
 use Rattle.zone_core.specs.Receiving.{IsOpen, IsClosed, KeepsFirstRule, KeepsLastRule}
 use Rattle.zone_core.specs.Intake.{IsPlacing, StandsAt}
 use Rattle.zone_core.specs.Intake.StandsAt.{begun, ended}
 use Rattle.zone_core.specs.declared.receive.rules.Placing.{Placing}
 use Rattle.zone_core.specs.declared.receive.rules.Placing.TheVariants.{Inner, Last}
-use Rattle.zone_text.proofs.Each.{all_append}
+use Rattle.zone_octets.proofs.Each.{all_append}
 
 -- whether a record is held
 pub none_held : (held : List Record) (empty : Bool) → empty ≡ nat_eq (length held) 0 → empty ≡ true → held ≡ []

@@ -5,11 +5,11 @@ use Rattle.std.specs.Cmp.Lexicographic.{pointwise}
 use lib.Pointwise.{pointwise_decides, bytes_decides}
 use Rattle.dns_label.specs.Name.{low}
 use Rattle.dns_header.specs.Header.{id_of}
-use Rattle.zone_text.specs.Record.{Record}
+use Rattle.zone_octets.specs.Record.{Record}
 use Rattle.zone_core.specs.declared.send_error.SendError.{SendError}
 use Rattle.zone_core.specs.declared.send_error.SendError.TheVariants as send_error
 use Rattle.zone_core.specs.Query.{AxfrQuery, IsQuery}
-use Rattle.zone_text.specs.Records.{AreRecordsOf}
+use Rattle.zone_octets.specs.Records.{AreRecordsOf}
 use Rattle.zone_core.specs.Sent.{IsQueryFor, AsksFor, IsSent, IsSendFault}
 use Rattle.zone_core.specs.Sending.{IsRefusedBy}
 use Rattle.zone_text.specs.View.{apex_of}

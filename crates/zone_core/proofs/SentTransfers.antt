@@ -4,13 +4,13 @@ use Rattle.std.specs.List.{AllByRecursion}
 use Rattle.dns_label.specs.Name.{low}
 use Rattle.dns_rdata.specs.Fields.{IsData, IsRow, kinds_of}
 use Rattle.dns_rdata.specs.Fields.IsData.{typed, opaque}
-use Rattle.zone_text.specs.Record.{Record}
-use Rattle.zone_text.specs.Zone.{IsUnder, IsBehindSoa, soa_type}
+use Rattle.zone_octets.specs.Record.{Record}
+use Rattle.zone_octets.specs.Zone.{IsUnder, IsBehindSoa, soa_type}
 use Rattle.zone_core.specs.Query.{AxfrQuery}
-use Rattle.zone_text.specs.Records.{AreRecordsOf, AreSendable, IsRecordOf, IsSendable, IsTypeToday, SameSoa}
+use Rattle.zone_octets.specs.Records.{AreRecordsOf, AreSendable, IsRecordOf, IsSendable, IsTypeToday, SameSoa}
 use Rattle.zone_core.specs.Sent.{IsQueryFor, AsksFor, IsSent, message, size}
 use Rattle.zone_core.specs.Transfer.{Form, Standard, WrittenOut, IsInZoneOf, IsTransferIn, IsExactTransfer, IsExactTransferIn}
-use Rattle.zone_text.proofs.Each.{all_append}
+use Rattle.zone_octets.proofs.Each.{all_append}
 use Rattle.zone_core.proofs.LastRecord.{all_joined, ends_with}
 use Rattle.zone_core.proofs.WrittenAnswers.{Allows, all_allowed, answers-written, framable-written}
 use Rattle.zone_core.proofs.OneTransfer.{transfer_one}

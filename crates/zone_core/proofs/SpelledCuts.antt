@@ -9,7 +9,7 @@ use Rattle.dns_size.specs.Cost.{names_in}
 use Rattle.dns_size.specs.Groups.{HasOneHead, group_parts}
 use Rattle.dns_size.proofs.Sizes.{AllProper, any_proper, names_proper}
 use Rattle.dns_size.proofs.Groups.{front_fits, back_fits, proper_group, free_group, all_any}
-use Rattle.zone_text.specs.Record.{Record}
+use Rattle.zone_octets.specs.Record.{Record}
 use Rattle.zone_core.specs.Query.{AxfrQuery}
 use Rattle.zone_core.specs.Cutting.{IsCutting, Fits, IsFullCut, IsBlocked, PartsFit}
 use Rattle.zone_core.specs.Spelled.{answer_head, spelled_size, SpellsGroup, SpellGroups}

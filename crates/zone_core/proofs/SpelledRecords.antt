@@ -1,7 +1,7 @@
 -- Records that are written out one behind the other are one list, for so many of them.
 use Rattle.std.proofs.Common.{◌≡◌, ℕ, ◌<◌, List, [], ◌∷◌, ◌++◌, length, refl, sym, subst, arith}
 use Rattle.dns_message.proofs.ReadRecords.{record_one}
-use Rattle.zone_text.specs.Record.{Record}
+use Rattle.zone_octets.specs.Record.{Record}
 use Rattle.zone_core.specs.Transfer.{Form, WrittenOut, HasRecord, SpellsRecords}
 use Rattle.zone_core.specs.Transfer.SpellsRecords.{none, one}
 use Rattle.zone_core.proofs.WrittenForms.{written_record}

@@ -16,7 +16,7 @@ use Rattle.dns_size.specs.Groups.{items, group_parts}
 use Rattle.dns_size.proofs.Sizes.{AllProper, written_size}
 use Rattle.dns_size.proofs.Joins.{names-join, octets-join}
 use Rattle.dns_size.proofs.DistinctSums.{parts_sum}
-use Rattle.zone_text.specs.Record.{Record}
+use Rattle.zone_octets.specs.Record.{Record}
 use Rattle.zone_core.specs.Query.{AxfrQuery}
 use Rattle.zone_core.specs.Spelled.{answer_head, spelled_size, record_items, message_names, message_sum}
 use Rattle.zone_core.proofs.Plain.{length-header}

@@ -7,7 +7,7 @@ use Rattle.std.proofs.lemmas.List.{map-append, take_all, take-append-le}
 use Rattle.std.proofs.lemmas.List.Concat.{flat_map-append}
 use Rattle.std.proofs.lemmas.Bool.Decides.{Decides-eqb}
 use Rattle.std.proofs.lemmas.Option.{slice_get_within}
-use Rattle.zone_text.specs.Record.{Record}
+use Rattle.zone_octets.specs.Record.{Record}
 use Rattle.zone_core.specs.declared.sender.Sender.{Sender}
 use Rattle.zone_core.specs.Query.{AxfrQuery}
 use Rattle.zone_core.specs.Frames.{frame, frames}
@@ -15,7 +15,7 @@ use Rattle.zone_core.specs.Cutting.{IsFullCut, IsBlocked}
 use Rattle.zone_core.specs.Sent.{message, size, with_soa_again, IsSent}
 use Rattle.zone_core.specs.Sending.{LastIs, HoldsGroups, Holds, FitsNowhere}
 use Rattle.zone_core.proofs.Greedy.{blocked_at, next_is_blocked}
-use Rattle.zone_text.proofs.Indexed.{slice_get-front}
+use Rattle.zone_octets.proofs.Indexed.{slice_get-front}
 
 frames-push : (query : AxfrQuery) (front : List (List Record)) (group : List Record)
     → frames (map (message query) front) ++ frame (message query group) ≡ frames (map (message query) (push front group))

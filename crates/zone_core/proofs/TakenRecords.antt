@@ -2,7 +2,7 @@
 use Rattle.std.proofs.Common.{◌≡◌, ℕ, ◌+◌, Bool, true, false, List, [], ◌∷◌, length, refl, sym, subst, arith, length-append}
 use mir.Val.{bool_byte}
 use Rattle.std.specs.List.{push}
-use Rattle.zone_text.specs.Record.{Record}
+use Rattle.zone_octets.specs.Record.{Record}
 use Rattle.zone_core.specs.Query.{AxfrQuery}
 use Rattle.zone_core.specs.Transfer.{WrittenOut, HasRecord, IsTransferred, ClosesTransfer}
 use Rattle.zone_core.specs.Receiving.{IsOpen}

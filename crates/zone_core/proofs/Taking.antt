@@ -7,8 +7,8 @@ use Rattle.std.proofs.lemmas.Nat.{from_be_bytes-to_be_bytes_2}
 use Rattle.zone_core.specs.Query.{AxfrQuery}
 use Rattle.zone_core.specs.Frames.{frame, frames, IsPartial}
 use Rattle.std.specs.List.{AllByRecursion}
-use Rattle.zone_text.specs.Record.{Record}
-use Rattle.zone_text.specs.Records.{IsRecordOf}
+use Rattle.zone_octets.specs.Record.{Record}
+use Rattle.zone_octets.specs.Records.{IsRecordOf}
 use Rattle.zone_core.specs.Transfer.{WrittenOut, IsTransferIn}
 use Rattle.zone_core.specs.Intake.{BeginsWithFrame, EndsTransfer, IsEnded, Judged}
 use Rattle.zone_core.specs.declared.receive.intake.Intake.{Intake}

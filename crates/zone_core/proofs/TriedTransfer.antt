@@ -4,8 +4,8 @@ use Rattle.dns_label.specs.Name.{IsName}
 use Rattle.dns_rdata.specs.Fields.{Field}
 use Rattle.dns_rdata.specs.Fields.Field.{compressible, number32, ipv4}
 use Rattle.dns_rdata.specs.Fields.IsData.{typed}
-use Rattle.zone_text.specs.Records.{AreRecordsOf}
-use Rattle.zone_text.proofs.SpellableData.{today_is_spellable}
+use Rattle.zone_octets.specs.Records.{AreRecordsOf}
+use Rattle.zone_octets.proofs.SpellableData.{today_is_spellable}
 use Rattle.zone_core.specs.Sent.{IsQueryFor, IsSent, message, with_soa_again}
 use Rattle.zone_core.specs.Frames.{frames}
 use Rattle.zone_core.specs.Transfer.{IsTransfer}
@@ -29,7 +29,6 @@ are_records = record {
       spellable = today_is_spellable 6 soa.rdata (inl refl);
       owner_octets = ((omega arith, tt), tt);
       data_octets = search rules;
-      today = inl refl;
     },
     (
       record {
@@ -39,7 +38,6 @@ are_records = record {
         spellable = today_is_spellable 1 address.rdata (inr refl);
         owner_octets = ((omega arith, tt), tt);
         data_octets = (omega arith, (omega arith, (omega arith, (omega arith, tt))));
-        today = inr refl;
       },
       tt,
     ),

@@ -5,7 +5,7 @@ use Rattle.dns_label.specs.Name.{wire}
 use Rattle.dns_header.specs.Question.{Question, ReadsQuestion, ReadsPlainQuestion, question_octets}
 use Rattle.dns_header.proofs.WrittenQuestions.{question-written}
 use Rattle.dns_message.proofs.AsWritten.{least_wire, place_within, plain_read}
-use Rattle.zone_text.specs.Record.{Record}
+use Rattle.zone_octets.specs.Record.{Record}
 use Rattle.zone_core.specs.Query.{AxfrQuery}
 use Rattle.zone_core.specs.Transfer.{Standard, WrittenOut, HasRecord, AsksAgain, SpellsRecords, IsAnswer, AreAnswers, IsTransfer, IsTransferIn}
 use Rattle.zone_core.specs.Transfer.SpellsRecords.{none, one}

@@ -2,11 +2,11 @@
 use Rattle.std.specs.Prelude.{◌≡◌, ◌+◌, ℕ, Bool, true, false, List, ◌++◌, length, take, drop, ⊤}
 use Rattle.std.specs.List.{AllByRecursion, push}
 use Rattle.dns_header.specs.Question.{Question}
-use Rattle.zone_text.specs.Record as spec
+use Rattle.zone_octets.specs.Record as spec
 use Rattle.zone_core.specs.Query.{AxfrQuery}
 use Rattle.zone_core.specs.Frames.{frame, frames, IsFramable, IsPartial}
 use Rattle.zone_core.specs.Cutting.{joined}
-use Rattle.zone_text.specs.Records.{IsRecordOf}
+use Rattle.zone_octets.specs.Records.{IsRecordOf}
 use Rattle.zone_core.specs.Transfer.{WrittenOut, HasRecord, IsAnswer, AreAnswers, IsTransferred, ClosesTransfer, IsTransferIn}
 use Rattle.zone_core.specs.Receiving.{IsOpen}
 use Rattle.zone_core.specs.declared.receive.error.ReceiveError.{ReceiveError}

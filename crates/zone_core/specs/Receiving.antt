@@ -4,13 +4,13 @@ use Rattle.std.specs.Prelude.{◌≡◌, ◌≢◌, ◌+◌, ◌<◌, ◌≤◌,
 use Rattle.std.specs.List.{AllByRecursion, push}
 use Rattle.dns_label.specs.Name.{low}
 use Rattle.dns_header.specs.Header.{is_response, opcode_of, rcode_of, answer_count, id_of}
-use Rattle.zone_text.specs.Record.{Record}
-use Rattle.zone_text.specs.Zone.{IsUnder, soa_type}
+use Rattle.zone_octets.specs.Record.{Record}
+use Rattle.zone_octets.specs.Zone.{IsUnder, soa_type}
 use Rattle.zone_core.specs.Query.{AxfrQuery, IsQueryFault}
 use Rattle.zone_core.specs.Frames.{frame, frames, IsFramable, Splits}
 use Rattle.zone_core.specs.Cutting.{joined}
 use Rattle.zone_core.specs.Transfer.{WrittenOut, HasRecord, AsksAgain, SpellsRecords, CountsAnswers, HasAnswerHeader, AreAnswers, IsTransferred, ClosesTransfer, IsTransferIn}
-use Rattle.zone_text.specs.Records.{SameSoa}
+use Rattle.zone_octets.specs.Records.{SameSoa}
 use Rattle.zone_core.specs.declared.receive.error.ReceiveError.{ReceiveError}
 use Rattle.zone_core.specs.declared.receive.error.ReceiveError.TheVariants as receive_error
 

@@ -5,7 +5,7 @@ use Rattle.zone_text.specs.View.{apex_of}
 use Rattle.dns_header.specs.Header.{answer_header}
 use Rattle.dns_header.specs.Question.{question_octets}
 use Rattle.dns_message.specs.Record.{record_octets}
-use Rattle.zone_text.specs.Record.{Record}
+use Rattle.zone_octets.specs.Record.{Record}
 use Rattle.zone_core.specs.Query.{AxfrQuery, IsQuery, IsQueryFault, question_of}
 use Rattle.zone_core.specs.Frames.{frames}
 use Rattle.zone_core.specs.Cutting.{IsFullCut, IsBlocked}

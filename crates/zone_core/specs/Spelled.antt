@@ -12,7 +12,7 @@ use Rattle.dns_size.specs.Cost.{same_name, names_in, octets_in}
 use Rattle.dns_size.specs.CostSum.{first_label, ends_cost}
 use Rattle.dns_size.specs.Free.{IsFree}
 use Rattle.dns_size.specs.Groups.{group_parts, group_size}
-use Rattle.zone_text.specs.Record.{Record}
+use Rattle.zone_octets.specs.Record.{Record}
 use Rattle.zone_core.specs.Query.{AxfrQuery, question_of}
 
 -- the parts before the records: the header, which counts them, and the query's question

@@ -23,7 +23,8 @@ pub use spelled::{
     free_messages_are_no_fewer, hash_full_cut_is_fewest, message_octets_are_a_sum,
     tree_full_cut_is_fewest, written_records_have_names,
 };
-pub use zone_text::laws::{
-    one_zone_fault, printed_text_is_the_zones, records_have_one_printed_text, text_has_one_reading,
-    zone_text_breaks_no_rule,
+pub use zone_rules::laws::{
+    one_zone_fault, opaque_data_is_the_same, printed_text_is_the_zones,
+    records_have_one_printed_text, text_has_one_reading, zone_text_breaks_no_rule,
+    zone_text_or_fault,
 };

@@ -10,7 +10,7 @@ ghost use Rattle.zone_core.specs.Query.{AsksOne, IsQuery, IsQueryFault};
 use crate::query_error::QueryError;
 use dns_name::{Class, Name, ParseError, ParsedName, Parser, Rtype, ToName};
 use std::alloc::{AllocError, Global};
-use zone_text::header::number_at;
+use zone_octets::header::number_at;
 
 /// A query for the transfer of a zone (RFC 5936 2.1), as far as it counts.
 #[derive(Debug, Drop)]

@@ -3,7 +3,7 @@ ghost use Rattle.std.specs.Prelude.{◌≡◌, ◌+◌, ◌≤◌, ◌<◌, ◌^
 ghost use Rattle.std.specs.Int.{to_be_bytes, w16};
 ghost use Rattle.dns_label.specs.Name.{IsName};
 ghost use Rattle.dns_message.specs.Record.{record_octets};
-ghost use Rattle.zone_text.specs.Record as spec;
+ghost use Rattle.zone_octets.specs.Record as spec;
 ghost use Rattle.zone_core.specs.Asked.{asked_by};
 ghost use Rattle.zone_core.specs.Query.{AxfrQuery};
 ghost use Rattle.zone_core.specs.Sent.{message};
@@ -11,7 +11,7 @@ ghost use Rattle.zone_core.specs.Sent.{message};
 use crate::query::Query;
 use dns_name::{Name, Rtype};
 use std::alloc::{AllocError, Global};
-use zone_text::header::put_number;
+use zone_octets::header::put_number;
 
 /// The octets of a message's length on a stream.
 const LENGTH_OCTETS: usize = 2;

@@ -12,8 +12,8 @@ use crate::send_error::SendError;
 use crate::sender::Sender;
 use dns_name::{Name, ToName};
 use std::alloc::Global;
+use zone_octets::record_list::RecordList;
 use zone_text::Zone;
-use zone_text::record_list::RecordList;
 use zone_text::zone::records_of;
 
 /// How the names in messages are written.

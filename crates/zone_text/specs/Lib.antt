@@ -1,14 +1,3 @@
-pub mod Record
-pub mod PlainRow
-pub mod Zone
-pub mod ZoneText
-pub mod Stored
 pub mod Seen
-pub mod Entry
 pub mod View
-pub mod Records
-pub mod Rules
 pub mod Reading
-pub mod Printed
-pub mod Printing
-pub mod Soa

@@ -1,11 +1,72 @@
 -- How far the reading of a zone's text has come. Only contracts inside the crate speak of it.
-use Rattle.std.specs.Prelude.{◌≡◌, ℕ, List, ⊤}
-use Rattle.zone_text.specs.Entry.{RefusedBehindRows}
-use Rattle.zone_text.specs.declared.zone_error.ZoneError.{ZoneError}
-use Rattle.zone_text.specs.declared.zone_error.ZoneError.TheVariants.{Text, OutOfMemory}
+use Rattle.std.specs.Prelude.{◌≡◌, ◌≢◌, ◌++◌, ℕ, Bool, Option, Some, None, Result, Ok, List, ⊤, IfSome}
+use Rattle.dns_label.specs.Name.{IsName}
+use Rattle.dns_header.specs.Record.{RecordOf}
+use Rattle.dns_rdata.specs.Data.{Data, is_untyped}
+use Rattle.dns_rdata.specs.Fields.{IsData}
+use Rattle.dns_rdata.specs.DataOctets.{IsSpellable}
+use Rattle.dns_message.specs.Held.{record_of}
+use Rattle.dns_message.specs.Record.{record_octets}
+use Rattle.dns_row_scanner.specs.declared.entry_error.EntryError.{EntryError}
+use Rattle.dns_zonefile.specs.Composed.{IsHeld}
+use Rattle.dns_zonefile.specs.Entry.{Entry}
+use Rattle.dns_zonefile.specs.Entry.Entry.{Resource}
+use Rattle.dns_zonefile.specs.Entries.{HasEntries}
+use Rattle.dns_zonefile.specs.Reader.{Gives, GoesOver, Reader}
+use Rattle.zone_octets.specs.Record.{Record}
+use Rattle.zone_octets.specs.Stored.{AreStored}
+use Rattle.zone_octets.specs.Zone.{IsUnder, soa_type}
+use Rattle.zone_rules.specs.ZoneText.{KeepRules, records_in, start_of}
+use Rattle.zone_rules.specs.declared.zone_error.ZoneError.{ZoneError}
+use Rattle.zone_rules.specs.declared.zone_error.ZoneError.TheVariants as zone_error
 
--- the text goes on with what is no record, which is the n-th entry
-abbrev pub StopsReading : ℕ → List ℕ → ℕ → ZoneError → Type 0
-StopsReading class text n (Text m) = (m ≡ n) × RefusedBehindRows class text
-StopsReading class text n OutOfMemory = ⊤
-StopsReading class text n error = ⊥
+-- the reader of a zone's text before its first row
+abbrev pub reader_at : List ℕ → Option (List (List ℕ)) → ℕ → Reader
+reader_at text origin class = record { text = text; place = 0; context = start_of origin class; count = 0 }
+
+-- The entries up to where the reader stands keep a zone's rules, and the octets are their records, which begin at these places. The
+-- origin, if there is one, is a name.
+pub record HasRead (text : List ℕ) (origin : Option (List (List ℕ))) (class : ℕ) (reader : Reader) (octets places : List ℕ) : Type 0 where
+  pub named : IfSome origin IsName
+  pub entries : List Entry
+  pub goes : GoesOver (reader_at text origin class) entries reader
+  pub keep : KeepRules entries
+  pub stored : AreStored octets places (records_in entries)
+
+-- All entries of the text do.
+pub record HasReadAll (text : List ℕ) (origin : Option (List (List ℕ))) (class : ℕ) (octets places : List ℕ) : Type 0 where
+  pub entries : List Entry
+  pub has : HasEntries (start_of origin class) text entries
+  pub keep : KeepRules entries
+  pub stored : AreStored octets places (records_in entries)
+
+-- The reader gives a record, whose octets stand behind the old ones. The text has its data as opaque octets or not.
+pub record IsHanded (old : List ℕ) (told : Bool) (given : Result (Option Entry) EntryError) (new : List ℕ) : Type 0 where
+  pub rr : RecordOf (List (List ℕ)) Data
+  pub is : given ≡ Ok (Some (Resource rr))
+  pub held : IsHeld rr
+  pub octets : new ≡ old ++ record_octets (record_of rr)
+  pub opaque : told ≡ is_untyped rr.rdata
+
+-- The reader goes on to a record, or to the end of the text, where nothing is added to the octets.
+abbrev pub HasMet : Reader → List ℕ → Option Bool → Reader → List ℕ → Type 0
+HasMet reader old None new octets = Gives reader (Ok None) new × (octets ≡ old)
+HasMet reader old (Some told) new octets =
+    (given : Result (Option Entry) EntryError) × Gives reader given new × IsHanded old told given octets
+
+-- a record that may stand in the zone of this name, or be the first of a zone
+abbrev pub MayStandUnder : Option (List (List ℕ)) → Record → Type 0
+MayStandUnder None r = r.rtype ≡ soa_type
+MayStandUnder (Some apex) r = (r.rtype ≢ soa_type) × IsUnder apex r.owner
+
+-- the first rule that a record breaks there, which is of the entry of this number
+abbrev pub BreaksRule : ℕ → Option (List (List ℕ)) → Record → ZoneError → Type 0
+BreaksRule number apex r (zone_error.Untyped n) = (n ≡ number) × (IsData r.rtype r.rdata → ⊥)
+BreaksRule number None r (zone_error.FirstNotSoa n) = (n ≡ number) × IsData r.rtype r.rdata × (r.rtype ≢ soa_type)
+BreaksRule number (Some apex) r (zone_error.SecondSoa n) = (n ≡ number) × IsData r.rtype r.rdata × (r.rtype ≡ soa_type)
+BreaksRule number (Some apex) r (zone_error.OutOfZone n) =
+    (n ≡ number) × IsData r.rtype r.rdata × (r.rtype ≢ soa_type) × (IsUnder apex r.owner → ⊥)
+BreaksRule number apex r (zone_error.Unspellable n) =
+    (n ≡ number) × IsData r.rtype r.rdata × MayStandUnder apex r × (IsSpellable r.rtype r.rdata → ⊥)
+BreaksRule number apex r zone_error.OutOfMemory = ⊤
+BreaksRule number apex r error = ⊥

@@ -1,6 +1,6 @@
 -- What contracts see of a zone and of its name.
 use Rattle.std.specs.Prelude.{ℕ, List, [], ◌∷◌}
-use Rattle.zone_text.specs.Record.{Record}
+use Rattle.zone_octets.specs.Record.{Record}
 
 -- a zone is its records, in order, and its class
 pub record Contents : Type 0 where

@@ -1,9 +1,9 @@
 //! The records of a zone as its user sees them.
 ghost use Rattle.std.specs.Prelude.{◌<◌, length};
 
-use crate::record_list::RecordList;
 use dns_name::{Class, Name, Rtype, Ttl};
 use std::marker::Model;
+use zone_octets::record_list::RecordList;
 
 /// The records of a zone, one after another.
 #[derive(Debug, Drop)]
@@ -14,7 +14,7 @@ pub struct ZoneRecords<'a> {
 
 impl<'a> Model for ZoneRecords<'a> {
     ghost use Rattle.std.specs.Prelude.{List, drop, length, ◌≤◌};
-    ghost use Rattle.zone_text.specs.Record.{Record};
+    ghost use Rattle.zone_octets.specs.Record.{Record};
 
     ghost Value = { List Record };
 

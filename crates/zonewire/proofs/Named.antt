@@ -1,6 +1,7 @@
 -- Words that the command takes name one of its subcommands, with options whose values passed.
 use Rattle.std.proofs.Common.{◌≡◌, ◌∙◌, Bool, cond, true, false, refl, sym, ap, ap₂, subst, List, [], ◌∷◌, Option, Some, None, is_some, codes, not, ◌||◌, ◌⊎◌, inl, inr}
 use Rattle.std.specs.Option.{option_map, option_map_or}
+use Rattle.std.specs.Bool.{MatchBool}
 use Rattle.std.specs.Prelude.{Box, IfSome, pos}
 use Rattle.std.specs.Box.{box_value}
 use Rattle.clap.specs.Matches.{subcommand_name_of}
@@ -10,16 +11,17 @@ use Rattle.clap.specs.declared.parser.matches.SubCommand.{SubCommand}
 use Rattle.clap.specs.Lexer.{without_minus}
 use Rattle.clap.specs.Values.{IsSignedIn, read_as}
 use Rattle.clap.specs.ValueTests.{accepts}
-use Rattle.clap.specs.Facts.{parser_of_value}
+use Rattle.clap.specs.Facts.{parser_of_value, unwrap_or_range}
 use Rattle.clap.specs.declared.builder.value_parser.Reading.TheVariants.{WithoutMinus}
 use Rattle.clap.proofs.ValueTestLemmas.{accepts-Accepts}
 use Rattle.std.specs.Str.{bytes_eq}
-use Rattle.clap.specs.Walk.{Names, Row, Rule, Text, answers_to, arg_by_id, first_of, nothing_held, one_of, reading_by, walk}
+use Rattle.clap.specs.Walk.{Names, Row, Rule, Text, action_of, answers_to, arg_by_id, first_of, most_values, nothing_held, one_of, reading_by, walk}
 use Rattle.clap.specs.Takes.{is_given}
 use Rattle.clap.specs.Simple.{App, HasMatchesOf, Shape, argument_words, built, entered, filled, is_simple, label_of, names_of, new_shape, rows_at, subcommand_of, subcommand_rows, subcommand_rows_of}
 use Rattle.clap.specs.Faults.{entered_fault, fault_of, is_simple_and_free, level_fault, use_fault}
 use Rattle.clap.specs.Kinds.{Kinds}
 use Rattle.clap.specs.declared.builder.value_parser.ValueParser.TheVariants as vp
+use Rattle.clap.specs.declared.builder.action.ArgAction.TheVariants.{Set}
 use Rattle.clap.specs.declared.error.kind.ErrorKind.TheVariants as kind
 use Rattle.zonewire.specs.Command.{Choices, IsZonewire, always, choice_option, number_option, text_option, zonewire}
 use Rattle.zonewire.specs.Words.{HasNumber}
@@ -34,8 +36,22 @@ abbrev second : List Shape → Shape
 second [] = new_shape []
 second (s ∷ more) = first more
 
+abbrev third : List Shape → Shape
+third [] = new_shape []
+third (s ∷ more) = second more
+
+abbrev fourth : List Shape → Shape
+fourth [] = new_shape []
+fourth (s ∷ more) = third more
+
 -- the options, as built
-abbrev pub id_rule : Rule
+abbrev origin_rule : Rule
+origin_rule = filled (text_option (codes "origin"))
+
+abbrev class_rule : Rule
+class_rule = filled (text_option (codes "class"))
+
+abbrev id_rule : Rule
 id_rule = filled (number_option (codes "id"))
 
 abbrev max_rule : Rule
@@ -44,11 +60,12 @@ max_rule = filled (number_option (codes "max"))
 abbrev spelling_rule : Choices → Rule
 spelling_rule spellings = filled (always (choice_option (codes "spelling") spellings))
 
+-- the name of a query may be left out, and that of a zone that is received has to be there
+abbrev asked_rule : Rule
+asked_rule = filled (text_option (codes "apex"))
+
 abbrev apex_rule : Rule
 apex_rule = filled (always (text_option (codes "apex")))
-
-abbrev class_rule : Rule
-class_rule = filled (text_option (codes "class"))
 
 abbrev layout_rule : Choices → Rule
 layout_rule layouts = filled (choice_option (codes "layout") layouts)
@@ -66,105 +83,6 @@ level_rows s words once keeps bare clear =
 needs : (given : Bool) → cond (not given || false) (kind.MissingRequiredArgument ∷ []) [] ≡ [] → given ≡ true
 needs true clear = refl
 needs false clear = cc
-
--- what words that are not refused name
-abbrev IsSendMet : List Rule → Option (Text × List Row) → Type 0
-IsSendMet rules met = (rows : List Row) × (met ≡ Some (codes "send", rows)) × Each (IsPassed rules) rows
-
-abbrev IsReceiveMet : List Rule → Option (Text × List Row) → Type 0
-IsReceiveMet rules met = (rows : List Row) × (met ≡ Some (codes "receive", rows)) × Each (IsPassed rules) rows
-    × (is_some (first_of (codes "apex") rows) ≡ true)
-
-module _ (spellings layouts : Choices) where
-  -- the command and its subcommands, as built
-  abbrev whole : App
-  whole = built (zonewire spellings layouts)
-
-  abbrev pub sends : Shape
-  sends = first whole.subs
-
-  abbrev pub receives : Shape
-  receives = second whole.subs
-
-  send_keeps : Each (Keeps sends.rules) sends.rules
-  send_keeps = (
-    set_keeps sends.rules id_rule (record { action = refl; least = refl; most = refl; own = refl }),
-    (
-      set_keeps sends.rules max_rule (record { action = refl; least = refl; most = refl; own = refl }),
-      (
-        set_keeps sends.rules (spelling_rule spellings) (record { action = refl; least = refl; most = refl; own = refl }),
-        ((λ values rows clear all. all), tt),
-      ),
-    ),
-  )
-
-  receive_keeps : Each (Keeps receives.rules) receives.rules
-  receive_keeps = (
-    set_keeps receives.rules apex_rule (record { action = refl; least = refl; most = refl; own = refl }),
-    (
-      set_keeps receives.rules id_rule (record { action = refl; least = refl; most = refl; own = refl }),
-      (
-        set_keeps receives.rules class_rule (record { action = refl; least = refl; most = refl; own = refl }),
-        (
-          set_keeps receives.rules (layout_rule layouts) (record { action = refl; least = refl; most = refl; own = refl }),
-          ((λ values rows clear all. all), tt),
-        ),
-      ),
-    ),
-  )
-
-  -- a level that needs a subcommand fails without one
-  needed : (names : Names) (words : List Text) (below : Kinds) → level_fault whole.top names nothing_held words false below ≡ [] → ⊥
-  needed names words below clear = missing (level_clear whole.top names nothing_held words false below clear).1
-    where
-      missing : kind.MissingSubcommand ∷ [] ≡ [] → ⊥
-      missing e = cc
-
-  abbrev IsNamed : Option (Text × List Row) → Type 0
-  IsNamed met = IsSendMet sends.rules met ⊎ IsReceiveMet receives.rules met
-
-  send_named : (words : List Text) → level_fault sends [] nothing_held words false [] ≡ [] → IsSendMet sends.rules (Some (rows_at sends words))
-  send_named words clear = ((rows_at sends words).1, refl, level_rows sends words refl send_keeps (refl, (refl, (refl, (refl, tt)))) clear)
-
-  receive_named : (words : List Text) → level_fault receives [] nothing_held words false [] ≡ []
-      → IsReceiveMet receives.rules (Some (rows_at receives words))
-  receive_named words clear =
-      let rows = (rows_at receives words).1 in
-      let all = level_rows receives words refl receive_keeps (refl, (refl, (refl, (refl, (refl, tt))))) clear in
-      let given = needs (is_given (codes "apex") rows) (level_clear receives [] nothing_held words false [] clear).1 in
-      (rows, refl, all, given_text receives.rules (codes "apex") rows all given)
-
-  -- the subcommand, by whether its name was met
-  abbrev entered_by : Bool → Bool → Option Shape
-  entered_by is_send is_receive = cond is_send (Some sends) (cond is_receive (Some receives) None)
-
-  abbrev met_by : Bool → Bool → List Text → Option (Text × List Row)
-  met_by is_send is_receive words = option_map (λ s. rows_at s words) (entered_by is_send is_receive)
-
-  abbrev fault_by : Bool → Bool → List Text → Kinds
-  fault_by is_send is_receive words =
-      option_map_or (λ s. level_fault s [] nothing_held words false []) (entered_by is_send is_receive) []
-
-  named_by : (names : Names) (words : List Text) (is_send is_receive : Bool) (behind : List Text)
-      → level_fault whole.top names nothing_held words (is_some (met_by is_send is_receive behind)) (fault_by is_send is_receive behind) ≡ []
-      → IsNamed (met_by is_send is_receive behind)
-  named_by names words true is_receive behind clear =
-      inl (send_named behind (level_clear whole.top names nothing_held words true (fault_by true is_receive behind) clear).0)
-  named_by names words false true behind clear =
-      inr (receive_named behind (level_clear whole.top names nothing_held words true (fault_by false true behind) clear).0)
-  named_by names words false false behind clear = absurd (needed names words [] clear)
-
-  named_at : (names : Names) (words : List Text) (stop : Option (Text × List Text))
-      → level_fault whole.top names nothing_held words (is_some (entered whole stop)) (entered_fault whole stop) ≡ []
-      → IsNamed (entered whole stop)
-  named_at names words None clear = absurd (needed names words [] clear)
-  named_at names words (Some p) clear =
-      named_by names words (answers_to p.0 (label_of sends)) (answers_to p.0 (label_of receives)) p.1 clear
-
-  named : (words : List Text) → fault_of (zonewire spellings layouts) words ≡ [] → IsNamed (subcommand_of (zonewire spellings layouts) words)
-  named words clear =
-      let given = argument_words (zonewire spellings layouts) words in
-      named_at (names_of whole) given (walk whole.top.rules (names_of whole) nothing_held given).stopped clear
 
 -- ---- the numbers
 
@@ -187,52 +105,157 @@ number_passed : (rules : List Rule) (name : Text) (a : Rule) (rows : List Row) �
 number_passed rules name a rows own how case parser all =
     number_of_passed a how case parser (one_of name rows) (given_passed rules name a rows own all)
 
+-- ---- what words that are not refused name
+
+-- the name is that of a subcommand
+abbrev IsKnown : Text → Type 0
+IsKnown name = (name ≡ codes "send") ⊎ ((name ≡ codes "receive") ⊎ ((name ≡ codes "check") ⊎ (name ≡ codes "canon")))
+
+-- what holds of the rows of the subcommand of this name
+abbrev pub Needs : Text → List Row → Type 0
+Needs name rows = MatchBool (bytes_eq name (codes "send")) (HasNumber (codes "id") rows × HasNumber (codes "max") rows)
+    (MatchBool (bytes_eq name (codes "receive")) (HasNumber (codes "id") rows × (is_some (first_of (codes "apex") rows) ≡ true)) (Unit {0}))
+
+-- a subcommand was met, and this holds of its rows
+abbrev IsNamed : Option (Text × List Row) → Type 0
+IsNamed met = (name : Text) × (rows : List Row) × (met ≡ Some (name, rows)) × IsKnown name × Needs name rows
+
+once : (c : List Rule) (a : Rule) → action_of a ≡ Set → (unwrap_or_range a.range).start_inclusive ≡ 1 → most_values a ≡ 1 → arg_by_id c a.id ≡ Some a
+    → Keeps c a
+once c a action least most own = set_keeps c a (record { action = action; least = least; most = most; own = own })
+
+module _ (spellings layouts : Choices) where
+  -- the command and its subcommands, as built
+  abbrev whole : App
+  whole = built (zonewire spellings layouts)
+
+  abbrev sends : Shape
+  sends = first whole.subs
+
+  abbrev receives : Shape
+  receives = second whole.subs
+
+  abbrev checks : Shape
+  checks = third whole.subs
+
+  abbrev canons : Shape
+  canons = fourth whole.subs
+
+  send_keeps : Each (Keeps sends.rules) sends.rules
+  send_keeps = (
+    once sends.rules origin_rule refl refl refl refl,
+    (
+      once sends.rules class_rule refl refl refl refl,
+      (
+        once sends.rules id_rule refl refl refl refl,
+        (
+          once sends.rules asked_rule refl refl refl refl,
+          (
+            once sends.rules max_rule refl refl refl refl,
+            (once sends.rules (spelling_rule spellings) refl refl refl refl, ((λ values rows clear all. all), tt)),
+          ),
+        ),
+      ),
+    ),
+  )
+
+  receive_keeps : Each (Keeps receives.rules) receives.rules
+  receive_keeps = (
+    once receives.rules apex_rule refl refl refl refl,
+    (
+      once receives.rules id_rule refl refl refl refl,
+      (
+        once receives.rules class_rule refl refl refl refl,
+        (once receives.rules (layout_rule layouts) refl refl refl refl, ((λ values rows clear all. all), tt)),
+      ),
+    ),
+  )
+
+  -- a level that needs a subcommand fails without one
+  needed : (names : Names) (words : List Text) (below : Kinds) → level_fault whole.top names nothing_held words false below ≡ [] → ⊥
+  needed names words below clear = missing (level_clear whole.top names nothing_held words false below clear).1
+    where
+      missing : kind.MissingSubcommand ∷ [] ≡ [] → ⊥
+      missing e = cc
+
+  send_named : (words : List Text) → level_fault sends [] nothing_held words false [] ≡ [] → IsNamed (Some (rows_at sends words))
+  send_named words clear =
+      let rows = (rows_at sends words).1 in
+      let all : Each (IsPassed sends.rules) rows =
+      level_rows sends words refl send_keeps (refl, (refl, (refl, (refl, (refl, (refl, (refl, tt))))))) clear in
+      let id : HasNumber (codes "id") rows = number_passed sends.rules (codes "id") id_rule rows refl refl refl refl all in
+      let max : HasNumber (codes "max") rows = number_passed sends.rules (codes "max") max_rule rows refl refl refl refl all in
+      (codes "send", rows, refl, inl refl, (id, max))
+
+  receive_named : (words : List Text) → level_fault receives [] nothing_held words false [] ≡ [] → IsNamed (Some (rows_at receives words))
+  receive_named words clear =
+      let rows = (rows_at receives words).1 in
+      let all : Each (IsPassed receives.rules) rows =
+      level_rows receives words refl receive_keeps (refl, (refl, (refl, (refl, (refl, tt))))) clear in
+      let given = needs (is_given (codes "apex") rows) (level_clear receives [] nothing_held words false [] clear).1 in
+      let id : HasNumber (codes "id") rows = number_passed receives.rules (codes "id") id_rule rows refl refl refl refl all in
+      (codes "receive", rows, refl, inr (inl refl), (id, given_text receives.rules (codes "apex") rows all given))
+
+  -- the subcommand, by whether its name was met
+  abbrev entered_by : Bool → Bool → Bool → Bool → Option Shape
+  entered_by is_send is_receive is_check is_canon =
+      cond is_send (Some sends) (cond is_receive (Some receives) (cond is_check (Some checks) (cond is_canon (Some canons) None)))
+
+  abbrev met_by : Bool → Bool → Bool → Bool → List Text → Option (Text × List Row)
+  met_by is_send is_receive is_check is_canon words = option_map (λ s. rows_at s words) (entered_by is_send is_receive is_check is_canon)
+
+  abbrev fault_by : Bool → Bool → Bool → Bool → List Text → Kinds
+  fault_by is_send is_receive is_check is_canon words =
+      option_map_or (λ s. level_fault s [] nothing_held words false []) (entered_by is_send is_receive is_check is_canon) []
+
+  named_by : (names : Names) (words : List Text) (is_send is_receive is_check is_canon : Bool) (behind : List Text)
+      → level_fault whole.top names nothing_held words (is_some (met_by is_send is_receive is_check is_canon behind))
+      (fault_by is_send is_receive is_check is_canon behind) ≡ []
+      → IsNamed (met_by is_send is_receive is_check is_canon behind)
+  named_by names words true is_receive is_check is_canon behind clear =
+      send_named behind (level_clear whole.top names nothing_held words true (fault_by true is_receive is_check is_canon behind) clear).0
+  named_by names words false true is_check is_canon behind clear =
+      receive_named behind (level_clear whole.top names nothing_held words true (fault_by false true is_check is_canon behind) clear).0
+  named_by names words false false true is_canon behind clear = (codes "check", (rows_at checks behind).1, refl, inr (inr (inl refl)), tt)
+  named_by names words false false false true behind clear = (codes "canon", (rows_at canons behind).1, refl, inr (inr (inr refl)), tt)
+  named_by names words false false false false behind clear = absurd (needed names words [] clear)
+
+  named_at : (names : Names) (words : List Text) (stop : Option (Text × List Text))
+      → level_fault whole.top names nothing_held words (is_some (entered whole stop)) (entered_fault whole stop) ≡ []
+      → IsNamed (entered whole stop)
+  named_at names words None clear = absurd (needed names words [] clear)
+  named_at names words (Some p) clear = named_by names words (answers_to p.0 (label_of sends)) (answers_to p.0 (label_of receives))
+      (answers_to p.0 (label_of checks)) (answers_to p.0 (label_of canons)) p.1 clear
+
+  named : (words : List Text) → fault_of (zonewire spellings layouts) words ≡ [] → IsNamed (subcommand_of (zonewire spellings layouts) words)
+  named words clear =
+      let given = argument_words (zonewire spellings layouts) words in
+      named_at (names_of whole) given (walk whole.top.rules (names_of whole) nothing_held given).stopped clear
+
 -- ---- what a parse says of it
 
 pub simple_and_free : (a : App) → IsZonewire a → is_simple_and_free a ≡ true
 simple_and_free a (spellings, layouts, spelled, laid, is) = ap is_simple_and_free is
 
--- the subcommand that the parse met is `send`
-pub record IsSent (a : App) (words : List Text) (m : ArgMatches) : Type 0 where
+-- the subcommand that the parse met has this name
+pub record IsMetAs (name : Text) (a : App) (words : List Text) (m : ArgMatches) : Type 0 where
   pub rows : List Row
-  pub met : subcommand_rows_of m ≡ Some (codes "send", rows)
-  pub names : subcommand_of a words ≡ Some (codes "send", rows)
-  pub id : HasNumber (codes "id") rows
-  pub max : HasNumber (codes "max") rows
-
--- the subcommand that the parse met is `receive`
-pub record IsReceived (a : App) (words : List Text) (m : ArgMatches) : Type 0 where
-  pub rows : List Row
-  pub met : subcommand_rows_of m ≡ Some (codes "receive", rows)
-  pub names : subcommand_of a words ≡ Some (codes "receive", rows)
-  pub id : HasNumber (codes "id") rows
-  pub apex : is_some (first_of (codes "apex") rows) ≡ true
+  pub met : subcommand_rows_of m ≡ Some (name, rows)
+  pub names : subcommand_of a words ≡ Some (name, rows)
+  pub holds : Needs name rows
 
 abbrev pub IsMet : App → List Text → ArgMatches → Type 0
-IsMet a words m = IsSent a words m ⊎ IsReceived a words m
+IsMet a words m = (name : Text) × IsKnown name × IsMetAs name a words m
 
-met_as : (spellings layouts : Choices) (words : List Text) (m : ArgMatches)
-    → subcommand_rows_of m ≡ subcommand_of (zonewire spellings layouts) words
-    → IsNamed spellings layouts (subcommand_of (zonewire spellings layouts) words) → IsMet (zonewire spellings layouts) words m
-met_as spellings layouts words m is (inl (rows, found, all)) = inl (record {
-  rows = rows;
-  met = is ∙ found;
-  names = found;
-  id = number_passed (sends spellings layouts).rules (codes "id") id_rule rows refl refl refl refl all;
-  max = number_passed (sends spellings layouts).rules (codes "max") max_rule rows refl refl refl refl all;
-})
-met_as spellings layouts words m is (inr (rows, found, all, apex)) = inr (record {
-  rows = rows;
-  met = is ∙ found;
-  names = found;
-  id = number_passed (receives spellings layouts).rules (codes "id") id_rule rows refl refl refl refl all;
-  apex = apex;
-})
+met_as : (a : App) (words : List Text) (m : ArgMatches) → subcommand_rows_of m ≡ subcommand_of a words → IsNamed (subcommand_of a words) → IsMet a words m
+met_as a words m is (name, rows, found, known, needs) =
+    (name, known, record { rows = rows; met = is ∙ found; names = found; holds = needs })
 
 pub met_one : (a : App) → IsZonewire a → (words : List Text) (m : ArgMatches) → (is_simple_and_free a ≡ true → fault_of a words ≡ [])
     → HasMatchesOf a words m → IsMet a words m
 met_one a (spellings, layouts, spelled, laid, is) words m kinds matches =
-    subst (λ (b : App). IsMet b words m) (sym is) (met_as spellings layouts words m ((matches (ap is_simple is)).1 ∙ ap (λ b. subcommand_of b words) is)
+    subst (λ (b : App). IsMet b words m) (sym is) (met_as (zonewire spellings layouts) words m
+    ((matches (ap is_simple is)).1 ∙ ap (λ b. subcommand_of b words) is)
     (named spellings layouts words (ap (λ b. fault_of b words) (sym is) ∙ kinds (ap is_simple_and_free is))))
 
 -- its name
@@ -244,25 +267,24 @@ name_of_met (Some b) met is = ap (option_map (λ (q : Text × List Row). q.0)) i
 same_name : (m : ArgMatches) (met : Text × List Row) (name : Text) → subcommand_rows_of m ≡ Some met → Some name ≡ subcommand_name_of m → name ≡ met.0
 same_name m met name is named = some_is name met.0 (named ∙ name_of_met (out-ArgMatches m).subcommand met is)
 
-other_name : codes "send" ≡ codes "receive" → ⊥
-other_name e =
-    let bad : true ≡ false = ap (bytes_eq (codes "send")) e in cc
-
 -- the subcommand, where its name is this one
-pub sent_by : (a : App) (words : List Text) (m : ArgMatches) → IsMet a words m → (name : Text) → Some name ≡ subcommand_name_of m
-    → name ≡ codes "send" → IsSent a words m
-sent_by a words m (inl s) name named is = s
-sent_by a words m (inr s) name named is = absurd (other_name (sym is ∙ same_name m (codes "receive", s.rows) name s.met named))
+pub met_at : (a : App) (words : List Text) (m : ArgMatches) → IsMet a words m → (name given : Text) → Some given ≡ subcommand_name_of m
+    → given ≡ name → IsMetAs name a words m
+met_at a words m (met, known, s) name given named is =
+    let same : met ≡ name = sym (same_name m (met, s.rows) given s.met named) ∙ is in
+    subst (λ (n : Text). IsMetAs n a words m) same s
 
-pub received_by : (a : App) (words : List Text) (m : ArgMatches) → IsMet a words m → (name : Text) → Some name ≡ subcommand_name_of m
-    → name ≡ codes "receive" → IsReceived a words m
-received_by a words m (inl s) name named is = absurd (other_name (sym (same_name m (codes "send", s.rows) name s.met named) ∙ is))
-received_by a words m (inr s) name named is = s
-
+-- its name is one of the four
 pub one_by : (a : App) (words : List Text) (m : ArgMatches) → IsMet a words m → (name : Text) → Some name ≡ subcommand_name_of m
-    → (name ≡ codes "send" → ⊥) → (name ≡ codes "receive" → ⊥) → ⊥
-one_by a words m (inl s) name named not-send not-receive = not-send (same_name m (codes "send", s.rows) name s.met named)
-one_by a words m (inr s) name named not-send not-receive = not-receive (same_name m (codes "receive", s.rows) name s.met named)
+    → (name ≡ codes "send" → ⊥) → (name ≡ codes "receive" → ⊥) → (name ≡ codes "check" → ⊥) → (name ≡ codes "canon" → ⊥) → ⊥
+one_by a words m (met, known, s) name named not-send not-receive not-check not-canon =
+    go known (same_name m (met, s.rows) name s.met named)
+  where
+    go : IsKnown met → name ≡ met → ⊥
+    go (inl is) same = not-send (same ∙ is)
+    go (inr (inl is)) same = not-receive (same ∙ is)
+    go (inr (inr (inl is))) same = not-check (same ∙ is)
+    go (inr (inr (inr is))) same = not-canon (same ∙ is)
 
 -- the rows of the matches that a caller got for it
 pub met_rows : (m : ArgMatches) (met : Text × List Row) → subcommand_rows_of m ≡ Some met → (rows : List Row)

@@ -1,5 +1,5 @@
 -- What is read of an option that is a text.
-use Rattle.std.proofs.Common.{◌≡◌, ◌∙◌, List, Option, Some, None, Bor, refl, true, is_some, ap, sym, codes}
+use Rattle.std.proofs.Common.{◌≡◌, ◌∙◌, List, ◌∷◌, Option, Some, None, Bor, true, is_some, ap, sym, inl, inr}
 use Rattle.std.specs.Prelude.{option_map}
 use Rattle.clap.specs.Walk.{Row, Text, first_of, rows_of}
 use Rattle.clap.specs.Matches.{first_value}
@@ -10,7 +10,9 @@ use Rattle.dns_wire.specs.Text.{IsRefused}
 use Rattle.dns_wire.specs.declared.text.FromStrError.{FromStrError}
 use Rattle.dns_wire.specs.declared.text.FromStrError.TheVariants.{Presentation, ShortBuf}
 use Rattle.zonewire.specs.Fault.{of_name}
-use Rattle.zonewire.specs.Words.{IsValueFault}
+use Rattle.zonewire.specs.Words.{IsFaultOf, IsNameFault}
+use Rattle.zonewire.specs.declared.words.WordsFault.{WordsFault}
+use Rattle.zonewire.specs.declared.words.WordsFault.TheVariants.{Line, BadName, BadClass, OutOfMemory}
 
 -- `get_str` gives the text that the rows have for an option
 pub text_read : (f : Found) (option : Text) (got o : Option (Bor Text)) → option_map (λ s. s.now) got ≡ first_value f option → got ≡ o
@@ -23,7 +25,23 @@ text_there option rows none there =
     let bad = sym (ap is_some none) ∙ there in cc
 
 -- why a name was not read
-pub name_fault : (rows : List Row) (text : Text) (error : FromStrError) → first_of (codes "apex") rows ≡ Some text → IsRefused IsNameText text error
-    → IsValueFault (codes "receive", rows) (of_name error)
-name_fault rows text (Presentation error) has refused = (refl, (text, has, refused))
-name_fault rows text ShortBuf has refused = tt
+pub name_fault : (option : Text) (rows : List Row) (text : Text) (error : FromStrError) → first_of option rows ≡ Some text
+    → IsRefused IsNameText text error → IsNameFault option rows (of_name error)
+name_fault option rows text (Presentation error) has refused = (text, has, refused)
+name_fault option rows text ShortBuf has refused = tt
+
+-- that is a fault of a subcommand of which the option is the first name
+pub first_fault : (option : Text) (options : List Text) (rows : List Row) (fault : WordsFault) → IsNameFault option rows fault
+    → IsFaultOf (option ∷ options) rows fault
+first_fault option options rows (Line e) bad = bad
+first_fault option options rows BadName bad = inl bad
+first_fault option options rows BadClass bad = absurd bad
+first_fault option options rows OutOfMemory bad = tt
+
+-- or the second one
+pub second_fault : (first option : Text) (options : List Text) (rows : List Row) (fault : WordsFault) → IsNameFault option rows fault
+    → IsFaultOf (first ∷ option ∷ options) rows fault
+second_fault first option options rows (Line e) bad = bad
+second_fault first option options rows BadName bad = inr (inl bad)
+second_fault first option options rows BadClass bad = absurd bad
+second_fault first option options rows OutOfMemory bad = tt

@@ -22,6 +22,10 @@ choice_option name choices = record (new_rule name) { long = Some name; parser =
 abbrev pub text_option : Text → Rule
 text_option name = record (new_rule name) { long = Some name }
 
+-- a subcommand that reads a zone's text has these options, for the origin and the class
+abbrev pub with_text_options : App → App
+with_text_options a = with_rule (with_rule a (text_option (codes "origin"))) (text_option (codes "class"))
+
 -- an option that has to be given
 abbrev pub always : Rule → Rule
 always option = record option { required = true }
@@ -29,7 +33,10 @@ always option = record option { required = true }
 abbrev pub send_app : Choices → App
 send_app spellings = with_rule
     (with_rule
-    (with_rule (new_app (codes "send")) (number_option (codes "id"))) (number_option (codes "max")))
+    (with_rule
+    (with_rule (with_text_options (new_app (codes "send"))) (number_option (codes "id")))
+    (text_option (codes "apex")))
+    (number_option (codes "max")))
     (always (choice_option (codes "spelling") spellings))
 
 abbrev pub receive_app : Choices → App
@@ -39,6 +46,10 @@ receive_app layouts = with_rule
     (with_rule (new_app (codes "receive")) (always (text_option (codes "apex")))) (number_option (codes "id")))
     (text_option (codes "class")))
     (choice_option (codes "layout") layouts)
+
+-- the subcommand of this name that reads a zone's text and has no further options
+abbrev pub text_app : Text → App
+text_app name = with_text_options (new_app name)
 
 -- the list has these words
 abbrev pub IsChoices : List Text → Choices → Type 0
@@ -50,7 +61,7 @@ IsSpellings spellings = IsChoices (codes "plain" ∷ []) spellings
 
 -- the layouts that there are
 abbrev pub IsLayouts : Choices → Type 0
-IsLayouts layouts = IsChoices (codes "simple" ∷ []) layouts
+IsLayouts layouts = IsChoices (codes "simple" ∷ codes "tabbed" ∷ codes "multiline" ∷ []) layouts
 
 abbrev pub IsSend : App → Type 0
 IsSend a = (spellings : Choices) × IsSpellings spellings × (a ≡ send_app spellings)
@@ -64,8 +75,11 @@ program = on_top (λ s. record s { subcommand_required = true; disable_help_subc
     (new_app (codes "zonewire"))
 
 abbrev pub zonewire : Choices → Choices → App
-zonewire spellings layouts =
-    with_subcommand (with_subcommand program (send_app spellings).top) (receive_app layouts).top
+zonewire spellings layouts = with_subcommand
+    (with_subcommand
+    (with_subcommand (with_subcommand program (send_app spellings).top) (receive_app layouts).top)
+    (text_app (codes "check")).top)
+    (text_app (codes "canon")).top
 
 -- the command of the program, wherever the lists of its options' words lie
 abbrev pub IsZonewire : App → Type 0

@@ -1,7 +1,9 @@
 -- The job that the words of a command line name, and why words are refused.
-use Rattle.std.specs.Prelude.{◌≡◌, ℕ, List, [], true, Some, None, Result, MatchResult, codes}
-use Rattle.std.specs.Prelude.{⊤, IfSome, Option, pos}
+use Rattle.std.specs.Prelude.{◌≡◌, ◌⊎◌, ℕ, List, [], ◌∷◌, true, Some, None, Result, MatchResult, codes}
+use Rattle.std.specs.Prelude.{⊤, IfSome, Option, pos, if◌then◌else◌}
+use Rattle.std.specs.List.{AllByRecursion}
 use Rattle.std.specs.Option.{option_map_or}
+use Rattle.std.specs.Str.{bytes_eq}
 use Rattle.std.specs.Str.Parse.{digits_value, without_leading_plus}
 use Rattle.clap.specs.Walk.{Row, Text, first_of, one_of}
 use Rattle.clap.specs.Simple.{App, subcommand_of}
@@ -13,10 +15,11 @@ use Rattle.clap.specs.Values.{IsSignedIn, kind_of}
 use Rattle.clap.specs.declared.error.kind.ErrorKind.TheVariants as kind
 use Rattle.dns_label.specs.NameText.{IsNameText}
 use Rattle.dns_values.specs.Mnemonic.{class_read}
-use Rattle.zone_text.specs.declared.print.DisplayKind.TheVariants.{Simple}
+use Rattle.dns_text.specs.declared.layout.DisplayKind.{DisplayKind}
+use Rattle.dns_text.specs.declared.layout.DisplayKind.TheVariants.{Simple, Tabbed, Multiline}
 use Rattle.zone_core.specs.declared.transfer.Spelling.TheVariants.{Plain}
 use Rattle.zonewire.specs.declared.jobs.Job.{Job}
-use Rattle.zonewire.specs.declared.jobs.Job.TheVariants.{Send, Receive}
+use Rattle.zonewire.specs.declared.jobs.Job.TheVariants.{Send, Receive, Check, Canon}
 use Rattle.zonewire.specs.declared.words.WordsFault.{WordsFault}
 use Rattle.zonewire.specs.declared.words.WordsFault.TheVariants.{Line, BadName, BadClass, OutOfMemory}
 
@@ -51,26 +54,71 @@ HasText option rows text = first_of option rows ≡ Some text
 abbrev pub HasName : Text → List Row → List (List ℕ) → Type 0
 HasName option rows name = (text : Text) × HasText option rows text × IsNameText text name
 
+-- the name that the option gives, and none where it is left out
+abbrev pub IsNameIn : Text → List Row → Option (List (List ℕ)) → Type 0
+IsNameIn option rows None = first_of option rows ≡ None
+IsNameIn option rows (Some name) = HasName option rows name
+
+-- the option is given, and its text spells no name
+abbrev pub HasNoName : Text → List Row → Type 0
+HasNoName option rows = (text : Text) × HasText option rows text × ((labels : List (List ℕ)) → IsNameText text labels → ⊥)
+
+-- why the option gives no name
+abbrev pub IsNameFault : Text → List Row → WordsFault → Type 0
+IsNameFault option rows (Line e) = ⊥
+IsNameFault option rows BadName = HasNoName option rows
+IsNameFault option rows BadClass = ⊥
+IsNameFault option rows OutOfMemory = ⊤
+
+-- the layout of this word
+abbrev pub layout_named : Text → DisplayKind
+layout_named text = if bytes_eq text (codes "tabbed") then Tabbed
+    else (if bytes_eq text (codes "multiline") then Multiline else Simple)
+
+-- the layout that the matches have, which is the simple one where the option is left out
+abbrev pub layout_in : List Row → DisplayKind
+layout_in rows = option_map_or layout_named (first_of (codes "layout") rows) Simple
+
 -- the matches of a subcommand name the job
 abbrev pub IsJobOf : Text × List Row → Job → Type 0
 IsJobOf (name, rows) (Send origin class id apex max spelling) =
-    (name ≡ codes "send") × (origin ≡ None) × (class ≡ internet)
+    (name ≡ codes "send") × IsNameIn (codes "origin") rows origin × (class_in rows ≡ Some class)
     × (id ≡ number_or 0 (codes "id") rows)
-    × (apex ≡ None) × (max ≡ number_or 65535 (codes "max") rows) × (spelling ≡ Plain)
+    × IsNameIn (codes "apex") rows apex × (max ≡ number_or 65535 (codes "max") rows) × (spelling ≡ Plain)
 IsJobOf (name, rows) (Receive class id apex layout) =
     (name ≡ codes "receive") × (class_in rows ≡ Some class)
     × (id ≡ number_or 0 (codes "id") rows)
-    × HasName (codes "apex") rows apex × (layout ≡ Simple)
+    × HasName (codes "apex") rows apex × (layout ≡ layout_in rows)
+IsJobOf (name, rows) (Check origin class) =
+    (name ≡ codes "check") × IsNameIn (codes "origin") rows origin × (class_in rows ≡ Some class)
+IsJobOf (name, rows) (Canon origin class) =
+    (name ≡ codes "canon") × IsNameIn (codes "origin") rows origin × (class_in rows ≡ Some class)
 
--- Why the matches of a subcommand name no job: memory was wanting, or of its values that are any text to the command one is
--- wrong. The name is read before the class.
+-- the options of a subcommand that are names
+abbrev pub name_options : Text → List Text
+name_options name = if bytes_eq name (codes "send") then codes "origin" ∷ codes "apex" ∷ []
+    else (if bytes_eq name (codes "receive") then codes "apex" ∷ [] else codes "origin" ∷ [])
+
+-- one of the options is given with a text that spells no name
+abbrev pub HasBadName : List Text → List Row → Type 0
+HasBadName [] rows = ⊥
+HasBadName (option ∷ options) rows = HasNoName option rows ⊎ HasBadName options rows
+
+-- each of the options gives a name or is left out
+abbrev pub HasNames : List Text → List Row → Type 0
+HasNames options rows = AllByRecursion (λ option. (name : Option (List (List ℕ))) × IsNameIn option rows name) options
+
+-- Why matches in which these options are names name no job: out of memory, or of the values that are any text to the command
+-- one is wrong. The names are read before the class.
+abbrev pub IsFaultOf : List Text → List Row → WordsFault → Type 0
+IsFaultOf options rows (Line e) = ⊥
+IsFaultOf options rows BadName = HasBadName options rows
+IsFaultOf options rows BadClass = HasNames options rows × (class_in rows ≡ None)
+IsFaultOf options rows OutOfMemory = ⊤
+
+-- why the matches of a subcommand name no job
 abbrev pub IsValueFault : Text × List Row → WordsFault → Type 0
-IsValueFault (name, rows) (Line e) = ⊥
-IsValueFault (name, rows) BadName = (name ≡ codes "receive")
-    × ((text : Text) × HasText (codes "apex") rows text × ((labels : List (List ℕ)) → IsNameText text labels → ⊥))
-IsValueFault (name, rows) BadClass = (name ≡ codes "receive")
-    × ((labels : List (List ℕ)) × HasName (codes "apex") rows labels) × (class_in rows ≡ None)
-IsValueFault (name, rows) OutOfMemory = ⊤
+IsValueFault (name, rows) fault = IsFaultOf (name_options name) rows fault
 
 -- the command takes the words: no kind of error may come; and this holds of the subcommand that they name and its matches
 abbrev pub TakesAs : App → List Text → (Text × List Row → Type 0) → Type 0

@@ -8,7 +8,7 @@ use crate::source::ReadAllError;
 use std::alloc::AllocError;
 use thiserror::Error;
 use zone_core::{ReceiveError, SendError};
-use zone_text::ZoneError;
+use zone_rules::ZoneError;
 
 /// Why a run failed. What memory was wanting for is not told apart.
 #[derive(Clone, Copy, Debug, PartialEq, Eq, Error)]

@@ -1,8 +1,8 @@
 //! What the program is asked to do.
 
 use dns_name::{Class, Name};
+use dns_text::DisplayKind;
 use zone_core::Spelling;
-use zone_text::DisplayKind;
 
 /// One run of the program.
 #[derive(Debug, Drop)]
@@ -32,5 +32,19 @@ pub enum Job {
         apex: Name<Vec<u8>>,
         /// How the text is laid out.
         layout: DisplayKind,
+    },
+    /// Zone text comes in, and the number of the zone's records goes out.
+    Check {
+        /// What relative names of the text stand under.
+        origin: Option<Name<Vec<u8>>>,
+        /// The zone's class.
+        class: Class,
+    },
+    /// Zone text comes in, and the zone's canonical octets go out (RFC 4034 6).
+    Canon {
+        /// What relative names of the text stand under.
+        origin: Option<Name<Vec<u8>>>,
+        /// The zone's class.
+        class: Class,
     },
 }

@@ -13,6 +13,7 @@ mod step_sink;
 mod step_source;
 mod words;
 
+pub use dns_text::DisplayKind;
 pub use fault::Fault;
 pub use jobs::Job;
 pub use runs::run;
@@ -25,4 +26,5 @@ pub use zone_core::{
     Query, QueryError, ReceiveError, Receiver, SendError, Spelling, check_query, laws, send,
     send_into,
 };
-pub use zone_text::{DisplayKind, Zone, ZoneError, ZoneRecord, ZoneRecords};
+pub use zone_rules::ZoneError;
+pub use zone_text::{Zone, ZoneRecord, ZoneRecords};

@@ -1,8 +1,8 @@
 //! A run of the program, from its input to its output.
-ghost use Rattle.std.specs.Prelude.{◌≡◌, ◌≢◌, ◌↔◌, ℕ, List, false, IfOk, IfErr, IfSome, IsErrOf, IsTrue, OnOk};
-ghost use Rattle.zone_text.specs.ZoneText.{IsZoneFault, IsZoneText};
+ghost use Rattle.std.specs.Prelude.{◌≡◌, ◌≢◌, ◌↔◌, ℕ, List, Option, false, IfOk, IfErr, IfSome, IsErrOf, IsTrue, OnOk};
+ghost use Rattle.zone_rules.specs.ZoneText.{IsZoneFault, IsZoneText};
 ghost use Rattle.std.specs.Io.KnownBytes.{Appends, IsAtEnd};
-ghost use Rattle.zonewire.specs.Output.{IsOutput, IsJobFault, IsNotReceived, IsReceived, IsReceiveJobFault, IsReceiveOutput, IsSendOutput, IsSendJobFault, query_octets, query_of};
+ghost use Rattle.zonewire.specs.Output.{IsOutput, IsJobFault, IsNotReceived, IsReceived, IsReceiveJobFault, IsReceiveOutput, IsSendOutput, IsSendJobFault, count_line, query_octets, query_of};
 ghost use Rattle.zonewire.specs.Stream.{AppendsBeginning};
 ghost use Rattle.zonewire.specs.declared.fault.Fault.TheVariants as fault;
 
@@ -11,9 +11,12 @@ use crate::jobs::Job;
 use crate::sink::{Sink, write_all};
 use crate::source::{Source, read_all};
 use dns_name::{Class, Name, Rtype};
+use dns_text::DisplayKind;
 use std::alloc::{AllocError, Global};
-use zone_core::{ReceiveError, Receiver, Spelling, send_into};
-use zone_text::{DisplayKind, Zone, ZoneError};
+use zone_core::{ReceiveError, Receiver, Spelling, send};
+use zone_rules::ZoneError;
+use zone_text::Zone;
+use zone_text::zone::records_of;
 
 /// Reads all the input, and writes what the job makes of it.
 ///
@@ -51,8 +54,7 @@ pub fn run<R: Source, W: Sink>(
     Ok(())
 }
 
-/// Returns what the job makes of the input. A zone may be large, so the input is dropped once it is read, or its memory is
-/// used again.
+/// Returns what the job makes of the input. A zone may be large, so the input is dropped once it is read.
 fn output(alloc: Global, input: Vec<u8>, job: &Job) -> Result<Vec<u8>, Fault>
     ensures ok { IfOk result (λ output. IsOutput job.now input.items output.items) }
     ensures err { IfErr result (IsJobFault job.now input.items) }
@@ -66,8 +68,8 @@ fn output(alloc: Global, input: Vec<u8>, job: &Job) -> Result<Vec<u8>, Fault>
             max,
             spelling,
         } => {
-            let zone = read_zone(alloc, input.as_slice(), origin, *class)?;
-            send_zone(alloc, input, &zone, *id, apex, *max, *spelling)
+            let zone = read_zone(alloc, input, origin, *class)?;
+            send_zone(alloc, &zone, *id, apex, *max, *spelling)
         }
         Job::Receive {
             class,
@@ -75,26 +77,46 @@ fn output(alloc: Global, input: Vec<u8>, job: &Job) -> Result<Vec<u8>, Fault>
             apex,
             layout,
         } => receive_text(alloc, input, *class, *id, apex, *layout),
+        Job::Check { origin, class } => {
+            let zone = read_zone(alloc, input, origin, *class)?;
+            let line = count_line(alloc, &zone)?;
+            Ok(line)
+        }
+        Job::Canon { origin, class } => {
+            let zone = read_zone(alloc, input, origin, *class)?;
+            let octets = zone.canonical(alloc)?;
+            Ok(octets)
+        }
     }
 }
 
-/// Returns the stream of the zone for the job's query. It replaces what the spare vector holds.
+/// Returns the line that says how many records the zone has.
+fn count_line(alloc: Global, zone: &Zone) -> Result<Vec<u8>, AllocError>
+    ensures { IfOk result (λ line. line.items ≡ count_line zone.now.records) }
+{
+    let count = records_of(zone).len();
+    let line = format!(in alloc; "{count} records\n")?;
+    Ok(line.into_bytes())
+}
+
+/// Returns the stream of the zone for the job's query.
 fn send_zone(
     alloc: Global,
-    spare: Vec<u8>,
     zone: &Zone,
     id: u16,
     apex: &Option<Name<Vec<u8>>>,
     max: u16,
     spelling: Spelling,
 ) -> Result<Vec<u8>, Fault>
-    ensures ok { (class : ℕ) (input : List ℕ) → IsZoneText input class zone.now.records → zone.now.class ≡ class
-        → IfOk result (λ output. IsSendOutput class id apex.now max input output.items) }
-    ensures err { (class : ℕ) (input : List ℕ) → IsZoneText input class zone.now.records → zone.now.class ≡ class
-        → IfErr result (IsSendJobFault class id apex.now max input) }
+    ensures ok { (origin : Option (List (List ℕ))) (class : ℕ) (input : List ℕ)
+        → IsZoneText input origin class zone.now.records → zone.now.class ≡ class
+        → IfOk result (λ output. IsSendOutput origin class id apex.now max input output.items) }
+    ensures err { (origin : Option (List (List ℕ))) (class : ℕ) (input : List ℕ)
+        → IsZoneText input origin class zone.now.records → zone.now.class ≡ class
+        → IfErr result (IsSendJobFault origin class id apex.now max input) }
 {
     let query = zone_query(alloc, id, apex, zone)?;
-    match send_into(alloc, spare, zone, query.as_slice(), max, spelling) {
+    match send(alloc, zone, query.as_slice(), max, spelling) {
         Ok(stream) => Ok(stream),
         Err(error) => Err(Fault::from(error)),
     }
@@ -103,20 +125,20 @@ fn send_zone(
 /// Reads the zone of the text, with the job's origin.
 fn read_zone(
     alloc: Global,
-    input: &[u8],
+    input: Vec<u8>,
     origin: &Option<Name<Vec<u8>>>,
     class: Class,
 ) -> Result<Zone, ZoneError>
-    ensures ok { IfOk result (λ zone. IsZoneText input.now class zone.records) }
+    ensures ok { IfOk result (λ zone. IsZoneText input.items origin.now class zone.records) }
     ensures class_is { IfOk result (λ zone. zone.class ≡ class) }
-    ensures err { IfErr result (IsZoneFault input.now class) }
+    ensures err { IfErr result (IsZoneFault input.items origin.now class) }
 {
     match origin {
         Some(name) => {
             let name = name.for_ref();
-            Zone::read(alloc, input, Some(&name), class)
+            Zone::from_text(alloc, input, Some(&name), class)
         }
-        None => Zone::read(alloc, input, None, class),
+        None => Zone::from_text(alloc, input, None, class),
     }
 }
 

@@ -1,8 +1,8 @@
 //! Rows of the calls of `zonewire`: what each call returns for the values that stand in `stdin`.
 //!
 //! A zone's text, and a text that is printed, is one word: `%20` stands for a space, `%0a` for a line feed. Where a class or
-//! a limit is not named, it is IN or 512 octets. A row of `run` has the
-//! input, and then the words of a command line of the program.
+//! a limit is not named, it is IN or 512 octets. An origin and a layout may be left out: there is none, and it is `Simple`. A row of
+//! `run` has the input, and then the words of a command line of the program.
 #![tactic(auto)]
 
 mod programs;
@@ -23,6 +23,7 @@ impl Calls for ZonewireCalls {
             "check_query" => queries::answer(alloc, row, out),
             "Zone::read" => zones::answer_read(alloc, row, out),
             "Zone::print" => zones::answer_print(alloc, row, out),
+            "Zone::canonical" => zones::answer_canonical(alloc, row, out),
             "send" => streams::answer_send(alloc, row, out),
             "Receiver" => streams::answer_receiver(alloc, row, out),
             "run" => programs::answer(alloc, row, out),

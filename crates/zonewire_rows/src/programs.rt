@@ -4,7 +4,7 @@ use std::alloc::Global;
 use zonewire::{Job, StdSink, StdSource, WordsFault, job, run};
 
 /// `run text TEXT WORD..` and `run octets OCTETS WORD..`: what the job that the program's words name writes for the input, as
-/// octets where it sends and as text where it receives.
+/// octets where it sends or gives canonical octets, and else as text.
 pub fn answer(alloc: Global, row: &mut Row<'_>, out: &mut Answer) -> Result<(), RowError> {
     let input = match row.word()? {
         "text" => row.text_octets(alloc)?,
@@ -31,12 +31,12 @@ pub fn answer(alloc: Global, row: &mut Row<'_>, out: &mut Answer) -> Result<(), 
 
 /// What the job writes for the input. A fault leaves nothing written.
 fn answer_job(alloc: Global, job: Job, input: &[u8], out: &mut Answer) -> Result<(), RowError> {
-    let sends = matches!(&job, Job::Send { .. });
+    let is_octets = matches!(&job, Job::Send { .. } | Job::Canon { .. });
     let mut output = Vec::new(alloc);
     let mut source = StdSource::new(input);
     let mut sink = StdSink::new(&mut output);
     match run(alloc, &mut source, &mut sink, job) {
-        Ok(()) if sends => out.octets(output.as_slice()),
+        Ok(()) if is_octets => out.octets(output.as_slice()),
         Ok(()) => out.text(output.as_slice()),
         Err(fault) if output.is_empty() => out.refused(&fault),
         Err(_) => Err(RowError::BadWord),

@@ -1,7 +1,7 @@
 //! Command lines: the fields of the jobs that they name, and what a refused one shows.
 
 use clap::error::ErrorKind;
-use dns_name::Class;
+use dns_name::{Class, Name};
 use std::alloc::Global;
 use std::process::Abort;
 use std::test::Fail;
@@ -41,13 +41,29 @@ fn job_of(alloc: Global, line: &str) -> Result<Job, WordsFault> {
     job_or_fault(alloc, words_of(alloc, line)?.as_slice())?
 }
 
-/// The job is `send` with these fields, and nothing of its own.
-fn check_send(rt: &impl Abort, job: Job, id: u16, max: u16) {
+/// The octets of a name that may be missing: none if it is.
+fn octets_of(name: &Option<Name<Vec<u8>>>) -> &[u8] {
+    match name {
+        Some(name) => name.as_slice(),
+        None => &[],
+    }
+}
+
+/// The job is `send` with these fields, of which the names are given by their octets, and none by no octets.
+fn check_send(
+    rt: &impl Abort,
+    job: Job,
+    origin: &[u8],
+    class: u16,
+    id: u16,
+    apex: &[u8],
+    max: u16,
+) {
     let Job::Send {
-        origin,
-        class,
+        origin: job_origin,
+        class: job_class,
         id: job_id,
-        apex,
+        apex: job_apex,
         max: job_max,
         spelling,
     } = job
@@ -56,10 +72,10 @@ fn check_send(rt: &impl Abort, job: Job, id: u16, max: u16) {
         return;
     };
     assert!(rt;
-        origin.is_none()
-            && class == Class::IN
+        octets_of(&job_origin) == origin
+            && job_class == Class::from_int(class)
             && job_id == id
-            && apex.is_none()
+            && octets_of(&job_apex) == apex
             && job_max == max
             && spelling == Spelling::Plain
     );
@@ -67,32 +83,82 @@ fn check_send(rt: &impl Abort, job: Job, id: u16, max: u16) {
 
 #[test]
 fn lines_of_send(rt: HostRuntime) -> Result<(), Fail> {
-    let lines: [(&str, u16, u16); 3] = [
+    let lines: [(&str, &[u8], u16, u16, &[u8], u16); 4] = [
         (
             "zonewire send --id 4660 --max 512 --spelling plain",
+            b"",
+            1,
             4660,
+            b"",
             512,
         ),
-        ("zonewire send --spelling=plain", 0, 65535),
+        ("zonewire send --spelling=plain", b"", 1, 0, b"", 65535),
         (
             "zonewire send --max 0 --spelling plain --id 65535",
+            b"",
+            1,
             65535,
+            b"",
             0,
         ),
+        (
+            "zonewire send --apex=B --class ch --spelling plain --origin a.B.",
+            b"\x01a\x01B\x00",
+            3,
+            0,
+            b"\x01B\x00",
+            65535,
+        ),
     ];
-    for (line, id, max) in lines {
-        check_send(&rt, job_of(rt.alloc(), line)?, id, max);
+    for (line, origin, class, id, apex, max) in lines {
+        check_send(&rt, job_of(rt.alloc(), line)?, origin, class, id, apex, max);
+    }
+    Ok(())
+}
+
+/// The job reads a zone's text under this origin, given by its octets, in this class; `canon` says which of the two it is.
+fn check_text(rt: &impl Abort, job: Job, canon: bool, origin: &[u8], class: u16) {
+    let (is_canon, job_origin, job_class) = match job {
+        Job::Check { origin, class } => (false, origin, class),
+        Job::Canon { origin, class } => (true, origin, class),
+        _ => {
+            assert!(rt; false);
+            return;
+        }
+    };
+    assert!(rt;
+        is_canon == canon && octets_of(&job_origin) == origin && job_class == Class::from_int(class)
+    );
+}
+
+#[test]
+fn lines_of_check_and_canon(rt: HostRuntime) -> Result<(), Fail> {
+    let lines: [(&str, bool, &[u8], u16); 6] = [
+        ("zonewire check", false, b"", 1),
+        ("zonewire canon", true, b"", 1),
+        ("zonewire check --origin a.B", false, b"\x01a\x01B\x00", 1),
+        ("zonewire canon --class=hs --origin=.", true, b"\x00", 4),
+        (
+            "zonewire check --class CLASS255 --origin a.",
+            false,
+            b"\x01a\x00",
+            255,
+        ),
+        ("zonewire canon --class CH", true, b"", 3),
+    ];
+    for (line, canon, origin, class) in lines {
+        check_text(&rt, job_of(rt.alloc(), line)?, canon, origin, class);
     }
     Ok(())
 }
 
 /// The job is `receive` with these fields, of which the apex is given by its octets.
-fn check_receive(rt: &impl Abort, job: Job, apex: &[u8], id: u16, class: u16) {
+fn check_receive(rt: &impl Abort, job: Job, apex: &[u8], id: u16, class: u16, layout: DisplayKind) {
     let Job::Receive {
         class: job_class,
         id: job_id,
         apex: job_apex,
-        layout,
+        layout: job_layout,
     } = job
     else {
         assert!(rt; false);
@@ -102,55 +168,79 @@ fn check_receive(rt: &impl Abort, job: Job, apex: &[u8], id: u16, class: u16) {
         job_class == Class::from_int(class)
             && job_id == id
             && job_apex.as_slice() == apex
-            && layout == DisplayKind::Simple
+            && job_layout == layout
     );
 }
 
 #[test]
 fn lines_of_receive(rt: HostRuntime) -> Result<(), Fail> {
-    let lines: [(&str, &[u8], u16, u16); 9] = [
+    let lines: [(&str, &[u8], u16, u16, DisplayKind); 9] = [
         (
             "zonewire receive --apex a.B. --id 4660 --class CH --layout simple",
             b"\x01a\x01B\x00",
             4660,
             3,
+            DisplayKind::Simple,
         ),
         (
-            "zonewire receive --layout=simple --class=hs --id=65535 --apex=.",
+            "zonewire receive --layout=tabbed --class=hs --id=65535 --apex=.",
             b"\x00",
             65535,
             4,
+            DisplayKind::Tabbed,
         ),
-        ("zonewire receive --apex=a.", b"\x01a\x00", 0, 1),
-        ("zonewire receive --apex=a", b"\x01a\x00", 0, 1),
+        (
+            "zonewire receive --apex=a.",
+            b"\x01a\x00",
+            0,
+            1,
+            DisplayKind::Simple,
+        ),
+        (
+            "zonewire receive --apex=a --layout multiline",
+            b"\x01a\x00",
+            0,
+            1,
+            DisplayKind::Multiline,
+        ),
         (
             "zonewire receive --apex=a\\.b\\000.",
             b"\x04a.b\x00\x00",
             0,
             1,
+            DisplayKind::Simple,
         ),
-        ("zonewire receive --apex=-a.", b"\x02-a\x00", 0, 1),
+        (
+            "zonewire receive --apex=-a.",
+            b"\x02-a\x00",
+            0,
+            1,
+            DisplayKind::Simple,
+        ),
         (
             "zonewire receive --apex=a. --class class0",
             b"\x01a\x00",
             0,
             0,
+            DisplayKind::Simple,
         ),
         (
             "zonewire receive --apex=a. --class Class255",
             b"\x01a\x00",
             0,
             255,
+            DisplayKind::Simple,
         ),
         (
             "zonewire receive --apex=a. --class CLASS65535",
             b"\x01a\x00",
             0,
             65535,
+            DisplayKind::Simple,
         ),
     ];
-    for (line, apex, id, class) in lines {
-        check_receive(&rt, job_of(rt.alloc(), line)?, apex, id, class);
+    for (line, apex, id, class, layout) in lines {
+        check_receive(&rt, job_of(rt.alloc(), line)?, apex, id, class, layout);
     }
     Ok(())
 }
@@ -158,12 +248,12 @@ fn lines_of_receive(rt: HostRuntime) -> Result<(), Fail> {
 #[test]
 fn a_refused_line_shows_how_lines_are(rt: HostRuntime) -> Result<(), Fail> {
     let alloc = rt.alloc();
-    let words = ["zonewire", "check"];
+    let words = ["zonewire", "sign"];
     let fault = job_or_fault(alloc, words.as_slice())?.expect_err(&rt, "a fault");
     let text = format!(in alloc; "{fault}")?;
     assert!(rt;
         text.as_str()
-            .starts_with("error: unrecognized subcommand 'check'")
+            .starts_with("error: unrecognized subcommand 'sign'")
             && text.as_str().contains("Usage: zonewire <COMMAND>")
     );
     Ok(())

@@ -2,7 +2,7 @@
 //! `max` is the most that a message may take.
 
 ghost use Rattle.std.specs.Prelude.{◌≡◌, ℕ, ◌+◌, ◌≤◌, List, length, sum_by};
-ghost use Rattle.zone_text.specs.Record.{Record};
+ghost use Rattle.zone_octets.specs.Record.{Record};
 ghost use Rattle.zone_core.specs.Cutting.{Fits, IsFullCut, IsBlocked, CutOrBlocked, FrontsFit, PartsFit, Grows};
 ghost use Rattle.zone_core.specs.Query.{AxfrQuery};
 ghost use Rattle.zone_core.specs.Sent.{size as plain_size};

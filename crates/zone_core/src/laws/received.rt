@@ -3,9 +3,9 @@
 ghost use Rattle.std.specs.Prelude.{◌≡◌, ◌<◌, ◌^◌, ◌++◌, ◌⊎◌, ℕ, Bool, List};
 ghost use Rattle.std.specs.List.{AllByRecursion};
 ghost use Rattle.dns_label.specs.Octets.{AreOctets};
-ghost use Rattle.zone_text.specs.Record.{Record};
+ghost use Rattle.zone_octets.specs.Record.{Record};
 ghost use Rattle.zone_core.specs.Query.{AxfrQuery};
-ghost use Rattle.zone_text.specs.Records.{AreSendable, IsTypeToday};
+ghost use Rattle.zone_octets.specs.Records.{AreSendable, IsTypeToday};
 ghost use Rattle.zone_core.specs.Sent.{IsQueryFor, IsSent};
 ghost use Rattle.zone_core.specs.Receiving.{IsBegun, HasBadMessage};
 ghost use Rattle.zone_core.specs.Transfer.{Standard, WrittenOut, IsAnswer, IsTransfer, IsTransferIn, IsExactTransferIn};

@@ -1,9 +1,9 @@
 //! What holds of a stream that is sent.
 
 ghost use Rattle.std.specs.Prelude.{ℕ, ◌<◌, ◌^◌, List};
-ghost use Rattle.zone_text.specs.Record.{Record};
+ghost use Rattle.zone_octets.specs.Record.{Record};
 ghost use Rattle.zone_core.specs.Query.{AxfrQuery};
-ghost use Rattle.zone_text.specs.Records.{AreSendable};
+ghost use Rattle.zone_octets.specs.Records.{AreSendable};
 ghost use Rattle.zone_core.specs.Sent.{IsQueryFor, IsSent};
 ghost use Rattle.zone_core.specs.Transfer.{IsExactTransfer};
 

@@ -12,7 +12,7 @@ ghost use Rattle.dns_size.specs.CostSum.{AreTheSuffixes};
 ghost use Rattle.dns_size.specs.Free.{IsFree};
 ghost use Rattle.dns_size.specs.Groups.{group_parts};
 ghost use Rattle.dns_spelling.specs.Alike.{HaveNames};
-ghost use Rattle.zone_text.specs.Record.{Record};
+ghost use Rattle.zone_octets.specs.Record.{Record};
 ghost use Rattle.zone_core.specs.Cutting.{IsCutting, Fits, IsFullCut, IsBlocked, PartsFit};
 ghost use Rattle.zone_core.specs.Query.{AxfrQuery};
 ghost use Rattle.zone_core.specs.Spelled.{answer_head, spelled_size, SpellGroups, record_items, message_names, message_sum};

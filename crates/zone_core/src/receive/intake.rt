@@ -9,8 +9,8 @@ use crate::query::OwnedQuery;
 use crate::receive::error::ReceiveError;
 use crate::receive::message::judge_message;
 use std::alloc::Global;
-use zone_text::header::number_at;
-use zone_text::record_list::RecordList;
+use zone_octets::header::number_at;
+use zone_octets::record_list::RecordList;
 
 /// The octets of a message's length on a stream (RFC 1035 4.2.2).
 const LENGTH_OCTETS: usize = 2;

@@ -3,9 +3,9 @@ ghost use Rattle.std.specs.Prelude.{◌≡◌, ◌+◌, ◌++◌, ◌∷◌, [],
 ghost use Rattle.std.specs.List.{AllByRecursion};
 ghost use Rattle.dns_octets.specs.Parser.{octets_of, place_of};
 ghost use Rattle.dns_header.specs.Header.{answer_count};
-ghost use Rattle.zone_text.specs.Record as spec;
+ghost use Rattle.zone_octets.specs.Record as spec;
 ghost use Rattle.zone_core.specs.Asked.{asked_of};
-ghost use Rattle.zone_text.specs.Records.{AreOctets, IsRecordOf};
+ghost use Rattle.zone_octets.specs.Records.{AreOctets, IsRecordOf};
 ghost use Rattle.zone_core.specs.Transfer.{WrittenOut, AsksAgain, CountsAnswers, HasAnswerHeader};
 ghost use Rattle.zone_core.specs.Receiving.{IsOpen, IsMessageFault, IsRecordFault};
 ghost use Rattle.zone_core.specs.Intake.{IsFaultOr, StandsAt, TakesMessage, TakesRecord};
@@ -16,8 +16,8 @@ use crate::receive::question::PlainQuestion;
 use crate::receive::record::parse_record;
 use crate::receive::rules::{Placing, place_record};
 use dns_name::Parser;
-use zone_text::header::number_at;
-use zone_text::record_list::RecordList;
+use zone_octets::header::number_at;
+use zone_octets::record_list::RecordList;
 
 /// Judges a message behind others with these records, and adds its own to them. True where it has the last SOA, which is
 /// not added.

@@ -1,13 +1,13 @@
 //! Records as messages have them, with every name written out.
 ghost use Rattle.std.specs.Prelude.{◌≡◌, ℕ, IfOk, OnErr};
 ghost use Rattle.dns_octets.specs.Parser.{octets_of, place_of};
-ghost use Rattle.zone_text.specs.Record as spec;
-ghost use Rattle.zone_text.specs.Records.{AreOctets, IsRecordOf};
+ghost use Rattle.zone_octets.specs.Record as spec;
+ghost use Rattle.zone_octets.specs.Records.{AreOctets, IsRecordOf};
 ghost use Rattle.zone_core.specs.Transfer.{WrittenOut, HasRecord};
 
 use dns_name::{Name, ParseError, Parser, Rtype, ShortInput};
-use zone_text::record::Record;
-use zone_text::record_data::is_data;
+use zone_octets::record::Record;
+use zone_octets::record_data::is_data;
 
 /// No record stands there.
 #[derive(Clone, Copy, Debug, PartialEq, Eq)]

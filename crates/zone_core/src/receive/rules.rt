@@ -1,18 +1,18 @@
 //! The rules that the records of a transfer keep, one behind the other.
 ghost use Rattle.std.specs.Prelude.{◌≡◌, ◌+◌, ◌↔◌, [], ℕ, List, false, length, IsTrue, IfOk, IfErr, OnOk};
 ghost use Rattle.std.specs.List.{AllByRecursion};
-ghost use Rattle.zone_text.specs.Record as spec;
+ghost use Rattle.zone_octets.specs.Record as spec;
 ghost use Rattle.zone_core.specs.Asked.{asked_of};
-ghost use Rattle.zone_text.specs.Records.{IsRecordOf};
+ghost use Rattle.zone_octets.specs.Records.{IsRecordOf};
 ghost use Rattle.zone_core.specs.Transfer.{WrittenOut, HasRecord};
 ghost use Rattle.zone_core.specs.Receiving.{IsRecordFault, KeepsFirstRule};
 ghost use Rattle.zone_core.specs.Intake.{IsPlacing, StandsAt};
 
 use crate::query::OwnedQuery;
 use crate::receive::error::ReceiveError;
-use zone_text::record::Record;
-use zone_text::record_data::is_same_soa;
-use zone_text::record_list::RecordList;
+use zone_octets::record::Record;
+use zone_octets::record_data::is_same_soa;
+use zone_octets::record_list::RecordList;
 
 /// What a record is in a transfer.
 #[derive(Clone, Copy, Debug, PartialEq, Eq)]

@@ -1,8 +1,8 @@
 use Rattle.std.proofs.Common.{List, [], ◌∷◌, ◌++◌, take, sym, subst, arith}
 use Rattle.std.specs.List.{AllZip}
 use Rattle.std.proofs.lemmas.List.Elements.{AllZip-push}
-use Rattle.zone_text.specs.Record.{Record}
-use Rattle.zone_text.proofs.Indexed.{element_at, take-next}
+use Rattle.zone_octets.specs.Record.{Record}
+use Rattle.zone_octets.proofs.Indexed.{element_at, take-next}
 use Rattle.zone_canonical.specs.Canonical.{IsCanonicalOf}
 use Rattle.zone_canonical.proofs.octets.forms_of.Goals as goal
 

@@ -3,7 +3,7 @@ use Rattle.dns_name.specs.Parser.{octets_of, place_of}
 use Rattle.dns_wire.proofs.Flat.{always_on_err}
 use Rattle.dns_header.specs.Question.{Question, ReadsQuestion}
 use Rattle.zone_core.proofs.Questions.{ends_early}
-use Rattle.zone_text.proofs.Decided.{too_few}
+use Rattle.zone_octets.proofs.Decided.{too_few}
 use Rattle.zone_core.proofs.query.read_question.Goals as goal
 
 pub returns-in_err-parse_u16_be-clause-err : goal.returns-in_err-parse_u16_be-clause-err

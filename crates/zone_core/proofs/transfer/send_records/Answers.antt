@@ -1,7 +1,7 @@
 use Rattle.std.proofs.Common.{◌∙◌, ap, sym, subst, arith, take, List}
-use Rattle.zone_text.specs.Record.{Record}
+use Rattle.zone_octets.specs.Record.{Record}
 use Rattle.zone_core.specs.Sending.{Holds}
-use Rattle.zone_text.proofs.Indexed.{element_at, take-next}
+use Rattle.zone_octets.proofs.Indexed.{element_at, take-next}
 use Rattle.zone_core.proofs.Streams.{sent, some_of, none_of, record_blocked, all_again, soa_blocked, none_again, at_true, at_false}
 use Rattle.zone_core.proofs.transfer.send_records.Goals as goal
 use Rattle.zone_core.proofs.transfer.send_records.Goals.{else-not-is_empty-via-then-not-is_empty+in_ok-put-2+else-not-branch-2, else-not-is_empty-via-else-not-is_empty}

@@ -9,18 +9,19 @@ use Rattle.zonewire.specs.Words.{HasNumber, IsJobOf, IsValueFault, Reads}
 use Rattle.zonewire.specs.declared.jobs.Job.{Job}
 use Rattle.zonewire.specs.declared.words.WordsFault.{WordsFault}
 use Rattle.zonewire.specs.declared.words.WordsFault.TheVariants.{Line, BadName, BadClass, OutOfMemory}
-use Rattle.zonewire.proofs.Named.{met_one, met_rows, one_by, received_by, sent_by, simple_and_free}
+use Rattle.zonewire.proofs.Named.{met_at, met_one, met_rows, one_by, simple_and_free}
 use Rattle.zonewire.proofs.words.job.Goals as goal
 
--- a list of one word
-abbrev one_choice : List ℕ → Choices
-one_choice word = record { ref_ptr = (0, 0); now = record { ref_ptr = (0, 0); now = word } ∷ [] }
+-- a list of these words
+abbrev choices_of : List Text → Choices
+choices_of words = record { ref_ptr = (0, 0); now = map (λ (word : Text). record { ref_ptr = (0, 0); now = word }) words }
 
 pub returns-in_err-command : goal.returns-in_err-command
 returns-in_err-command c =
     let (fault, is, memory) = err_from_is_err_and c.from_residual.result c.from_residual.ensures.1 in
     let words = map (λ (w : Bor (List ℕ)). w.now) c.args.words.now in
-    let a = zonewire (one_choice (codes "plain")) (one_choice (codes "simple")) in
+    let layouts = choices_of (codes "simple" ∷ codes "tabbed" ∷ codes "multiline" ∷ []) in
+    let a = zonewire (choices_of (codes "plain" ∷ [])) layouts in
     (a, (_, _, refl, refl, refl), subst (Reads a words) (sym (is ∙ ap Err memory)) tt)
 
 pub returns-in_err-matches : goal.returns-in_err-matches
@@ -48,8 +49,8 @@ send_job-requires-clause-id c =
     let words = map (λ (w : Bor (List ℕ)). w.now) c.args.words.now in
     let m = c.in_ok-matches.matches in
     let met = met_one a c.in_ok-command.ensures words m c.in_ok-matches.ensures.kinds c.in_ok-matches.ensures.matches in
-    let s = sent_by a words m met c.in-Some.name.now c.in-Some.ensures.name c.in-send.is in
-    subst (HasNumber (codes "id")) (sym (met_rows m (codes "send", s.rows) s.met _ c.in-Some.ensures.rows)) s.id
+    let s = met_at a words m met (codes "send") c.in-Some.name.now c.in-Some.ensures.name c.in-send.is in
+    subst (HasNumber (codes "id")) (sym (met_rows m (codes "send", s.rows) s.met _ c.in-Some.ensures.rows)) s.holds.0
 
 pub send_job-requires-clause-max : goal.send_job-requires-clause-max
 send_job-requires-clause-max c =
@@ -57,8 +58,8 @@ send_job-requires-clause-max c =
     let words = map (λ (w : Bor (List ℕ)). w.now) c.args.words.now in
     let m = c.in_ok-matches.matches in
     let met = met_one a c.in_ok-command.ensures words m c.in_ok-matches.ensures.kinds c.in_ok-matches.ensures.matches in
-    let s = sent_by a words m met c.in-Some.name.now c.in-Some.ensures.name c.in-send.is in
-    subst (HasNumber (codes "max")) (sym (met_rows m (codes "send", s.rows) s.met _ c.in-Some.ensures.rows)) s.max
+    let s = met_at a words m met (codes "send") c.in-Some.name.now c.in-Some.ensures.name c.in-send.is in
+    subst (HasNumber (codes "max")) (sym (met_rows m (codes "send", s.rows) s.met _ c.in-Some.ensures.rows)) s.holds.1
 
 pub returns-in-send : goal.returns-in-send
 returns-in-send c =
@@ -67,9 +68,9 @@ returns-in-send c =
     let m = c.in_ok-matches.matches in
     let clear = c.in_ok-matches.ensures.kinds (simple_and_free a c.in_ok-command.ensures) in
     let met = met_one a c.in_ok-command.ensures words m c.in_ok-matches.ensures.kinds c.in_ok-matches.ensures.matches in
-    let s = sent_by a words m met c.in-Some.name.now c.in-Some.ensures.name c.in-send.is in
+    let s = met_at a words m met (codes "send") c.in-Some.name.now c.in-Some.ensures.name c.in-send.is in
     let same = met_rows m (codes "send", s.rows) s.met _ c.in-Some.ensures.rows in
-    (a, c.in_ok-command.ensures, reads a words (codes "send") s.rows _ (Ok c.send_job.result) clear s.names same c.send_job.ensures)
+    (a, c.in_ok-command.ensures, reads a words (codes "send") s.rows _ c.send_job.result clear s.names same c.send_job.ensures)
 
 pub receive_job-requires-clause-id : goal.receive_job-requires-clause-id
 receive_job-requires-clause-id c =
@@ -77,8 +78,8 @@ receive_job-requires-clause-id c =
     let words = map (λ (w : Bor (List ℕ)). w.now) c.args.words.now in
     let m = c.in_ok-matches.matches in
     let met = met_one a c.in_ok-command.ensures words m c.in_ok-matches.ensures.kinds c.in_ok-matches.ensures.matches in
-    let s = received_by a words m met c.in-Some.name.now c.in-Some.ensures.name c.in-receive.is in
-    subst (HasNumber (codes "id")) (sym (met_rows m (codes "receive", s.rows) s.met _ c.in-Some.ensures.rows)) s.id
+    let s = met_at a words m met (codes "receive") c.in-Some.name.now c.in-Some.ensures.name c.in-receive.is in
+    subst (HasNumber (codes "id")) (sym (met_rows m (codes "receive", s.rows) s.met _ c.in-Some.ensures.rows)) s.holds.0
 
 pub receive_job-requires-clause-apex : goal.receive_job-requires-clause-apex
 receive_job-requires-clause-apex c =
@@ -86,8 +87,8 @@ receive_job-requires-clause-apex c =
     let words = map (λ (w : Bor (List ℕ)). w.now) c.args.words.now in
     let m = c.in_ok-matches.matches in
     let met = met_one a c.in_ok-command.ensures words m c.in_ok-matches.ensures.kinds c.in_ok-matches.ensures.matches in
-    let s = received_by a words m met c.in-Some.name.now c.in-Some.ensures.name c.in-receive.is in
-    subst (λ (l : List Row). is_some (first_of (codes "apex") l) ≡ true) (sym (met_rows m (codes "receive", s.rows) s.met _ c.in-Some.ensures.rows)) s.apex
+    let s = met_at a words m met (codes "receive") c.in-Some.name.now c.in-Some.ensures.name c.in-receive.is in
+    subst (λ (l : List Row). is_some (first_of (codes "apex") l) ≡ true) (sym (met_rows m (codes "receive", s.rows) s.met _ c.in-Some.ensures.rows)) s.holds.1
 
 pub returns-in-receive : goal.returns-in-receive
 returns-in-receive c =
@@ -96,9 +97,31 @@ returns-in-receive c =
     let m = c.in_ok-matches.matches in
     let clear = c.in_ok-matches.ensures.kinds (simple_and_free a c.in_ok-command.ensures) in
     let met = met_one a c.in_ok-command.ensures words m c.in_ok-matches.ensures.kinds c.in_ok-matches.ensures.matches in
-    let s = received_by a words m met c.in-Some.name.now c.in-Some.ensures.name c.in-receive.is in
+    let s = met_at a words m met (codes "receive") c.in-Some.name.now c.in-Some.ensures.name c.in-receive.is in
     let same = met_rows m (codes "receive", s.rows) s.met _ c.in-Some.ensures.rows in
     (a, c.in_ok-command.ensures, reads a words (codes "receive") s.rows _ c.receive_job.result clear s.names same c.receive_job.ensures)
+
+pub returns-in-check : goal.returns-in-check
+returns-in-check c =
+    let a = app_of c.in_ok-command.command in
+    let words = map (λ (w : Bor (List ℕ)). w.now) c.args.words.now in
+    let m = c.in_ok-matches.matches in
+    let clear = c.in_ok-matches.ensures.kinds (simple_and_free a c.in_ok-command.ensures) in
+    let met = met_one a c.in_ok-command.ensures words m c.in_ok-matches.ensures.kinds c.in_ok-matches.ensures.matches in
+    let s = met_at a words m met (codes "check") c.in-Some.name.now c.in-Some.ensures.name c.in-check.is in
+    let same = met_rows m (codes "check", s.rows) s.met _ c.in-Some.ensures.rows in
+    (a, c.in_ok-command.ensures, reads a words (codes "check") s.rows _ c.check_job.result clear s.names same c.check_job.ensures)
+
+pub returns-in-canon : goal.returns-in-canon
+returns-in-canon c =
+    let a = app_of c.in_ok-command.command in
+    let words = map (λ (w : Bor (List ℕ)). w.now) c.args.words.now in
+    let m = c.in_ok-matches.matches in
+    let clear = c.in_ok-matches.ensures.kinds (simple_and_free a c.in_ok-command.ensures) in
+    let met = met_one a c.in_ok-command.ensures words m c.in_ok-matches.ensures.kinds c.in_ok-matches.ensures.matches in
+    let s = met_at a words m met (codes "canon") c.in-Some.name.now c.in-Some.ensures.name c.in-canon.is in
+    let same = met_rows m (codes "canon", s.rows) s.met _ c.in-Some.ensures.rows in
+    (a, c.in_ok-command.ensures, reads a words (codes "canon") s.rows _ c.canon_job.result clear s.names same c.canon_job.ensures)
 
 pub unreachable-requires-in_default-name : goal.unreachable-requires-in_default-name
 unreachable-requires-in_default-name c =
@@ -107,3 +130,4 @@ unreachable-requires-in_default-name c =
     let m = c.in_ok-matches.matches in
     let met = met_one a c.in_ok-command.ensures words m c.in_ok-matches.ensures.kinds c.in_ok-matches.ensures.matches in
     one_by a words m met c.in-Some.name.now c.in-Some.ensures.name c.in_default-name.not-send c.in_default-name.not-receive
+    c.in_default-name.not-check c.in_default-name.not-canon

@@ -1,11 +1,9 @@
-use Rattle.zone_canonical.proofs.ReadData.{data_as, form_made}
+use Rattle.zone_canonical.proofs.TypedForms.{form_short, typed_form}
 use Rattle.zone_canonical.proofs.canonical_record.CanonicalRecord.of_record.Goals as goal
 
-pub parse_data-rdata-requires : goal.parse_data-rdata-requires
-parse_data-rdata-requires c = data_as _ _ _ _ c.requires.type_is c.data.ensures c.requires.data_is
+pub invariant_of-result : goal.invariant_of-result
+invariant_of-result c =
+    form_short c.args.record.now c.typed_record.result c.typed_record.ensures.same c.typed_record.ensures.fields c.requires
 
 pub returns : goal.returns
-returns c =
-    form_made c.args.record.now c.new.result c.owner.result c.class.result c.ttl.result c.parse_data-rdata.result c.args.rtype
-    c.data.result.now c.new.ensures c.owner.ensures.owner c.class.ensures c.ttl.ensures c.requires.type_is c.data.ensures
-    c.parse_data-rdata.ensures.number c.parse_data-rdata.ensures.canonical
+returns c = typed_form c.args.record.now c.typed_record.result c.typed_record.ensures.same c.typed_record.ensures.fields

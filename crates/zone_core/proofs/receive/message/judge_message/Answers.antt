@@ -3,8 +3,8 @@ use Rattle.std.proofs.lemmas.Result.{err_from_is_err_and}
 use Rattle.dns_octets.specs.Parser.{octets_of}
 use Rattle.zone_core.specs.Asked.{asked_of}
 use Rattle.zone_core.specs.Receiving.{IsMessageFault}
-use Rattle.zone_text.specs.Records.{AreOctets}
-use Rattle.zone_text.proofs.NameFronts.{octets_by_place}
+use Rattle.zone_octets.specs.Records.{AreOctets}
+use Rattle.zone_octets.proofs.NameFronts.{octets_by_place}
 use Rattle.zone_core.proofs.TakenRecords.{fault_or}
 use Rattle.zone_core.proofs.TakenMessages.{taken_none, taken_more, taken_fault}
 use Rattle.zone_core.proofs.receive.message.judge_message.Goals as goal

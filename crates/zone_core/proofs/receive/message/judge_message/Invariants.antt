@@ -1,6 +1,6 @@
 use Rattle.std.specs.List.{AllByRecursion}
 use Rattle.zone_core.specs.Asked.{asked_of}
-use Rattle.zone_text.specs.Records.{IsRecordOf}
+use Rattle.zone_octets.specs.Records.{IsRecordOf}
 use Rattle.zone_core.proofs.TakenMessages.{HasTaken}
 use Rattle.zone_core.proofs.receive.message.judge_message.Given as given
 

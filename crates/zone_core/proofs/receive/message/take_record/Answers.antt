@@ -1,7 +1,7 @@
 use Rattle.std.proofs.Common.{List, arith}
 use Rattle.std.proofs.lemmas.Result.{err_from_is_err_and}
 use Rattle.dns_octets.specs.Parser.{octets_of, place_of}
-use Rattle.zone_text.specs.Record as spec
+use Rattle.zone_octets.specs.Record as spec
 use Rattle.zone_core.specs.declared.receive.error.ReceiveError.{ReceiveError}
 use Rattle.zone_core.specs.Asked.{asked_of}
 use Rattle.zone_core.specs.Receiving.{IsRecordFault}

@@ -3,13 +3,13 @@ use Rattle.std.specs.Int.{to_be_bytes, w16, w32}
 use Rattle.dns_octets.specs.Parser.{octets_of, place_of, rest_of}
 use Rattle.dns_message.specs.Record.{ReadsPlainRecord, record_octets}
 use Rattle.dns_wire.proofs.Flat.{always_on_err}
-use Rattle.zone_text.specs.Record as spec
-use Rattle.zone_text.specs.Records.{IsRecordOf, IsTypeToday}
-use Rattle.zone_text.specs.Stored.{record_in}
+use Rattle.zone_octets.specs.Record as spec
+use Rattle.zone_octets.specs.Records.{IsRecordOf, IsTypeToday}
+use Rattle.zone_octets.specs.Stored.{record_in}
 use Rattle.zone_core.specs.Transfer.{WrittenOut, HasRecord}
 use Rattle.zone_core.proofs.PlainRecords.{behind_owner, record_parts, taken_off, left_few, parts_taken, no_room, same_parts, no_data, typed_parts, not_typed, taken_long, read_record, record_between}
-use Rattle.zone_text.proofs.RecordFronts.{octets_from}
-use Rattle.zone_text.proofs.StoredRecords.{record_in_written, stored_of}
+use Rattle.zone_octets.proofs.RecordFronts.{octets_from}
+use Rattle.zone_octets.proofs.StoredRecords.{record_in_written, stored_of}
 use Rattle.zone_core.proofs.receive.record.parse_record.Goals.{After-len}
 use Rattle.zone_core.proofs.receive.record.parse_record.Goals as goal
 

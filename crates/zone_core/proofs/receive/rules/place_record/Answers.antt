@@ -1,8 +1,8 @@
 use Rattle.std.proofs.Common.{◌≡◌, List, [], true, false, ◌∙◌, sym, ◌⊎◌, inl, inr}
 use Rattle.std.proofs.lemmas.Bool.{eqb-true}
-use Rattle.zone_text.specs.Record as spec
+use Rattle.zone_octets.specs.Record as spec
 use Rattle.zone_core.specs.Asked.{asked_of}
-use Rattle.zone_text.specs.Zone.{soa_type}
+use Rattle.zone_octets.specs.Zone.{soa_type}
 use Rattle.zone_core.specs.Receiving.{KeepsFirstRule, KeepsLastRule}
 use Rattle.zone_core.specs.Intake.{StandsAt}
 use Rattle.zone_core.proofs.RulesKept.{none_held, some_held, first_known, first_is_soa, first_kept, first_broken, first_behind, last_kept, last_broken, last_free, stands_closed, placed_inner, placed_last, not_false, not_true, told_equal, told_other, told_no}

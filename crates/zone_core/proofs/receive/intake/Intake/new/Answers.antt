@@ -1,7 +1,7 @@
 use Rattle.std.proofs.Common.{List, [], refl, sym, subst}
 use Rattle.std.specs.List.{AllByRecursion}
-use Rattle.zone_text.specs.Record.{Record}
-use Rattle.zone_text.specs.Records.{IsRecordOf}
+use Rattle.zone_octets.specs.Record.{Record}
+use Rattle.zone_octets.specs.Records.{IsRecordOf}
 use Rattle.zone_core.specs.Frames.{IsPartial}
 use Rattle.zone_core.proofs.receive.intake.Intake.new.Goals as goal
 

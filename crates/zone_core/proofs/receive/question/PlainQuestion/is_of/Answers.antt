@@ -1,7 +1,7 @@
 use Rattle.std.proofs.Common.{◌∙◌, sym, ap}
 use Rattle.std.proofs.lemmas.Bool.Decides.{Decides-eqb}
 use Rattle.dns_label.specs.Name.{low}
-use Rattle.zone_text.proofs.ToldEqual.{names_told}
+use Rattle.zone_octets.proofs.ToldEqual.{names_told}
 use Rattle.zone_core.proofs.receive.question.PlainQuestion.is_of.Goals as goal
 use Rattle.zone_core.proofs.receive.question.PlainQuestion.is_of.Goals.{then-eq, else-eq}
 

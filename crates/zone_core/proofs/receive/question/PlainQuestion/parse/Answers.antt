@@ -2,7 +2,7 @@ use Rattle.std.proofs.Common.{◌≡◌, length, arith, ap, refl, ◌∙◌}
 use Rattle.std.specs.Int.{to_be_bytes, w16}
 use Rattle.dns_octets.specs.Parser.{octets_of}
 use Rattle.dns_wire.proofs.Flat.{always_on_err}
-use Rattle.zone_text.proofs.Decided.{too_few}
+use Rattle.zone_octets.proofs.Decided.{too_few}
 use Rattle.zone_core.proofs.PlainFronts.{question_read, no_question_read}
 use Rattle.zone_core.proofs.receive.question.PlainQuestion.parse.Goals as goal
 

@@ -1,7 +1,7 @@
 use Rattle.std.proofs.Common.{List, sym, subst}
 use Rattle.zone_core.specs.Asked.{asked_of}
-use Rattle.zone_text.specs.Record.{Record}
-use Rattle.zone_text.specs.Records.{AreRecordsOf}
+use Rattle.zone_octets.specs.Record.{Record}
+use Rattle.zone_octets.specs.Records.{AreRecordsOf}
 use Rattle.zone_core.proofs.ReceivedZones.{transferred_is_zone}
 use Rattle.zone_core.proofs.receive.receiver.Receiver.into_zone.Goals as goal
 

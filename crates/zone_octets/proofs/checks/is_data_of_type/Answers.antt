@@ -1,0 +1,16 @@
+use Rattle.zone_octets.proofs.CheckedData.{data_tested}
+use Rattle.zone_octets.proofs.ReadData.{none_read}
+use Rattle.zone_octets.proofs.checks.is_data_of_type.Goals as goal
+
+pub returns-in_default : goal.returns-in_default
+returns-in_default c = (
+  (λ holds. absurd cc),
+  (λ is. absurd (none_read _ _ c.args.rtype c.args.data.now _ _ is c.from_ref-parser.ensures.octets c.from_ref-parser.ensures.place
+      c.in_default.ensures.no_data)),
+)
+
+pub returns-in-Ok-compose_rdata : goal.returns-in-Ok-compose_rdata
+returns-in-Ok-compose_rdata c =
+    data_tested c.args.rtype c.args.data.now _ c.compose_rdata.new.target.items _ _ c.eq.result c.in-Ok.ensures.ok
+    c.from_ref-parser.ensures.octets c.from_ref-parser.ensures.place (rw c.new-written.ensures.items at c.in-Ok-compose_rdata.ensures.ok)
+    (rw c.as_slice.ensures.value at c.eq.ensures)

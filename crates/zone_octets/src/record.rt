@@ -1,0 +1,127 @@
+//! Resource records as octets.
+ghost use Rattle.std.specs.Prelude.{◌≡◌, ◌==◌, ◌↔◌, IsTrue};
+ghost use Rattle.dns_label.specs.Name.{IsName, low};
+ghost use Rattle.dns_message.specs.Record.{IsRecord, record_octets};
+ghost use Rattle.dns_wire.specs.Suffix.{EndsWith};
+ghost use Rattle.zone_octets.specs.Record as spec;
+ghost use Rattle.zone_octets.specs.Stored.{IsStored, record_in};
+ghost use Rattle.zone_octets.specs.Zone.{soa_type};
+
+use crate::header::number_at;
+use dns_name::{Class, Name, Parser, Rtype, ToName, Ttl};
+use std::marker::Model;
+
+/// The octets of a record besides its owner and its data: type, class, TTL and length (RFC 1035 3.2.1).
+const FIXED_OCTETS: usize = 10;
+
+/// A record (RFC 1035 3.2.1), lent from where its octets are.
+#[derive(Debug, Drop)]
+pub struct Record<'a> {
+    /// The whole record, with every name written out.
+    octets: &'a [u8],
+    /// How many of the octets are the owner's.
+    owner_len: usize,
+}
+
+impl<'a> Model for Record<'a> {
+    ghost use Rattle.zone_octets.specs.Record.{Record};
+    ghost use Rattle.zone_octets.specs.Stored.{IsStored, record_in};
+
+    ghost Value = { Record };
+
+    ghost view = { λ r. record_in r.octets.now };
+
+    ghost invariant = { λ r. IsStored r.octets.now r.owner_len };
+}
+
+impl<'a> Record<'a> {
+    /// The record that the octets are, of which so many are the owner's.
+    pub fn of_octets(octets: &'a [u8], owner_len: usize) -> Record<'a>
+        requires { IsStored octets.now owner_len }
+        ensures { result ≡ record_in octets.now }
+    {
+        Record { octets, owner_len }
+    }
+
+    /// The record that the octets are.
+    pub fn from_octets(octets: &'a [u8]) -> Record<'a>
+        requires { (r : spec.Record) × IsRecord r × (octets.now ≡ record_octets r) }
+        ensures { (r : spec.Record) → IsRecord r → octets.now ≡ record_octets r → result ≡ r }
+    {
+        let mut parser = Parser::from_ref(octets);
+        match Name::parse(&mut parser) {
+            Ok(owner) => Record {
+                octets,
+                owner_len: owner.len(),
+            },
+            Err(_) => unreachable!(),
+        }
+    }
+
+    /// The whole record, with every name written out.
+    pub fn as_octets(&self) -> &'a [u8]
+        ensures octets { result.now ≡ record_octets self.now }
+        ensures known { IsRecord self.now }
+    {
+        self.octets
+    }
+
+    /// The name that the record is about.
+    pub fn owner(&self) -> Name<&'a [u8]>
+        ensures owner { result ≡ self.now.owner }
+        ensures name { IsName self.now.owner }
+    {
+        Name::from_octets_unchecked(&self.octets[..self.owner_len])
+    }
+
+    /// The type of the data.
+    pub fn rtype(&self) -> Rtype
+        ensures { result ≡ self.now.rtype }
+    {
+        Rtype::from_int(number_at(self.octets, self.owner_len))
+    }
+
+    /// The class.
+    pub fn class(&self) -> Class
+        ensures { result ≡ self.now.class }
+    {
+        Class::from_int(number_at(self.octets, self.owner_len + 2))
+    }
+
+    /// For how many seconds the record may be kept.
+    pub fn ttl(&self) -> Ttl
+        ensures { result ≡ self.now.ttl }
+    {
+        let start = self.owner_len + 4;
+        let ttl = &self.octets[start..start + 4];
+        Ttl::from_secs(u32::from_be_bytes([ttl[0], ttl[1], ttl[2], ttl[3]]))
+    }
+
+    /// The data as octets, with every name written out.
+    pub fn data(&self) -> &'a [u8]
+        ensures { result.now ≡ self.now.rdata }
+    {
+        &self.octets[self.owner_len + FIXED_OCTETS..]
+    }
+
+    /// Whether the data is an SOA's.
+    pub fn is_soa(&self) -> bool
+        ensures { result ≡ (self.now.rtype == soa_type) }
+    {
+        self.rtype() == Rtype::SOA
+    }
+
+    /// Whether the owner is the name or stands under it, up to ASCII case.
+    pub fn is_under<N: ToName>(&self, apex: &N) -> bool
+        ensures { IsTrue result ↔ EndsWith (low self.now.owner) (low (N.name apex.now)) }
+    {
+        self.owner().ends_with(apex)
+    }
+
+    /// Whether the owner is the name, up to ASCII case.
+    pub fn is_at<N: ToName>(&self, name: &N) -> bool
+        ensures { IsTrue result ↔ (low self.now.owner ≡ low (N.name name.now)) }
+    {
+        self.owner().name_eq(name)
+    }
+}

@@ -1,0 +1,102 @@
+//! Records one behind the other in memory.
+ghost use Rattle.std.specs.Prelude.{◌≡◌, ◌==◌, ◌<◌, ◌^◌, ◌++◌, ◌∷◌, [], List, length, slice_get, Some, OnOk, OnErr};
+ghost use Rattle.dns_message.specs.Record.{IsRecord, record_octets};
+ghost use Rattle.zone_octets.specs.Record as spec;
+ghost use Rattle.zone_octets.specs.Stored.{AreStored};
+
+use crate::record::Record;
+use std::alloc::{AllocError, Global};
+use std::marker::Model;
+
+/// Records in order, one behind the other in one vector, so that many of them need not a piece of memory each.
+#[derive(Debug, Drop)]
+pub struct RecordList {
+    /// The records, with every name written out (RFC 1035 3.2.1).
+    octets: Vec<u8>,
+    /// Where in the octets each of them begins.
+    places: Vec<usize>,
+}
+
+impl Model for RecordList {
+    ghost use Rattle.std.specs.Prelude.{List};
+    ghost use Rattle.zone_octets.specs.Record.{Record};
+    ghost use Rattle.zone_octets.specs.Stored.{AreStored, records_at};
+
+    ghost Value = { List Record };
+
+    ghost view = { λ list. records_at list.octets.items list.places.items };
+
+    ghost invariant = { λ list. AreStored list.octets.items list.places.items (records_at list.octets.items list.places.items) };
+}
+
+impl RecordList {
+    /// No records.
+    pub fn new(alloc: Global) -> RecordList
+        ensures { result ≡ [] }
+    {
+        RecordList {
+            octets: Vec::new(alloc),
+            places: Vec::new(alloc),
+        }
+    }
+
+    /// Returns the records that the octets are, one after another, of which each begins at one of the places.
+    pub fn from_octets(octets: Vec<u8>, places: Vec<usize>) -> RecordList
+        requires { (records : List spec.Record) × AreStored octets.items places.items records }
+        ensures { (records : List spec.Record) → AreStored octets.items places.items records → result ≡ records }
+    {
+        RecordList { octets, places }
+    }
+
+    /// Adds a record behind the others. Refused where a growth is, and then nothing is changed.
+    pub fn push(&mut self, next: &Record<'_>) -> Result<(), AllocError>
+        ensures ok { OnOk result (self.new ≡ self.old ++ next.now ∷ []) }
+        ensures err { OnErr result (self.new ≡ self.old) }
+    {
+        let place = self.octets.len();
+        self.octets.extend_from_slice(next.as_octets())?;
+        if let Err(error) = self.places.push(place) {
+            self.octets.truncate(place);
+            return Err(error.into());
+        }
+        Ok(())
+    }
+
+    /// How many records there are.
+    pub fn len(&self) -> usize
+        ensures count { result ≡ length self.now }
+        ensures few { result < 2 ^ 63 }
+    {
+        self.places.len()
+    }
+
+    /// Whether there is no record.
+    pub fn is_empty(&self) -> bool
+        ensures { result ≡ (length self.now == 0) }
+    {
+        self.places.is_empty()
+    }
+
+    /// The octets of the record at an index.
+    pub fn octets_at(&self, index: usize) -> &[u8]
+        requires { index < length self.now }
+        ensures octets { (r : spec.Record) → slice_get self.now index ≡ Some r → result.now ≡ record_octets r }
+        ensures known { (r : spec.Record) → slice_get self.now index ≡ Some r → IsRecord r }
+    {
+        let start = self.places[index];
+        let octets = self.octets.as_slice();
+        if index + 1 < self.places.len() {
+            &octets[start..self.places[index + 1]]
+        } else {
+            &octets[start..]
+        }
+    }
+
+    /// The record at an index.
+    pub fn record_at(&self, index: usize) -> Record<'_>
+        requires { index < length self.now }
+        ensures { slice_get self.now index ≡ Some result }
+    {
+        Record::from_octets(self.octets_at(index))
+    }
+}

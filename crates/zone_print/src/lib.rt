@@ -1,0 +1,8 @@
+//! The text of a zone's records, under each layout (RFC 1035 5.1).
+//!
+//! A part of `zonewire`.
+#![tactic(auto)]
+
+mod print;
+
+pub use print::print_records;

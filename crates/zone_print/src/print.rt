@@ -1,0 +1,43 @@
+//! Records as text.
+ghost use Rattle.std.specs.Prelude.{IfOk, OnOk, string_bytes};
+ghost use Rattle.std.specs.List.{AllByRecursion};
+ghost use Rattle.dns_text.specs.Layout.{layout_of};
+ghost use Rattle.zone_octets.specs.Typed.{HasLawfulData};
+ghost use Rattle.zone_print.specs.Printing.{AddsRecord};
+ghost use Rattle.zone_rules.specs.Printed.{IsPrinted};
+
+use dns_text::{DisplayKind, ZonefileFmt};
+use std::alloc::{AllocError, Global};
+use zone_octets::record::Record;
+use zone_octets::record_list::RecordList;
+use zone_octets::typed::typed_record;
+
+/// Returns the text of the records under the layout, one after another, each with a line feed behind it.
+///
+/// Fails only if out of memory.
+pub fn print_records(
+    alloc: Global,
+    records: &RecordList,
+    kind: DisplayKind,
+) -> Result<Vec<u8>, AllocError>
+    requires { AllByRecursion HasLawfulData records.now }
+    ensures { IfOk result (λ text. IsPrinted (layout_of kind) records.now text.items) }
+{
+    let mut text = String::new(alloc);
+    for index in 0..records.len() {
+        let record = records.record_at(index);
+        print_record(&mut text, &record, kind)?;
+    }
+    Ok(text.into_bytes())
+}
+
+/// Appends the text of a record, with a line feed behind it.
+fn print_record(text: &mut String, record: &Record<'_>, kind: DisplayKind) -> Result<(), AllocError>
+    requires { HasLawfulData «record».now }
+    ensures { OnOk result (AddsRecord (layout_of kind) «record».now (string_bytes text.old) (string_bytes text.new)) }
+{
+    let typed = typed_record(record);
+    // An error of the formatter would be an `AllocError` too. No contract rules one out, but the writer of documents has
+    // one only where it opens more blocks than a `usize` counts, and a record has one block.
+    writeln!(text, "{}", typed.display_zonefile(kind))
+}

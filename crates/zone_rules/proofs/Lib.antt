@@ -1,0 +1,17 @@
+pub mod ScannedRows
+pub mod KeptContexts
+pub mod Beginnings
+pub mod KeptRules
+pub mod OneFault
+pub mod ReaderSteps
+pub mod HeadWords
+pub mod JoinedDocuments
+pub mod OpaqueForms
+pub mod OpaqueRows
+pub mod OtherRows
+pub mod PrintedOnce
+pub mod PrintedRecords
+pub mod PrintedZones
+pub mod RecordClasses
+pub mod Judged
+pub mod ShortData

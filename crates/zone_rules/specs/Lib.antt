@@ -1,0 +1,3 @@
+pub mod ZoneText
+pub mod Printed
+pub mod Untyped

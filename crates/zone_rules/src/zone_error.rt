@@ -1,0 +1,51 @@
+//! Why a text is no zone's.
+ghost use Rattle.std.specs.Prelude.{◌≡◌};
+ghost use Rattle.zone_rules.specs.declared.zone_error.ZoneError.TheVariants as zone_error;
+
+use std::alloc::AllocError;
+use thiserror::Error;
+
+/// The first rule that a text breaks. The class is judged first; then the first entry that breaks a rule counts, by the first of the
+/// rules `Text` to `Unspellable` that it breaks; then that there is a record. An entry's number counts records, includes and
+/// directives from 1.
+#[derive(Clone, Copy, Debug, PartialEq, Eq, Error)]
+pub enum ZoneError {
+    /// The class handed in is ANY, which no zone has.
+    #[error("class ANY")]
+    ClassAny,
+    /// The entry is not read.
+    #[error("entry {0}: text")]
+    Text(usize),
+    /// The entry names another file.
+    #[error("entry {0}: include")]
+    Include(usize),
+    /// The record's data is opaque, and is no data of its type, which has fields (RFC 3597 5).
+    #[error("entry {0}: untyped data")]
+    Untyped(usize),
+    /// The first record is no SOA (RFC 1035 5.2).
+    #[error("entry {0}: first record is not SOA")]
+    FirstNotSoa(usize),
+    /// A later record is an SOA (RFC 1035 5.2).
+    #[error("entry {0}: second SOA")]
+    SecondSoa(usize),
+    /// The record's owner is not at or under the SOA's, up to ASCII case.
+    #[error("entry {0}: out of zone")]
+    OutOfZone(usize),
+    /// The record has an empty CAA tag, which no text spells (RFC 8659 4.1).
+    #[error("entry {0}: cannot be spelled")]
+    Unspellable(usize),
+    /// The text has no record.
+    #[error("no SOA")]
+    NoSoa,
+    /// A growth was refused.
+    #[error("out of memory")]
+    OutOfMemory,
+}
+
+impl From<AllocError> for ZoneError {
+    ghost from_gives = { λ _ error. error ≡ zone_error.OutOfMemory };
+
+    fn from(_: AllocError) -> ZoneError {
+        ZoneError::OutOfMemory
+    }
+}

@@ -1,0 +1,219 @@
+//! The records of a zone's text, read in place (RFC 1035 5).
+ghost use Rattle.std.specs.Prelude.{◌≡◌, ◌≢◌, ◌<◌, ◌++◌, [], ℕ, List, Option, Some, None, Ok, true, false, length, option_copied, IfOk, IfErr, IfSome, OnOk};
+ghost use Rattle.dns_label.specs.Name.{IsName};
+ghost use Rattle.dns_label.specs.Octets.{AreOctets};
+ghost use Rattle.dns_zonefile.specs.Reader.{left_of};
+ghost use Rattle.dns_zonefile.specs.ReaderSeen.{reader_of, refused_in};
+ghost use Rattle.dns_message.specs.Record.{IsRecord, record_octets};
+ghost use Rattle.dns_rdata.specs.Fields.{IsData};
+ghost use Rattle.zone_octets.specs.Record as spec;
+ghost use Rattle.zone_octets.specs.Records.{AreRecordsOf};
+ghost use Rattle.zone_octets.specs.Zone.{any_class};
+ghost use Rattle.zone_rules.specs.ZoneText.{IsWellTyped, IsZoneFault, IsZoneText};
+ghost use Rattle.zone_text.specs.Reading.{BreaksRule, HasMet, HasRead, HasReadAll, MayStandUnder, reader_at};
+
+use dns_name::{Class, Name, Parser, ToName};
+use dns_zonefile::{ComposedEntry, Zonefile};
+use std::alloc::{AllocError, Global};
+use zone_octets::checks::{is_data_of_type, is_spellable};
+use zone_octets::record::Record;
+use zone_octets::record_list::RecordList;
+use zone_rules::ZoneError;
+
+/// Reads the records of the text of a zone of the class, as far as a zone's rules hold. Names stand under the origin, if there is one.
+pub(crate) fn read_records(
+    alloc: Global,
+    text: Vec<u8>,
+    origin: Option<&Name<&[u8]>>,
+    class: Class,
+) -> Result<RecordList, ZoneError>
+    requires { class ≢ any_class }
+    ensures ok { IfOk result (IsZoneText text.items (option_copied origin.entry) class) }
+    ensures known { IfOk result (AreRecordsOf class) }
+    ensures err { IfErr result (IsZoneFault text.items (option_copied origin.entry) class) }
+{
+    let mut zonefile = zonefile_of(alloc, text, origin, class)?;
+    let mut octets = Vec::new(alloc);
+    let mut places = Vec::new(alloc);
+    while read_next(alloc, &mut zonefile, &mut octets, &mut places)? {}
+    if places.is_empty() {
+        return Err(ZoneError::NoSoa);
+    }
+    are_octets(&octets);
+    Ok(RecordList::from_octets(octets, places))
+}
+
+/// Does nothing. It says to the proof what the type does: that each of these is an octet.
+fn are_octets(_octets: &[u8])
+    ensures { AreOctets _octets.now }
+{}
+
+/// Returns the reader of a zone's text of the class. Names stand under the origin, if there is one. Fails if out of memory.
+fn zonefile_of(
+    alloc: Global,
+    text: Vec<u8>,
+    origin: Option<&Name<&[u8]>>,
+    class: Class,
+) -> Result<Zonefile, AllocError>
+    ensures at { IfOk result (λ zonefile. reader_of zonefile ≡ reader_at text.items (option_copied origin.entry) class) }
+    ensures unrefused { IfOk result (λ zonefile. refused_in zonefile ≡ None) }
+    ensures named { IfOk result (λ _. IfSome (option_copied origin.entry) IsName) }
+{
+    let mut zonefile = Zonefile::from_vec(alloc, text);
+    zonefile.set_default_class(class);
+    let Some(origin) = origin else {
+        return Ok(zonefile);
+    };
+    // This keeps in sight of the proof that it is a name.
+    let _octets = origin.as_slice();
+    zonefile.set_origin(origin.to_vec(alloc)?);
+    Ok(zonefile)
+}
+
+/// Reads the next record behind the others, and returns whether there was one.
+fn read_next(
+    alloc: Global,
+    zonefile: &mut Zonefile,
+    octets: &mut Vec<u8>,
+    places: &mut Vec<usize>,
+) -> Result<bool, ZoneError>
+    requires unrefused { refused_in zonefile.old ≡ None }
+    requires read { (text : List ℕ) × (origin : Option (List (List ℕ))) × (class : ℕ)
+        × HasRead text origin class (reader_of zonefile.old) octets.old.items places.old.items }
+    ensures unrefused { OnOk result (refused_in zonefile.new ≡ None) }
+    ensures more { result ≡ Ok true → (text : List ℕ) (origin : Option (List (List ℕ))) (class : ℕ) → class ≢ any_class
+        → HasRead text origin class (reader_of zonefile.old) octets.old.items places.old.items
+        → HasRead text origin class (reader_of zonefile.new) octets.new.items places.new.items }
+    ensures shorter { result ≡ Ok true → length (left_of (reader_of zonefile.new)) < length (left_of (reader_of zonefile.old)) }
+    ensures end { result ≡ Ok false → (text : List ℕ) (origin : Option (List (List ℕ))) (class : ℕ)
+        → HasRead text origin class (reader_of zonefile.old) octets.old.items places.old.items
+        → HasReadAll text origin class octets.new.items places.new.items }
+    ensures err { IfErr result (λ error. (text : List ℕ) (origin : Option (List (List ℕ))) (class : ℕ) → class ≢ any_class
+        → HasRead text origin class (reader_of zonefile.old) octets.old.items places.old.items
+        → IsZoneFault text origin class error) }
+{
+    let place = octets.len();
+    let met = match meet_record(zonefile, octets) {
+        Ok(met) => met,
+        Err(error) => return Err(error),
+    };
+    let Some(untyped) = met else {
+        return Ok(false);
+    };
+    let (before, record) = octets.split_at(place);
+    let record = Record::from_octets(record);
+    match check_record(
+        alloc,
+        apex_of(before),
+        &record,
+        untyped,
+        zonefile.entry_number(),
+    ) {
+        Ok(()) => {}
+        Err(error) => return Err(error),
+    }
+    match places.push(place) {
+        Ok(()) => Ok(true),
+        Err(_) => Err(ZoneError::OutOfMemory),
+    }
+}
+
+/// Appends the octets of the next record, and returns whether the text has its data as opaque octets, or None at the end of the text.
+fn meet_record(zonefile: &mut Zonefile, octets: &mut Vec<u8>) -> Result<Option<bool>, ZoneError>
+    requires { refused_in zonefile.old ≡ None }
+    ensures unrefused { OnOk result (refused_in zonefile.new ≡ None) }
+    ensures ok { IfOk result (λ met. HasMet (reader_of zonefile.old) octets.old.items met (reader_of zonefile.new) octets.new.items) }
+    ensures err { IfErr result (λ error. (text : List ℕ) (origin : Option (List (List ℕ))) (class : ℕ) (places : List ℕ) → class ≢ any_class
+        → HasRead text origin class (reader_of zonefile.old) octets.old.items places → IsZoneFault text origin class error) }
+{
+    match zonefile.next_octets(octets) {
+        Ok(Some(ComposedEntry::Record { untyped })) => Ok(Some(untyped)),
+        Ok(Some(ComposedEntry::Include { .. })) => Err(ZoneError::Include(zonefile.entry_number())),
+        Ok(None) => Ok(None),
+        Err(error) if error.is_memory() => Err(ZoneError::OutOfMemory),
+        Err(_) => Err(ZoneError::Text(zonefile.entry_number())),
+    }
+}
+
+/// Refuses a record, by its entry's number, that breaks a rule of the zone of this name, or is no zone's first record if there is no
+/// name yet. The text may have its data as opaque octets though its type has fields.
+fn check_record(
+    alloc: Global,
+    apex: Option<Name<&[u8]>>,
+    record: &Record<'_>,
+    untyped: bool,
+    number: usize,
+) -> Result<(), ZoneError>
+    requires { untyped ≡ false → IsData «record».now.rtype «record».now.rdata }
+    ensures ok { OnOk result (IsWellTyped «record».now × MayStandUnder apex.entry «record».now) }
+    ensures err { IfErr result (BreaksRule number apex.entry «record».now) }
+{
+    check_data(alloc, record, untyped, number)?;
+    check_place(apex, record, number)?;
+    if !is_spellable(record) {
+        return Err(ZoneError::Unspellable(number));
+    }
+    Ok(())
+}
+
+/// Refuses a record, by its entry's number, if the text has its data as opaque octets and it is no data of its type.
+fn check_data(
+    alloc: Global,
+    record: &Record<'_>,
+    untyped: bool,
+    number: usize,
+) -> Result<(), ZoneError>
+    requires { untyped ≡ false → IsData «record».now.rtype «record».now.rdata }
+    ensures ok { OnOk result (IsData «record».now.rtype «record».now.rdata) }
+    ensures err { IfErr result (λ error. (apex : Option (List (List ℕ))) → BreaksRule number apex «record».now error) }
+{
+    if !untyped {
+        return Ok(());
+    }
+    if is_data_of_type(alloc, record.rtype(), record.data())? {
+        Ok(())
+    } else {
+        Err(ZoneError::Untyped(number))
+    }
+}
+
+/// Refuses a record, by its entry's number, that may not stand in the zone of this name, or first in a zone if there is no name yet.
+fn check_place(
+    apex: Option<Name<&[u8]>>,
+    record: &Record<'_>,
+    number: usize,
+) -> Result<(), ZoneError>
+    requires { IsData «record».now.rtype «record».now.rdata }
+    ensures ok { OnOk result (MayStandUnder apex.entry «record».now) }
+    ensures err { IfErr result (BreaksRule number apex.entry «record».now) }
+{
+    let Some(apex) = apex else {
+        return if record.is_soa() {
+            Ok(())
+        } else {
+            Err(ZoneError::FirstNotSoa(number))
+        };
+    };
+    if record.is_soa() {
+        return Err(ZoneError::SecondSoa(number));
+    }
+    if !record.is_under(&apex) {
+        return Err(ZoneError::OutOfZone(number));
+    }
+    Ok(())
+}
+
+/// Returns the owner of the first of the records that these octets are, one after another, if there is one.
+fn apex_of(octets: &[u8]) -> Option<Name<&[u8]>>
+    requires { octets.now ≢ [] → (r : spec.Record) × (rest : List ℕ) × IsRecord r × (octets.now ≡ record_octets r ++ rest) }
+    ensures none { octets.now ≡ [] → result ≡ None }
+    ensures some { (r : spec.Record) (rest : List ℕ) → IsRecord r → octets.now ≡ record_octets r ++ rest → result ≡ Some r.owner }
+{
+    if octets.is_empty() {
+        return None;
+    }
+    match Name::parse(&mut Parser::from_ref(octets)) {
+        Ok(apex) => Some(apex),
+        Err(_) => unreachable!(),
+    }
+}
