@@ -1,12 +1,13 @@
 #!/usr/bin/env python3
 """Times the proved program on zones of several sizes, and beside it the zone readers of other name servers.
 
-For each size: processor time a record (user and system), octets of its input a second, and the peak of its memory, for
-`send` (zone text to stream), `receive` (that stream to text), `check` and `canon` (zone text to its canonical octets). Of
-the others those that are installed read the same text and one NS record more, without which some take no zone. The times
-of those that read text are given as a ratio of the time of `send`. Each is run three times, and the fastest counts. A
-peak below some 20 MB is that of the measuring program itself."""
+For each size: processor time a record (user and system), octets of its input a second, and the peak of its memory: on a plain zone
+for `send` (zone text to stream), `receive` (that stream to text), `check`, and `canon` (zone text to its canonical octets); and on a
+mixed one for `check` and `canon`. Of the others those that are installed read the same text, a plain one with one NS record more,
+without which some take no zone. Times are also given as a ratio of that of `send` on a plain zone, and of `check` on a mixed one. Each is run three times, and the fastest counts. A peak below some
+20 MB is that of the measuring program itself."""
 import argparse
+import filecmp
 import os
 import shutil
 import subprocess
@@ -70,30 +71,50 @@ def report(name, run, records, octets, ratio=None):
     print(f"  {name:<18}{run.seconds * 1e9 / records:10.0f}{octets / run.seconds / 1e6:10.1f}{run.peak_octets / 1e6:10.1f}{ratio}")
 
 
-def measure(program, records, folder):
+def report_runs(records, runs, text):
+    """Reports the runs, and those of the others on the text. The first of the runs is what the others are held against."""
+    print(f"  {'':<18}{'ns/record':>10}{'MB/s':>10}{'peak MB':>10}{'ratio':>8}")
+    for name, (run, read) in runs.items():
+        report(name, run, records, read, run.seconds / next(iter(runs.values()))[0].seconds)
+    for name, (words, _) in peers(str(text)).items():
+        if find(name):
+            run = fastest([find(name), *words], os.devnull, os.devnull)
+            report(name, run, records, text.stat().st_size, run.seconds / next(iter(runs.values()))[0].seconds)
+
+
+def measure_plain(program, records, folder):
     text, stream, again, with_server = (folder / name for name in ("zone", "stream", "again", "with_server"))
     with open(text, "w") as out:
         generate.write_zone(out, records)
     with open(with_server, "w") as out:
         generate.write_zone(out, records)
         out.write(generate.name_server())
+    octets = text.stat().st_size
     sent = fastest([program, "send", "--spelling", "plain"], text, stream)
     received = fastest([program, "receive", "--apex", generate.APEX], stream, again)
-    checked = fastest([program, "check"], text, os.devnull)
-    canonical = fastest([program, "canon"], text, os.devnull)
-    if text.read_bytes() != again.read_bytes():
+    if not filecmp.cmp(text, again, shallow=False):
         sys.exit("the text that was received is not the text that was sent")
-    print(f"{records:,} records, {text.stat().st_size / 1e6:.1f} MB of text, {stream.stat().st_size / 1e6:.1f} MB of stream")
-    print(f"  {'':<18}{'ns/record':>10}{'MB/s':>10}{'peak MB':>10}{'ratio':>8}")
-    report("zonewire send", sent, records, text.stat().st_size, 1)
-    report("zonewire receive", received, records, stream.stat().st_size)
-    report("zonewire check", checked, records, text.stat().st_size, checked.seconds / sent.seconds)
-    report("zonewire canon", canonical, records, text.stat().st_size, canonical.seconds / sent.seconds)
-    for name, (words, _) in peers(str(with_server)).items():
-        if not find(name):
-            continue
-        other = fastest([find(name), *words], os.devnull, os.devnull)
-        report(name, other, records, with_server.stat().st_size, other.seconds / sent.seconds)
+    print(f"{records:,} address records, {octets / 1e6:.1f} MB of text, {stream.stat().st_size / 1e6:.1f} MB of stream")
+    runs = {
+        "zonewire send": (sent, octets),
+        "zonewire receive": (received, stream.stat().st_size),
+        "zonewire check": (fastest([program, "check"], text, os.devnull), octets),
+        "zonewire canon": (fastest([program, "canon"], text, os.devnull), octets),
+    }
+    report_runs(records, runs, with_server)
+
+
+def measure_mixed(program, records, folder):
+    text = folder / "mixed"
+    with open(text, "w") as out:
+        generate.write_mixed_zone(out, records)
+    octets = text.stat().st_size
+    print(f"{records:,} mixed records, {octets / 1e6:.1f} MB of text")
+    runs = {
+        "zonewire check": (fastest([program, "check"], text, os.devnull), octets),
+        "zonewire canon": (fastest([program, "canon"], text, os.devnull), octets),
+    }
+    report_runs(records, runs, text)
 
 
 def main():
@@ -104,7 +125,8 @@ def main():
     report_missing()
     with tempfile.TemporaryDirectory() as folder:
         for records in arguments.records:
-            measure(arguments.program, records, Path(folder))
+            measure_plain(arguments.program, records, Path(folder))
+            measure_mixed(arguments.program, records, Path(folder))
 
 
 if __name__ == "__main__":
