@@ -1,9 +1,9 @@
 #!/usr/bin/env python3
 """build.py [CRATE]: builds the proved program, at build/zonewire; or the program of another crate, at build/CRATE.
 
-The gate keeps what it has proved on this machine, and proves no crate twice. So the program is built by the gate: `rt ci` runs
-in a copy of the crates that the program stands on, without the crates of tests and the edits that must fail. The exit status
-is 1 where the gate refuses the copy; what stood in build/ is then as it was."""
+The program is built by the gate, since only what is proved is built: `rt ci` runs in a copy of the crates that the program
+stands on, without the crates of tests and the edits that must fail. The exit status is 1 where the gate refuses the copy;
+what stood in build/ is then as it was."""
 import os
 import shutil
 import subprocess
@@ -47,8 +47,8 @@ def main():
     with tempfile.TemporaryDirectory(prefix="zonewire-") as name:
         room = Path(name)
         count = copy_to(room, program)
-        print(f"The gate builds the program in a copy of {count} crates. What it has proved on this machine, it takes over: after")
-        print("`make test` this takes some minutes. Else it proves each crate first, for an hour or more.", flush=True)
+        print(f"The gate builds the program in a copy of {count} crates. It proves each crate first, for an hour or more; a")
+        print("toolchain that keeps what it has proved on this machine takes over what `make test` proved.", flush=True)
         if not run_gate(room):
             return 1
         to.parent.mkdir(exist_ok=True)
