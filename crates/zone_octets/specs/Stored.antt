@@ -1,5 +1,5 @@
 -- Records as the program keeps them: as octets, with every name written out, one behind the other (RFC 1035 3.2.1).
--- Only contracts inside the crate speak of it.
+-- Of what stands here, contracts of other crates speak of `AreStored` alone, by which a list of records is made of its octets.
 use Rattle.std.specs.Prelude.{◌≡◌, ◌+◌, ℕ, List, [], ◌∷◌, map, length, take, drop, flat_map}
 use Rattle.std.specs.List.{AllByRecursion}
 use Rattle.std.specs.Int.{from_be_bytes, w32}
