@@ -4,9 +4,12 @@ pub mod WrittenRecords
 pub mod Opened
 pub mod ReadRecords
 pub mod Numbers
-mod SpelledQuestions
-mod AnswerHeaders
-mod HeldRecords
+pub mod SpelledQuestions
+pub mod AnswerHeaders
+pub mod HeldRecords
 pub mod AsWritten
 mod Tried
 pub mod Spellable
+pub mod DecidedFields
+pub mod DecidedRecords
+pub mod WrittenItems
