@@ -4,7 +4,7 @@ use Rattle.std.proofs.lemmas.List.Concat.{flat_map-append}
 use Rattle.zone_octets.specs.Record.{Record}
 use Rattle.zone_core.specs.Query.{AxfrQuery}
 use Rattle.zone_core.specs.Cutting.{joined}
-use Rattle.zone_core.specs.Transfer.{Form, IsAnswer, AreAnswers}
+use Rattle.zone_core.specs.Transfer.{IsAnswer, AreAnswers}
 use Rattle.zone_core.specs.Receiving.{is_first}
 
 -- whether the message behind others is the first
@@ -21,21 +21,21 @@ first_of_stream [] = refl
 first_of_stream (message ∷ messages) = refl
 
 -- The groups of messages that go on behind others: those of the others, that of the next message, and those behind it.
-pub record GroupsPast (form : Form) (query : AxfrQuery) (first : Bool) (others : List (List ℕ)) (next : List ℕ)
+pub record GroupsPast (query : AxfrQuery) (first : Bool) (others : List (List ℕ)) (next : List ℕ)
     (behind : List (List ℕ)) (groups : List (List Record)) : Type 0 where
   pub before : List (List Record)
   pub group : List Record
   pub after : List (List Record)
   pub are : groups ≡ before ++ group ∷ after
-  pub answers : AreAnswers form query first others before
-  pub answer : IsAnswer form query (first_behind first others) next group
-  pub rest : AreAnswers form query false behind after
+  pub answers : AreAnswers query first others before
+  pub answer : IsAnswer query (first_behind first others) next group
+  pub rest : AreAnswers query false behind after
 
-pub groups_past : (form : Form) (query : AxfrQuery) (first : Bool) (others : List (List ℕ)) (next : List ℕ) (behind : List (List ℕ))
-    (groups : List (List Record)) → AreAnswers form query first (others ++ next ∷ behind) groups
-    → GroupsPast form query first others next behind groups
-groups_past form query first [] next behind [] answers = absurd answers
-groups_past form query first [] next behind (group ∷ groups) answers = record {
+pub groups_past : (query : AxfrQuery) (first : Bool) (others : List (List ℕ)) (next : List ℕ) (behind : List (List ℕ))
+    (groups : List (List Record)) → AreAnswers query first (others ++ next ∷ behind) groups
+    → GroupsPast query first others next behind groups
+groups_past query first [] next behind [] answers = absurd answers
+groups_past query first [] next behind (group ∷ groups) answers = record {
   before = [];
   group = group;
   after = groups;
@@ -44,10 +44,10 @@ groups_past form query first [] next behind (group ∷ groups) answers = record 
   answer = answers.0;
   rest = answers.1;
 }
-groups_past form query first (message ∷ others) next behind [] answers = absurd answers
-groups_past form query first (message ∷ others) next behind (group ∷ groups) answers =
-    let there = groups_past form query false others next behind groups answers.1 in
-    let P : Bool → Type 0 = λ first. IsAnswer form query first next there.group in
+groups_past query first (message ∷ others) next behind [] answers = absurd answers
+groups_past query first (message ∷ others) next behind (group ∷ groups) answers =
+    let there = groups_past query false others next behind groups answers.1 in
+    let P : Bool → Type 0 = λ first. IsAnswer query first next there.group in
     record {
       before = group ∷ there.before;
       group = there.group;
@@ -59,16 +59,16 @@ groups_past form query first (message ∷ others) next behind (group ∷ groups)
     }
 
 -- one answer more
-pub answers_push : (form : Form) (query : AxfrQuery) (first : Bool) (messages : List (List ℕ)) (groups : List (List Record))
-    (message : List ℕ) (group : List Record) → AreAnswers form query first messages groups
-    → IsAnswer form query (first_behind first messages) message group
-    → AreAnswers form query first (messages ++ message ∷ []) (groups ++ group ∷ [])
-answers_push form query first [] [] message group answers answer = (answer, tt)
-answers_push form query first [] (other ∷ groups) message group answers answer = absurd answers
-answers_push form query first (other ∷ messages) [] message group answers answer = absurd answers
-answers_push form query first (other ∷ messages) (others ∷ groups) message group answers answer =
-    let P : Bool → Type 0 = λ first. IsAnswer form query first message group in
-    (answers.0, answers_push form query false messages groups message group answers.1 (subst P (sym (none_is_first messages)) answer))
+pub answers_push : (query : AxfrQuery) (first : Bool) (messages : List (List ℕ)) (groups : List (List Record))
+    (message : List ℕ) (group : List Record) → AreAnswers query first messages groups
+    → IsAnswer query (first_behind first messages) message group
+    → AreAnswers query first (messages ++ message ∷ []) (groups ++ group ∷ [])
+answers_push query first [] [] message group answers answer = (answer, tt)
+answers_push query first [] (other ∷ groups) message group answers answer = absurd answers
+answers_push query first (other ∷ messages) [] message group answers answer = absurd answers
+answers_push query first (other ∷ messages) (others ∷ groups) message group answers answer =
+    let P : Bool → Type 0 = λ first. IsAnswer query first message group in
+    (answers.0, answers_push query false messages groups message group answers.1 (subst P (sym (none_is_first messages)) answer))
 
 -- the records of groups that go on
 pub joined_past : (before : List (List Record)) (group : List Record) (after : List (List Record))

@@ -12,14 +12,14 @@ use Rattle.dns_header.specs.Question.{Question}
 use Rattle.zone_octets.specs.Record.{Record}
 use Rattle.zone_octets.specs.Zone.{IsUnder, soa_type, axfr_type}
 use Rattle.zone_core.specs.Query.{AxfrQuery}
-use Rattle.zone_core.specs.Transfer.{WrittenOut, AsksAgain, CountsAnswers, IsQuestionOf}
+use Rattle.zone_core.specs.Transfer.{AsksAgain, CountsAnswers, IsQuestionOf}
 use Rattle.zone_octets.specs.Records.{SameSoa}
 use Rattle.zone_core.specs.Receiving.{IsOpen, IsClosed, KeepsFirstRule, KeepsLastRule}
 use Rattle.zone_core.specs.declared.receive.error.ReceiveError.{ReceiveError}
 use Rattle.zone_octets.proofs.Decided.{Decided, decided_both, decided_names, decided_end}
-use Rattle.zone_octets.proofs.NameFronts.{AreOctets}
 use Rattle.zone_octets.proofs.RowFronts.{row_one, are_plain, ArePlain, lowered_decided}
-use Rattle.zone_octets.proofs.RecordFronts.{HasSomeQuestion, question_decided, question_one}
+use Rattle.dns_message.proofs.DecidedRecords.{HasSomeQuestion, question_decided, question_one}
+use Rattle.zone_octets.proofs.SpellableData.{spellable_decided}
 use Rattle.zone_core.proofs.LawfulRecords.{IsLawful, closed_not_open, lawful_record}
 use Rattle.zone_core.proofs.MessageFaults.{record_rules, head_rules}
 use Rattle.zone_core.proofs.OrderedRules.{Rules, FirstBroken, AllKept}
@@ -147,7 +147,7 @@ record_rules_decided query front r data' lawful is = (
   first_decided query front r,
   (
     cases_eq r.class query.class,
-    (under_decided query r, (last_decided query front r data' lawful is, (closed_decided query front lawful, tt))),
+    (under_decided query r, (last_decided query front r data' lawful is, (closed_decided query front lawful, (spellable_decided r.rtype r.rdata is, tt)))),
   ),
 )
 
@@ -186,11 +186,11 @@ of_query_decided query q = elim (decided_names (low q.name) (low query.name)) [
 ]
 
 abbrev Asks : AxfrQuery → Bool → List ℕ → Type 0
-Asks query first message = (place : ℕ) × AsksAgain WrittenOut query first message place
+Asks query first message = (place : ℕ) × AsksAgain query first message place
 
 -- a question that is asked is the one that is there
 asked_there : (query : AxfrQuery) (first : Bool) (message : List ℕ) (place : ℕ) → question_count message ≡ 1
-    → AsksAgain WrittenOut query first message place → (some : HasSomeQuestion message 12) × IsQuestionOf query some.q
+    → AsksAgain query first message place → (some : HasSomeQuestion message 12) × IsQuestionOf query some.q
 asked_there query first message place one (inl bare) = absurd (omega (arith, one, bare.1))
 asked_there query first message place one (inr asks) = (record { q = asks.1; next = place; has = asks.2 }, asks.3)
 
@@ -200,7 +200,7 @@ asked_by_query query first message one some (inl of) = inl (some.next, inr (one,
 asked_by_query query first message one some (inr other) = inr (λ asks.
     let there = asked_there query first message asks.0 one asks.1 in
     let P : Question → Type 0 = λ q. IsQuestionOf query q in
-    other (subst P (question_one there.0 some) there.1))
+    other (subst P (question_one there.0 some).0 there.1))
 
 asked_by_question : (query : AxfrQuery) (first : Bool) (message : List ℕ) → question_count message ≡ 1 → Decided (HasSomeQuestion message 12)
     → Decided (Asks query first message)
@@ -209,7 +209,7 @@ asked_by_question query first message one (inr none) = inr (λ asks.
     let there = asked_there query first message asks.0 one asks.1 in none there.0)
 
 not_asked : (query : AxfrQuery) (first : Bool) (message : List ℕ) (place : ℕ) → (question_count message ≡ 1 → ⊥)
-    → (first ≡ false → question_count message ≡ 0 → ⊥) → AsksAgain WrittenOut query first message place → ⊥
+    → (first ≡ false → question_count message ≡ 0 → ⊥) → AsksAgain query first message place → ⊥
 not_asked query first message place not_one not_none (inl bare) = not_none bare.0 bare.1
 not_asked query first message place not_one not_none (inr asks) = not_one asks.0
 
@@ -221,15 +221,14 @@ asked_bare query first message not_one (inr is_first) none =
 asked_bare query first message not_one (inl later) (inr some) =
     inr (λ asks. not_asked query first message asks.0 not_one (λ later zero. some zero) asks.1)
 
-asked_decided : (query : AxfrQuery) (first : Bool) (message : List ℕ) → AreOctets message → Decided (Asks query first message)
-asked_decided query first message each = elim (cases_eq (question_count message) 1) [
-  | inl one ↦ asked_by_question query first message one (question_decided message 12 each)
+asked_decided : (query : AxfrQuery) (first : Bool) (message : List ℕ) → Decided (Asks query first message)
+asked_decided query first message = elim (cases_eq (question_count message) 1) [
+  | inl one ↦ asked_by_question query first message one (question_decided message 12)
   | inr not_one ↦ asked_bare query first message not_one (bool_decided first false) (cases_eq (question_count message) 0)
 ]
 
-pub head_rules_decided : (query : AxfrQuery) (first : Bool) (message : List ℕ) → AreOctets message
-    → DecidedRules (head_rules query first message)
-head_rules_decided query first message each = (
+pub head_rules_decided : (query : AxfrQuery) (first : Bool) (message : List ℕ) → DecidedRules (head_rules query first message)
+head_rules_decided query first message = (
   long_decided message,
   (
     cases_eq (id_of message) query.id,
@@ -237,7 +236,7 @@ head_rules_decided query first message each = (
       bool_decided (is_response message) true,
       (
         cases_eq (opcode_of message) 0,
-        (cases_eq (rcode_of message) 0, (counts_decided message, (asked_decided query first message each, tt))),
+        (cases_eq (rcode_of message) 0, (counts_decided message, (asked_decided query first message, tt))),
       ),
     ),
   ),

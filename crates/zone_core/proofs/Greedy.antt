@@ -158,3 +158,26 @@ cut_on size max before (x ∷ rest) gs cut =
 -- Each list has a full cut or a blocked element.
 pub cut_or_blocked : {X : Type 0} (size : List X → ℕ) (max : ℕ) (xs : List X) → CutOrBlocked size max xs
 cut_or_blocked size max xs = cut_on size max [] xs [] (full_cut_of_none size max)
+
+-- one more group, which begins with an element that doesn't fit behind the others
+full_closed : {X : Type 0} (size : List X → ℕ) (max : ℕ) (gs : List (List X)) (x : X) (xs : List X) → AllByRecursion IsNonempty gs
+    → IsFull size max gs → FitsNotBehind size max gs x → IsFull size max (push gs (x ∷ xs))
+full_closed size max [] x xs nonempty full behind = (tt, tt)
+full_closed size max (h ∷ []) x xs nonempty full behind = (behind, (tt, tt))
+full_closed size max (h ∷ ([] ∷ gs)) x xs nonempty full behind = absurd nonempty.1.0
+full_closed size max (h ∷ ((y ∷ k) ∷ gs)) x xs nonempty full behind = (full.0, full_closed size max ((y ∷ k) ∷ gs) x xs nonempty.1 full.1 behind)
+
+-- A whole group whose first element doesn't fit behind the others.
+pub full_cut_closes : {X : Type 0} (size : List X → ℕ) (max : ℕ) (before : List X) (gs : List (List X)) (x : X) (xs : List X)
+    → IsFullCut size max before gs → FitsNotBehind size max gs x → size (x ∷ xs) ≤ max
+    → IsFullCut size max (before ++ x ∷ xs) (push gs (x ∷ xs))
+full_cut_closes size max before gs x xs cut behind room = record {
+  fits = record {
+    cut = record {
+      nonempty = all_push IsNonempty gs (x ∷ xs) cut.fits.cut.nonempty tt;
+      joins = joined-push gs (x ∷ xs) ∙ ap (λ l. l ++ x ∷ xs) cut.fits.cut.joins;
+    };
+    small = all_push (λ group. size group ≤ max) gs (x ∷ xs) cut.fits.small room;
+  };
+  full = full_closed size max gs x xs cut.fits.cut.nonempty cut.full behind;
+}

@@ -6,9 +6,8 @@ use Rattle.dns_header.specs.Header.{answer_count}
 use Rattle.zone_octets.specs.Record.{Record}
 use Rattle.zone_octets.specs.Zone.{soa_type}
 use Rattle.zone_core.specs.Query.{AxfrQuery}
-use Rattle.zone_core.specs.Transfer.{WrittenOut, IsInZoneOf, SpellsRecords, HasAnswerHeader, IsAnswer, HasRecord}
-use Rattle.zone_octets.specs.Records.{IsTypeToday}
-use Rattle.zone_octets.proofs.SpellableData.{today_is_spellable}
+use Rattle.dns_message.specs.Record.{ReadsRecord}
+use Rattle.zone_core.specs.Transfer.{IsInZoneOf, SpellsRecords, HasAnswerHeader, IsAnswer}
 use Rattle.zone_core.specs.Transfer.SpellsRecords.{none}
 use Rattle.zone_core.specs.Receiving.{IsOpen, IsClosed, KeepsRulesTo, IsMessageFault}
 use Rattle.zone_core.specs.declared.receive.error.ReceiveError.{ReceiveError}
@@ -19,13 +18,14 @@ use Rattle.zone_core.proofs.SpelledRecords.{spelled_push}
 use Rattle.zone_core.proofs.LawfulRecords.{IsLawful, closed_not_open}
 use Rattle.zone_core.proofs.MessageFaults.{record_rules, head_rules}
 use Rattle.zone_core.proofs.OrderedRules.{FirstBroken, AllKept}
-use Rattle.zone_octets.proofs.RecordFronts.{record_decided}
+use Rattle.dns_message.proofs.DecidedRecords.{record_decided}
+use Rattle.zone_core.proofs.SpelledRecords.{read_has_data}
 use Rattle.zone_core.proofs.DecidedRules.{HasData, judged, record_rules_decided, head_rules_decided}
 
 -- what a message is behind others with the records in front
 pub data Verdict (query : AxfrQuery) (front : List Record) (first : Bool) (message : List ℕ) : Type 0 where
   at_fault : (e : ReceiveError) → IsMessageFault query front first message e → Verdict query front first message
-  answers : (group : List Record) → IsAnswer WrittenOut query first message group → IsLawful query (front ++ group)
+  answers : (group : List Record) → IsAnswer query first message group → IsLawful query (front ++ group)
       → AllByRecursion HasData group → Verdict query front first message
 
 -- the first rule of the head that is broken is the fault
@@ -72,7 +72,7 @@ not_both query front open_ closed =
 -- the first rule that a record breaks is the fault of its message
 record_fault : (query : AxfrQuery) (front : List Record) (first : Bool) (message : List ℕ) (group : List Record) (place next : ℕ) (r : Record)
     (e : ReceiveError) → KeepsRulesTo query front first message group place → length group < answer_count message
-    → HasRecord WrittenOut message place r next → FirstBroken (record_rules query (front ++ group) r) e
+    → ReadsRecord message place r next → FirstBroken (record_rules query (front ++ group) r) e
     → IsMessageFault query front first message e
 record_fault query front first message group place next r e keeps some has (inl broken) =
     let P : ReceiveError → Type 0 = λ e. IsMessageFault query front first message e in
@@ -93,15 +93,19 @@ record_fault query front first message group place next r e keeps some has (inr 
           let P : ReceiveError → Type 0 = λ e. IsMessageFault query front first message e in
           subst P (sym broken.1) (group, place, keeps, some, (refl, r, next, has, one, two, three, four, closed)))
     ]
-record_fault query front first message group place next r e keeps some has (inr (one, inr (two, inr (three, inr (four, inr (five, no_more)))))) = absurd no_more
+record_fault query front first message group place next r e keeps some has (inr (one, inr (two, inr (three, inr (four, inr (five, inl broken)))))) =
+    let P : ReceiveError → Type 0 = λ e. IsMessageFault query front first message e in
+    subst P (sym broken.1) (group, place, keeps, some, (refl, r, next, has, one, two, three, four, five, broken.0))
+record_fault query front first message group place next r e keeps some has (inr (one, inr (two, inr (three, inr (four, inr (five, inr (six, no_more))))))) =
+    absurd no_more
 
 -- a record that keeps the rules behind others makes them a lawful list again
-lawful_push : (query : AxfrQuery) (front : List Record) (r : Record) → IsOpen query front → IsTypeToday r.rtype
-    → AllKept (record_rules query front r) → IsLawful query (front ++ r ∷ [])
-lawful_push query [] r open_ today (first, (class, (under, rest))) =
-    inl (first.0, first.1, (record { class = class; under = under; spellable = today_is_spellable r.rtype r.rdata today }, tt), tt)
-lawful_push query (soa ∷ others) r open_ today (first, (class, (under, (last, rest)))) =
-    let is : IsInZoneOf query r = record { class = class; under = under; spellable = today_is_spellable r.rtype r.rdata today } in
+lawful_push : (query : AxfrQuery) (front : List Record) (r : Record) → IsOpen query front → AllKept (record_rules query front r)
+    → IsLawful query (front ++ r ∷ [])
+lawful_push query [] r open_ (first, (class, (under, (last, (not_closed, (spellable, rest)))))) =
+    inl (first.0, first.1, (record { class = class; under = under; spellable = spellable }, tt), tt)
+lawful_push query (soa ∷ others) r open_ (first, (class, (under, (last, (not_closed, (spellable, rest)))))) =
+    let is : IsInZoneOf query r = record { class = class; under = under; spellable = spellable } in
     elim (cases_eq r.rtype soa_type) [
       | inl soa_again ↦ inr (record {
         front = soa ∷ others;
@@ -124,7 +128,7 @@ all_judged : (query : AxfrQuery) (front : List Record) (first : Bool) (message :
     → Verdict query front first message
 all_judged query front first message group place keeps data' all = elim (cases_eq place (length message)) [
   | inl ends ↦ (
-      let P : ℕ → Type 0 = λ place. SpellsRecords WrittenOut message keeps.start group place in
+      let P : ℕ → Type 0 = λ place. SpellsRecords message keeps.start group place in
       answers group (record {
         header = keeps.header;
         place = keeps.start;
@@ -137,12 +141,12 @@ all_judged query front first message group place keeps data' all = elim (cases_e
 
 -- one record more that keeps the rules
 keeps_push : (query : AxfrQuery) (front : List Record) (first : Bool) (message : List ℕ) (group : List Record) (place next : ℕ) (r : Record)
-    → KeepsRulesTo query front first message group place → HasRecord WrittenOut message place r next
+    → KeepsRulesTo query front first message group place → ReadsRecord message place r next
     → AllKept (record_rules query (front ++ group) r) → KeepsRulesTo query front first message (group ++ r ∷ []) next
 keeps_push query front first message group place next r keeps has kept =
     let P : List Record → Type 0 = λ records. IsLawful query records in
     let goes : IsLawful query ((front ++ group) ++ r ∷ []) = elim keeps.lawful [
-      | inl open_ ↦ lawful_push query (front ++ group) r open_ has.1 kept
+      | inl open_ ↦ lawful_push query (front ++ group) r open_ kept
       | inr closed ↦ absurd (kept.1.1.1.1.0 closed)
     ] in
     record {
@@ -164,13 +168,14 @@ judged_from query front first message each data' (suc left) group place keeps gr
       (group, place, keeps, omega arith, (refl, λ r next has. missing (record { r = r; next = next; has = has })))
   | inl some ↦ (
       let r : Record = some.r in
-      let decided = record_rules_decided query (front ++ group) r (all_append HasData front group data' group_data) keeps.lawful some.has.0.data_is in
+      let data_is = read_has_data r some.has in
+      let decided = record_rules_decided query (front ++ group) r (all_append HasData front group data' group_data) keeps.lawful data_is in
       elim (judged (record_rules query (front ++ group) r) decided) [
         | inl broken ↦ at_fault broken.0
             (record_fault query front first message group place some.next r broken.0 keeps (omega arith) some.has broken.1)
         | inr kept ↦ judged_from query front first message each data' left (group ++ r ∷ []) some.next
             (keeps_push query front first message group place some.next r keeps some.has kept)
-            (all_append HasData group (r ∷ []) group_data (some.has.0.data_is, tt))
+            (all_append HasData group (r ∷ []) group_data (data_is, tt))
             (omega (arith, length-append group (r ∷ [])))
       ])
 ]
@@ -178,7 +183,7 @@ judged_from query front first message each data' (suc left) group place keeps gr
 pub message_judged : (query : AxfrQuery) (front : List Record) (first : Bool) (message : List ℕ) → AreOctets message
     → AllByRecursion HasData front → IsOpen query front → Verdict query front first message
 message_judged query front first message each data' open_ =
-    elim (judged (head_rules query first message) (head_rules_decided query first message each)) [
+    elim (judged (head_rules query first message) (head_rules_decided query first message)) [
       | inl broken ↦ at_fault broken.0 (head_fault query front first message broken.0 broken.1)
       | inr kept ↦ (
           let header : HasAnswerHeader query message = record {

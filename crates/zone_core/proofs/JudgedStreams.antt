@@ -8,7 +8,7 @@ use Rattle.zone_octets.specs.Record.{Record}
 use Rattle.zone_core.specs.Query.{AxfrQuery}
 use Rattle.zone_core.specs.Frames.{frame, frames, IsFramable, IsPartial}
 use Rattle.zone_core.specs.Cutting.{joined}
-use Rattle.zone_core.specs.Transfer.{WrittenOut, AreAnswers, IsAnswer, IsTransferIn}
+use Rattle.zone_core.specs.Transfer.{AreAnswers, IsAnswer, IsTransfer}
 use Rattle.zone_core.specs.Receiving.{IsOpen, IsClosed, IsBegun, IsMessageFault, HasBadMessage, is_first}
 use Rattle.zone_core.specs.declared.receive.error.ReceiveError.{ReceiveError}
 use Rattle.zone_core.proofs.Splits.{two_splits}
@@ -26,7 +26,7 @@ use Rattle.zone_core.proofs.JudgedMessages.Verdict.{at_fault, answers}
 -- what a stream is
 abbrev pub BeginsWithTransfer : AxfrQuery → List ℕ → Type 0
 BeginsWithTransfer query stream =
-    (front rest : List ℕ) × (records : List Record) × (stream ≡ front ++ rest) × IsTransferIn WrittenOut query front records
+    (front rest : List ℕ) × (records : List Record) × (stream ≡ front ++ rest) × IsTransfer query front records
 
 abbrev pub IsOneOfThree : AxfrQuery → List ℕ → Type 0
 IsOneOfThree query stream =
@@ -36,7 +36,7 @@ IsOneOfThree query stream =
 record Heard (query : AxfrQuery) (stream : List ℕ) (messages : List (List ℕ)) (groups : List (List Record)) (rest : List ℕ) : Type 0 where
   each : AllByRecursion IsFramable messages
   whole : stream ≡ frames messages ++ rest
-  answered : AreAnswers WrittenOut query true messages groups
+  answered : AreAnswers query true messages groups
   still_open : IsOpen query (joined groups)
   data_are : AllByRecursion HasData (joined groups)
 
@@ -119,18 +119,18 @@ bad_next query stream messages groups rest heard next e fault = record {
 record Goes (query : AxfrQuery) (stream : List ℕ) (messages : List (List ℕ)) (groups : List (List Record)) (behind : List ℕ) : Type 0 where
   each : AllByRecursion IsFramable messages
   whole : stream ≡ frames messages ++ behind
-  answered : AreAnswers WrittenOut query true messages groups
+  answered : AreAnswers query true messages groups
 
 goes_on : (query : AxfrQuery) (stream : List ℕ) (messages : List (List ℕ)) (groups : List (List Record)) (rest : List ℕ)
     → Heard query stream messages groups rest → (next : Next rest) (group : List Record)
-    → IsAnswer WrittenOut query (is_first messages) next.message group
+    → IsAnswer query (is_first messages) next.message group
     → Goes query stream (messages ++ next.message ∷ []) (groups ++ group ∷ []) next.behind
 goes_on query stream messages groups rest heard next group answer =
-    let P : Bool → Type 0 = λ first. IsAnswer WrittenOut query first next.message group in
+    let P : Bool → Type 0 = λ first. IsAnswer query first next.message group in
     record {
       each = all_append IsFramable messages (next.message ∷ []) heard.each (next.fits, tt);
       whole = heard.whole ∙ ap (λ l. frames messages ++ l) next.at ∙ frames_push messages next.message next.behind;
-      answered = answers_push WrittenOut query true messages groups next.message group heard.answered
+      answered = answers_push query true messages groups next.message group heard.answered
           (subst P (sym (first_of_stream messages)) answer);
     }
 

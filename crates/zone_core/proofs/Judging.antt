@@ -1,20 +1,19 @@
 -- A frame is judged behind those that are.
-use Rattle.std.proofs.Common.{◌≡◌, ℕ, ◌+◌, ◌-◌, Bool, true, false, List, [], ◌∷◌, ◌++◌, length, take, drop, refl, sym, ap, ◌∙◌, subst, arith, append_assoc, append-nil, length-append}
-use Rattle.std.proofs.Math.Seq.{take-append_seam}
+use Rattle.std.proofs.Common.{◌≡◌, ℕ, Bool, true, false, List, [], ◌∷◌, ◌++◌, drop, refl, sym, ap, ◌∙◌, subst, append_assoc, append-nil}
 use Rattle.std.proofs.lemmas.List.{same_from_push}
 use Rattle.std.proofs.lemmas.List.Concat.{flat_map-append}
+use Rattle.std.specs.Prelude.{Result, Ok, Err, IfOk, IfErr, OnOk}
 use Rattle.std.specs.Bool.{OnTrue, OnFalse}
-use Rattle.std.specs.Int.{to_be_bytes, w16}
 use Rattle.std.specs.List.{AllByRecursion, push}
-use Rattle.dns_label.proofs.Spelling.{drop_behind}
 use Rattle.zone_octets.specs.Record.{Record}
 use Rattle.zone_octets.specs.Records.{IsRecordOf}
 use Rattle.zone_core.specs.Query.{AxfrQuery}
-use Rattle.zone_core.specs.Frames.{frame, frames, IsFramable}
+use Rattle.zone_core.specs.Frames.{frame, frames, IsFramable, IsPartial}
 use Rattle.zone_core.specs.Cutting.{joined}
-use Rattle.zone_core.specs.Transfer.{WrittenOut, IsAnswer, AreAnswers, IsTransferred, ClosesTransfer}
-use Rattle.zone_core.specs.Receiving.{is_first, IsOpen, IsClosed, IsMessageFault, HasBadMessage, IsStreamFault}
-use Rattle.zone_core.specs.Intake.{IsFaultOr, StandsAt, TakesMessage, Judged, BeginsWithFrame, EndsTransfer}
+use Rattle.zone_core.specs.Transfer.{IsAnswer, AreAnswers, IsTransferred, ClosesTransfer}
+use Rattle.zone_core.specs.Receiving.{is_first, Heard, IsHeard, IsOpen, IsClosed, IsMessageFault, HasBadMessage, IsStreamFault, stage_of}
+use Rattle.zone_core.specs.Receiving.Stage.{Begun}
+use Rattle.zone_core.specs.Intake.{BreaksRule, EndsTransfer, GoesOn, IsFaultOr, IsFrame, StandsAt, TakesMessage, heard_by, stage_where}
 use Rattle.zone_core.specs.Intake.StandsAt.{begun, ended}
 use Rattle.zone_core.specs.declared.receive.intake.Intake.{Intake}
 use Rattle.zone_core.specs.declared.query_error.QueryError.{QueryError}
@@ -23,17 +22,13 @@ use Rattle.zone_core.specs.declared.receive.error.ReceiveError.TheVariants as re
 use Rattle.zone_octets.proofs.Each.{all_append}
 use Rattle.zone_core.proofs.LawfulRecords.{closed_not_open}
 use Rattle.zone_core.proofs.AnswerGroups.{answers_push, first_of_stream}
-use Rattle.zone_core.proofs.Intakes.{rest_is}
 
--- the message within its frame
-pub framed_message : (octets : List ℕ) (place len end : ℕ) (framed : BeginsWithFrame (drop place octets) len) → end ≡ place + len
-    → take (end - (place + 2)) (drop (place + 2) octets) ≡ framed.message
-framed_message octets place len end framed ends =
-    let mark : List ℕ = to_be_bytes w16 (length framed.message) in
-    let there : drop place octets ≡ mark ++ (framed.message ++ framed.behind) = framed.whole ∙ append_assoc mark framed.message framed.behind in
-    let behind : drop (place + 2) octets ≡ framed.message ++ framed.behind = drop_behind octets place (place + 2) mark (framed.message ++ framed.behind) there refl in
-    let long : end - (place + 2) ≡ length framed.message = omega (arith, ends, framed.long) in
-    ap (take (end - (place + 2))) behind ∙ ap (λ n. take n (framed.message ++ framed.behind)) long ∙ take-append_seam framed.message framed.behind
+-- the message within its frame, where that stands in the octets alone
+pub framed_message : (octets : List ℕ) (framed : IsFrame octets) → drop 2 octets ≡ framed.message
+framed_message octets framed = ap (drop 2) framed.whole
+
+pub framed_alone : (open_frame octets : List ℕ) (framed : IsFrame (open_frame ++ octets)) → open_frame ≡ [] → drop 2 octets ≡ framed.message
+framed_alone open_frame octets framed none = ap (λ l. drop 2 (l ++ octets)) (sym none) ∙ framed_message (open_frame ++ octets) framed
 
 -- frames with one more
 frames_push : (messages : List (List ℕ)) (message : List ℕ) → frames messages ++ frame message ≡ frames (push messages message)
@@ -44,45 +39,36 @@ joined_push : (groups : List (List Record)) (group : List Record) → joined (pu
 joined_push groups group = flat_map-append (λ g. g) groups (group ∷ []) ∙ ap (λ l. joined groups ++ l) (append-nil group)
 
 -- whether the message is the first
-first_by : (messages : List (List ℕ)) (place : ℕ) → place ≡ length (frames messages) → (first : Bool)
-    → (first ≡ true → place ≡ 0) → (place ≡ 0 → first ≡ true) → first ≡ is_first messages
-first_by [] place is first to from = from is
-first_by (message ∷ messages) place is true to from =
-    absurd (omega (arith, is, to refl, length-append (frame message) (frames messages), length-append (to_be_bytes w16 (length message)) message))
-first_by (message ∷ messages) place is false to from = refl
+first_by : (messages : List (List ℕ)) (first : Bool) → stage_where first ≡ stage_of messages → first ≡ is_first messages
+first_by [] true is = refl
+first_by [] false is = absurd cc
+first_by (message ∷ messages) true is = absurd cc
+first_by (message ∷ messages) false is = refl
 
-pub first_where : {intake : Intake} {query : AxfrQuery} (judged : Judged intake query) (first : Bool)
-    → (first ≡ true → intake.judged ≡ 0) → (intake.judged ≡ 0 → first ≡ true) → first ≡ is_first judged.messages
-first_where {intake} judged first to from = first_by judged.messages intake.judged judged.place first to from
+stage_push : (messages : List (List ℕ)) (message : List ℕ) → Begun ≡ stage_of (push messages message)
+stage_push [] message = refl
+stage_push (other ∷ messages) message = refl
 
--- The octets are the frames of the messages that are judged, that of the next one, and what is behind.
-pub record NextJudged (intake : Intake) (query : AxfrQuery) (judged : Judged intake query) (message behind : List ℕ) (end : ℕ) : Type 0 where
-  pub each : AllByRecursion IsFramable (push judged.messages message)
-  pub whole : intake.octets.items ≡ frames (push judged.messages message) ++ behind
-  pub place : end ≡ length (frames (push judged.messages message))
+-- The stream is one message more.
+record NextHeard (messages : List (List ℕ)) (message stream : List ℕ) : Type 0 where
+  each : AllByRecursion IsFramable (push messages message)
+  whole : stream ≡ frames (push messages message)
 
-pub next_judged : (intake : Intake) (query : AxfrQuery) (judged : Judged intake query) (len end : ℕ)
-    (framed : BeginsWithFrame (drop intake.judged intake.octets.items) len) → end ≡ intake.judged + len
-    → NextJudged intake query judged framed.message framed.behind end
-next_judged intake query judged len end framed ends =
-    let m : List ℕ = framed.message in
-    let front : List ℕ = frames judged.messages in
-    let more = frames_push judged.messages m in
-    record {
-      each = all_append IsFramable judged.messages (m ∷ []) judged.each (framed.fits, tt);
-      whole = judged.whole ∙ ap (λ l. front ++ l) (sym (rest_is judged) ∙ framed.whole) ∙ sym (append_assoc front (frame m) framed.behind)
-          ∙ ap (λ l. l ++ framed.behind) more;
-      place = omega (arith, ends, judged.place, framed.long, ap length more, length-append front (frame m), length-append (to_be_bytes w16 (length m)) m);
-    }
+next_heard : {heard : Heard} (stream octets : List ℕ) (is : IsHeard heard stream) (framed : IsFrame (heard.open_frame ++ octets))
+    → NextHeard is.messages framed.message (stream ++ octets)
+next_heard {heard} stream octets is framed = record {
+  each = all_append IsFramable is.messages (framed.message ∷ []) is.splits.each (framed.fits, tt);
+  whole = ap (λ l. l ++ octets) is.splits.whole ∙ append_assoc (frames is.messages) heard.open_frame octets
+      ∙ ap (λ l. frames is.messages ++ l) framed.whole ∙ frames_push is.messages framed.message;
+}
 
--- the answers with the next one
-next_answers : (intake : Intake) (query : AxfrQuery) (judged : Judged intake query) (message : List ℕ) (group : List Record) (first : Bool)
-    → first ≡ is_first judged.messages → IsAnswer WrittenOut query first message group
-    → AreAnswers WrittenOut query true (push judged.messages message) (push judged.groups group)
-next_answers intake query judged message group first is answer =
-    let P : Bool → Type 0 = λ first. IsAnswer WrittenOut query first message group in
-    answers_push WrittenOut query true judged.messages judged.groups message group judged.answers
-    (subst P (is ∙ sym (first_of_stream judged.messages)) answer)
+next_answers : (intake : Intake) (query : AxfrQuery) (stream : List ℕ) (is : IsHeard (heard_by intake query) stream) (message : List ℕ)
+    (group : List Record) → IsAnswer query intake.is_first message group
+    → AreAnswers query true (push is.messages message) (push is.groups group)
+next_answers intake query stream is message group answer =
+    let P : Bool → Type 0 = λ first. IsAnswer query first message group in
+    answers_push query true is.messages is.groups message group is.answers
+    (subst P (first_by is.messages intake.is_first is.stage ∙ sym (first_of_stream is.messages)) answer)
 
 -- what stands where no last SOA has come
 record StandsOpen (query : AxfrQuery) (held front : List Record) : Type 0 where
@@ -95,27 +81,29 @@ stands_open (begun still) is = record { same = refl; still = still }
 stands_open (ended last all closes) is = absurd cc
 
 -- the message is judged, and the transfer goes on
-pub judged_on : (intake new : Intake) (query : AxfrQuery) (judged : Judged intake query) (message behind : List ℕ) (end : ℕ) (first : Bool)
-    → NextJudged intake query judged message behind end → new.octets.items ≡ intake.octets.items → new.judged ≡ end
-    → first ≡ is_first judged.messages
-    → TakesMessage query intake.records first message new.records false → AllByRecursion (IsRecordOf query.class) new.records
-    → Judged new query
-judged_on intake new query judged message behind end first next same place is takes known =
-    let open' = stands_open takes.stands refl in
-    let joins : joined (push judged.groups takes.group) ≡ new.records =
-    joined_push judged.groups takes.group ∙ ap (λ l. l ++ takes.group) judged.joins ∙ open'.same in
-    record {
-      messages = push judged.messages message;
-      rest = behind;
-      each = next.each;
-      whole = same ∙ next.whole;
-      place = place ∙ next.place;
-      groups = push judged.groups takes.group;
-      answers = next_answers intake query judged message takes.group first is takes.answer;
-      joins = joins;
-      still_open = subst (IsOpen query) (sym joins) open'.still;
-      known = known;
-    }
+pub judged_on : (old new : Intake) (query : AxfrQuery) (octets : List ℕ) (framed : IsFrame (old.open_frame.items ++ octets))
+    → new.open_frame.items ≡ [] → new.is_first ≡ false → TakesMessage query old.records old.is_first framed.message new.records false
+    → AllByRecursion (IsRecordOf query.class) new.records → GoesOn old octets new query
+judged_on old new query octets framed none first takes known = record {
+  heard = λ stream is.
+      let next = next_heard stream octets is framed in
+      let open' = stands_open takes.stands refl in
+      let messages : List (List ℕ) = push is.messages framed.message in
+      record {
+        messages = messages;
+        splits = record {
+          each = next.each;
+          whole = next.whole ∙ sym (append-nil (frames messages)) ∙ ap (λ l. frames messages ++ l) (sym none);
+          partial = subst IsPartial (sym none) tt;
+        };
+        groups = push is.groups takes.group;
+        answers = next_answers old query stream is framed.message takes.group takes.answer;
+        joins = joined_push is.groups takes.group ∙ ap (λ l. l ++ takes.group) is.joins ∙ open'.same;
+        still_open = open'.still;
+        stage = ap stage_where first ∙ stage_push is.messages framed.message;
+      };
+  known = known;
+}
 
 -- what stands where the last SOA has come
 record StandsClosed (query : AxfrQuery) (held front : List Record) : Type 0 where
@@ -158,33 +146,31 @@ last_group query held old (r ∷ group) last still same all closes =
     record { front = end.front; group_is = end.is ∙ ap (push end.front) both.1; joins = both.0 }
 
 -- the message is judged, and ends the transfer
-pub judged_last : (intake new : Intake) (query : AxfrQuery) (judged : Judged intake query) (message behind : List ℕ) (end : ℕ) (first : Bool)
-    → NextJudged intake query judged message behind end → new.octets.items ≡ intake.octets.items
-    → first ≡ is_first judged.messages
-    → TakesMessage query intake.records first message new.records true → AllByRecursion (IsRecordOf query.class) new.records
-    → EndsTransfer new query end
-judged_last intake new query judged message behind end first next same is takes known =
-    let closed = stands_closed takes.stands refl in
-    let still = subst (IsOpen query) judged.joins judged.still_open in
-    let group = last_group query new.records intake.records takes.group closed.last still closed.same closed.transferred closed.closes in
-    let all : List ℕ = frames (push judged.messages message) in
-    record {
-      transfer = record {
-        messages = push judged.messages message;
+pub judged_last : (old new : Intake) (query : AxfrQuery) (octets : List ℕ) (framed : IsFrame (old.open_frame.items ++ octets))
+    → new.open_frame.items ≡ [] → TakesMessage query old.records old.is_first framed.message new.records true
+    → AllByRecursion (IsRecordOf query.class) new.records → EndsTransfer old octets new query
+judged_last old new query octets framed none takes known = record {
+  whole = none;
+  transfer = λ stream is.
+      let next = next_heard stream octets is framed in
+      let closed = stands_closed takes.stands refl in
+      let group = last_group query new.records old.records takes.group closed.last is.still_open closed.same closed.transferred closed.closes in
+      record {
+        messages = push is.messages framed.message;
         each = next.each;
-        whole = ap (take end) (same ∙ next.whole) ∙ ap (λ n. take n (all ++ behind)) next.place ∙ take-append_seam all behind;
-        groups = push judged.groups takes.group;
-        answers = next_answers intake query judged message takes.group first is takes.answer;
+        whole = next.whole;
+        groups = push is.groups takes.group;
+        answers = next_answers old query stream is framed.message takes.group takes.answer;
         last = closed.last;
-        front = judged.groups;
+        front = is.groups;
         last_group = group.front;
-        splits = ap (push judged.groups) group.group_is;
-        joins = ap (λ l. l ++ group.front) judged.joins ∙ group.joins;
+        splits = ap (push is.groups) group.group_is;
+        joins = ap (λ l. l ++ group.front) is.joins ∙ group.joins;
         transferred = closed.transferred;
         closed = closed.closes;
       };
-      known = known;
-    }
+  known = known;
+}
 
 -- a bad message is one of the stream
 fault_in_stream : (query : AxfrQuery) (stream : List ℕ) (Fault : ReceiveError → Type 0) → ((e : ReceiveError) → Fault e → HasBadMessage query stream e)
@@ -204,37 +190,80 @@ fault_in_stream query stream Fault bad not_query finished (receive_error.Class n
 fault_in_stream query stream Fault bad not_query finished (receive_error.OutOfZone n) fault = bad _ fault
 fault_in_stream query stream Fault bad not_query finished (receive_error.SoaDiffers n) fault = bad _ fault
 fault_in_stream query stream Fault bad not_query finished (receive_error.AfterLast n) fault = bad _ fault
+fault_in_stream query stream Fault bad not_query finished (receive_error.Unspellable n) fault = bad _ fault
 fault_in_stream query stream Fault bad not_query finished receive_error.Trailing fault = bad _ fault
 fault_in_stream query stream Fault bad not_query finished receive_error.Unfinished fault = finished fault
 fault_in_stream query stream Fault bad not_query finished receive_error.OutOfMemory fault = tt
 
 -- the message is refused
-pub judged_bad : (intake : Intake) (query : AxfrQuery) (judged : Judged intake query) (len : ℕ)
-    (framed : BeginsWithFrame (drop intake.judged intake.octets.items) len) (first : Bool) (error : ReceiveError) → first ≡ is_first judged.messages
-    → IsFaultOr (IsMessageFault query intake.records first framed.message) error → IsStreamFault query intake.octets.items error
-judged_bad intake query judged len framed first error is fault =
-    let Fault : ReceiveError → Type 0 = λ e. IsMessageFault query intake.records first framed.message e in
-    let bad : (e : ReceiveError) → Fault e → HasBadMessage query intake.octets.items e = λ e why.
-    let P : List Record → Type 0 = λ records. IsMessageFault query records first framed.message e in
-    let Q : Bool → Type 0 = λ first. IsMessageFault query (joined judged.groups) first framed.message e in
+pub judged_bad : (old : Intake) (query : AxfrQuery) (octets : List ℕ) (framed : IsFrame (old.open_frame.items ++ octets)) (error : ReceiveError)
+    → IsFaultOr (IsMessageFault query old.records old.is_first framed.message) error → BreaksRule old octets query error
+judged_bad old query octets framed error fault stream behind is =
+    let all : List ℕ = stream ++ (octets ++ behind) in
+    let front : List ℕ = frames is.messages in
+    let Fault : ReceiveError → Type 0 = λ e. IsMessageFault query old.records old.is_first framed.message e in
+    let bad : (e : ReceiveError) → Fault e → HasBadMessage query all e = λ e why.
+    let P : List Record → Type 0 = λ records. IsMessageFault query records old.is_first framed.message e in
+    let Q : Bool → Type 0 = λ first. IsMessageFault query (joined is.groups) first framed.message e in
     record {
-      messages = judged.messages;
-      each = judged.each;
+      messages = is.messages;
+      each = is.splits.each;
       bad = framed.message;
       fits = framed.fits;
-      behind = framed.behind;
-      whole = judged.whole ∙ ap (λ l. frames judged.messages ++ l) (sym (rest_is judged) ∙ framed.whole);
-      groups = judged.groups;
-      answers = judged.answers;
-      still_open = judged.still_open;
-      fault = subst Q is (subst P (sym judged.joins) why);
+      behind = behind;
+      whole = ap (λ l. l ++ (octets ++ behind)) is.splits.whole ∙ append_assoc front old.open_frame.items (octets ++ behind)
+          ∙ ap (λ l. front ++ l) (sym (append_assoc old.open_frame.items octets behind) ∙ ap (λ l. l ++ behind) framed.whole);
+      groups = is.groups;
+      answers = is.answers;
+      still_open = subst (IsOpen query) (sym is.joins) is.still_open;
+      fault = subst Q (first_by is.messages old.is_first is.stage) (subst P (sym is.joins) why);
     } in
-    fault_in_stream query intake.octets.items Fault bad (λ why fault. fault.4) (λ fault. fault.4) error fault
+    fault_in_stream query all Fault bad (λ why fault. fault.4) (λ fault. fault.4) error fault
 
-pub on_false : {P : Type 0} (b : Bool) → (b ≡ false → P) → OnFalse b P
-on_false true holds = tt
-on_false false holds = holds refl
+-- what a call answers for the message within the frame
+pub answer_goes : (ends : Bool) (old new : Intake) (query : AxfrQuery) (octets message : List ℕ) (framed : IsFrame (old.open_frame.items ++ octets))
+    → message ≡ framed.message → new.open_frame.items ≡ [] → new.is_first ≡ false
+    → TakesMessage query old.records old.is_first message new.records ends → AllByRecursion (IsRecordOf query.class) new.records
+    → OnFalse ends (GoesOn old octets new query)
+answer_goes true old new query octets message framed is none first takes known = tt
+answer_goes false old new query octets message framed is none first takes known =
+    let P : List ℕ → Type 0 = λ message. TakesMessage query old.records old.is_first message new.records false in
+    judged_on old new query octets framed none first (subst P is takes) known
 
-pub on_true : {P : Type 0} (b : Bool) → (b ≡ true → P) → OnTrue b P
-on_true true holds = holds refl
-on_true false holds = tt
+pub answer_ends : (ends : Bool) (old new : Intake) (query : AxfrQuery) (octets message : List ℕ) (framed : IsFrame (old.open_frame.items ++ octets))
+    → message ≡ framed.message → new.open_frame.items ≡ []
+    → TakesMessage query old.records old.is_first message new.records ends → AllByRecursion (IsRecordOf query.class) new.records
+    → OnTrue ends (EndsTransfer old octets new query)
+answer_ends false old new query octets message framed is none takes known = tt
+answer_ends true old new query octets message framed is none takes known =
+    let P : List ℕ → Type 0 = λ message. TakesMessage query old.records old.is_first message new.records true in
+    judged_last old new query octets framed none (subst P is takes) known
+
+pub answer_breaks : (old : Intake) (query : AxfrQuery) (octets message : List ℕ) (framed : IsFrame (old.open_frame.items ++ octets)) (error : ReceiveError)
+    → message ≡ framed.message → IsFaultOr (IsMessageFault query old.records old.is_first message) error → BreaksRule old octets query error
+answer_breaks old query octets message framed error is fault =
+    let P : List ℕ → Type 0 = λ message. IsFaultOr (IsMessageFault query old.records old.is_first message) error in
+    judged_bad old query octets framed error (subst P is fault)
+
+-- and where its answer is handed on
+pub result_goes : (result : Result Bool ReceiveError) (old new : Intake) (query : AxfrQuery) (octets message : List ℕ)
+    (framed : IsFrame (old.open_frame.items ++ octets)) → message ≡ framed.message → new.open_frame.items ≡ [] → new.is_first ≡ false
+    → IfOk result (TakesMessage query old.records old.is_first message new.records)
+    → OnOk result (AllByRecursion (IsRecordOf query.class) new.records) → IfOk result (λ ends. OnFalse ends (GoesOn old octets new query))
+result_goes (Ok ends) old new query octets message framed is none first takes known =
+    answer_goes ends old new query octets message framed is none first takes known
+result_goes (Err error) old new query octets message framed is none first takes known = tt
+
+pub result_ends : (result : Result Bool ReceiveError) (old new : Intake) (query : AxfrQuery) (octets message : List ℕ)
+    (framed : IsFrame (old.open_frame.items ++ octets)) → message ≡ framed.message → new.open_frame.items ≡ []
+    → IfOk result (TakesMessage query old.records old.is_first message new.records)
+    → OnOk result (AllByRecursion (IsRecordOf query.class) new.records) → IfOk result (λ ends. OnTrue ends (EndsTransfer old octets new query))
+result_ends (Ok ends) old new query octets message framed is none takes known =
+    answer_ends ends old new query octets message framed is none takes known
+result_ends (Err error) old new query octets message framed is none takes known = tt
+
+pub result_breaks : (result : Result Bool ReceiveError) (old : Intake) (query : AxfrQuery) (octets message : List ℕ)
+    (framed : IsFrame (old.open_frame.items ++ octets)) → message ≡ framed.message
+    → IfErr result (IsFaultOr (IsMessageFault query old.records old.is_first message)) → IfErr result (BreaksRule old octets query)
+result_breaks (Ok ends) old query octets message framed is fault = tt
+result_breaks (Err error) old query octets message framed is fault = answer_breaks old query octets message framed error is fault

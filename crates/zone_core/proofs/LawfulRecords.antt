@@ -1,6 +1,8 @@
 -- Records of a transfer so far: each keeps the rules behind those in front of it, and nothing follows the last SOA.
-use Rattle.std.proofs.Common.{◌≡◌, ◌≢◌, ◌⊎◌, List, [], ◌∷◌, ◌++◌, sym, ◌∙◌, subst, append-nil, inl, inr}
+use Rattle.std.proofs.Common.{◌≡◌, ◌≢◌, ◌⊎◌, List, [], ◌∷◌, ◌++◌, sym, ◌∙◌, subst, arith, append-nil, inl, inr}
 use Rattle.std.specs.List.{AllByRecursion, push}
+use Rattle.dns_rdata.specs.DataOctets.{IsSpellable}
+use Rattle.dns_message.proofs.Spellable.{spellable_unless_caa}
 use Rattle.zone_octets.specs.Record.{Record}
 use Rattle.zone_octets.specs.Zone.{IsUnder, soa_type}
 use Rattle.zone_core.specs.Query.{AxfrQuery}
@@ -47,6 +49,7 @@ pub record KeepsRecordRules (query : AxfrQuery) (front : List Record) (r : Recor
   pub under : IsUnder query.name r.owner
   pub last : KeepsLastRule front r
   pub not_closed : IsClosed query front → ⊥
+  pub spellable : IsSpellable r.rtype r.rdata
 
 transferred_record : (query : AxfrQuery) (front : List Record) (r : Record) (more : List Record) → IsTransferred query (front ++ r ∷ more)
     → KeepsRecordRules query front r
@@ -56,6 +59,7 @@ transferred_record query [] r more whole = record {
   under = whole.2.0.under;
   last = tt;
   not_closed = λ closed. closed_no_front query [] (r ∷ more) closed whole;
+  spellable = whole.2.0.spellable;
 }
 transferred_record query (soa ∷ others) r more whole =
     let within = one_within (IsInZoneOf query) others r more whole.2.1 in
@@ -65,6 +69,7 @@ transferred_record query (soa ∷ others) r more whole =
       under = within.under;
       last = λ is. absurd (one_within (λ s. s.rtype ≢ soa_type) others r more whole.3 is);
       not_closed = λ closed. closed_no_front query (soa ∷ others) (r ∷ more) closed whole;
+      spellable = within.spellable;
     }
 
 closing_record : (query : AxfrQuery) (front : List Record) (last : Record) → IsTransferred query front → ClosesTransfer front last
@@ -78,6 +83,7 @@ closing_record query (soa ∷ others) last transferred closes =
       under = record { front = []; whole_is = sym closes.1.owner ∙ transferred.1 };
       last = λ is. closes.1;
       not_closed = λ closed. closed_no_front query (soa ∷ others) [] closed (subst P (sym (append-nil (soa ∷ others))) transferred);
+      spellable = spellable_unless_caa last.rtype last.rdata (λ caa. absurd (omega (arith, closes.0, caa)));
     }
 
 -- each record of a lawful list keeps the rules

@@ -1,16 +1,17 @@
 -- A message breaks one rule first, and one that carries records of a transfer breaks none.
 use Rattle.std.proofs.Common.{◌≡◌, ◌≢◌, ◌⊎◌, ℕ, ◌+◌, ◌<◌, ◌≤◌, Bool, true, false, List, ◌∷◌, ◌++◌, length, refl, sym, ap, ◌∙◌, subst, arith, append_assoc, inl, inr}
 use Rattle.dns_header.specs.Header.{is_response, opcode_of, rcode_of, answer_count, id_of}
+use Rattle.dns_rdata.specs.DataOctets.{IsSpellable}
 use Rattle.zone_octets.specs.Record.{Record}
 use Rattle.zone_octets.specs.Zone.{IsUnder}
 use Rattle.zone_core.specs.Query.{AxfrQuery}
-use Rattle.zone_core.specs.Transfer.{WrittenOut, HasRecord, AsksAgain, SpellsRecords, CountsAnswers, HasAnswerHeader, IsAnswer}
+use Rattle.dns_message.specs.Record.{ReadsRecord}
+use Rattle.zone_core.specs.Transfer.{AsksAgain, SpellsRecords, CountsAnswers, HasAnswerHeader, IsAnswer}
 use Rattle.zone_core.specs.Receiving.{IsClosed, KeepsFirstRule, KeepsLastRule, IsRecordFault, KeepsRulesTo, IsMessageFault}
 use Rattle.zone_core.specs.declared.receive.error.ReceiveError.{ReceiveError}
 use Rattle.zone_core.specs.declared.receive.error.ReceiveError.TheVariants as receive_error
 use Rattle.zone_core.proofs.OneTransfer.{asked_one}
-use Rattle.zone_core.proofs.WrittenForms.{written_asked}
-use Rattle.zone_core.proofs.SpelledRecords.{SpelledPast, written_one, spelled_one, spelled_past}
+use Rattle.zone_core.proofs.SpelledRecords.{SpelledPast, read_one, spelled_one, spelled_past}
 use Rattle.zone_core.proofs.LawfulRecords.{IsLawful, KeepsRecordRules, lawful_record}
 use Rattle.zone_core.proofs.OrderedRules.{Rules, FirstBroken, AllKept, broken_not_kept}
 use Rattle.zone_core.proofs.OrderedRules.Rules.{no_more, rule}
@@ -22,22 +23,23 @@ record_rules query front r =
     (rule (r.class ≡ query.class) (receive_error.Class (length front + 1))
     (rule (IsUnder query.name r.owner) (receive_error.OutOfZone (length front + 1))
     (rule (KeepsLastRule front r) (receive_error.SoaDiffers (length front + 1))
-    (rule (IsClosed query front → ⊥) (receive_error.AfterLast (length front + 1)) no_more))))
+    (rule (IsClosed query front → ⊥) (receive_error.AfterLast (length front + 1))
+    (rule (IsSpellable r.rtype r.rdata) (receive_error.Unspellable (length front + 1)) no_more)))))
 
 pub all_record_rules : (query : AxfrQuery) (front : List Record) (r : Record) → KeepsRecordRules query front r
     → AllKept (record_rules query front r)
-all_record_rules query front r keeps = (keeps.first, (keeps.class, (keeps.under, (keeps.last, (keeps.not_closed, tt)))))
+all_record_rules query front r keeps = (keeps.first, (keeps.class, (keeps.under, (keeps.last, (keeps.not_closed, (keeps.spellable, tt))))))
 
 -- no record at the place is read
 pub record NoRecord (message : List ℕ) (place : ℕ) (n : ℕ) (e : ReceiveError) : Type 0 where
   pub is : e ≡ receive_error.Record n
-  pub none : (r : Record) (next : ℕ) → HasRecord WrittenOut message place r next → ⊥
+  pub none : (r : Record) (next : ℕ) → ReadsRecord message place r next → ⊥
 
 -- a record is read that breaks a rule
 pub record BadRecord (query : AxfrQuery) (front : List Record) (message : List ℕ) (place : ℕ) (e : ReceiveError) : Type 0 where
   pub r : Record
   pub next : ℕ
-  pub has : HasRecord WrittenOut message place r next
+  pub has : ReadsRecord message place r next
   pub broken : FirstBroken (record_rules query front r) e
 
 abbrev pub RecordBroken : AxfrQuery → List Record → List ℕ → ℕ → ReceiveError → Type 0
@@ -70,6 +72,13 @@ record_kind query front message place (receive_error.AfterLast n) fault = inr (r
   has = fault.3;
   broken = inr (fault.4, inr (fault.5, inr (fault.6, inr (fault.7, inl ((λ none. none fault.8), ap receive_error.AfterLast fault.0)))));
 })
+record_kind query front message place (receive_error.Unspellable n) fault = inr (record {
+  r = fault.1;
+  next = fault.2;
+  has = fault.3;
+  broken =
+      inr (fault.4, inr (fault.5, inr (fault.6, inr (fault.7, inr (fault.8, inl (fault.9, ap receive_error.Unspellable fault.0))))));
+})
 record_kind query front message place e fault = absurd fault
 
 -- the rules of a message up to its records
@@ -81,10 +90,10 @@ head_rules query first message =
     (rule (opcode_of message ≡ 0) receive_error.Opcode
     (rule (rcode_of message ≡ 0) (receive_error.Rcode (rcode_of message))
     (rule (CountsAnswers message) receive_error.Counts
-    (rule ((place : ℕ) × AsksAgain WrittenOut query first message place) receive_error.Question no_more))))))
+    (rule ((place : ℕ) × AsksAgain query first message place) receive_error.Question no_more))))))
 
 pub all_head_rules : (query : AxfrQuery) (first : Bool) (message : List ℕ) (place : ℕ) → HasAnswerHeader query message
-    → AsksAgain WrittenOut query first message place → AllKept (head_rules query first message)
+    → AsksAgain query first message place → AllKept (head_rules query first message)
 all_head_rules query first message place header asked =
     (header.long, (header.id, (header.response, (header.opcode, (header.rcode, (header.counts, ((place, asked), tt)))))))
 
@@ -159,10 +168,10 @@ pub head_is_kept : (query : AxfrQuery) (front : List Record) (first : Bool) (mes
 head_is_kept query front first message group place keeps = all_head_rules query first message keeps.start keeps.header keeps.asked
 
 -- records from one place behind the question on
-pub same_start : (query : AxfrQuery) (first : Bool) (message : List ℕ) (start start' : ℕ) → AsksAgain WrittenOut query first message start
-    → AsksAgain WrittenOut query first message start' → start' ≡ start
+pub same_start : (query : AxfrQuery) (first : Bool) (message : List ℕ) (start start' : ℕ) → AsksAgain query first message start
+    → AsksAgain query first message start' → start' ≡ start
 same_start query first message start start' asked asked' =
-    asked_one query first message start' start (written_asked query first message start' asked') (written_asked query first message start asked)
+    asked_one query first message start' start asked' asked
 
 -- where more records are lawful, the record behind the first of them is not bad
 pub bad_no_more : (query : AxfrQuery) (front : List Record) (message : List ℕ) (group all : List Record) (place : ℕ) (e : ReceiveError)
@@ -175,14 +184,14 @@ bad_no_more query front message group all place e more past lawful (inr bad) =
     ∙ sym (append_assoc front group (past.r ∷ (past.more ++ more))) in
     let P : List Record → Type 0 = λ records. IsLawful query records in
     let keeps = lawful_record query (front ++ group) past.r (past.more ++ more) (subst P are lawful) in
-    let one = written_one past.r bad.r past.has bad.has in
+    let one = read_one past.r bad.r past.has bad.has in
     let Q : Record → Type 0 = λ r. KeepsRecordRules query (front ++ group) r in
     broken_not_kept (record_rules query (front ++ group) bad.r) e bad.broken
     (all_record_rules query (front ++ group) bad.r (subst Q one.0 keeps))
 
 -- A message that is an answer with lawful records has no fault.
 pub answer_not_broken : (query : AxfrQuery) (front : List Record) (first : Bool) (message : List ℕ) (e : ReceiveError) (group more : List Record)
-    → IsAnswer WrittenOut query first message group → IsLawful query (front ++ (group ++ more))
+    → IsAnswer query first message group → IsLawful query (front ++ (group ++ more))
     → MessageBroken query front first message e → ⊥
 answer_not_broken query front first message e group more answer lawful (head broken) =
     broken_not_kept (head_rules query first message) e broken
@@ -190,14 +199,14 @@ answer_not_broken query front first message e group more answer lawful (head bro
 answer_not_broken query front first message e group more answer lawful (trailing fault) =
     let keeps = fault.keeps in
     let starts = same_start query first message keeps.start answer.place keeps.asked answer.asked in
-    let P : ℕ → Type 0 = λ start. SpellsRecords WrittenOut message start group (length message) in
+    let P : ℕ → Type 0 = λ start. SpellsRecords message start group (length message) in
     let one = spelled_one message fault.group group keeps.start fault.place (length message) (fault.all ∙ answer.counted) keeps.spelled
     (subst P starts answer.spelled) in
     fault.more one.1
 answer_not_broken query front first message e group more answer lawful (at_record fault) =
     let keeps = fault.keeps in
     let starts = same_start query first message keeps.start answer.place keeps.asked answer.asked in
-    let P : ℕ → Type 0 = λ start. SpellsRecords WrittenOut message start group (length message) in
+    let P : ℕ → Type 0 = λ start. SpellsRecords message start group (length message) in
     let fewer : length fault.group < length group = omega (arith, fault.some, answer.counted) in
     let past = spelled_past message fault.group group keeps.start fault.place (length message) fewer keeps.spelled
     (subst P starts answer.spelled) in

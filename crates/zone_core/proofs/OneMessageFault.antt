@@ -3,10 +3,10 @@ use Rattle.std.proofs.Common.{◌≡◌, ℕ, ◌<◌, Bool, List, [], ◌++◌,
 use Rattle.std.proofs.lemmas.Bool.{cases_order}
 use Rattle.zone_octets.specs.Record.{Record}
 use Rattle.zone_core.specs.Query.{AxfrQuery}
-use Rattle.zone_core.specs.Transfer.{WrittenOut, SpellsRecords}
+use Rattle.zone_core.specs.Transfer.{SpellsRecords}
 use Rattle.zone_core.specs.Receiving.{KeepsRulesTo}
 use Rattle.zone_core.specs.declared.receive.error.ReceiveError.{ReceiveError}
-use Rattle.zone_core.proofs.SpelledRecords.{written_one, spelled_one, spelled_past}
+use Rattle.zone_core.proofs.SpelledRecords.{read_one, spelled_one, spelled_past}
 use Rattle.zone_core.proofs.LawfulRecords.{IsLawful}
 use Rattle.zone_core.proofs.MessageFaults.{RecordBroken, HasMore, HasBadRecord, MessageBroken, record_rules, head_rules, head_is_kept, same_start, bad_no_more}
 use Rattle.zone_core.proofs.OrderedRules.{FirstBroken, first_one, broken_not_kept}
@@ -19,7 +19,7 @@ bad_one query front message place e d (inl missing) (inl missing') = missing.is 
 bad_one query front message place e d (inl missing) (inr bad) = absurd (missing.none bad.r bad.next bad.has)
 bad_one query front message place e d (inr bad) (inl missing) = absurd (missing.none bad.r bad.next bad.has)
 bad_one query front message place e d (inr bad) (inr bad') =
-    let one = written_one bad'.r bad.r bad'.has bad.has in
+    let one = read_one bad'.r bad.r bad'.has bad.has in
     let P : Record → Type 0 = λ r. FirstBroken (record_rules query front r) d in
     first_one (record_rules query front bad.r) e d bad.broken (subst P one.0 bad'.broken)
 
@@ -29,7 +29,7 @@ kept_no_more : (query : AxfrQuery) (front : List Record) (first : Bool) (message
     → length group < length all → RecordBroken query (front ++ group) message place e → ⊥
 kept_no_more query front first message group all place next e keeps keeps' fewer bad =
     let starts = same_start query first message keeps.start keeps'.start keeps.asked keeps'.asked in
-    let P : ℕ → Type 0 = λ start. SpellsRecords WrittenOut message start all next in
+    let P : ℕ → Type 0 = λ start. SpellsRecords message start all next in
     let past = spelled_past message group all keeps.start place next fewer keeps.spelled (subst P starts keeps'.spelled) in
     let Q : List Record → Type 0 = λ records. IsLawful query (front ++ records) in
     bad_no_more query front message group all place e [] past (subst Q (sym (append-nil all)) keeps'.lawful) bad
@@ -39,7 +39,7 @@ records_one : (query : AxfrQuery) (front : List Record) (first : Bool) (message 
 records_one query front first message e d a b = elim (cases_order (length a.group) (length b.group)) [
   | inl same ↦ (
       let starts = same_start query first message a.keeps.start b.keeps.start a.keeps.asked b.keeps.asked in
-      let P : ℕ → Type 0 = λ start. SpellsRecords WrittenOut message start b.group b.place in
+      let P : ℕ → Type 0 = λ start. SpellsRecords message start b.group b.place in
       let one = spelled_one message a.group b.group a.keeps.start a.place b.place same a.keeps.spelled
       (subst P starts b.keeps.spelled) in
       let Q : List Record → Type 0 = λ group. RecordBroken query (front ++ group) message b.place d in

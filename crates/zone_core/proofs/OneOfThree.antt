@@ -5,7 +5,7 @@ use Rattle.zone_octets.specs.Record.{Record}
 use Rattle.zone_core.specs.Query.{AxfrQuery}
 use Rattle.zone_core.specs.Frames.{frame, frames, IsFramable}
 use Rattle.zone_core.specs.Cutting.{joined}
-use Rattle.zone_core.specs.Transfer.{WrittenOut, IsAnswer, AreAnswers, IsTransferred, IsTransferIn}
+use Rattle.zone_core.specs.Transfer.{IsAnswer, AreAnswers, IsTransferred, IsTransfer}
 use Rattle.zone_core.specs.Receiving.{IsOpen, IsClosed, IsBegun, HasBadMessage, is_first}
 use Rattle.zone_core.specs.declared.receive.error.ReceiveError.{ReceiveError}
 use Rattle.zone_core.proofs.Framing.{same_message, whole_is_not_partial}
@@ -18,39 +18,37 @@ use Rattle.zone_core.proofs.LawfulRecords.{IsLawful, closed_not_open, closed_no_
 use Rattle.zone_core.proofs.MessageFaults.{MessageBroken, message_kind, answer_not_broken}
 use Rattle.zone_core.proofs.OneMessageFault.{message_fault_one}
 use Rattle.zone_core.proofs.OneTransfer.{answers_one, transferred_and_last}
-use Rattle.zone_core.proofs.WrittenForms.{written_answers}
 
 -- The messages at the front of the stream are answers that carry groups of records, and this is behind them.
 pub record Carries (query : AxfrQuery) (stream : List ℕ) (messages : List (List ℕ)) (groups : List (List Record)) (rest : List ℕ)
     : Type 0 where
   pub each : AllByRecursion IsFramable messages
   pub whole : stream ≡ frames messages ++ rest
-  pub answers : AreAnswers WrittenOut query true messages groups
+  pub answers : AreAnswers query true messages groups
 
 -- the groups of the same messages are the same
 pub same_groups : (query : AxfrQuery) (messages others : List (List ℕ)) (groups more : List (List Record)) → messages ≡ others
-    → AreAnswers WrittenOut query true messages groups → AreAnswers WrittenOut query true others more → groups ≡ more
+    → AreAnswers query true messages groups → AreAnswers query true others more → groups ≡ more
 same_groups query messages others groups more is answers answers' =
-    let P : List (List ℕ) → Type 0 = λ messages. AreAnswers WrittenOut query true messages more in
-    answers_one query true messages groups more (written_answers query true messages groups answers)
-    (written_answers query true messages more (subst P (sym is) answers'))
+    let P : List (List ℕ) → Type 0 = λ messages. AreAnswers query true messages more in
+    answers_one query true messages groups more answers (subst P (sym is) answers')
 
 -- The answers go on behind others: the next message is one of them, with the group behind those of the others.
 pub record CarriesPast (query : AxfrQuery) (others : List (List ℕ)) (before groups : List (List Record)) (next : List ℕ) : Type 0 where
   pub group : List Record
   pub after : List (List Record)
   pub are : groups ≡ before ++ group ∷ after
-  pub answer : IsAnswer WrittenOut query (is_first others) next group
+  pub answer : IsAnswer query (is_first others) next group
   pub records : joined groups ≡ joined before ++ (group ++ joined after)
 
 pub carries_past : (query : AxfrQuery) (messages others : List (List ℕ)) (groups before : List (List Record)) (next : List ℕ)
-    (behind : List (List ℕ)) → messages ≡ others ++ next ∷ behind → AreAnswers WrittenOut query true messages groups
-    → AreAnswers WrittenOut query true others before → CarriesPast query others before groups next
+    (behind : List (List ℕ)) → messages ≡ others ++ next ∷ behind → AreAnswers query true messages groups
+    → AreAnswers query true others before → CarriesPast query others before groups next
 carries_past query messages others groups before next behind is answers answers' =
-    let P : List (List ℕ) → Type 0 = λ messages. AreAnswers WrittenOut query true messages groups in
-    let past = groups_past WrittenOut query true others next behind groups (subst P is answers) in
+    let P : List (List ℕ) → Type 0 = λ messages. AreAnswers query true messages groups in
+    let past = groups_past query true others next behind groups (subst P is answers) in
     let one = same_groups query others others past.before before refl past.answers answers' in
-    let Q : Bool → Type 0 = λ first. IsAnswer WrittenOut query first next past.group in
+    let Q : Bool → Type 0 = λ first. IsAnswer query first next past.group in
     record {
       group = past.group;
       after = past.after;
@@ -62,14 +60,14 @@ carries_past query messages others groups before next behind is answers answers'
 
 -- what a transfer at the front of a stream carries
 carried : (query : AxfrQuery) (stream front rest : List ℕ) (records : List Record) → stream ≡ front ++ rest
-    → (transfer : IsTransferIn WrittenOut query front records) → Carries query stream transfer.messages transfer.groups rest
+    → (transfer : IsTransfer query front records) → Carries query stream transfer.messages transfer.groups rest
 carried query stream front rest records is transfer = record {
   each = transfer.each;
   whole = is ∙ ap (λ l. l ++ rest) transfer.whole;
   answers = transfer.answers;
 }
 
-transfer_closed : (query : AxfrQuery) (stream : List ℕ) (records : List Record) (transfer : IsTransferIn WrittenOut query stream records)
+transfer_closed : (query : AxfrQuery) (stream : List ℕ) (records : List Record) (transfer : IsTransfer query stream records)
     → IsClosed query (joined transfer.groups)
 transfer_closed query stream records transfer = record {
   front = records;
@@ -98,7 +96,7 @@ bad_past : (query : AxfrQuery) (stream : List ℕ) (error : ReceiveError) (bad :
     → CarriesPast query bad.messages bad.groups groups next → IsLawful query (joined groups) → ⊥
 bad_past query stream error bad groups next more fits at past lawful =
     let one = same_message bad.bad next bad.behind more bad.fits fits at in
-    let P : List ℕ → Type 0 = λ message. IsAnswer WrittenOut query (is_first bad.messages) message past.group in
+    let P : List ℕ → Type 0 = λ message. IsAnswer query (is_first bad.messages) message past.group in
     let Q : List Record → Type 0 = λ records. IsLawful query records in
     answer_not_broken query (joined bad.groups) (is_first bad.messages) bad.bad error past.group (joined past.after)
     (subst P (sym one.0) past.answer) (subst Q past.records lawful)
@@ -106,7 +104,7 @@ bad_past query stream error bad groups next more fits at past lawful =
 
 -- a stream with a transfer at its front is not at fault
 pub transfer_not_bad : (query : AxfrQuery) (stream front rest : List ℕ) (records : List Record) (error : ReceiveError) → stream ≡ front ++ rest
-    → IsTransferIn WrittenOut query front records → HasBadMessage query stream error → ⊥
+    → IsTransfer query front records → HasBadMessage query stream error → ⊥
 transfer_not_bad query stream front rest records error is transfer bad =
     let carries = carried query stream front rest records is transfer in
     let closed = transfer_closed query front records transfer in
@@ -122,7 +120,7 @@ transfer_not_bad query stream front rest records error is transfer bad =
 
 -- and not only begun
 pub transfer_not_begun : (query : AxfrQuery) (stream front rest : List ℕ) (records : List Record) → stream ≡ front ++ rest
-    → IsTransferIn WrittenOut query front records → IsBegun query stream → ⊥
+    → IsTransfer query front records → IsBegun query stream → ⊥
 transfer_not_begun query stream front rest records is transfer begun =
     let carries = carried query stream front rest records is transfer in
     let closed = transfer_closed query front records transfer in
@@ -168,7 +166,7 @@ bad_one query stream error other a b =
     ]
 
 -- No transfer goes on behind another: it would have the last SOA of the other in it.
-no_transfer_past : (query : AxfrQuery) (stream : List ℕ) (records : List Record) (transfer : IsTransferIn WrittenOut query stream records)
+no_transfer_past : (query : AxfrQuery) (stream : List ℕ) (records : List Record) (transfer : IsTransfer query stream records)
     (before : List (List Record)) (group : List Record) (after : List (List Record)) → transfer.groups ≡ before ++ group ∷ after
     → IsClosed query (joined before) → ⊥
 no_transfer_past query stream records transfer before group after are closed =
@@ -192,7 +190,7 @@ no_transfer_past query stream records transfer before group after are closed =
     ]
 
 past_transfer : (query : AxfrQuery) (stream other : List ℕ) (records others : List Record)
-    (transfer : IsTransferIn WrittenOut query stream records) (short : IsTransferIn WrittenOut query other others)
+    (transfer : IsTransfer query stream records) (short : IsTransfer query other others)
     (next : List ℕ) (behind : List (List ℕ)) → transfer.messages ≡ short.messages ++ next ∷ behind → ⊥
 past_transfer query stream other records others transfer short next behind is =
     let past = carries_past query transfer.messages short.messages transfer.groups short.groups next behind is transfer.answers short.answers in
@@ -200,8 +198,8 @@ past_transfer query stream other records others transfer short next behind is =
 
 -- a stream has one beginning that is a transfer
 pub transfer_beginning_one : (query : AxfrQuery) (stream front rest front' rest' : List ℕ) (records others : List Record)
-    → stream ≡ front ++ rest → stream ≡ front' ++ rest' → IsTransferIn WrittenOut query front records
-    → IsTransferIn WrittenOut query front' others → front ≡ front'
+    → stream ≡ front ++ rest → stream ≡ front' ++ rest' → IsTransfer query front records
+    → IsTransfer query front' others → front ≡ front'
 transfer_beginning_one query stream front rest front' rest' records others is is' a b =
     let carries = carried query stream front rest records is a in
     let carries' = carried query stream front' rest' others is' b in

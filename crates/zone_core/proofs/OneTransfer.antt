@@ -8,28 +8,29 @@ use Rattle.dns_message.proofs.ReadRecords.{record_one}
 use Rattle.zone_octets.specs.Record.{Record}
 use Rattle.zone_core.specs.Query.{AxfrQuery}
 use Rattle.zone_core.specs.Cutting.{joined}
-use Rattle.zone_core.specs.Transfer.{Form, Standard, HasRecord, AsksAgain, SpellsRecords, IsAnswer, AreAnswers, IsTransfer, IsTransferIn}
+use Rattle.dns_message.specs.Record.{ReadsRecord}
+use Rattle.zone_core.specs.Transfer.{AsksAgain, SpellsRecords, IsAnswer, AreAnswers, IsTransfer}
 use Rattle.zone_core.specs.Transfer.SpellsRecords.{none, one}
 use Rattle.zone_core.proofs.Framing.{whole_frames_one}
 
 -- the first record that is spelled, and those behind it
 record FirstRecord (message : List ℕ) (place : ℕ) (r : Record) (records : List Record) (next : ℕ) : Type 0 where
   end : ℕ
-  has : HasRecord Standard message place r end
-  behind : SpellsRecords Standard message end records next
+  has : ReadsRecord message place r end
+  behind : SpellsRecords message end records next
 
 abbrev OpenedRecords : List ℕ → ℕ → List Record → ℕ → Type 0
 OpenedRecords message place [] next = Unit {0}
 OpenedRecords message place (r ∷ records) next = FirstRecord message place r records next
 
-opened : {message : List ℕ} {place next : ℕ} {records : List Record} → SpellsRecords Standard message place records next
+opened : {message : List ℕ} {place next : ℕ} {records : List Record} → SpellsRecords message place records next
     → OpenedRecords message place records next
 opened none = tt
 opened (one end has behind) = record { end = end; has = has; behind = behind }
 
 -- equally many records that are spelled from one place on
 records_one : (message : List ℕ) (records others : List Record) (place next next' : ℕ) → length records ≡ length others
-    → SpellsRecords Standard message place records next → SpellsRecords Standard message place others next' → records ≡ others
+    → SpellsRecords message place records next → SpellsRecords message place others next' → records ≡ others
 records_one message [] [] place next next' many spelled spelled' = refl
 records_one message [] (s ∷ others) place next next' many spelled spelled' = absurd (omega arith)
 records_one message (r ∷ records) [] place next next' many spelled spelled' = absurd (omega arith)
@@ -37,7 +38,7 @@ records_one message (r ∷ records) (s ∷ others) place next next' many spelled
     let first = opened spelled in
     let first' = opened spelled' in
     let same = record_one r s first.has.is_record first'.has.is_record first.has.read first'.has.read first.has.spelled first'.has.spelled in
-    let P : ℕ → Type 0 = λ end. SpellsRecords Standard message end others next' in
+    let P : ℕ → Type 0 = λ end. SpellsRecords message end others next' in
     let rest = records_one message records others first.end next next' (omega arith) first.behind (subst P (sym same.1) first'.behind) in
     cc (same.0, rest)
 
@@ -47,8 +48,8 @@ question_one : {message : List ℕ} {place next next' : ℕ} {q other : Question
 question_one reads reads' =
     let one = reads_one reads.name reads'.name in omega (arith, one.1, reads.ends, reads'.ends)
 
-pub asked_one : (query : AxfrQuery) (first : Bool) (message : List ℕ) (place place' : ℕ) → AsksAgain Standard query first message place
-    → AsksAgain Standard query first message place' → place ≡ place'
+pub asked_one : (query : AxfrQuery) (first : Bool) (message : List ℕ) (place place' : ℕ) → AsksAgain query first message place
+    → AsksAgain query first message place' → place ≡ place'
 asked_one query first message place place' (inl bare) (inl bare') = bare.2 ∙ sym bare'.2
 asked_one query first message place place' (inl bare) (inr asks) = absurd (omega (arith, bare.1, asks.0))
 asked_one query first message place place' (inr asks) (inl bare) = absurd (omega (arith, bare.1, asks.0))
@@ -56,15 +57,15 @@ asked_one query first message place place' (inr asks) (inr asks') = question_one
 
 -- an answer carries one list of records
 pub answer_one : (query : AxfrQuery) (first : Bool) (message : List ℕ) (records others : List Record)
-    → IsAnswer Standard query first message records → IsAnswer Standard query first message others → records ≡ others
+    → IsAnswer query first message records → IsAnswer query first message others → records ≡ others
 answer_one query first message records others answer answer' =
     let places = asked_one query first message answer.place answer'.place answer.asked answer'.asked in
-    let P : ℕ → Type 0 = λ place. SpellsRecords Standard message place others (length message) in
+    let P : ℕ → Type 0 = λ place. SpellsRecords message place others (length message) in
     records_one message records others answer.place (length message) (length message) (sym answer.counted ∙ answer'.counted)
     answer.spelled (subst P (sym places) answer'.spelled)
 
 pub answers_one : (query : AxfrQuery) (first : Bool) (messages : List (List ℕ)) (groups others : List (List Record))
-    → AreAnswers Standard query first messages groups → AreAnswers Standard query first messages others → groups ≡ others
+    → AreAnswers query first messages groups → AreAnswers query first messages others → groups ≡ others
 answers_one query first [] [] [] answers answers' = refl
 answers_one query first [] [] (other ∷ others) answers answers' = absurd answers'
 answers_one query first [] (group ∷ groups) others answers answers' = absurd answers
@@ -76,8 +77,8 @@ answers_one query first (message ∷ messages) (group ∷ groups) (other ∷ oth
     cc (same, rest)
 
 -- the groups of a transfer, joined
-pub transferred_and_last : {form : Form} (query : AxfrQuery) (stream : List ℕ) (records : List Record)
-    (transfer : IsTransferIn form query stream records) → joined transfer.groups ≡ records ++ transfer.last ∷ []
+pub transferred_and_last : (query : AxfrQuery) (stream : List ℕ) (records : List Record)
+    (transfer : IsTransfer query stream records) → joined transfer.groups ≡ records ++ transfer.last ∷ []
 transferred_and_last query stream records transfer =
     let last : List Record = transfer.last_group ++ transfer.last ∷ [] in
     ap joined transfer.splits ∙ flat_map-append (λ group. group) transfer.front (last ∷ [])
@@ -91,7 +92,7 @@ pub transfer_one : (query : AxfrQuery) (stream : List ℕ) (records others : Lis
 transfer_one query stream records others transfer transfer' =
     let messages : transfer.messages ≡ transfer'.messages =
     whole_frames_one transfer.messages transfer'.messages transfer.each transfer'.each (sym transfer.whole ∙ transfer'.whole) in
-    let P : List (List ℕ) → Type 0 = λ messages. AreAnswers Standard query true messages transfer'.groups in
+    let P : List (List ℕ) → Type 0 = λ messages. AreAnswers query true messages transfer'.groups in
     let groups = answers_one query true transfer.messages transfer.groups transfer'.groups transfer.answers
     (subst P (sym messages) transfer'.answers) in
     let both = same_from_push records others transfer.last transfer'.last

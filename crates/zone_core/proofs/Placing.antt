@@ -12,7 +12,7 @@ use Rattle.zone_core.specs.Frames.{frames}
 use Rattle.zone_core.specs.Sent.{message, size}
 use Rattle.zone_core.specs.Cutting.{IsFullCut, FitsNotBehind}
 use Rattle.zone_core.specs.Sending.{IsFor, Stands, StandsWhole, LastStands, LastIs, HoldsGroups, Holds, HasNoRoom, FitsNowhere, before_count, behind_count, counted_message}
-use Rattle.zone_core.specs.declared.sender.Sender.{Sender}
+use Rattle.zone_core.specs.declared.sending.plain.Sender.{Sender}
 use Rattle.dns_message.proofs.AsWritten.{least_record}
 use Rattle.zone_core.proofs.Plain.{size_is, records_append}
 use Rattle.zone_octets.proofs.Patched.{written_over}

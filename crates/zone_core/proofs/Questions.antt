@@ -1,8 +1,11 @@
--- Where a message has no question.
-use Rattle.std.proofs.Common.{◌≡◌, ℕ, ◌+◌, ◌<◌, List, length, subst, arith}
+-- The questions of messages: where there is none, and which a message asks.
+use Rattle.std.proofs.Common.{◌≡◌, ℕ, ◌+◌, ◌<◌, Bool, List, length, sym, ap, ◌∙◌, subst, arith, inl, inr}
 use Rattle.dns_label.specs.Spelled.{Reads}
 use Rattle.dns_label.proofs.Spelling.{reads_one}
+use Rattle.dns_header.specs.Header.{number_at, question_count}
 use Rattle.dns_header.specs.Question.{Question, ReadsQuestion}
+use Rattle.zone_core.specs.Query.{AxfrQuery}
+use Rattle.zone_core.specs.Transfer.{AsksAgain, HasAnswerHeader, IsQuestionOf}
 
 -- the message ends in the four octets behind the name
 pub ends_early : (message there : List ℕ) (place behind : ℕ) (name : List (List ℕ)) (q : Question) (next : ℕ) → Reads there place name behind → there ≡ message
@@ -13,3 +16,29 @@ ends_early message there place behind name q next reads same at short asked =
     let here = subst Q at (subst P same reads) in
     let one = reads_one here asked.name in
     omega (arith, one.1, asked.whole)
+
+-- a question at a place is one
+question_one : {message : List ℕ} {place next next' : ℕ} {q other : Question} → ReadsQuestion message place q next
+    → ReadsQuestion message place other next' → q ≡ other
+question_one {message} {q = q} {other} reads reads' =
+    let one = reads_one reads.name reads'.name in
+    let qtype : q.qtype ≡ other.qtype = reads.qtype ∙ ap (number_at message) one.1 ∙ sym reads'.qtype in
+    let qclass : q.qclass ≡ other.qclass = reads.qclass ∙ ap (λ n. number_at message (n + 2)) one.1 ∙ sym reads'.qclass in
+    λ i. record { name = one.0 i; qtype = qtype i; qclass = qclass i }
+
+-- the question of a message
+pub asks_once : (query : AxfrQuery) (first : Bool) (message : List ℕ) (place : ℕ) (q : Question) → HasAnswerHeader query message
+    → (question_count message ≡ 0 → ⊥) → ReadsQuestion message 12 q place → IsQuestionOf query q
+    → AsksAgain query first message place
+asks_once query first message place q header some reads is = inr (omega (arith, header.counts.questions, some), q, reads, is)
+
+pub asks_not : (query : AxfrQuery) (first : Bool) (message : List ℕ) → (question_count message ≡ 0 → ⊥)
+    → ((q : Question) (next : ℕ) → ReadsQuestion message 12 q next → IsQuestionOf query q → ⊥)
+    → (place : ℕ) → AsksAgain query first message place → ⊥
+asks_not query first message some none place (inl bare) = some bare.1
+asks_not query first message some none place (inr asks) = none asks.1 place asks.2 asks.3
+
+pub asks_other : (query : AxfrQuery) (first : Bool) (message : List ℕ) (end : ℕ) (q : Question) → (question_count message ≡ 0 → ⊥)
+    → ReadsQuestion message 12 q end → (IsQuestionOf query q → ⊥) → (place : ℕ) → AsksAgain query first message place → ⊥
+asks_other query first message end q some reads not_asked =
+    asks_not query first message some (λ other next reads' is. not_asked (subst (IsQuestionOf query) (sym (question_one reads reads')) is))

@@ -1,30 +1,91 @@
 -- Which rules of a transfer a record keeps behind those that are held.
-use Rattle.std.proofs.Common.{◌≡◌, ◌≢◌, ℕ, Bool, true, false, List, [], ◌∷◌, Some, nat_eq, length, refl, sym, ap, ◌∙◌, subst, arith, ◌⊎◌, inl, inr}
+use Rattle.std.proofs.Common.{◌≡◌, ◌≢◌, ℕ, ◌-◌, Bool, true, false, List, [], ◌∷◌, Some, nat_eq, length, refl, sym, ap, ◌∙◌, subst, arith, append-nil, length-append, ◌⊎◌, inl, inr}
 use Rattle.std.specs.Prelude.{not}
 use Rattle.std.specs.List.{AllByRecursion, slice_get, push}
 use Rattle.std.proofs.lemmas.Bool.{eqb-true, eq-eqb}
+use Rattle.std.proofs.lemmas.List.{same_from_push}
+use Rattle.dns_rdata.specs.Fields.{IsData}
+use Rattle.dns_rdata.specs.DataOctets.{IsSpellable}
+use Rattle.dns_message.specs.Record.{IsRecord, record_octets}
+use Rattle.dns_message.proofs.Spellable.{spellable_unless_caa}
 use Rattle.zone_octets.specs.Record.{Record}
 use Rattle.zone_octets.specs.Zone.{soa_type}
 use Rattle.zone_core.specs.Query.{AxfrQuery}
-use Rattle.zone_octets.specs.Records.{IsRecordOf, SameSoa}
+use Rattle.zone_octets.specs.Records.{AreOctets, IsRecordOf, SameSoa}
 use Rattle.zone_core.specs.Transfer.{IsInZoneOf, IsTransferred, ClosesTransfer}
 use Rattle.zone_core.specs.Receiving.{IsOpen, IsClosed, KeepsFirstRule, KeepsLastRule}
-use Rattle.zone_core.specs.Intake.{IsPlacing, StandsAt}
+use Rattle.zone_core.specs.Intake.{IsNext, IsPlacing, StandsAt}
 use Rattle.zone_core.specs.Intake.StandsAt.{begun, ended}
 use Rattle.zone_core.specs.declared.receive.rules.Placing.{Placing}
 use Rattle.zone_core.specs.declared.receive.rules.Placing.TheVariants.{Inner, Last}
 use Rattle.zone_octets.proofs.Each.{all_append}
+use Rattle.zone_octets.proofs.RecordOctets.{octets_of_record}
+use Rattle.zone_core.proofs.LawfulRecords.{closed_not_open}
 
 -- whether a record is held
-pub none_held : (held : List Record) (empty : Bool) → empty ≡ nat_eq (length held) 0 → empty ≡ true → held ≡ []
-none_held [] empty told is = refl
-none_held (r ∷ held) empty told is =
-    let none : length (r ∷ held) ≡ 0 = eqb-true (length (r ∷ held)) 0 (sym told ∙ is) in absurd (omega (arith, none))
+pub none_held : (held : List Record) → length held ≡ 0 → held ≡ []
+none_held [] none = refl
+none_held (r ∷ held) none = absurd (omega (arith, none))
 
-pub some_held : (held : List Record) (empty : Bool) → empty ≡ nat_eq (length held) 0 → empty ≡ false
-    → (r : Record) × (others : List Record) × (held ≡ r ∷ others)
-some_held [] empty told is = let none : true ≡ false = sym told ∙ is in absurd cc
-some_held (r ∷ held) empty told is = (r, held, refl)
+pub some_held : (held : List Record) → (length held ≡ 0 → ⊥) → (r : Record) × (others : List Record) × (held ≡ r ∷ others)
+some_held [] some = absurd (some refl)
+some_held (r ∷ held) some = (r, held, refl)
+
+-- the next record stands behind those that are held
+next_at : (held : List Record) (r : Record) → slice_get (push held r) (length held) ≡ Some r
+next_at [] r = refl
+next_at (x ∷ held) r = next_at held r
+
+pub held_long : {records : List Record} (held : List Record) (r : Record) (len : ℕ) → len ≡ length records → records ≡ push held r
+    → len - 1 ≡ length held
+held_long held r len long splits =
+    omega (arith, long, ap (length {A = Record}) splits, length-append held (r ∷ []))
+
+pub next_there : {records : List Record} (held : List Record) (r : Record) (len : ℕ) → len ≡ length records → records ≡ push held r
+    → slice_get records (len - 1) ≡ Some r
+next_there held r len long splits =
+    ap (λ (l : List Record). slice_get l (len - 1)) splits ∙ ap (slice_get (push held r)) (held_long held r len long splits) ∙ next_at held r
+
+pub next_is : {records : List Record} {next : Record} {octets : List ℕ} (held : List Record) (r : Record) (len : ℕ)
+    → len ≡ length records → records ≡ push held r
+    → ((s : Record) → slice_get records (len - 1) ≡ Some s → octets ≡ record_octets s)
+    → ((s : Record) → slice_get records (len - 1) ≡ Some s → IsRecord s)
+    → ((s : Record) → IsRecord s → octets ≡ record_octets s → next ≡ s) → next ≡ r
+next_is held r len long splits octets_are known is =
+    let there = next_there held r len long splits in
+    is r (known r there) (octets_are r there)
+
+-- and the first of all is the first that is held, where there is one
+pub first_held : {records : List Record} (held : List Record) (r soa : Record) → records ≡ push held r → (length held ≡ 0 → ⊥)
+    → slice_get records 0 ≡ Some soa → slice_get held 0 ≡ Some soa
+first_held [] r soa splits some at = absurd (some refl)
+first_held (x ∷ held) r soa splits some at = sym (ap (λ (l : List Record). slice_get l 0) splits) ∙ at
+
+-- what is known of a record whose octets are octets
+pub known_record : (class : ℕ) (octets : List ℕ) (r : Record) → IsRecord r → IsData r.rtype r.rdata → r.class ≡ class
+    → IsSpellable r.rtype r.rdata → AreOctets octets → octets ≡ record_octets r → IsRecordOf class r
+known_record class octets r lawful data_is class_is spellable each are =
+    let own = octets_of_record r (subst AreOctets are each) in
+    record {
+      lawful = lawful;
+      data_is = data_is;
+      class_is = class_is;
+      spellable = spellable;
+      owner_octets = own.0;
+      data_octets = own.1;
+    }
+
+-- what the records in front of the next one are
+pub stands_so_far : {query : AxfrQuery} {records : List Record} {closed : Bool} {number : ℕ} → IsNext query records closed number
+    → (held : List Record) (r : Record) → records ≡ push held r → (front : List Record) × StandsAt query held closed front
+stands_so_far {query} {closed = closed} next held r splits =
+    let same = same_from_push next.held held next.r r (sym next.splits ∙ splits) in
+    let P : List Record → Type 0 = λ held. StandsAt query held closed next.front in
+    (next.front, subst P same.0 next.stands)
+
+-- text can spell an SOA
+pub soa_spellable : (r : Record) → r.rtype ≡ soa_type → IsSpellable r.rtype r.rdata
+soa_spellable r soa = spellable_unless_caa r.rtype r.rdata (λ caa. absurd (omega (arith, soa, caa)))
 
 -- the records of the transfer so far begin as those that are held
 stands_empty : {query : AxfrQuery} {held xs : List Record} {closed : Bool} → StandsAt query held closed xs → held ≡ [] → xs ≡ []
@@ -110,6 +171,13 @@ pub stands_closed : {query : AxfrQuery} {held xs : List Record} {closed : Bool} 
 stands_closed (begun so_far) is = absurd cc
 stands_closed {held = held} (ended last transferred closes) is =
     record { front = held; last = last; splits = refl; transferred = transferred; closes = closes }
+
+pub stands_open : {query : AxfrQuery} {held xs : List Record} {closed : Bool} → StandsAt query held closed xs → closed ≡ false
+    → IsClosed query xs → ⊥
+stands_open {query} {held} (begun so_far) is closed =
+    let P : List Record → Type 0 = λ records. IsOpen query records in
+    closed_not_open query held [] closed (subst P (sym (append-nil held)) so_far)
+stands_open (ended last transferred closes) is closed = cc
 
 -- a record of the zone behind those that are held
 still_open : {query : AxfrQuery} {xs : List Record} {closed : Bool} (held : List Record) (r : Record) → StandsAt query held closed xs

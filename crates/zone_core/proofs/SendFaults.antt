@@ -1,41 +1,82 @@
 -- What a stream and a refusal say of a zone and a query.
-use Rattle.std.proofs.Common.{◌≡◌, ℕ, ◌<◌, ◌^◌, Bool, List, [], ◌∷◌, get_or, subst, ap, sym, ◌∙◌, arith}
+use Rattle.std.proofs.Common.{◌≡◌, ℕ, ◌<◌, ◌^◌, Bool, List, [], ◌∷◌, get_or, refl, subst, ap, sym, ◌∙◌, arith}
 use Rattle.std.specs.Prelude.{IsTrue, nat_eq}
 use Rattle.std.specs.Cmp.Lexicographic.{pointwise}
 use lib.Pointwise.{pointwise_decides, bytes_decides}
 use Rattle.dns_label.specs.Name.{low}
 use Rattle.dns_header.specs.Header.{id_of}
 use Rattle.zone_octets.specs.Record.{Record}
-use Rattle.zone_core.specs.declared.send_error.SendError.{SendError}
-use Rattle.zone_core.specs.declared.send_error.SendError.TheVariants as send_error
+use Rattle.zone_core.specs.declared.sending.error.SendError.{SendError}
+use Rattle.zone_core.specs.declared.sending.error.SendError.TheVariants as send_error
 use Rattle.zone_core.specs.Query.{AxfrQuery, IsQuery}
-use Rattle.zone_octets.specs.Records.{AreRecordsOf}
-use Rattle.zone_core.specs.Sent.{IsQueryFor, AsksFor, IsSent, IsSendFault}
+use Rattle.std.specs.List.{AllByRecursion}
+use Rattle.zone_octets.specs.Records.{AreRecordsOf, IsRecordOf}
+use Rattle.zone_octets.specs.Typed.{HasLawfulData}
+use Rattle.zone_core.specs.Cutting.{IsBlocked}
+use Rattle.zone_core.specs.Sent.{size, with_soa_again, IsQueryFor, AsksFor, IsSent}
+use Rattle.zone_core.specs.SentBy.{IsSentBy, IsBlockedBy, IsSendFault, IsRefusedFor, IfPlain}
 use Rattle.zone_core.specs.Sending.{IsRefusedBy}
+use Rattle.zone_core.specs.SpelledSent.{IsSpelledBlocked}
+use Rattle.zone_core.specs.SpelledSending.{IsRefusedSpelled}
+use Rattle.zone_core.specs.declared.sending.Spelling.{Spelling}
+use Rattle.zone_core.specs.declared.sending.Spelling.TheVariants.{Plain, Static, Tree, Hash}
+use Rattle.dns_name.specs.Spelling.{Spelling as Spells}
 use Rattle.zone_text.specs.View.{apex_of}
 
 -- what is said of records that are the zone's
-pub sent_for : (query : AxfrQuery) (held records : List Record) (within max : ℕ) (stream : List ℕ) → held ≡ records → within ≡ max
-    → IsSent held query within stream → IsSent records query max stream
-sent_for query held records within max stream are same sent =
-    let P : List Record → Type 0 = λ rs. IsSent rs query within stream in
-    let Q : ℕ → Type 0 = λ m. IsSent records query m stream in
-    subst Q same (subst P are sent)
+pub sent_for : (spelling : Spelling) (query : AxfrQuery) (held records : List Record) (max : ℕ) (stream : List ℕ) → held ≡ records
+    → IsSentBy spelling held query max stream → IsSentBy spelling records query max stream
+sent_for spelling query held records max stream are sent =
+    let P : List Record → Type 0 = λ rs. IsSentBy spelling rs query max stream in subst P are sent
 
-fault_of : (query : AxfrQuery) (class : ℕ) (records : List Record) (octets : List ℕ) (max : ℕ) (error : SendError) → IsQuery octets query
-    → AsksFor query (apex_of records) class → IsRefusedBy query max records error → IsSendFault records (apex_of records) class octets max error
-fault_of query class records octets max (send_error.Query fault) is asks refused = absurd refused
-fault_of query class records octets max send_error.WrongZone is asks refused = absurd refused
-fault_of query class records octets max (send_error.Record n) is asks refused = (query, is, asks, refused)
-fault_of query class records octets max send_error.OutOfMemory is asks refused = tt
+fault_of : (spelling : Spelling) (query : AxfrQuery) (class : ℕ) (records : List Record) (octets : List ℕ) (max : ℕ) (error : SendError)
+    → IsQuery octets query → AsksFor query (apex_of records) class → IsRefusedFor spelling records query max error
+    → IsSendFault spelling records (apex_of records) class octets max error
+fault_of spelling query class records octets max (send_error.Query fault) is asks refused = absurd refused
+fault_of spelling query class records octets max send_error.WrongZone is asks refused = absurd refused
+fault_of spelling query class records octets max (send_error.Record n) is asks refused = (query, is, asks, refused)
+fault_of spelling query class records octets max send_error.OutOfMemory is asks refused = tt
 
-pub fault_for : (query : AxfrQuery) (class : ℕ) (held records : List Record) (octets : List ℕ) (within max : ℕ) (error : SendError)
-    → IsQuery octets query → AsksFor query (apex_of records) class → held ≡ records → within ≡ max
-    → IsRefusedBy query within held error → IsSendFault records (apex_of records) class octets max error
-fault_for query class held records octets within max error is asks are same refused =
-    let P : List Record → Type 0 = λ rs. IsRefusedBy query within rs error in
-    let Q : ℕ → Type 0 = λ m. IsRefusedBy query m records error in
-    fault_of query class records octets max error is asks (subst Q same (subst P are refused))
+pub fault_for : (spelling : Spelling) (query : AxfrQuery) (class : ℕ) (held records : List Record) (octets : List ℕ) (max : ℕ) (error : SendError)
+    → IsQuery octets query → AsksFor query (apex_of records) class → held ≡ records → IsRefusedFor spelling held query max error
+    → IsSendFault spelling records (apex_of records) class octets max error
+fault_for spelling query class held records octets max error is asks are refused =
+    let P : List Record → Type 0 = λ rs. IsRefusedFor spelling rs query max error in
+    fault_of spelling query class records octets max error is asks (subst P are refused)
+
+-- with every name written out
+pub plain_refused : (query : AxfrQuery) (records : List Record) (within max : ℕ) (error : SendError) → within ≡ max
+    → IsRefusedBy query within records error → IsRefusedFor Plain records query max error
+plain_refused query records within max (send_error.Query fault) same refused = absurd refused
+plain_refused query records within max send_error.WrongZone same refused = absurd refused
+plain_refused query records within max (send_error.Record n) same refused =
+    let P : ℕ → Type 0 = λ m. IsBlocked (size query) m (with_soa_again records) n in subst P same refused
+plain_refused query records within max send_error.OutOfMemory same refused = tt
+
+pub plain_sent : (query : AxfrQuery) (records : List Record) (within max : ℕ) (stream : List ℕ) → within ≡ max
+    → IsSent records query within stream → IsSent records query max stream
+plain_sent query records within max stream same sent =
+    let P : ℕ → Type 0 = λ m. IsSent records query m stream in subst P same sent
+
+-- with names by a spelling
+pub spelled_refused : (spelling : Spelling) (s : Spells) (query : AxfrQuery) (records : List Record) (max : ℕ) (error : SendError)
+    → ((n : ℕ) → IsSpelledBlocked s records query max n → IsBlockedBy spelling records query max n)
+    → IsRefusedSpelled s records query max error → IsRefusedFor spelling records query max error
+spelled_refused spelling s query records max (send_error.Query fault) same refused = absurd refused
+spelled_refused spelling s query records max send_error.WrongZone same refused = absurd refused
+spelled_refused spelling s query records max (send_error.Record n) same refused = same n refused
+spelled_refused spelling s query records max send_error.OutOfMemory same refused = tt
+
+pub if_plain : (spelling : Spelling) (P : Type 0) → (spelling ≡ Plain → P) → IfPlain spelling P
+if_plain Plain P on = on refl
+if_plain Static P on = tt
+if_plain Tree P on = tt
+if_plain Hash P on = tt
+
+-- the data of a zone's records is that of their types
+pub all_lawful : (class : ℕ) (records : List Record) → AllByRecursion (IsRecordOf class) records → AllByRecursion HasLawfulData records
+all_lawful class [] each = tt
+all_lawful class (r ∷ records) each = (each.0.data_is, all_lawful class records each.1)
 
 -- the class of a zone is one that a message can say
 class_small : (class : ℕ) (records : List Record) → AreRecordsOf class records → class < 2 ^ 16

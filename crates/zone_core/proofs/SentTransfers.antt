@@ -7,14 +7,13 @@ use Rattle.dns_rdata.specs.Fields.IsData.{typed, opaque}
 use Rattle.zone_octets.specs.Record.{Record}
 use Rattle.zone_octets.specs.Zone.{IsUnder, IsBehindSoa, soa_type}
 use Rattle.zone_core.specs.Query.{AxfrQuery}
-use Rattle.zone_octets.specs.Records.{AreRecordsOf, AreSendable, IsRecordOf, IsSendable, IsTypeToday, SameSoa}
+use Rattle.zone_octets.specs.Records.{AreRecordsOf, AreSendable, IsRecordOf, IsSendable, SameSoa}
 use Rattle.zone_core.specs.Sent.{IsQueryFor, AsksFor, IsSent, message, size}
-use Rattle.zone_core.specs.Transfer.{Form, Standard, WrittenOut, IsInZoneOf, IsTransferIn, IsExactTransfer, IsExactTransferIn}
+use Rattle.zone_core.specs.Transfer.{IsInZoneOf, IsTransfer, IsExactTransfer}
 use Rattle.zone_octets.proofs.Each.{all_append}
 use Rattle.zone_core.proofs.LastRecord.{all_joined, ends_with}
-use Rattle.zone_core.proofs.WrittenAnswers.{Allows, all_allowed, answers-written, framable-written}
+use Rattle.zone_core.proofs.WrittenAnswers.{answers-written, framable-written}
 use Rattle.zone_core.proofs.OneTransfer.{transfer_one}
-use Rattle.zone_core.proofs.WrittenForms.{written_transfer}
 
 -- an SOA is equal to itself
 same_soa : (soa : Record) → soa.rtype ≡ soa_type → IsData soa.rtype soa.rdata → SameSoa soa soa
@@ -39,7 +38,7 @@ under_query : (query : AxfrQuery) (apex name : List (List ℕ)) → low query.na
 under_query query apex name same under =
     record { front = under.front; whole_is = under.whole_is ∙ ap (λ l. under.front ++ l) (sym same) }
 
-behind_soa : (query : AxfrQuery) (class : ℕ) (soa : Record) (others : List Record) → AsksFor query soa.owner class
+pub behind_soa : (query : AxfrQuery) (class : ℕ) (soa : Record) (others : List Record) → AsksFor query soa.owner class
     → AllByRecursion (IsSendable class) others → AllByRecursion (IsBehindSoa soa) others
     → AllByRecursion (IsInZoneOf query) others × AllByRecursion (λ r. r.rtype ≢ soa_type) others
 behind_soa query class soa [] asks each behind = (tt, tt)
@@ -57,19 +56,16 @@ all_small : (query : AxfrQuery) (max : ℕ) (groups : List (List Record)) → ma
 all_small query max [] fits small = tt
 all_small query max (group ∷ groups) fits small = (omega (arith, small.0), all_small query max groups fits small.1)
 
--- What is sent is a transfer in each form that has room for its records, and of the very same records.
-pub sent_in_form : (form : Form) (records : List Record) (class : ℕ) (query : AxfrQuery) (max : ℕ) (stream : List ℕ) → max < 2 ^ 16
-    → AreSendable class records → IsQueryFor records class query → AllByRecursion (Allows form) records
-    → IsSent records query max stream → IsExactTransferIn form query stream records
-sent_in_form form [] class query max stream fits are asks allowed sent = absurd are.zone
-sent_in_form form (soa ∷ others) class query max stream fits are asks allowed sent =
+-- What is sent is a transfer, of the very same records.
+pub sendable_is_transfer : (records : List Record) (class : ℕ) (query : AxfrQuery) (max : ℕ) (stream : List ℕ) → max < 2 ^ 16
+    → AreSendable class records → IsQueryFor records class query
+    → IsSent records query max stream → IsExactTransfer query stream records
+sendable_is_transfer [] class query max stream fits are asks sent = absurd are.zone
+sendable_is_transfer (soa ∷ others) class query max stream fits are asks sent =
     let cut = sent.cut.fits in
     let each = all_append (IsSendable class) (soa ∷ others) (soa ∷ []) are.each (are.each.0, tt) in
-    let each_allowed = all_append (Allows form) (soa ∷ others) (soa ∷ []) allowed (allowed.0, tt) in
     let P : List Record → Type 0 = λ records. AllByRecursion (IsSendable class) records in
-    let Q : List Record → Type 0 = λ records. AllByRecursion (Allows form) records in
     let grouped = all_joined (IsSendable class) sent.groups (subst P (sym cut.cut.joins) each) in
-    let grouped_allowed = all_joined (Allows form) sent.groups (subst Q (sym cut.cut.joins) each_allowed) in
     let small = all_small query max sent.groups fits cut.small in
     let ends = ends_with sent.groups (soa ∷ others) soa cut.cut.nonempty cut.cut.joins in
     let rest = behind_soa query class soa others asks.asks are.each.1 are.zone.1 in
@@ -78,12 +74,12 @@ sent_in_form form (soa ∷ others) class query max stream fits are asks allowed 
       under = record { front = []; whole_is = sym asks.asks.name };
       spellable = are.each.0.spellable;
     } in
-    let transfer : IsTransferIn form query stream (soa ∷ others) = record {
+    let transfer : IsTransfer query stream (soa ∷ others) = record {
       messages = map (message query) sent.groups;
       each = framable-written query sent.groups small;
       whole = sent.framed;
       groups = sent.groups;
-      answers = answers-written form query true class (soa ∷ others) sent.groups asks grouped grouped_allowed small;
+      answers = answers-written query true class (soa ∷ others) sent.groups asks grouped small;
       last = soa;
       front = ends.front;
       last_group = ends.last_group;
@@ -93,12 +89,6 @@ sent_in_form form (soa ∷ others) class query max stream fits are asks allowed 
       closed = (are.zone.0, same_soa soa are.zone.0 are.each.0.data_is);
     } in
     record { transfer = transfer; again = refl }
-
--- What is sent is a transfer as the standard has it.
-pub sendable_is_transfer : (records : List Record) (class : ℕ) (query : AxfrQuery) (max : ℕ) (stream : List ℕ) → max < 2 ^ 16
-    → AreSendable class records → IsQueryFor records class query → IsSent records query max stream → IsExactTransfer query stream records
-sendable_is_transfer records class query max stream fits are asks sent =
-    sent_in_form Standard records class query max stream fits are asks (all_allowed records) sent
 
 -- so it is for a zone that was read
 each_sendable : (class : ℕ) (records : List Record) → AllByRecursion (IsRecordOf class) records → AllByRecursion (IsSendable class) records
@@ -113,18 +103,11 @@ pub sent_is_transfer : (records : List Record) (class : ℕ) (query : AxfrQuery)
 sent_is_transfer records class query max stream fits are asks sent =
     sendable_is_transfer records class query max stream fits (record { each = each_sendable class records are.each; zone = are.zone }) asks sent
 
--- Where its records are of the types that are received today, it is a transfer that is received.
-pub sent_is_received : (records : List Record) (class : ℕ) (query : AxfrQuery) (max : ℕ) (stream : List ℕ) → max < 2 ^ 16
-    → AreSendable class records → IsQueryFor records class query → AllByRecursion (λ r. IsTypeToday r.rtype) records
-    → IsSent records query max stream → IsExactTransferIn WrittenOut query stream records
-sent_is_received = sent_in_form WrittenOut
-
 -- What is sent and then received as a transfer of records is what is sent for these.
 pub received_is_sent_again : (records others : List Record) (class : ℕ) (query : AxfrQuery) (max : ℕ) (stream : List ℕ) → max < 2 ^ 16
     → AreSendable class records → IsQueryFor records class query → IsSent records query max stream
-    → IsTransferIn WrittenOut query stream others → (records ≡ others) × IsSent others query max stream
+    → IsTransfer query stream others → (records ≡ others) × IsSent others query max stream
 received_is_sent_again records others class query max stream fits are asks sent received =
-    let same = transfer_one query stream records others (sendable_is_transfer records class query max stream fits are asks sent).transfer
-    (written_transfer query stream others received) in
+    let same = transfer_one query stream records others (sendable_is_transfer records class query max stream fits are asks sent).transfer received in
     let P : List Record → Type 0 = λ records. IsSent records query max stream in
     (same, subst P same sent)

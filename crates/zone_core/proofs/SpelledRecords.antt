@@ -1,44 +1,54 @@
--- Records that are written out one behind the other are one list, for so many of them.
+-- Records that a message spells one after another are one list, for so many of them.
 use Rattle.std.proofs.Common.{◌≡◌, ℕ, ◌<◌, List, [], ◌∷◌, ◌++◌, length, refl, sym, subst, arith}
 use Rattle.dns_message.proofs.ReadRecords.{record_one}
 use Rattle.zone_octets.specs.Record.{Record}
-use Rattle.zone_core.specs.Transfer.{Form, WrittenOut, HasRecord, SpellsRecords}
+use Rattle.dns_rdata.specs.Fields.{IsData}
+use Rattle.dns_rdata.specs.Fields.IsData.{typed as in_fields, opaque as untold}
+use Rattle.dns_name.specs.Page.{Parts}
+use Rattle.dns_message.specs.Record.{IsRecord, IsRead, ReadsRecord}
+use Rattle.dns_message.specs.Record.IsRead.{typed, opaque}
+use Rattle.zone_core.specs.Transfer.{SpellsRecords}
 use Rattle.zone_core.specs.Transfer.SpellsRecords.{none, one}
-use Rattle.zone_core.proofs.WrittenForms.{written_record}
 
--- a record that is written out at a place is one
-pub written_one : {message : List ℕ} {place next next' : ℕ} (r other : Record) → HasRecord WrittenOut message place r next
-    → HasRecord WrittenOut message place other next' → (r ≡ other) × (next ≡ next')
-written_one r other has has' =
-    let read = written_record has in
-    let read' = written_record has' in
-    record_one r other read.is_record read'.is_record read.read read'.read read.spelled read'.spelled
+-- a record at a place is one
+pub read_one : {message : List ℕ} {place next next' : ℕ} (r other : Record) → ReadsRecord message place r next
+    → ReadsRecord message place other next' → (r ≡ other) × (next ≡ next')
+read_one r other has has' =
+    record_one r other has.is_record has'.is_record has.read has'.read has.spelled has'.spelled
+
+-- its data is that of its type
+data_of_read : (r : Record) (parts : Parts) → IsRecord r → IsRead r parts → IsData r.rtype r.rdata
+data_of_read r parts is (typed row is_row octets_are) = in_fields row is_row octets_are
+data_of_read r parts is (opaque no_fields) = untold no_fields is.rdata
+
+pub read_has_data : {message : List ℕ} {place next : ℕ} (r : Record) → ReadsRecord message place r next → IsData r.rtype r.rdata
+read_has_data r has = data_of_read r has.parts has.is_record has.read
 
 -- the first record that is spelled, and those behind it
-pub record FirstSpelled (form : Form) (message : List ℕ) (place : ℕ) (r : Record) (records : List Record) (next : ℕ) : Type 0 where
+pub record FirstSpelled (message : List ℕ) (place : ℕ) (r : Record) (records : List Record) (next : ℕ) : Type 0 where
   pub end : ℕ
-  pub has : HasRecord form message place r end
-  pub behind : SpellsRecords form message end records next
+  pub has : ReadsRecord message place r end
+  pub behind : SpellsRecords message end records next
 
-abbrev pub OpenedSpelled : Form → List ℕ → ℕ → List Record → ℕ → Type 0
-OpenedSpelled form message place [] next = place ≡ next
-OpenedSpelled form message place (r ∷ records) next = FirstSpelled form message place r records next
+abbrev pub OpenedSpelled : List ℕ → ℕ → List Record → ℕ → Type 0
+OpenedSpelled message place [] next = place ≡ next
+OpenedSpelled message place (r ∷ records) next = FirstSpelled message place r records next
 
-pub opened_spelled : {form : Form} {message : List ℕ} {place next : ℕ} {records : List Record}
-    → SpellsRecords form message place records next → OpenedSpelled form message place records next
+pub opened_spelled : {message : List ℕ} {place next : ℕ} {records : List Record}
+    → SpellsRecords message place records next → OpenedSpelled message place records next
 opened_spelled none = refl
 opened_spelled (one end has behind) = record { end = end; has = has; behind = behind }
 
 -- one record more
-pub spelled_push : {form : Form} {message : List ℕ} {place next : ℕ} {records : List Record} (r : Record) (end : ℕ)
-    → SpellsRecords form message place records next → HasRecord form message next r end
-    → SpellsRecords form message place (records ++ r ∷ []) end
+pub spelled_push : {message : List ℕ} {place next : ℕ} {records : List Record} (r : Record) (end : ℕ)
+    → SpellsRecords message place records next → ReadsRecord message next r end
+    → SpellsRecords message place (records ++ r ∷ []) end
 spelled_push r end none has = one end has none
 spelled_push r end (one behind first rest) has = one behind first (spelled_push r end rest has)
 
--- equally many records that are written out from one place on
+-- equally many records from one place on
 pub spelled_one : (message : List ℕ) (records others : List Record) (place next next' : ℕ) → length records ≡ length others
-    → SpellsRecords WrittenOut message place records next → SpellsRecords WrittenOut message place others next'
+    → SpellsRecords message place records next → SpellsRecords message place others next'
     → (records ≡ others) × (next ≡ next')
 spelled_one message [] [] place next next' many spelled spelled' =
     let ends : place ≡ next = opened_spelled spelled in
@@ -49,8 +59,8 @@ spelled_one message (r ∷ records) [] place next next' many spelled spelled' = 
 spelled_one message (r ∷ records) (s ∷ others) place next next' many spelled spelled' =
     let first = opened_spelled spelled in
     let first' = opened_spelled spelled' in
-    let same = written_one r s first.has first'.has in
-    let P : ℕ → Type 0 = λ end. SpellsRecords WrittenOut message end others next' in
+    let same = read_one r s first.has first'.has in
+    let P : ℕ → Type 0 = λ end. SpellsRecords message end others next' in
     let rest = spelled_one message records others first.end next next' (omega arith) first.behind (subst P (sym same.1) first'.behind) in
     (cc (same.0, rest.0), rest.1)
 
@@ -60,22 +70,22 @@ pub record SpelledPast (message : List ℕ) (others records : List Record) (plac
   pub end : ℕ
   pub more : List Record
   pub are : records ≡ others ++ r ∷ more
-  pub has : HasRecord WrittenOut message place r end
+  pub has : ReadsRecord message place r end
 
--- more records that are written out from the same place on
+-- more records from the same place on
 pub spelled_past : (message : List ℕ) (others records : List Record) (start place next : ℕ) → length others < length records
-    → SpellsRecords WrittenOut message start others place → SpellsRecords WrittenOut message start records next
+    → SpellsRecords message start others place → SpellsRecords message start records next
     → SpelledPast message others records place
 spelled_past message others [] start place next fewer spelled spelled' = absurd (omega arith)
 spelled_past message [] (r ∷ records) start place next fewer spelled spelled' =
     let ends : start ≡ place = opened_spelled spelled in
     let first = opened_spelled spelled' in
-    let P : ℕ → Type 0 = λ place. HasRecord WrittenOut message place r first.end in
+    let P : ℕ → Type 0 = λ place. ReadsRecord message place r first.end in
     record { r = r; end = first.end; more = records; are = refl; has = subst P ends first.has }
 spelled_past message (s ∷ others) (r ∷ records) start place next fewer spelled spelled' =
     let first = opened_spelled spelled in
     let first' = opened_spelled spelled' in
-    let same = written_one s r first.has first'.has in
-    let P : ℕ → Type 0 = λ end. SpellsRecords WrittenOut message end records next in
+    let same = read_one s r first.has first'.has in
+    let P : ℕ → Type 0 = λ end. SpellsRecords message end records next in
     let there = spelled_past message others records first.end place next (omega arith) first.behind (subst P (sym same.1) first'.behind) in
     record { r = there.r; end = there.end; more = there.more; are = cc (same.0, there.are); has = there.has }

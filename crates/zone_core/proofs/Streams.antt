@@ -8,7 +8,7 @@ use Rattle.std.proofs.lemmas.List.Concat.{flat_map-append}
 use Rattle.std.proofs.lemmas.Bool.Decides.{Decides-eqb}
 use Rattle.std.proofs.lemmas.Option.{slice_get_within}
 use Rattle.zone_octets.specs.Record.{Record}
-use Rattle.zone_core.specs.declared.sender.Sender.{Sender}
+use Rattle.zone_core.specs.declared.sending.plain.Sender.{Sender}
 use Rattle.zone_core.specs.Query.{AxfrQuery}
 use Rattle.zone_core.specs.Frames.{frame, frames}
 use Rattle.zone_core.specs.Cutting.{IsFullCut, IsBlocked}

@@ -6,7 +6,8 @@ use Rattle.dns_octets.specs.Parser.{octets_of, place_of}
 use Rattle.dns_header.specs.Header.{answer_count}
 use Rattle.zone_octets.specs.Record.{Record}
 use Rattle.zone_core.specs.Query.{AxfrQuery}
-use Rattle.zone_core.specs.Transfer.{WrittenOut, HasRecord, AsksAgain, HasAnswerHeader, SpellsRecords}
+use Rattle.dns_message.specs.Record.{ReadsRecord}
+use Rattle.zone_core.specs.Transfer.{AsksAgain, HasAnswerHeader, SpellsRecords}
 use Rattle.zone_core.specs.Transfer.SpellsRecords.{none, one}
 use Rattle.zone_core.specs.Receiving.{IsOpen, IsClosed, IsRecordFault, IsMessageFault, KeepsRulesTo}
 use Rattle.zone_core.specs.Intake.{IsFaultOr, StandsAt, TakesRecord}
@@ -31,12 +32,12 @@ stands_lawful {held = held} (ended last all closes) = inr (record { front = held
 
 -- before the first record
 pub taken_none : (query : AxfrQuery) (front : List Record) (first : Bool) (message : List ℕ) (start : ℕ) (parser : Parser)
-    → HasAnswerHeader query message → AsksAgain WrittenOut query first message start → octets_of parser ≡ message → place_of parser ≡ start
+    → HasAnswerHeader query message → AsksAgain query first message start → octets_of parser ≡ message → place_of parser ≡ start
     → IsOpen query front → HasTaken query front first message 0 parser front false
 taken_none query front first message start parser header asked octets place still =
     let P : List Record → Type 0 = λ all. StandsAt query front false all in
     let Q : List Record → Type 0 = λ all. IsOpen query all ⊎ IsClosed query all in
-    let R : ℕ → Type 0 = λ here. SpellsRecords WrittenOut message start [] here in
+    let R : ℕ → Type 0 = λ here. SpellsRecords message start [] here in
     record {
       group = [];
       octets = octets;
@@ -52,8 +53,8 @@ taken_none query front first message start parser header asked octets place stil
     }
 
 -- one record more is spelled
-spells_more : {message : List ℕ} {place here next : ℕ} {records : List Record} (r : Record) → SpellsRecords WrittenOut message place records here
-    → HasRecord WrittenOut message here r next → SpellsRecords WrittenOut message place (push records r) next
+spells_more : {message : List ℕ} {place here next : ℕ} {records : List Record} (r : Record) → SpellsRecords message place records here
+    → ReadsRecord message here r next → SpellsRecords message place (push records r) next
 spells_more {next = next} r none has = one next has none
 spells_more r (one behind first rest) has = one behind first (spells_more r rest has)
 
@@ -65,7 +66,7 @@ pub taken_more : (query : AxfrQuery) (front : List Record) (first : Bool) (messa
     → HasTaken query front first message (count + 1) next more ends
 taken_more query front first message count parser next held more closed ends taken same takes =
     let one = takes (front ++ taken.group) taken.stands in
-    let P : List ℕ → Type 0 = λ octets. HasRecord WrittenOut octets (place_of parser) one.r (place_of next) in
+    let P : List ℕ → Type 0 = λ octets. ReadsRecord octets (place_of parser) one.r (place_of next) in
     let Q : List Record → Type 0 = λ all. StandsAt query more ends all in
     let R : List Record → Type 0 = λ all. IsOpen query all ⊎ IsClosed query all in
     let joined : (front ++ taken.group) ++ one.r ∷ [] ≡ front ++ (taken.group ++ one.r ∷ []) = append_assoc front taken.group (one.r ∷ []) in
@@ -102,6 +103,7 @@ record_fault query front first message group place (receive_error.Class n) rules
 record_fault query front first message group place (receive_error.OutOfZone n) rules few fault = (group, place, rules, few, fault)
 record_fault query front first message group place (receive_error.SoaDiffers n) rules few fault = (group, place, rules, few, fault)
 record_fault query front first message group place (receive_error.AfterLast n) rules few fault = (group, place, rules, few, fault)
+record_fault query front first message group place (receive_error.Unspellable n) rules few fault = (group, place, rules, few, fault)
 record_fault query front first message group place receive_error.Trailing rules few fault = absurd fault
 record_fault query front first message group place receive_error.Unfinished rules few fault = absurd fault
 record_fault query front first message group place receive_error.OutOfMemory rules few fault = absurd fault
@@ -123,6 +125,7 @@ fault_on Fault Other (receive_error.Class n) on fault = on _ fault
 fault_on Fault Other (receive_error.OutOfZone n) on fault = on _ fault
 fault_on Fault Other (receive_error.SoaDiffers n) on fault = on _ fault
 fault_on Fault Other (receive_error.AfterLast n) on fault = on _ fault
+fault_on Fault Other (receive_error.Unspellable n) on fault = on _ fault
 fault_on Fault Other receive_error.Trailing on fault = on _ fault
 fault_on Fault Other receive_error.Unfinished on fault = on _ fault
 fault_on Fault Other receive_error.OutOfMemory on fault = tt

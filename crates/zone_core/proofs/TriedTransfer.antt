@@ -5,7 +5,7 @@ use Rattle.dns_rdata.specs.Fields.{Field}
 use Rattle.dns_rdata.specs.Fields.Field.{compressible, number32, ipv4}
 use Rattle.dns_rdata.specs.Fields.IsData.{typed}
 use Rattle.zone_octets.specs.Records.{AreRecordsOf}
-use Rattle.zone_octets.proofs.SpellableData.{today_is_spellable}
+use Rattle.dns_message.proofs.Spellable.{spellable_unless_caa}
 use Rattle.zone_core.specs.Sent.{IsQueryFor, IsSent, message, with_soa_again}
 use Rattle.zone_core.specs.Frames.{frames}
 use Rattle.zone_core.specs.Transfer.{IsTransfer}
@@ -26,7 +26,7 @@ are_records = record {
       lawful = record { owner = one_label 97; rtype = omega arith; class = omega arith; ttl = omega arith; rdata = omega arith };
       data_is = typed soa_row (record { kinds = refl; each = (one_label 98, (one_label 99, (omega arith, (omega arith, (omega arith, (omega arith, (omega arith, tt))))))); short = omega arith }) refl;
       class_is = refl;
-      spellable = today_is_spellable 6 soa.rdata (inl refl);
+      spellable = spellable_unless_caa 6 soa.rdata (λ caa. omega (arith, caa));
       owner_octets = ((omega arith, tt), tt);
       data_octets = search rules;
     },
@@ -35,7 +35,7 @@ are_records = record {
         lawful = record { owner = one_label 97; rtype = omega arith; class = omega arith; ttl = omega arith; rdata = omega arith };
         data_is = typed (ipv4 (1 ∷ 2 ∷ 3 ∷ 4 ∷ []) ∷ []) (record { kinds = refl; each = (refl, tt); short = omega arith }) refl;
         class_is = refl;
-        spellable = today_is_spellable 1 address.rdata (inr refl);
+        spellable = spellable_unless_caa 1 address.rdata (λ caa. omega (arith, caa));
         owner_octets = ((omega arith, tt), tt);
         data_octets = (omega arith, (omega arith, (omega arith, (omega arith, tt))));
       },

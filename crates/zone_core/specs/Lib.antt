@@ -9,3 +9,6 @@ pub mod Received
 pub mod Sent
 pub mod Sending
 pub mod Spelled
+pub mod SpelledSent
+pub mod SpelledSending
+pub mod SentBy

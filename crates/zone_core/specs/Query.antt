@@ -1,7 +1,8 @@
 -- A query for a zone's transfer (RFC 5936 2.1), and the first rule that other octets break.
-use Rattle.std.specs.Prelude.{◌≡◌, ◌≢◌, ◌≤◌, ◌<◌, ℕ, Bool, true, false, List, length}
+use Rattle.std.specs.Prelude.{◌≡◌, ◌≢◌, ◌≤◌, ◌<◌, ℕ, Bool, true, false, List, [], ◌∷◌, ◌++◌, length}
+use Rattle.std.specs.Int.{to_be_bytes, w16}
 use Rattle.dns_header.specs.Header.{is_response, opcode_of, question_count, answer_count, authority_count, additional_count, id_of, recursion_desired}
-use Rattle.dns_header.specs.Question.{Question, ReadsQuestion}
+use Rattle.dns_header.specs.Question.{Question, ReadsQuestion, question_octets}
 use Rattle.zone_octets.specs.Zone.{any_class, axfr_type}
 use Rattle.zone_core.specs.declared.query_error.QueryError.{QueryError}
 use Rattle.zone_core.specs.declared.query_error.QueryError.TheVariants.{Short, Response, Opcode, Counts, Malformed, NotAxfr, ClassAny, Trailing}
@@ -22,6 +23,11 @@ pub record AxfrQuery : Type 0 where
 
 abbrev pub question_of : AxfrQuery → Question
 question_of query = record { name = query.name; qtype = axfr_type; qclass = query.class }
+
+-- the octets of a query with its flags clear (RFC 5936 2.1)
+abbrev pub query_octets : AxfrQuery → List ℕ
+query_octets query =
+    to_be_bytes w16 query.id ++ 0 ∷ 0 ∷ 0 ∷ 1 ∷ 0 ∷ 0 ∷ 0 ∷ 0 ∷ 0 ∷ 0 ∷ [] ++ question_octets (question_of query)
 
 -- the rules that a message keeps, up to its question
 pub record KeepsHeaderRules (message : List ℕ) : Type 0 where

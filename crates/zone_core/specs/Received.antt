@@ -1,20 +1,29 @@
 -- How far a receiver is. Only the receiver itself speaks of it.
-use Rattle.std.specs.Prelude.{Option, Some, None, ⊤}
+use Rattle.std.specs.Prelude.{Bool, ⊤}
 use Rattle.zone_core.specs.Query.{AxfrQuery}
-use Rattle.zone_core.specs.Intake.{IsEnded, IsWaiting}
-use Rattle.zone_core.specs.declared.receive.error.ReceiveError.{ReceiveError}
+use Rattle.zone_core.specs.Receiving.{Heard, Stage}
+use Rattle.zone_core.specs.Receiving.Stage.{Ended, Refused}
+use Rattle.zone_core.specs.Intake.{IsEnded, IsWaiting, stage_where}
 use Rattle.zone_core.specs.declared.receive.intake.Intake.{Intake}
 use Rattle.zone_core.specs.declared.receive.receiver.Progress.{Progress}
-use Rattle.zone_core.specs.declared.receive.receiver.Progress.TheVariants.{Begun, Done, Refused}
+use Rattle.zone_core.specs.declared.receive.receiver.Progress.TheVariants as progress
 
--- the refusal that is kept
-abbrev pub kept_in : Progress → Option ReceiveError
-kept_in Begun = None
-kept_in Done = None
-kept_in (Refused error) = Some error
+abbrev pub stage_in : Progress → Bool → Stage
+stage_in progress.Begun is_first = stage_where is_first
+stage_in progress.Done is_first = Ended
+stage_in (progress.Refused error) is_first = Refused error
+
+-- what a receiver is to who uses it
+abbrev pub heard_in : Progress → Intake → AxfrQuery → Heard
+heard_in at intake query = record {
+  query = query;
+  records = intake.records;
+  open_frame = intake.open_frame.items;
+  stage = stage_in at intake.is_first;
+}
 
 -- what holds of the octets and the records
 abbrev pub IsAt : Progress → Intake → AxfrQuery → Type 0
-IsAt Begun intake query = IsWaiting intake query
-IsAt Done intake query = IsEnded intake query
-IsAt (Refused error) intake query = ⊤
+IsAt progress.Begun intake query = IsWaiting intake query
+IsAt progress.Done intake query = IsEnded intake query
+IsAt (progress.Refused error) intake query = ⊤

@@ -5,11 +5,13 @@ use Rattle.std.specs.List.{AllByRecursion, push}
 use Rattle.dns_label.specs.Name.{low}
 use Rattle.dns_header.specs.Header.{is_response, opcode_of, rcode_of, answer_count, id_of}
 use Rattle.zone_octets.specs.Record.{Record}
+use Rattle.dns_rdata.specs.DataOctets.{IsSpellable}
 use Rattle.zone_octets.specs.Zone.{IsUnder, soa_type}
 use Rattle.zone_core.specs.Query.{AxfrQuery, IsQueryFault}
 use Rattle.zone_core.specs.Frames.{frame, frames, IsFramable, Splits}
 use Rattle.zone_core.specs.Cutting.{joined}
-use Rattle.zone_core.specs.Transfer.{WrittenOut, HasRecord, AsksAgain, SpellsRecords, CountsAnswers, HasAnswerHeader, AreAnswers, IsTransferred, ClosesTransfer, IsTransferIn}
+use Rattle.dns_message.specs.Record.{ReadsRecord}
+use Rattle.zone_core.specs.Transfer.{AsksAgain, SpellsRecords, CountsAnswers, HasAnswerHeader, AreAnswers, IsTransferred, ClosesTransfer, IsTransfer}
 use Rattle.zone_octets.specs.Records.{SameSoa}
 use Rattle.zone_core.specs.declared.receive.error.ReceiveError.{ReceiveError}
 use Rattle.zone_core.specs.declared.receive.error.ReceiveError.TheVariants as receive_error
@@ -29,7 +31,7 @@ pub record IsClosed (query : AxfrQuery) (records : List Record) : Type 0 where
 
 -- The stream is a transfer, of some records.
 abbrev pub IsWholeTransfer : AxfrQuery → List ℕ → Type 0
-IsWholeTransfer query stream = (records : List Record) × IsTransferIn WrittenOut query stream records
+IsWholeTransfer query stream = (records : List Record) × IsTransfer query stream records
 
 -- The whole messages of the stream keep the rules of a transfer, and no last SOA has come.
 pub record IsBegun (query : AxfrQuery) (stream : List ℕ) : Type 0 where
@@ -37,7 +39,7 @@ pub record IsBegun (query : AxfrQuery) (stream : List ℕ) : Type 0 where
   pub rest : List ℕ
   pub splits : Splits stream messages rest
   pub groups : List (List Record)
-  pub answers : AreAnswers WrittenOut query true messages groups
+  pub answers : AreAnswers query true messages groups
   pub still_open : IsOpen query (joined groups)
 
 -- the first record is the SOA of the query's name
@@ -54,22 +56,26 @@ KeepsLastRule (soa ∷ others) r = r.rtype ≡ soa_type → SameSoa soa r
 -- order of the cases. Records are counted from 1.
 abbrev pub IsRecordFault : AxfrQuery → List Record → List ℕ → ℕ → ReceiveError → Type 0
 IsRecordFault query front message place (receive_error.Record n) =
-    (n ≡ length front + 1) × ((r : Record) (next : ℕ) → HasRecord WrittenOut message place r next → ⊥)
+    (n ≡ length front + 1) × ((r : Record) (next : ℕ) → ReadsRecord message place r next → ⊥)
 IsRecordFault query front message place receive_error.FirstNotSoa =
-    (r : Record) × (next : ℕ) × HasRecord WrittenOut message place r next × (KeepsFirstRule query front r → ⊥)
+    (r : Record) × (next : ℕ) × ReadsRecord message place r next × (KeepsFirstRule query front r → ⊥)
 IsRecordFault query front message place (receive_error.Class n) =
-    (n ≡ length front + 1) × (r : Record) × (next : ℕ) × HasRecord WrittenOut message place r next
+    (n ≡ length front + 1) × (r : Record) × (next : ℕ) × ReadsRecord message place r next
     × KeepsFirstRule query front r × (r.class ≢ query.class)
 IsRecordFault query front message place (receive_error.OutOfZone n) =
-    (n ≡ length front + 1) × (r : Record) × (next : ℕ) × HasRecord WrittenOut message place r next
+    (n ≡ length front + 1) × (r : Record) × (next : ℕ) × ReadsRecord message place r next
     × KeepsFirstRule query front r × (r.class ≡ query.class) × (IsUnder query.name r.owner → ⊥)
 IsRecordFault query front message place (receive_error.SoaDiffers n) =
-    (n ≡ length front + 1) × (r : Record) × (next : ℕ) × HasRecord WrittenOut message place r next
+    (n ≡ length front + 1) × (r : Record) × (next : ℕ) × ReadsRecord message place r next
     × KeepsFirstRule query front r × (r.class ≡ query.class) × IsUnder query.name r.owner × (KeepsLastRule front r → ⊥)
 IsRecordFault query front message place (receive_error.AfterLast n) =
-    (n ≡ length front + 1) × (r : Record) × (next : ℕ) × HasRecord WrittenOut message place r next
+    (n ≡ length front + 1) × (r : Record) × (next : ℕ) × ReadsRecord message place r next
     × KeepsFirstRule query front r × (r.class ≡ query.class) × IsUnder query.name r.owner × KeepsLastRule front r
     × IsClosed query front
+IsRecordFault query front message place (receive_error.Unspellable n) =
+    (n ≡ length front + 1) × (r : Record) × (next : ℕ) × ReadsRecord message place r next
+    × KeepsFirstRule query front r × (r.class ≡ query.class) × IsUnder query.name r.owner × KeepsLastRule front r
+    × (IsClosed query front → ⊥) × (IsSpellable r.rtype r.rdata → ⊥)
 IsRecordFault query front message place (receive_error.Query why) = ⊥
 IsRecordFault query front message place receive_error.Short = ⊥
 IsRecordFault query front message place receive_error.Id = ⊥
@@ -87,8 +93,8 @@ pub record KeepsRulesTo (query : AxfrQuery) (front : List Record) (first : Bool)
     : Type 0 where
   pub header : HasAnswerHeader query message
   pub start : ℕ
-  pub asked : AsksAgain WrittenOut query first message start
-  pub spelled : SpellsRecords WrittenOut message start group place
+  pub asked : AsksAgain query first message start
+  pub spelled : SpellsRecords message start group place
   pub lawful : IsOpen query (front ++ group) ⊎ IsClosed query (front ++ group)
 
 -- The first rule that the message breaks: the rules of the header and the question, then those of each record in order, and
@@ -107,7 +113,7 @@ IsMessageFault query front first message receive_error.Counts =
     (12 ≤ length message) × (id_of message ≡ query.id) × (is_response message ≡ true) × (opcode_of message ≡ 0)
     × (rcode_of message ≡ 0) × (CountsAnswers message → ⊥)
 IsMessageFault query front first message receive_error.Question =
-    HasAnswerHeader query message × ((place : ℕ) → AsksAgain WrittenOut query first message place → ⊥)
+    HasAnswerHeader query message × ((place : ℕ) → AsksAgain query first message place → ⊥)
 IsMessageFault query front first message receive_error.Trailing =
     (group : List Record) × (place : ℕ) × KeepsRulesTo query front first message group place
     × (length group ≡ answer_count message) × (place ≢ length message)
@@ -128,7 +134,7 @@ pub record HasBadMessage (query : AxfrQuery) (stream : List ℕ) (error : Receiv
   pub behind : List ℕ
   pub whole : stream ≡ frames messages ++ (frame bad ++ behind)
   pub groups : List (List Record)
-  pub answers : AreAnswers WrittenOut query true messages groups
+  pub answers : AreAnswers query true messages groups
   pub still_open : IsOpen query (joined groups)
   pub fault : IsMessageFault query (joined groups) (is_first messages) bad error
 
@@ -139,27 +145,73 @@ IsStreamFault query stream receive_error.Unfinished = ⊥
 IsStreamFault query stream receive_error.OutOfMemory = ⊤
 IsStreamFault query stream error = HasBadMessage query stream error
 
--- What a receiver is: the query, the octets that it took, and the refusal that it keeps.
+-- how far a stream has come
+pub data Stage : Type 0 where
+  -- no message has come whole
+  Fresh : Stage
+  -- a message has come whole, and no last SOA
+  Begun : Stage
+  -- the last SOA has come
+  Ended : Stage
+  -- a message broke a rule, or memory was refused
+  Refused : ReceiveError → Stage
+
+-- where no last SOA is in the messages that have come whole
+abbrev pub stage_of : List (List ℕ) → Stage
+stage_of [] = Fresh
+stage_of (message ∷ messages) = Begun
+
+-- the refusal that is kept
+abbrev pub refusal_in : Stage → Option ReceiveError
+refusal_in Fresh = None
+refusal_in Begun = None
+refusal_in Ended = None
+refusal_in (Refused error) = Some error
+
+-- What a receiver is: the query, the records so far, the octets of the frame that is open, and how far the stream has come.
 pub record Heard : Type 0 where
   pub query : AxfrQuery
-  pub octets : List ℕ
-  pub kept : Option ReceiveError
+  pub records : List Record
+  pub open_frame : List ℕ
+  pub stage : Stage
 
--- A piece is taken up to the n-th octet: up to the end of the transfer, or else all of it.
-pub record Takes (old : Heard) (piece : List ℕ) (new : Heard) (n : ℕ) : Type 0 where
-  pub free : old.kept ≡ None
+-- The stream is whole messages that keep the rules of a transfer, with the records so far and no last SOA, and then the
+-- frame that is open.
+pub record IsHeard (heard : Heard) (stream : List ℕ) : Type 0 where
+  pub messages : List (List ℕ)
+  pub splits : Splits stream messages heard.open_frame
+  pub groups : List (List Record)
+  pub answers : AreAnswers heard.query true messages groups
+  pub joins : joined groups ≡ heard.records
+  pub still_open : IsOpen heard.query heard.records
+  pub stage : heard.stage ≡ stage_of messages
+
+-- The receiver stands at the stream: what it holds is what these octets make of it. (A refused stream has the piece in it
+-- that was refused.)
+abbrev pub StandsIn : Stage → Heard → List ℕ → Type 0
+StandsIn Fresh heard stream = IsHeard heard stream
+StandsIn Begun heard stream = IsHeard heard stream
+StandsIn Ended heard stream = (heard.open_frame ≡ []) × IsTransfer heard.query stream heard.records
+StandsIn (Refused error) heard stream = IsStreamFault heard.query stream error
+
+abbrev pub StandsAt : Heard → List ℕ → Type 0
+StandsAt heard stream = StandsIn heard.stage heard stream
+
+-- A piece behind the stream is taken up to the n-th octet: up to the end of the transfer, or else all of it.
+pub record Takes (old : Heard) (stream piece : List ℕ) (new : Heard) (n : ℕ) : Type 0 where
+  pub free : refusal_in old.stage ≡ None
   pub query : new.query ≡ old.query
-  pub kept : new.kept ≡ None
+  pub kept : refusal_in new.stage ≡ None
   pub within : n ≤ length piece
-  pub octets : new.octets ≡ old.octets ++ take n piece
-  pub stands : IsWholeTransfer old.query new.octets ⊎ (IsBegun old.query new.octets × (n ≡ length piece))
+  pub stands : StandsAt new (stream ++ take n piece)
+  pub ends : (new.stage ≡ Ended) ⊎ ((new.stage ≢ Ended) × (n ≡ length piece))
 
--- A piece is refused: again, where a refusal is kept, and else by the rule that the stream breaks with it. The refusal is
--- kept from then on.
-pub record Refuses (old : Heard) (piece : List ℕ) (new : Heard) (error : ReceiveError) : Type 0 where
+-- A piece behind the stream is refused: again, where a refusal is kept, and else by the rule that the stream breaks with it.
+-- The refusal is kept from then on.
+pub record Refuses (old : Heard) (stream piece : List ℕ) (new : Heard) (error : ReceiveError) : Type 0 where
   pub query : new.query ≡ old.query
-  pub kept : new.kept ≡ Some error
-  pub why : (old.kept ≡ Some error) ⊎ ((old.kept ≡ None) × IsStreamFault old.query (old.octets ++ piece) error)
+  pub kept : new.stage ≡ Refused error
+  pub why : ((old.stage ≡ Refused error) × (new ≡ old)) ⊎ ((refusal_in old.stage ≡ None) × IsStreamFault old.query (stream ++ piece) error)
 
 -- Why there is no receiver: the query breaks a rule. (Nothing is said of memory.)
 abbrev pub IsAskFault : List ℕ → ReceiveError → Type 0
@@ -178,11 +230,12 @@ IsAskFault message (receive_error.Class n) = ⊥
 IsAskFault message (receive_error.OutOfZone n) = ⊥
 IsAskFault message (receive_error.SoaDiffers n) = ⊥
 IsAskFault message (receive_error.AfterLast n) = ⊥
+IsAskFault message (receive_error.Unspellable n) = ⊥
 IsAskFault message receive_error.Trailing = ⊥
 IsAskFault message receive_error.Unfinished = ⊥
 
 -- Why there is no zone: the refusal that is kept, or the stream is only begun.
-abbrev pub IsNoZone : Heard → ReceiveError → Type 0
-IsNoZone heard error =
-    (heard.kept ≡ Some error)
-    ⊎ ((error ≡ receive_error.Unfinished) × (heard.kept ≡ None) × IsBegun heard.query heard.octets)
+abbrev pub IsNoZone : Heard → List ℕ → ReceiveError → Type 0
+IsNoZone heard stream error =
+    (heard.stage ≡ Refused error)
+    ⊎ ((error ≡ receive_error.Unfinished) × (refusal_in heard.stage ≡ None) × IsBegun heard.query stream)

@@ -11,9 +11,9 @@ use Rattle.zone_core.specs.Query.{AxfrQuery, question_of}
 use Rattle.zone_core.specs.Frames.{frames}
 use Rattle.zone_core.specs.Sent.{message, size, with_soa_again}
 use Rattle.zone_core.specs.Cutting.{IsFullCut, IsBlocked, FitsNotBehind}
-use Rattle.zone_core.specs.declared.sender.Sender.{Sender}
-use Rattle.zone_core.specs.declared.send_error.SendError.{SendError}
-use Rattle.zone_core.specs.declared.send_error.SendError.TheVariants as send_error
+use Rattle.zone_core.specs.declared.sending.plain.Sender.{Sender}
+use Rattle.zone_core.specs.declared.sending.error.SendError.{SendError}
+use Rattle.zone_core.specs.declared.sending.error.SendError.TheVariants as send_error
 
 -- a message in front of its count of answers, and what stands between that count and the records
 abbrev pub before_count : AxfrQuery → List ℕ

@@ -6,11 +6,9 @@ use Rattle.dns_header.specs.Header.{answer_header}
 use Rattle.dns_header.specs.Question.{question_octets}
 use Rattle.dns_message.specs.Record.{record_octets}
 use Rattle.zone_octets.specs.Record.{Record}
-use Rattle.zone_core.specs.Query.{AxfrQuery, IsQuery, IsQueryFault, question_of}
+use Rattle.zone_core.specs.Query.{AxfrQuery, question_of}
 use Rattle.zone_core.specs.Frames.{frames}
-use Rattle.zone_core.specs.Cutting.{IsFullCut, IsBlocked}
-use Rattle.zone_core.specs.declared.send_error.SendError.{SendError}
-use Rattle.zone_core.specs.declared.send_error.SendError.TheVariants as send_error
+use Rattle.zone_core.specs.Cutting.{IsFullCut}
 
 -- the message that carries a group of records: the header, the query's question, and the records
 abbrev pub message : AxfrQuery → List Record → List ℕ
@@ -36,16 +34,6 @@ pub record IsSent (records : List Record) (query : AxfrQuery) (max : ℕ) (strea
 pub record AsksFor (query : AxfrQuery) (apex : List (List ℕ)) (class : ℕ) : Type 0 where
   pub name : low query.name ≡ low apex
   pub class_is : query.class ≡ class
-
--- Why nothing is sent, by the first rule in the order of the variants: the query breaks a rule, it asks for another zone,
--- or a record is blocked. (Nothing is said of memory.)
-abbrev pub IsSendFault : List Record → List (List ℕ) → ℕ → List ℕ → ℕ → SendError → Type 0
-IsSendFault records apex class octets max (send_error.Query fault) = IsQueryFault octets fault
-IsSendFault records apex class octets max send_error.WrongZone =
-    (query : AxfrQuery) × IsQuery octets query × (AsksFor query apex class → ⊥)
-IsSendFault records apex class octets max (send_error.Record n) =
-    (query : AxfrQuery) × IsQuery octets query × AsksFor query apex class × IsBlocked (size query) max (with_soa_again records) n
-IsSendFault records apex class octets max send_error.OutOfMemory = Unit {0}
 
 -- A query that asks for the zone, and whose values are what a message can say.
 pub record IsQueryFor (records : List Record) (class : ℕ) (query : AxfrQuery) : Type 0 where

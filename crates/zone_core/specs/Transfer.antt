@@ -3,32 +3,15 @@ use Rattle.std.specs.Prelude.{◌≡◌, ◌≢◌, ◌≤◌, ◌⊎◌, ℕ, B
 use Rattle.std.specs.List.{AllByRecursion}
 use Rattle.dns_label.specs.Name.{low}
 use Rattle.dns_header.specs.Header.{is_response, opcode_of, rcode_of, question_count, answer_count, authority_count, additional_count, id_of}
-use Rattle.dns_header.specs.Question.{Question, ReadsQuestion, ReadsPlainQuestion}
-use Rattle.dns_message.specs.Record.{ReadsRecord, ReadsPlainRecord}
+use Rattle.dns_header.specs.Question.{Question, ReadsQuestion}
+use Rattle.dns_message.specs.Record.{ReadsRecord}
 use Rattle.zone_octets.specs.Record.{Record}
 use Rattle.dns_rdata.specs.DataOctets.{IsSpellable}
-use Rattle.zone_octets.specs.Records.{IsTypeToday, SameSoa}
+use Rattle.zone_octets.specs.Records.{SameSoa}
 use Rattle.zone_octets.specs.Zone.{IsUnder, axfr_type, soa_type}
 use Rattle.zone_core.specs.Query.{AxfrQuery}
 use Rattle.zone_core.specs.Frames.{frames, IsFramable}
 use Rattle.zone_core.specs.Cutting.{joined}
-
--- The forms of messages that are spoken of: the standard's, in which names may have pointers (at most 255 each, a bound of
--- our own), and what is received today, which is messages with every name written out and with records of the types SOA and
--- A alone.
-pub data Form : Type 0 where
-  Standard : Form
-  WrittenOut : Form
-
--- The message of the form has the question at a place, and `next` is the place behind it.
-abbrev pub HasQuestion : Form → List ℕ → ℕ → Question → ℕ → Type 0
-HasQuestion Standard message place q next = ReadsQuestion message place q next
-HasQuestion WrittenOut message place q next = ReadsPlainQuestion message place q next
-
--- the same of a record
-abbrev pub HasRecord : Form → List ℕ → ℕ → Record → ℕ → Type 0
-HasRecord Standard message place r next = ReadsRecord message place r next
-HasRecord WrittenOut message place r next = ReadsPlainRecord message place r next × IsTypeToday r.rtype
 
 -- the question is the query's, its name up to ASCII case
 pub record IsQuestionOf (query : AxfrQuery) (q : Question) : Type 0 where
@@ -38,16 +21,16 @@ pub record IsQuestionOf (query : AxfrQuery) (q : Question) : Type 0 where
 
 -- The message has the query's question and the place is behind it, or has none and the place is behind the header. The
 -- first message has one.
-abbrev pub AsksAgain : Form → AxfrQuery → Bool → List ℕ → ℕ → Type 0
-AsksAgain form query first message place =
+abbrev pub AsksAgain : AxfrQuery → Bool → List ℕ → ℕ → Type 0
+AsksAgain query first message place =
     ((first ≡ false) × (question_count message ≡ 0) × (place ≡ 12))
-    ⊎ ((question_count message ≡ 1) × (q : Question) × HasQuestion form message 12 q place × IsQuestionOf query q)
+    ⊎ ((question_count message ≡ 1) × (q : Question) × ReadsQuestion message 12 q place × IsQuestionOf query q)
 
 -- the message spells the records one behind the other, and `next` is the place behind the last
-pub data SpellsRecords (form : Form) (message : List ℕ) : ℕ → List Record → ℕ → Type 0 where
-  none : {place : ℕ} → SpellsRecords form message place [] place
-  one : {place next : ℕ} {r : Record} {records : List Record} (behind : ℕ) → HasRecord form message place r behind
-      → SpellsRecords form message behind records next → SpellsRecords form message place (r ∷ records) next
+pub data SpellsRecords (message : List ℕ) : ℕ → List Record → ℕ → Type 0 where
+  none : {place : ℕ} → SpellsRecords message place [] place
+  one : {place next : ℕ} {r : Record} {records : List Record} (behind : ℕ) → ReadsRecord message place r behind
+      → SpellsRecords message behind records next → SpellsRecords message place (r ∷ records) next
 
 -- what a message with answers alone counts, and at most one question
 pub record CountsAnswers (message : List ℕ) : Type 0 where
@@ -65,20 +48,20 @@ pub record HasAnswerHeader (query : AxfrQuery) (message : List ℕ) : Type 0 whe
   pub counts : CountsAnswers message
 
 -- An answer to the query that carries these records and nothing else.
-pub record IsAnswer (form : Form) (query : AxfrQuery) (first : Bool) (message : List ℕ) (records : List Record) : Type 0 where
+pub record IsAnswer (query : AxfrQuery) (first : Bool) (message : List ℕ) (records : List Record) : Type 0 where
   pub header : HasAnswerHeader query message
   pub place : ℕ
-  pub asked : AsksAgain form query first message place
+  pub asked : AsksAgain query first message place
   pub counted : answer_count message ≡ length records
-  pub spelled : SpellsRecords form message place records (length message)
+  pub spelled : SpellsRecords message place records (length message)
 
 -- each message is an answer with its group of records
-abbrev pub AreAnswers : Form → AxfrQuery → Bool → List (List ℕ) → List (List Record) → Type 0
-AreAnswers form query first [] [] = Unit {0}
-AreAnswers form query first [] (group ∷ groups) = ⊥
-AreAnswers form query first (message ∷ messages) [] = ⊥
-AreAnswers form query first (message ∷ messages) (group ∷ groups) =
-    IsAnswer form query first message group × AreAnswers form query false messages groups
+abbrev pub AreAnswers : AxfrQuery → Bool → List (List ℕ) → List (List Record) → Type 0
+AreAnswers query first [] [] = Unit {0}
+AreAnswers query first [] (group ∷ groups) = ⊥
+AreAnswers query first (message ∷ messages) [] = ⊥
+AreAnswers query first (message ∷ messages) (group ∷ groups) =
+    IsAnswer query first message group × AreAnswers query false messages groups
 
 -- what holds of every record of a transfer
 pub record IsInZoneOf (query : AxfrQuery) (r : Record) : Type 0 where
@@ -100,12 +83,12 @@ ClosesTransfer (soa ∷ others) last = (last.rtype ≡ soa_type) × SameSoa soa 
 
 -- The stream is whole frames, each an answer to the query. Their records are these and the SOA again, which is the last
 -- record of the last message.
-pub record IsTransferIn (form : Form) (query : AxfrQuery) (stream : List ℕ) (records : List Record) : Type 0 where
+pub record IsTransfer (query : AxfrQuery) (stream : List ℕ) (records : List Record) : Type 0 where
   pub messages : List (List ℕ)
   pub each : AllByRecursion IsFramable messages
   pub whole : stream ≡ frames messages
   pub groups : List (List Record)
-  pub answers : AreAnswers form query true messages groups
+  pub answers : AreAnswers query true messages groups
   pub last : Record
   pub front : List (List Record)
   pub last_group : List Record
@@ -120,14 +103,6 @@ IsFirst [] last = ⊥
 IsFirst (soa ∷ others) last = last ≡ soa
 
 -- A transfer whose last SOA is the first record again octet for octet, and not only up to the case of its names.
-pub record IsExactTransferIn (form : Form) (query : AxfrQuery) (stream : List ℕ) (records : List Record) : Type 0 where
-  pub transfer : IsTransferIn form query stream records
+pub record IsExactTransfer (query : AxfrQuery) (stream : List ℕ) (records : List Record) : Type 0 where
+  pub transfer : IsTransfer query stream records
   pub again : IsFirst records transfer.last
-
--- a transfer as the standard has it
-abbrev pub IsTransfer : AxfrQuery → List ℕ → List Record → Type 0
-IsTransfer query stream records = IsTransferIn Standard query stream records
-
--- and one with the last SOA octet for octet
-abbrev pub IsExactTransfer : AxfrQuery → List ℕ → List Record → Type 0
-IsExactTransfer query stream records = IsExactTransferIn Standard query stream records

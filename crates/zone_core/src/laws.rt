@@ -13,15 +13,13 @@ pub use cutting::{
     full_cut_is_one, parts_fit_where_size_grows, plain_full_cut_is_fewest, sum_of_sizes_grows,
 };
 pub use framing::two_splits_are_one;
-pub use query::{one_query_fault, query_asks_one_thing, query_breaks_no_rule};
-pub use received::{
-    at_most_one_of_three, one_of_three, received_is_sent_again, sent_is_received,
-    transfers_are_one, written_out_is_standard,
-};
+pub use query::{made_query_is_read, one_query_fault, query_asks_one_thing, query_breaks_no_rule};
+pub use received::{at_most_one_of_three, one_of_three, received_is_sent_again, transfers_are_one};
 pub use sent::sent_is_a_transfer;
 pub use spelled::{
     free_messages_are_no_fewer, hash_full_cut_is_fewest, message_octets_are_a_sum,
-    tree_full_cut_is_fewest, written_records_have_names,
+    spelled_is_a_transfer, spelled_is_sent_again, tree_full_cut_is_fewest,
+    written_records_have_names,
 };
 pub use zone_rules::laws::{
     one_zone_fault, opaque_data_is_the_same, printed_text_is_the_zones,

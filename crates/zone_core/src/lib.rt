@@ -8,12 +8,9 @@ pub mod laws;
 mod query;
 mod query_error;
 mod receive;
-mod send_error;
-mod sender;
-mod transfer;
+mod sending;
 
-pub use query::{Query, check_query};
+pub use query::{Query, axfr_query, check_query};
 pub use query_error::QueryError;
 pub use receive::{ReceiveError, Receiver};
-pub use send_error::SendError;
-pub use transfer::{Spelling, send, send_into};
+pub use sending::{SendError, Spelling, send, send_into};

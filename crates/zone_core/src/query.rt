@@ -1,11 +1,11 @@
 //! Queries for a zone's transfer.
-ghost use Rattle.std.specs.Prelude.{◌≡◌, ◌+◌, ◌≤◌, ◌↔◌, ℕ, length, IsTrue, IfOk, IfErr, OnErr};
+ghost use Rattle.std.specs.Prelude.{◌≡◌, ◌+◌, ◌≤◌, ◌↔◌, ℕ, false, length, IsTrue, IfOk, IfErr, OnErr};
 ghost use Rattle.dns_name.specs.ParsedName.{labels_of};
 ghost use Rattle.dns_header.specs.Header as header;
 ghost use Rattle.dns_header.specs.Question as spec;
 ghost use Rattle.dns_header.specs.Question.{ReadsQuestion};
 ghost use Rattle.zone_core.specs.Asked.{asked_by, asked_of, question_by};
-ghost use Rattle.zone_core.specs.Query.{AsksOne, IsQuery, IsQueryFault};
+ghost use Rattle.zone_core.specs.Query.{AsksOne, IsQuery, IsQueryFault, query_octets};
 
 use crate::query_error::QueryError;
 use dns_name::{Class, Name, ParseError, ParsedName, Parser, Rtype, ToName};
@@ -23,10 +23,10 @@ pub struct Query<'a> {
 
 /// What a message asks, with the name where it stands.
 #[derive(Drop)]
-struct Question<'a> {
-    name: ParsedName<&'a [u8]>,
-    qtype: Rtype,
-    qclass: Class,
+pub(crate) struct Question<'a> {
+    pub(crate) name: ParsedName<&'a [u8]>,
+    pub(crate) qtype: Rtype,
+    pub(crate) qclass: Class,
 }
 
 impl<'a> Query<'a> {
@@ -119,6 +119,26 @@ pub fn check_query(octets: &[u8]) -> Result<Query<'_>, QueryError>
     })
 }
 
+/// Returns the query for the transfer of the zone of this name and class, with all flags clear (RFC 5936 2.1). Fails if out of
+/// memory.
+pub fn axfr_query(
+    alloc: Global,
+    id: u16,
+    class: Class,
+    name: &Name<&[u8]>,
+) -> Result<Vec<u8>, AllocError>
+    ensures { IfOk result (λ query. query.items
+        ≡ query_octets (record { id = id; recursion = false; name = name.now; class = class })) }
+{
+    let mut query = Vec::with_capacity(alloc, 12 + name.len() + 4)?;
+    query.extend_from_slice(&id.to_be_bytes())?;
+    query.extend_from_slice(&[0, 0, 0, 1, 0, 0, 0, 0, 0, 0])?;
+    query.extend_from_slice(name.as_slice())?;
+    query.extend_from_slice(&Rtype::AXFR.to_int().to_be_bytes())?;
+    query.extend_from_slice(&class.to_int().to_be_bytes())?;
+    Ok(query)
+}
+
 /// Whether a message counts one question and no record.
 fn asks_one(octets: &[u8]) -> bool
     requires { 12 ≤ length octets.now }
@@ -131,7 +151,7 @@ fn asks_one(octets: &[u8]) -> bool
 }
 
 /// The question behind a header, and the place behind it.
-fn read_question(octets: &[u8]) -> Result<(Question<'_>, usize), ParseError>
+pub(crate) fn read_question(octets: &[u8]) -> Result<(Question<'_>, usize), ParseError>
     requires { 12 ≤ length octets.now }
     ensures ok { IfOk result (λ found. ReadsQuestion octets.now 12 (question_by found.0) found.1) }
     ensures err { OnErr result ((q : spec.Question) (next : ℕ) → ReadsQuestion octets.now 12 q next → ⊥) }

@@ -1,6 +1,8 @@
 //! The program `zonewire`: zone files to the streams of their transfers, and back.
 #![tactic(auto)]
 
+#[cfg(test)]
+mod tests;
 mod unasked;
 
 use std::alloc::AllocError;

@@ -8,10 +8,11 @@ pub mod Patched
 pub mod SoaOctets
 pub mod ToldEqual
 mod SoaRows
-mod TypedData
 mod SameSoas
-mod ReadData
+pub mod ReadData
 pub mod StoredRecords
 pub mod SpellableData
 pub mod WrittenData
+pub mod WrittenRecords
+pub mod RecordOctets
 pub mod CheckedData

@@ -52,6 +52,14 @@ module _ (Octs N : Type 0) where
   all_made : AllZip Makes table makers
   all_made = (λ _. refl, (λ _. refl, (λ _. refl, (λ _. refl, (λ _. refl, (λ _. refl, (λ _. refl, (λ _. refl, (λ _. refl, (λ _. refl, (λ _. refl, (λ _. refl, (λ _. refl, (λ _. refl, (λ _. refl, (λ _. refl, (λ _. refl, (λ _. refl, (λ _. refl, (λ _. refl, tt))))))))))))))))))))
 
+  -- so each data that a message has is what some value is seen as
+  pub value_of_read : (message : List ℕ) (place rtype : ℕ) (found : Data) → ReadsData message place rtype found
+      → (value : ZoneRecordData Octs N) × (data_of value ≡ found)
+  value_of_read message place rtype (rdata.typed number row) reads =
+      let value = made table makers all_made rtype (named table rtype (map kind_of row) reads.1.is_row.kinds) row in
+      (value.0, value.1 ∙ ap (λ n. rdata.typed n row) (sym reads.0))
+  value_of_read message place rtype (rdata.untyped unknown) reads = (Unknown unknown, refl)
+
   -- data of a type is read as some data
   data_read : (rtype : ℕ) (data' : List ℕ) → IsData rtype data' → (value : ZoneRecordData Octs N) × ReadsData data' 0 rtype (data_of value)
   data_read rtype data' (fields.typed row is are) =

@@ -2,8 +2,6 @@
 use Rattle.std.proofs.Common.{◌≡◌, ℕ, ◌+◌, ◌*◌, ◌<◌, ◌^◌, zero, suc, List, [], ◌∷◌, ◌++◌, length, map, get_or, Some, None, refl, sym, ap, ◌∙◌, arith, length-append}
 use Rattle.std.specs.Int.{to_be_bytes, from_be_bytes, w32}
 use Rattle.std.specs.List.{AllByRecursion, flat_map}
-use Rattle.std.proofs.lemmas.Nat.{be_bytes_4}
-use Rattle.std.proofs.lemmas.List.{get_or-append-add}
 use Rattle.dns_label.specs.Name.{IsName, wire}
 use Rattle.dns_rdata.specs.Fields.{Kind, Field, IsField, IsRow, IsData, kind_of, kinds_of, field_octets, octets}
 use Rattle.dns_rdata.specs.Fields.Kind.{Compressible, Number32}
@@ -136,108 +134,7 @@ soa_of_row data' row fields is = record {
   long = omega (arith, numbers_long fields.numbers, fields.five);
 }
 
--- octets begin with a number where there are four
-record NumberFront (numbers : List ℕ) (more : ℕ) : Type 0 where
-  number : ℕ
-  rest : List ℕ
-  small : number < 2 ^ 32
-  is : numbers ≡ to_be_bytes w32 number ++ rest
-  long : length rest ≡ more
-  each : (i : ℕ) → get_or rest i 0 < 256
-
-four_octets : (a b c d : ℕ) → a < 256 → b < 256 → c < 256 → d < 256 → (i : ℕ) → get_or (a ∷ b ∷ c ∷ d ∷ []) i 0 < 256
-four_octets a b c d first second third fourth zero = first
-four_octets a b c d first second third fourth (suc zero) = second
-four_octets a b c d first second third fourth (suc (suc zero)) = third
-four_octets a b c d first second third fourth (suc (suc (suc zero))) = fourth
-four_octets a b c d first second third fourth (suc (suc (suc (suc i)))) = omega arith
-
-number_front : (numbers : List ℕ) (more : ℕ) → length numbers ≡ 4 + more → ((i : ℕ) → get_or numbers i 0 < 256) → NumberFront numbers more
-number_front [] more long each = absurd (omega arith)
-number_front (a ∷ []) more long each = absurd (omega arith)
-number_front (a ∷ b ∷ []) more long each = absurd (omega arith)
-number_front (a ∷ b ∷ c ∷ []) more long each = absurd (omega arith)
-number_front (a ∷ b ∷ c ∷ d ∷ rest) more long each =
-    let first : a < 256 = each 0 in
-    let second : b < 256 = each 1 in
-    let third : c < 256 = each 2 in
-    let fourth : d < 256 = each 3 in
-    let front : List ℕ = a ∷ b ∷ c ∷ d ∷ [] in
-    let same : to_be_bytes w32 (from_be_bytes w32 front) ≡ front =
-    be_bytes_4 front (from_be_bytes w32 front) refl (four_octets a b c d first second third fourth) refl in
-    record {
-      number = from_be_bytes w32 front;
-      rest = rest;
-      small = omega arith;
-      is = ap (λ l. l ++ rest) (sym same);
-      long = omega arith;
-      each = λ i. each (suc (suc (suc (suc i))));
-    }
-
--- So octets are as many numbers as they have fours.
-record NumbersOf (octets : List ℕ) (count : ℕ) : Type 0 where
-  numbers : List ℕ
-  small : AreSmall numbers
-  long : length numbers ≡ count
-  are : octets ≡ flat_map (to_be_bytes w32) numbers
-
-numbers_of : (text : List ℕ) (count : ℕ) → length text ≡ 4 * count → ((i : ℕ) → get_or text i 0 < 256) → NumbersOf text count
-numbers_of [] zero long each = record { numbers = []; small = tt; long = refl; are = refl }
-numbers_of (octet ∷ text) zero long each = absurd (omega arith)
-numbers_of text (suc count) long each =
-    let first = number_front text (4 * count) (omega arith) each in
-    let others = numbers_of first.rest count first.long first.each in
-    record {
-      numbers = first.number ∷ others.numbers;
-      small = (first.small, others.small);
-      long = omega (arith, others.long);
-      are = first.is ∙ ap (λ l. to_be_bytes w32 first.number ++ l) others.are;
-    }
-
-number_kinds : (numbers : List ℕ) (kinds : List Kind) → AllByRecursion (λ kind. kind ≡ Number32) kinds
-    → length numbers ≡ length kinds → kinds ≡ map kind_of (map number32 numbers)
-number_kinds [] [] all long = refl
-number_kinds [] (kind ∷ kinds) all long = absurd (omega arith)
-number_kinds (n ∷ numbers) [] all long = absurd (omega arith)
-number_kinds (n ∷ numbers) (kind ∷ kinds) all long =
-    let first = all.0 in
-    let others = number_kinds numbers kinds all.1 (omega arith) in cc
-
-are_fields : (numbers : List ℕ) → AreSmall numbers → AllByRecursion IsField (map number32 numbers)
-are_fields [] small = tt
-are_fields (n ∷ numbers) small = (small.0, are_fields numbers small.1)
-
--- and such data are the octets of a row
-pub soa_data : (data' : List ℕ) (mname rname : List (List ℕ)) (numbers : List ℕ) → ((i : ℕ) → get_or data' i 0 < 256)
-    → IsSoaOf data' mname rname numbers → IsData soa_type data'
-soa_data data' mname rname numbers each is =
-    let behind : (i : ℕ) → get_or (wire rname ++ numbers) i 0 < 256 =
-    λ i. rw (← get_or-append-add (wire mname) (wire rname ++ numbers) i 0, ← is.whole) (each (length (wire mname) + i)) in
-    let last : (i : ℕ) → get_or numbers i 0 < 256 =
-    λ i. rw (← get_or-append-add (wire rname) numbers i 0) (behind (length (wire rname) + i)) in
-    let five = numbers_of numbers 5 is.long last in
-    let row : List Field = soa_row mname rname five.numbers in
-    let same : data' ≡ octets row =
-    is.whole ∙ ap (λ l. wire mname ++ (wire rname ++ l)) (five.are ∙ sym (numbers_octets five.numbers)) in
-    let kinds = number_kinds five.numbers (Number32 ∷ Number32 ∷ Number32 ∷ Number32 ∷ Number32 ∷ [])
-    (refl, (refl, (refl, (refl, (refl, tt))))) five.long in
-    let long : length (octets row) < 2 ^ 16 = omega (
-      arith,
-      ap length is.whole,
-      ap length same,
-      length-append (wire mname) (wire rname ++ numbers),
-      length-append (wire rname) numbers,
-      is.long,
-      is.mname_is.short,
-      is.rname_is.short,
-    ) in
-    typed row (record {
-      kinds = ap (λ l. Some (Compressible ∷ Compressible ∷ l)) kinds;
-      each = (is.mname_is, (is.rname_is, are_fields five.numbers five.small));
-      short = long;
-    }) same
-
--- and all such data are
+-- all such data are so
 pub soa_of_data : (data' : List ℕ) → IsData soa_type data'
     → (mname rname : List (List ℕ)) × (numbers : List ℕ) × IsSoaOf data' mname rname numbers
 soa_of_data data' (typed row is octets_are) =

@@ -1,9 +1,16 @@
--- Text can spell the data of the types that are received today.
-use Rattle.std.proofs.Common.{ℕ, List, inl, inr, arith}
+-- Text can spell data, or cannot.
+use Rattle.std.proofs.Common.{ℕ, List, inl, inr, slice_index}
+use Rattle.std.proofs.lemmas.Bool.{cases_eq}
 use Rattle.dns_rdata.specs.DataOctets.{IsSpellable}
-use Rattle.dns_message.proofs.Spellable.{spellable_unless_caa}
-use Rattle.zone_octets.specs.Records.{IsTypeToday}
+use Rattle.dns_rdata.specs.Fields.{IsData}
+use Rattle.dns_message.proofs.Spellable.{spellable_tag, spellable_unless_caa, tag_spellable}
+use Rattle.zone_octets.proofs.Decided.{Decided}
 
-pub today_is_spellable : (rtype : ℕ) (data' : List ℕ) → IsTypeToday rtype → IsSpellable rtype data'
-today_is_spellable rtype data' (inl soa) = spellable_unless_caa rtype data' (λ caa. absurd (omega (arith, soa, caa)))
-today_is_spellable rtype data' (inr address) = spellable_unless_caa rtype data' (λ caa. absurd (omega (arith, address, caa)))
+pub spellable_decided : (rtype : ℕ) (text : List ℕ) → IsData rtype text → Decided (IsSpellable rtype text)
+spellable_decided rtype text is = elim (cases_eq rtype 257) [
+  | inl caa ↦ elim (cases_eq (slice_index text 1) 0) [
+    | inl none ↦ inr (λ spelled. spellable_tag rtype text is spelled caa none)
+    | inr some ↦ inl (tag_spellable rtype text (λ _. some))
+  ]
+  | inr other ↦ inl (spellable_unless_caa rtype text other)
+]

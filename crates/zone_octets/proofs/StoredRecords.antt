@@ -16,6 +16,8 @@ use Rattle.dns_header.specs.Head.{after_length, fixed_octets}
 use Rattle.dns_message.specs.Record.{IsRecord, record_octets}
 use Rattle.zone_octets.specs.Record.{Record}
 use Rattle.zone_octets.specs.Stored.{IsStored, AreStored, record_in, record_with, records_at, starts}
+use Rattle.dns_rdata.proofs.Fronts.{same_fronts}
+use Rattle.zone_octets.proofs.Each.{all_fronts}
 use Rattle.zone_octets.proofs.Indexed.{element_at}
 use Rattle.zone_octets.proofs.NameFronts.{wire_fronts}
 use Rattle.zone_octets.proofs.RecordFronts.{behind_owner, record_regrouped}
@@ -121,6 +123,50 @@ stored_more octets places octets' places' records r are is whole at = record {
       at ∙ ap (λ l. places ++ length l ∷ []) are.whole ∙ ap (λ l. l ++ length (flat_map record_octets records) ∷ []) are.begin
       ∙ ap (λ n. starts 0 records ++ n ∷ []) (omega arith) ∙ sym (starts_more 0 records r);
 }
+
+-- one record less
+pub take_before_last : {X : Type 0} (front : List X) (last : X) → take (length (front ++ last ∷ []) - 1) (front ++ last ∷ []) ≡ front
+take_before_last front last =
+    let long : length (front ++ last ∷ []) - 1 ≡ length front = omega (arith, length-append front (last ∷ [])) in
+    ap (λ n. take n (front ++ last ∷ [])) long ∙ take-append_seam front (last ∷ [])
+
+pub last_of : {X : Type 0} (first : X) (others : List X) → (front : List X) × (last : X) × (first ∷ others ≡ front ++ last ∷ [])
+last_of first [] = ([], first, refl)
+last_of first (next ∷ others) = let rest = last_of next others in (first ∷ rest.0, rest.1, ap (λ l. first ∷ l) rest.2)
+
+one_less : (octets places kept : List ℕ) (place : ℕ) (front : List Record) (r : Record) → AreStored octets places (front ++ r ∷ [])
+    → places ≡ kept ++ place ∷ [] → AreStored (take place octets) kept front
+one_less octets places kept place front r are places_are =
+    let at : ℕ = 0 + length (flat_map record_octets front) in
+    let both : kept ++ place ∷ [] ≡ starts 0 front ++ at ∷ [] = sym places_are ∙ are.begin ∙ starts_more 0 front r in
+    let long : length kept ≡ length (starts 0 front) =
+    omega (arith, ap (length {A = ℕ}) both, length-append kept (place ∷ []), length-append (starts 0 front) (at ∷ [])) in
+    let parts = same_fronts kept (starts 0 front) (place ∷ []) (at ∷ []) long both in
+    let place_is : place ≡ at = let same = parts.1 in cc in
+    let place_at : place ≡ length (flat_map record_octets front) = omega (arith, place_is) in
+    let whole : octets ≡ flat_map record_octets front ++ record_octets r = are.whole ∙ sym (octets_more front r) in
+    let each = all_fronts IsRecord front (r ∷ []) are.each in
+    record {
+      each = each.0;
+      whole = ap (λ n. take n octets) place_at ∙ ap (take (length (flat_map record_octets front))) whole
+          ∙ take-append_seam (flat_map record_octets front) (record_octets r);
+      begin = parts.0;
+    }
+
+no_place_more : (kept : List ℕ) (place : ℕ) → [] ≡ kept ++ place ∷ [] → ⊥
+no_place_more [] place same = cc
+no_place_more (first ∷ kept) place same = cc
+
+pub stored_less : (octets places octets' places' : List ℕ) (place : ℕ) (records : List Record) → AreStored octets places records
+    → places ≡ places' ++ place ∷ [] → octets' ≡ take place octets → AreStored octets' places' (take (length records - 1) records)
+stored_less octets places octets' places' place [] are at cut = absurd (no_place_more places' place (sym are.begin ∙ at))
+stored_less octets places octets' places' place (first ∷ others) are at cut =
+    let last = last_of first others in
+    let less = one_less octets places places' place last.0 last.1 (subst (AreStored octets places) last.2 are) at in
+    let front : take (length (first ∷ others) - 1) (first ∷ others) ≡ last.0 =
+    ap (λ (l : List Record). take (length l - 1) l) last.2 ∙ take_before_last last.0 last.1 in
+    subst (λ (l : List ℕ). AreStored l places' (take (length (first ∷ others) - 1) (first ∷ others))) (sym cut)
+    (subst (AreStored (take place octets) places') (sym front) less)
 
 pub stored_none : (octets places : List ℕ) → octets ≡ [] → places ≡ [] → AreStored octets places []
 stored_none octets places none none' = record { each = tt; whole = none; begin = none' }

@@ -1,17 +1,13 @@
 -- What is known of the records of a zone.
-use Rattle.std.specs.Prelude.{◌≡◌, ◌⊎◌, ℕ, List, map}
+use Rattle.std.specs.Prelude.{◌≡◌, ℕ, List, map}
 use Rattle.dns_label.specs.Name.{low}
 use Rattle.dns_rdata.specs.Fields.{Field, IsRow, octets, lowered, IsData}
 use Rattle.dns_rdata.specs.DataOctets.{IsSpellable}
-use Rattle.zone_octets.specs.Zone.{IsZone, a_type, soa_type}
+use Rattle.zone_octets.specs.Zone.{IsZone, soa_type}
 use Rattle.std.specs.List.{AllByRecursion}
 pub use Rattle.dns_label.specs.Octets.{AreOctets}
 use Rattle.dns_message.specs.Record.{IsRecord}
 use Rattle.zone_octets.specs.Record.{Record}
-
--- the types that are received today
-abbrev pub IsTypeToday : ℕ → Type 0
-IsTypeToday rtype = (rtype ≡ soa_type) ⊎ (rtype ≡ a_type)
 
 -- two SOA records that are equal, names up to ASCII case
 pub record SameSoa (soa other : Record) : Type 0 where

@@ -1,23 +1,10 @@
-//! The data of records of the types that are received today, SOA and A.
+//! SOA records that are compared.
 ghost use Rattle.std.specs.Prelude.{◌≡◌, ◌↔◌, ℕ, IsTrue};
-ghost use Rattle.dns_rdata.specs.Fields.{IsData};
-ghost use Rattle.zone_octets.specs.Records.{IsRecordOf, IsTypeToday, SameSoa};
+ghost use Rattle.zone_octets.specs.Records.{IsRecordOf, SameSoa};
 ghost use Rattle.zone_octets.specs.Zone.{soa_type};
 
 use crate::record::Record;
 use crate::soa::SoaData;
-use dns_name::Rtype;
-
-/// Whether the octets are data of the type, which has to be SOA or A.
-pub fn is_data(rtype: Rtype, data: &[u8]) -> bool
-    ensures { IsTrue result ↔ (IsTypeToday rtype × IsData rtype «data».now) }
-{
-    if rtype == Rtype::A {
-        data.len() == 4
-    } else {
-        rtype == Rtype::SOA && SoaData::from_slice(data).is_some()
-    }
-}
 
 /// Whether two SOA records of one class are equal, names up to ASCII case.
 pub fn is_same_soa(soa: &Record<'_>, other: &Record<'_>) -> bool

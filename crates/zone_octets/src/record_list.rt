@@ -1,12 +1,24 @@
 //! Records one behind the other in memory.
-ghost use Rattle.std.specs.Prelude.{◌≡◌, ◌==◌, ◌<◌, ◌^◌, ◌++◌, ◌∷◌, [], List, length, slice_get, Some, OnOk, OnErr};
+ghost use Rattle.std.specs.Prelude.{◌≡◌, ◌==◌, ◌<◌, ◌-◌, ◌^◌, ◌++◌, ◌∷◌, [], List, length, take, slice_get, Some, OnOk, OnErr};
+ghost use Rattle.dns_header.specs.Record.{with_labels};
+ghost use Rattle.dns_message.specs.Held.{record_of};
 ghost use Rattle.dns_message.specs.Record.{IsRecord, record_octets};
+ghost use Rattle.dns_name.specs.ParsedName.{labels_of};
 ghost use Rattle.zone_octets.specs.Record as spec;
 ghost use Rattle.zone_octets.specs.Stored.{AreStored};
+ghost use Rattle.zone_octets.specs.Typed.{seen_of};
 
 use crate::record::Record;
+use dns_name::{AppendError, ParsedName};
+use dns_rdata::ZoneRecordData;
 use std::alloc::{AllocError, Global};
 use std::marker::Model;
+
+/// A record as a message has it. Its names may have pointers, and its data is in the fields of its type, or opaque.
+pub type MessageRecord<'a> = dns_header::Record<
+    ParsedName<&'a [u8]>,
+    ZoneRecordData<&'a [u8], ParsedName<&'a [u8]>>,
+>;
 
 /// Records in order, one behind the other in one vector, so that many of them need not a piece of memory each.
 #[derive(Debug, Drop)]
@@ -60,6 +72,35 @@ impl RecordList {
             return Err(error.into());
         }
         Ok(())
+    }
+
+    /// Adds a record of a message behind the others, with every name written out. Refused where a growth is, and then nothing is
+    /// changed.
+    pub fn push_from_message(&mut self, next: &MessageRecord<'_>) -> Result<(), AllocError>
+        requires { IsRecord (record_of (seen_of (with_labels labels_of next.now))) }
+        ensures ok { OnOk result (self.new ≡ self.old ++ record_of (seen_of (with_labels labels_of next.now)) ∷ []) }
+        ensures err { OnErr result (self.new ≡ self.old) }
+    {
+        let start = self.octets.len();
+        match next.compose(&mut self.octets) {
+            Ok(()) => {}
+            Err(AppendError::OutOfMemory) => return Err(AllocError),
+            Err(_) => unreachable!(),
+        }
+        if let Err(error) = self.places.push(start) {
+            self.octets.truncate(start);
+            return Err(error.into());
+        }
+        Ok(())
+    }
+
+    /// Takes the last record off. Where there is none, nothing is changed.
+    pub fn pop(&mut self)
+        ensures { self.new ≡ take (length self.old - 1) self.old }
+    {
+        if let Some(last) = self.places.pop() {
+            self.octets.truncate(last);
+        }
     }
 
     /// How many records there are.

@@ -58,7 +58,7 @@ abbrev max_rule : Rule
 max_rule = filled (number_option (codes "max"))
 
 abbrev spelling_rule : Choices → Rule
-spelling_rule spellings = filled (always (choice_option (codes "spelling") spellings))
+spelling_rule spellings = filled (choice_option (codes "spelling") spellings)
 
 -- the name of a query may be left out, and that of a zone that is received has to be there
 abbrev asked_rule : Rule

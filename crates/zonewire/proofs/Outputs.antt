@@ -6,11 +6,13 @@ use Rattle.zone_text.specs.View.{apex_of}
 use Rattle.zone_rules.specs.ZoneText.{IsZoneFault, IsZoneText}
 use Rattle.zone_rules.specs.declared.zone_error.ZoneError.{ZoneError}
 use Rattle.zone_rules.specs.declared.zone_error.ZoneError.TheVariants.{OutOfMemory as NoMemory}
-use Rattle.zone_core.specs.Sent.{IsSendFault}
-use Rattle.zone_core.specs.declared.send_error.SendError.{SendError}
-use Rattle.zone_core.specs.declared.send_error.SendError.TheVariants.{Query, WrongZone, Record as Blocked, OutOfMemory}
+use Rattle.zone_core.specs.SentBy.{IsSendFault}
+use Rattle.zone_core.specs.declared.sending.Spelling.{Spelling}
+use Rattle.zone_core.specs.declared.sending.error.SendError.{SendError}
+use Rattle.zone_core.specs.declared.sending.error.SendError.TheVariants.{Query, WrongZone, Record as Blocked, OutOfMemory}
 use Rattle.zonewire.specs.Fault.{of_send, of_zone}
-use Rattle.zonewire.specs.Output.{IsNotSent, IsSendJobFault, IsTextJobFault, query_octets, query_of}
+use Rattle.zone_core.specs.Query.{query_octets}
+use Rattle.zonewire.specs.Output.{IsNotSent, IsSendJobFault, IsTextJobFault, query_of}
 
 -- why no zone is read from the input
 pub text-fault : (origin : Option (List (List ℕ))) (class : ℕ) (input : List ℕ) (error : ZoneError) → IsZoneFault input origin class error
@@ -19,28 +21,28 @@ text-fault origin class input NoMemory refused = tt
 text-fault origin class input error refused = refused
 
 -- the same for a job that sends
-pub send-text-fault : (origin : Option (List (List ℕ))) (class id : ℕ) (apex : Option (List (List ℕ))) (max : ℕ) (input : List ℕ) (error : ZoneError)
-    → IsZoneFault input origin class error → IsSendJobFault origin class id apex max input (of_zone error)
-send-text-fault origin class id apex max input NoMemory refused = tt
-send-text-fault origin class id apex max input error refused = refused
+pub send-text-fault : (origin : Option (List (List ℕ))) (class id : ℕ) (apex : Option (List (List ℕ))) (max : ℕ) (spelling : Spelling)
+    (input : List ℕ) (error : ZoneError) → IsZoneFault input origin class error → IsSendJobFault origin class id apex max spelling input (of_zone error)
+send-text-fault origin class id apex max spelling input NoMemory refused = tt
+send-text-fault origin class id apex max spelling input error refused = refused
 
 -- for the job's query nothing is sent
-not-sent : (records : List Record) (origin : Option (List (List ℕ))) (zone_class class id : ℕ) (apex : Option (List (List ℕ))) (max : ℕ) (octets input : List ℕ) (error : SendError)
+not-sent : (records : List Record) (origin : Option (List (List ℕ))) (zone_class class id : ℕ) (apex : Option (List (List ℕ))) (max : ℕ) (spelling : Spelling) (octets input : List ℕ) (error : SendError)
     → octets ≡ query_octets (query_of id zone_class apex records) → IsZoneText input origin class records → zone_class ≡ class
-    → IsSendFault records (apex_of records) zone_class octets max error → IsNotSent origin class id apex max input error
-not-sent records origin zone_class class id apex max octets input error is text same refused =
-    let P : List ℕ → Type 0 = λ o. IsSendFault records (apex_of records) zone_class o max error in
-    let Q : ℕ → Type 0 = λ c. IsSendFault records (apex_of records) c (query_octets (query_of id c apex records)) max error in
+    → IsSendFault spelling records (apex_of records) zone_class octets max error → IsNotSent origin class id apex max spelling input error
+not-sent records origin zone_class class id apex max spelling octets input error is text same refused =
+    let P : List ℕ → Type 0 = λ o. IsSendFault spelling records (apex_of records) zone_class o max error in
+    let Q : ℕ → Type 0 = λ c. IsSendFault spelling records (apex_of records) c (query_octets (query_of id c apex records)) max error in
     record { records = records; text = text; refused = subst Q same (subst P is refused) }
 
 -- the job's fault for it
 pub send-fault : (records : List Record) (origin : Option (List (List ℕ))) (zone_class class id : ℕ) (apex : Option (List (List ℕ))) (max : ℕ)
-    (octets input : List ℕ) (error : SendError) → octets ≡ query_octets (query_of id zone_class apex records) → IsZoneText input origin class records → zone_class ≡ class
-    → IsSendFault records (apex_of records) zone_class octets max error → IsSendJobFault origin class id apex max input (of_send error)
-send-fault records origin zone_class class id apex max octets input (Query fault) is text same refused =
-    not-sent records origin zone_class class id apex max octets input (Query fault) is text same refused
-send-fault records origin zone_class class id apex max octets input WrongZone is text same refused =
-    not-sent records origin zone_class class id apex max octets input WrongZone is text same refused
-send-fault records origin zone_class class id apex max octets input (Blocked n) is text same refused =
-    not-sent records origin zone_class class id apex max octets input (Blocked n) is text same refused
-send-fault records origin zone_class class id apex max octets input OutOfMemory is text same refused = tt
+    (spelling : Spelling) (octets input : List ℕ) (error : SendError) → octets ≡ query_octets (query_of id zone_class apex records) → IsZoneText input origin class records → zone_class ≡ class
+    → IsSendFault spelling records (apex_of records) zone_class octets max error → IsSendJobFault origin class id apex max spelling input (of_send error)
+send-fault records origin zone_class class id apex max spelling octets input (Query fault) is text same refused =
+    not-sent records origin zone_class class id apex max spelling octets input (Query fault) is text same refused
+send-fault records origin zone_class class id apex max spelling octets input WrongZone is text same refused =
+    not-sent records origin zone_class class id apex max spelling octets input WrongZone is text same refused
+send-fault records origin zone_class class id apex max spelling octets input (Blocked n) is text same refused =
+    not-sent records origin zone_class class id apex max spelling octets input (Blocked n) is text same refused
+send-fault records origin zone_class class id apex max spelling octets input OutOfMemory is text same refused = tt

@@ -1,51 +1,59 @@
 -- What is received of an input that is fed whole.
-use Rattle.std.proofs.Common.{◌≡◌, ◌∙◌, ℕ, List, [], ◌++◌, sym, ap, subst, take, drop, length, append-nil, take-append-drop, inl, inr, Some, None, arith, ◌⊎◌}
+use Rattle.std.proofs.Common.{◌≡◌, ◌≢◌, ◌∙◌, ℕ, List, [], sym, ap, subst, take, drop, length, append-nil, take-append-drop, inl, inr, Some, None, arith, ◌⊎◌}
 use Rattle.std.proofs.lemmas.List.{take_all}
 use Rattle.zone_octets.specs.Record.{Record}
-use Rattle.zone_core.specs.Query.{IsQuery}
-use Rattle.zone_core.specs.Transfer.{WrittenOut, IsTransferIn}
-use Rattle.zone_core.specs.Receiving.{Heard, IsBegun, IsNoZone, IsWholeTransfer, Takes}
+use Rattle.zone_core.specs.Query.{AxfrQuery, IsQuery}
+use Rattle.zone_core.specs.Transfer.{IsTransfer}
+use Rattle.zone_core.specs.Receiving.{Heard, IsBegun, IsNoZone, IsStreamFault, Refuses, Stage, StandsIn, Takes, refusal_in}
+use Rattle.zone_core.specs.Receiving.Stage.{Ended, Fresh, Refused}
 use Rattle.zone_core.specs.declared.receive.error.ReceiveError.{ReceiveError}
-use Rattle.zone_core.specs.declared.receive.error.ReceiveError.TheVariants.{OutOfMemory}
+use Rattle.zone_core.specs.declared.receive.error.ReceiveError.TheVariants.{OutOfMemory, Query, Unfinished}
 use Rattle.zone_core.proofs.OneOfThree.{transfer_not_begun}
 use Rattle.zonewire.specs.Fault.{of_receive}
 use Rattle.zonewire.specs.Output.{IsNotReceived, IsReceived, IsReceiveJobFault, asking_for}
 
--- what was taken of the input by a receiver that had taken nothing
-fed : (old new : Heard) (input : List ℕ) (n : ℕ) → old.octets ≡ [] → Takes old input new n → new.octets ≡ take n input
-fed old new input n empty takes = takes.octets ∙ ap (λ l. l ++ take n input) empty
-
 -- the zone that came
-pub received : (asking input : List ℕ) (old new : Heard) (n : ℕ) (records : List Record) → IsQuery asking old.query → old.octets ≡ []
-    → Takes old input new n → IsTransferIn WrittenOut new.query new.octets records → IsReceived asking input records
-received asking input old new n records asked empty takes transfer =
-    let octets = fed old new input n empty takes in
-    record {
-      query = old.query;
-      asked = asked;
-      stream = take n input;
-      behind = drop n input;
-      begins = sym (take-append-drop n input);
-      transfer = subst (λ stream. IsTransferIn WrittenOut old.query stream records) octets
-          (subst (λ query. IsTransferIn WrittenOut query new.octets records) takes.query transfer);
-    }
+pub received : (asking input : List ℕ) (old new : Heard) (n : ℕ) (records : List Record) → IsQuery asking old.query
+    → Takes old [] input new n → IsTransfer new.query (take n input) records → IsReceived asking input records
+received asking input old new n records asked takes transfer = record {
+  query = old.query;
+  asked = asked;
+  stream = take n input;
+  behind = drop n input;
+  begins = sym (take-append-drop n input);
+  transfer = subst (λ query. IsTransfer query (take n input) records) takes.query transfer;
+}
 
 -- no zone came: the input is only begun
-pub not_received : (asking input : List ℕ) (old new : Heard) (n : ℕ) (error : ReceiveError) → IsQuery asking old.query → old.octets ≡ []
-    → Takes old input new n → IsNoZone new error → IsNotReceived asking input error
-not_received asking input old new n error asked empty takes (inl kept) =
-    let bad : Some error ≡ None = sym kept ∙ takes.kept in cc
-not_received asking input old new n error asked empty takes (inr (is, free, begun)) =
-    let still : IsBegun old.query new.octets = subst (λ query. IsBegun query new.octets) takes.query begun in
-    subst (IsNotReceived asking input) (sym is) (old.query, asked, whole takes.stands still)
+pub not_received : (asking input : List ℕ) (old new : Heard) (n : ℕ) (error : ReceiveError) → IsQuery asking old.query
+    → Takes old [] input new n → IsNoZone new (take n input) error → IsNotReceived asking input error
+not_received asking input old new n error asked takes (inl kept) =
+    let bad : Some error ≡ None = sym (ap refusal_in kept) ∙ takes.kept in cc
+not_received asking input old new n error asked takes (inr (is, free, begun)) =
+    subst (IsNotReceived asking input) (sym is) (old.query, asked, subst (λ query. IsBegun query input) takes.query (whole takes.ends))
   where
-    whole : IsWholeTransfer old.query new.octets ⊎ (IsBegun old.query new.octets × (n ≡ length input)) → IsBegun old.query new.octets
-        → IsBegun old.query input
-    whole (inl (records, transfer)) still =
-        absurd (transfer_not_begun old.query new.octets new.octets [] records (sym (append-nil new.octets)) transfer still)
-    whole (inr (still, all)) _ =
-        let octets : new.octets ≡ input = fed old new input n empty takes ∙ take_all n input (omega (arith, all)) in
-        subst (IsBegun old.query) octets still
+    whole : (new.stage ≡ Ended) ⊎ ((new.stage ≢ Ended) × (n ≡ length input)) → IsBegun new.query input
+    whole (inl ended) =
+        let stands : StandsIn Ended new (take n input) = subst (λ (at : Stage). StandsIn at new (take n input)) ended takes.stands in
+        absurd (transfer_not_begun new.query (take n input) (take n input) [] new.records (sym (append-nil (take n input))) stands.1 begun)
+    whole (inr (not_there, all)) = subst (IsBegun new.query) (take_all n input (omega (arith, all))) begun
+
+-- the input was refused
+not_taken : (asking input : List ℕ) (query : AxfrQuery) (error : ReceiveError) → IsQuery asking query → IsStreamFault query input error
+    → IsNotReceived asking input error
+not_taken asking input query (Query why) asked fault = absurd fault
+not_taken asking input query Unfinished asked fault = absurd fault
+not_taken asking input query OutOfMemory asked fault = tt
+not_taken asking input query error asked fault = (query, asked, fault)
+
+pub refused : (asking input : List ℕ) (old new : Heard) (error : ReceiveError) → IsQuery asking old.query → old.stage ≡ Fresh
+    → Refuses old [] input new error → IsNotReceived asking input error
+refused asking input old new error asked fresh refuses = why refuses.why
+  where
+    why : ((old.stage ≡ Refused error) × (new ≡ old)) ⊎ ((refusal_in old.stage ≡ None) × IsStreamFault old.query input error)
+        → IsNotReceived asking input error
+    why (inl again) = let bad : Some error ≡ None = sym (ap refusal_in again.0) ∙ ap refusal_in fresh in cc
+    why (inr (free, fault)) = not_taken asking input old.query error asked fault
 
 -- why nothing is made of an input that is not received
 pub receive-fault : (class id : ℕ) (apex : List (List ℕ)) (asking input : List ℕ) (error : ReceiveError) → asking ≡ asking_for class id apex

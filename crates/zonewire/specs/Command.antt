@@ -37,7 +37,7 @@ send_app spellings = with_rule
     (with_rule (with_text_options (new_app (codes "send"))) (number_option (codes "id")))
     (text_option (codes "apex")))
     (number_option (codes "max")))
-    (always (choice_option (codes "spelling") spellings))
+    (choice_option (codes "spelling") spellings)
 
 abbrev pub receive_app : Choices → App
 receive_app layouts = with_rule
@@ -57,7 +57,7 @@ IsChoices words choices = texts choices.now ≡ words
 
 -- the spellings that there are
 abbrev pub IsSpellings : Choices → Type 0
-IsSpellings spellings = IsChoices (codes "plain" ∷ []) spellings
+IsSpellings spellings = IsChoices (codes "plain" ∷ codes "static" ∷ codes "tree" ∷ codes "hash" ∷ []) spellings
 
 -- the layouts that there are
 abbrev pub IsLayouts : Choices → Type 0

@@ -1,8 +1,8 @@
 -- The program's fault for each error of a layer below: want of memory is one fault, whatever it was wanted for.
 use Rattle.zone_rules.specs.declared.zone_error.ZoneError.{ZoneError}
 use Rattle.zone_rules.specs.declared.zone_error.ZoneError.TheVariants as zone_error
-use Rattle.zone_core.specs.declared.send_error.SendError.{SendError}
-use Rattle.zone_core.specs.declared.send_error.SendError.TheVariants as send_error
+use Rattle.zone_core.specs.declared.sending.error.SendError.{SendError}
+use Rattle.zone_core.specs.declared.sending.error.SendError.TheVariants as send_error
 use Rattle.zone_core.specs.declared.receive.error.ReceiveError.{ReceiveError}
 use Rattle.zone_core.specs.declared.receive.error.ReceiveError.TheVariants as receive_error
 use Rattle.dns_wire.specs.declared.text.FromStrError.{FromStrError}

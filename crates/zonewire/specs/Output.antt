@@ -1,23 +1,23 @@
 -- What a job makes of its input.
 use Rattle.std.specs.Prelude.{◌≡◌, ℕ, List, [], ◌∷◌, ◌++◌, length, false, Option, Some, unwrap_or, codes, decimal, ⊤}
-use Rattle.std.specs.Int.{to_be_bytes, w16}
-use Rattle.dns_header.specs.Question.{question_octets}
 use Rattle.dns_text.specs.Layout.{layout_of}
 use Rattle.dns_text.specs.declared.layout.DisplayKind.{DisplayKind}
 use Rattle.zone_canonical.specs.Canonical.{IsCanonical}
 use Rattle.zone_octets.specs.Record.{Record}
 use Rattle.zone_text.specs.View.{apex_of}
-use Rattle.zone_core.specs.Query.{AxfrQuery, IsQuery, question_of}
+use Rattle.zone_core.specs.Query.{AxfrQuery, IsQuery, query_octets}
 use Rattle.zone_rules.specs.ZoneText.{IsZoneText, IsZoneFault}
-use Rattle.zone_core.specs.Sent.{IsSent, IsSendFault, AsksFor}
-use Rattle.zone_core.specs.Transfer.{WrittenOut, IsTransferIn}
+use Rattle.zone_core.specs.Sent.{AsksFor}
+use Rattle.zone_core.specs.SentBy.{IsSentBy, IsSendFault}
+use Rattle.zone_core.specs.declared.sending.Spelling.{Spelling}
+use Rattle.zone_core.specs.Transfer.{IsTransfer}
 use Rattle.zone_core.specs.Receiving.{IsAskFault, IsBegun, IsStreamFault}
 use Rattle.zone_rules.specs.Printed.{IsPrinted}
 use Rattle.zone_core.specs.declared.receive.error.ReceiveError.{ReceiveError}
 use Rattle.zone_core.specs.declared.receive.error.ReceiveError.TheVariants as receive_error
 use Rattle.zone_rules.specs.declared.zone_error.ZoneError.TheVariants as zone_error
-use Rattle.zone_core.specs.declared.send_error.SendError.{SendError}
-use Rattle.zone_core.specs.declared.send_error.SendError.TheVariants as send_error
+use Rattle.zone_core.specs.declared.sending.error.SendError.{SendError}
+use Rattle.zone_core.specs.declared.sending.error.SendError.TheVariants as send_error
 use Rattle.zonewire.specs.declared.jobs.Job.{Job}
 use Rattle.zonewire.specs.declared.jobs.Job.TheVariants as job
 use Rattle.zonewire.specs.declared.fault.Fault.{Fault}
@@ -28,28 +28,23 @@ abbrev pub query_of : ℕ → ℕ → Option (List (List ℕ)) → List Record �
 query_of id class apex records =
     record { id = id; recursion = false; name = unwrap_or apex (apex_of records); class = class }
 
--- the octets of a query with its flags clear (RFC 5936 2.1)
-abbrev pub query_octets : AxfrQuery → List ℕ
-query_octets query =
-    to_be_bytes w16 query.id ++ 0 ∷ 0 ∷ 0 ∷ 1 ∷ 0 ∷ 0 ∷ 0 ∷ 0 ∷ 0 ∷ 0 ∷ [] ++ question_octets (question_of query)
-
 -- The input is a zone's text, the job's query asks for that zone, and the output is what is sent for it. `query` is what is
 -- read from the octets of the job's query.
 pub record IsSendOutput (origin : Option (List (List ℕ))) (class id : ℕ) (apex : Option (List (List ℕ))) (max : ℕ)
-    (input output : List ℕ) : Type 0 where
+    (spelling : Spelling) (input output : List ℕ) : Type 0 where
   pub records : List Record
   pub text : IsZoneText input origin class records
   pub query : AxfrQuery
   pub asked : IsQuery (query_octets (query_of id class apex records)) query
   pub asks : AsksFor query (apex_of records) class
-  pub sent : IsSent records query max output
+  pub sent : IsSentBy spelling records query max output
 
 -- The input is a zone's text, and for the job's query nothing is sent.
-pub record IsNotSent (origin : Option (List (List ℕ))) (class id : ℕ) (apex : Option (List (List ℕ))) (max : ℕ) (input : List ℕ)
-    (error : SendError) : Type 0 where
+pub record IsNotSent (origin : Option (List (List ℕ))) (class id : ℕ) (apex : Option (List (List ℕ))) (max : ℕ) (spelling : Spelling)
+    (input : List ℕ) (error : SendError) : Type 0 where
   pub records : List Record
   pub text : IsZoneText input origin class records
-  pub refused : IsSendFault records (apex_of records) class (query_octets (query_of id class apex records)) max error
+  pub refused : IsSendFault spelling records (apex_of records) class (query_octets (query_of id class apex records)) max error
 
 -- Why no zone is read from the input: the first rule that the text breaks. A failed read or write is no fault of a job, and out of
 -- memory is always the one fault `OutOfMemory`.
@@ -63,10 +58,10 @@ IsTextJobFault origin class input fault.Read = ⊥
 IsTextJobFault origin class input fault.Write = ⊥
 
 -- Why nothing is sent: no zone is read from the input, or for the job's query nothing is sent.
-abbrev pub IsSendJobFault : Option (List (List ℕ)) → ℕ → ℕ → Option (List (List ℕ)) → ℕ → List ℕ → Fault → Type 0
-IsSendJobFault origin class id apex max input (fault.Send send_error.OutOfMemory) = ⊥
-IsSendJobFault origin class id apex max input (fault.Send error) = IsNotSent origin class id apex max input error
-IsSendJobFault origin class id apex max input error = IsTextJobFault origin class input error
+abbrev pub IsSendJobFault : Option (List (List ℕ)) → ℕ → ℕ → Option (List (List ℕ)) → ℕ → Spelling → List ℕ → Fault → Type 0
+IsSendJobFault origin class id apex max spelling input (fault.Send send_error.OutOfMemory) = ⊥
+IsSendJobFault origin class id apex max spelling input (fault.Send error) = IsNotSent origin class id apex max spelling input error
+IsSendJobFault origin class id apex max spelling input error = IsTextJobFault origin class input error
 
 -- the line that says how many records there are
 abbrev pub count_line : List Record → List ℕ
@@ -92,7 +87,7 @@ pub record IsReceived (asking input : List ℕ) (records : List Record) : Type 0
   pub stream : List ℕ
   pub behind : List ℕ
   pub begins : input ≡ stream ++ behind
-  pub transfer : IsTransferIn WrittenOut query stream records
+  pub transfer : IsTransfer query stream records
 
 -- The octets are no query; or for the query that they are the input is only begun, or breaks this rule first.
 abbrev pub IsNotReceived : List ℕ → List ℕ → ReceiveError → Type 0
@@ -123,13 +118,13 @@ IsReceiveJobFault class id apex input fault.Write = ⊥
 
 -- what a job makes of its input
 abbrev pub IsOutput : Job → List ℕ → List ℕ → Type 0
-IsOutput (job.Send origin class id apex max spelling) input output = IsSendOutput origin class id apex max input output
+IsOutput (job.Send origin class id apex max spelling) input output = IsSendOutput origin class id apex max spelling input output
 IsOutput (job.Receive class id apex layout) input output = IsReceiveOutput class id apex layout input output
 IsOutput (job.Check origin class) input output = IsCheckOutput origin class input output
 IsOutput (job.Canon origin class) input output = IsCanonOutput origin class input output
 
 abbrev pub IsJobFault : Job → List ℕ → Fault → Type 0
-IsJobFault (job.Send origin class id apex max spelling) input error = IsSendJobFault origin class id apex max input error
+IsJobFault (job.Send origin class id apex max spelling) input error = IsSendJobFault origin class id apex max spelling input error
 IsJobFault (job.Receive class id apex layout) input error = IsReceiveJobFault class id apex input error
 IsJobFault (job.Check origin class) input error = IsTextJobFault origin class input error
 IsJobFault (job.Canon origin class) input error = IsTextJobFault origin class input error

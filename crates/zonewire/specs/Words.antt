@@ -17,7 +17,8 @@ use Rattle.dns_label.specs.NameText.{IsNameText}
 use Rattle.dns_values.specs.Mnemonic.{class_read}
 use Rattle.dns_text.specs.declared.layout.DisplayKind.{DisplayKind}
 use Rattle.dns_text.specs.declared.layout.DisplayKind.TheVariants.{Simple, Tabbed, Multiline}
-use Rattle.zone_core.specs.declared.transfer.Spelling.TheVariants.{Plain}
+use Rattle.zone_core.specs.declared.sending.Spelling.{Spelling}
+use Rattle.zone_core.specs.declared.sending.Spelling.TheVariants.{Plain, Static, Tree, Hash}
 use Rattle.zonewire.specs.declared.jobs.Job.{Job}
 use Rattle.zonewire.specs.declared.jobs.Job.TheVariants.{Send, Receive, Check, Canon}
 use Rattle.zonewire.specs.declared.words.WordsFault.{WordsFault}
@@ -79,12 +80,22 @@ layout_named text = if bytes_eq text (codes "tabbed") then Tabbed
 abbrev pub layout_in : List Row → DisplayKind
 layout_in rows = option_map_or layout_named (first_of (codes "layout") rows) Simple
 
+-- the spelling of this word
+abbrev pub spelling_named : Text → Spelling
+spelling_named text = if bytes_eq text (codes "plain") then Plain
+    else (if bytes_eq text (codes "static") then Static
+    else (if bytes_eq text (codes "hash") then Hash else Tree))
+
+-- the spelling that the matches have, which is that of a tree where the option is left out
+abbrev pub spelling_in : List Row → Spelling
+spelling_in rows = option_map_or spelling_named (first_of (codes "spelling") rows) Tree
+
 -- the matches of a subcommand name the job
 abbrev pub IsJobOf : Text × List Row → Job → Type 0
 IsJobOf (name, rows) (Send origin class id apex max spelling) =
     (name ≡ codes "send") × IsNameIn (codes "origin") rows origin × (class_in rows ≡ Some class)
     × (id ≡ number_or 0 (codes "id") rows)
-    × IsNameIn (codes "apex") rows apex × (max ≡ number_or 65535 (codes "max") rows) × (spelling ≡ Plain)
+    × IsNameIn (codes "apex") rows apex × (max ≡ number_or 65535 (codes "max") rows) × (spelling ≡ spelling_in rows)
 IsJobOf (name, rows) (Receive class id apex layout) =
     (name ≡ codes "receive") × (class_in rows ≡ Some class)
     × (id ≡ number_or 0 (codes "id") rows)

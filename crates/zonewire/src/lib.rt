@@ -23,8 +23,8 @@ pub use step_sink::StepSink;
 pub use step_source::StepSource;
 pub use words::{WordsFault, job};
 pub use zone_core::{
-    Query, QueryError, ReceiveError, Receiver, SendError, Spelling, check_query, laws, send,
-    send_into,
+    Query, QueryError, ReceiveError, Receiver, SendError, Spelling, axfr_query, check_query, laws,
+    send, send_into,
 };
 pub use zone_rules::ZoneError;
 pub use zone_text::{Zone, ZoneRecord, ZoneRecords};

@@ -2,7 +2,8 @@
 ghost use Rattle.std.specs.Prelude.{◌≡◌, ◌≢◌, ◌↔◌, ℕ, List, Option, false, IfOk, IfErr, IfSome, IsErrOf, IsTrue, OnOk};
 ghost use Rattle.zone_rules.specs.ZoneText.{IsZoneFault, IsZoneText};
 ghost use Rattle.std.specs.Io.KnownBytes.{Appends, IsAtEnd};
-ghost use Rattle.zonewire.specs.Output.{IsOutput, IsJobFault, IsNotReceived, IsReceived, IsReceiveJobFault, IsReceiveOutput, IsSendOutput, IsSendJobFault, count_line, query_octets, query_of};
+ghost use Rattle.zonewire.specs.Output.{IsOutput, IsJobFault, IsNotReceived, IsReceived, IsReceiveJobFault, IsReceiveOutput, IsSendOutput, IsSendJobFault, count_line, query_of};
+ghost use Rattle.zone_core.specs.Query.{query_octets};
 ghost use Rattle.zonewire.specs.Stream.{AppendsBeginning};
 ghost use Rattle.zonewire.specs.declared.fault.Fault.TheVariants as fault;
 
@@ -10,10 +11,10 @@ use crate::fault::Fault;
 use crate::jobs::Job;
 use crate::sink::{Sink, write_all};
 use crate::source::{Source, read_all};
-use dns_name::{Class, Name, Rtype};
+use dns_name::{Class, Name};
 use dns_text::DisplayKind;
 use std::alloc::{AllocError, Global};
-use zone_core::{ReceiveError, Receiver, Spelling, send};
+use zone_core::{ReceiveError, Receiver, Spelling, axfr_query, send};
 use zone_rules::ZoneError;
 use zone_text::Zone;
 use zone_text::zone::records_of;
@@ -110,10 +111,10 @@ fn send_zone(
 ) -> Result<Vec<u8>, Fault>
     ensures ok { (origin : Option (List (List ℕ))) (class : ℕ) (input : List ℕ)
         → IsZoneText input origin class zone.now.records → zone.now.class ≡ class
-        → IfOk result (λ output. IsSendOutput origin class id apex.now max input output.items) }
+        → IfOk result (λ output. IsSendOutput origin class id apex.now max spelling input output.items) }
     ensures err { (origin : Option (List (List ℕ))) (class : ℕ) (input : List ℕ)
         → IsZoneText input origin class zone.now.records → zone.now.class ≡ class
-        → IfErr result (IsSendJobFault origin class id apex.now max input) }
+        → IfErr result (IsSendJobFault origin class id apex.now max spelling input) }
 {
     let query = zone_query(alloc, id, apex, zone)?;
     match send(alloc, zone, query.as_slice(), max, spelling) {
@@ -154,7 +155,7 @@ fn receive_text(
     ensures ok { IfOk result (λ output. IsReceiveOutput class id apex.now layout input.items output.items) }
     ensures err { IfErr result (IsReceiveJobFault class id apex.now input.items) }
 {
-    let query = axfr_query(alloc, id, &apex.for_ref(), class)?;
+    let query = axfr_query(alloc, id, class, &apex.for_ref())?;
     let zone = receive_zone(alloc, input.as_slice(), query.as_slice())?;
     drop(input);
     let text = zone.print(alloc, layout)?;
@@ -181,26 +182,7 @@ fn zone_query(
     ensures { IfOk result (λ octets. octets.items ≡ query_octets (query_of id zone.now.class apex.now zone.now.records)) }
 {
     match apex {
-        Some(name) => axfr_query(alloc, id, &name.for_ref(), zone.class()),
-        None => axfr_query(alloc, id, &zone.apex(), zone.class()),
+        Some(name) => axfr_query(alloc, id, zone.class(), &name.for_ref()),
+        None => axfr_query(alloc, id, zone.class(), &zone.apex()),
     }
-}
-
-/// Returns the query for a zone's transfer, with all flags clear (RFC 5936 2.1).
-fn axfr_query(
-    alloc: Global,
-    id: u16,
-    apex: &Name<&[u8]>,
-    class: Class,
-) -> Result<Vec<u8>, AllocError>
-    ensures { IfOk result (λ octets. octets.items
-        ≡ query_octets (record { id = id; recursion = false; name = apex.now; class = class })) }
-{
-    let mut query = Vec::with_capacity(alloc, 12 + apex.len() + 4)?;
-    query.extend_from_slice(&id.to_be_bytes())?;
-    query.extend_from_slice(&[0, 0, 0, 1, 0, 0, 0, 0, 0, 0])?;
-    query.extend_from_slice(apex.as_slice())?;
-    query.extend_from_slice(&Rtype::AXFR.to_int().to_be_bytes())?;
-    query.extend_from_slice(&class.to_int().to_be_bytes())?;
-    Ok(query)
 }

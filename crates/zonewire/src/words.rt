@@ -3,7 +3,7 @@ ghost use Rattle.std.specs.Prelude.{◌≡◌, ◌∷◌, [], Some, IfOk, IfErr,
 ghost use Rattle.clap.specs.Words.{app_of, first_of, found_of, rows_of, rule_of, App};
 ghost use Rattle.clap.specs.declared.builder.command.Command.TheViews.{out-Command as fields_of};
 ghost use Rattle.zonewire.specs.Command.{IsReceive, IsSend, IsZonewire, choice_option, number_option, text_app, text_option, with_text_options};
-ghost use Rattle.zonewire.specs.Words.{HasNumber, IsFaultOf, IsJobOf, IsNameFault, IsNameIn, IsValueFault, Reads, class_in, layout_in, layout_named, number_or};
+ghost use Rattle.zonewire.specs.Words.{HasNumber, IsFaultOf, IsJobOf, IsNameFault, IsNameIn, IsValueFault, Reads, class_in, layout_in, layout_named, number_or, spelling_in, spelling_named};
 ghost use Rattle.zonewire.specs.declared.words.WordsFault.TheVariants.{Line, OutOfMemory};
 ghost use Rattle.zonewire.specs.Fault.{of_name};
 
@@ -60,7 +60,7 @@ impl From<FromStrError> for WordsFault {
 }
 
 /// The values of `--spelling`.
-static SPELLINGS: &[&str] = &["plain"];
+static SPELLINGS: &[&str] = &["plain", "static", "tree", "hash"];
 
 /// The values of `--layout`.
 static LAYOUTS: &[&str] = &["simple", "tabbed", "multiline"];
@@ -70,12 +70,13 @@ static LAYOUTS: &[&str] = &["simple", "tabbed", "multiline"];
 /// The words are read by one command of `clap`, with these subcommands:
 ///
 /// - `send` with `--origin`, a name; `--class`, which is IN where it is left out; `--id` and `--max`, numbers from 0 to 65535
-///   which are 0 and 65535 where they are left out; `--apex`, a name; and `--spelling plain`;
+///   which are 0 and 65535 where they are left out; `--apex`, a name; and `--spelling`, which is `tree` where it is left out,
+///   `plain`, `static` or `hash`;
 /// - `receive` with `--apex`, a name; `--id` and `--class`, as for `send`; and `--layout`, which is `simple` where it is left out,
 ///   `tabbed` or `multiline`;
 /// - `check` and `canon` with `--origin` and `--class`, as for `send`.
 ///
-/// `receive` has to have its `--apex`, and `send` its `--spelling`. A name may stand without its last dot.
+/// `receive` has to have its `--apex`. A name may stand without its last dot.
 ///
 /// `Line` is `clap`'s error of words that the command doesn't take, a call for help too. Of words that it takes, `BadName`
 /// comes where the origin or the apex is no name, and `BadClass` where they are names and the class is none (RFC 3597 5).
@@ -115,7 +116,7 @@ fn send_job(alloc: Global, options: &ArgMatches<'_>) -> Result<Job, WordsFault>
         id: number_or(options, "id", 0),
         apex,
         max: number_or(options, "max", 65535),
-        spelling: Spelling::Plain,
+        spelling: spelling(options),
     })
 }
 
@@ -214,6 +215,28 @@ fn layout_named(word: &str) -> DisplayKind
     }
 }
 
+/// The spelling that the options give, or that of a tree where it is left out.
+fn spelling(options: &ArgMatches<'_>) -> Spelling
+    ensures { result ≡ spelling_in (rows_of (found_of options.now)) }
+{
+    match options.get_str("spelling") {
+        Some(word) => spelling_named(word),
+        None => Spelling::Tree,
+    }
+}
+
+/// The spelling of a word.
+fn spelling_named(word: &str) -> Spelling
+    ensures { result ≡ spelling_named word.now }
+{
+    match word {
+        "plain" => Spelling::Plain,
+        "static" => Spelling::Static,
+        "hash" => Spelling::Hash,
+        _ => Spelling::Tree,
+    }
+}
+
 /// The class that the options give, or IN where it is left out.
 fn class(options: &ArgMatches<'_>) -> Option<Class>
     ensures { result ≡ class_in (rows_of (found_of options.now)) }
@@ -262,7 +285,7 @@ fn send_command<'a>(alloc: Global) -> Result<Command<'a>, AllocError>
         .arg(number_option(alloc, "max").help(
             "The most octets of a message, 65535 where left out",
         ))?
-        .arg(spelling.required(true).help("How names are written"))?;
+        .arg(spelling.help("How names are written"))?;
     Ok(send)
 }
 

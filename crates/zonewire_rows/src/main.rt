@@ -2,7 +2,7 @@
 //!
 //! A zone's text, and a text that is printed, is one word: `%20` stands for a space, `%0a` for a line feed. Where a class or
 //! a limit is not named, it is IN or 512 octets. An origin and a layout may be left out: there is none, and it is `Simple`. A row of
-//! `run` has the input, and then the words of a command line of the program.
+//! `run` has the input, and then the words of a command line of the program. A spelling may be left out: names are written in full.
 #![tactic(auto)]
 
 mod programs;
@@ -21,6 +21,7 @@ impl Calls for ZonewireCalls {
     fn answer(&self, alloc: Global, row: &mut Row<'_>, out: &mut Answer) -> Result<(), RowError> {
         match row.call() {
             "check_query" => queries::answer(alloc, row, out),
+            "axfr_query" => queries::answer_axfr(alloc, row, out),
             "Zone::read" => zones::answer_read(alloc, row, out),
             "Zone::print" => zones::answer_print(alloc, row, out),
             "Zone::canonical" => zones::answer_canonical(alloc, row, out),

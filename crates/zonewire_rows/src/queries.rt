@@ -1,8 +1,8 @@
 //! Queries.
-use dns_name::ToName;
+use dns_name::{Class, Name, ToName};
 use rows::{Answer, Row, RowError};
 use std::alloc::Global;
-use zonewire::check_query;
+use zonewire::{axfr_query, check_query};
 
 /// `check_query OCTETS`: the id, whether recursion is desired, the name and the class.
 pub fn answer(alloc: Global, row: &mut Row<'_>, out: &mut Answer) -> Result<(), RowError> {
@@ -16,4 +16,17 @@ pub fn answer(alloc: Global, row: &mut Row<'_>, out: &mut Answer) -> Result<(), 
         }
         Err(error) => out.refused(&error),
     }
+}
+
+/// `axfr_query ID CLASS NAME`: the octets of the query.
+pub fn answer_axfr(alloc: Global, row: &mut Row<'_>, out: &mut Answer) -> Result<(), RowError> {
+    let id = row.value()?;
+    let Some(class) = Class::from_bytes(row.word()?.as_bytes()) else {
+        return Err(RowError::BadWord);
+    };
+    let Ok(name) = Name::vec_from_str(alloc, row.word()?) else {
+        return Err(RowError::BadWord);
+    };
+    let query = axfr_query(alloc, id, class, &name.for_ref())?;
+    out.octets(query.as_slice())
 }

@@ -4,17 +4,33 @@ use rows::{Answer, Row, RowError};
 use std::alloc::Global;
 use zonewire::{DisplayKind, ReceiveError, Receiver, Spelling, Zone, send};
 
-/// `send TEXT QUERY MAX`: the stream that answers the query for the zone of the text.
+/// `send TEXT QUERY MAX [SPELLING]`: the stream that answers the query for the zone of the text.
 pub fn answer_send(alloc: Global, row: &mut Row<'_>, out: &mut Answer) -> Result<(), RowError> {
     let text = row.text_octets(alloc)?;
     let query = row.octets(alloc)?;
     let max = row.value()?;
+    let spelling = if row.has_more() {
+        spelling_of(row.word()?)?
+    } else {
+        Spelling::Plain
+    };
     let Ok(zone) = Zone::read(alloc, text.as_slice(), None, Class::IN) else {
         return Err(RowError::BadWord);
     };
-    match send(alloc, &zone, query.as_slice(), max, Spelling::Plain) {
+    match send(alloc, &zone, query.as_slice(), max, spelling) {
         Ok(stream) => out.octets(stream.as_slice()),
         Err(error) => out.refused(&error),
+    }
+}
+
+/// The spelling of a word.
+fn spelling_of(word: &str) -> Result<Spelling, RowError> {
+    match word {
+        "plain" => Ok(Spelling::Plain),
+        "static" => Ok(Spelling::Static),
+        "tree" => Ok(Spelling::Tree),
+        "hash" => Ok(Spelling::Hash),
+        _ => Err(RowError::BadWord),
     }
 }
 

@@ -1,7 +1,15 @@
 //! Laws of queries: octets ask one thing, or break one rule first.
-ghost use Rattle.std.specs.Prelude.{◌≡◌, ℕ, List};
-ghost use Rattle.zone_core.specs.Query.{AxfrQuery, IsQuery, IsQueryFault};
+ghost use Rattle.std.specs.Prelude.{◌≡◌, ◌≢◌, ◌<◌, ◌^◌, ℕ, List, false};
+ghost use Rattle.dns_label.specs.Name.{IsName};
+ghost use Rattle.zone_octets.specs.Zone.{any_class};
+ghost use Rattle.zone_core.specs.Query.{AxfrQuery, IsQuery, IsQueryFault, query_octets};
 ghost use Rattle.zone_core.specs.declared.query_error.QueryError.{QueryError};
+
+/// A query that is made for a name and a class is read as a query for that name and class.
+pub fn made_query_is_read()
+    ensures { (query : AxfrQuery) → query.recursion ≡ false → query.id < 2 ^ 16 → IsName query.name → query.class < 2 ^ 16 →
+        query.class ≢ any_class → IsQuery (query_octets query) query }
+{}
 
 /// A message asks at most one thing as a query for a transfer.
 pub fn query_asks_one_thing()

@@ -1,42 +1,21 @@
 //! What holds of a stream that is received.
 
 ghost use Rattle.std.specs.Prelude.{◌≡◌, ◌<◌, ◌^◌, ◌++◌, ◌⊎◌, ℕ, Bool, List};
-ghost use Rattle.std.specs.List.{AllByRecursion};
 ghost use Rattle.dns_label.specs.Octets.{AreOctets};
 ghost use Rattle.zone_octets.specs.Record.{Record};
 ghost use Rattle.zone_core.specs.Query.{AxfrQuery};
-ghost use Rattle.zone_octets.specs.Records.{AreSendable, IsTypeToday};
+ghost use Rattle.zone_octets.specs.Records.{AreSendable};
 ghost use Rattle.zone_core.specs.Sent.{IsQueryFor, IsSent};
 ghost use Rattle.zone_core.specs.Receiving.{IsBegun, HasBadMessage};
-ghost use Rattle.zone_core.specs.Transfer.{Standard, WrittenOut, IsAnswer, IsTransfer, IsTransferIn, IsExactTransferIn};
+ghost use Rattle.zone_core.specs.Transfer.{IsAnswer, IsTransfer};
 ghost use Rattle.zone_core.specs.declared.receive.error.ReceiveError.{ReceiveError};
 
 /// A stream is a transfer of at most one list of records to a query, and each of its messages an answer with at most one.
 pub fn transfers_are_one()
     ensures answers { (query : AxfrQuery) (first : Bool) (message : List ℕ) (records others : List Record) →
-        IsAnswer Standard query first message records → IsAnswer Standard query first message others → records ≡ others }
+        IsAnswer query first message records → IsAnswer query first message others → records ≡ others }
     ensures transfers { (query : AxfrQuery) (stream : List ℕ) (records others : List Record) →
         IsTransfer query stream records → IsTransfer query stream others → records ≡ others }
-{}
-
-/// What is received today, messages that are written out, is a transfer as the standard has it. So a stream is such a
-/// transfer of at most one list of records.
-pub fn written_out_is_standard()
-    ensures answers { (query : AxfrQuery) (first : Bool) (message : List ℕ) (records : List Record) →
-        IsAnswer WrittenOut query first message records → IsAnswer Standard query first message records }
-    ensures transfers { (query : AxfrQuery) (stream : List ℕ) (records : List Record) →
-        IsTransferIn WrittenOut query stream records → IsTransfer query stream records }
-    ensures one { (query : AxfrQuery) (stream : List ℕ) (records others : List Record) →
-        IsTransferIn WrittenOut query stream records → IsTransferIn WrittenOut query stream others → records ≡ others }
-{}
-
-/// What is sent for a zone whose records are of the types that are received today, SOA and A, is a transfer that is
-/// received, and of the very same records, with the last SOA the first again octet for octet.
-pub fn sent_is_received()
-    ensures { (records : List Record) (class : ℕ) (query : AxfrQuery) (max : ℕ) (stream : List ℕ) →
-        max < 2 ^ 16 → AreSendable class records → IsQueryFor records class query →
-        AllByRecursion (λ r. IsTypeToday r.rtype) records →
-        IsSent records query max stream → IsExactTransferIn WrittenOut query stream records }
 {}
 
 /// What is sent for a zone and received as a transfer is received as the zone's records, and what is sent for these is
@@ -44,7 +23,7 @@ pub fn sent_is_received()
 pub fn received_is_sent_again()
     ensures { (records others : List Record) (class : ℕ) (query : AxfrQuery) (max : ℕ) (stream : List ℕ) →
         max < 2 ^ 16 → AreSendable class records → IsQueryFor records class query →
-        IsSent records query max stream → IsTransferIn WrittenOut query stream others →
+        IsSent records query max stream → IsTransfer query stream others →
         (records ≡ others) × IsSent others query max stream }
 {}
 
@@ -52,14 +31,14 @@ pub fn received_is_sent_again()
 /// has one beginning that is a transfer, and one fault.
 pub fn at_most_one_of_three()
     ensures transfer_or_fault { (query : AxfrQuery) (stream front rest : List ℕ) (records : List Record) (error : ReceiveError) →
-        stream ≡ front ++ rest → IsTransferIn WrittenOut query front records → HasBadMessage query stream error → ⊥ }
+        stream ≡ front ++ rest → IsTransfer query front records → HasBadMessage query stream error → ⊥ }
     ensures transfer_or_begun { (query : AxfrQuery) (stream front rest : List ℕ) (records : List Record) →
-        stream ≡ front ++ rest → IsTransferIn WrittenOut query front records → IsBegun query stream → ⊥ }
+        stream ≡ front ++ rest → IsTransfer query front records → IsBegun query stream → ⊥ }
     ensures begun_or_fault { (query : AxfrQuery) (stream : List ℕ) (error : ReceiveError) →
         IsBegun query stream → HasBadMessage query stream error → ⊥ }
     ensures one_beginning { (query : AxfrQuery) (stream front rest other other_rest : List ℕ) (records others : List Record) →
         stream ≡ front ++ rest → stream ≡ other ++ other_rest →
-        IsTransferIn WrittenOut query front records → IsTransferIn WrittenOut query other others → front ≡ other }
+        IsTransfer query front records → IsTransfer query other others → front ≡ other }
     ensures one_fault { (query : AxfrQuery) (stream : List ℕ) (e d : ReceiveError) →
         HasBadMessage query stream e → HasBadMessage query stream d → e ≡ d }
 {}
@@ -68,6 +47,6 @@ pub fn at_most_one_of_three()
 /// fault.
 pub fn one_of_three()
     ensures { (query : AxfrQuery) (stream : List ℕ) → AreOctets stream →
-        ((front rest : List ℕ) × (records : List Record) × (stream ≡ front ++ rest) × IsTransferIn WrittenOut query front records)
+        ((front rest : List ℕ) × (records : List Record) × (stream ≡ front ++ rest) × IsTransfer query front records)
         ⊎ (IsBegun query stream ⊎ ((error : ReceiveError) × HasBadMessage query stream error)) }
 {}

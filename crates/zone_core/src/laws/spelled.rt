@@ -1,10 +1,10 @@
 //! What holds of cuttings into messages whose names are written with pointers, whatever the parts of a record are. `item` has
 //! them.
 
-ghost use Rattle.std.specs.Prelude.{◌≡◌, ℕ, ◌≤◌, List, length, min};
-ghost use Rattle.std.specs.List.{AllByRecursion};
+ghost use Rattle.std.specs.Prelude.{◌≡◌, ℕ, ◌<◌, ◌≤◌, ◌^◌, false, List, length, min};
+ghost use Rattle.std.specs.List.{AllByRecursion, AllZip};
 ghost use Rattle.dns_label.specs.Name.{IsName};
-ghost use Rattle.dns_name.specs.Spelling.{tree_spelling, hash_spelling};
+ghost use Rattle.dns_name.specs.Spelling.{Spelling, tree_spelling, hash_spelling};
 ghost use Rattle.dns_name.specs.Page.{Parts};
 ghost use Rattle.dns_message.specs.Record.{IsRecord, IsWritten};
 ghost use Rattle.dns_size.specs.Cost.{same_name};
@@ -13,9 +13,13 @@ ghost use Rattle.dns_size.specs.Free.{IsFree};
 ghost use Rattle.dns_size.specs.Groups.{group_parts};
 ghost use Rattle.dns_spelling.specs.Alike.{HaveNames};
 ghost use Rattle.zone_octets.specs.Record.{Record};
+ghost use Rattle.zone_octets.specs.Records.{AreSendable};
 ghost use Rattle.zone_core.specs.Cutting.{IsCutting, Fits, IsFullCut, IsBlocked, PartsFit};
 ghost use Rattle.zone_core.specs.Query.{AxfrQuery};
+ghost use Rattle.zone_core.specs.Sent.{IsQueryFor};
 ghost use Rattle.zone_core.specs.Spelled.{answer_head, spelled_size, SpellGroups, record_items, message_names, message_sum};
+ghost use Rattle.zone_core.specs.SpelledSent.{IsSpelledSent, IsTakenAs};
+ghost use Rattle.zone_core.specs.Transfer.{IsTransfer, IsExactTransfer};
 
 /// Where a tree or a hash table remembers suffixes, the octets of a message are a sum, if these or the sum are at most 16,384:
 /// 12 of the header; 4 of the question's type and class; of each record 10, and those of its data outside the names that may be
@@ -72,4 +76,24 @@ pub fn free_messages_are_no_fewer()
         IsCutting records groups → SpellGroups query item max messages groups → ⊥ }
     ensures shortest { (query : AxfrQuery) (item : Record → Parts) (group : List Record) (message : List ℕ) → length message ≤ 16384 →
         IsFree message (group_parts (answer_head query) item group) → spelled_size tree_spelling query item group ≤ length message }
+{}
+
+/// What is sent for a zone with names written by a spelling is a transfer to the query: of the very same records where the
+/// spelling compares octets, and of records that differ in the ASCII case of owners and compressible names at most where it
+/// folds case.
+pub fn spelled_is_a_transfer()
+    ensures taken { (s : Spelling) (records : List Record) (class : ℕ) (query : AxfrQuery) (max : ℕ) (stream : List ℕ) → max < 2 ^ 16 →
+        AreSendable class records → IsQueryFor records class query → IsSpelledSent s records query max stream →
+        (others : List Record) × IsTransfer query stream others × AllZip (IsTakenAs s.folds) records others }
+    ensures exact { (s : Spelling) (records : List Record) (class : ℕ) (query : AxfrQuery) (max : ℕ) (stream : List ℕ) → s.folds ≡ false →
+        max < 2 ^ 16 → AreSendable class records → IsQueryFor records class query → IsSpelledSent s records query max stream →
+        IsExactTransfer query stream records }
+{}
+
+/// Where the spelling compares octets, what is received of it is the zone's records, and what is sent for these by the same
+/// spelling is the very same stream again.
+pub fn spelled_is_sent_again()
+    ensures { (s : Spelling) (records others : List Record) (class : ℕ) (query : AxfrQuery) (max : ℕ) (stream : List ℕ) → s.folds ≡ false →
+        max < 2 ^ 16 → AreSendable class records → IsQueryFor records class query → IsSpelledSent s records query max stream →
+        IsTransfer query stream others → (records ≡ others) × IsSpelledSent s others query max stream }
 {}

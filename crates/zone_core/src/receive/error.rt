@@ -7,7 +7,7 @@ use std::alloc::AllocError;
 use thiserror::Error;
 
 /// The first rule that is broken. A message is judged by the rules `Short` to `Question` in this order, then each of its
-/// records by the rules `Record` to `AfterLast`, and then by `Trailing`. Records are counted from 1 through all messages.
+/// records by the rules `Record` to `Unspellable`, and then by `Trailing`. Records are counted from 1 through all messages.
 #[derive(Clone, Copy, Debug, PartialEq, Eq, Error)]
 pub enum ReceiveError {
     /// The query breaks a rule.
@@ -52,6 +52,9 @@ pub enum ReceiveError {
     /// The record follows the last SOA in its message.
     #[error("record {0}: behind the last SOA")]
     AfterLast(usize),
+    /// The record's data cannot be spelled in text: the tag of a CAA record is empty.
+    #[error("record {0}: cannot be spelled")]
+    Unspellable(usize),
     /// There are octets behind the records that a message counts.
     #[error("trailing octets")]
     Trailing,

@@ -1,43 +1,44 @@
-//! The octets of a stream that comes in, and the records of its messages.
-ghost use Rattle.std.specs.Prelude.{◌≡◌, ◌++◌, ◌≤◌, ◌<◌, [], ℕ, length, take, drop, IfOk, IfErr, OnOk, IfSome, IfNone, MatchOption};
+//! The frame that is open in a stream that comes in, and the records of its messages.
+ghost use Rattle.std.specs.Prelude.{◌≡◌, ◌++◌, ◌≤◌, [], ℕ, List, length, take, true, IfOk, IfErr, IfSome, IfNone, MatchOption, slice_get};
 ghost use Rattle.zone_core.specs.Asked.{asked_of};
 ghost use Rattle.zone_core.specs.Frames.{IsPartial};
-ghost use Rattle.zone_core.specs.Intake.{BeginsWithFrame};
-ghost use Rattle.zone_core.specs.Receiving.{IsStreamFault};
+ghost use Rattle.zone_core.specs.Intake.{Completes};
 
 use crate::query::OwnedQuery;
 use crate::receive::error::ReceiveError;
 use crate::receive::message::judge_message;
 use std::alloc::Global;
-use zone_octets::header::number_at;
 use zone_octets::record_list::RecordList;
 
 /// The octets of a message's length on a stream (RFC 1035 4.2.2).
 const LENGTH_OCTETS: usize = 2;
 
-/// All octets that came, of which the whole messages are judged.
+/// What is left of a stream whose whole messages are judged.
 #[derive(Debug, Drop)]
 pub(crate) struct Intake {
-    octets: Vec<u8>,
-    /// Where the first message begins that is not judged.
-    judged: usize,
-    /// The records of the messages that are judged, without the last SOA.
+    /// The octets of the frame that is not whole.
+    open_frame: Vec<u8>,
+    /// Whether no message has come whole.
+    is_first: bool,
+    /// The records of the messages, without the last SOA.
     records: RecordList,
 }
 
 impl Intake {
     ghost use Rattle.std.specs.Bool.{OnTrue, OnFalse};
-    ghost use Rattle.zone_core.specs.Intake.{EndsTransfer, HasFrame, IsEnded, IsWaiting, Judged};
     ghost use Rattle.zone_core.specs.Query.{AxfrQuery};
+    ghost use Rattle.zone_core.specs.Receiving.{IsHeard, IsStreamFault};
+    ghost use Rattle.zone_core.specs.Intake.{BreaksRule, EndsTransfer, GoesOn, IsFrame, IsWaiting, heard_by};
 
     /// No octets.
     pub(crate) fn new(alloc: Global) -> Intake
+        ensures first { result.is_first ≡ true }
+        ensures heard { (query : AxfrQuery) → IsHeard (heard_by result query) [] }
         ensures waits { (query : AxfrQuery) → IsWaiting result query }
-        ensures octets { result.octets.items ≡ [] }
     {
         Intake {
-            octets: Vec::new(alloc),
-            judged: 0,
+            open_frame: Vec::new(alloc),
+            is_first: true,
             records: RecordList::new(alloc),
         }
     }
@@ -51,19 +52,20 @@ impl Intake {
     ) -> Result<Option<usize>, ReceiveError>
         requires { IsWaiting self.old (asked_of query.now) }
         ensures ended { IfOk result (λ end. IfSome end (λ n. (n ≤ length piece.now)
-            × (self.new.octets.items ≡ self.old.octets.items ++ take n piece.now) × IsEnded self.new (asked_of query.now))) }
-        ensures goes_on { IfOk result (λ end. IfNone end ((self.new.octets.items ≡ self.old.octets.items ++ piece.now)
-            × IsWaiting self.new (asked_of query.now))) }
-        ensures err { IfErr result (IsStreamFault (asked_of query.now) (self.old.octets.items ++ piece.now)) }
+            × EndsTransfer self.old (take n piece.now) self.new (asked_of query.now))) }
+        ensures goes_on { IfOk result (λ end. IfNone end (GoesOn self.old piece.now self.new (asked_of query.now))) }
+        ensures err { IfErr result (λ error. (stream : List ℕ) → IsHeard (heard_by self.old (asked_of query.now)) stream
+            → IsStreamFault (asked_of query.now) (stream ++ piece.now) error) }
     {
-        let before = self.octets.len();
-        self.octets.extend_from_slice(piece)?;
-        while let Some(end) = self.frame_end() {
-            if self.judge(query, end)? {
-                self.octets.truncate(end);
-                return Ok(Some(end - before));
+        let mut taken = 0;
+        while let Some(len) = missing(self.open_frame.as_slice(), &piece[taken..]) {
+            let end = taken + len;
+            if self.judge(query, &piece[taken..end])? {
+                return Ok(Some(end));
             }
+            taken = end;
         }
+        self.open_frame.extend_from_slice(&piece[taken..])?;
         Ok(None)
     }
 
@@ -74,42 +76,50 @@ impl Intake {
         self.records
     }
 
-    /// Where the first message ends that is not judged, if it is whole.
-    fn frame_end(&self) -> Option<usize>
-        requires { self.now.judged ≤ length self.now.octets.items }
-        ensures { MatchOption result (IsPartial (drop self.now.judged self.now.octets.items)) (HasFrame self.now) }
+    /// Judges the frame that these octets make whole, and takes its records. True where it ends the transfer. A frame that
+    /// stands in these octets alone is judged where it stands.
+    fn judge(&mut self, query: &OwnedQuery, rest: &[u8]) -> Result<bool, ReceiveError>
+        requires waits { IsWaiting self.old (asked_of query.now) }
+        requires framed { IsFrame (self.old.open_frame.items ++ rest.now) }
+        ensures goes_on { IfOk result (λ ends. OnFalse ends (GoesOn self.old rest.now self.new (asked_of query.now))) }
+        ensures ends { IfOk result (λ ends. OnTrue ends (EndsTransfer self.old rest.now self.new (asked_of query.now))) }
+        ensures err { IfErr result (BreaksRule self.old rest.now (asked_of query.now)) }
     {
-        let len = frame_len(&self.octets.as_slice()[self.judged..])?;
-        Some(self.judged + len)
-    }
-
-    /// Judges the message that ends there, and takes its records. True where it ends the transfer.
-    fn judge(&mut self, query: &OwnedQuery, end: usize) -> Result<bool, ReceiveError>
-        requires judged { Judged self.old (asked_of query.now) }
-        requires frame { HasFrame self.old end }
-        ensures octets { OnOk result (self.new.octets.items ≡ self.old.octets.items) }
-        ensures goes_on { IfOk result (λ ends. OnFalse ends (Judged self.new (asked_of query.now))) }
-        ensures ends { IfOk result (λ ends. OnTrue ends (EndsTransfer self.new (asked_of query.now) end)) }
-        ensures place { OnOk result (self.new.judged ≡ end) }
-        ensures err { IfErr result (IsStreamFault (asked_of query.now) self.old.octets.items) }
-    {
-        let message = &self.octets.as_slice()[self.judged + LENGTH_OCTETS..end];
-        let ends = judge_message(query, self.judged == 0, message, &mut self.records)?;
-        self.judged = end;
+        let is_first = self.is_first;
+        self.is_first = false;
+        if self.open_frame.as_slice().is_empty() {
+            return judge_message(query, is_first, &rest[LENGTH_OCTETS..], &mut self.records);
+        }
+        self.open_frame.extend_from_slice(rest)?;
+        let message = &self.open_frame.as_slice()[LENGTH_OCTETS..];
+        let ends = judge_message(query, is_first, message, &mut self.records)?;
+        self.open_frame.clear();
         Ok(ends)
     }
 }
 
-/// How many octets the first frame of a stream has, if it is whole (RFC 1035 4.2.2).
-fn frame_len(stream: &[u8]) -> Option<usize>
-    ensures { MatchOption result (IsPartial stream.now) (BeginsWithFrame stream.now) }
+/// How many of these octets make the open frame whole, if they do (RFC 1035 4.2.2).
+fn missing(open_frame: &[u8], octets: &[u8]) -> Option<usize>
+    requires { IsPartial open_frame.now }
+    ensures { MatchOption result (IsPartial (open_frame.now ++ octets.now)) (Completes open_frame.now octets.now) }
 {
-    if stream.len() < LENGTH_OCTETS {
-        return None;
+    let high = octet_at(open_frame, octets, 0)?;
+    let low = octet_at(open_frame, octets, 1)?;
+    let len = LENGTH_OCTETS + usize::from(u16::from_be_bytes([high, low]));
+    let missing = len - open_frame.len();
+    if missing <= octets.len() {
+        Some(missing)
+    } else {
+        None
     }
-    let len = usize::from(number_at(stream, 0));
-    if stream.len() - LENGTH_OCTETS < len {
-        return None;
+}
+
+/// The octet at a place of two slices, the second behind the first.
+fn octet_at(front: &[u8], back: &[u8], place: usize) -> Option<u8>
+    ensures { result ≡ slice_get (front.now ++ back.now) place }
+{
+    if place < front.len() {
+        return Some(front[place]);
     }
-    Some(LENGTH_OCTETS + len)
+    back.get(place - front.len()).copied()
 }

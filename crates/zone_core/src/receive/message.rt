@@ -6,13 +6,13 @@ ghost use Rattle.dns_header.specs.Header.{answer_count};
 ghost use Rattle.zone_octets.specs.Record as spec;
 ghost use Rattle.zone_core.specs.Asked.{asked_of};
 ghost use Rattle.zone_octets.specs.Records.{AreOctets, IsRecordOf};
-ghost use Rattle.zone_core.specs.Transfer.{WrittenOut, AsksAgain, CountsAnswers, HasAnswerHeader};
+ghost use Rattle.zone_core.specs.Transfer.{AsksAgain, CountsAnswers, HasAnswerHeader};
 ghost use Rattle.zone_core.specs.Receiving.{IsOpen, IsMessageFault, IsRecordFault};
 ghost use Rattle.zone_core.specs.Intake.{IsFaultOr, StandsAt, TakesMessage, TakesRecord};
 
-use crate::query::OwnedQuery;
+use crate::query::{OwnedQuery, read_question};
 use crate::receive::error::ReceiveError;
-use crate::receive::question::PlainQuestion;
+use crate::receive::question::is_question_of;
 use crate::receive::record::parse_record;
 use crate::receive::rules::{Placing, place_record};
 use dns_name::Parser;
@@ -91,29 +91,25 @@ fn counts_answers(message: &[u8]) -> bool
 /// the message is not the first.
 fn behind_question(query: &OwnedQuery, is_first: bool, message: &[u8]) -> Option<usize>
     requires header { HasAnswerHeader (asked_of query.now) message.now }
-    ensures some { IfSome result (AsksAgain WrittenOut (asked_of query.now) is_first message.now) }
+    ensures some { IfSome result (AsksAgain (asked_of query.now) is_first message.now) }
     ensures within { IfSome result (λ place. place ≤ length message.now) }
-    ensures none { IfNone result ((place : ℕ) → AsksAgain WrittenOut (asked_of query.now) is_first message.now place → ⊥) }
+    ensures none { IfNone result ((place : ℕ) → AsksAgain (asked_of query.now) is_first message.now place → ⊥) }
 {
     if number_at(message, 4) == 0 {
         return if is_first { None } else { Some(12) };
     }
-    let mut parser = Parser::from_ref(message);
-    let Ok(()) = parser.seek(12) else {
+    let Ok((question, end)) = read_question(message) else {
         return None;
     };
-    let Ok(question) = PlainQuestion::parse(&mut parser) else {
-        return None;
-    };
-    if question.is_of(query) {
-        Some(parser.pos())
+    if is_question_of(&question, query) {
+        Some(end)
     } else {
         None
     }
 }
 
-/// Reads the next record, holds it against the rules, and adds it to those in front of it. `closed` says whether the last
-/// SOA stands in front, and the answer whether it stands in front of the next one.
+/// Reads the next record, adds it to those in front of it, and holds it against the rules. The last SOA is not added.
+/// `closed` says whether that stands in front, and the answer whether it stands in front of the next one.
 fn take_record(
     query: &OwnedQuery,
     parser: &mut Parser<'_>,
@@ -132,14 +128,16 @@ fn take_record(
         → IsRecordFault (asked_of query.now) front (octets_of parser.old) (place_of parser.old) error)) }
 {
     let number = records.len() + usize::from(closed) + 1;
-    let Ok(record) = parse_record(parser) else {
+    let Ok(next) = parse_record(parser) else {
         return Err(ReceiveError::Record(number));
     };
-    match place_record(query, records, closed, &record, number)? {
-        Placing::Last => Ok(true),
-        Placing::Inner => {
-            records.push(&record)?;
-            Ok(false)
+    // The rules are those of the record as it is held, with every name written out.
+    records.push_from_message(&next)?;
+    match place_record(query, records, closed, number)? {
+        Placing::Inner => Ok(false),
+        Placing::Last => {
+            records.pop();
+            Ok(true)
         }
     }
 }

@@ -1,9 +1,10 @@
 //! Who asks for a zone's transfer, and takes the stream of answers.
-ghost use Rattle.std.specs.Prelude.{◌≡◌, ◌↔◌, [], None, IsTrue, IfOk, IfErr, MatchResult};
+ghost use Rattle.std.specs.Prelude.{◌≡◌, ◌↔◌, ℕ, List, [], None, IsTrue, IfOk, IfErr, MatchResult};
 ghost use Rattle.zone_core.specs.Asked.{asked_of};
 ghost use Rattle.zone_core.specs.Query.{IsQuery};
-ghost use Rattle.zone_core.specs.Receiving.{IsAskFault, IsNoZone, IsWholeTransfer, Refuses, Takes};
-ghost use Rattle.zone_core.specs.Transfer.{WrittenOut, IsTransferIn};
+ghost use Rattle.zone_core.specs.Receiving.{IsAskFault, IsNoZone, IsWholeTransfer, Refuses, StandsAt, Takes, refusal_in};
+ghost use Rattle.zone_core.specs.Receiving.Stage.{Ended, Fresh};
+ghost use Rattle.zone_core.specs.Transfer.{IsTransfer};
 
 use crate::query::{OwnedQuery, check_query};
 use crate::receive::error::ReceiveError;
@@ -26,7 +27,8 @@ enum Progress {
 
 /// Who asks for a zone's transfer and takes the stream of answers, in pieces of any size (RFC 5936 2.2).
 ///
-/// It holds all the octets that it took. A message is judged once, when it is whole.
+/// It holds the records that came, and the octets of a message that is not whole: less than 65,537. A message is judged
+/// once, when it is whole.
 #[derive(Debug, Drop)]
 pub struct Receiver {
     query: OwnedQuery,
@@ -36,12 +38,12 @@ pub struct Receiver {
 
 impl Model for Receiver {
     ghost use Rattle.zone_core.specs.Receiving.{Heard};
-    ghost use Rattle.zone_core.specs.Received.{IsAt, kept_in};
+    ghost use Rattle.zone_core.specs.Received.{IsAt, heard_in};
     ghost use Rattle.zone_core.specs.Asked.{asked_of};
 
     ghost Value = { Heard };
 
-    ghost view = { λ r. record { query = asked_of r.query; octets = r.intake.octets.items; kept = kept_in r.progress } };
+    ghost view = { λ r. heard_in r.progress r.intake (asked_of r.query) };
 
     ghost invariant = { λ r. IsAt r.progress r.intake (asked_of r.query) };
 }
@@ -52,7 +54,7 @@ impl Receiver {
     /// Refused where the query breaks a rule, by the first one, and where there is no memory for the query's name.
     pub fn new(alloc: Global, query: &[u8]) -> Result<Receiver, ReceiveError>
         ensures ok { IfOk result (λ receiver. IsQuery query.now receiver.query) }
-        ensures stands { IfOk result (λ receiver. (receiver.octets ≡ []) × (receiver.kept ≡ None)) }
+        ensures stands { IfOk result (λ receiver. (receiver.stage ≡ Fresh) × StandsAt receiver []) }
         ensures err { IfErr result (IsAskFault query.now) }
     {
         let query = match check_query(query) {
@@ -71,7 +73,8 @@ impl Receiver {
     ///
     /// Refused by the first rule that the first bad message breaks, and then this refusal is the answer from then on.
     pub fn feed(&mut self, piece: &[u8]) -> Result<usize, ReceiveError>
-        ensures { MatchResult result (Takes self.old piece.now self.new) (Refuses self.old piece.now self.new) }
+        ensures { (stream : List ℕ) → StandsAt self.old stream →
+            MatchResult result (Takes self.old stream piece.now self.new) (Refuses self.old stream piece.now self.new) }
     {
         match self.progress {
             Progress::Done => Ok(0),
@@ -92,7 +95,9 @@ impl Receiver {
 
     /// Whether the transfer has come whole.
     pub fn is_done(&self) -> bool
-        ensures { IsTrue result ↔ ((self.now.kept ≡ None) × IsWholeTransfer self.now.query self.now.octets) }
+        ensures stage { IsTrue result ↔ (self.now.stage ≡ Ended) }
+        ensures whole { (stream : List ℕ) → StandsAt self.now stream →
+            (IsTrue result ↔ ((refusal_in self.now.stage ≡ None) × IsWholeTransfer self.now.query stream)) }
     {
         matches!(self.progress, Progress::Done)
     }
@@ -101,9 +106,10 @@ impl Receiver {
     ///
     /// Refused with the refusal that is kept, or else with `Unfinished` where the transfer has not come whole.
     pub fn into_zone(self) -> Result<Zone, ReceiveError>
-        ensures ok { IfOk result (λ zone. (self.kept ≡ None) × IsTransferIn WrittenOut self.query self.octets zone.records) }
+        ensures ok { IfOk result (λ zone. (stream : List ℕ) → StandsAt self stream →
+            (refusal_in self.stage ≡ None) × IsTransfer self.query stream zone.records) }
         ensures class_is { IfOk result (λ zone. zone.class ≡ self.query.class) }
-        ensures err { IfErr result (IsNoZone self) }
+        ensures err { IfErr result (λ error. (stream : List ℕ) → StandsAt self stream → IsNoZone self stream error) }
     {
         let Receiver {
             query,

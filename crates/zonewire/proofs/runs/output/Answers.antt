@@ -14,7 +14,7 @@ returns-in_err-zone-in-Send-clause-err c =
     let error = c.in_err-zone-in-Send.field-0.0 in
     let refused : IsJobFault c.args.job.now input (of_zone error) =
     subst (λ (j : Job). IsJobFault j input (of_zone error)) (sym c.in-Send.is)
-    (send-text-fault c.in-Send.origin c.in-Send.class c.in-Send.id c.in-Send.apex c.in-Send.max input error c.in_err-zone-in-Send.ensures.err) in
+    (send-text-fault c.in-Send.origin c.in-Send.class c.in-Send.id c.in-Send.apex c.in-Send.max c.in-Send.spelling input error c.in_err-zone-in-Send.ensures.err) in
     subst (λ r. IfErr r (IsJobFault c.args.job.now input)) (sym (is ∙ ap Err of)) refused
 
 pub returns-in_err-zone-in-Check-clause-err : goal.returns-in_err-zone-in-Check-clause-err

@@ -21,7 +21,7 @@ returns-in_err-command c =
     let (fault, is, memory) = err_from_is_err_and c.from_residual.result c.from_residual.ensures.1 in
     let words = map (λ (w : Bor (List ℕ)). w.now) c.args.words.now in
     let layouts = choices_of (codes "simple" ∷ codes "tabbed" ∷ codes "multiline" ∷ []) in
-    let a = zonewire (choices_of (codes "plain" ∷ [])) layouts in
+    let a = zonewire (choices_of (codes "plain" ∷ codes "static" ∷ codes "tree" ∷ codes "hash" ∷ [])) layouts in
     (a, (_, _, refl, refl, refl), subst (Reads a words) (sym (is ∙ ap Err memory)) tt)
 
 pub returns-in_err-matches : goal.returns-in_err-matches

@@ -32,5 +32,5 @@ returns c = (
   c.number_or.ensures,
   c.in_ok-apex.ensures.ok,
   c.number_or-2.ensures,
-  refl,
+  c.spelling.ensures,
 )

@@ -1,0 +1,64 @@
+use Rattle.std.proofs.Common.{◌<◌, ◌^◌, ◌∙◌, List, subst, sym, arith}
+use Rattle.std.specs.List.{AllByRecursion}
+use Rattle.std.proofs.lemmas.Result.{IfOk-weaker, MatchResult-weaker}
+use Rattle.zone_octets.specs.Record.{Record}
+use Rattle.zone_octets.specs.Typed.{HasLawfulData}
+use Rattle.zone_core.specs.Asked.{asked_by}
+use Rattle.zone_core.specs.Sent.{AsksFor}
+use Rattle.zone_core.specs.SentBy.{IsSentBy}
+use Rattle.zone_core.specs.declared.sending.Spelling.{Spelling}
+use Rattle.zone_text.specs.View.{apex_of}
+use Rattle.zone_core.proofs.SendFaults.{sent_for, fault_for, query_for, id_small, if_plain, all_lawful}
+use Rattle.zone_core.proofs.SentTransfers.{sent_is_transfer}
+use Rattle.zone_core.proofs.sending.send_into.Goals as goal
+
+pub returns-then-not-asks_for-clause-err : goal.returns-then-not-asks_for-clause-err
+returns-then-not-asks_for-clause-err c = (asked_by c.in-Ok.query, c.in-Ok.ensures.ok, λ asks. let yes = c.if-not-asks_for.ensures.1 asks in absurd cc)
+
+pub send_by-requires : goal.send_by-requires
+send_by-requires c = record {
+  asked = c.in_ok-name.ensures ∙ c.name.ensures;
+  lawful =
+      let P : List Record → Type 0 = λ rs. AllByRecursion HasLawfulData rs in
+      subst P (sym c.records_of.ensures.records) (all_lawful c.args.zone.now.class c.args.zone.now.records c.records_of.ensures.known.each);
+}
+
+pub returns-clause-ok : goal.returns-clause-ok
+returns-clause-ok c =
+    let query = asked_by c.in-Ok.query in
+    let asks : AsksFor query (apex_of c.args.zone.now.records) c.args.zone.now.class = c.asks_for.ensures.0 c.if-not-asks_for.false in
+    IfOk-weaker c.send_by.result _ _
+    (λ stream given. (
+      query,
+      c.in-Ok.ensures.ok,
+      asks,
+      sent_for c.args.spelling query c.records_of.result.now c.args.zone.now.records c.args.max stream.items c.records_of.ensures.records given,
+    ))
+    c.send_by.ensures.ok
+
+pub returns-clause-err : goal.returns-clause-err
+returns-clause-err c =
+    let query = asked_by c.in-Ok.query in
+    let asks : AsksFor query (apex_of c.args.zone.now.records) c.args.zone.now.class = c.asks_for.ensures.0 c.if-not-asks_for.false in
+    MatchResult-weaker c.send_by.result c.send_by.ensures.err (λ stream given. given)
+    (λ error given. fault_for c.args.spelling query c.args.zone.now.class c.records_of.result.now c.args.zone.now.records c.args.query.now
+    c.args.max error c.in-Ok.ensures.ok asks c.records_of.ensures.records given)
+
+pub returns-clause-transfer : goal.returns-clause-transfer
+returns-clause-transfer c =
+    let query = asked_by c.in-Ok.query in
+    let asks : AsksFor query (apex_of c.args.zone.now.records) c.args.zone.now.class = c.asks_for.ensures.0 c.if-not-asks_for.false in
+    let small : query.id < 2 ^ 16 = omega (arith, c.in-Ok.ensures.ok.id, id_small c.args.query.now (λ i. (c.type_inv.query i).fits)) in
+    let known = c.records_of.ensures.known in
+    let for_zone = query_for query c.args.zone.now.class c.args.zone.now.records c.args.query.now c.in-Ok.ensures.ok small asks known in
+    if_plain c.args.spelling _ (λ is.
+    IfOk-weaker c.send_by.result _ _
+    (λ stream given.
+    let P : Spelling → Type 0 = λ spelling. IsSentBy spelling c.args.zone.now.records query c.args.max stream.items in
+    let sent = subst P is (sent_for c.args.spelling query c.records_of.result.now c.args.zone.now.records c.args.max stream.items
+    c.records_of.ensures.records given) in (
+      query,
+      c.in-Ok.ensures.ok,
+      sent_is_transfer c.args.zone.now.records c.args.zone.now.class query c.args.max stream.items c.ranges.max.fits known for_zone sent,
+    ))
+    c.send_by.ensures.ok)

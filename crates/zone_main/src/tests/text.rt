@@ -1,0 +1,64 @@
+//! Zone text: each octet in a word, and a word that does not end.
+
+use super::examples::{behind_soa, changed, zone_of};
+use std::alloc::{AllocError, Global};
+use std::test::Fail;
+use zonewire::ZoneError;
+
+/// A row whose first word is long.
+const LONG_ROW: &[u8] = b"bbbbbbbbbbbbbbbbbb.a. 5 IN A 1.2.3.4\n";
+
+/// The long row with another octet at a place, behind the row of an SOA.
+fn long_row_with(alloc: Global, place: usize, octet: u8) -> Result<Vec<u8>, AllocError> {
+    let row = changed(alloc, LONG_ROW, place, octet)?;
+    behind_soa(alloc, row.as_slice())
+}
+
+/// Whether the second record of the text has this owner.
+fn has_owner(alloc: Global, text: &[u8], owner: &[u8]) -> Result<bool, ZoneError> {
+    let zone = zone_of(alloc, text)?;
+    let mut records = zone.records();
+    let (Some(_), Some(second)) = (records.next(), records.next()) else {
+        return Ok(false);
+    };
+    Ok(second.owner().as_slice() == owner)
+}
+
+/// Of the places, some are in the first eight octets of the word, some in the next, and one is behind these.
+#[test]
+fn octets_that_stand_in_words(rt: HostRuntime) -> Result<(), Fail> {
+    let alloc = rt.alloc();
+    for place in 0..17 {
+        for &octet in b"!#%&'*-/09:<=?AZ[]^_az{|}~" {
+            let text = long_row_with(alloc, place, octet)?;
+            let owner = changed(alloc, b"\x12bbbbbbbbbbbbbbbbbb\x01a\x00", 1 + place, octet)?;
+            assert!(rt; has_owner(alloc, text.as_slice(), owner.as_slice())?);
+        }
+        let escaped = long_row_with(alloc, place, b'\\')?;
+        let owner = b"\x11bbbbbbbbbbbbbbbbb\x01a\x00";
+        assert!(rt; has_owner(alloc, escaped.as_slice(), owner)?);
+    }
+    Ok(())
+}
+
+#[test]
+fn octets_that_stand_in_no_word(rt: HostRuntime) -> Result<(), Fail> {
+    let alloc = rt.alloc();
+    for &octet in b"\x00\t\r\x1f \"();\x7f\x80\xff" {
+        // In front of a row a semicolon begins a comment.
+        let first = if octet == b';' { 1 } else { 0 };
+        for place in first..17 {
+            let text = long_row_with(alloc, place, octet)?;
+            assert!(rt; zone_of(alloc, text.as_slice()).err() == Some(ZoneError::Text(2)));
+        }
+    }
+    Ok(())
+}
+
+#[test]
+fn a_word_of_a_megabyte_is_refused(rt: HostRuntime) -> Result<(), Fail> {
+    let alloc = rt.alloc();
+    let megabyte = vec![in alloc; b'a'; 1_000_000]?;
+    assert!(rt; zone_of(alloc, megabyte.as_slice()).err() == Some(ZoneError::Text(1)));
+    Ok(())
+}
