@@ -1,11 +1,12 @@
 #!/usr/bin/env python3
 """Times the proved program on zones of several sizes, and beside it the zone readers of other name servers.
 
-For each size: processor time a record (user and system), octets of its input a second, and the peak of its memory: on a plain zone
-for `send` (zone text to stream), `receive` (that stream to text), `check`, and `canon` (zone text to its canonical octets); and on a
-mixed one for `check` and `canon`. Of the others those that are installed read the same text, a plain one with one NS record more,
-without which some take no zone. Times are also given as a ratio of that of `send` on a plain zone, and of `check` on a mixed one. Each is run three times, and the fastest counts. A peak below some
-20 MB is that of the measuring program itself."""
+For each size, on a plain zone and on a mixed one: processor time a record (user and system), octets of its input a second, and the
+peak of its memory, for `send` (zone text to stream, names in full and with pointers), `receive` (such a stream to text), `check`, and
+`canon` (zone text to its canonical octets). Of the others those that are installed read the same text, a plain one with one NS record
+more, without which some take no zone. Times are also given as a ratio of that of `send` with names in full. Each is run three times,
+and the fastest counts. A peak below some 20 MB is that of the measuring program itself. A star marks a reader that found a fault
+in the zone, as a name server without an address."""
 import argparse
 import filecmp
 import os
@@ -21,28 +22,31 @@ import generate
 RUNS = 3
 SIZES = [10_000, 100_000, 1_000_000]
 ZONE = generate.APEX.rstrip(".")
+# In messages of at most so many octets each suffix of a name can be pointed to.
+SENT_SMALLEST = ["send", "--spelling", "tree", "--max", "16384"]
 
 
 @dataclass
 class Run:
     seconds: float
     peak_octets: int
+    passed: bool
 
 
-def run_once(words, stdin, stdout):
-    """One run of a program: its processor time and the peak of its memory. A program that fails ends the benchmark."""
+def run_once(words, stdin, stdout, must_pass):
+    """One run of a program: its processor time, the peak of its memory, and whether it passed. One that has to ends the benchmark."""
     with open(stdin, "rb") as source, open(stdout, "wb") as sink:
         child = subprocess.Popen(words, stdin=source, stdout=sink, stderr=subprocess.PIPE)
         said = child.stderr.read()
         _, status, usage = os.wait4(child.pid, 0)
         child.returncode = os.waitstatus_to_exitcode(status)
-    if child.returncode != 0:
+    if must_pass and child.returncode != 0:
         sys.exit(f"{' '.join(words)}: status {child.returncode}: {said.decode(errors='replace')}")
-    return Run(usage.ru_utime + usage.ru_stime, usage.ru_maxrss * 1024)
+    return Run(usage.ru_utime + usage.ru_stime, usage.ru_maxrss * 1024, child.returncode == 0)
 
 
-def fastest(words, stdin, stdout):
-    return min((run_once(words, stdin, stdout) for _ in range(RUNS)), key=lambda run: run.seconds)
+def fastest(words, stdin, stdout, must_pass=True):
+    return min((run_once(words, stdin, stdout, must_pass) for _ in range(RUNS)), key=lambda run: run.seconds)
 
 
 def peers(text):
@@ -78,12 +82,12 @@ def report_runs(records, runs, text):
         report(name, run, records, read, run.seconds / next(iter(runs.values()))[0].seconds)
     for name, (words, _) in peers(str(text)).items():
         if find(name):
-            run = fastest([find(name), *words], os.devnull, os.devnull)
-            report(name, run, records, text.stat().st_size, run.seconds / next(iter(runs.values()))[0].seconds)
+            run = fastest([find(name), *words], os.devnull, os.devnull, must_pass=False)
+            report(name if run.passed else f"{name} (*)", run, records, text.stat().st_size, run.seconds / next(iter(runs.values()))[0].seconds)
 
 
 def measure_plain(program, records, folder):
-    text, stream, again, with_server = (folder / name for name in ("zone", "stream", "again", "with_server"))
+    text, stream, small, again, with_server = (folder / name for name in ("zone", "stream", "small", "again", "with_server"))
     with open(text, "w") as out:
         generate.write_zone(out, records)
     with open(with_server, "w") as out:
@@ -91,12 +95,14 @@ def measure_plain(program, records, folder):
         out.write(generate.name_server())
     octets = text.stat().st_size
     sent = fastest([program, "send", "--spelling", "plain"], text, stream)
+    compressed = fastest([program, *SENT_SMALLEST], text, small)
     received = fastest([program, "receive", "--apex", generate.APEX], stream, again)
     if not filecmp.cmp(text, again, shallow=False):
         sys.exit("the text that was received is not the text that was sent")
-    print(f"{records:,} address records, {octets / 1e6:.1f} MB of text, {stream.stat().st_size / 1e6:.1f} MB of stream")
+    print(f"{records:,} address records, {octets / 1e6:.1f} MB of text, {stream.stat().st_size / 1e6:.1f} MB of stream, with pointers {small.stat().st_size / 1e6:.1f}")
     runs = {
         "zonewire send": (sent, octets),
+        "with pointers": (compressed, octets),
         "zonewire receive": (received, stream.stat().st_size),
         "zonewire check": (fastest([program, "check"], text, os.devnull), octets),
         "zonewire canon": (fastest([program, "canon"], text, os.devnull), octets),
@@ -105,12 +111,19 @@ def measure_plain(program, records, folder):
 
 
 def measure_mixed(program, records, folder):
-    text = folder / "mixed"
+    text, stream, small = (folder / name for name in ("mixed", "stream", "small"))
     with open(text, "w") as out:
         generate.write_mixed_zone(out, records)
     octets = text.stat().st_size
-    print(f"{records:,} mixed records, {octets / 1e6:.1f} MB of text")
+    sent = fastest([program, "send", "--spelling", "plain"], text, stream)
+    compressed = fastest([program, *SENT_SMALLEST], text, small)
+    print(f"{records:,} mixed records, {octets / 1e6:.1f} MB of text, {stream.stat().st_size / 1e6:.1f} MB of stream, with pointers {small.stat().st_size / 1e6:.1f}")
+    receive = [program, "receive", "--apex", generate.APEX]
     runs = {
+        "zonewire send": (sent, octets),
+        "with pointers": (compressed, octets),
+        "zonewire receive": (fastest(receive, stream, os.devnull), stream.stat().st_size),
+        "pointers received": (fastest(receive, small, os.devnull), small.stat().st_size),
         "zonewire check": (fastest([program, "check"], text, os.devnull), octets),
         "zonewire canon": (fastest([program, "canon"], text, os.devnull), octets),
     }
