@@ -3,12 +3,3 @@ pub mod Query
 pub mod Asked
 pub mod Frames
 pub mod Transfer
-pub mod Receiving
-pub mod Intake
-pub mod Received
-pub mod Sent
-pub mod Sending
-pub mod Spelled
-pub mod SpelledSent
-pub mod SpelledSending
-pub mod SentBy

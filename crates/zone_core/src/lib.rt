@@ -1,16 +1,15 @@
-//! Transfers: a zone sent as a stream of messages, and received from one (RFC 5936).
+//! Queries for the transfer of a zone, and what holds of transfers (RFC 5936).
 //!
-//! A part of `zonewire`, which hands all of it on, over `zone_text`, which has the zones. Its `specs/` say which stream is a
-//! zone's transfer, and how its records are cut into messages.
+//! A part of `zonewire`, which hands `check_query`, `axfr_query` and their types on. `zone_send` and `zone_receive` stand on it: its
+//! `specs/` say what a query asks, which stream is a zone's transfer, and how records are cut into messages. The functions of its
+//! other modules are for these two.
 #![tactic(auto)]
 
 pub mod laws;
+pub mod owned_query;
 mod query;
 mod query_error;
-mod receive;
-mod sending;
+pub mod question;
 
 pub use query::{Query, axfr_query, check_query};
 pub use query_error::QueryError;
-pub use receive::{ReceiveError, Receiver};
-pub use sending::{SendError, Spelling, send, send_into};

@@ -6,10 +6,10 @@ use Rattle.zone_text.specs.View.{apex_of}
 use Rattle.zone_rules.specs.ZoneText.{IsZoneFault, IsZoneText}
 use Rattle.zone_rules.specs.declared.zone_error.ZoneError.{ZoneError}
 use Rattle.zone_rules.specs.declared.zone_error.ZoneError.TheVariants.{OutOfMemory as NoMemory}
-use Rattle.zone_core.specs.SentBy.{IsSendFault}
-use Rattle.zone_core.specs.declared.sending.Spelling.{Spelling}
-use Rattle.zone_core.specs.declared.sending.error.SendError.{SendError}
-use Rattle.zone_core.specs.declared.sending.error.SendError.TheVariants.{Query, WrongZone, Record as Blocked, OutOfMemory}
+use Rattle.zone_send.specs.SentBy.{IsSendFault}
+use Rattle.zone_send.specs.declared.sending.Spelling.{Spelling}
+use Rattle.zone_send.specs.declared.sending.error.SendError.{SendError}
+use Rattle.zone_send.specs.declared.sending.error.SendError.TheVariants.{Query, WrongZone, Record as Blocked, OutOfMemory}
 use Rattle.zonewire.specs.Fault.{of_send, of_zone}
 use Rattle.zone_core.specs.Query.{query_octets}
 use Rattle.zonewire.specs.Output.{IsNotSent, IsSendJobFault, IsTextJobFault, query_of}

@@ -4,11 +4,11 @@ use Rattle.std.proofs.lemmas.List.{take_all}
 use Rattle.zone_octets.specs.Record.{Record}
 use Rattle.zone_core.specs.Query.{AxfrQuery, IsQuery}
 use Rattle.zone_core.specs.Transfer.{IsTransfer}
-use Rattle.zone_core.specs.Receiving.{Heard, IsBegun, IsNoZone, IsStreamFault, Refuses, Stage, StandsIn, Takes, refusal_in}
-use Rattle.zone_core.specs.Receiving.Stage.{Ended, Fresh, Refused}
-use Rattle.zone_core.specs.declared.receive.error.ReceiveError.{ReceiveError}
-use Rattle.zone_core.specs.declared.receive.error.ReceiveError.TheVariants.{OutOfMemory, Query, Unfinished}
-use Rattle.zone_core.proofs.OneOfThree.{transfer_not_begun}
+use Rattle.zone_receive.specs.Receiving.{Heard, IsBegun, IsNoZone, IsStreamFault, Refuses, Stage, StandsIn, Takes, refusal_in}
+use Rattle.zone_receive.specs.Receiving.Stage.{Ended, Fresh, Refused}
+use Rattle.zone_receive.specs.declared.error.ReceiveError.{ReceiveError}
+use Rattle.zone_receive.specs.declared.error.ReceiveError.TheVariants.{OutOfMemory, Query, Unfinished}
+use Rattle.zone_receive.proofs.OneOfThree.{transfer_not_begun}
 use Rattle.zonewire.specs.Fault.{of_receive}
 use Rattle.zonewire.specs.Output.{IsNotReceived, IsReceived, IsReceiveJobFault, asking_for}
 

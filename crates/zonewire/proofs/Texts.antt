@@ -11,8 +11,8 @@ use Rattle.dns_wire.specs.declared.text.FromStrError.{FromStrError}
 use Rattle.dns_wire.specs.declared.text.FromStrError.TheVariants.{Presentation, ShortBuf}
 use Rattle.zonewire.specs.Fault.{of_name}
 use Rattle.zonewire.specs.Words.{IsFaultOf, IsNameFault}
-use Rattle.zonewire.specs.declared.words.WordsFault.{WordsFault}
-use Rattle.zonewire.specs.declared.words.WordsFault.TheVariants.{Line, BadName, BadClass, OutOfMemory}
+use Rattle.zonewire.specs.declared.command_line.WordsFault.{WordsFault}
+use Rattle.zonewire.specs.declared.command_line.WordsFault.TheVariants.{Line, BadName, BadClass, OutOfMemory}
 
 -- `get_str` gives the text that the rows have for an option
 pub text_read : (f : Found) (option : Text) (got o : Option (Bor Text)) → option_map (λ s. s.now) got ≡ first_value f option → got ≡ o

@@ -1,16 +1,16 @@
 -- The program's fault for each error of a layer below: want of memory is one fault, whatever it was wanted for.
 use Rattle.zone_rules.specs.declared.zone_error.ZoneError.{ZoneError}
 use Rattle.zone_rules.specs.declared.zone_error.ZoneError.TheVariants as zone_error
-use Rattle.zone_core.specs.declared.sending.error.SendError.{SendError}
-use Rattle.zone_core.specs.declared.sending.error.SendError.TheVariants as send_error
-use Rattle.zone_core.specs.declared.receive.error.ReceiveError.{ReceiveError}
-use Rattle.zone_core.specs.declared.receive.error.ReceiveError.TheVariants as receive_error
+use Rattle.zone_send.specs.declared.sending.error.SendError.{SendError}
+use Rattle.zone_send.specs.declared.sending.error.SendError.TheVariants as send_error
+use Rattle.zone_receive.specs.declared.error.ReceiveError.{ReceiveError}
+use Rattle.zone_receive.specs.declared.error.ReceiveError.TheVariants as receive_error
 use Rattle.dns_wire.specs.declared.text.FromStrError.{FromStrError}
 use Rattle.dns_wire.specs.declared.text.FromStrError.TheVariants as from_str_error
 use Rattle.zonewire.specs.declared.source.ReadAllError.{ReadAllError}
 use Rattle.zonewire.specs.declared.source.ReadAllError.TheVariants as read_all_error
-use Rattle.zonewire.specs.declared.words.WordsFault.{WordsFault}
-use Rattle.zonewire.specs.declared.words.WordsFault.TheVariants as words_fault
+use Rattle.zonewire.specs.declared.command_line.WordsFault.{WordsFault}
+use Rattle.zonewire.specs.declared.command_line.WordsFault.TheVariants as words_fault
 use Rattle.zonewire.specs.declared.fault.Fault.{Fault}
 use Rattle.zonewire.specs.declared.fault.Fault.TheVariants.{Read, Zone, Send, Receive, OutOfMemory}
 

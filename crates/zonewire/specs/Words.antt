@@ -17,12 +17,12 @@ use Rattle.dns_label.specs.NameText.{IsNameText}
 use Rattle.dns_values.specs.Mnemonic.{class_read}
 use Rattle.dns_text.specs.declared.layout.DisplayKind.{DisplayKind}
 use Rattle.dns_text.specs.declared.layout.DisplayKind.TheVariants.{Simple, Tabbed, Multiline}
-use Rattle.zone_core.specs.declared.sending.Spelling.{Spelling}
-use Rattle.zone_core.specs.declared.sending.Spelling.TheVariants.{Plain, Static, Tree, Hash}
+use Rattle.zone_send.specs.declared.sending.Spelling.{Spelling}
+use Rattle.zone_send.specs.declared.sending.Spelling.TheVariants.{Plain, Static, Tree, Hash}
 use Rattle.zonewire.specs.declared.jobs.Job.{Job}
 use Rattle.zonewire.specs.declared.jobs.Job.TheVariants.{Send, Receive, Check, Canon}
-use Rattle.zonewire.specs.declared.words.WordsFault.{WordsFault}
-use Rattle.zonewire.specs.declared.words.WordsFault.TheVariants.{Line, BadName, BadClass, OutOfMemory}
+use Rattle.zonewire.specs.declared.command_line.WordsFault.{WordsFault}
+use Rattle.zonewire.specs.declared.command_line.WordsFault.TheVariants.{Line, BadName, BadClass, OutOfMemory}
 
 -- the number of decimal digits, perhaps behind a plus sign
 abbrev pub number : Text → ℕ

@@ -7,8 +7,9 @@ use crate::sink::SinkError;
 use crate::source::ReadAllError;
 use std::alloc::AllocError;
 use thiserror::Error;
-use zone_core::{ReceiveError, SendError};
+use zone_receive::ReceiveError;
 use zone_rules::ZoneError;
+use zone_send::SendError;
 
 /// Why a run failed. What memory was wanting for is not told apart.
 #[derive(Clone, Copy, Debug, PartialEq, Eq, Error)]

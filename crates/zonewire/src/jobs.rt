@@ -2,7 +2,7 @@
 
 use dns_name::{Class, Name};
 use dns_text::DisplayKind;
-use zone_core::Spelling;
+use zone_send::Spelling;
 
 /// One run of the program.
 #[derive(Debug, Drop)]

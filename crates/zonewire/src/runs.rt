@@ -14,8 +14,10 @@ use crate::source::{Source, read_all};
 use dns_name::{Class, Name};
 use dns_text::DisplayKind;
 use std::alloc::{AllocError, Global};
-use zone_core::{ReceiveError, Receiver, Spelling, axfr_query, send};
+use zone_core::axfr_query;
+use zone_receive::{ReceiveError, Receiver};
 use zone_rules::ZoneError;
+use zone_send::{Spelling, send};
 use zone_text::Zone;
 use zone_text::zone::records_of;
 

@@ -4,8 +4,6 @@
 ghost use Rattle.std.specs.Prelude.{◌≡◌, ℕ, ◌+◌, ◌≤◌, List, length, sum_by};
 ghost use Rattle.zone_octets.specs.Record.{Record};
 ghost use Rattle.zone_core.specs.Cutting.{Fits, IsFullCut, IsBlocked, CutOrBlocked, FrontsFit, PartsFit, Grows};
-ghost use Rattle.zone_core.specs.Query.{AxfrQuery};
-ghost use Rattle.zone_core.specs.Sent.{size as plain_size};
 
 /// A full cut has the fewest groups: no cutting of the same records that fits has fewer.
 pub fn full_cut_is_fewest()
@@ -54,15 +52,4 @@ pub fn parts_fit_where_size_grows()
 /// A size that adds up what each record takes, and something for the rest of the message, grows.
 pub fn sum_of_sizes_grows()
     ensures { (base : ℕ) (f : Record → ℕ) → Grows (λ group. base + sum_by f group) }
-{}
-
-/// Where names are written out, a message is no shorter than one with a part of its records, whatever the query. So a
-/// full cut has the fewest groups of all cuttings that fit, and where a record is blocked no cutting fits.
-pub fn plain_full_cut_is_fewest()
-    ensures grows { (query : AxfrQuery) → Grows (plain_size query) }
-    ensures fewest { (query : AxfrQuery) (max : ℕ) (records : List Record) (full others : List (List Record)) →
-        IsFullCut (plain_size query) max records full → Fits (plain_size query) max records others →
-        length full ≤ length others }
-    ensures none_fits { (query : AxfrQuery) (max : ℕ) (records : List Record) (n : ℕ) (groups : List (List Record)) →
-        IsBlocked (plain_size query) max records n → Fits (plain_size query) max records groups → ⊥ }
 {}

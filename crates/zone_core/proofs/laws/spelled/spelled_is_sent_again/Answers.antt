@@ -1,5 +1,0 @@
-use Rattle.zone_core.proofs.SpelledTransfers.{spelled_again}
-use Rattle.zone_core.proofs.laws.spelled.spelled_is_sent_again.Goals as goal
-
-pub returns : goal.returns
-returns c = spelled_again

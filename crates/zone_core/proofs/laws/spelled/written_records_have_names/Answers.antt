@@ -1,5 +1,0 @@
-use Rattle.zone_core.proofs.SpelledSums.{written_names}
-use Rattle.zone_core.proofs.laws.spelled.written_records_have_names.Goals as goal
-
-pub returns : goal.returns
-returns c = written_names

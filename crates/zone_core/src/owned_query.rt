@@ -1,0 +1,30 @@
+//! Queries that hold the name that they ask for.
+ghost use Rattle.std.specs.Prelude.{◌≡◌, IfOk};
+ghost use Rattle.zone_core.specs.Asked.{asked_by, asked_of};
+
+use crate::query::Query;
+use dns_name::{Class, Name, ToName};
+use std::alloc::{AllocError, Global};
+
+/// A query for the transfer of a zone that does not refer to its message.
+#[derive(Debug, Drop)]
+pub struct OwnedQuery {
+    pub id: u16,
+    pub rd: bool,
+    pub name: Name<Vec<u8>>,
+    pub class: Class,
+}
+
+impl OwnedQuery {
+    /// Returns the query with its name copied. Fails if out of memory.
+    pub fn from_query(alloc: Global, query: &Query<'_>) -> Result<OwnedQuery, AllocError>
+        ensures { IfOk result (λ owned. asked_of owned ≡ asked_by query.now) }
+    {
+        Ok(OwnedQuery {
+            id: query.id(),
+            rd: query.rd(),
+            name: query.name().to_vec(alloc)?,
+            class: query.class(),
+        })
+    }
+}

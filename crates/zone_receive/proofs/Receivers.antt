@@ -1,0 +1,187 @@
+-- How far a receiver is.
+use Rattle.std.proofs.Common.{◌≡◌, ◌≢◌, ℕ, ◌≤◌, Bool, true, false, Option, Some, None, List, [], ◌++◌, ◌∷◌, length, take, refl, sym, ap, ◌∙◌, subst, arith, append-nil, inl, inr}
+use Rattle.std.proofs.lemmas.List.{take_all}
+use Rattle.zone_octets.specs.Record.{Record}
+use Rattle.zone_core.specs.Query.{AxfrQuery}
+use Rattle.zone_core.specs.Transfer.{IsTransfer}
+use Rattle.zone_receive.specs.Receiving.{Heard, IsHeard, IsNoZone, IsStreamFault, Refuses, Stage, StandsAt, StandsIn, Takes, refusal_in}
+use Rattle.zone_receive.specs.Receiving.Stage.{Begun, Ended, Fresh, Refused}
+use Rattle.zone_receive.specs.Intake.{EndsTransfer, GoesOn, IsEnded, IsWaiting, heard_by, stage_where}
+use Rattle.zone_receive.specs.Received.{heard_in, stage_in}
+use Rattle.zone_receive.specs.declared.error.ReceiveError.{ReceiveError}
+use Rattle.zone_receive.specs.declared.error.ReceiveError.TheVariants as receive_error
+use Rattle.zone_receive.specs.declared.intake.Intake.{Intake}
+use Rattle.zone_receive.specs.declared.receiver.Progress.{Progress}
+use Rattle.zone_receive.specs.declared.receiver.Progress.TheVariants as progress
+use Rattle.zone_receive.proofs.Intakes.{heard_is_begun, take_none}
+
+-- where no last SOA has come
+pub stands_where : (first : Bool) (heard : Heard) (stream : List ℕ) → IsHeard heard stream → StandsIn (stage_where first) heard stream
+stands_where true heard stream is = is
+stands_where false heard stream is = is
+
+pub heard_where : (first : Bool) (heard : Heard) (stream : List ℕ) → StandsIn (stage_where first) heard stream → IsHeard heard stream
+heard_where true heard stream stands = stands
+heard_where false heard stream stands = stands
+
+not_refused : (first : Bool) → refusal_in (stage_where first) ≡ None
+not_refused true = refl
+not_refused false = refl
+
+not_ended : (first : Bool) → stage_where first ≡ Ended → ⊥
+not_ended true is = absurd cc
+not_ended false is = absurd cc
+
+-- the whole piece is taken
+pub takes_all : (old new : Intake) (query : AxfrQuery) (stream piece : List ℕ) (n : ℕ) → n ≡ length piece → GoesOn old piece new query
+    → StandsAt (heard_in progress.Begun old query) stream → Takes (heard_in progress.Begun old query) stream piece (heard_in progress.Begun new query) n
+takes_all old new query stream piece n all goes stands =
+    let heard = goes.heard stream (heard_where old.is_first (heard_in progress.Begun old query) stream stands) in
+    let P : List ℕ → Type 0 = λ octets. IsHeard (heard_in progress.Begun new query) (stream ++ octets) in
+    record {
+      free = not_refused old.is_first;
+      query = refl;
+      kept = not_refused new.is_first;
+      within = omega (arith, all);
+      stands = stands_where new.is_first (heard_in progress.Begun new query) (stream ++ take n piece)
+          (subst P (sym (take_all n piece (omega (arith, all)))) heard);
+      ends = inr (not_ended new.is_first, all);
+    }
+
+-- the transfer ends in the piece
+pub takes_end : (old new : Intake) (query : AxfrQuery) (stream piece : List ℕ) (n : ℕ) → n ≤ length piece
+    → EndsTransfer old (take n piece) new query → StandsAt (heard_in progress.Begun old query) stream
+    → Takes (heard_in progress.Begun old query) stream piece (heard_in progress.Done new query) n
+takes_end old new query stream piece n within ends stands = record {
+  free = not_refused old.is_first;
+  query = refl;
+  kept = refl;
+  within = within;
+  stands = (ends.whole, ends.transfer stream (heard_where old.is_first (heard_in progress.Begun old query) stream stands));
+  ends = inl refl;
+}
+
+-- it has ended
+pub takes_none : (intake : Intake) (query : AxfrQuery) (stream piece : List ℕ) → StandsAt (heard_in progress.Done intake query) stream
+    → Takes (heard_in progress.Done intake query) stream piece (heard_in progress.Done intake query) 0
+takes_none intake query stream piece stands =
+    let P : List ℕ → Type 0 = λ octets. IsTransfer query octets intake.records in
+    record {
+      free = refl;
+      query = refl;
+      kept = refl;
+      within = omega arith;
+      stands = (stands.0, subst P (sym (append-nil stream) ∙ ap (λ octets. stream ++ octets) (sym (take_none piece))) stands.1);
+      ends = inl refl;
+    }
+
+-- the piece is refused, for the first time or again
+pub refuses_piece : (old new : Intake) (query : AxfrQuery) (stream piece : List ℕ) (error : ReceiveError)
+    → ((stream : List ℕ) → IsHeard (heard_by old query) stream → IsStreamFault query (stream ++ piece) error)
+    → StandsAt (heard_in progress.Begun old query) stream
+    → Refuses (heard_in progress.Begun old query) stream piece (heard_in (progress.Refused error) new query) error
+refuses_piece old new query stream piece error breaks stands = record {
+  query = refl;
+  kept = refl;
+  why = inr (not_refused old.is_first, breaks stream (heard_where old.is_first (heard_in progress.Begun old query) stream stands));
+}
+
+pub refuses_again : (intake : Intake) (query : AxfrQuery) (stream piece : List ℕ) (error : ReceiveError)
+    → Refuses (heard_in (progress.Refused error) intake query) stream piece (heard_in (progress.Refused error) intake query) error
+refuses_again intake query stream piece error = record { query = refl; kept = refl; why = inl (refl, refl) }
+
+-- the transfer has ended
+pub ends_ended : {old new : Intake} {query : AxfrQuery} (octets : List ℕ) → IsWaiting old query → EndsTransfer old octets new query
+    → IsEnded new query
+ends_ended octets waits ends =
+    record { stream = waits.stream ++ octets; transfer = ends.transfer waits.stream waits.heard; known = ends.known }
+
+-- a receiver that is done has the transfer, with its records
+pub has_transfer : (heard : Heard) (records : List Record) (stream : List ℕ) → heard.stage ≡ Ended → records ≡ heard.records
+    → StandsAt heard stream → (refusal_in heard.stage ≡ None) × IsTransfer heard.query stream records
+has_transfer heard records stream is same stands =
+    let P : Stage → Type 0 = λ at. StandsIn at heard stream in
+    let Q : List Record → Type 0 = λ records. IsTransfer heard.query stream records in
+    let here = subst P is stands in
+    (ap refusal_in is, subst Q (sym same) here.1)
+
+pub not_ended_in : (at : Progress) (first : Bool) → (at ≡ progress.Done → ⊥) → stage_in at first ≡ Ended → ⊥
+not_ended_in progress.Begun first not_there is = not_ended first is
+not_ended_in progress.Done first not_there is = not_there refl
+not_ended_in (progress.Refused error) first not_there is = absurd cc
+
+-- what is seen of a receiver, by how far it is
+pub feeds_all : (old : Heard) (at : Progress) (intake new : Intake) (query : AxfrQuery) (piece : List ℕ) (n : ℕ) → heard_in at intake query ≡ old
+    → at ≡ progress.Begun → n ≡ length piece → GoesOn intake piece new query
+    → (stream : List ℕ) → StandsAt old stream → Takes old stream piece (heard_in at new query) n
+feeds_all old at intake new query piece n view is all goes =
+    let P : Progress → Type 0 = λ at. (stream : List ℕ) → StandsAt (heard_in at intake query) stream
+    → Takes (heard_in at intake query) stream piece (heard_in at new query) n in
+    let Q : Heard → Type 0 = λ old. (stream : List ℕ) → StandsAt old stream → Takes old stream piece (heard_in at new query) n in
+    subst Q view (subst P (sym is) (λ stream stands. takes_all intake new query stream piece n all goes stands))
+
+pub feeds_end : (old : Heard) (at : Progress) (intake new : Intake) (query : AxfrQuery) (piece : List ℕ) (n : ℕ) → heard_in at intake query ≡ old
+    → at ≡ progress.Begun → n ≤ length piece → EndsTransfer intake (take n piece) new query
+    → (stream : List ℕ) → StandsAt old stream → Takes old stream piece (heard_in progress.Done new query) n
+feeds_end old at intake new query piece n view is within ends =
+    let P : Progress → Type 0 = λ at. (stream : List ℕ) → StandsAt (heard_in at intake query) stream
+    → Takes (heard_in at intake query) stream piece (heard_in progress.Done new query) n in
+    let Q : Heard → Type 0 = λ old. (stream : List ℕ) → StandsAt old stream → Takes old stream piece (heard_in progress.Done new query) n in
+    subst Q view (subst P (sym is) (λ stream stands. takes_end intake new query stream piece n within ends stands))
+
+pub feeds_none : (old : Heard) (at : Progress) (intake : Intake) (query : AxfrQuery) (piece : List ℕ) → heard_in at intake query ≡ old
+    → at ≡ progress.Done → (stream : List ℕ) → StandsAt old stream → Takes old stream piece old 0
+feeds_none old at intake query piece view is =
+    let P : Progress → Type 0 = λ at. (stream : List ℕ) → StandsAt (heard_in at intake query) stream
+    → Takes (heard_in at intake query) stream piece (heard_in at intake query) 0 in
+    let Q : Heard → Type 0 = λ old. (stream : List ℕ) → StandsAt old stream → Takes old stream piece old 0 in
+    subst Q view (subst P (sym is) (λ stream stands. takes_none intake query stream piece stands))
+
+pub feeds_bad : (old : Heard) (at : Progress) (intake new : Intake) (query : AxfrQuery) (piece : List ℕ) (error : ReceiveError)
+    → heard_in at intake query ≡ old → at ≡ progress.Begun
+    → ((stream : List ℕ) → IsHeard (heard_by intake query) stream → IsStreamFault query (stream ++ piece) error)
+    → (stream : List ℕ) → StandsAt old stream → Refuses old stream piece (heard_in (progress.Refused error) new query) error
+feeds_bad old at intake new query piece error view is breaks =
+    let P : Progress → Type 0 = λ at. (stream : List ℕ) → StandsAt (heard_in at intake query) stream
+    → Refuses (heard_in at intake query) stream piece (heard_in (progress.Refused error) new query) error in
+    let Q : Heard → Type 0 = λ old. (stream : List ℕ) → StandsAt old stream
+    → Refuses old stream piece (heard_in (progress.Refused error) new query) error in
+    subst Q view (subst P (sym is) (λ stream stands. refuses_piece intake new query stream piece error breaks stands))
+
+pub feeds_again : (old : Heard) (at : Progress) (intake : Intake) (query : AxfrQuery) (piece : List ℕ) (error : ReceiveError)
+    → heard_in at intake query ≡ old → at ≡ progress.Refused error
+    → (stream : List ℕ) → StandsAt old stream → Refuses old stream piece old error
+feeds_again old at intake query piece error view is =
+    let P : Progress → Type 0 = λ at. (stream : List ℕ) → StandsAt (heard_in at intake query) stream
+    → Refuses (heard_in at intake query) stream piece (heard_in at intake query) error in
+    let Q : Heard → Type 0 = λ old. (stream : List ℕ) → StandsAt old stream → Refuses old stream piece old error in
+    subst Q view (subst P (sym is) (λ stream stands. refuses_again intake query stream piece error))
+
+pub done_stage : (heard : Heard) (at : Progress) (intake : Intake) (query : AxfrQuery) → heard_in at intake query ≡ heard → at ≡ progress.Done
+    → heard.stage ≡ Ended
+done_stage heard at intake query view is =
+    ap (λ (h : Heard). h.stage) (sym view) ∙ ap (λ (p : Progress). stage_in p intake.is_first) is
+
+pub other_stage : (heard : Heard) (at : Progress) (intake : Intake) (query : AxfrQuery) → heard_in at intake query ≡ heard
+    → (at ≡ progress.Done → ⊥) → heard.stage ≡ Ended → ⊥
+other_stage heard at intake query view not_there ended =
+    not_ended_in at intake.is_first not_there (ap (λ (h : Heard). h.stage) view ∙ ended)
+
+-- why there is no zone
+no_zone_yet : (intake : Intake) (query : AxfrQuery) (stream : List ℕ) → StandsAt (heard_in progress.Begun intake query) stream
+    → IsNoZone (heard_in progress.Begun intake query) stream receive_error.Unfinished
+no_zone_yet intake query stream stands =
+    inr (refl, not_refused intake.is_first, heard_is_begun (heard_where intake.is_first (heard_in progress.Begun intake query) stream stands))
+
+pub no_zone : (heard : Heard) (at : Progress) (intake : Intake) (query : AxfrQuery) → heard_in at intake query ≡ heard → at ≡ progress.Begun
+    → (stream : List ℕ) → StandsAt heard stream → IsNoZone heard stream receive_error.Unfinished
+no_zone heard at intake query view is =
+    let P : Progress → Type 0 = λ at. (stream : List ℕ) → StandsAt (heard_in at intake query) stream
+    → IsNoZone (heard_in at intake query) stream receive_error.Unfinished in
+    let Q : Heard → Type 0 = λ heard. (stream : List ℕ) → StandsAt heard stream → IsNoZone heard stream receive_error.Unfinished in
+    subst Q view (subst P (sym is) (λ stream stands. no_zone_yet intake query stream stands))
+
+pub refused_stage : (heard : Heard) (at : Progress) (intake : Intake) (query : AxfrQuery) (error : ReceiveError) → heard_in at intake query ≡ heard
+    → at ≡ progress.Refused error → heard.stage ≡ Refused error
+refused_stage heard at intake query error view is =
+    ap (λ (h : Heard). h.stage) (sym view) ∙ ap (λ (p : Progress). stage_in p intake.is_first) is

@@ -1,0 +1,29 @@
+-- How far a receiver is. Only the receiver itself speaks of it.
+use Rattle.std.specs.Prelude.{Bool, ⊤}
+use Rattle.zone_core.specs.Query.{AxfrQuery}
+use Rattle.zone_receive.specs.Receiving.{Heard, Stage}
+use Rattle.zone_receive.specs.Receiving.Stage.{Ended, Refused}
+use Rattle.zone_receive.specs.Intake.{IsEnded, IsWaiting, stage_where}
+use Rattle.zone_receive.specs.declared.intake.Intake.{Intake}
+use Rattle.zone_receive.specs.declared.receiver.Progress.{Progress}
+use Rattle.zone_receive.specs.declared.receiver.Progress.TheVariants as progress
+
+abbrev pub stage_in : Progress → Bool → Stage
+stage_in progress.Begun is_first = stage_where is_first
+stage_in progress.Done is_first = Ended
+stage_in (progress.Refused error) is_first = Refused error
+
+-- what a receiver is to who uses it
+abbrev pub heard_in : Progress → Intake → AxfrQuery → Heard
+heard_in at intake query = record {
+  query = query;
+  records = intake.records;
+  open_frame = intake.open_frame.items;
+  stage = stage_in at intake.is_first;
+}
+
+-- what holds of the octets and the records
+abbrev pub IsAt : Progress → Intake → AxfrQuery → Type 0
+IsAt progress.Begun intake query = IsWaiting intake query
+IsAt progress.Done intake query = IsEnded intake query
+IsAt (progress.Refused error) intake query = ⊤

@@ -1,0 +1,126 @@
+//! Who asks for a zone's transfer, and takes the stream of answers.
+ghost use Rattle.std.specs.Prelude.{◌≡◌, ◌↔◌, ℕ, List, [], None, IsTrue, IfOk, IfErr, MatchResult};
+ghost use Rattle.zone_core.specs.Asked.{asked_of};
+ghost use Rattle.zone_core.specs.Query.{IsQuery};
+ghost use Rattle.zone_receive.specs.Receiving.{IsAskFault, IsNoZone, IsWholeTransfer, Refuses, StandsAt, Takes, refusal_in};
+ghost use Rattle.zone_receive.specs.Receiving.Stage.{Ended, Fresh};
+ghost use Rattle.zone_core.specs.Transfer.{IsTransfer};
+
+use crate::error::ReceiveError;
+use crate::intake::Intake;
+use std::alloc::Global;
+use std::marker::Model;
+use zone_core::check_query;
+use zone_core::owned_query::OwnedQuery;
+use zone_text::Zone;
+use zone_text::zone::zone_of;
+
+/// How far a stream has come.
+#[derive(Clone, Copy, Debug)]
+enum Progress {
+    /// The last SOA has not come.
+    Begun,
+    /// The last SOA has come, and the zone's records are whole.
+    Done,
+    /// The stream was refused.
+    Refused(ReceiveError),
+}
+
+/// Who asks for a zone's transfer and takes the stream of answers, in pieces of any size (RFC 5936 2.2).
+///
+/// It holds the records that came, and the octets of a message that is not whole: less than 65,537. A message is judged
+/// once, when it is whole.
+#[derive(Debug, Drop)]
+pub struct Receiver {
+    query: OwnedQuery,
+    intake: Intake,
+    progress: Progress,
+}
+
+impl Model for Receiver {
+    ghost use Rattle.zone_receive.specs.Receiving.{Heard};
+    ghost use Rattle.zone_receive.specs.Received.{IsAt, heard_in};
+    ghost use Rattle.zone_core.specs.Asked.{asked_of};
+
+    ghost Value = { Heard };
+
+    ghost view = { λ r. heard_in r.progress r.intake (asked_of r.query) };
+
+    ghost invariant = { λ r. IsAt r.progress r.intake (asked_of r.query) };
+}
+
+impl Receiver {
+    /// A receiver for the answers to a query, to which no octet has come.
+    ///
+    /// Refused where the query breaks a rule, by the first one, and where there is no memory for the query's name.
+    pub fn new(alloc: Global, query: &[u8]) -> Result<Receiver, ReceiveError>
+        ensures ok { IfOk result (λ receiver. IsQuery query.now receiver.query) }
+        ensures stands { IfOk result (λ receiver. (receiver.stage ≡ Fresh) × StandsAt receiver []) }
+        ensures err { IfErr result (IsAskFault query.now) }
+    {
+        let query = match check_query(query) {
+            Ok(query) => query,
+            Err(fault) => return Err(ReceiveError::Query(fault)),
+        };
+        Ok(Receiver {
+            query: OwnedQuery::from_query(alloc, &query)?,
+            intake: Intake::new(alloc),
+            progress: Progress::Begun,
+        })
+    }
+
+    /// Takes the next piece of the stream, and answers how many octets of it were taken: all of them, or those up to the
+    /// end of the transfer; none once it has ended.
+    ///
+    /// Refused by the first rule that the first bad message breaks, and then this refusal is the answer from then on.
+    pub fn feed(&mut self, piece: &[u8]) -> Result<usize, ReceiveError>
+        ensures { (stream : List ℕ) → StandsAt self.old stream →
+            MatchResult result (Takes self.old stream piece.now self.new) (Refuses self.old stream piece.now self.new) }
+    {
+        match self.progress {
+            Progress::Done => Ok(0),
+            Progress::Refused(error) => Err(error),
+            Progress::Begun => match self.intake.take(&self.query, piece) {
+                Ok(None) => Ok(piece.len()),
+                Ok(Some(count)) => {
+                    self.progress = Progress::Done;
+                    Ok(count)
+                }
+                Err(error) => {
+                    self.progress = Progress::Refused(error);
+                    Err(error)
+                }
+            },
+        }
+    }
+
+    /// Whether the transfer has come whole.
+    pub fn is_done(&self) -> bool
+        ensures stage { IsTrue result ↔ (self.now.stage ≡ Ended) }
+        ensures whole { (stream : List ℕ) → StandsAt self.now stream →
+            (IsTrue result ↔ ((refusal_in self.now.stage ≡ None) × IsWholeTransfer self.now.query stream)) }
+    {
+        matches!(self.progress, Progress::Done)
+    }
+
+    /// The zone that came.
+    ///
+    /// Refused with the refusal that is kept, or else with `Unfinished` where the transfer has not come whole.
+    pub fn into_zone(self) -> Result<Zone, ReceiveError>
+        ensures ok { IfOk result (λ zone. (stream : List ℕ) → StandsAt self stream →
+            (refusal_in self.stage ≡ None) × IsTransfer self.query stream zone.records) }
+        ensures class_is { IfOk result (λ zone. zone.class ≡ self.query.class) }
+        ensures err { IfErr result (λ error. (stream : List ℕ) → StandsAt self stream → IsNoZone self stream error) }
+    {
+        let Receiver {
+            query,
+            intake,
+            progress,
+        } = self;
+        match progress {
+            Progress::Done => Ok(zone_of(intake.into_records(), query.class)),
+            Progress::Begun => Err(ReceiveError::Unfinished),
+            Progress::Refused(error) => Err(error),
+        }
+    }
+}

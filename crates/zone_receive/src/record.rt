@@ -1,0 +1,26 @@
+//! The records of answers.
+ghost use Rattle.std.specs.Prelude.{◌≡◌, ℕ, IfOk, OnErr};
+ghost use Rattle.dns_octets.specs.Parser.{octets_of, place_of};
+ghost use Rattle.dns_name.specs.ParsedName.{labels_of};
+ghost use Rattle.dns_header.specs.Record.{with_labels};
+ghost use Rattle.dns_message.specs.Held.{record_of};
+ghost use Rattle.dns_message.specs.Record.{ReadsRecord};
+ghost use Rattle.zone_octets.specs.Record as spec;
+ghost use Rattle.zone_octets.specs.Records.{AreOctets};
+ghost use Rattle.zone_octets.specs.Typed.{seen_of};
+
+use dns_message::ParsedRecord;
+use dns_name::{ParseError, Parser};
+use zone_octets::record_list::MessageRecord;
+
+/// Reads the record at the parser's place, and leaves the parser behind it. Its names may have pointers (RFC 1035 4.1.4).
+pub(crate) fn parse_record<'a>(parser: &mut Parser<'a>) -> Result<MessageRecord<'a>, ParseError>
+    requires { AreOctets (octets_of parser.old) }
+    ensures ok { IfOk result (λ r. ReadsRecord (octets_of parser.old) (place_of parser.old) (record_of (seen_of (with_labels labels_of r)))
+        (place_of parser.new)) }
+    ensures same { octets_of parser.new ≡ octets_of parser.old }
+    ensures err { OnErr result ((r : spec.Record) (next : ℕ) → ReadsRecord (octets_of parser.old) (place_of parser.old) r next → ⊥) }
+{
+    let found = ParsedRecord::parse(parser)?;
+    found.into_any_record()
+}

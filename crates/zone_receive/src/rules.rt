@@ -1,0 +1,84 @@
+//! The rules that the records of a transfer keep, one behind the other.
+ghost use Rattle.std.specs.Prelude.{◌≡◌, ◌+◌, ◌↔◌, [], ℕ, List, false, length, IsTrue, IfOk, IfErr, OnOk};
+ghost use Rattle.std.specs.List.{AllByRecursion, push};
+ghost use Rattle.zone_octets.specs.Record as spec;
+ghost use Rattle.zone_core.specs.Asked.{asked_of};
+ghost use Rattle.zone_octets.specs.Records.{AreOctets, IsRecordOf};
+ghost use Rattle.dns_message.specs.Record.{ReadsRecord};
+ghost use Rattle.zone_receive.specs.Receiving.{IsRecordFault, KeepsFirstRule};
+ghost use Rattle.zone_receive.specs.Intake.{IsNext, IsPlacing, StandsAt};
+
+use crate::error::ReceiveError;
+use zone_core::owned_query::OwnedQuery;
+use zone_octets::checks::is_spellable;
+use zone_octets::record::Record;
+use zone_octets::record_data::is_same_soa;
+use zone_octets::record_list::RecordList;
+
+/// What a record is in a transfer.
+#[derive(Clone, Copy, Debug, PartialEq, Eq)]
+pub(crate) enum Placing {
+    /// A record of the zone.
+    Inner,
+    /// The SOA again, which ends the transfer.
+    Last,
+}
+
+/// Holds the last of these records, which has this number in the transfer, against the rules. `closed` says whether the last
+/// SOA stands between it and the records in front of it.
+pub(crate) fn place_record(
+    query: &OwnedQuery,
+    records: &RecordList,
+    closed: bool,
+    number: usize,
+) -> Result<Placing, ReceiveError>
+    requires { IsNext (asked_of query.now) records.now closed number }
+    ensures ok { IfOk result (λ placing. (held : List spec.Record) (r : spec.Record) → records.now ≡ push held r
+        → IsPlacing (asked_of query.now) held r placing) }
+    ensures known { OnOk result (AllByRecursion (IsRecordOf query.now.class) records.now) }
+    ensures open { OnOk result (closed ≡ false) }
+    ensures err { IfErr result (λ error. (held front : List spec.Record) (r : spec.Record) (message : List ℕ) (place end : ℕ)
+        → records.now ≡ push held r → StandsAt (asked_of query.now) held closed front → number ≡ length front + 1
+        → ReadsRecord message place r end → IsRecordFault (asked_of query.now) front message place error) }
+{
+    let last = records.len() - 1;
+    let octets = records.octets_at(last);
+    are_octets(octets);
+    let next = Record::from_octets(octets);
+    if last == 0 && !is_first_soa(query, &next) {
+        return Err(ReceiveError::FirstNotSoa);
+    }
+    if next.class() != query.class {
+        return Err(ReceiveError::Class(number));
+    }
+    if !next.is_under(&query.name) {
+        return Err(ReceiveError::OutOfZone(number));
+    }
+    let placing = if last == 0 || !next.is_soa() {
+        Placing::Inner
+    } else {
+        if !is_same_soa(&records.record_at(0), &next) {
+            return Err(ReceiveError::SoaDiffers(number));
+        }
+        Placing::Last
+    };
+    if closed {
+        return Err(ReceiveError::AfterLast(number));
+    }
+    if !is_spellable(&next) {
+        return Err(ReceiveError::Unspellable(number));
+    }
+    Ok(placing)
+}
+
+/// Whether a record is an SOA of the query's name.
+fn is_first_soa(query: &OwnedQuery, next: &Record<'_>) -> bool
+    ensures { IsTrue result ↔ KeepsFirstRule (asked_of query.now) [] next.now }
+{
+    next.is_soa() && next.is_at(&query.name)
+}
+
+/// Does nothing. It says to the proof what the type does: that each of these is an octet.
+fn are_octets(_octets: &[u8])
+    ensures { AreOctets _octets.now }
+{}

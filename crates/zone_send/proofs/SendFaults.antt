@@ -1,0 +1,108 @@
+-- What a stream and a refusal say of a zone and a query.
+use Rattle.std.proofs.Common.{◌≡◌, ℕ, ◌<◌, ◌^◌, Bool, List, [], ◌∷◌, get_or, refl, subst, ap, sym, ◌∙◌, arith}
+use Rattle.std.specs.Prelude.{IsTrue, nat_eq}
+use Rattle.std.specs.Cmp.Lexicographic.{pointwise}
+use lib.Pointwise.{pointwise_decides, bytes_decides}
+use Rattle.dns_label.specs.Name.{low}
+use Rattle.dns_header.specs.Header.{id_of}
+use Rattle.zone_octets.specs.Record.{Record}
+use Rattle.zone_send.specs.declared.sending.error.SendError.{SendError}
+use Rattle.zone_send.specs.declared.sending.error.SendError.TheVariants as send_error
+use Rattle.zone_core.specs.Query.{AxfrQuery, IsQuery}
+use Rattle.std.specs.List.{AllByRecursion}
+use Rattle.zone_octets.specs.Records.{AreRecordsOf, IsRecordOf}
+use Rattle.zone_octets.specs.Typed.{HasLawfulData}
+use Rattle.zone_core.specs.Cutting.{IsBlocked}
+use Rattle.zone_send.specs.Sent.{size, with_soa_again, IsQueryFor, AsksFor, IsSent}
+use Rattle.zone_send.specs.SentBy.{IsSentBy, IsBlockedBy, IsSendFault, IsRefusedFor}
+use Rattle.zone_send.specs.Sending.{IsRefusedBy}
+use Rattle.zone_send.specs.SpelledSent.{IsSpelledBlocked}
+use Rattle.zone_send.specs.SpelledSending.{IsRefusedSpelled}
+use Rattle.zone_send.specs.declared.sending.Spelling.{Spelling}
+use Rattle.zone_send.specs.declared.sending.Spelling.TheVariants.{Plain}
+use Rattle.dns_name.specs.Spelling.{Spelling as Spells}
+use Rattle.zone_text.specs.View.{apex_of}
+
+-- what is said of records that are the zone's
+pub sent_for : (spelling : Spelling) (query : AxfrQuery) (held records : List Record) (max : ℕ) (stream : List ℕ) → held ≡ records
+    → IsSentBy spelling held query max stream → IsSentBy spelling records query max stream
+sent_for spelling query held records max stream are sent =
+    let P : List Record → Type 0 = λ rs. IsSentBy spelling rs query max stream in subst P are sent
+
+fault_of : (spelling : Spelling) (query : AxfrQuery) (class : ℕ) (records : List Record) (octets : List ℕ) (max : ℕ) (error : SendError)
+    → IsQuery octets query → AsksFor query (apex_of records) class → IsRefusedFor spelling records query max error
+    → IsSendFault spelling records (apex_of records) class octets max error
+fault_of spelling query class records octets max (send_error.Query fault) is asks refused = absurd refused
+fault_of spelling query class records octets max send_error.WrongZone is asks refused = absurd refused
+fault_of spelling query class records octets max (send_error.Record n) is asks refused = (query, is, asks, refused)
+fault_of spelling query class records octets max send_error.OutOfMemory is asks refused = tt
+
+pub fault_for : (spelling : Spelling) (query : AxfrQuery) (class : ℕ) (held records : List Record) (octets : List ℕ) (max : ℕ) (error : SendError)
+    → IsQuery octets query → AsksFor query (apex_of records) class → held ≡ records → IsRefusedFor spelling held query max error
+    → IsSendFault spelling records (apex_of records) class octets max error
+fault_for spelling query class held records octets max error is asks are refused =
+    let P : List Record → Type 0 = λ rs. IsRefusedFor spelling rs query max error in
+    fault_of spelling query class records octets max error is asks (subst P are refused)
+
+-- with every name written out
+pub plain_refused : (query : AxfrQuery) (records : List Record) (within max : ℕ) (error : SendError) → within ≡ max
+    → IsRefusedBy query within records error → IsRefusedFor Plain records query max error
+plain_refused query records within max (send_error.Query fault) same refused = absurd refused
+plain_refused query records within max send_error.WrongZone same refused = absurd refused
+plain_refused query records within max (send_error.Record n) same refused =
+    let P : ℕ → Type 0 = λ m. IsBlocked (size query) m (with_soa_again records) n in subst P same refused
+plain_refused query records within max send_error.OutOfMemory same refused = tt
+
+pub plain_sent : (query : AxfrQuery) (records : List Record) (within max : ℕ) (stream : List ℕ) → within ≡ max
+    → IsSent records query within stream → IsSent records query max stream
+plain_sent query records within max stream same sent =
+    let P : ℕ → Type 0 = λ m. IsSent records query m stream in subst P same sent
+
+-- with names by a spelling
+pub spelled_refused : (spelling : Spelling) (s : Spells) (query : AxfrQuery) (records : List Record) (max : ℕ) (error : SendError)
+    → ((n : ℕ) → IsSpelledBlocked s records query max n → IsBlockedBy spelling records query max n)
+    → IsRefusedSpelled s records query max error → IsRefusedFor spelling records query max error
+spelled_refused spelling s query records max (send_error.Query fault) same refused = absurd refused
+spelled_refused spelling s query records max send_error.WrongZone same refused = absurd refused
+spelled_refused spelling s query records max (send_error.Record n) same refused = same n refused
+spelled_refused spelling s query records max send_error.OutOfMemory same refused = tt
+
+-- the data of a zone's records is that of their types
+pub all_lawful : (class : ℕ) (records : List Record) → AllByRecursion (IsRecordOf class) records → AllByRecursion HasLawfulData records
+all_lawful class [] each = tt
+all_lawful class (r ∷ records) each = (each.0.data_is, all_lawful class records each.1)
+
+-- the class of a zone is one that a message can say
+class_small : (class : ℕ) (records : List Record) → AreRecordsOf class records → class < 2 ^ 16
+class_small class [] are = absurd are.zone
+class_small class (soa ∷ others) are =
+    let first = are.each.0 in
+    omega (arith, first.lawful.class, first.class_is)
+
+pub query_for : (query : AxfrQuery) (class : ℕ) (records : List Record) (octets : List ℕ) → IsQuery octets query → query.id < 2 ^ 16
+    → AsksFor query (apex_of records) class → AreRecordsOf class records → IsQueryFor records class query
+query_for query class records octets is small asks are = record {
+  id = small;
+  name = is.question.name.is_name;
+  class_fits = omega (arith, class_small class records are, asks.class_is);
+  asks = asks;
+}
+
+-- an id is what two octets say
+pub id_small : (octets : List ℕ) → ((i : ℕ) → get_or octets i 0 < 256) → id_of octets < 2 ^ 16
+id_small [] each = omega arith
+id_small (a ∷ []) each = let high : a < 256 = each 0 in omega arith
+id_small (a ∷ (b ∷ octets)) each =
+    let high : a < 256 = each 0 in
+    let low_octet : b < 256 = each 1 in
+    omega arith
+
+-- the query asks for the zone where its class is the zone's and the names are found equal
+pub names_asked : (query : AxfrQuery) (apex : List (List ℕ)) (class : ℕ) (name other : List (List ℕ)) (result : Bool) → name ≡ query.name
+    → other ≡ apex → query.class ≡ class → result ≡ pointwise (pointwise nat_eq) (low name) (low other)
+    → (IsTrue result → AsksFor query apex class) × (AsksFor query apex class → IsTrue result)
+names_asked query apex class name other result name_is apex_is class_is is =
+    let decides = pointwise_decides {E = pointwise nat_eq} bytes_decides (low name) (low other) in (
+      λ yes. record { name = ap low (sym name_is) ∙ decides.0 (sym is ∙ yes) ∙ ap low apex_is; class_is = class_is },
+      λ asks. is ∙ decides.1 (ap low name_is ∙ asks.name ∙ ap low (sym apex_is)),
+    )

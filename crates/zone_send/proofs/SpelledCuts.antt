@@ -1,0 +1,101 @@
+-- Full cuts into messages whose names are written with pointers to any suffix.
+use Rattle.std.proofs.Common.{◌≡◌, ℕ, ◌≤◌, true, List, [], ◌∷◌, ◌++◌, length, refl, arith}
+use Rattle.std.specs.List.{AllByRecursion}
+use Rattle.dns_name.specs.Spelling.{tree_spelling, hash_spelling}
+use Rattle.dns_name.specs.Page.{Parts}
+use Rattle.dns_label.specs.Name.{IsName}
+use Rattle.dns_spelling.specs.Alike.{HaveNames}
+use Rattle.dns_size.specs.Cost.{names_in}
+use Rattle.dns_size.specs.Groups.{HasOneHead, group_parts}
+use Rattle.dns_size.proofs.Sizes.{AllProper, any_proper, names_proper}
+use Rattle.dns_size.proofs.Groups.{front_fits, back_fits, proper_group, free_group, all_any}
+use Rattle.zone_octets.specs.Record.{Record}
+use Rattle.zone_core.specs.Query.{AxfrQuery}
+use Rattle.zone_core.specs.Cutting.{IsCutting, Fits, IsFullCut, IsBlocked, PartsFit}
+use Rattle.zone_send.specs.Spelled.{answer_head, spelled_size, SpellsGroup, SpellGroups}
+use Rattle.zone_send.proofs.Plain.{length-header}
+use Rattle.zone_core.proofs.Cuttings.{full_cut_is_fewest, blocked_fits_no_cutting}
+use Rattle.zone_core.proofs.CuttingsWhere.{PartsFitWhere}
+
+one_head : (query : AxfrQuery) → HasOneHead (answer_head query)
+one_head query group other = record {
+  names = refl;
+  octets = omega (arith, length-header query (length group), length-header query (length other));
+}
+
+-- octet for octet, nothing is asked of names
+pub tree_parts_fit : (query : AxfrQuery) (item : Record → Parts) (max : ℕ) → max ≤ 16384 → PartsFit (spelled_size tree_spelling query item) max
+tree_parts_fit query item max few = record {
+  front = λ xs more fits.
+      front_fits (λ (r : Record). Unit {0}) tree_spelling (answer_head query) item (one_head query) (λ group. any_proper (names_in (answer_head query group)))
+      (λ r is. any_proper (names_in (item r))) max refl few xs more (all_any (xs ++ more)) fits;
+  back = λ more xs fits.
+      back_fits (λ (r : Record). Unit {0}) tree_spelling (answer_head query) item (one_head query) (λ group. any_proper (names_in (answer_head query group)))
+      (λ r is. any_proper (names_in (item r))) max refl few more xs (all_any (more ++ xs)) fits;
+}
+
+-- up to ASCII case, names are names
+pub hash_parts_fit : (query : AxfrQuery) (item : Record → Parts) (max : ℕ) → max ≤ 16384 → IsName query.name
+    → PartsFitWhere (λ r. HaveNames (item r)) (spelled_size hash_spelling query item) max
+hash_parts_fit query item max few is_name = record {
+  front = λ xs more all fits.
+      front_fits (λ r. HaveNames (item r)) hash_spelling (answer_head query) item (one_head query)
+      (λ group. names_proper true (answer_head query group) (is_name, tt))
+      (λ r names. names_proper true (item r) names) max refl few xs more all fits;
+  back = λ more xs all fits.
+      back_fits (λ r. HaveNames (item r)) hash_spelling (answer_head query) item (one_head query)
+      (λ group. names_proper true (answer_head query group) (is_name, tt))
+      (λ r names. names_proper true (item r) names) max refl few more xs all fits;
+}
+
+-- the names of such messages are proper
+pub hash_proper : (query : AxfrQuery) (item : Record → Parts) → IsName query.name → (group : List Record) → AllByRecursion (λ r. HaveNames (item r)) group
+    → AllProper true (names_in (group_parts (answer_head query) item group))
+hash_proper query item is_name group all =
+    proper_group (λ r. HaveNames (item r)) hash_spelling (answer_head query) item (one_head query)
+    (λ group. names_proper true (answer_head query group) (is_name, tt)) (λ r names. names_proper true (item r) names) group all
+
+-- the group of a free message takes no more
+pub free_takes : (query : AxfrQuery) (item : Record → Parts) (max : ℕ) → max ≤ 16384 → (message : List ℕ) (group : List Record)
+    → SpellsGroup query item max message group → spelled_size tree_spelling query item group ≤ length message
+free_takes query item max few message group spells =
+    free_group (λ (r : Record). Unit {0}) tree_spelling (answer_head query) item (one_head query) (λ group. any_proper (names_in (answer_head query group)))
+    (λ r is. any_proper (names_in (item r))) group refl (all_any group) message spells.spelled (omega (arith, spells.small))
+
+-- messages that spell groups freely are as many, and the groups fit
+record AreSmall (query : AxfrQuery) (item : Record → Parts) (max : ℕ) (messages : List (List ℕ)) (groups : List (List Record)) : Type 0 where
+  small : AllByRecursion (λ group. spelled_size tree_spelling query item group ≤ max) groups
+  long : length groups ≡ length messages
+
+are_small : (query : AxfrQuery) (item : Record → Parts) (max : ℕ) → max ≤ 16384 → (messages : List (List ℕ)) (groups : List (List Record))
+    → SpellGroups query item max messages groups → AreSmall query item max messages groups
+are_small query item max few [] [] spell = record { small = tt; long = refl }
+are_small query item max few [] (group ∷ groups) spell = absurd spell
+are_small query item max few (message ∷ messages) [] spell = absurd spell
+are_small query item max few (message ∷ messages) (group ∷ groups) spell =
+    let on = are_small query item max few messages groups spell.1 in
+    let own = free_takes query item max few message group spell.0 in
+    let small = spell.0.small in
+    let here : spelled_size tree_spelling query item group ≤ max = omega (arith, own, small) in
+    record { small = (here, on.small); long = omega (arith, on.long) }
+
+free_cut : (query : AxfrQuery) (item : Record → Parts) (max : ℕ) → max ≤ 16384 → (records : List Record) (messages : List (List ℕ)) (groups : List (List Record))
+    → IsCutting records groups → SpellGroups query item max messages groups → Fits (spelled_size tree_spelling query item) max records groups
+free_cut query item max few records messages groups cut spell =
+    record { cut = cut; small = (are_small query item max few messages groups spell).small }
+
+-- so they are no fewer than the full cut
+pub free_no_fewer : (query : AxfrQuery) (item : Record → Parts) (max : ℕ) (records : List Record) (full groups : List (List Record)) (messages : List (List ℕ)) → max ≤ 16384
+    → IsFullCut (spelled_size tree_spelling query item) max records full → IsCutting records groups → SpellGroups query item max messages groups
+    → length full ≤ length messages
+free_no_fewer query item max records full groups messages few full_cut cut spell =
+    let fewest = full_cut_is_fewest (spelled_size tree_spelling query item) max records full groups (tree_parts_fit query item max few) full_cut
+    (free_cut query item max few records messages groups cut spell) in
+    omega (arith, fewest, (are_small query item max few messages groups spell).long)
+
+-- and there are none if a record is blocked
+pub free_none : (query : AxfrQuery) (item : Record → Parts) (max : ℕ) (records : List Record) (n : ℕ) (groups : List (List Record)) (messages : List (List ℕ)) → max ≤ 16384
+    → IsBlocked (spelled_size tree_spelling query item) max records n → IsCutting records groups → SpellGroups query item max messages groups → ⊥
+free_none query item max records n groups messages few blocked cut spell =
+    blocked_fits_no_cutting (spelled_size tree_spelling query item) max records n groups (tree_parts_fit query item max few) blocked
+    (free_cut query item max few records messages groups cut spell)

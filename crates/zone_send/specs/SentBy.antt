@@ -1,0 +1,43 @@
+-- What is sent for a zone and a query, by how names are written, and why nothing is (RFC 5936 2.2).
+use Rattle.std.specs.Prelude.{ℕ, List}
+use Rattle.dns_name.specs.Spelling.{static_spelling, tree_spelling, hash_spelling}
+use Rattle.zone_octets.specs.Record.{Record}
+use Rattle.zone_core.specs.Query.{AxfrQuery, IsQuery, IsQueryFault}
+use Rattle.zone_core.specs.Cutting.{IsBlocked}
+use Rattle.zone_send.specs.Sent.{size, with_soa_again, IsSent, AsksFor}
+use Rattle.zone_send.specs.SpelledSent.{IsSpelledSent, IsSpelledBlocked}
+use Rattle.zone_send.specs.declared.sending.Spelling.{Spelling}
+use Rattle.zone_send.specs.declared.sending.Spelling.TheVariants.{Plain, Static, Tree, Hash}
+use Rattle.zone_send.specs.declared.sending.error.SendError.{SendError}
+use Rattle.zone_send.specs.declared.sending.error.SendError.TheVariants as send_error
+
+-- the stream is the frames of the full cut, in messages of at most `max` octets
+abbrev pub IsSentBy : Spelling → List Record → AxfrQuery → ℕ → List ℕ → Type 0
+IsSentBy Plain records query max stream = IsSent records query max stream
+IsSentBy Static records query max stream = IsSpelledSent static_spelling records query max stream
+IsSentBy Tree records query max stream = IsSpelledSent tree_spelling records query max stream
+IsSentBy Hash records query max stream = IsSpelledSent hash_spelling records query max stream
+
+-- the n-th of the records and the SOA again, counted from 1, has room in no message
+abbrev pub IsBlockedBy : Spelling → List Record → AxfrQuery → ℕ → ℕ → Type 0
+IsBlockedBy Plain records query max n = IsBlocked (size query) max (with_soa_again records) n
+IsBlockedBy Static records query max n = IsSpelledBlocked static_spelling records query max n
+IsBlockedBy Tree records query max n = IsSpelledBlocked tree_spelling records query max n
+IsBlockedBy Hash records query max n = IsSpelledBlocked hash_spelling records query max n
+
+-- Why nothing is sent, by the first rule in the order of the variants: the query breaks a rule, it asks for another zone,
+-- or a record is blocked. (Nothing is said of memory.)
+abbrev pub IsSendFault : Spelling → List Record → List (List ℕ) → ℕ → List ℕ → ℕ → SendError → Type 0
+IsSendFault spelling records apex class octets max (send_error.Query fault) = IsQueryFault octets fault
+IsSendFault spelling records apex class octets max send_error.WrongZone =
+    (query : AxfrQuery) × IsQuery octets query × (AsksFor query apex class → ⊥)
+IsSendFault spelling records apex class octets max (send_error.Record n) =
+    (query : AxfrQuery) × IsQuery octets query × AsksFor query apex class × IsBlockedBy spelling records query max n
+IsSendFault spelling records apex class octets max send_error.OutOfMemory = Unit {0}
+
+-- why a stream for a query that asks for the zone does not grow to its end
+abbrev pub IsRefusedFor : Spelling → List Record → AxfrQuery → ℕ → SendError → Type 0
+IsRefusedFor spelling records query max (send_error.Query fault) = ⊥
+IsRefusedFor spelling records query max send_error.WrongZone = ⊥
+IsRefusedFor spelling records query max (send_error.Record n) = IsBlockedBy spelling records query max n
+IsRefusedFor spelling records query max send_error.OutOfMemory = Unit {0}

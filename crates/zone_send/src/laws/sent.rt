@@ -1,0 +1,38 @@
+//! What holds of a stream that is sent.
+
+ghost use Rattle.std.specs.Prelude.{◌≡◌, ◌<◌, ◌≤◌, ◌^◌, ℕ, List, length};
+ghost use Rattle.zone_octets.specs.Record.{Record};
+ghost use Rattle.zone_octets.specs.Records.{AreSendable};
+ghost use Rattle.zone_core.specs.Cutting.{Fits, IsFullCut, IsBlocked, Grows};
+ghost use Rattle.zone_core.specs.Query.{AxfrQuery};
+ghost use Rattle.zone_core.specs.Transfer.{IsTransfer, IsExactTransfer};
+ghost use Rattle.zone_send.specs.Sent.{IsQueryFor, IsSent, size};
+
+/// What is sent for a zone and a query that asks for it is a transfer to that query, and of the very same records: their
+/// octets are those of the zone, names included, and so are those of the last SOA. No message has more octets than its
+/// length in front can say.
+pub fn sent_is_a_transfer()
+    ensures { (records : List Record) (class : ℕ) (query : AxfrQuery) (max : ℕ) (stream : List ℕ) →
+        max < 2 ^ 16 → AreSendable class records → IsQueryFor records class query →
+        IsSent records query max stream → IsExactTransfer query stream records }
+{}
+
+/// What is sent for a zone and received as a transfer is received as the zone's records, and what is sent for these is
+/// the very same stream again: the same messages, the SOA at the end too.
+pub fn received_is_sent_again()
+    ensures { (records others : List Record) (class : ℕ) (query : AxfrQuery) (max : ℕ) (stream : List ℕ) →
+        max < 2 ^ 16 → AreSendable class records → IsQueryFor records class query →
+        IsSent records query max stream → IsTransfer query stream others →
+        (records ≡ others) × IsSent others query max stream }
+{}
+
+/// Where names are written out, a message is no shorter than one with a part of its records, whatever the query. So a
+/// full cut has the fewest groups of all cuttings that fit, and where a record is blocked no cutting fits.
+pub fn plain_full_cut_is_fewest()
+    ensures grows { (query : AxfrQuery) → Grows (size query) }
+    ensures fewest { (query : AxfrQuery) (max : ℕ) (records : List Record) (full others : List (List Record)) →
+        IsFullCut (size query) max records full → Fits (size query) max records others →
+        length full ≤ length others }
+    ensures none_fits { (query : AxfrQuery) (max : ℕ) (records : List Record) (n : ℕ) (groups : List (List Record)) →
+        IsBlocked (size query) max records n → Fits (size query) max records groups → ⊥ }
+{}

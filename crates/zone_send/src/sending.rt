@@ -1,0 +1,170 @@
+//! A zone as the stream of its transfer.
+ghost use Rattle.std.specs.Prelude.{◌≡◌, ◌↔◌, [], IsTrue, IfOk, IfErr};
+ghost use Rattle.std.specs.List.{AllByRecursion};
+ghost use Rattle.zone_octets.specs.Typed.{HasLawfulData};
+ghost use Rattle.zone_core.specs.Asked.{asked_by};
+ghost use Rattle.zone_core.specs.Query.{AxfrQuery, IsQuery};
+ghost use Rattle.zone_send.specs.Sent.{AsksFor, IsSent};
+ghost use Rattle.zone_send.specs.SentBy.{IsSentBy, IsSendFault, IsRefusedFor};
+ghost use Rattle.zone_send.specs.Best.{IsTransferBy, IsFewestBy, HasNoCuttingBy, IfRecord, IsBestBy};
+ghost use Rattle.zone_send.specs.Sending.{Holds, IsRefusedBy};
+ghost use Rattle.zone_text.specs.View.{apex_of};
+
+mod error;
+mod header;
+mod plain;
+mod spelled;
+
+use dns_message::{HashCompressor, StaticCompressor, StreamTarget, TreeCompressor};
+use dns_name::{Name, ToName};
+pub use error::SendError;
+use plain::Sender;
+use spelled::Answer;
+use std::alloc::Global;
+use zone_core::{Query, check_query};
+use zone_octets::record_list::RecordList;
+use zone_text::Zone;
+use zone_text::zone::records_of;
+
+/// How the names in messages are written (RFC 1035 4.1.4).
+#[derive(Clone, Copy, Debug, PartialEq, Eq)]
+pub enum Spelling {
+    /// Every name is written out.
+    Plain,
+    /// A suffix that stood before is a pointer to it, up to ASCII case; at most 24 suffixes of a message are remembered.
+    Static,
+    /// A suffix that stood before is a pointer to it, octet for octet.
+    Tree,
+    /// A suffix that stood before is a pointer to it, up to ASCII case.
+    Hash,
+}
+
+/// The stream that answers a query for the zone's transfer: its records in order and the SOA again, in messages of at
+/// most `max` octets, each behind its length in two octets (RFC 5936 2.2).
+///
+/// Each message has the query's id, QR, AA and the query's RD, the query's question, and as many of the next records as
+/// have room. Refused by the first rule of `SendError` that is broken, and then nothing is given.
+pub fn send(
+    alloc: Global,
+    zone: &Zone,
+    query: &[u8],
+    max: u16,
+    spelling: Spelling,
+) -> Result<Vec<u8>, SendError>
+    ensures ok { IfOk result (λ stream. (q : AxfrQuery) × IsQuery query.now q × AsksFor q (apex_of zone.now.records) zone.now.class ×
+        IsSentBy spelling zone.now.records q max stream.items) }
+    ensures err { IfErr result (IsSendFault spelling zone.now.records (apex_of zone.now.records) zone.now.class query.now max) }
+
+    // What a reader takes of it are the zone's records, up to the ASCII case of names where the spelling folds it.
+    ensures transfer { IfOk result (λ stream. (q : AxfrQuery) × IsQuery query.now q ×
+        IsTransferBy spelling q stream.items zone.now.records) }
+
+    // No stream of the records has fewer messages, and where a record has room in no message there is none.
+    ensures fewest { IfOk result (λ stream. (q : AxfrQuery) × IsQuery query.now q ×
+        IsFewestBy spelling zone.now.records q max stream.items) }
+    ensures none { IfErr result (λ error. IfRecord error ((q : AxfrQuery) × IsQuery query.now q ×
+        HasNoCuttingBy spelling zone.now.records q max)) }
+
+    // A tree's messages are shortest ones, and no freely compressed ones are fewer.
+    ensures best { IfOk result (λ stream. (q : AxfrQuery) × IsQuery query.now q ×
+        IsBestBy spelling zone.now.records q max stream.items) }
+{
+    send_into(alloc, Vec::new(alloc), zone, query, max, spelling)
+}
+
+/// The stream that `send` gives (RFC 5936 2.2), in the place of the octets that a vector holds, which are no longer needed: so a
+/// zone may be sent in the memory that its text had.
+///
+/// Refused as `send` is; the vector is let go of then.
+pub fn send_into(
+    alloc: Global,
+    spare: Vec<u8>,
+    zone: &Zone,
+    query: &[u8],
+    max: u16,
+    spelling: Spelling,
+) -> Result<Vec<u8>, SendError>
+    ensures ok { IfOk result (λ stream. (q : AxfrQuery) × IsQuery query.now q × AsksFor q (apex_of zone.now.records) zone.now.class ×
+        IsSentBy spelling zone.now.records q max stream.items) }
+    ensures err { IfErr result (IsSendFault spelling zone.now.records (apex_of zone.now.records) zone.now.class query.now max) }
+
+    // What a reader takes of it are the zone's records, up to the ASCII case of names where the spelling folds it.
+    ensures transfer { IfOk result (λ stream. (q : AxfrQuery) × IsQuery query.now q ×
+        IsTransferBy spelling q stream.items zone.now.records) }
+
+    // No stream of the records has fewer messages, and where a record has room in no message there is none.
+    ensures fewest { IfOk result (λ stream. (q : AxfrQuery) × IsQuery query.now q ×
+        IsFewestBy spelling zone.now.records q max stream.items) }
+    ensures none { IfErr result (λ error. IfRecord error ((q : AxfrQuery) × IsQuery query.now q ×
+        HasNoCuttingBy spelling zone.now.records q max)) }
+
+    // A tree's messages are shortest ones, and no freely compressed ones are fewer.
+    ensures best { IfOk result (λ stream. (q : AxfrQuery) × IsQuery query.now q ×
+        IsBestBy spelling zone.now.records q max stream.items) }
+{
+    let query = match check_query(query) {
+        Ok(query) => query,
+        Err(fault) => return Err(SendError::Query(fault)),
+    };
+    let name = query.name().to_vec(alloc)?;
+    if !asks_for(&query, &name, zone) {
+        return Err(SendError::WrongZone);
+    }
+    send_by(alloc, spare, &query, &name, records_of(zone), max, spelling)
+}
+
+/// Whether a query, whose name this is, asks for the zone.
+fn asks_for(query: &Query<'_>, name: &Name<Vec<u8>>, zone: &Zone) -> bool
+    requires { name.now ≡ (asked_by query.now).name }
+    ensures { IsTrue result ↔ AsksFor (asked_by query.now) (apex_of zone.now.records) zone.now.class }
+{
+    query.class() == zone.class() && name.for_ref() == zone.apex()
+}
+
+/// The stream of these records and the first of them again, in answer to a query of this name.
+fn send_by(
+    alloc: Global,
+    spare: Vec<u8>,
+    query: &Query<'_>,
+    name: &Name<Vec<u8>>,
+    records: &RecordList,
+    max: u16,
+    spelling: Spelling,
+) -> Result<Vec<u8>, SendError>
+    requires asked { name.now ≡ (asked_by query.now).name }
+    requires lawful { AllByRecursion HasLawfulData records.now }
+    ensures ok { IfOk result (λ stream. IsSentBy spelling records.now (asked_by query.now) max stream.items) }
+    ensures err { IfErr result (IsRefusedFor spelling records.now (asked_by query.now) max) }
+{
+    let answer = Answer {
+        query,
+        name,
+        records,
+        max,
+    };
+    match spelling {
+        Spelling::Plain => send_records(Sender::new(alloc, spare, query, name, max)?, records),
+        Spelling::Static => answer.send::<StaticCompressor<StreamTarget<Vec<u8>>>>(alloc, spare),
+        Spelling::Tree => answer.send::<TreeCompressor<StreamTarget<Vec<u8>>>>(alloc, spare),
+        Spelling::Hash => answer.send::<HashCompressor<StreamTarget<Vec<u8>>>>(alloc, spare),
+    }
+}
+
+/// The stream of these records and the first of them again.
+fn send_records(mut sender: Sender, records: &RecordList) -> Result<Vec<u8>, SendError>
+    requires { (query : AxfrQuery) × Holds sender query [] }
+    ensures ok { IfOk result (λ stream. (query : AxfrQuery) → Holds sender query [] →
+        IsSent records.now query sender.max stream.items) }
+    ensures err { IfErr result (λ error. (query : AxfrQuery) → Holds sender query [] →
+        IsRefusedBy query sender.max records.now error) }
+{
+    for i in 0..records.len() {
+        if !sender.put(records.octets_at(i))? {
+            return Err(SendError::Record(i + 1));
+        }
+    }
+    if !records.is_empty() && !sender.put(records.octets_at(0))? {
+        return Err(SendError::Record(records.len() + 1));
+    }
+    Ok(sender.into_stream())
+}

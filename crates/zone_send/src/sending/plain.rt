@@ -1,0 +1,161 @@
+//! The stream of a transfer while it grows.
+ghost use Rattle.std.specs.Prelude.{◌≡◌, ◌+◌, ◌≤◌, ◌<◌, ◌^◌, ◌++◌, [], ◌∷◌, ℕ, List, length, IfOk, OnOk, MatchOption, Some};
+ghost use Rattle.std.specs.Int.{to_be_bytes, w16};
+ghost use Rattle.dns_label.specs.Name.{IsName};
+ghost use Rattle.dns_message.specs.Record.{record_octets};
+ghost use Rattle.zone_octets.specs.Record as spec;
+ghost use Rattle.zone_core.specs.Asked.{asked_by};
+ghost use Rattle.zone_core.specs.Query.{AxfrQuery};
+ghost use Rattle.zone_send.specs.Sent.{message};
+
+use super::header::header_of;
+use dns_name::{Name, Rtype};
+use std::alloc::{AllocError, Global};
+use zone_core::Query;
+use zone_core::question::HEADER_OCTETS;
+use zone_octets::header::put_number;
+
+/// The octets of a message's length on a stream.
+const LENGTH_OCTETS: usize = 2;
+
+/// The place of the count of answers in a message (RFC 1035 4.1.1).
+const ANSWER_COUNT: usize = 6;
+
+/// The counts of a message with one question and no records.
+const ONE_QUESTION: [u8; 8] = [0, 1, 0, 0, 0, 0, 0, 0];
+
+/// A stream of whole frames, to whose last message records are still added.
+#[derive(Debug, Drop)]
+pub(crate) struct Sender {
+    stream: Vec<u8>,
+    /// A message without answers: header and question.
+    opening: Vec<u8>,
+    max: usize,
+    /// Where the last message begins, behind its length; None before the first.
+    last: Option<usize>,
+    /// How many answers the last message has.
+    answers: u16,
+}
+
+impl Sender {
+    ghost use Rattle.std.specs.Bool.{OnTrue, OnFalse};
+    ghost use Rattle.std.specs.List.{push};
+    ghost use Rattle.zone_send.specs.Sent.{size};
+    ghost use Rattle.zone_send.specs.Sending.{Stands, StandsWhole, HoldsGroups, Holds, HasNoRoom, FitsNowhere};
+
+    /// A stream without a message, for the answers to a query of this name, in the place of what the spare vector holds.
+    pub(crate) fn new(
+        alloc: Global,
+        spare: Vec<u8>,
+        query: &Query<'_>,
+        name: &Name<Vec<u8>>,
+        max: u16,
+    ) -> Result<Sender, AllocError>
+        requires { name.now ≡ (asked_by query.now).name }
+        ensures holds { IfOk result (λ sender. Holds sender (asked_by query.now) []) }
+        ensures max { IfOk result (λ sender. sender.max ≡ max) }
+    {
+        let mut stream = spare;
+        stream.clear();
+        Ok(Sender {
+            stream,
+            opening: opening(alloc, query, name)?,
+            max: usize::from(max),
+            last: None,
+            answers: 0,
+        })
+    }
+
+    /// Adds a record, written out, to the last message, or where it has no room there to a new one. False where it has none
+    /// there either.
+    pub(crate) fn put(&mut self, record: &[u8]) -> Result<bool, AllocError>
+        requires holds { (query : AxfrQuery) × (records : List spec.Record) × Holds self.old query records }
+        requires is_record { (r : spec.Record) × («record».now ≡ record_octets r) }
+        ensures placed { IfOk result (λ placed. OnTrue placed ((query : AxfrQuery) (records : List spec.Record) (r : spec.Record) →
+            «record».now ≡ record_octets r → Holds self.old query records → Holds self.new query (push records r))) }
+        ensures refused { IfOk result (λ placed. OnFalse placed ((query : AxfrQuery) (records : List spec.Record) (r : spec.Record) →
+            «record».now ≡ record_octets r → Holds self.old query records → FitsNowhere self.old query records r)) }
+        ensures max { OnOk result (self.new.max ≡ self.old.max) }
+    {
+        let len = record.len();
+        if let Some(start) = self.last_with_room(len) {
+            self.append(start, record)?;
+            return Ok(true);
+        }
+        if self.opening.len() + len > self.max {
+            return Ok(false);
+        }
+        let start = self.open()?;
+        self.append(start, record)?;
+        Ok(true)
+    }
+
+    /// The stream.
+    pub(crate) fn into_stream(self) -> Vec<u8>
+        ensures { result.items ≡ self.stream.items }
+    {
+        self.stream
+    }
+
+    /// Where the last message begins, if there is one with room for so many octets.
+    fn last_with_room(&self, len: usize) -> Option<usize>
+        requires holds { (query : AxfrQuery) × (records : List spec.Record) × Holds self.now query records }
+        requires small { len < 2 ^ 63 + 2 ^ 16 }
+        ensures { MatchOption result (HasNoRoom self.now self.now.last len)
+            (λ start. (self.now.last ≡ Some start) × (length self.now.stream.items + len ≤ self.now.max + start)) }
+    {
+        let start = self.last?;
+        if self.stream.len() - start + len <= self.max {
+            Some(start)
+        } else {
+            None
+        }
+    }
+
+    /// Begins a message, and answers where.
+    fn open(&mut self) -> Result<usize, AllocError>
+        ensures stands { IfOk result (λ start. (query : AxfrQuery) (groups : List (List spec.Record)) →
+            HoldsGroups self.old query groups → Stands self.new query start groups [] (0 ∷ 0 ∷ []) (0 ∷ 0 ∷ [])) }
+        ensures max { OnOk result (self.new.max ≡ self.old.max) }
+    {
+        let start = self.stream.len() + LENGTH_OCTETS;
+        self.stream.extend_from_slice(&[0; LENGTH_OCTETS])?;
+        self.stream.extend_from_slice(self.opening.as_slice())?;
+        self.last = Some(start);
+        self.answers = 0;
+        Ok(start)
+    }
+
+    /// Adds a record to the last message, which begins at `start` and has room, and counts it.
+    fn append(&mut self, start: usize, record: &[u8]) -> Result<(), AllocError>
+        requires { (query : AxfrQuery) × (front : List (List spec.Record)) × (group : List spec.Record) × (mark count : List ℕ) ×
+            Stands self.old query start front group mark count × (size query group + length «record».now ≤ self.old.max)
+            × (r : spec.Record) × («record».now ≡ record_octets r) }
+        ensures whole { OnOk result ((query : AxfrQuery) (front : List (List spec.Record)) (group : List spec.Record) (mark count : List ℕ)
+            (r : spec.Record) → «record».now ≡ record_octets r → Stands self.old query start front group mark count →
+            StandsWhole self.new query start front (push group r)) }
+        ensures max { OnOk result (self.new.max ≡ self.old.max) }
+    {
+        self.stream.extend_from_slice(record)?;
+        self.answers += 1;
+        let len = (self.stream.len() - start) as u16;
+        put_number(&mut self.stream, start - LENGTH_OCTETS, len);
+        put_number(&mut self.stream, start + ANSWER_COUNT, self.answers);
+        Ok(())
+    }
+}
+
+/// The header and the question of each message (RFC 1035 4.1.1, 4.1.2), without answers yet.
+fn opening(alloc: Global, query: &Query<'_>, name: &Name<Vec<u8>>) -> Result<Vec<u8>, AllocError>
+    requires { name.now ≡ (asked_by query.now).name }
+    ensures octets { IfOk result (λ opening. opening.items ≡ message (asked_by query.now) []) }
+    ensures name { OnOk result (IsName name.now) }
+{
+    let mut opening = Vec::with_capacity(alloc, HEADER_OCTETS + name.len() + 4)?;
+    opening.extend_from_slice(header_of(query).as_slice())?;
+    opening.extend_from_slice(&ONE_QUESTION)?;
+    opening.extend_from_slice(name.as_slice())?;
+    opening.extend_from_slice(&Rtype::AXFR.to_int().to_be_bytes())?;
+    opening.extend_from_slice(&query.class().to_int().to_be_bytes())?;
+    Ok(opening)
+}
