@@ -9,9 +9,6 @@ use Rattle.zone_octets.specs.Record.{Record}
 abbrev pub soa_type : ℕ
 soa_type = 6
 
-abbrev pub a_type : ℕ
-a_type = 1
-
 abbrev pub axfr_type : ℕ
 axfr_type = 252
 

@@ -4,7 +4,6 @@ ghost use Rattle.dns_label.specs.Name.{IsName, low};
 ghost use Rattle.dns_message.specs.Record.{IsRecord, record_octets};
 ghost use Rattle.dns_wire.specs.Suffix.{EndsWith};
 ghost use Rattle.zone_octets.specs.Record as spec;
-ghost use Rattle.zone_octets.specs.Stored.{IsStored, record_in};
 ghost use Rattle.zone_octets.specs.Zone.{soa_type};
 
 use crate::header::number_at;
@@ -35,14 +34,6 @@ impl<'a> Model for Record<'a> {
 }
 
 impl<'a> Record<'a> {
-    /// The record that the octets are, of which so many are the owner's.
-    pub fn of_octets(octets: &'a [u8], owner_len: usize) -> Record<'a>
-        requires { IsStored octets.now owner_len }
-        ensures { result ≡ record_in octets.now }
-    {
-        Record { octets, owner_len }
-    }
-
     /// The record that the octets are.
     pub fn from_octets(octets: &'a [u8]) -> Record<'a>
         requires { (r : spec.Record) × IsRecord r × (octets.now ≡ record_octets r) }

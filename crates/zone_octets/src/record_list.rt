@@ -15,7 +15,7 @@ use std::alloc::{AllocError, Global};
 use std::marker::Model;
 
 /// A record as a message has it. Its names may have pointers, and its data is in the fields of its type, or opaque.
-pub type MessageRecord<'a> = dns_header::Record<
+pub type MessageRecord<'a> = dns_message::Record<
     ParsedName<&'a [u8]>,
     ZoneRecordData<&'a [u8], ParsedName<&'a [u8]>>,
 >;
@@ -58,20 +58,6 @@ impl RecordList {
         ensures { (records : List spec.Record) → AreStored octets.items places.items records → result ≡ records }
     {
         RecordList { octets, places }
-    }
-
-    /// Adds a record behind the others. Refused where a growth is, and then nothing is changed.
-    pub fn push(&mut self, next: &Record<'_>) -> Result<(), AllocError>
-        ensures ok { OnOk result (self.new ≡ self.old ++ next.now ∷ []) }
-        ensures err { OnErr result (self.new ≡ self.old) }
-    {
-        let place = self.octets.len();
-        self.octets.extend_from_slice(next.as_octets())?;
-        if let Err(error) = self.places.push(place) {
-            self.octets.truncate(place);
-            return Err(error.into());
-        }
-        Ok(())
     }
 
     /// Adds a record of a message behind the others, with every name written out. Refused where a growth is, and then nothing is

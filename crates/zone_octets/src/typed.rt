@@ -8,7 +8,7 @@ ghost use Rattle.dns_rdata.specs.ZoneData.{data_of};
 ghost use Rattle.zone_octets.specs.Typed.{HasFieldsOfType, seen_of};
 
 use crate::record as stored;
-use dns_header::Record;
+use dns_message::Record;
 use dns_name::{Name, ParseAnyRecordData, ParsedName, Parser, Rtype};
 use dns_rdata::ZoneRecordData;
 

@@ -1,2 +1,3 @@
 mod ReadRecords
 mod ZoneForms
+mod ReadZoneData

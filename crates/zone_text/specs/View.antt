@@ -1,6 +1,10 @@
 -- What contracts see of a zone and of its name.
-use Rattle.std.specs.Prelude.{ℕ, List, [], ◌∷◌}
+use Rattle.std.specs.Prelude.{◌≢◌, ◌≤◌, ℕ, List, [], ◌∷◌, length}
+use Rattle.std.specs.List.{AllByRecursion}
 use Rattle.zone_octets.specs.Record.{Record}
+use Rattle.zone_octets.specs.Records.{AreRecordsOf}
+use Rattle.zone_octets.specs.Typed.{HasLawfulData}
+use Rattle.zone_octets.specs.Zone.{any_class}
 
 -- a zone is its records, in order, and its class
 pub record Contents : Type 0 where
@@ -11,3 +15,13 @@ pub record Contents : Type 0 where
 abbrev pub apex_of : List Record → List (List ℕ)
 apex_of [] = []
 apex_of (soa ∷ others) = soa.owner
+
+-- The records are a zone of the class, which no zone has if it is ANY.
+pub record IsZoneOf (class : ℕ) (records : List Record) : Type 0 where
+  pub are : AreRecordsOf class records
+  pub known : class ≢ any_class
+
+-- A place among records, or behind the last, whose data is that of their types.
+pub record IsPlaceIn (records : List Record) (place : ℕ) : Type 0 where
+  pub within : place ≤ length records
+  pub lawful : AllByRecursion HasLawfulData records

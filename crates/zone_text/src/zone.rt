@@ -1,11 +1,12 @@
 //! A zone: its records, in order.
-ghost use Rattle.std.specs.Prelude.{◌≡◌, option_copied, IfOk, IfErr};
+ghost use Rattle.std.specs.Prelude.{◌≡◌, ◌≢◌, option_copied, IfOk, IfErr};
 ghost use Rattle.dns_text.specs.Layout.{layout_of};
 ghost use Rattle.zone_canonical.specs.Canonical.{IsCanonical};
 ghost use Rattle.zone_octets.specs.Records.{AreRecordsOf};
 ghost use Rattle.zone_rules.specs.Printed.{IsPrinted};
 ghost use Rattle.zone_rules.specs.ZoneText.{IsZoneFault, IsZoneText};
-ghost use Rattle.zone_text.specs.View.{apex_of};
+ghost use Rattle.zone_octets.specs.Zone.{any_class};
+ghost use Rattle.zone_text.specs.View.{IsZoneOf, apex_of};
 
 use crate::read::read_records;
 use crate::zone_records::ZoneRecords;
@@ -24,14 +25,13 @@ pub struct Zone {
 }
 
 impl Model for Zone {
-    ghost use Rattle.zone_text.specs.View.{Contents};
-    ghost use Rattle.zone_octets.specs.Records.{AreRecordsOf};
+    ghost use Rattle.zone_text.specs.View.{Contents, IsZoneOf};
 
     ghost Value = { Contents };
 
     ghost view = { λ zone. record { records = zone.records; class = zone.class } };
 
-    ghost invariant = { λ zone. AreRecordsOf zone.class zone.records };
+    ghost invariant = { λ zone. IsZoneOf zone.class zone.records };
 }
 
 impl Zone {
@@ -73,6 +73,7 @@ impl Zone {
     }
 
     /// Returns the records in order. The SOA is the first of them.
+    #[tactic(auto, using(crate::proofs::ZoneForms::zone_data))]
     pub fn records(&self) -> ZoneRecords<'_>
         ensures records { result ≡ self.now.records }
         ensures known { AreRecordsOf self.now.class self.now.records }
@@ -87,9 +88,10 @@ impl Zone {
         self.records.record_at(0).owner()
     }
 
-    /// Returns the class of all the records.
+    /// Returns the class of all the records, which is not ANY.
     pub fn class(&self) -> Class
-        ensures { result ≡ self.now.class }
+        ensures class { result ≡ self.now.class }
+        ensures known { self.now.class ≢ any_class }
     {
         self.class
     }
@@ -120,7 +122,7 @@ const ANY: u16 = 255;
 
 /// Returns the zone with these records, of which it is known that they are one.
 pub fn zone_of(records: RecordList, class: Class) -> Zone
-    requires { AreRecordsOf class records }
+    requires { IsZoneOf class records }
     ensures { result ≡ record { records = records; class = class } }
 {
     Zone { records, class }

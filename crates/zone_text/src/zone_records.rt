@@ -1,7 +1,10 @@
 //! The records of a zone as its user sees them.
 ghost use Rattle.std.specs.Prelude.{◌<◌, length};
+ghost use Rattle.std.specs.List.{AllByRecursion};
+ghost use Rattle.zone_octets.specs.Typed.{HasLawfulData};
 
-use dns_name::{Class, Name, Rtype, Ttl};
+use dns_name::{Class, Name, ParseAnyRecordData, ParsedName, Parser, Rtype, Ttl};
+use dns_rdata::ZoneRecordData;
 use std::marker::Model;
 use zone_octets::record_list::RecordList;
 
@@ -13,14 +16,15 @@ pub struct ZoneRecords<'a> {
 }
 
 impl<'a> Model for ZoneRecords<'a> {
-    ghost use Rattle.std.specs.Prelude.{List, drop, length, ◌≤◌};
+    ghost use Rattle.std.specs.Prelude.{List, drop};
     ghost use Rattle.zone_octets.specs.Record.{Record};
+    ghost use Rattle.zone_text.specs.View.{IsPlaceIn};
 
     ghost Value = { List Record };
 
     ghost view = { λ it. drop it.next it.list.now };
 
-    ghost invariant = { λ it. it.next ≤ length it.list.now };
+    ghost invariant = { λ it. IsPlaceIn it.list.now it.next };
 }
 
 impl<'a> ZoneRecords<'a> {
@@ -28,6 +32,7 @@ impl<'a> ZoneRecords<'a> {
 
     /// All records of the list.
     pub(crate) fn of_list(list: &'a RecordList) -> ZoneRecords<'a>
+        requires { AllByRecursion HasLawfulData list.now }
         ensures { result ≡ list.now }
     {
         ZoneRecords { list, next: 0 }
@@ -63,10 +68,14 @@ pub struct ZoneRecord<'a> {
     list: &'a RecordList,
     index: usize,
     ghost within: { index < length list.now },
+    ghost lawful: { ∥ AllByRecursion HasLawfulData list.now ∥₁ },
 }
 
 impl<'a> ZoneRecord<'a> {
     ghost use Rattle.std.specs.Prelude.{◌≡◌};
+    ghost use Rattle.dns_rdata.specs.Data.{number_of};
+    ghost use Rattle.dns_rdata.specs.DataOctets.{data_octets};
+    ghost use Rattle.dns_rdata.specs.ZoneData.{data_of};
     ghost use Rattle.zone_text.specs.Seen.{seen_record};
 
     /// The name that the record is about.
@@ -102,5 +111,17 @@ impl<'a> ZoneRecord<'a> {
         ensures { result.now ≡ (seen_record self.now).rdata }
     {
         self.list.record_at(self.index).data()
+    }
+
+    /// Parses the data: in the fields of its type, or as opaque octets if the type has none. Nothing is copied.
+    pub fn parse_data(&self) -> ZoneRecordData<&'a [u8], ParsedName<&'a [u8]>>
+        ensures rtype { number_of (data_of result) ≡ (seen_record self.now).rtype }
+        ensures octets { data_octets (data_of result) ≡ (seen_record self.now).rdata }
+    {
+        let mut parser = Parser::from_ref(self.data());
+        match ZoneRecordData::parse_any_rdata(self.rtype(), &mut parser) {
+            Ok(data) => data,
+            Err(_) => unreachable!(),
+        }
     }
 }
