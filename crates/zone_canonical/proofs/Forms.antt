@@ -54,12 +54,12 @@ one_form r one other is is' =
 pub form_low : (r form : Record) → IsCanonicalOf r form → low form.owner ≡ form.owner
 form_low r form is = ap low is.owner ∙ low-low r.owner ∙ sym is.owner
 
-both_tie : (p q : Ordering) → is_eq (ordering_then p q) ≡ true → (is_eq p ≡ true) × (is_eq q ≡ true)
+pub both_tie : (p q : Ordering) → is_eq (ordering_then p q) ≡ true → (is_eq p ≡ true) × (is_eq q ≡ true)
 both_tie Less q tie = absurd (let e : false ≡ true = tie in cc)
 both_tie Equal q tie = (refl, tie)
 both_tie Greater q tie = absurd (let e : false ≡ true = tie in cc)
 
-number_tie : (m n : ℕ) → is_eq (nat_cmp m n) ≡ true → m ≡ n
+pub number_tie : (m n : ℕ) → is_eq (nat_cmp m n) ≡ true → m ≡ n
 number_tie m n tie = (unsigned_Decides m n).0 (unsigned_ties m n ∙ tie)
 
 text_tie : (a b : List ℕ) → is_eq (slice_cmp nat_cmp a b) ≡ true → a ≡ b

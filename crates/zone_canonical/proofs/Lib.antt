@@ -2,7 +2,14 @@ mod Ascending
 mod Forms
 mod SortedForms
 mod LawfulForms
-mod TypedForms
 mod SameOctets
-mod Alike
+pub mod Alike
 mod Orders
+mod KeyOrder
+mod KeyDigits
+mod OwnerKeys
+mod DataOctets
+mod LowerNames
+mod DataForms
+mod RecordForms
+mod SortedKeys

@@ -1,4 +1,7 @@
 pub mod Canonical
 pub mod CanonicalLaws
-pub mod Parsed
+pub mod DataForm
+pub mod Form
+pub mod Keyed
+pub mod OwnerKey
 pub mod Tried

@@ -1,8 +1,11 @@
 //! The canonical octets of a zone's records, by which zones are compared (RFC 4034 6).
 #![tactic(auto)]
 
-mod canonical_record;
+mod data;
+mod entry;
+mod form;
 pub mod laws;
 mod octets;
+mod owner_key;
 
 pub use octets::canonical;

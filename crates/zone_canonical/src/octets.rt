@@ -1,11 +1,13 @@
 //! The canonical octets of records.
-ghost use Rattle.std.specs.Prelude.{◌≡◌, ◌<◌, length, slice_get, Some, IfOk, flat_map};
-ghost use Rattle.std.specs.List.{AllByRecursion, AllZip};
-ghost use Rattle.dns_message.specs.Record.{record_octets};
+ghost use Rattle.std.specs.Prelude.{◌≡◌, ◌<◌, List, ℕ, length, map, slice_get, Some, IfOk, flat_map};
+ghost use Rattle.std.specs.List.{AllByRecursion};
 ghost use Rattle.zone_octets.specs.Record as spec;
-ghost use Rattle.zone_canonical.specs.Canonical.{HasCanonicalForm, IsCanonical, IsCanonicalOf};
+ghost use Rattle.zone_canonical.specs.Canonical.{HasCanonicalForm, IsCanonical};
+ghost use Rattle.zone_canonical.specs.Keyed.{form_octets, keyed};
 
-use crate::canonical_record::CanonicalRecord;
+use crate::entry::Entry;
+use crate::owner_key::owner_key;
+use dns_name::Name;
 use std::alloc::{AllocError, Global};
 use zone_octets::record_list::RecordList;
 
@@ -17,44 +19,54 @@ pub fn canonical(alloc: Global, records: &RecordList) -> Result<Vec<u8>, AllocEr
     requires { AllByRecursion HasCanonicalForm records.now }
     ensures { IfOk result (λ octets. IsCanonical records.now octets.items) }
 {
-    let mut forms = forms_of(alloc, records)?;
-    forms.sort_unstable();
-    forms.dedup();
-    octets_of(alloc, forms.as_slice())
+    let mut entries = entries_of(alloc, records)?;
+    entries.sort_unstable();
+    entries.dedup();
+    octets_of(alloc, entries.as_slice())
 }
 
-/// Returns the canonical form of each record, in the order of the list.
-fn forms_of<'a>(
-    alloc: Global,
-    records: &'a RecordList,
-) -> Result<Vec<CanonicalRecord<'a>>, AllocError>
-    requires { AllByRecursion HasCanonicalForm records.now }
-    ensures { IfOk result (λ forms. AllZip IsCanonicalOf records.now forms.items) }
+/// Returns the entries of the records, with keys beside the first record's owner, in the order of the list. A zone's first record is its
+/// SOA, which stands at the apex.
+fn entries_of<'a>(alloc: Global, records: &'a RecordList) -> Result<Vec<Entry<'a>>, AllocError>
+    ensures { IfOk result (λ entries. (apex : List (List ℕ)) × (entries.items ≡ map (keyed apex) records.now)) }
 {
-    let mut forms = Vec::new(alloc);
-    for index in 0..records.len() {
-        forms.push(form_at(records, index))?;
+    let mut entries = Vec::with_capacity(alloc, records.len())?;
+    if records.is_empty() {
+        return Ok(entries);
     }
-    Ok(forms)
+    let first = records.record_at(0);
+    let apex = first.owner();
+    for index in 0..records.len() {
+        entries.push(entry_at(records, index, &apex))?;
+    }
+    Ok(entries)
 }
 
-/// Returns the canonical form of the record at an index.
-fn form_at(records: &RecordList, index: usize) -> CanonicalRecord<'_>
-    requires within { index < length records.now }
-    requires known { AllByRecursion HasCanonicalForm records.now }
-    ensures { (r : spec.Record) → slice_get records.now index ≡ Some r → IsCanonicalOf r result }
+/// Returns the entry of the record at an index.
+fn entry_at<'a>(records: &'a RecordList, index: usize, apex: &Name<&[u8]>) -> Entry<'a>
+    requires { index < length records.now }
+    ensures { (r : spec.Record) → slice_get records.now index ≡ Some r → result ≡ keyed apex.now r }
 {
     let record = records.record_at(index);
-    CanonicalRecord::of_record(&record)
+    Entry::new(owner_key(&record.owner(), apex), &record)
 }
 
-/// Returns the octets of the forms, one after another.
-fn octets_of(alloc: Global, forms: &[CanonicalRecord<'_>]) -> Result<Vec<u8>, AllocError>
-    ensures { IfOk result (λ octets. octets.items ≡ flat_map record_octets forms.now) }
+/// Returns the octets of the entries in canonical form, one after another.
+fn octets_of(alloc: Global, entries: &[Entry<'_>]) -> Result<Vec<u8>, AllocError>
+    ensures { IfOk result (λ octets. octets.items ≡ flat_map form_octets entries.now) }
 {
-    let mut octets = Vec::new(alloc);
-    for form in forms {
-        form.append_to(&mut octets)?;
+    let mut octets = Vec::with_capacity(alloc, octets_in(entries))?;
+    for entry in entries {
+        entry.append_to(&mut octets)?;
     }
     Ok(octets)
+}
+
+/// Returns how many octets the entries have. This is no more than what is reserved for them.
+fn octets_in(entries: &[Entry<'_>]) -> usize {
+    let mut count: usize = 0;
+    for entry in entries {
+        count = count.saturating_add(entry.len());
+    }
+    count
 }

@@ -1,0 +1,17 @@
+use Rattle.std.proofs.Common.{List, [], ◌∷◌, ◌++◌, take, map, sym, ap, ◌∙◌, arith}
+use Rattle.std.proofs.lemmas.List.{map-append}
+use Rattle.zone_octets.specs.Record.{Record}
+use Rattle.zone_octets.proofs.Indexed.{element_at, take-next}
+use Rattle.zone_canonical.specs.Keyed.{Keyed, keyed}
+use Rattle.zone_canonical.proofs.octets.entries_of.Goals as goal
+
+pub loop-index-preserved : goal.loop-index-preserved
+loop-index-preserved c =
+    let apex = c.owner-apex.result in
+    let front : List Record = take c.loop-index.index c.args.records.now in
+    let there = element_at c.args.records.now c.loop-index.index (omega arith) in
+    c.in_ok-push.ensures.items
+    ∙ ap (λ (l : List Keyed). l ++ c.entry_at.result ∷ []) c.loop-index.invariant
+    ∙ ap (λ (e : Keyed). map (keyed apex) front ++ e ∷ []) (c.entry_at.ensures there.0 there.1)
+    ∙ sym (map-append (keyed apex) front (there.0 ∷ []))
+    ∙ ap (map (keyed apex)) (sym (take-next c.args.records.now c.loop-index.index there.0 there.1))

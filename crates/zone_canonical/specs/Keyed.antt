@@ -1,0 +1,36 @@
+-- Records in canonical form that are sorted by keys. Only contracts inside the crate speak of them.
+use Rattle.std.specs.Prelude.{ℕ, List}
+use Rattle.std.specs.Cmp.{IsTotalOrder, on_total, nat_cmp_total}
+use Rattle.std.specs.Ordering.{on, then_cmp, nat_cmp}
+use Rattle.std.specs.declared.cmp.Ordering.{Ordering}
+use Rattle.std.proofs.lemmas.Cmp.{then_total}
+use Rattle.dns_message.specs.Record.{record_octets}
+use Rattle.zone_octets.specs.Record.{Record}
+use Rattle.zone_canonical.specs.Canonical.{canonical_cmp}
+use Rattle.zone_canonical.specs.CanonicalLaws.{canonical_total}
+use Rattle.zone_canonical.specs.Form.{form_of}
+use Rattle.zone_canonical.specs.OwnerKey.{key_of}
+
+-- a record in canonical form, with a key
+pub record Keyed : Type 0 where
+  pub key : ℕ
+  pub form : Record
+
+abbrev pub with_key : ℕ → Record → Keyed
+with_key key form = record { key = key; form = form }
+
+-- the octets of the form
+abbrev pub form_octets : Keyed → List ℕ
+form_octets entry = record_octets entry.form
+
+-- the canonical form of a record with the key of its owner beside an apex
+abbrev pub keyed : List (List ℕ) → Record → Keyed
+keyed apex r = with_key (key_of apex r.owner) (form_of r)
+
+-- by key, and then by canonical form
+unfoldable pub keyed_cmp : Keyed → Keyed → Ordering
+keyed_cmp = then_cmp (on (λ (entry : Keyed). entry.key) nat_cmp) (on (λ (entry : Keyed). entry.form) canonical_cmp)
+
+pub keyed_total : IsTotalOrder keyed_cmp
+unfolding keyed_cmp
+keyed_total = then_total (on_total (λ (entry : Keyed). entry.key) nat_cmp_total) (on_total (λ (entry : Keyed). entry.form) canonical_total)

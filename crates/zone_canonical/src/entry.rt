@@ -1,0 +1,108 @@
+//! What is sorted in place of records.
+ghost use Rattle.std.specs.Prelude.{◌≡◌, ◌++◌, OnOk};
+ghost use Rattle.std.proofs.Common.{refl};
+ghost use Rattle.std.specs.Cmp.{partial_equiv_from_equiv, partial_order_from_total, partial_order_from_own_ties, eq_by_cmp_equiv};
+ghost use Rattle.std.specs.Ordering.{as_partial_cmp, eq_by_cmp};
+ghost use Rattle.zone_canonical.specs.Form.{form_of};
+ghost use Rattle.zone_canonical.specs.Keyed.{form_octets, keyed_cmp, keyed_total, with_key};
+
+use crate::form::{append_form, cmp_forms};
+use std::alloc::AllocError;
+use std::cmp::Ordering;
+use std::marker::Model;
+use zone_octets::record::Record;
+
+/// A stored record, seen in its canonical form (RFC 4034 6.2), with a key. It is compared by its key first, so that most comparisons
+/// don't look at the record.
+#[derive(Drop)]
+pub(crate) struct Entry<'a> {
+    key: u128,
+    octets: &'a [u8],
+}
+
+impl<'a> Model for Entry<'a> {
+    ghost use Rattle.std.specs.Prelude.{length};
+    ghost use Rattle.dns_label.specs.Name.{wire};
+    ghost use Rattle.zone_octets.specs.Stored.{IsStored, record_in};
+    ghost use Rattle.zone_canonical.specs.Form.{form_of};
+    ghost use Rattle.zone_canonical.specs.Keyed.{Keyed};
+
+    ghost Value = { Keyed };
+
+    ghost view = { λ e. record { key = e.key; form = form_of (record_in e.octets.now) } };
+
+    ghost invariant = { λ e. IsStored e.octets.now (length (wire (record_in e.octets.now).owner)) };
+}
+
+impl<'a> Entry<'a> {
+    /// Returns the record with the key.
+    pub(crate) fn new(key: u128, source: &Record<'a>) -> Entry<'a>
+        ensures { result ≡ with_key key (form_of source.now) }
+    {
+        Entry {
+            key,
+            octets: source.as_octets(),
+        }
+    }
+
+    /// Returns the stored record.
+    fn stored(&self) -> Record<'a>
+        ensures { form_of result ≡ self.now.form }
+    {
+        Record::from_octets(self.octets)
+    }
+
+    /// Returns how many octets the record has.
+    pub(crate) fn len(&self) -> usize {
+        self.octets.len()
+    }
+
+    /// Appends the octets of the record in canonical form. Fails only if out of memory.
+    pub(crate) fn append_to(&self, octets: &mut Vec<u8>) -> Result<(), AllocError>
+        ensures { OnOk result (octets.new.items ≡ octets.old.items ++ form_octets self.now) }
+    {
+        append_form(&self.stored(), octets)
+    }
+}
+
+impl<'a> PartialEq for Entry<'a> {
+    ghost eq = { eq_by_cmp keyed_cmp };
+
+    ghost laws = { partial_equiv_from_equiv (eq_by_cmp_equiv keyed_total) };
+
+    fn eq(&self, other: &Self) -> bool {
+        self.cmp(other).is_eq()
+    }
+}
+
+impl<'a> Eq for Entry<'a> {
+    ghost laws = { eq_by_cmp_equiv keyed_total };
+}
+
+impl<'a> PartialOrd for Entry<'a> {
+    ghost partial_cmp = { as_partial_cmp keyed_cmp };
+
+    ghost laws = { partial_order_from_own_ties (partial_order_from_total keyed_total) (λ _ _. refl) };
+
+    fn partial_cmp(&self, other: &Self) -> Option<Ordering> {
+        Some(self.cmp(other))
+    }
+}
+
+/// By key, and then by canonical form.
+impl<'a> Ord for Entry<'a> {
+    ghost cmp = { keyed_cmp };
+
+    ghost total = { keyed_total };
+
+    ghost matches_partial_cmp = { λ _ _. refl };
+
+    ghost matches_eq = { λ _ _. refl };
+
+    fn cmp(&self, other: &Self) -> Ordering {
+        match self.key.cmp(&other.key) {
+            Ordering::Equal => cmp_forms(&self.stored(), &other.stored()),
+            unequal => unequal,
+        }
+    }
+}

@@ -1,0 +1,66 @@
+//! Records in canonical form (RFC 4034 6.2): compared, and appended as octets. They are looked at where they are stored, and nothing is
+//! parsed.
+ghost use Rattle.std.specs.Prelude.{◌≡◌, ◌++◌, OnOk, map};
+ghost use Rattle.std.specs.Char.{to_ascii_lowercase};
+ghost use Rattle.dns_message.specs.Record.{record_octets};
+ghost use Rattle.dns_wire.specs.Order.{labels_order};
+ghost use Rattle.zone_canonical.specs.Canonical.{canonical_cmp};
+ghost use Rattle.zone_canonical.specs.Form.{form_of};
+
+use crate::data::{append_data, cmp_data};
+use dns_name::{Name, ToName};
+use std::alloc::AllocError;
+use std::cmp::Ordering;
+use zone_octets::record::Record;
+
+/// Compares two records in canonical form: by owner, type and data (RFC 4034 6.1, 6.3), then by TTL, and by class.
+pub(crate) fn cmp_forms(record: &Record<'_>, other: &Record<'_>) -> Ordering
+    ensures { result ≡ canonical_cmp (form_of «record».now) (form_of other.now) }
+{
+    let owners = cmp_owners(&record.owner(), &other.owner());
+    match owners.then(record.rtype().cmp(&other.rtype())) {
+        Ordering::Equal => {
+            let fixed = record
+                .ttl()
+                .cmp(&other.ttl())
+                .then(record.class().cmp(&other.class()));
+            cmp_data(record.rtype(), record.data(), other.data()).then(fixed)
+        }
+        unequal => unequal,
+    }
+}
+
+/// Compares owners, label by label from the right (RFC 4034 6.1). Most of those that are equal are equal in case too, which is seen
+/// sooner.
+fn cmp_owners(owner: &Name<&[u8]>, other: &Name<&[u8]>) -> Ordering
+    ensures { result ≡ labels_order owner.now other.now }
+{
+    if owner.as_slice() == other.as_slice() {
+        Ordering::Equal
+    } else {
+        owner.name_cmp(other)
+    }
+}
+
+/// Appends the octets of a record in canonical form. Fails only if out of memory.
+pub(crate) fn append_form(record: &Record<'_>, octets: &mut Vec<u8>) -> Result<(), AllocError>
+    ensures { OnOk result (octets.new.items ≡ octets.old.items ++ record_octets (form_of «record».now)) }
+{
+    let whole = record.as_octets();
+    let owner = record.owner();
+    let data = record.data();
+    append_lowered(owner.as_slice(), octets)?;
+    // Data in canonical form is as long, so its length stays too.
+    octets.extend_from_slice(&whole[owner.len()..whole.len() - data.len()])?;
+    append_data(record.rtype(), data, octets)
+}
+
+/// Appends octets with ASCII letters in lower case. Fails only if out of memory.
+fn append_lowered(name: &[u8], octets: &mut Vec<u8>) -> Result<(), AllocError>
+    ensures { OnOk result (octets.new.items ≡ octets.old.items ++ map to_ascii_lowercase name.now) }
+{
+    let start = octets.len();
+    octets.extend_from_slice(name)?;
+    octets.as_mut_slice()[start..].make_ascii_lowercase();
+    Ok(())
+}
