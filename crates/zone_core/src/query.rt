@@ -72,10 +72,10 @@ pub fn check_query(octets: &[u8]) -> Result<Query<'_>, QueryError>
     let Ok((question, end)) = parse_question(octets) else {
         return Err(QueryError::Malformed);
     };
-    if question.qtype() != Rtype::AXFR {
+    if question.qtype != Rtype::AXFR {
         return Err(QueryError::NotAxfr);
     }
-    if question.qclass().to_int() == ANY {
+    if question.qclass.to_int() == ANY {
         return Err(QueryError::ClassAny);
     }
     if end != octets.len() {
@@ -84,8 +84,8 @@ pub fn check_query(octets: &[u8]) -> Result<Query<'_>, QueryError>
     Ok(Query {
         id: header.id(),
         rd: header.rd(),
-        class: question.qclass(),
-        name: question.into_qname(),
+        name: question.name,
+        class: question.qclass,
     })
 }
 

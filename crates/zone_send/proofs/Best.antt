@@ -1,18 +1,15 @@
 -- What is sent is as good as any stream of its records.
-use Rattle.std.proofs.Common.{◌≡◌, ℕ, ◌<◌, ◌≤◌, ◌^◌, true, List, [], ◌∷◌, length, map, refl, subst, arith}
+use Rattle.std.proofs.Common.{◌≡◌, ℕ, ◌<◌, ◌≤◌, ◌^◌, true, List, [], ◌∷◌, length, map, refl, subst, arith, inl, inr}
 use Rattle.std.specs.List.{AllByRecursion, AllZip}
+use Rattle.std.proofs.lemmas.Bool.{cases_lt}
 use Rattle.std.proofs.lemmas.List.{length-map}
 use Rattle.dns_label.specs.Name.{IsName}
 use Rattle.dns_name.specs.Page.{Parts}
 use Rattle.dns_name.specs.Spelling.{static_spelling, tree_spelling, hash_spelling}
 use Rattle.dns_name.specs.Spelling as names
 use Rattle.dns_message.specs.Record.{IsWritten}
-use Rattle.dns_size.specs.Cost.{names_in, written}
-use Rattle.dns_size.specs.Free.{IsFree}
 use Rattle.dns_size.specs.Groups.{group_parts}
-use Rattle.dns_size.proofs.FreeCosts.{free_no_shorter}
 use Rattle.dns_size.proofs.OwnSpelling.{own_is_free}
-use Rattle.dns_size.proofs.Sizes.{any_proper}
 use Rattle.dns_spelling.specs.Alike.{HaveNames}
 use Rattle.zone_octets.specs.Record.{Record}
 use Rattle.zone_octets.specs.Records.{AreRecordsOf, IsRecordOf}
@@ -21,19 +18,21 @@ use Rattle.zone_core.specs.Query.{AxfrQuery, IsQuery}
 use Rattle.zone_core.specs.Cutting.{Fits}
 use Rattle.zone_core.proofs.Cuttings.{grows_fits, full_cut_is_fewest, blocked_fits_no_cutting}
 use Rattle.zone_core.proofs.CuttingsWhere.{full_cut_is_fewest_where, blocked_fits_no_cutting_where}
-use Rattle.zone_send.specs.Sent.{message, size, with_soa_again, IsQueryFor, IsSent}
+use Rattle.zone_send.specs.Sent.{message, size, with_soa_again, AsksFor, IsQueryFor, IsSent}
+use Rattle.zone_text.specs.View.{apex_of}
 use Rattle.zone_send.specs.SentBy.{IsSentBy, IsBlockedBy, IsRefusedFor}
 use Rattle.zone_send.specs.Spelled.{answer_head, spelled_size}
 use Rattle.zone_send.specs.SpelledSent.{IsSpelledSent, IsTakenAs, spelled_message}
-use Rattle.zone_send.specs.Best.{IsFewest, IsSpelledFewest, IsFewestBy, HasNoSpelledCutting, HasNoCuttingBy, IfRecord, IsShortest, IsBest, IsBestBy, IsNearTransfer, IsTransferBy}
+use Rattle.zone_send.specs.Best.{IsFewest, IsSpelledFewest, IsFewestBy, HasNoSpelledCutting, HasNoCuttingBy, FitsNoMessages, IfRecord, IsShortest, IsBest, IsBestBy, IsNearTransfer, IsSentFor, IsTransferBy}
 use Rattle.zone_send.specs.declared.sending.Spelling.{Spelling}
 use Rattle.zone_send.specs.declared.sending.Spelling.TheVariants.{Plain, Static, Tree, Hash}
 use Rattle.zone_send.specs.declared.sending.error.SendError.{SendError}
 use Rattle.zone_send.specs.declared.sending.error.SendError.TheVariants as send_error
 use Rattle.zone_send.proofs.Plain.{size_grows}
+use Rattle.zone_send.proofs.SendFaults.{query_for}
 use Rattle.zone_send.proofs.SentTransfers.{each_sendable, plain_small, sent_is_transfer}
 use Rattle.zone_send.proofs.SpelledAnswers.{framable_spelled}
-use Rattle.zone_send.proofs.SpelledCuts.{tree_parts_fit, hash_parts_fit, free_no_fewer}
+use Rattle.zone_send.proofs.SpelledCuts.{tree_parts_fit, hash_parts_fit, free_takes, free_no_fewer}
 use Rattle.zone_send.proofs.SpelledSums.{written_names}
 use Rattle.zone_send.proofs.SpelledTransfers.{spelled_small, spelled_exact, spelled_taken}
 use Rattle.zone_send.proofs.WrittenAnswers.{framable-written}
@@ -51,7 +50,7 @@ near_transfer s class query records max stream folds fits are asks sent =
       near = subst (λ b. AllZip (IsTakenAs b) records t.0) folds t.2;
     }
 
-pub transfer_by : (spelling : Spelling) (class : ℕ) (query : AxfrQuery) (records : List Record) (max : ℕ) (stream : List ℕ) → max < 2 ^ 16
+transfer_by : (spelling : Spelling) (class : ℕ) (query : AxfrQuery) (records : List Record) (max : ℕ) (stream : List ℕ) → max < 2 ^ 16
     → AreRecordsOf class records → IsQueryFor records class query → IsSentBy spelling records query max stream
     → IsTransferBy spelling query stream records
 transfer_by Plain class query records max stream fits are asks sent = sent_is_transfer records class query max stream fits are asks sent
@@ -104,7 +103,7 @@ named_again class item (soa ∷ others) each given =
     let all = named_each class item (soa ∷ others) each given in
     all_append (λ r. HaveNames (item r)) (soa ∷ others) (soa ∷ []) all (all.0, tt)
 
-pub fewest_by : (spelling : Spelling) (class : ℕ) (query : AxfrQuery) (records : List Record) (max : ℕ) (stream : List ℕ) → max < 2 ^ 16
+fewest_by : (spelling : Spelling) (class : ℕ) (query : AxfrQuery) (records : List Record) (max : ℕ) (stream : List ℕ) → max < 2 ^ 16
     → AreRecordsOf class records → IsName query.name → IsSentBy spelling records query max stream
     → IsFewestBy spelling records query max stream
 fewest_by Plain class query records max stream fits are named sent = plain_fewest query records max stream fits sent
@@ -145,16 +144,16 @@ no_cutting_by Hash class query records max n are named blocked = λ few. record 
 -- of what is refused by its number
 none_of_fault : (spelling : Spelling) (class : ℕ) (query : AxfrQuery) (records : List Record) (octets : List ℕ) (max : ℕ) (error : SendError)
     → IsQuery octets query → AreRecordsOf class records → IsRefusedFor spelling records query max error
-    → IfRecord error ((q : AxfrQuery) × IsQuery octets q × HasNoCuttingBy spelling records q max)
+    → IfRecord error (FitsNoMessages spelling records octets max)
 none_of_fault spelling class query records octets max (send_error.Query fault) is are refused = tt
 none_of_fault spelling class query records octets max send_error.WrongZone is are refused = tt
 none_of_fault spelling class query records octets max (send_error.Record n) is are refused =
-    (query, is, no_cutting_by spelling class query records max n are is.question.name.is_name refused)
+    record { query = query; is = is; none = no_cutting_by spelling class query records max n are is.question.name.is_name refused }
 none_of_fault spelling class query records octets max send_error.OutOfMemory is are refused = tt
 
 pub none_for : (spelling : Spelling) (class : ℕ) (query : AxfrQuery) (held records : List Record) (octets : List ℕ) (max : ℕ) (error : SendError)
     → IsQuery octets query → AreRecordsOf class records → held ≡ records → IsRefusedFor spelling held query max error
-    → IfRecord error ((q : AxfrQuery) × IsQuery octets q × HasNoCuttingBy spelling records q max)
+    → IfRecord error (FitsNoMessages spelling records octets max)
 none_for spelling class query held records octets max error is are same refused =
     none_of_fault spelling class query records octets max error is are (subst (λ rs. IsRefusedFor spelling rs query max error) same refused)
 
@@ -163,15 +162,14 @@ none_for spelling class query held records octets max error is are same refused 
 -- a message that a tree writes is a shortest one
 shortest_message : (query : AxfrQuery) (item : Record → Parts) (group : List Record) → spelled_size tree_spelling query item group ≤ 16384
     → IsShortest query item (spelled_message tree_spelling query item group) group
-shortest_message query item group few =
-    let parts : Parts = group_parts (answer_head query) item group in
-    record {
-      free = own_is_free tree_spelling refl parts;
-      shortest = λ rival free.
-          let lower : length rival ≤ 16384 → length (written tree_spelling parts) ≤ length rival = λ short.
-          free_no_shorter tree_spelling rival parts refl (any_proper (names_in parts)) free short in
-          omega (arith, few, lower);
-    }
+shortest_message query item group few = record {
+  free = own_is_free tree_spelling refl (group_parts (answer_head query) item group);
+  shortest = λ rival free.
+      elim (cases_lt 16384 (length rival)) [
+        | inl long ↦ omega (arith, few, long)
+        | inr short ↦ free_takes query item rival group short free
+      ];
+}
 
 shortest_each : (query : AxfrQuery) (item : Record → Parts) (max : ℕ) (groups : List (List Record)) → max ≤ 16384
     → AllByRecursion (λ group. spelled_size tree_spelling query item group ≤ max) groups
@@ -197,9 +195,31 @@ tree_best query records max stream few sent = record {
       omega (arith, fewer, length-map sent.groups (spelled_message tree_spelling query sent.item));
 }
 
-pub best_by : (spelling : Spelling) (query : AxfrQuery) (records : List Record) (max : ℕ) (stream : List ℕ)
+best_by : (spelling : Spelling) (query : AxfrQuery) (records : List Record) (max : ℕ) (stream : List ℕ)
     → IsSentBy spelling records query max stream → IsBestBy spelling records query max stream
 best_by Plain query records max stream sent = tt
 best_by Static query records max stream sent = tt
 best_by Tree query records max stream sent = λ few. tree_best query records max stream few sent
 best_by Hash query records max stream sent = tt
+
+-- ---- all of it
+
+sent_zone : (spelling : Spelling) (class : ℕ) (query : AxfrQuery) (records : List Record) (octets : List ℕ) (max : ℕ) (stream : List ℕ)
+    → max < 2 ^ 16 → query.id < 2 ^ 16 → IsQuery octets query → AsksFor query (apex_of records) class → AreRecordsOf class records
+    → IsSentBy spelling records query max stream → IsSentFor spelling records class octets max stream
+sent_zone spelling class query records octets max stream fits small is asks are sent = record {
+  query = query;
+  is = is;
+  asks = asks;
+  sent = sent;
+  transfer = transfer_by spelling class query records max stream fits are (query_for query class records octets is small asks are) sent;
+  fewest = fewest_by spelling class query records max stream fits are is.question.name.is_name sent;
+  best = best_by spelling query records max stream sent;
+}
+
+pub sent_for : (spelling : Spelling) (class : ℕ) (query : AxfrQuery) (held records : List Record) (octets : List ℕ) (max : ℕ) (stream : List ℕ)
+    → max < 2 ^ 16 → query.id < 2 ^ 16 → IsQuery octets query → AsksFor query (apex_of records) class → AreRecordsOf class records
+    → held ≡ records → IsSentBy spelling held query max stream → IsSentFor spelling records class octets max stream
+sent_for spelling class query held records octets max stream fits small is asks are same sent =
+    sent_zone spelling class query records octets max stream fits small is asks are
+    (subst (λ rs. IsSentBy spelling rs query max stream) same sent)

@@ -4,7 +4,7 @@ use Rattle.std.specs.List.{AllByRecursion, AllZip}
 use Rattle.dns_label.specs.Name.{low}
 use Rattle.dns_name.specs.Spelling.{static_spelling, tree_spelling, hash_spelling}
 use Rattle.dns_rdata.specs.Fields.{Field, compressible, uncompressed, number8, number16, number32, ipv4, ipv6, string, strings, tag, rest_text, rest16, rest64, field_octets, octets, lowered, canonical_octets, IsData, IsRow}
-use Rattle.dns_rdata.specs.Fields.IsData as data_is
+use Rattle.dns_rdata.specs.Fields.IsData.{typed as typed_data, opaque as opaque_data}
 use Rattle.zone_canonical.specs.Canonical.{IsCanonical, IsCanonicalOf, IsCanonicalData, typed, opaque, HasCanonicalForm, AreAlike}
 use Rattle.zone_canonical.proofs.Alike.{alike_same}
 use Rattle.zone_octets.specs.Record.{Record}
@@ -15,7 +15,7 @@ use Rattle.zone_core.proofs.OneTransfer.{transfer_one}
 use Rattle.zone_send.specs.Sent.{IsQueryFor, IsSent}
 use Rattle.zone_send.specs.SentBy.{IsSentBy}
 use Rattle.zone_send.specs.SpelledSent.{IsSpelledSent, IsNear, IsNearData, IsNearField, IsTakenAs}
-use Rattle.zone_send.specs.SpelledSent.IsNearData as near_data
+use Rattle.zone_send.specs.SpelledSent.IsNearData.{same as same_data, fields as near_fields}
 use Rattle.zone_send.specs.declared.sending.Spelling.{Spelling}
 use Rattle.zone_send.specs.declared.sending.Spelling.TheVariants.{Plain, Static, Tree, Hash}
 use Rattle.zone_send.proofs.SentTransfers.{sendable_is_transfer}
@@ -62,16 +62,16 @@ record FormOfBoth (rtype : ℕ) (one other : List ℕ) : Type 0 where
   of_other : IsCanonicalData rtype other form
 
 form_of_data : (rtype : ℕ) (one : List ℕ) → IsData rtype one → FormOfBoth rtype one one
-form_of_data rtype one (data_is.typed row is are) = record {
+form_of_data rtype one (typed_data row is are) = record {
   form = canonical_octets row;
   of_one = typed row is are refl;
   of_other = typed row is are refl;
 }
-form_of_data rtype one (data_is.opaque none short) = record { form = one; of_one = opaque none refl; of_other = opaque none refl }
+form_of_data rtype one (opaque_data none short) = record { form = one; of_one = opaque none refl; of_other = opaque none refl }
 
 form_of_near : (rtype : ℕ) (one other : List ℕ) → IsData rtype one → IsNearData rtype one other → FormOfBoth rtype one other
-form_of_near rtype one other is (near_data.same same) = subst (FormOfBoth rtype one) same (form_of_data rtype one is)
-form_of_near rtype one other is (near_data.fields row others is_row is_other one_is other_is near) = record {
+form_of_near rtype one other is (same_data same) = subst (FormOfBoth rtype one) same (form_of_data rtype one is)
+form_of_near rtype one other is (near_fields row others is_row is_other one_is other_is near) = record {
   form = canonical_octets row;
   of_one = typed row is_row one_is refl;
   of_other = typed others is_other other_is (near_rows row others near);

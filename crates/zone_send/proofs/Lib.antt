@@ -1,11 +1,14 @@
+pub mod AgreedCuts
 pub mod AlikeRecords
 pub mod Best
 pub mod CanonicalTransfers
+pub mod GrownPages
 pub mod HeaderFronts
 pub mod LastRecord
 pub mod Placing
 pub mod Plain
 pub mod SendFaults
+pub mod SentOnce
 pub mod SentTransfers
 pub mod SpelledAnswers
 pub mod SpelledCuts

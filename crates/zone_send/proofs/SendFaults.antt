@@ -23,12 +23,6 @@ use Rattle.zone_send.specs.declared.sending.Spelling.TheVariants.{Plain}
 use Rattle.dns_name.specs.Spelling.{Spelling as Spells}
 use Rattle.zone_text.specs.View.{apex_of}
 
--- what is said of records that are the zone's
-pub sent_for : (spelling : Spelling) (query : AxfrQuery) (held records : List Record) (max : ℕ) (stream : List ℕ) → held ≡ records
-    → IsSentBy spelling held query max stream → IsSentBy spelling records query max stream
-sent_for spelling query held records max stream are sent =
-    let P : List Record → Type 0 = λ rs. IsSentBy spelling rs query max stream in subst P are sent
-
 fault_of : (spelling : Spelling) (query : AxfrQuery) (class : ℕ) (records : List Record) (octets : List ℕ) (max : ℕ) (error : SendError)
     → IsQuery octets query → AsksFor query (apex_of records) class → IsRefusedFor spelling records query max error
     → IsSendFault spelling records (apex_of records) class octets max error

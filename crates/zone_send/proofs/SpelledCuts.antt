@@ -1,18 +1,23 @@
 -- Full cuts into messages whose names are written with pointers to any suffix.
-use Rattle.std.proofs.Common.{◌≡◌, ℕ, ◌≤◌, true, List, [], ◌∷◌, ◌++◌, length, refl, arith}
+use Rattle.std.proofs.Common.{◌≡◌, ℕ, ◌≤◌, true, List, [], ◌∷◌, ◌++◌, length, refl, sym, ◌∙◌, arith}
 use Rattle.std.specs.List.{AllByRecursion}
-use Rattle.dns_name.specs.Spelling.{tree_spelling, hash_spelling}
+use Rattle.dns_name.specs.Spelling.{Spelling, tree_spelling, hash_spelling}
 use Rattle.dns_name.specs.Page.{Parts}
+use Rattle.dns_name.specs.Page.Parts.{Octets}
 use Rattle.dns_label.specs.Name.{IsName}
+use Rattle.dns_header.specs.Header.{answer_header}
+use Rattle.dns_header.specs.Question.{question_parts}
 use Rattle.dns_spelling.specs.Alike.{HaveNames}
 use Rattle.dns_size.specs.Cost.{names_in}
-use Rattle.dns_size.specs.Groups.{HasOneHead, group_parts}
+use Rattle.dns_size.specs.Joined.{join_parts}
+use Rattle.dns_size.specs.Groups.{HasOneHead, items, group_parts}
 use Rattle.dns_size.proofs.Sizes.{AllProper, any_proper, names_proper}
 use Rattle.dns_size.proofs.Groups.{front_fits, back_fits, proper_group, free_group, all_any}
 use Rattle.zone_octets.specs.Record.{Record}
-use Rattle.zone_core.specs.Query.{AxfrQuery}
-use Rattle.zone_core.specs.Cutting.{IsCutting, Fits, IsFullCut, IsBlocked, PartsFit}
-use Rattle.zone_send.specs.Spelled.{answer_head, spelled_size, SpellsGroup, SpellGroups}
+use Rattle.zone_core.specs.Query.{AxfrQuery, question_of}
+use Rattle.zone_core.specs.Cutting.{IsCutting, Fits, IsFullCut, IsBlocked, FrontsFit, PartsFit}
+use Rattle.zone_send.specs.Spelled.{answer_head, spelled_size, IsFreeAnswer, SpellGroups}
+use Rattle.zone_send.proofs.GrownPages.{other_header, group_grows}
 use Rattle.zone_send.proofs.Plain.{length-header}
 use Rattle.zone_core.proofs.Cuttings.{full_cut_is_fewest, blocked_fits_no_cutting}
 use Rattle.zone_core.proofs.CuttingsWhere.{PartsFitWhere}
@@ -22,6 +27,13 @@ one_head query group other = record {
   names = refl;
   octets = omega (arith, length-header query (length group), length-header query (length other));
 }
+
+-- Whatever the spelling and the limit, what fits still fits without its last records.
+pub spelled_fronts_fit : (s : Spelling) (query : AxfrQuery) (item : Record → Parts) (max : ℕ) → FrontsFit (spelled_size s query item) max
+spelled_fronts_fit s query item max = λ xs more fits.
+    let grows = group_grows s (λ (group : List Record). answer_header query.id query.recursion (length group)) (question_parts (question_of query)) item
+    (λ group other. refl) xs more in
+    omega (arith, grows, fits)
 
 -- octet for octet, nothing is asked of names
 pub tree_parts_fit : (query : AxfrQuery) (item : Record → Parts) (max : ℕ) → max ≤ 16384 → PartsFit (spelled_size tree_spelling query item) max
@@ -55,12 +67,17 @@ hash_proper query item is_name group all =
     proper_group (λ r. HaveNames (item r)) hash_spelling (answer_head query) item (one_head query)
     (λ group. names_proper true (answer_head query group) (is_name, tt)) (λ r names. names_proper true (item r) names) group all
 
--- the group of a free message takes no more
-pub free_takes : (query : AxfrQuery) (item : Record → Parts) (max : ℕ) → max ≤ 16384 → (message : List ℕ) (group : List Record)
-    → SpellsGroup query item max message group → spelled_size tree_spelling query item group ≤ length message
-free_takes query item max few message group spells =
-    free_group (λ (r : Record). Unit {0}) tree_spelling (answer_head query) item (one_head query) (λ group. any_proper (names_in (answer_head query group)))
-    (λ r is. any_proper (names_in (item r))) group refl (all_any group) message spells.spelled (omega (arith, spells.small))
+-- The group of a free message takes no more, whatever the message says in its header.
+pub free_takes : (query : AxfrQuery) (item : Record → Parts) (message : List ℕ) (group : List Record) → length message ≤ 16384
+    → IsFreeAnswer query item message group → spelled_size tree_spelling query item group ≤ length message
+free_takes query item message group few free =
+    let question : Parts = question_parts (question_of query) in
+    let head : List Record → Parts = λ others. Octets free.header question in
+    let less = free_group (λ (r : Record). Unit {0}) tree_spelling head item (λ group other. record { names = refl; octets = refl })
+    (λ group. any_proper (names_in (head group))) (λ r is. any_proper (names_in (item r))) group refl (all_any group) message free.spelled few in
+    let same = other_header tree_spelling (answer_header query.id query.recursion (length group)) free.header (join_parts question (items item group))
+    (length-header query (length group) ∙ sym free.twelve) in
+    omega (arith, less, same)
 
 -- messages that spell groups freely are as many, and the groups fit
 record AreSmall (query : AxfrQuery) (item : Record → Parts) (max : ℕ) (messages : List (List ℕ)) (groups : List (List Record)) : Type 0 where
@@ -74,8 +91,8 @@ are_small query item max few [] (group ∷ groups) spell = absurd spell
 are_small query item max few (message ∷ messages) [] spell = absurd spell
 are_small query item max few (message ∷ messages) (group ∷ groups) spell =
     let on = are_small query item max few messages groups spell.1 in
-    let own = free_takes query item max few message group spell.0 in
     let small = spell.0.small in
+    let own = free_takes query item message group (omega (arith, small)) spell.0.free in
     let here : spelled_size tree_spelling query item group ≤ max = omega (arith, own, small) in
     record { small = (here, on.small); long = omega (arith, on.long) }
 

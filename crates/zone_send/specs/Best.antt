@@ -9,12 +9,14 @@ use Rattle.dns_message.specs.Record.{IsWritten}
 use Rattle.dns_size.specs.Free.{IsFree}
 use Rattle.dns_size.specs.Groups.{group_parts}
 use Rattle.zone_octets.specs.Record.{Record}
-use Rattle.zone_core.specs.Query.{AxfrQuery}
+use Rattle.zone_core.specs.Query.{AxfrQuery, IsQuery}
 use Rattle.zone_core.specs.Frames.{frames, IsFramable}
 use Rattle.zone_core.specs.Cutting.{IsCutting, Fits}
 use Rattle.zone_core.specs.Transfer.{IsTransfer, IsExactTransfer}
-use Rattle.zone_send.specs.Sent.{size, with_soa_again}
-use Rattle.zone_send.specs.Spelled.{answer_head, spelled_size, SpellGroups}
+use Rattle.zone_text.specs.View.{apex_of}
+use Rattle.zone_send.specs.Sent.{size, with_soa_again, AsksFor}
+use Rattle.zone_send.specs.SentBy.{IsSentBy}
+use Rattle.zone_send.specs.Spelled.{answer_head, spelled_size, IsFreeAnswer, SpellGroups}
 use Rattle.zone_send.specs.SpelledSent.{IsNear}
 use Rattle.zone_send.specs.declared.sending.Spelling.{Spelling}
 use Rattle.zone_send.specs.declared.sending.Spelling.TheVariants.{Plain, Static, Tree, Hash}
@@ -80,13 +82,13 @@ IfRecord send_error.WrongZone P = ⊤
 IfRecord (send_error.Record n) P = P
 IfRecord send_error.OutOfMemory P = ⊤
 
--- The message spells the group freely, and no message that does so is shorter.
+-- The message spells the group freely, and no message that does so is shorter, whatever it says in its header.
 pub record IsShortest (query : AxfrQuery) (item : Record → Parts) (message : List ℕ) (group : List Record) : Type 0 where
   pub free : IsFree message (group_parts (answer_head query) item group)
-  pub shortest : (rival : List ℕ) → IsFree rival (group_parts (answer_head query) item group) → length message ≤ length rival
+  pub shortest : (rival : List ℕ) → IsFreeAnswer query item rival group → length message ≤ length rival
 
 -- Each message of the stream is a shortest one of its records, and no messages of at most `max` octets that spell the records and
--- the SOA again freely, in groups of any size, are fewer.
+-- the SOA again freely, in groups of any size and behind any headers, are fewer.
 pub record IsBest (records : List Record) (query : AxfrQuery) (max : ℕ) (stream : List ℕ) : Type 0 where
   pub item : Record → Parts
   pub each : AllByRecursion (λ r. IsWritten r (item r)) records
@@ -105,3 +107,20 @@ IsBestBy Plain records query max stream = ⊤
 IsBestBy Static records query max stream = ⊤
 IsBestBy Tree records query max stream = max ≤ 16384 → IsBest records query max stream
 IsBestBy Hash records query max stream = ⊤
+
+-- What is sent for a zone in answer to the octets of a query, which asks for it: a reader takes the zone's records from the
+-- stream, no stream of these has fewer messages, and where suffixes are remembered octet for octet each message is a shortest one.
+pub record IsSentFor (spelling : Spelling) (records : List Record) (class : ℕ) (octets : List ℕ) (max : ℕ) (stream : List ℕ) : Type 0 where
+  pub query : AxfrQuery
+  pub is : IsQuery octets query
+  pub asks : AsksFor query (apex_of records) class
+  pub sent : IsSentBy spelling records query max stream
+  pub transfer : IsTransferBy spelling query stream records
+  pub fewest : IsFewestBy spelling records query max stream
+  pub best : IsBestBy spelling records query max stream
+
+-- The query asks for the zone, and no messages hold the records.
+pub record FitsNoMessages (spelling : Spelling) (records : List Record) (octets : List ℕ) (max : ℕ) : Type 0 where
+  pub query : AxfrQuery
+  pub is : IsQuery octets query
+  pub none : HasNoCuttingBy spelling records query max

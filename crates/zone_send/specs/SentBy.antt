@@ -1,5 +1,5 @@
 -- What is sent for a zone and a query, by how names are written, and why nothing is (RFC 5936 2.2).
-use Rattle.std.specs.Prelude.{ℕ, List}
+use Rattle.std.specs.Prelude.{ℕ, List, ⊤}
 use Rattle.dns_name.specs.Spelling.{static_spelling, tree_spelling, hash_spelling}
 use Rattle.zone_octets.specs.Record.{Record}
 use Rattle.zone_core.specs.Query.{AxfrQuery, IsQuery, IsQueryFault}
@@ -17,6 +17,13 @@ IsSentBy Plain records query max stream = IsSent records query max stream
 IsSentBy Static records query max stream = IsSpelledSent static_spelling records query max stream
 IsSentBy Tree records query max stream = IsSpelledSent tree_spelling records query max stream
 IsSentBy Hash records query max stream = IsSpelledSent hash_spelling records query max stream
+
+-- names are received in the case that they have: they are written in full, or a pointer stands for the very same octets alone
+abbrev pub KeepsCase : Spelling → Type 0
+KeepsCase Plain = ⊤
+KeepsCase Static = ⊥
+KeepsCase Tree = ⊤
+KeepsCase Hash = ⊥
 
 -- the n-th of the records and the SOA again, counted from 1, has room in no message
 abbrev pub IsBlockedBy : Spelling → List Record → AxfrQuery → ℕ → ℕ → Type 0

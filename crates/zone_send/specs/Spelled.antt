@@ -1,6 +1,6 @@
 -- Messages that carry groups of records, with names spelled in any way (RFC 5936 2.2, RFC 1035 4.1.4). `item` has the parts of
 -- each record.
-use Rattle.std.specs.Prelude.{◌≤◌, ◌+◌, ℕ, List, [], ◌∷◌, length, flat_map, sum_by}
+use Rattle.std.specs.Prelude.{◌≡◌, ◌≤◌, ◌+◌, ℕ, List, [], ◌∷◌, length, flat_map, sum_by}
 use Rattle.std.specs.List.{AllZip}
 use Rattle.dns_name.specs.Spelling.{Spelling}
 use Rattle.dns_name.specs.Page.{Parts}
@@ -23,9 +23,15 @@ answer_head query group = Octets (answer_header query.id query.recursion (length
 abbrev pub spelled_size : Spelling → AxfrQuery → (Record → Parts) → List Record → ℕ
 spelled_size s query item group = group_size s (answer_head query) item group
 
--- the message spells the group freely, in at most `max` octets
+-- The message is a header of any twelve octets, and then spells the query's question and the records freely.
+pub record IsFreeAnswer (query : AxfrQuery) (item : Record → Parts) (message : List ℕ) (group : List Record) : Type 0 where
+  pub header : List ℕ
+  pub twelve : length header ≡ 12
+  pub spelled : IsFree message (group_parts (λ others. Octets header (question_parts (question_of query))) item group)
+
+-- the message is such a one for the group, of at most `max` octets
 pub record SpellsGroup (query : AxfrQuery) (item : Record → Parts) (max : ℕ) (message : List ℕ) (group : List Record) : Type 0 where
-  pub spelled : IsFree message (group_parts (answer_head query) item group)
+  pub free : IsFreeAnswer query item message group
   pub small : length message ≤ max
 
 -- and messages the groups, one each

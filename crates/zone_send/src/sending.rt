@@ -3,10 +3,10 @@ ghost use Rattle.std.specs.Prelude.{◌≡◌, ◌↔◌, [], IsTrue, IfOk, IfEr
 ghost use Rattle.std.specs.List.{AllByRecursion};
 ghost use Rattle.zone_octets.specs.Typed.{HasLawfulData};
 ghost use Rattle.zone_core.specs.Asked.{asked_by};
-ghost use Rattle.zone_core.specs.Query.{AxfrQuery, IsQuery};
+ghost use Rattle.zone_core.specs.Query.{AxfrQuery};
 ghost use Rattle.zone_send.specs.Sent.{AsksFor, IsSent};
 ghost use Rattle.zone_send.specs.SentBy.{IsSentBy, IsSendFault, IsRefusedFor};
-ghost use Rattle.zone_send.specs.Best.{IsTransferBy, IsFewestBy, HasNoCuttingBy, IfRecord, IsBestBy};
+ghost use Rattle.zone_send.specs.Best.{FitsNoMessages, IfRecord, IsSentFor};
 ghost use Rattle.zone_send.specs.Sending.{Holds, IsRefusedBy};
 ghost use Rattle.zone_text.specs.View.{apex_of};
 
@@ -51,23 +51,11 @@ pub fn send(
     max: u16,
     spelling: Spelling,
 ) -> Result<Vec<u8>, SendError>
-    ensures ok { IfOk result (λ stream. (q : AxfrQuery) × IsQuery query.now q × AsksFor q (apex_of zone.now.records) zone.now.class ×
-        IsSentBy spelling zone.now.records q max stream.items) }
+    ensures ok { IfOk result (λ stream. IsSentFor spelling zone.now.records zone.now.class query.now max stream.items) }
     ensures err { IfErr result (IsSendFault spelling zone.now.records (apex_of zone.now.records) zone.now.class query.now max) }
 
-    // What a reader takes of it are the zone's records, up to the ASCII case of names where the spelling folds it.
-    ensures transfer { IfOk result (λ stream. (q : AxfrQuery) × IsQuery query.now q ×
-        IsTransferBy spelling q stream.items zone.now.records) }
-
-    // No stream of the records has fewer messages, and where a record has room in no message there is none.
-    ensures fewest { IfOk result (λ stream. (q : AxfrQuery) × IsQuery query.now q ×
-        IsFewestBy spelling zone.now.records q max stream.items) }
-    ensures none { IfErr result (λ error. IfRecord error ((q : AxfrQuery) × IsQuery query.now q ×
-        HasNoCuttingBy spelling zone.now.records q max)) }
-
-    // A tree's messages are shortest ones, and no freely compressed ones are fewer.
-    ensures best { IfOk result (λ stream. (q : AxfrQuery) × IsQuery query.now q ×
-        IsBestBy spelling zone.now.records q max stream.items) }
+    // Where a record has room in no message, no messages hold the records.
+    ensures none { IfErr result (λ error. IfRecord error (FitsNoMessages spelling zone.now.records query.now max)) }
 {
     send_into(alloc, Vec::new(alloc), zone, query, max, spelling)
 }
@@ -84,23 +72,11 @@ pub fn send_into(
     max: u16,
     spelling: Spelling,
 ) -> Result<Vec<u8>, SendError>
-    ensures ok { IfOk result (λ stream. (q : AxfrQuery) × IsQuery query.now q × AsksFor q (apex_of zone.now.records) zone.now.class ×
-        IsSentBy spelling zone.now.records q max stream.items) }
+    ensures ok { IfOk result (λ stream. IsSentFor spelling zone.now.records zone.now.class query.now max stream.items) }
     ensures err { IfErr result (IsSendFault spelling zone.now.records (apex_of zone.now.records) zone.now.class query.now max) }
 
-    // What a reader takes of it are the zone's records, up to the ASCII case of names where the spelling folds it.
-    ensures transfer { IfOk result (λ stream. (q : AxfrQuery) × IsQuery query.now q ×
-        IsTransferBy spelling q stream.items zone.now.records) }
-
-    // No stream of the records has fewer messages, and where a record has room in no message there is none.
-    ensures fewest { IfOk result (λ stream. (q : AxfrQuery) × IsQuery query.now q ×
-        IsFewestBy spelling zone.now.records q max stream.items) }
-    ensures none { IfErr result (λ error. IfRecord error ((q : AxfrQuery) × IsQuery query.now q ×
-        HasNoCuttingBy spelling zone.now.records q max)) }
-
-    // A tree's messages are shortest ones, and no freely compressed ones are fewer.
-    ensures best { IfOk result (λ stream. (q : AxfrQuery) × IsQuery query.now q ×
-        IsBestBy spelling zone.now.records q max stream.items) }
+    // Where a record has room in no message, no messages hold the records.
+    ensures none { IfErr result (λ error. IfRecord error (FitsNoMessages spelling zone.now.records query.now max)) }
 {
     let query = match check_query(query) {
         Ok(query) => query,

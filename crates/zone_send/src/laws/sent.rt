@@ -1,4 +1,4 @@
-//! What holds of a stream that is sent.
+//! What holds of a stream that is sent with every name written out.
 
 ghost use Rattle.std.specs.Prelude.{◌≡◌, ◌<◌, ◌≤◌, ◌^◌, ℕ, List, length};
 ghost use Rattle.zone_octets.specs.Record.{Record};
@@ -8,17 +8,17 @@ ghost use Rattle.zone_core.specs.Query.{AxfrQuery};
 ghost use Rattle.zone_core.specs.Transfer.{IsTransfer, IsExactTransfer};
 ghost use Rattle.zone_send.specs.Sent.{IsQueryFor, IsSent, size};
 
-/// What is sent for a zone and a query that asks for it is a transfer to that query, and of the very same records: their
-/// octets are those of the zone, names included, and so are those of the last SOA. No message has more octets than its
-/// length in front can say.
+/// What is sent for a zone and a query that asks for it, with every name written out, is a transfer to that query, and of the
+/// very same records: their octets are those of the zone, names included, and so are those of the last SOA. No message has more
+/// octets than its length in front can say.
 pub fn sent_is_a_transfer()
     ensures { (records : List Record) (class : ℕ) (query : AxfrQuery) (max : ℕ) (stream : List ℕ) →
         max < 2 ^ 16 → AreSendable class records → IsQueryFor records class query →
         IsSent records query max stream → IsExactTransfer query stream records }
 {}
 
-/// What is sent for a zone and received as a transfer is received as the zone's records, and what is sent for these is
-/// the very same stream again: the same messages, the SOA at the end too.
+/// What is sent for a zone with every name written out, and received as a transfer, is received as the zone's records, and what
+/// is sent for these in the same way is the very same stream again: the same messages, the SOA at the end too.
 pub fn received_is_sent_again()
     ensures { (records others : List Record) (class : ℕ) (query : AxfrQuery) (max : ℕ) (stream : List ℕ) →
         max < 2 ^ 16 → AreSendable class records → IsQueryFor records class query →

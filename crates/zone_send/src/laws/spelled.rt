@@ -9,15 +9,13 @@ ghost use Rattle.dns_name.specs.Page.{Parts};
 ghost use Rattle.dns_message.specs.Record.{IsRecord, IsWritten};
 ghost use Rattle.dns_size.specs.Cost.{same_name};
 ghost use Rattle.dns_size.specs.CostSum.{AreTheSuffixes};
-ghost use Rattle.dns_size.specs.Free.{IsFree};
-ghost use Rattle.dns_size.specs.Groups.{group_parts};
 ghost use Rattle.dns_spelling.specs.Alike.{HaveNames};
 ghost use Rattle.zone_octets.specs.Record.{Record};
 ghost use Rattle.zone_octets.specs.Records.{AreSendable};
-ghost use Rattle.zone_core.specs.Cutting.{IsCutting, Fits, IsFullCut, IsBlocked, PartsFit};
+ghost use Rattle.zone_core.specs.Cutting.{IsCutting, Fits, IsFullCut, IsBlocked, FrontsFit, PartsFit};
 ghost use Rattle.zone_core.specs.Query.{AxfrQuery};
 ghost use Rattle.zone_send.specs.Sent.{IsQueryFor};
-ghost use Rattle.zone_send.specs.Spelled.{answer_head, spelled_size, SpellGroups, record_items, message_names, message_sum};
+ghost use Rattle.zone_send.specs.Spelled.{spelled_size, IsFreeAnswer, SpellGroups, record_items, message_names, message_sum};
 ghost use Rattle.zone_send.specs.SpelledSent.{IsSpelledSent, IsTakenAs};
 ghost use Rattle.zone_core.specs.Transfer.{IsTransfer, IsExactTransfer};
 
@@ -40,6 +38,12 @@ pub fn message_octets_are_a_sum()
 /// The names among the parts that a writer gives of a record are names.
 pub fn written_records_have_names()
     ensures { (r : Record) (parts : Parts) → IsRecord r → IsWritten r parts → HaveNames parts }
+{}
+
+/// Whatever the spelling and the limit, a message that fits still fits without its last records: a page only grows. So records have
+/// at most one full cut, or one blocked record, also past the 16,384 octets that pointers reach.
+pub fn spelled_fronts_fit()
+    ensures { (s : Spelling) (query : AxfrQuery) (item : Record → Parts) (max : ℕ) → FrontsFit (spelled_size s query item) max }
 {}
 
 /// Where a tree remembers suffixes, a message of at most 16,384 octets still fits without its first records and without its
@@ -66,7 +70,7 @@ pub fn hash_full_cut_is_fewest()
 
 /// Where a tree remembers suffixes, no messages within a limit of at most 16,384 octets that spell consecutive groups of the
 /// records freely are fewer than the full cut's, and where a record is blocked there are none. No message that spells a group
-/// freely is shorter than the tree's.
+/// freely is shorter than the tree's. What the headers of these messages say doesn't matter.
 pub fn free_messages_are_no_fewer()
     ensures fewest { (query : AxfrQuery) (item : Record → Parts) (max : ℕ) (records : List Record) (full groups : List (List Record))
         (messages : List (List ℕ)) → max ≤ 16384 → IsFullCut (spelled_size tree_spelling query item) max records full →
@@ -75,7 +79,7 @@ pub fn free_messages_are_no_fewer()
         (messages : List (List ℕ)) → max ≤ 16384 → IsBlocked (spelled_size tree_spelling query item) max records n →
         IsCutting records groups → SpellGroups query item max messages groups → ⊥ }
     ensures shortest { (query : AxfrQuery) (item : Record → Parts) (group : List Record) (message : List ℕ) → length message ≤ 16384 →
-        IsFree message (group_parts (answer_head query) item group) → spelled_size tree_spelling query item group ≤ length message }
+        IsFreeAnswer query item message group → spelled_size tree_spelling query item group ≤ length message }
 {}
 
 /// What is sent for a zone with names written by a spelling is a transfer to the query: of the very same records where the

@@ -6,8 +6,8 @@ use Rattle.zone_octets.specs.Typed.{HasLawfulData}
 use Rattle.zone_core.specs.Asked.{asked_by}
 use Rattle.zone_send.specs.Sent.{AsksFor}
 use Rattle.zone_text.specs.View.{apex_of}
-use Rattle.zone_send.proofs.SendFaults.{sent_for, fault_for, query_for, id_small, all_lawful}
-use Rattle.zone_send.proofs.Best.{transfer_by, fewest_by, best_by, none_for}
+use Rattle.zone_send.proofs.SendFaults.{fault_for, id_small, all_lawful}
+use Rattle.zone_send.proofs.Best.{sent_for, none_for}
 use Rattle.zone_send.proofs.sending.send_into.Goals as goal
 
 pub returns-then-not-asks_for-clause-err : goal.returns-then-not-asks_for-clause-err
@@ -25,13 +25,10 @@ pub returns-clause-ok : goal.returns-clause-ok
 returns-clause-ok c =
     let query = asked_by c.in-Ok.query in
     let asks : AsksFor query (apex_of c.args.zone.now.records) c.args.zone.now.class = c.asks_for.ensures.0 c.if-not-asks_for.false in
+    let small : query.id < 2 ^ 16 = omega (arith, c.in-Ok.ensures.ok.id, id_small c.args.query.now (λ i. (c.type_inv.query i).fits)) in
     IfOk-weaker c.send_by.result _ _
-    (λ stream given. (
-      query,
-      c.in-Ok.ensures.ok,
-      asks,
-      sent_for c.args.spelling query c.records_of.result.now c.args.zone.now.records c.args.max stream.items c.records_of.ensures.records given,
-    ))
+    (λ stream given. sent_for c.args.spelling c.args.zone.now.class query c.records_of.result.now c.args.zone.now.records c.args.query.now
+    c.args.max stream.items c.ranges.max.fits small c.in-Ok.ensures.ok asks c.records_of.ensures.known c.records_of.ensures.records given)
     c.send_by.ensures.ok
 
 pub returns-clause-err : goal.returns-clause-err
@@ -41,47 +38,6 @@ returns-clause-err c =
     MatchResult-weaker c.send_by.result c.send_by.ensures.err (λ stream given. given)
     (λ error given. fault_for c.args.spelling query c.args.zone.now.class c.records_of.result.now c.args.zone.now.records c.args.query.now
     c.args.max error c.in-Ok.ensures.ok asks c.records_of.ensures.records given)
-
-pub returns-clause-transfer : goal.returns-clause-transfer
-returns-clause-transfer c =
-    let query = asked_by c.in-Ok.query in
-    let asks : AsksFor query (apex_of c.args.zone.now.records) c.args.zone.now.class = c.asks_for.ensures.0 c.if-not-asks_for.false in
-    let small : query.id < 2 ^ 16 = omega (arith, c.in-Ok.ensures.ok.id, id_small c.args.query.now (λ i. (c.type_inv.query i).fits)) in
-    let known = c.records_of.ensures.known in
-    let for_zone = query_for query c.args.zone.now.class c.args.zone.now.records c.args.query.now c.in-Ok.ensures.ok small asks known in
-    IfOk-weaker c.send_by.result _ _
-    (λ stream given. (
-      query,
-      c.in-Ok.ensures.ok,
-      transfer_by c.args.spelling c.args.zone.now.class query c.args.zone.now.records c.args.max stream.items c.ranges.max.fits known for_zone
-          (sent_for c.args.spelling query c.records_of.result.now c.args.zone.now.records c.args.max stream.items c.records_of.ensures.records given),
-    ))
-    c.send_by.ensures.ok
-
-pub returns-clause-fewest : goal.returns-clause-fewest
-returns-clause-fewest c =
-    let query = asked_by c.in-Ok.query in
-    IfOk-weaker c.send_by.result _ _
-    (λ stream given. (
-      query,
-      c.in-Ok.ensures.ok,
-      fewest_by c.args.spelling c.args.zone.now.class query c.args.zone.now.records c.args.max stream.items c.ranges.max.fits
-          c.records_of.ensures.known c.in-Ok.ensures.ok.question.name.is_name
-          (sent_for c.args.spelling query c.records_of.result.now c.args.zone.now.records c.args.max stream.items c.records_of.ensures.records given),
-    ))
-    c.send_by.ensures.ok
-
-pub returns-clause-best : goal.returns-clause-best
-returns-clause-best c =
-    let query = asked_by c.in-Ok.query in
-    IfOk-weaker c.send_by.result _ _
-    (λ stream given. (
-      query,
-      c.in-Ok.ensures.ok,
-      best_by c.args.spelling query c.args.zone.now.records c.args.max stream.items
-          (sent_for c.args.spelling query c.records_of.result.now c.args.zone.now.records c.args.max stream.items c.records_of.ensures.records given),
-    ))
-    c.send_by.ensures.ok
 
 pub returns-clause-none : goal.returns-clause-none
 returns-clause-none c =

@@ -1,4 +1,3 @@
-use Rattle.std.proofs.Common.{length, arith}
 use Rattle.zone_send.proofs.SpelledCuts.{free_takes, free_no_fewer, free_none}
 use Rattle.zone_send.proofs.laws.spelled.free_messages_are_no_fewer.Goals as goal
 
@@ -9,5 +8,4 @@ pub returns-clause-none : goal.returns-clause-none
 returns-clause-none c = λ query item max records n groups messages few. free_none query item max records n groups messages few
 
 pub returns-clause-shortest : goal.returns-clause-shortest
-returns-clause-shortest c = λ query item group message few free.
-    free_takes query item (length message) few message group (record { spelled = free; small = omega arith })
+returns-clause-shortest c = λ query item group message few free. free_takes query item message group few free
