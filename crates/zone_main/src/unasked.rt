@@ -1,6 +1,6 @@
 //! Why the program's words name no job.
 ghost use Rattle.std.specs.Prelude.{◌≡◌};
-ghost use Rattle.zonewire.specs.declared.words.WordsFault.TheVariants.{OutOfMemory};
+ghost use Rattle.zonewire.specs.declared.command_line.WordsFault.TheVariants.{OutOfMemory};
 ghost use Rattle.zone_main.specs.declared.unasked.Unasked.TheVariants.{Refused};
 
 use std::alloc::AllocError;

@@ -1,5 +1,6 @@
 -- How far a receiver is. Only the receiver itself speaks of it.
-use Rattle.std.specs.Prelude.{Bool, ⊤}
+use Rattle.std.specs.Prelude.{◌≢◌, Bool, ⊤}
+use Rattle.zone_octets.specs.Zone.{any_class}
 use Rattle.zone_core.specs.Query.{AxfrQuery}
 use Rattle.zone_receive.specs.Receiving.{Heard, Stage}
 use Rattle.zone_receive.specs.Receiving.Stage.{Ended, Refused}
@@ -27,3 +28,8 @@ abbrev pub IsAt : Progress → Intake → AxfrQuery → Type 0
 IsAt progress.Begun intake query = IsWaiting intake query
 IsAt progress.Done intake query = IsEnded intake query
 IsAt (progress.Refused error) intake query = ⊤
+
+-- and of the query
+pub record IsReceiver (at : Progress) (intake : Intake) (query : AxfrQuery) : Type 0 where
+  pub is_at : IsAt at intake query
+  pub class_known : query.class ≢ any_class

@@ -1,31 +1,30 @@
 //! The frame that is open in a stream that comes in, and the records of its messages.
-ghost use Rattle.std.specs.Prelude.{◌≡◌, ◌++◌, ◌≤◌, [], ℕ, List, length, take, true, IfOk, IfErr, IfSome, IfNone, MatchOption, slice_get};
-ghost use Rattle.zone_core.specs.Asked.{asked_of};
-ghost use Rattle.zone_core.specs.Frames.{IsPartial};
-ghost use Rattle.zone_receive.specs.Intake.{Completes};
+ghost use Rattle.std.specs.Prelude.{◌≤◌, length};
 
 use crate::error::ReceiveError;
 use crate::message::judge_message;
+use crate::open_frame::{LENGTH_OCTETS, missing};
 use std::alloc::Global;
 use zone_core::owned_query::OwnedQuery;
 use zone_octets::record_list::RecordList;
 
-/// The octets of a message's length on a stream (RFC 1035 4.2.2).
-const LENGTH_OCTETS: usize = 2;
-
 /// What is left of a stream whose whole messages are judged.
 #[derive(Debug, Drop)]
 pub(crate) struct Intake {
-    /// The octets of the frame that is not whole.
+    /// The octets of the frame that is open.
     open_frame: Vec<u8>,
     /// Whether no message has come whole.
     is_first: bool,
     /// The records of the messages, without the last SOA.
     records: RecordList,
+    // A frame has a length of two octets, and at most as many as that can say behind it.
+    ghost bounded: { length open_frame.items ≤ 65537 },
 }
 
 impl Intake {
+    ghost use Rattle.std.specs.Prelude.{◌≡◌, ◌++◌, [], ℕ, List, take, true, IfOk, IfErr, IfSome, IfNone};
     ghost use Rattle.std.specs.Bool.{OnTrue, OnFalse};
+    ghost use Rattle.zone_core.specs.Asked.{asked_of};
     ghost use Rattle.zone_core.specs.Query.{AxfrQuery};
     ghost use Rattle.zone_receive.specs.Receiving.{IsHeard, IsStreamFault};
     ghost use Rattle.zone_receive.specs.Intake.{BreaksRule, EndsTransfer, GoesOn, IsFrame, IsWaiting, heard_by};
@@ -96,30 +95,4 @@ impl Intake {
         self.open_frame.clear();
         Ok(ends)
     }
-}
-
-/// How many of these octets make the open frame whole, if they do (RFC 1035 4.2.2).
-fn missing(open_frame: &[u8], octets: &[u8]) -> Option<usize>
-    requires { IsPartial open_frame.now }
-    ensures { MatchOption result (IsPartial (open_frame.now ++ octets.now)) (Completes open_frame.now octets.now) }
-{
-    let high = octet_at(open_frame, octets, 0)?;
-    let low = octet_at(open_frame, octets, 1)?;
-    let len = LENGTH_OCTETS + usize::from(u16::from_be_bytes([high, low]));
-    let missing = len - open_frame.len();
-    if missing <= octets.len() {
-        Some(missing)
-    } else {
-        None
-    }
-}
-
-/// The octet at a place of two slices, the second behind the first.
-fn octet_at(front: &[u8], back: &[u8], place: usize) -> Option<u8>
-    ensures { result ≡ slice_get (front.now ++ back.now) place }
-{
-    if place < front.len() {
-        return Some(front[place]);
-    }
-    back.get(place - front.len()).copied()
 }

@@ -8,6 +8,7 @@ mod error;
 mod intake;
 pub mod laws;
 mod message;
+mod open_frame;
 mod question;
 mod receiver;
 mod record;

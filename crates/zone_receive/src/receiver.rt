@@ -1,9 +1,10 @@
 //! Who asks for a zone's transfer, and takes the stream of answers.
-ghost use Rattle.std.specs.Prelude.{◌≡◌, ◌↔◌, ℕ, List, [], None, IsTrue, IfOk, IfErr, MatchResult};
+ghost use Rattle.std.specs.Prelude.{◌≡◌, ◌≤◌, ◌↔◌, ℕ, List, [], None, Ok, Err, length, IsTrue, IfOk, IfErr, MatchResult};
 ghost use Rattle.zone_core.specs.Asked.{asked_of};
 ghost use Rattle.zone_core.specs.Query.{IsQuery};
 ghost use Rattle.zone_receive.specs.Receiving.{IsAskFault, IsNoZone, IsWholeTransfer, Refuses, StandsAt, Takes, refusal_in};
-ghost use Rattle.zone_receive.specs.Receiving.Stage.{Ended, Fresh};
+ghost use Rattle.zone_receive.specs.Receiving.Stage.{Ended, Fresh, Refused};
+ghost use Rattle.zone_receive.specs.declared.error.ReceiveError.{ReceiveError};
 ghost use Rattle.zone_core.specs.Transfer.{IsTransfer};
 
 use crate::error::ReceiveError;
@@ -39,14 +40,14 @@ pub struct Receiver {
 
 impl Model for Receiver {
     ghost use Rattle.zone_receive.specs.Receiving.{Heard};
-    ghost use Rattle.zone_receive.specs.Received.{IsAt, heard_in};
+    ghost use Rattle.zone_receive.specs.Received.{IsReceiver, heard_in};
     ghost use Rattle.zone_core.specs.Asked.{asked_of};
 
     ghost Value = { Heard };
 
     ghost view = { λ r. heard_in r.progress r.intake (asked_of r.query) };
 
-    ghost invariant = { λ r. IsAt r.progress r.intake (asked_of r.query) };
+    ghost invariant = { λ r. IsReceiver r.progress r.intake (asked_of r.query) };
 }
 
 impl Receiver {
@@ -74,8 +75,15 @@ impl Receiver {
     ///
     /// Refused by the first rule that the first bad message breaks, and then this refusal is the answer from then on.
     pub fn feed(&mut self, piece: &[u8]) -> Result<usize, ReceiveError>
-        ensures { (stream : List ℕ) → StandsAt self.old stream →
+        ensures takes { (stream : List ℕ) → StandsAt self.old stream →
             MatchResult result (Takes self.old stream piece.now self.new) (Refuses self.old stream piece.now self.new) }
+
+        // Whatever the stream was, a refusal is kept, and the transfer that has come whole.
+        ensures kept { (error : ReceiveError) → self.old.stage ≡ Refused error → (result ≡ Err error) × (self.new ≡ self.old) }
+        ensures ended { self.old.stage ≡ Ended → (result ≡ Ok 0) × (self.new ≡ self.old) }
+
+        // What is open of a frame is no longer than a frame can be.
+        ensures bounded { length self.new.open_frame ≤ 65537 }
     {
         match self.progress {
             Progress::Done => Ok(0),
@@ -111,6 +119,9 @@ impl Receiver {
             (refusal_in self.stage ≡ None) × IsTransfer self.query stream zone.records) }
         ensures class_is { IfOk result (λ zone. zone.class ≡ self.query.class) }
         ensures err { IfErr result (λ error. (stream : List ℕ) → StandsAt self stream → IsNoZone self stream error) }
+
+        // Whatever the stream was, a refusal is kept.
+        ensures kept { (error : ReceiveError) → self.stage ≡ Refused error → result ≡ Err error }
     {
         let Receiver {
             query,

@@ -18,7 +18,8 @@ pub use zone_rules::laws::{
 };
 pub use zone_send::laws::{
     free_messages_are_no_fewer, hash_full_cut_is_fewest, message_octets_are_a_sum,
-    near_records_have_the_same_canonical_octets, plain_full_cut_is_fewest, received_is_sent_again,
-    sent_is_a_transfer, spelled_is_a_transfer, spelled_is_sent_again,
+    near_records_have_the_same_canonical_octets, one_stream_or_one_blocked_record,
+    plain_full_cut_is_fewest, received_is_sent_again, sent_again_is_the_same, sent_is_a_transfer,
+    spelled_fronts_fit, spelled_is_a_transfer, spelled_is_sent_again,
     transfers_keep_canonical_octets, tree_full_cut_is_fewest, written_records_have_names,
 };

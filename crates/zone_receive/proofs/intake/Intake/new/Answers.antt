@@ -1,11 +1,12 @@
-use Rattle.std.proofs.Common.{true, refl}
+use Rattle.std.proofs.Common.{◌≤◌, true, length, refl, ap, arith}
 use Rattle.zone_receive.specs.declared.intake.Intake.{Intake}
 use Rattle.zone_receive.proofs.Intakes.{heard_none, waits_none}
 use Rattle.zone_receive.proofs.intake.Intake.new.Goals as goal
 
 pub returns-clause-heard : goal.returns-clause-heard
 returns-clause-heard c =
-    let intake : Intake = record { open_frame = c.new.result; is_first = true; records = c.new-2.result } in
+    let bounded : length c.new.result.items ≤ 65537 = omega (arith, ap length c.new.ensures.items) in
+    let intake : Intake = record { open_frame = c.new.result; is_first = true; records = c.new-2.result; bounded = bounded } in
     λ query. heard_none intake query c.new.ensures.items c.new-2.ensures refl
 
 pub returns-clause-waits : goal.returns-clause-waits

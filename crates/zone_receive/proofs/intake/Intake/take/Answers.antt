@@ -20,14 +20,14 @@ judge-requires-clause-waits c = goes_waits _ c.requires c.loop-len.invariant.goe
 pub judge-requires-clause-framed : goal.judge-requires-clause-framed
 judge-requires-clause-framed c =
     framed_next c.loop-len.self.open_frame.items _ _ (drop c.loop-len.taken c.args.piece.now) c.loop-len.taken c.in-Some.len c.as_slice.ensures.value
-    (take_rest c.args.piece.now c.loop-len.taken) c.in-Some.ensures.framed
+    (take_rest c.args.piece.now c.loop-len.taken) c.in-Some.ensures.found.framed
 
 pub returns-then-branch-clause-ended : goal.returns-then-branch-clause-ended
 returns-then-branch-clause-ended c =
     let piece : List ℕ = c.args.piece.now in
     let taken : ℕ = c.loop-len.taken in
     let end : ℕ = taken + c.in-Some.len in (
-      omega (arith, c.in-Some.ensures.within, c.loop-len.invariant.within, length-drop taken piece),
+      omega (arith, c.in-Some.ensures.found.within, c.loop-len.invariant.within, length-drop taken piece),
       ends_more (take taken piece) (take (end - taken) (drop taken piece)) (take end piece) (piece_next piece taken end (omega arith))
           c.loop-len.invariant.goes (at_true c.in_ok-judge.field-0 c.if-branch.true c.in_ok-judge.ensures.ends),
     )
@@ -38,14 +38,14 @@ loop-len-preserved c =
     let taken : ℕ = c.loop-len.taken in
     let end : ℕ = taken + c.in-Some.len in
     record {
-      within = omega (arith, c.in-Some.ensures.within, c.loop-len.invariant.within, length-drop taken piece);
+      within = omega (arith, c.in-Some.ensures.found.within, c.loop-len.invariant.within, length-drop taken piece);
       goes = goes_more (take taken piece) (take (end - taken) (drop taken piece)) (take end piece) (piece_next piece taken end (omega arith))
           c.loop-len.invariant.goes (at_false c.in_ok-judge.field-0 c.if-branch.false c.in_ok-judge.ensures.goes_on);
     }
 
 pub loop-len-smaller : goal.loop-len-smaller
 loop-len-smaller c =
-    omega (arith, c.in-Some.ensures.some, c.in-Some.ensures.within, c.loop-len.invariant.within, length-drop c.loop-len.taken c.args.piece.now)
+    omega (arith, c.in-Some.ensures.found.some, c.in-Some.ensures.found.within, c.loop-len.invariant.within, length-drop c.loop-len.taken c.args.piece.now)
 
 pub returns-in_err-judge-clause-err : goal.returns-in_err-judge-clause-err
 returns-in_err-judge-clause-err c =
@@ -66,5 +66,5 @@ returns-clause-goes_on c =
     let whole = ap (λ (l : List ℕ). l ++ rest) c.as_slice.ensures.value ∙ ap (λ (l : List ℕ). front ++ l) same in
     let opened = c.in_ok-extend_from_slice.ensures.items ∙ ap (λ (l : List ℕ). front ++ l) same in
     goes_more (take taken piece) (drop taken piece) piece (take-append-drop taken piece) c.loop-len.invariant.goes
-    (opens_more c.loop-len.self _ (asked_of c.args.query.now) (drop taken piece) opened refl refl (subst IsPartial whole c.in_default.ensures)
+    (opens_more c.loop-len.self _ (asked_of c.args.query.now) (drop taken piece) opened refl refl (subst IsPartial whole c.in_default.ensures.found)
     c.loop-len.invariant.goes.known)

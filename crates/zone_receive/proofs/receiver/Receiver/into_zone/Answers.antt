@@ -10,10 +10,13 @@ use Rattle.zone_receive.proofs.receiver.Receiver.into_zone.Goals as goal
 
 pub zone_of-requires : goal.zone_of-requires
 zone_of-requires c =
-    let ended = rw c.in-Done.is at c.self.invariant in
+    let ended = rw c.in-Done.is at c.self.invariant.is_at in
     let P : List Record → Type 0 = λ records. AreRecordsOf c.self.inside.query.class records in
     let zone = transferred_is_zone (asked_of c.self.inside.query) _ ended.transfer.transferred in
-    subst P (sym c.into_records.ensures) (record { each = ended.known; zone = zone })
+    record {
+      are = subst P (sym c.into_records.ensures) (record { each = ended.known; zone = zone });
+      known = c.self.invariant.class_known;
+    }
 
 pub returns-in-Done-clause-ok : goal.returns-in-Done-clause-ok
 returns-in-Done-clause-ok c =
