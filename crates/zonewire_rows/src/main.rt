@@ -3,10 +3,13 @@
 //! A zone's text, and a text that is printed, is one word: `%20` stands for a space, `%0a` for a line feed. Where a class or
 //! a limit is not named, it is IN or 512 octets. An origin and a layout may be left out: there is none, and it is `Simple`. A row of
 //! `run` has the input, and then the words of a command line of the program. A spelling may be left out: names are written in full.
+//! `sent_again` and `rival` hold what several calls return against one another.
 #![tactic(auto)]
 
+mod free;
 mod programs;
 mod queries;
+mod rivals;
 mod streams;
 mod zones;
 
@@ -23,9 +26,13 @@ impl Calls for ZonewireCalls {
             "check_query" => queries::answer(alloc, row, out),
             "axfr_query" => queries::answer_axfr(alloc, row, out),
             "Zone::read" => zones::answer_read(alloc, row, out),
+            "ZoneRecord::parse_data" => zones::answer_parse_data(alloc, row, out),
             "Zone::print" => zones::answer_print(alloc, row, out),
             "Zone::canonical" => zones::answer_canonical(alloc, row, out),
             "send" => streams::answer_send(alloc, row, out),
+            "sent_again" => streams::answer_sent_again(alloc, row, out),
+            "rival" => rivals::answer(alloc, row, out),
+            "Receiver::canonical" => streams::answer_received_canonical(alloc, row, out),
             "Receiver" => streams::answer_receiver(alloc, row, out),
             "run" => programs::answer(alloc, row, out),
             _ => Err(RowError::UnknownCall),

@@ -23,6 +23,58 @@ pub fn answer_send(alloc: Global, row: &mut Row<'_>, out: &mut Answer) -> Result
     }
 }
 
+/// `sent_again TEXT QUERY MAX SPELLING`: the stream that answers the query for the zone of the text, the zone that is received of
+/// it, printed, and whether that zone is sent as the same octets.
+pub fn answer_sent_again(
+    alloc: Global,
+    row: &mut Row<'_>,
+    out: &mut Answer,
+) -> Result<(), RowError> {
+    let text = row.text_octets(alloc)?;
+    let query = row.octets(alloc)?;
+    let max = row.value()?;
+    let spelling = spelling_of(row.word()?)?;
+    let query = query.as_slice();
+    let Ok(zone) = Zone::read(alloc, text.as_slice(), None, Class::IN) else {
+        return Err(RowError::BadWord);
+    };
+    let stream = match send(alloc, &zone, query, max, spelling) {
+        Ok(stream) => stream,
+        Err(error) => return out.refused(&error),
+    };
+    out.octets(stream.as_slice())?;
+    let zone = match received(alloc, query, stream.as_slice()) {
+        Ok(zone) => zone,
+        Err(error) => return out.refused(&error),
+    };
+    out.text(zone.print(alloc, DisplayKind::Simple)?.as_slice())?;
+    match send(alloc, &zone, query, max, spelling) {
+        Ok(again) => out.shown(&(again.as_slice() == stream.as_slice())),
+        Err(error) => out.refused(&error),
+    }
+}
+
+/// `Receiver::canonical QUERY STREAM`: the canonical octets of the zone that is received.
+pub fn answer_received_canonical(
+    alloc: Global,
+    row: &mut Row<'_>,
+    out: &mut Answer,
+) -> Result<(), RowError> {
+    let query = row.octets(alloc)?;
+    let stream = row.octets(alloc)?;
+    match received(alloc, query.as_slice(), stream.as_slice()) {
+        Ok(zone) => out.octets(zone.canonical(alloc)?.as_slice()),
+        Err(error) => out.refused(&error),
+    }
+}
+
+/// The zone that is received of a stream that comes octet by octet.
+pub fn received(alloc: Global, query: &[u8], stream: &[u8]) -> Result<Zone, ReceiveError> {
+    let mut receiver = Receiver::new(alloc, query)?;
+    fed(&mut receiver, stream, 0, 1)?;
+    receiver.into_zone()
+}
+
 /// The spelling of a word.
 fn spelling_of(word: &str) -> Result<Spelling, RowError> {
     match word {
@@ -51,12 +103,12 @@ pub fn answer_receiver(alloc: Global, row: &mut Row<'_>, out: &mut Answer) -> Re
     let stream = row.octets(alloc)?;
     let query = query.as_slice();
     let stream = stream.as_slice();
-    let heard = heard_in(alloc, query, stream, stream.len())?;
-    if heard_in(alloc, query, stream, 1)? != heard {
+    let heard = heard_in(alloc, query, stream, 0, stream.len())?;
+    if heard_in(alloc, query, stream, 0, 1)? != heard {
         return Err(RowError::BadWord);
     }
-    for first in 1..stream.len() {
-        if heard_in(alloc, query, stream, first)? != heard {
+    for cut in 1..stream.len() {
+        if heard_in(alloc, query, stream, cut, stream.len())? != heard {
             return Err(RowError::BadWord);
         }
     }
@@ -70,27 +122,35 @@ pub fn answer_receiver(alloc: Global, row: &mut Row<'_>, out: &mut Answer) -> Re
     }
 }
 
-/// What a receiver makes of the stream in pieces of `len` octets, or the error that it keeps.
+/// What a receiver makes of the stream in these pieces, or the error that it keeps.
 fn heard_in(
     alloc: Global,
     query: &[u8],
     stream: &[u8],
+    cut: usize,
     len: usize,
 ) -> Result<Result<Heard, ReceiveError>, RowError> {
     let mut receiver = match Receiver::new(alloc, query) {
         Ok(receiver) => receiver,
         Err(error) => return Ok(Err(error)),
     };
-    match fed(&mut receiver, stream, len) {
+    match fed(&mut receiver, stream, cut, len) {
         Ok(taken) => heard_of(alloc, receiver, taken),
         Err(error) => kept(receiver, error),
     }
 }
 
-/// Feeds the pieces of `len` octets, each between empty ones, and returns how many octets are taken.
-fn fed(receiver: &mut Receiver, stream: &[u8], len: usize) -> Result<usize, ReceiveError> {
-    let mut taken: usize = 0;
-    for piece in stream.chunks(len.max(1)) {
+/// Feeds the octets up to the cut and then the others in pieces of `len`, each piece between empty ones, and returns how many
+/// octets are taken.
+fn fed(
+    receiver: &mut Receiver,
+    stream: &[u8],
+    cut: usize,
+    len: usize,
+) -> Result<usize, ReceiveError> {
+    let (front, back) = stream.split_at_checked(cut).unwrap_or((stream, &[]));
+    let mut taken = receiver.feed(front)?;
+    for piece in back.chunks(len.max(1)) {
         taken = taken.saturating_add(receiver.feed(&[])?);
         taken = taken.saturating_add(receiver.feed(piece)?);
         taken = taken.saturating_add(receiver.feed(&[])?);

@@ -1,5 +1,5 @@
 //! Zones that are read from text, printed, and given as canonical octets.
-use dns_name::{Class, Name};
+use dns_name::{Class, Name, RecordData};
 use rows::{Answer, Row, RowError};
 use std::alloc::Global;
 use zonewire::{DisplayKind, Zone, ZoneError, ZoneRecord};
@@ -46,6 +46,27 @@ fn show_record(record: &ZoneRecord<'_>, out: &mut Answer) -> Result<(), RowError
     out.shown(&record.class())?;
     out.shown(&record.rtype())?;
     out.octets(record.data())
+}
+
+/// `ZoneRecord::parse_data CLASS TEXT`: the type of each record, and its data as it is read.
+pub fn answer_parse_data(
+    alloc: Global,
+    row: &mut Row<'_>,
+    out: &mut Answer,
+) -> Result<(), RowError> {
+    let class = row.value()?;
+    let text = row.text_octets(alloc)?;
+    match Zone::read(alloc, text.as_slice(), None, class) {
+        Ok(zone) => {
+            for record in zone.records() {
+                let data = record.parse_data();
+                out.shown(&data.rtype())?;
+                out.shown(&data)?;
+            }
+            Ok(())
+        }
+        Err(error) => out.refused(&error),
+    }
 }
 
 /// `Zone::print CLASS TEXT` and `Zone::print CLASS TEXT LAYOUT`: the zone of the text, printed.
