@@ -1,4 +1,4 @@
-//! Zone text: each octet in a word, and a word that does not end.
+//! Zone text: each octet in a word, a word that does not end, and the longest data.
 
 use super::examples::{behind_soa, changed, zone_of};
 use std::alloc::{AllocError, Global};
@@ -60,5 +60,37 @@ fn a_word_of_a_megabyte_is_refused(rt: HostRuntime) -> Result<(), Fail> {
     let alloc = rt.alloc();
     let megabyte = vec![in alloc; b'a'; 1_000_000]?;
     assert!(rt; zone_of(alloc, megabyte.as_slice()).err() == Some(ZoneError::Text(1)));
+    Ok(())
+}
+
+/// The row of an SOA, and behind it one of opaque data, whose length is written so and which has so many digits.
+fn opaque_data(alloc: Global, length: &[u8], digits: usize) -> Result<Vec<u8>, AllocError> {
+    let mut text = behind_soa(alloc, b"a. 5 IN TYPE65280 \\# ")?;
+    text.extend_from_slice(length)?;
+    text.push(b' ')?;
+    let digits = vec![in alloc; b'a'; digits]?;
+    text.extend_from_slice(digits.as_slice())?;
+    text.push(b'\n')?;
+    Ok(text)
+}
+
+/// How many octets of data the second record of the text has.
+fn second_data_len(alloc: Global, text: &[u8]) -> Result<usize, ZoneError> {
+    let zone = zone_of(alloc, text)?;
+    let mut records = zone.records();
+    let (Some(_), Some(second)) = (records.next(), records.next()) else {
+        return Ok(0);
+    };
+    Ok(second.data().len())
+}
+
+/// A record counts the octets of its data in two octets (RFC 1035 3.2.1).
+#[test]
+fn data_has_at_most_65535_octets(rt: HostRuntime) -> Result<(), Fail> {
+    let alloc = rt.alloc();
+    let longest = opaque_data(alloc, b"65535", 131_070)?;
+    assert!(rt; second_data_len(alloc, longest.as_slice()) == Ok(65535));
+    let too_long = opaque_data(alloc, b"65536", 131_072)?;
+    assert!(rt; second_data_len(alloc, too_long.as_slice()) == Err(ZoneError::Text(2)));
     Ok(())
 }
