@@ -5,3 +5,4 @@ pub mod PlainTexts
 pub mod Words
 pub mod Gaps
 pub mod Refused
+pub mod OneLabel

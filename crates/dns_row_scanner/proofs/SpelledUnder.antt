@@ -114,3 +114,8 @@ open_long spelling origin is differs no_dot read some long (relative {origin = o
     let whole : labels ++ other ≡ (read.done ++ read.begun ∷ []) ++ origin =
     ap (λ l. l ++ other) (read.only labels spelled.parts) ∙ ap (λ o. (read.done ++ read.begun ∷ []) ++ o) same in
     let P : List (List ℕ) → Type 0 = λ l. IsName l in long (subst P whole is_name)
+
+-- a name with its last dot
+pub absolute_name : {text : List ℕ} {name : List (List ℕ)} → IsAbsoluteText text name → IsName name
+absolute_name (IsAbsoluteText.root is) = record { labels = tt; short = omega arith }
+absolute_name (IsAbsoluteText.labels some parts is_name) = is_name

@@ -3,3 +3,4 @@ pub mod EntryError
 pub mod Gap
 pub mod RowToken
 pub mod RowScanner
+pub mod AppendedName

@@ -18,7 +18,7 @@ fn are_plain(text: &[u8]) -> bool
 }
 
 /// Returns whether this is a printable character other than the backslash.
-fn is_plain(octet: u8) -> bool
+pub(crate) fn is_plain(octet: u8) -> bool
     ensures { result ≡ is_plain octet }
 {
     b' ' <= octet && octet <= b'~' && octet != b'\\'

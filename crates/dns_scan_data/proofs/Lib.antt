@@ -1,2 +1,3 @@
 mod InFull
+mod Names
 pub mod Appending

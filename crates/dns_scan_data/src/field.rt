@@ -6,6 +6,7 @@ ghost use Rattle.dns_scan_data.specs.Appended.{AppendsField, GoesOn};
 
 use dns_name::{FromBuilder, ToName};
 use dns_rdata::rows::{Compressible, FieldValue, ScanField, Tag, Uncompressed};
+use dns_row_scanner::NameScanner;
 use dns_text::{CharStr, Scanner, ScannerError};
 use std::net::{Ipv4Addr, Ipv6Addr};
 
@@ -54,15 +55,23 @@ impl<S: Scanner> ScanFieldInto<S> for Ipv6Addr {
     }
 }
 
-impl<N: ToName + Drop, S: Scanner<Name = N>> ScanFieldInto<S> for Compressible<N> {
+impl<N: ToName + Drop, S: NameScanner<Name = N>> ScanFieldInto<S> for Compressible<N> {
+    #[tactic(auto, using(crate::proofs::Names::compressible_appended, crate::proofs::Names::no_compressible, crate::proofs::Names::name_gone))]
     fn scan_field_into(scanner: &mut S, octets: &mut Vec<u8>) -> Result<(), S::Error> {
-        scan_and_append::<S, Compressible<N>>(scanner, octets)
+        match scanner.scan_name_into(octets) {
+            Ok(()) => Ok(()),
+            Err(error) => Err(error),
+        }
     }
 }
 
-impl<N: ToName + Drop, S: Scanner<Name = N>> ScanFieldInto<S> for Uncompressed<N> {
+impl<N: ToName + Drop, S: NameScanner<Name = N>> ScanFieldInto<S> for Uncompressed<N> {
+    #[tactic(auto, using(crate::proofs::Names::uncompressed_appended, crate::proofs::Names::no_uncompressed, crate::proofs::Names::name_gone))]
     fn scan_field_into(scanner: &mut S, octets: &mut Vec<u8>) -> Result<(), S::Error> {
-        scan_and_append::<S, Uncompressed<N>>(scanner, octets)
+        match scanner.scan_name_into(octets) {
+            Ok(()) => Ok(()),
+            Err(error) => Err(error),
+        }
     }
 }
 

@@ -1,22 +1,22 @@
 -- The record of a row, composed part by part.
-use Rattle.std.proofs.Common.{◌≡◌, ◌<◌, ◌≤◌, ◌^◌, ◌+◌, ◌-◌, ℕ, Bool, List, [], ◌∷◌, ◌++◌, Option, Some, None, Ok, length, take, drop, refl, sym, ◌∙◌, ap, subst, arith, append_assoc, length-append}
+use Rattle.std.proofs.Common.{◌≡◌, ◌<◌, ◌≤◌, ◌^◌, ◌+◌, ◌-◌, ℕ, Bool, true, false, List, [], ◌∷◌, ◌++◌, Option, Some, None, Ok, length, take, drop, refl, sym, ◌∙◌, ap, subst, arith, append_assoc, length-append}
 use Rattle.std.proofs.Math.Seq.{take-append_seam, drop-append_seam}
 use Rattle.std.specs.Int.{to_be_bytes, w16}
 use Rattle.std.specs.Option.{option_or}
 use Rattle.std.specs.Prelude.{unwrap_or}
-use Rattle.dns_fields.specs.SpelledNames.{SpellOne}
 use Rattle.dns_header.specs.Head.{after_length, fixed_octets}
 use Rattle.dns_header.specs.Record.{RecordOf}
 use Rattle.dns_label.specs.Name.{IsName, wire}
 use Rattle.dns_name.specs.Remembered.{patched}
 use Rattle.dns_rdata.specs.Data.{Data, ScansAnyData, number_of}
 use Rattle.dns_rdata.specs.DataOctets.{data_octets}
+use Rattle.dns_row_scanner.specs.AppendedName.{AppendsName, SpellsNoName}
 use Rattle.dns_row_scanner.specs.NameInText.{SpellsUnder}
 use Rattle.dns_scan.specs.Token.{Token, SameNames}
 use Rattle.dns_scan_data.specs.Appended.{AppendsData}
 use Rattle.dns_text.specs.Rows.{TokenRow}
-use Rattle.dns_zonefile.specs.Composed.{HandsOn}
-use Rattle.dns_zonefile.specs.ComposedRow.{ComposesData, ComposesRecord, IsHandedOn, owner_in}
+use Rattle.dns_zonefile.specs.Composed.{HandsOn, octets_of}
+use Rattle.dns_zonefile.specs.ComposedRow.{BeginsWithName, ComposesData, ComposesRecord, HasNoOwner, IsHandedOn, OwnerStands}
 use Rattle.dns_zonefile.specs.Entry.{Context, Entry, Enters, IsEntry}
 use Rattle.dns_zonefile.specs.Entry.Entry.{Resource}
 use Rattle.dns_zonefile.specs.Statement.{Directs, HasHead, HasOwner, IsDirective, Names, Says, Stated, Statement, StatesRecord}
@@ -24,13 +24,12 @@ use Rattle.dns_zonefile.specs.Statement.Statement.{StateRecord}
 use Rattle.dns_zonefile.specs.declared.entry.ComposedEntry.TheVariants as composed
 use Rattle.dns_zonefile.specs.declared.entry_form.octets.ComposedRecord.{ComposedRecord}
 use Rattle.dns_zonefile.proofs.Forms.{says_under}
-use Rattle.dns_zonefile.proofs.OneStatement.{one_head, one_owner}
+use Rattle.dns_wire.specs.Flat.{IsWritten}
+use Rattle.dns_wire.proofs.Case.{wire_one}
+use Rattle.dns_wire.proofs.Flat.{flat-written}
+use Rattle.dns_zonefile.specs.Seen.{row_of}
+use Rattle.dns_zonefile.proofs.OneStatement.{one_head}
 use Rattle.dns_zonefile.proofs.Records.{number_is, one_rest, says_record}
-
--- a name in an array is what it spells
-unmap : (owner : Option (List (List ℕ))) → owner_in owner ≡ owner
-unmap None = refl
-unmap (Some name) = refl
 
 -- two octets in front of the data, written over
 pub counted : (old more over : List ℕ) → length over ≡ 2 → patched ((old ++ 0 ∷ 0 ∷ []) ++ more) (length old) over ≡ old ++ (over ++ more)
@@ -105,24 +104,73 @@ said bare (Says.directive is told) = absurd (bare is)
 said bare (Says.resource {stated = stated} is) = (stated, refl, is)
 
 -- a record that the context makes none
-module _ {names : Names} {row : TokenRow} {tokens : List Token} {context : Context} {statement : Statement}
-    {entry : Entry} {after : Context} (owner : Option (List (List ℕ))) (bare : IsDirective row → ⊥) (has : HasOwner names row (owner_in owner) tokens) (says : Says names row statement)
-    (enters : Enters context statement entry after) where
-  pub unnamed : SpellOne names → option_or owner context.owner ≡ None → ⊥
-  unnamed once unknown =
+module _ {names : Names} {row : TokenRow} {context : Context} {statement : Statement} {entry : Entry} {after : Context}
+    (bare : IsDirective row → ⊥) (says : Says names row statement) (enters : Enters context statement entry after) where
+  pub unowned : HasNoOwner names context row → ⊥
+  unowned none =
       let its = said bare says in
       let known = named' enters its.1 in
-      let same = sym (unmap owner) ∙ (one_owner once refl has its.2.owner).0 in
-      let bad : None ≡ Some known.0 = sym unknown ∙ ap (λ (o : Option (List (List ℕ))). option_or o context.owner) same ∙ known.1 in
-      let no : ⊥ = cc in no
+      none.none its.0.owner its.2.tokens known.0 its.2.owner known.1
 
-  pub unclassed : {ttl class : Option ℕ} {rtype : ℕ} {left : List Token} → HasHead tokens ttl class rtype left
+  pub unclassed : {owner : Option (List (List ℕ))} {tokens left : List Token} {ttl class : Option ℕ} {rtype : ℕ} → HasOwner names row owner tokens
+      → HasHead tokens ttl class rtype left
       → ((number : ℕ) → option_or class context.class ≡ Some number → option_or context.class class ≡ Some number → ⊥) → ⊥
-  unclassed {class = class} head none =
+  unclassed {class = class} has head none =
       let its = said bare says in
       let known = classed' enters its.1 in
       let same = (one_head (one_rest refl has its.2.owner) head its.2.head).classes in
       none known.0 (ap (λ (c : Option ℕ). option_or c context.class) same ∙ known.1) (ap (λ (c : Option ℕ). option_or context.class c) same ∙ known.2)
+
+-- the owner of a row
+pub stated_stands : {names : Names} {context : Context} {led : Bool} {tokens left : List Token} {old new : List ℕ} → led ≡ false
+    → AppendsName names tokens left old new → OwnerStands names context (row_of led tokens) left old new
+stated_stands {names} {context} {tokens = tokens} {left} {old} {new} unled appends =
+    let own : HasOwner names (row_of false tokens) (Some appends.name) left =
+    subst (λ (t : List Token). HasOwner names (row_of false t) (Some appends.name) left) (sym appends.is) (HasOwner.own appends.spells) in record {
+      stated = Some appends.name;
+      name = appends.name;
+      has = subst (λ (b : Bool). HasOwner names (row_of b tokens) (Some appends.name) left) (sym unled) own;
+      known = refl;
+      is_name = appends.is_name;
+      behind = appends.behind;
+    }
+
+pub stands_longer : {names : Names} {context : Context} {row : TokenRow} {left : List Token} {old new : List ℕ}
+    → OwnerStands names context row left old new → length old ≤ length new
+stands_longer {old = old} stands =
+    omega (arith, ap (λ (l : List ℕ). length l) stands.behind, length-append old (wire stands.name))
+
+pub last_stands : {names : Names} {context : Context} {led : Bool} {tokens : List Token} {old new : List ℕ} {name : List (List ℕ)} → led ≡ true
+    → context.owner ≡ Some name → IsName name → new ≡ old ++ wire name → OwnerStands names context (row_of led tokens) tokens old new
+last_stands {names} {tokens = tokens} {name = name} led known is_name behind = record {
+  stated = None;
+  name = name;
+  has = subst (λ (b : Bool). HasOwner names (row_of b tokens) None tokens) (sym led) HasOwner.last;
+  known = known;
+  is_name = is_name;
+  behind = behind;
+}
+
+no_stated' : {names : Names} {row : TokenRow} {tokens left : List Token} {stated : Option (List (List ℕ))} → SpellsNoName names tokens
+    → row ≡ row_of false tokens → HasOwner names row stated left → ⊥
+no_stated' none same HasOwner.last = let bad = ap (λ (r : TokenRow). r.led) same in absurd cc
+no_stated' none same (HasOwner.own {text = text} {name = name} {tokens = tokens} is) =
+    none text tokens name (sym (ap (λ (r : TokenRow). r.tokens) same)) is
+
+pub no_stated : {names : Names} {context : Context} {led : Bool} {tokens : List Token} → led ≡ false → SpellsNoName names tokens
+    → HasNoOwner names context (row_of led tokens)
+no_stated {tokens = tokens} unled none =
+    record { none = λ stated left name has known. no_stated' none (ap (λ (b : Bool). row_of b tokens) unled) has }
+
+no_last' : {names : Names} {row : TokenRow} {tokens left : List Token} {stated owner : Option (List (List ℕ))} {name : List (List ℕ)}
+    → owner ≡ None → row ≡ row_of true tokens → HasOwner names row stated left → option_or stated owner ≡ Some name → ⊥
+no_last' unknown same HasOwner.last known = let no : ⊥ = cc in no
+no_last' unknown same (HasOwner.own is) known = let bad = ap (λ (r : TokenRow). r.led) same in absurd cc
+
+pub no_last : {names : Names} {context : Context} {led : Bool} {tokens : List Token} → led ≡ true → context.owner ≡ None
+    → HasNoOwner names context (row_of led tokens)
+no_last {tokens = tokens} led unknown =
+    record { none = λ stated left name has known. no_last' unknown (ap (λ (b : Bool). row_of b tokens) led) has known }
 
 -- no directive is a record
 pub directs_no_record : {names : Names} {tokens : List Token} {one other : Statement} {context after : Context} {entry : Entry}
@@ -139,28 +187,29 @@ joined : (old owner fixed rest : List ℕ) → ((old ++ owner) ++ fixed) ++ rest
 joined old owner fixed rest = ap (λ (l : List ℕ). l ++ rest) (append_assoc old owner fixed) ∙ append_assoc old (owner ++ fixed) rest
 
 -- the record of all parts
-module _ {names later last : Names} {row : TokenRow} {owner : Option (List (List ℕ))} {ttl class : Option ℕ} {rtype : ℕ}
-    {tokens behind : List Token} {context : Context} (bare : IsDirective row → ⊥) (has : HasOwner names row (owner_in owner) tokens)
+module _ {names later last : Names} {row : TokenRow} {ttl class : Option ℕ} {rtype : ℕ} {tokens behind : List Token} {context : Context}
+    {old with_owner : List ℕ} (bare : IsDirective row → ⊥) (stands : OwnerStands names context row tokens old with_owner)
     (same : SameNames names later) (head : HasHead tokens ttl class rtype behind) (on : SameNames later last) where
-  pub composes_record : {name : List (List ℕ)} {old with_owner with_fixed new : List ℕ} {opaque : Bool} {number seconds last_ttl : ℕ}
-      → option_or owner context.owner ≡ Some name → IsName name
+  pub composes_record : {with_fixed new : List ℕ} {opaque : Bool} {owner_len number seconds last_ttl : ℕ}
+      → owner_len ≡ length with_owner - length old
       → (option_or class context.class ≡ Some number) × (option_or context.class class ≡ Some number)
       → seconds ≡ unwrap_or (option_or ttl context.default_ttl) context.last_ttl → last_ttl ≡ unwrap_or ttl context.last_ttl
       → rtype < 2 ^ 16 → number < 2 ^ 16 → seconds < 2 ^ 32
-      → with_owner ≡ old ++ wire name → with_fixed ≡ with_owner ++ (fixed_octets rtype number seconds ++ 0 ∷ 0 ∷ [])
+      → with_fixed ≡ with_owner ++ (fixed_octets rtype number seconds ++ 0 ∷ 0 ∷ [])
       → ((front : List ℕ) → with_fixed ≡ front ++ 0 ∷ 0 ∷ [] → ComposesData last rtype behind front new opaque)
-      → ComposesRecord names context row (record { owner = owner; class = number; last_ttl = last_ttl; untyped = opaque }) old new
-  composes_record {name} {old} {with_owner} {with_fixed} {new} {opaque} {number} {seconds} {last_ttl} known is_name is_class is_ttl is_last
-      rtype_fits class_fits ttl_fits front fixed composes_behind =
+      → ComposesRecord names context row (record { owner_len = owner_len; class = number; last_ttl = last_ttl; untyped = opaque }) old new
+  composes_record {with_fixed} {new} {opaque} {owner_len} {number} {seconds} {last_ttl} len is_class is_ttl is_last rtype_fits class_fits ttl_fits
+      fixed composes_behind =
+      let name = stands.name in
       let composes = composes_behind (with_owner ++ fixed_octets rtype number seconds)
       (fixed ∙ sym (append_assoc with_owner (fixed_octets rtype number seconds) (0 ∷ 0 ∷ []))) in
       let its = number_is last rtype composes.rdata behind [] composes.scans in
-      let stated : Stated = record { owner = owner; ttl = ttl; class = class; rdata = composes.rdata } in
-      let unmapped = unmap owner in record {
+      let stated : Stated = record { owner = stands.stated; ttl = ttl; class = class; rdata = composes.rdata } in
+      let longer : length with_owner ≡ length old + length (wire name) =
+      ap (λ (l : List ℕ). length l) stands.behind ∙ length-append old (wire name) in record {
         stated = stated;
         rr = record { owner = name; class = number; ttl = seconds; rdata = composes.rdata };
-        says = subst (λ (o : Option (List (List ℕ))). Says names row (StateRecord (record { owner = o; ttl = ttl; class = class; rdata = composes.rdata })))
-            unmapped (says_record bare has same head on composes.rdata composes.scans refl);
+        says = says_record bare stands.has same head on composes.rdata composes.scans refl;
         enters = subst (λ (s : ℕ). Enters context (StateRecord stated) (Resource (record { owner = name; class = number; ttl = s; rdata = composes.rdata }))
             (record context { owner = Some name; last_ttl = last_ttl; class = Some number })) (sym is_ttl)
             (subst (λ (s : ℕ). Enters context (StateRecord stated)
@@ -171,10 +220,10 @@ module _ {names later last : Names} {row : TokenRow} {owner : Option (List (List
               rdata = composes.rdata;
             }))
             (record context { owner = Some name; last_ttl = s; class = Some number })) (sym is_last)
-            (Enters.resource known is_class.0 is_class.1));
-        owner = known;
+            (Enters.resource stands.known is_class.0 is_class.1));
+        owner_len = omega (arith, len, longer);
         held = record {
-          owner = is_name;
+          owner = stands.is_name;
           rtype = subst (λ (n : ℕ). n < 2 ^ 16) (sym its) rtype_fits;
           class = class_fits;
           ttl = ttl_fits;
@@ -182,20 +231,34 @@ module _ {names later last : Names} {row : TokenRow} {owner : Option (List (List
         };
         behind = composes.behind
             ∙ ap (λ (l : List ℕ). l ++ after_length (data_octets composes.rdata))
-            (λ i. front i ++ fixed_octets (sym its i) number seconds)
+            (λ i. stands.behind i ++ fixed_octets (sym its i) number seconds)
             ∙ joined old (wire name) (fixed_octets (number_of composes.rdata) number seconds) (after_length (data_octets composes.rdata));
         opaque = composes.opaque;
       }
 
+-- its owner stands first
+pub record_begins : {names : Names} {context : Context} {row : TokenRow} {it : ComposedRecord} {old new : List ℕ} (front : List ℕ) (place : ℕ)
+    → place ≡ length old → front ≡ drop place new → (composes : ComposesRecord names context row it old new)
+    → BeginsWithName front it.owner_len composes.rr.owner
+record_begins {old = old} {new} front place at is composes =
+    let rr = composes.rr in
+    let fixed = fixed_octets (number_of rr.rdata) rr.class rr.ttl in
+    let behind = after_length (data_octets rr.rdata) in record {
+      rest = fixed ++ behind;
+      is_name = composes.held.owner;
+      is = is ∙ (λ i. drop (at i) (composes.behind i)) ∙ drop-append_seam old (octets_of rr) ∙ append_assoc (wire rr.owner) fixed behind;
+      long = composes.owner_len;
+    }
+
 -- the record is handed on
 pub record_handed : {origin : Option (List (List ℕ))} {row row' : TokenRow} {context after : Context} {it : ComposedRecord} {old new : List ℕ}
-    → origin ≡ context.origin → row ≡ row' → ComposesRecord (SpellsUnder origin) context row it old new
-    → after ≡ record context { owner = option_or it.owner context.owner; last_ttl = it.last_ttl; class = Some it.class }
+    {owner : List (List ℕ)} → origin ≡ context.origin → row ≡ row' → (composes : ComposesRecord (SpellsUnder origin) context row it old new)
+    → owner ≡ composes.rr.owner → after ≡ record context { owner = Some owner; last_ttl = it.last_ttl; class = Some it.class }
     → (entry : Entry) × IsEntry context row' entry after × IsHandedOn old entry (Some (composed.Record it.untyped)) new
-record_handed {context = context} {after} {it} {old} {new} origins rows composes sets =
+record_handed {context = context} {after} {it} {old} {new} origins rows composes owner_is sets =
     let rr = composes.rr in
     let there : after ≡ record context { owner = Some rr.owner; last_ttl = it.last_ttl; class = Some it.class } =
-    sets ∙ ap (λ (o : Option (List (List ℕ))). record context { owner = o; last_ttl = it.last_ttl; class = Some it.class }) composes.owner in (
+    sets ∙ ap (λ (o : List (List ℕ)). record context { owner = Some o; last_ttl = it.last_ttl; class = Some it.class }) owner_is in (
       Resource rr,
       record {
         statement = StateRecord composes.stated;
@@ -208,3 +271,13 @@ record_handed {context = context} {after} {it} {old} {new} origins rows composes
             (HandsOn.resource composes.held composes.behind),
       ),
     )
+
+-- the name that octets begin with
+begins_whole : {octets : List ℕ} {len : ℕ} {name : List (List ℕ)} → BeginsWithName octets len name → take len octets ≡ wire name
+begins_whole {name = name} begins = (λ i. take (begins.long i) (begins.is i)) ∙ take-append_seam (wire name) begins.rest
+
+pub first_written : {octets : List ℕ} {len : ℕ} {name : List (List ℕ)} → BeginsWithName octets len name → IsWritten (take len octets)
+first_written {octets} {len} {name} begins = flat-written (take len octets) name begins.is_name (begins_whole begins)
+
+pub first_name : {octets : List ℕ} {len : ℕ} {name found : List (List ℕ)} → BeginsWithName octets len name → take len octets ≡ wire found → found ≡ name
+first_name {name = name} {found} begins whole = wire_one found name (sym whole ∙ begins_whole begins)

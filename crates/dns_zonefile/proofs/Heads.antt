@@ -2,7 +2,8 @@
 use Rattle.std.proofs.Common.{◌≡◌, ◌^◌, ℕ, true, false, List, ◌∷◌, ◌++◌, Option, Some, None, refl, sym, ◌∙◌, ap, subst}
 use Rattle.std.specs.List.{list_all}
 use Rattle.std.specs.Char.{is_ascii_digit}
-use Rattle.dns_values.specs.Mnemonic.{number_spelled}
+use Rattle.std.specs.Prelude.{codes}
+use Rattle.dns_values.specs.Mnemonic.{class_read, classes, number_behind, number_named, number_read, number_spelled, type_read, types}
 use Rattle.dns_scan.specs.Token.{Token, Takes, IsWord}
 use Rattle.dns_zonefile.specs.Statement.{HasHead, IsClass, IsTtl, IsType, States}
 use Rattle.dns_zonefile.specs.Statement.States.{nothing, ttl, class, ttl_class, class_ttl}
@@ -169,3 +170,18 @@ pub class_behind : {word : HeadWord} {tokens mid left : List Token} {number rtyp
     → Takes (IsHeadWord word) tokens mid → HasHead tokens ttl' class' rtype left → HasHead mid ttl' None rtype left
 class_behind {tokens = tokens} {mid = mid} {number = number} is takes head =
     behind_class {number = number} (subst (λ (w : HeadWord). Takes (IsHeadWord w) tokens mid) is takes) head
+
+-- IN is a class, and no type
+in_no_type : type_read (codes "IN") ≡ None
+unfolding types number_read number_behind number_named number_spelled
+in_no_type = refl
+
+in_class : class_read (codes "IN") ≡ Some 1
+unfolding classes number_read number_behind number_named number_spelled
+in_class = refl
+
+pub internet_no_type : (text : List ℕ) → text ≡ codes "IN" → type_read text ≡ None
+internet_no_type text is = ap type_read is ∙ in_no_type
+
+pub internet_class : (text : List ℕ) → text ≡ codes "IN" → class_read text ≡ Some 1
+internet_class text is = ap class_read is ∙ in_class

@@ -1,8 +1,9 @@
 -- A record whose octets are appended while its row is read. Only contracts inside the crate speak of it.
-use Rattle.std.specs.Prelude.{◌≡◌, ◌≤◌, ℕ, Bool, List, [], ◌++◌, Option, Some, Ok, length, option_map}
+use Rattle.std.specs.Prelude.{◌≡◌, ◌≤◌, ℕ, Bool, List, [], ◌++◌, Option, Some, Ok, length}
 use Rattle.std.specs.Option.{option_or}
 use Rattle.dns_header.specs.Head.{after_length}
 use Rattle.dns_header.specs.Record.{RecordOf}
+use Rattle.dns_label.specs.Name.{IsName, wire}
 use Rattle.dns_rdata.specs.Data.{Data, ScansAnyData, is_untyped}
 use Rattle.dns_rdata.specs.DataOctets.{data_octets}
 use Rattle.dns_scan.specs.Token.{Token}
@@ -11,7 +12,7 @@ use Rattle.dns_zonefile.specs.Composed.{HandsOn, IsHeld, octets_of}
 use Rattle.dns_zonefile.specs.Entry.{Context, Entry, Enters}
 use Rattle.dns_zonefile.specs.Entry.Entry.{Resource}
 use Rattle.dns_zonefile.specs.RowRead.{IsGiven}
-use Rattle.dns_zonefile.specs.Statement.{Names, Says, Stated}
+use Rattle.dns_zonefile.specs.Statement.{HasOwner, Names, Says, Stated}
 use Rattle.dns_zonefile.specs.Statement.Statement.{StateRecord}
 use Rattle.dns_zonefile.specs.declared.entry.ComposedEntry.{ComposedEntry}
 use Rattle.dns_zonefile.specs.declared.entry_form.octets.ComposedRecord.{ComposedRecord}
@@ -24,9 +25,26 @@ pub record ComposesData (names : Names) (rtype : ℕ) (tokens : List Token) (old
   pub behind : new ≡ old ++ after_length (data_octets rdata)
   pub opaque : untyped ≡ is_untyped rdata
 
--- the owner that a row states, if it states one
-abbrev pub owner_in : Option (List (List ℕ)) → Option (List (List ℕ))
-owner_in owner = option_map (λ name. name) owner
+-- The row's owner in the context, stated or the last one, and these tokens are left. Its octets stand after the old ones.
+pub record OwnerStands (names : Names) (context : Context) (row : TokenRow) (left : List Token) (old new : List ℕ) : Type 0 where
+  pub stated : Option (List (List ℕ))
+  pub name : List (List ℕ)
+  pub has : HasOwner names row stated left
+  pub known : option_or stated context.owner ≡ Some name
+  pub is_name : IsName name
+  pub behind : new ≡ old ++ wire name
+
+-- the row has no owner in the context
+pub record HasNoOwner (names : Names) (context : Context) (row : TokenRow) : Type 0 where
+  pub none : (stated : Option (List (List ℕ))) (left : List Token) (name : List (List ℕ)) → HasOwner names row stated left
+      → option_or stated context.owner ≡ Some name → ⊥
+
+-- the first of the octets, so many, are the name
+pub record BeginsWithName (octets : List ℕ) (len : ℕ) (name : List (List ℕ)) : Type 0 where
+  pub rest : List ℕ
+  pub is_name : IsName name
+  pub is : octets ≡ wire name ++ rest
+  pub long : len ≡ length (wire name)
 
 -- The row is a record in the context, and sets what is composed. Its octets stand behind the old ones.
 pub record ComposesRecord (names : Names) (context : Context) (row : TokenRow) (composed : ComposedRecord) (old new : List ℕ) : Type 0 where
@@ -35,7 +53,7 @@ pub record ComposesRecord (names : Names) (context : Context) (row : TokenRow) (
   pub says : Says names row (StateRecord stated)
   pub enters : Enters context (StateRecord stated) (Resource rr)
       (record context { owner = Some rr.owner; last_ttl = composed.last_ttl; class = Some composed.class })
-  pub owner : option_or composed.owner context.owner ≡ Some rr.owner
+  pub owner_len : composed.owner_len ≡ length (wire rr.owner)
   pub held : IsHeld rr
   pub behind : new ≡ old ++ octets_of rr
   pub opaque : composed.untyped ≡ is_untyped rr.rdata

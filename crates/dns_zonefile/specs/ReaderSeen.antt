@@ -1,5 +1,5 @@
 -- What contracts see of readers of zone files.
-use Rattle.std.specs.Prelude.{ℕ, List, ◌+◌, if◌then◌else◌, Option, Some, None, Result, Ok, Err, is_some}
+use Rattle.std.specs.Prelude.{ℕ, List, ◌+◌, if◌then◌else◌, Option, Some, None, Result, Ok, Err, is_some, vec_capacity}
 use Rattle.dns_row_scanner.specs.declared.entry_error.EntryError.{EntryError}
 use Rattle.dns_zonefile.specs.Entry.{Entry}
 use Rattle.dns_zonefile.specs.Error.{reason_of}
@@ -17,6 +17,10 @@ reader_of zonefile = record {
   context = context_of zonefile.context;
   count = zonefile.count;
 }
+
+-- to how many octets its text may grow without asking for memory
+abbrev pub text_capacity : Zonefile → ℕ
+text_capacity zonefile = vec_capacity zonefile.text
 
 -- why it reads nothing more
 abbrev pub refused_in : Zonefile → Option Error

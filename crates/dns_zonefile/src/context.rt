@@ -121,21 +121,19 @@ impl Context {
         };
         let last_owner = to_inline_name(&owner);
         let resource = Record::new(owner, known.class, known.ttl, rdata);
-        self.take_over(Some(last_owner), known.last_ttl, known.class);
+        self.take_over(last_owner, known.last_ttl, known.class);
         Ok(Some(Entry::Record(resource)))
     }
 
-    /// Takes over what a record sets. A row that states no owner has the last one.
-    pub(crate) fn take_over(&mut self, owner: Option<InlineName>, last_ttl: Ttl, class: Class)
+    /// Takes over what a record sets.
+    pub(crate) fn take_over(&mut self, owner: InlineName, last_ttl: Ttl, class: Class)
         ensures { context_of self.new ≡ record (context_of self.old) {
-          owner = option_or owner self.old.owner;
+          owner = Some owner;
           last_ttl = last_ttl;
           class = Some class;
         } }
     {
-        if let Some(owner) = owner {
-            self.owner = Some(owner);
-        }
+        self.owner = Some(owner);
         self.last_ttl = last_ttl;
         self.class = Some(class);
     }
@@ -169,23 +167,16 @@ impl Context {
         })
     }
 
-    /// Appends the octets of the owner of a record whose row states this one, or none and has the last one.
-    pub(crate) fn append_owner(
-        &self,
-        stated: &Option<InlineName>,
-        octets: &mut Vec<u8>,
-    ) -> Result<(), EntryError>
-        ensures ok { OnOk result ((name : List (List ℕ)) × (option_or stated.now self.now.owner ≡ Some name) × IsName name
+    /// Appends the octets of the owner of the last record.
+    pub(crate) fn append_last_owner(&self, octets: &mut Vec<u8>) -> Result<(), EntryError>
+        ensures ok { OnOk result ((name : List (List ℕ)) × (self.now.owner ≡ Some name) × IsName name
             × (octets.new.items ≡ octets.old.items ++ wire name)) }
-        ensures err { IfErr result (λ error. is_memory error ≡ false → option_or stated.now self.now.owner ≡ None) }
+        ensures err { IfErr result (λ error. is_memory error ≡ false → self.now.owner ≡ None) }
         ensures same { OnErr result (octets.new.items ≡ octets.old.items) }
     {
-        match stated {
+        match &self.owner {
             Some(owner) => append_name(owner, octets),
-            None => match &self.owner {
-                Some(owner) => append_name(owner, octets),
-                None => Err(EntryError::Custom("no owner stated before")),
-            },
+            None => Err(EntryError::Custom("no owner stated before")),
         }
     }
 

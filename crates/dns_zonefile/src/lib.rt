@@ -15,8 +15,8 @@ mod statement;
 mod zonefile;
 
 pub use dns_row_scanner::{
-    EntryError, EntryScanner, InlineName, RowScanner, ScannedName, ScannedString, TextName,
-    absolute, scan_name, to_inline_name,
+    EntryError, EntryScanner, InlineName, NameScanner, RowScanner, ScannedName, ScannedString,
+    TextName, absolute, scan_name, to_inline_name,
 };
 pub use dns_tokens::{BrokenRow, RowFound, RowReader, TokenSpan, read_row};
 pub use entry::{ComposedEntry, Entry, ScannedRecord, ScannedRecordData};

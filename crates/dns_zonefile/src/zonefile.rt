@@ -1,5 +1,5 @@
 //! Readers of zone files.
-ghost use Rattle.std.specs.Prelude.{◌≡◌, ◌≤◌, ◌++◌, [], Some, None, length, OnOk, OnErr, IfOk};
+ghost use Rattle.std.specs.Prelude.{◌≡◌, ◌≤◌, ◌++◌, [], Some, None, length, vec_capacity, OnOk, OnErr, IfOk};
 
 mod read;
 
@@ -35,7 +35,7 @@ pub struct Zonefile {
 
 impl Zonefile {
     ghost use Rattle.dns_zonefile.specs.Reader.{start_of_text};
-    ghost use Rattle.dns_zonefile.specs.ReaderSeen.{entries_met, reader_of, refused_in};
+    ghost use Rattle.dns_zonefile.specs.ReaderSeen.{entries_met, reader_of, refused_in, text_capacity};
 
     /// Makes a reader without a text, an origin and a class. It grows on this allocator.
     pub fn new(alloc: Global) -> Self
@@ -49,6 +49,7 @@ impl Zonefile {
     pub fn with_capacity(alloc: Global, capacity: usize) -> Result<Self, AllocError>
         ensures at { IfOk result (λ zonefile. reader_of zonefile ≡ start_of_text []) }
         ensures unrefused { IfOk result (λ zonefile. refused_in zonefile ≡ None) }
+        ensures room { IfOk result (λ zonefile. capacity ≤ text_capacity zonefile) }
     {
         Ok(Zonefile::from_vec(alloc, Vec::with_capacity(alloc, capacity)?))
     }
@@ -57,6 +58,7 @@ impl Zonefile {
     pub fn from_vec(alloc: Global, text: Vec<u8>) -> Self
         ensures at { reader_of result ≡ start_of_text text.items }
         ensures unrefused { refused_in result ≡ None }
+        ensures room { text_capacity result ≡ vec_capacity text }
     {
         Zonefile {
             alloc,

@@ -6,7 +6,8 @@ ghost use Rattle.dns_rdata.specs.Data.{Data, ScansAnyData};
 ghost use Rattle.dns_row_scanner.specs.EntryError.{is_memory};
 ghost use Rattle.dns_row_scanner.specs.RowScanner.{names_of, tokens_of};
 ghost use Rattle.dns_scan_data.specs.Appended.{GoesOn};
-ghost use Rattle.dns_zonefile.specs.ComposedRow.{ComposesData, ComposesRecord, IsHandedOn};
+ghost use Rattle.dns_scan.specs.Token.{SameNames};
+ghost use Rattle.dns_zonefile.specs.ComposedRow.{BeginsWithName, ComposesData, ComposesRecord, HasNoOwner, IsHandedOn, OwnerStands};
 ghost use Rattle.dns_zonefile.specs.Entry as spec;
 ghost use Rattle.dns_zonefile.specs.Entry.{Enters};
 ghost use Rattle.dns_zonefile.specs.Entry.Entry.{Resource};
@@ -15,20 +16,20 @@ ghost use Rattle.dns_zonefile.specs.Statement.{IsDirective, Says, Statement};
 
 use super::EntryForm;
 use crate::context::Context;
-use crate::statement::{begins_directive, scan_directive, scan_head, scan_owner};
+use crate::statement::{begins_directive, scan_directive, scan_head};
 use crate::{ComposedEntry, Entry};
-use dns_name::{Class, Composer, Rtype, ToName, Ttl};
-use dns_row_scanner::{EntryError, InlineName, RowScanner};
+use dns_name::{Class, Composer, Name, Rtype, ToName, Ttl};
+use dns_row_scanner::{EntryError, InlineName, NameScanner, RowScanner, to_inline_name};
 use dns_scan_data::scan_data_into;
 use dns_text::Scanner;
 use dns_tokens::TokenSpan;
 use std::alloc::Global;
 
 /// A record whose octets were appended: what its row sets, and whether its data is opaque.
-#[derive(Drop)]
+#[derive(Clone, Copy)]
 pub(crate) struct ComposedRecord {
-    /// The owner, if the row states one.
-    pub(crate) owner: Option<InlineName>,
+    /// How many of the octets are the owner's.
+    pub(crate) owner_len: usize,
     pub(crate) class: Class,
     /// The last TTL that a record stated, this one counted.
     pub(crate) last_ttl: Ttl,
@@ -71,7 +72,8 @@ impl EntryForm for Vec<u8> {
         let len = self.len();
         match append_record(led, context, &mut scanner, self) {
             Ok(composed) => {
-                context.take_over(composed.owner, composed.last_ttl, composed.class);
+                let owner = owner_in(&self[len..], composed.owner_len);
+                context.take_over(owner, composed.last_ttl, composed.class);
                 Ok(Some(ComposedEntry::Record {
                     untyped: composed.untyped,
                 }))
@@ -111,10 +113,12 @@ fn append_record(
         → Enters (context_of context.now) statement entry after → ⊥) }
     ensures more { OnErr result (GoesOn octets.old.items octets.new.items) }
 {
-    let owner = match scan_owner(led, scanner) {
-        Ok(owner) => owner,
+    let len = octets.len();
+    match append_owner(led, context, scanner, octets) {
+        Ok(()) => {}
         Err(error) => return Err(error),
-    };
+    }
+    let owner_len = octets.len() - len;
     let head = match scan_head(scanner) {
         Ok(head) => head,
         Err(error) => return Err(error),
@@ -123,10 +127,6 @@ fn append_record(
         Ok(known) => known,
         Err(error) => return Err(error),
     };
-    match context.append_owner(&owner, octets) {
-        Ok(()) => {}
-        Err(error) => return Err(error),
-    }
     match append_fixed(head.rtype, known.class, known.ttl, octets) {
         Ok(()) => {}
         Err(error) => return Err(error),
@@ -136,11 +136,42 @@ fn append_record(
         Err(error) => return Err(error),
     };
     Ok(ComposedRecord {
-        owner,
+        owner_len,
         class: known.class,
         last_ttl: known.last_ttl,
         untyped,
     })
+}
+
+/// Appends the octets of the owner of a record: the one that its row states, or the last one if white space leads the row. Fails with
+/// an error other than `OutOfMemory` only if the row states none and there is no last one, or its first token spells no name.
+#[tactic(auto, using(crate::proofs::ComposedRows::stated_stands, crate::proofs::ComposedRows::last_stands, crate::proofs::ComposedRows::no_stated, crate::proofs::ComposedRows::no_last))]
+fn append_owner(
+    led: bool,
+    context: &Context,
+    scanner: &mut RowScanner<'_, InlineName>,
+    octets: &mut Vec<u8>,
+) -> Result<(), EntryError>
+    ensures ok { OnOk result (OwnerStands (names_of scanner.old) (context_of context.now) (row_of led (tokens_of scanner.old))
+        (tokens_of scanner.new) octets.old.items octets.new.items) }
+    ensures err { IfErr result (λ error. is_memory error ≡ false
+        → HasNoOwner (names_of scanner.old) (context_of context.now) (row_of led (tokens_of scanner.old))) }
+    ensures names { SameNames (names_of scanner.old) (names_of scanner.new) }
+    ensures same { OnErr result (octets.new.items ≡ octets.old.items) }
+{
+    if led {
+        return context.append_last_owner(octets);
+    }
+    scanner.scan_name_into(octets)
+}
+
+/// Returns the name that the first of the octets are, so many of them.
+
+fn owner_in(octets: &[u8], len: usize) -> InlineName
+    requires { (name : List (List ℕ)) × BeginsWithName octets.now len name }
+    ensures { (name : List (List ℕ)) → BeginsWithName octets.now len name → result ≡ name }
+{
+    to_inline_name(&Name::from_octets_unchecked(&octets[..len]))
 }
 
 /// Appends the octets of a type, a class and a TTL, and two zeros for the length of the data. Fails with `OutOfMemory`, and changes

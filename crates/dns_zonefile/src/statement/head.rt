@@ -116,7 +116,8 @@ fn next_word<S: EntryScanner>(scanner: &mut S) -> Result<HeadWord, S::Error>
     scanner.scan_ascii_str(word_of)
 }
 
-/// Returns what a word says: digits are a TTL, another word is a type, and only if it is none a class.
+/// Returns what a word says: digits are a TTL, another word is a type, and only if it is none a class. Most words are of class IN, which
+/// is seen before the mnemonics of types are searched.
 #[tactic(auto, using(crate::proofs::Heads::number_alone))]
 fn word_of(text: &str) -> Option<HeadWord>
     ensures some { IfSome result (λ word. Heads text.now word) }
@@ -127,6 +128,9 @@ fn word_of(text: &str) -> Option<HeadWord>
             Some(ttl) => Some(HeadWord::Ttl(ttl)),
             None => None,
         };
+    }
+    if text == "IN" {
+        return Some(HeadWord::Class(Class::IN));
     }
     if let Some(rtype) = Rtype::from_bytes(text.as_bytes()) {
         return Some(HeadWord::Rtype(rtype));

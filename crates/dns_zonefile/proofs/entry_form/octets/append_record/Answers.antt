@@ -1,38 +1,34 @@
-use Rattle.std.proofs.Common.{◌≡◌, ◌∷◌, [], true, false, sym, ◌∙◌, append_assoc}
+use Rattle.std.proofs.Common.{◌≡◌, ◌∷◌, [], true, false, sym, ◌∙◌, arith, append_assoc}
 use Rattle.dns_header.specs.Head.{fixed_octets}
 use Rattle.dns_row_scanner.specs.RowScanner.{origin_of}
-use Rattle.dns_scan_data.proofs.Appending.{gone_by, gone_nowhere, gone_on, gone_same}
-use Rattle.dns_zonefile.proofs.ComposedRows.{composes_record, unclassed, unnamed}
+use Rattle.dns_scan_data.proofs.Appending.{gone_by, gone_on, gone_same}
+use Rattle.dns_zonefile.proofs.ComposedRows.{composes_record, stands_longer, unclassed, unowned}
 use Rattle.dns_zonefile.proofs.OneEntry.{under_once}
-use Rattle.dns_zonefile.proofs.Records.{not_headed, not_owned, not_texted}
+use Rattle.dns_zonefile.proofs.Records.{not_headed, not_texted}
 use Rattle.dns_zonefile.proofs.entry_form.octets.append_record.Goals as goal
 
 pub returns-in-Err-clause-err : goal.returns-in-Err-clause-err
-returns-in-Err-clause-err c = λ real statement entry after says enters. not_owned c.requires (c.in-Err.ensures.err real) says
+returns-in-Err-clause-err c = λ real statement entry after says enters. unowned c.requires says enters (c.in-Err.ensures.err real)
 
 pub returns-in-Err-clause-more : goal.returns-in-Err-clause-more
-returns-in-Err-clause-more c = gone_nowhere c.args.octets.now.items
+returns-in-Err-clause-more c = gone_same c.in-Err.ensures.same
+
+pub overflow_sub-owner_len : goal.overflow_sub-owner_len
+overflow_sub-owner_len c = omega (arith, stands_longer c.in-Ok.ensures.ok)
 
 pub returns-in-Err-scan_head-clause-err : goal.returns-in-Err-scan_head-clause-err
 returns-in-Err-scan_head-clause-err c = λ real statement entry after says enters.
-    not_headed c.requires c.in-Ok.ensures.ok (c.in-Err-scan_head.ensures.err real) says
+    not_headed c.requires c.in-Ok.ensures.ok.has (c.in-Err-scan_head.ensures.err real) says
 
 pub returns-in-Err-scan_head-clause-more : goal.returns-in-Err-scan_head-clause-more
-returns-in-Err-scan_head-clause-more c = gone_nowhere c.args.octets.now.items
+returns-in-Err-scan_head-clause-more c = gone_by _ c.in-Ok.ensures.ok.behind
 
 pub returns-in-Err-head_of-clause-err : goal.returns-in-Err-head_of-clause-err
 returns-in-Err-head_of-clause-err c = λ real statement entry after says enters.
-    unclassed c.in-Ok.owner c.requires c.in-Ok.ensures.ok says enters c.in-Ok-scan_head.ensures.ok c.in-Err-head_of.ensures.err.1
+    unclassed c.requires says enters c.in-Ok.ensures.ok.has c.in-Ok-scan_head.ensures.ok c.in-Err-head_of.ensures.err.1
 
 pub returns-in-Err-head_of-clause-more : goal.returns-in-Err-head_of-clause-more
-returns-in-Err-head_of-clause-more c = gone_nowhere c.args.octets.now.items
-
-pub returns-in-Err-append_owner-clause-err : goal.returns-in-Err-append_owner-clause-err
-returns-in-Err-append_owner-clause-err c = λ real statement entry after says enters.
-    unnamed c.in-Ok.owner c.requires c.in-Ok.ensures.ok says enters (under_once (origin_of c.args.scanner.now)) (c.in-Err-append_owner.ensures.err real)
-
-pub returns-in-Err-append_owner-clause-more : goal.returns-in-Err-append_owner-clause-more
-returns-in-Err-append_owner-clause-more c = gone_same c.in-Err-append_owner.ensures.same
+returns-in-Err-head_of-clause-more c = gone_by _ c.in-Ok.ensures.ok.behind
 
 pub returns-in-Err-append_fixed-clause-err : goal.returns-in-Err-append_fixed-clause-err
 returns-in-Err-append_fixed-clause-err c = λ real statement entry after says enters.
@@ -40,7 +36,7 @@ returns-in-Err-append_fixed-clause-err c = λ real statement entry after says en
 
 pub returns-in-Err-append_fixed-clause-more : goal.returns-in-Err-append_fixed-clause-more
 returns-in-Err-append_fixed-clause-more c =
-    gone_on (gone_by _ c.in-Ok-append_owner.ensures.ok.3) (gone_same c.in-Err-append_fixed.ensures.same)
+    gone_on (gone_by _ c.in-Ok.ensures.ok.behind) (gone_same c.in-Err-append_fixed.ensures.same)
 
 pub append_data-requires : goal.append_data-requires
 append_data-requires c = (
@@ -52,16 +48,16 @@ append_data-requires c = (
 
 pub returns-in-Err-append_data-clause-err : goal.returns-in-Err-append_data-clause-err
 returns-in-Err-append_data-clause-err c = λ real statement entry after says enters.
-    not_texted c.requires c.in-Ok.ensures.ok c.in-Ok.ensures.names c.in-Ok-scan_head.ensures.ok c.in-Ok-scan_head.ensures.names
+    not_texted c.requires c.in-Ok.ensures.ok.has c.in-Ok.ensures.names c.in-Ok-scan_head.ensures.ok c.in-Ok-scan_head.ensures.names
     (under_once (origin_of c.args.scanner.now)) (c.in-Err-append_data.ensures.err real) says
 
 pub returns-in-Err-append_data-clause-more : goal.returns-in-Err-append_data-clause-more
 returns-in-Err-append_data-clause-more c =
-    gone_on (gone_on (gone_by _ c.in-Ok-append_owner.ensures.ok.3) (gone_by _ c.in-Ok-append_fixed.ensures.ok)) c.in-Err-append_data.ensures.more
+    gone_on (gone_on (gone_by _ c.in-Ok.ensures.ok.behind) (gone_by _ c.in-Ok-append_fixed.ensures.ok)) c.in-Err-append_data.ensures.more
 
 pub returns-clause-ok : goal.returns-clause-ok
 returns-clause-ok c =
     composes_record c.requires c.in-Ok.ensures.ok c.in-Ok.ensures.names c.in-Ok-scan_head.ensures.ok c.in-Ok-scan_head.ensures.names
-    c.in-Ok-append_owner.ensures.ok.1 c.in-Ok-append_owner.ensures.ok.2 c.in-Ok-head_of.ensures.class c.in-Ok-head_of.ensures.ttl
-    c.in-Ok-head_of.ensures.last_ttl c.in-Ok-scan_head.ensures.fits c.in-Ok-head_of.ensures.fits.0 c.in-Ok-head_of.ensures.fits.1 c.in-Ok-append_owner.ensures.ok.3 c.in-Ok-append_fixed.ensures.ok
-    c.in-Ok-append_data.ensures.ok
+    (omega arith) c.in-Ok-head_of.ensures.class c.in-Ok-head_of.ensures.ttl
+    c.in-Ok-head_of.ensures.last_ttl c.in-Ok-scan_head.ensures.fits c.in-Ok-head_of.ensures.fits.0 c.in-Ok-head_of.ensures.fits.1
+    c.in-Ok-append_fixed.ensures.ok c.in-Ok-append_data.ensures.ok

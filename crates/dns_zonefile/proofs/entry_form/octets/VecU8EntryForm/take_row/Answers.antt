@@ -1,6 +1,7 @@
-use Rattle.std.proofs.Common.{refl, sym, ap, ◌∙◌}
+use Rattle.std.proofs.Common.{refl, sym, ap, ◌∙◌, arith, drop, List, ℕ}
+use Rattle.std.proofs.lemmas.List.{take_rest}
 use Rattle.dns_zonefile.specs.Seen.{row_of}
-use Rattle.dns_zonefile.proofs.ComposedRows.{directs_no_record, record_handed}
+use Rattle.dns_zonefile.proofs.ComposedRows.{directs_no_record, record_begins, record_handed}
 use Rattle.dns_zonefile.proofs.Forms.{says_under, unentered}
 use Rattle.dns_zonefile.proofs.Records.{no_direction, says_direction}
 use Rattle.dns_zonefile.proofs.entry_form.octets.VecU8EntryForm.take_row.Goals as goal
@@ -38,10 +39,20 @@ returns-in-Err-enter-clause-err c = λ real.
 pub append_record-requires : goal.append_record-requires
 append_record-requires c = c.begins_directive.ensures.no c.if-begins_directive.false
 
+pub owner_in-owner-requires : goal.owner_in-owner-requires
+owner_in-owner-requires c = (
+  _,
+  record_begins _ c.len-len.result (omega arith)
+      (take_rest c.deref.result.now c.len-len.result ∙ ap (λ (l : List ℕ). drop c.len-len.result l) c.deref.ensures.value) c.in-Ok-append_record.ensures.ok,
+)
+
 pub returns-in-Ok-append_record-clause-ok : goal.returns-in-Ok-append_record-clause-ok
 returns-in-Ok-append_record-clause-ok c =
     record_handed (c.new-scanner.ensures.origin ∙ c.as_ref-origin.ensures.value) (ap (row_of c.args.led) c.new-scanner.ensures.tokens)
-    c.in-Ok-append_record.ensures.ok c.take_over.ensures
+    c.in-Ok-append_record.ensures.ok
+    (c.owner_in-owner.ensures _ (record_begins _ c.len-len.result (omega arith)
+    (take_rest c.deref.result.now c.len-len.result ∙ ap (λ (l : List ℕ). drop c.len-len.result l) c.deref.ensures.value)
+    c.in-Ok-append_record.ensures.ok)) c.take_over.ensures
 
 pub returns-in-Err-append_record-clause-err : goal.returns-in-Err-append_record-clause-err
 returns-in-Err-append_record-clause-err c = λ real entry after is.

@@ -1,0 +1,130 @@
+//! Names of tokens, appended as octets with no value between.
+ghost use Rattle.std.specs.List.{list_all};
+ghost use Rattle.std.specs.Prelude.{◌≡◌, ◌≢◌, ◌+◌, ◌<◌, ◌≤◌, ◌++◌, ◌∷◌, [], List, ℕ, true, false, length, take, option_copied, IsTrue, IfErr, OnOk, OnErr};
+ghost use Rattle.dns_label.specs.Name.{IsName, wire};
+ghost use Rattle.dns_label.specs.NameText.{IsAbsoluteText};
+ghost use Rattle.dns_scan.specs.Token.{SameNames};
+ghost use Rattle.dns_wire.specs.Unescaped.{is_unescaped};
+ghost use Rattle.dns_row_scanner.specs.AppendedName.{AppendsName, OneLabelUnder, SpellsNoName};
+ghost use Rattle.dns_row_scanner.specs.EntryError.{is_memory};
+ghost use Rattle.dns_row_scanner.specs.NameInText.{SpellsUnder};
+
+use crate::octets::is_plain;
+use crate::{EntryError, InlineName, TextName};
+use dns_name::Name;
+use dns_scan::Scanner;
+use std::alloc::{AllocError, Global};
+
+/// A scanner that appends names to octets.
+pub trait NameScanner: Scanner {
+    /// Takes the next token, and appends the octets of the name that it spells (RFC 1035 3.1).
+    ///
+    /// Fails as `scan_name` does, and then appends nothing.
+    fn scan_name_into(&mut self, octets: &mut Vec<u8>) -> Result<(), Self::Error>
+        ensures ok { OnOk result (AppendsName (Self.names self.old) (Self.tokens self.old) (Self.tokens self.new) octets.old.items octets.new.items) }
+        ensures err { IfErr result (λ error. Self.Error.is_short error ≡ false → SpellsNoName (Self.names self.old) (Self.tokens self.old)) }
+        ensures names { SameNames (Self.names self.old) (Self.names self.new) }
+        ensures same { OnErr result (octets.new.items ≡ octets.old.items) };
+}
+
+/// Appends the octets of the name that a token's text spells under the origin, if one is known, as `TextName::scan_name` has it.
+///
+/// Fails as that does, and then appends nothing.
+pub(crate) fn append_name(
+    alloc: Global,
+    text: &[u8],
+    origin: Option<&Name<Vec<u8>>>,
+    octets: &mut Vec<u8>,
+) -> Result<(), EntryError>
+    ensures ok { OnOk result ((name : List (List ℕ)) × SpellsUnder (option_copied origin.entry) text.now name × IsName name
+        × (octets.new.items ≡ octets.old.items ++ wire name)) }
+    ensures err { IfErr result (λ error. is_memory error ≡ false → (name : List (List ℕ)) → SpellsUnder (option_copied origin.entry) text.now name → ⊥) }
+    ensures same { OnErr result (octets.new.items ≡ octets.old.items) }
+{
+    if append_dotted(text, octets) {
+        return Ok(());
+    }
+    if append_label(text, origin, octets) {
+        return Ok(());
+    }
+    let name: InlineName = TextName::scan_name(alloc, text, origin)?;
+    match octets.extend_from_slice(name.as_slice()) {
+        Ok(()) => Ok(()),
+        Err(_) => Err(EntryError::OutOfMemory),
+    }
+}
+
+/// Appends the octets of the name that a text spells with its last dot, and returns whether it did. It appends nothing if the text
+/// spells no such name, or if out of memory.
+fn append_dotted(text: &[u8], octets: &mut Vec<u8>) -> bool
+    ensures yes { IsTrue result → (name : List (List ℕ)) × IsAbsoluteText text.now name × (octets.new.items ≡ octets.old.items ++ wire name) }
+    ensures no { result ≡ false → octets.new.items ≡ octets.old.items }
+{
+    match text.split_last() {
+        Some((b'.', _)) => Name::append_absolute_text(octets, text).is_ok(),
+        _ => false,
+    }
+}
+
+/// Appends the octets of the name that a text of one label without an escape spells under the origin, and returns whether it did. It
+/// appends nothing if there is no origin, if the text is another or the name too long, or if out of memory.
+fn append_label(text: &[u8], origin: Option<&Name<Vec<u8>>>, octets: &mut Vec<u8>) -> bool
+    ensures yes { IsTrue result → (name : List (List ℕ)) × SpellsUnder (option_copied origin.entry) text.now name × IsName name
+        × (octets.new.items ≡ octets.old.items ++ wire name) }
+    ensures no { result ≡ false → octets.new.items ≡ octets.old.items }
+{
+    let Some(origin) = origin else {
+        return false;
+    };
+    if !is_one_label(text) || text.len() + origin.len() > 254 {
+        return false;
+    }
+    let len = octets.len();
+    let is_whole = append_before(text, origin, octets).is_ok();
+    if !is_whole {
+        octets.truncate(len);
+    }
+    is_whole
+}
+
+/// Returns whether the text is one label of octets that stand for themselves, and not the origin's `@`.
+fn is_one_label(text: &[u8]) -> bool
+    ensures { IsTrue result → (list_all is_unescaped text.now ≡ true) × (0 < length text.now) × (length text.now ≤ 63) × (text.now ≢ 64 ∷ []) }
+{
+    let is_short = !text.is_empty() && text.len() <= 63;
+    is_short && !matches!(text, [b'@']) && are_unescaped(text)
+}
+
+/// Returns whether these are printable characters other than the dot and the backslash.
+fn are_unescaped(text: &[u8]) -> bool
+    ensures { result ≡ list_all is_unescaped text.now }
+{
+    text.iter().all(|&octet| is_unescaped(octet))
+}
+
+/// Returns whether this is a printable character other than the dot and the backslash.
+fn is_unescaped(octet: u8) -> bool
+    ensures { result ≡ is_unescaped octet }
+{
+    is_plain(octet) && octet != b'.'
+}
+
+/// Appends the label, behind its length, and the octets of the origin, or a part of them if out of memory.
+fn append_before(
+    label: &[u8],
+    origin: &Name<Vec<u8>>,
+    octets: &mut Vec<u8>,
+) -> Result<(), AllocError>
+    requires all { list_all is_unescaped label.now ≡ true }
+    requires some { 0 < length label.now }
+    requires short { length label.now ≤ 63 }
+    requires other { label.now ≢ 64 ∷ [] }
+    requires fits { length label.now + length (wire origin.now) ≤ 254 }
+    ensures ok { OnOk result (OneLabelUnder label.now origin.now octets.old.items octets.new.items) }
+    ensures more { take (length octets.old.items) octets.new.items ≡ octets.old.items }
+{
+    octets.push(label.len() as u8)?;
+    octets.extend_from_slice(label)?;
+    octets.extend_from_slice(origin.as_slice())?;
+    Ok(())
+}
