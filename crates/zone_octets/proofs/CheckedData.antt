@@ -6,7 +6,7 @@ use Rattle.dns_name.specs.Page.{Page, write}
 use Rattle.dns_name.specs.RecordData.{page_of}
 use Rattle.dns_name.specs.Spelling.{plain}
 use Rattle.dns_rdata.specs.Fields as fields
-use Rattle.dns_rdata.specs.Fields.{IsData, octets}
+use Rattle.dns_rdata.specs.Fields.{IsData}
 use Rattle.dns_rdata.specs.Data.{Data, ReadsData, parts_of, typed, untyped}
 use Rattle.dns_rdata.specs.DataOctets.{IsSpellable, data_octets}
 use Rattle.dns_message.proofs.Spellable.{spellable_tag, spellable_unless_caa, tag_spellable}

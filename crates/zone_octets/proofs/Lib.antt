@@ -5,8 +5,6 @@ pub mod RowFronts
 pub mod RecordFronts
 pub mod Indexed
 pub mod Patched
-pub mod SoaOctets
-pub mod ToldEqual
 mod SoaRows
 mod SameSoas
 pub mod ReadData

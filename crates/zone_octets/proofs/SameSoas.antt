@@ -1,40 +1,37 @@
--- Two SOA records are equal exactly where their owners, their times to live, and the names and numbers of their data are.
-use Rattle.std.proofs.Common.{◌≡◌, ℕ, List, [], ◌∷◌, length, map, Bool, IsTrue, None, refl, sym, ap, ◌∙◌, subst, arith}
+-- Two SOA records are equal exactly where their owners and times to live are, and what counts of their data is.
+use Rattle.std.proofs.Common.{◌≡◌, ℕ, true, List, [], ◌∷◌, map, None, refl, sym, ap, ◌∙◌, subst}
+use Rattle.std.proofs.Common.{nat_eq}
+use Rattle.std.specs.Cmp.Lexicographic.{pointwise}
 use Rattle.std.specs.Int.{to_be_bytes, w32}
-use Rattle.std.specs.List.{flat_map}
-use Rattle.dns_label.specs.Name.{low}
-use Rattle.dns_rdata.specs.Fields.{Field, IsData, kinds_of, lowered}
+use lib.Pointwise.{pointwise_decides, bytes_decides}
+use Rattle.dns_label.specs.Name.{low, wire}
+use Rattle.dns_wire.proofs.Case.{wire_one}
+use Rattle.dns_fields.specs.Alike.{keys}
+use Rattle.dns_rdata.specs.Fields.{Field, IsRow, field_octets, kinds_of, lowered, octets}
 use Rattle.dns_rdata.specs.Fields.Field.{compressible, number32}
-use Rattle.dns_rdata.specs.Fields.IsData.{typed, opaque}
-use Rattle.dns_rdata.proofs.Fronts.{same_fronts, same_number32}
+use Rattle.dns_rdata.specs.Data.{Data, data_eq, number_of, typed, untyped}
+use Rattle.dns_rdata.specs.DataOctets.{data_octets}
+use Rattle.dns_rdata.specs.Reading.{ReadsRow}
+use Rattle.dns_rdata.proofs.ComposedRows.{row_parses, row_parses_only}
+use Rattle.dns_rdata.proofs.Fronts.{same_number32}
 use Rattle.zone_octets.specs.Record.{Record}
-use Rattle.zone_octets.specs.Zone.{soa_type}
 use Rattle.zone_octets.specs.Records.{SameSoa}
-use Rattle.zone_octets.specs.Soa.{IsSoaOf}
-use Rattle.zone_octets.proofs.SoaOctets.{soa_one}
-use Rattle.zone_octets.proofs.SoaRows.{AreSmall, IsSoaRow, soa_row, soa_row_of, soa_of_row, soa_of_data}
+use Rattle.zone_octets.specs.Typed.{HasFieldsOfType}
+use Rattle.zone_octets.specs.Zone.{soa_type}
+use Rattle.zone_octets.proofs.SoaRows.{AreSmall, IsSoaRow, soa_row, soa_row_of}
 
--- numbers by their octets, and by their fields
-same_by_octets : (numbers others : List ℕ) → AreSmall numbers → AreSmall others → length numbers ≡ length others
-    → flat_map (to_be_bytes w32) numbers ≡ flat_map (to_be_bytes w32) others → numbers ≡ others
-same_by_octets [] [] small small' long same = refl
-same_by_octets [] (n ∷ others) small small' long same = absurd (omega arith)
-same_by_octets (n ∷ numbers) [] small small' long same = absurd (omega arith)
-same_by_octets (n ∷ numbers) (m ∷ others) small small' long same =
-    let fronts = same_fronts (to_be_bytes w32 n) (to_be_bytes w32 m) (flat_map (to_be_bytes w32) numbers) (flat_map (to_be_bytes w32) others) refl same in
-    let first = same_number32 n m small.0 small'.0 fronts.0 in
-    let rest = same_by_octets numbers others small.1 small'.1 (omega arith) fronts.1 in
-    cc (first, rest)
-
-same_by_fields : (numbers others : List ℕ) → map number32 numbers ≡ map number32 others → numbers ≡ others
-same_by_fields [] [] same = refl
-same_by_fields [] (n ∷ others) same = cc
-same_by_fields (n ∷ numbers) [] same = cc
-same_by_fields (n ∷ numbers) (m ∷ others) same =
-    let first : n ≡ m = cc in
-    let behind : map number32 numbers ≡ map number32 others = cc in
-    let rest = same_by_fields numbers others behind in
-    cc (first, rest)
+-- numbers that count alike are the same
+same_numbers : (numbers others : List ℕ) → AreSmall numbers → AreSmall others → keys (map number32 numbers) ≡ keys (map number32 others)
+    → numbers ≡ others
+same_numbers [] [] small small' same = refl
+same_numbers [] (n ∷ others) small small' same = absurd cc
+same_numbers (n ∷ numbers) [] small small' same = absurd cc
+same_numbers (n ∷ numbers) (m ∷ others) small small' same =
+    let first : to_be_bytes w32 n ≡ to_be_bytes w32 m = cc in
+    let behind : keys (map number32 numbers) ≡ keys (map number32 others) = cc in
+    let number = same_number32 n m small.0 small'.0 first in
+    let rest = same_numbers numbers others small.1 small'.1 behind in
+    cc (number, rest)
 
 lowered_numbers : (numbers : List ℕ) → map lowered (map number32 numbers) ≡ map number32 numbers
 lowered_numbers [] = refl
@@ -46,93 +43,87 @@ lowered_row row fields =
     ap (map lowered) fields.row_is
     ∙ ap (λ (l : List Field). compressible (low fields.mname) ∷ compressible (low fields.rname) ∷ l) (lowered_numbers fields.numbers)
 
-same_rows : (mname rname mname' rname' : List (List ℕ)) (numbers numbers' : List ℕ) → mname ≡ mname' → rname ≡ rname'
-    → numbers ≡ numbers' → soa_row mname rname numbers ≡ soa_row mname' rname' numbers'
-same_rows mname rname mname' rname' numbers numbers' first second third =
-    ap (λ n. soa_row n rname numbers) first ∙ ap (λ n. soa_row mname' n numbers) second ∙ ap (soa_row mname' rname') third
+-- what counts of it: the octets of its fields then
+counted_numbers : (numbers : List ℕ) → keys (map number32 numbers) ≡ map field_octets (map number32 numbers)
+counted_numbers [] = refl
+counted_numbers (n ∷ numbers) = ap (λ (l : List (List ℕ)). to_be_bytes w32 n ∷ l) (counted_numbers numbers)
 
--- data of two SOA records, and what is read of it
-pub record SameData (mname rname mname' rname' : List (List ℕ)) (numbers numbers' : List ℕ) : Type 0 where
-  pub mname_is : low mname ≡ low mname'
-  pub rname_is : low rname ≡ low rname'
-  pub numbers_are : numbers ≡ numbers'
+counted : (row : List Field) (fields : IsSoaRow row) → keys row ≡ map field_octets (map lowered row)
+counted row fields =
+    ap keys fields.row_is
+    ∙ ap (λ (l : List (List ℕ)). wire (low fields.mname) ∷ wire (low fields.rname) ∷ l) (counted_numbers fields.numbers)
+    ∙ sym (ap (map field_octets) (lowered_row row fields))
 
-pub same_soa : (soa other : Record) (mname rname mname' rname' : List (List ℕ)) (numbers numbers' : List ℕ) → IsData soa_type soa.rdata
-    → IsData soa_type other.rdata → IsSoaOf soa.rdata mname rname numbers → IsSoaOf other.rdata mname' rname' numbers'
-    → low soa.owner ≡ low other.owner → soa.class ≡ other.class → soa.ttl ≡ other.ttl
-    → SameData mname rname mname' rname' numbers numbers' → SameSoa soa other
-same_soa soa other mname rname mname' rname' numbers numbers' (typed row is octets_are) (typed row' is' octets_are') has has' owner class
-    ttl same =
-    let fields = soa_row_of row is in
-    let fields' = soa_row_of row' is' in
-    let one = soa_one (soa_of_row soa.rdata row fields octets_are) has in
-    let one' = soa_one (soa_of_row other.rdata row' fields' octets_are') has' in
-    let numbers_are = same_by_octets fields.numbers fields'.numbers fields.small fields'.small (fields.five ∙ sym fields'.five)
-    (one.2 ∙ same.numbers_are ∙ sym one'.2) in
-    let rows = same_rows (low fields.mname) (low fields.rname) (low fields'.mname) (low fields'.rname) fields.numbers fields'.numbers
-    (ap low one.0 ∙ same.mname_is ∙ sym (ap low one'.0)) (ap low one.1 ∙ same.rname_is ∙ sym (ap low one'.1)) numbers_are in
-    record {
-      owner = owner;
-      class = class;
-      ttl = ttl;
-      row = row;
-      other_row = row';
-      is = (is, octets_are);
-      other_is = (is', octets_are');
-      same = lowered_row row fields ∙ rows ∙ sym (lowered_row row' fields');
-    }
-same_soa soa other mname rname mname' rname' numbers numbers' (opaque none short) data' has has' owner class ttl same =
-    let none' : kinds_of soa_type ≡ None = none in absurd cc
-same_soa soa other mname rname mname' rname' numbers numbers' (typed row is octets_are) (opaque none short) has has' owner class ttl same =
-    let none' : kinds_of soa_type ≡ None = none in absurd cc
+same_rows : (row row' : List Field) → IsSoaRow row → IsSoaRow row' → keys row ≡ keys row' → map lowered row ≡ map lowered row'
+same_rows row row' fields fields' same =
+    let there : keys (soa_row fields.mname fields.rname fields.numbers) ≡ keys (soa_row fields'.mname fields'.rname fields'.numbers) =
+    sym (ap keys fields.row_is) ∙ same ∙ ap keys fields'.row_is in
+    let first : wire (low fields.mname) ≡ wire (low fields'.mname) = cc there in
+    let second : wire (low fields.rname) ≡ wire (low fields'.rname) = cc there in
+    let third : keys (map number32 fields.numbers) ≡ keys (map number32 fields'.numbers) = cc there in
+    let mname = wire_one (low fields.mname) (low fields'.mname) first in
+    let rname = wire_one (low fields.rname) (low fields'.rname) second in
+    let numbers = same_numbers fields.numbers fields'.numbers fields.small fields'.small third in
+    lowered_row row fields ∙ (λ i. soa_row (mname i) (rname i) (numbers i)) ∙ sym (lowered_row row' fields')
 
-pub same_data : (soa other : Record) (mname rname mname' rname' : List (List ℕ)) (numbers numbers' : List ℕ)
-    → IsSoaOf soa.rdata mname rname numbers → IsSoaOf other.rdata mname' rname' numbers' → SameSoa soa other
-    → SameData mname rname mname' rname' numbers numbers'
-same_data soa other mname rname mname' rname' numbers numbers' has has' same =
-    let fields = soa_row_of same.row same.is.0 in
-    let fields' = soa_row_of same.other_row same.other_is.0 in
-    let one = soa_one (soa_of_row soa.rdata same.row fields same.is.1) has in
-    let one' = soa_one (soa_of_row other.rdata same.other_row fields' same.other_is.1) has' in
-    let rows : soa_row (low fields.mname) (low fields.rname) fields.numbers ≡ soa_row (low fields'.mname) (low fields'.rname) fields'.numbers =
-    sym (lowered_row same.row fields) ∙ same.same ∙ lowered_row same.other_row fields' in
-    let first : low fields.mname ≡ low fields'.mname = cc rows in
-    let second : low fields.rname ≡ low fields'.rname = cc rows in
-    let third : map number32 fields.numbers ≡ map number32 fields'.numbers = cc rows in
-    record {
-      mname_is = sym (ap low one.0) ∙ first ∙ ap low one'.0;
-      rname_is = sym (ap low one.1) ∙ second ∙ ap low one'.1;
-      numbers_are = sym one.2 ∙ ap (flat_map (to_be_bytes w32)) (same_by_fields fields.numbers fields'.numbers third) ∙ one'.2;
-    }
+-- a row is one by its octets
+row_one : (row row' : List Field) → IsRow soa_type row → IsRow soa_type row' → octets row ≡ octets row' → row ≡ row'
+row_one row row' is is' same =
+    row_parses_only soa_type [] row' row is' (subst (λ l. ReadsRow soa_type l 0 row) same (row_parses soa_type [] row is))
 
--- what tests of two records say
-pub soa_read : (text items : List ℕ) (rtype : ℕ) → text ≡ items → IsData rtype items → rtype ≡ soa_type
-    → ((mname rname : List (List ℕ)) (numbers : List ℕ) → IsSoaOf text mname rname numbers → ⊥) → ⊥
-soa_read text items rtype same data' is refused =
-    let P : ℕ → Type 0 = λ t. IsData t items in
-    let Q : List ℕ → Type 0 = λ l. IsData soa_type l in
-    let there = soa_of_data text (subst Q (sym same) (subst P is data')) in refused there.0 there.1 there.2 there.3
+-- the row that is parsed of an SOA's data
+record IsSoaRead (data' : List ℕ) (read : Data) : Type 0 where
+  row : List Field
+  is : IsRow soa_type row
+  are : data' ≡ octets row
+  read_is : read ≡ typed soa_type row
 
-pub same_told : (soa other : Record) (text text' : List ℕ) (mname rname mname' rname' : List (List ℕ)) (numbers numbers' : List ℕ)
-    (result : Bool) → IsData soa.rtype soa.rdata → soa.rtype ≡ soa_type → IsData other.rtype other.rdata → other.rtype ≡ soa_type
-    → text ≡ soa.rdata → text' ≡ other.rdata → IsSoaOf text mname rname numbers → IsSoaOf text' mname' rname' numbers'
-    → low soa.owner ≡ low other.owner → soa.class ≡ other.class → soa.ttl ≡ other.ttl
-    → (IsTrue result → (low mname ≡ low mname') × (low rname ≡ low rname') × (numbers ≡ numbers'))
-    → ((low mname ≡ low mname') × (low rname ≡ low rname') × (numbers ≡ numbers') → IsTrue result)
-    → (IsTrue result → SameSoa soa other) × (SameSoa soa other → IsTrue result)
-same_told soa other text text' mname rname mname' rname' numbers numbers' result data' is other_data other_is same same' read read' owner
-    class ttl told back =
-    let P : ℕ → Type 0 = λ t. IsData t soa.rdata in
-    let P' : ℕ → Type 0 = λ t. IsData t other.rdata in
-    let Q : List ℕ → Type 0 = λ l. IsSoaOf l mname rname numbers in
-    let Q' : List ℕ → Type 0 = λ l. IsSoaOf l mname' rname' numbers' in
-    let has = subst Q same read in
-    let has' = subst Q' same' read' in (
-      λ holds.
-          let all = told holds in
-          same_soa soa other mname rname mname' rname' numbers numbers' (subst P is data') (subst P' other_is other_data) has has' owner class
-          ttl (record { mname_is = all.0; rname_is = all.1; numbers_are = all.2 }),
-      λ equal.
-          let all = same_data soa other mname rname mname' rname' numbers numbers' has has' equal in
-          back (all.mname_is, all.rname_is, all.numbers_are),
-    )
+soa_read : (data' : List ℕ) (read : Data) → number_of read ≡ soa_type → data_octets read ≡ data' → HasFieldsOfType read → IsSoaRead data' read
+soa_read data' (typed number row) number_is are has = record {
+  row = row;
+  is = subst (λ n. IsRow n row) number_is has;
+  are = sym are;
+  read_is = ap (λ n. typed n row) number_is;
+}
+soa_read data' (untyped unknown) number_is are none = absurd (let bad : kinds_of soa_type ≡ None = ap kinds_of (sym number_is) ∙ none in cc)
+
+-- rows are compared by what counts of them
+rows_told : (row row' : List Field) → (data_eq (typed soa_type row) (typed soa_type row') ≡ true → keys row ≡ keys row')
+    × (keys row ≡ keys row' → data_eq (typed soa_type row) (typed soa_type row') ≡ true)
+unfolding data_eq
+rows_told row row' =
+    let decides = pointwise_decides {E = pointwise nat_eq} bytes_decides (keys row) (keys row') in
+    (λ told. decides.0 told, λ same. decides.1 same)
+
+-- what a comparison of the data of two records says
+module _ (soa other : Record) (read other_read : Data) (number_is : number_of read ≡ soa_type) (are : data_octets read ≡ soa.rdata)
+    (has : HasFieldsOfType read) (other_number : number_of other_read ≡ soa_type) (other_are : data_octets other_read ≡ other.rdata)
+    (other_has : HasFieldsOfType other_read) where
+  one : IsSoaRead soa.rdata read
+  one = soa_read soa.rdata read number_is are has
+
+  another : IsSoaRead other.rdata other_read
+  another = soa_read other.rdata other_read other_number other_are other_has
+
+  pub same_told : data_eq read other_read ≡ true → low soa.owner ≡ low other.owner → soa.class ≡ other.class → soa.ttl ≡ other.ttl → SameSoa soa other
+  same_told told owner class ttl =
+      let there : data_eq (typed soa_type one.row) (typed soa_type another.row) ≡ true =
+      (λ i. data_eq (sym one.read_is i) (sym another.read_is i)) ∙ told in record {
+        owner = owner;
+        class = class;
+        ttl = ttl;
+        row = one.row;
+        other_row = another.row;
+        is = (one.is, one.are);
+        other_is = (another.is, another.are);
+        same = same_rows one.row another.row (soa_row_of one.row one.is) (soa_row_of another.row another.is) ((rows_told one.row another.row).0 there);
+      }
+
+  pub told_same : SameSoa soa other → data_eq read other_read ≡ true
+  told_same same =
+      let row = row_one one.row same.row one.is same.is.0 (sym one.are ∙ same.is.1) in
+      let row' = row_one another.row same.other_row another.is same.other_is.0 (sym another.are ∙ same.other_is.1) in
+      let rows : map lowered one.row ≡ map lowered another.row = ap (map lowered) row ∙ same.same ∙ sym (ap (map lowered) row') in
+      let alike : keys one.row ≡ keys another.row =
+      counted one.row (soa_row_of one.row one.is) ∙ ap (map field_octets) rows ∙ sym (counted another.row (soa_row_of another.row another.is)) in
+      (λ i. data_eq (one.read_is i) (another.read_is i)) ∙ (rows_told one.row another.row).1 alike

@@ -1,14 +1,11 @@
--- Rows of the type SOA: two names and five numbers of four octets each; and the octets that are such data.
-use Rattle.std.proofs.Common.{◌≡◌, ℕ, ◌+◌, ◌*◌, ◌<◌, ◌^◌, zero, suc, List, [], ◌∷◌, ◌++◌, length, map, get_or, Some, None, refl, sym, ap, ◌∙◌, arith, length-append}
-use Rattle.std.specs.Int.{to_be_bytes, from_be_bytes, w32}
-use Rattle.std.specs.List.{AllByRecursion, flat_map}
-use Rattle.dns_label.specs.Name.{IsName, wire}
-use Rattle.dns_rdata.specs.Fields.{Kind, Field, IsField, IsRow, IsData, kind_of, kinds_of, field_octets, octets}
+-- Rows of the type SOA: two names and five numbers of four octets each (RFC 1035 3.3.13).
+use Rattle.std.proofs.Common.{◌≡◌, ℕ, ◌<◌, ◌^◌, List, [], ◌∷◌, length, map, Some, refl, sym, ◌∙◌, arith}
+use Rattle.std.specs.List.{AllByRecursion}
+use Rattle.dns_label.specs.Name.{IsName}
+use Rattle.dns_rdata.specs.Fields.{Kind, Field, IsField, IsRow, kind_of}
 use Rattle.dns_rdata.specs.Fields.Kind.{Compressible, Number32}
 use Rattle.dns_rdata.specs.Fields.Field.{number8, number16, number32, ipv4, ipv6, compressible, uncompressed, string, strings, tag, rest_text, rest16, rest64}
-use Rattle.dns_rdata.specs.Fields.IsData.{typed, opaque}
 use Rattle.zone_octets.specs.Zone.{soa_type}
-use Rattle.zone_octets.specs.Soa.{IsSoaOf}
 
 -- a field of the kind of names, and one of numbers
 record NameField (field : Field) : Type 0 where
@@ -115,30 +112,3 @@ soa_row_of row is =
     let kinds : Some (map kind_of row) ≡ Some (Compressible ∷ Compressible ∷ Number32 ∷ Number32 ∷ Number32 ∷ Number32 ∷ Number32 ∷ []) = sym is.kinds in
     let same : map kind_of row ≡ Compressible ∷ Compressible ∷ Number32 ∷ Number32 ∷ Number32 ∷ Number32 ∷ Number32 ∷ [] = cc in
     soa_fields row same is.each
-
--- the octets of a row of the type are such data
-numbers_octets : (numbers : List ℕ) → flat_map field_octets (map number32 numbers) ≡ flat_map (to_be_bytes w32) numbers
-numbers_octets [] = refl
-numbers_octets (n ∷ numbers) = ap (λ l. to_be_bytes w32 n ++ l) (numbers_octets numbers)
-
-numbers_long : (numbers : List ℕ) → length (flat_map (to_be_bytes w32) numbers) ≡ 4 * length numbers
-numbers_long [] = refl
-numbers_long (n ∷ numbers) = omega (arith, length-append (to_be_bytes w32 n) (flat_map (to_be_bytes w32) numbers), numbers_long numbers)
-
-pub soa_of_row : (data' : List ℕ) (row : List Field) (fields : IsSoaRow row) → data' ≡ octets row
-    → IsSoaOf data' fields.mname fields.rname (flat_map (to_be_bytes w32) fields.numbers)
-soa_of_row data' row fields is = record {
-  mname_is = fields.mname_is;
-  rname_is = fields.rname_is;
-  whole = is ∙ ap octets fields.row_is ∙ ap (λ l. wire fields.mname ++ (wire fields.rname ++ l)) (numbers_octets fields.numbers);
-  long = omega (arith, numbers_long fields.numbers, fields.five);
-}
-
--- all such data are so
-pub soa_of_data : (data' : List ℕ) → IsData soa_type data'
-    → (mname rname : List (List ℕ)) × (numbers : List ℕ) × IsSoaOf data' mname rname numbers
-soa_of_data data' (typed row is octets_are) =
-    let fields = soa_row_of row is in
-    (fields.mname, fields.rname, flat_map (to_be_bytes w32) fields.numbers, soa_of_row data' row fields octets_are)
-soa_of_data data' (opaque none short) =
-    let none' : kinds_of soa_type ≡ None = none in absurd cc

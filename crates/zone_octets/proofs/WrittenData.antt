@@ -1,7 +1,7 @@
 -- Data that is written with every name written out is its octets.
 use Rattle.std.proofs.Common.{◌≡◌, ℕ, List, [], ◌∷◌, ◌++◌, length, refl, sym, ◌∙◌, ap, append_assoc, append-nil}
 use Rattle.dns_label.specs.Name.{wire}
-use Rattle.dns_name.specs.Page.{Page, Parts, write}
+use Rattle.dns_name.specs.Page.{Page, write}
 use Rattle.dns_name.specs.Page.Parts.{End, Named}
 use Rattle.dns_name.specs.RecordData.{page_of}
 use Rattle.dns_name.specs.Spelling.{plain}

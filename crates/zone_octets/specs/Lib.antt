@@ -2,5 +2,4 @@ pub mod Record
 pub mod Zone
 pub mod Stored
 pub mod Records
-pub mod Soa
 pub mod Typed

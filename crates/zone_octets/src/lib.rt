@@ -9,5 +9,4 @@ pub mod header;
 pub mod record;
 pub mod record_data;
 pub mod record_list;
-mod soa;
 pub mod typed;

@@ -1,6 +1,5 @@
-use Rattle.std.proofs.Common.{◌≡◌, ◌≢◌, arith, ap, sym, ◌∙◌, refl, subst}
+use Rattle.std.proofs.Common.{◌≡◌, ◌≢◌, arith, refl}
 use Rattle.std.proofs.lemmas.Bool.Decides.{nat_tests}
-use Rattle.dns_rdata.specs.Fields.{IsData}
 use Rattle.zone_octets.proofs.CheckedData.{missing_tag, other_spellable, second_found, second_missing, tag_tested}
 use Rattle.zone_octets.proofs.checks.is_spellable.Goals as goal
 
