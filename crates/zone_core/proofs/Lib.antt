@@ -10,3 +10,4 @@ pub mod OrderedRules
 pub mod Questions
 pub mod Splits
 pub mod Tried
+pub mod Openings

@@ -1,9 +1,8 @@
 -- A query that is made is read.
-use Rattle.std.proofs.Common.{◌≡◌, ℕ, ◌+◌, ◌<◌, ◌≤◌, ◌^◌, List, [], ◌∷◌, ◌++◌, length, drop, false, refl, sym, ◌∙◌, subst, arith, append-nil, length-append}
+use Rattle.std.proofs.Common.{◌≡◌, ℕ, ◌+◌, ◌<◌, ◌^◌, List, [], ◌++◌, length, drop, false, refl, sym, subst, arith, append-nil}
 use Rattle.std.specs.Prelude.{◌≢◌}
 use Rattle.std.proofs.lemmas.Nat.{from_be_bytes-to_be_bytes_2}
 use Rattle.dns_label.specs.Name.{IsName}
-use Rattle.dns_header.specs.Header.{answer_header}
 use Rattle.dns_header.specs.Question.{ReadsQuestion, question_octets}
 use Rattle.dns_header.proofs.WrittenQuestions.{question-written}
 use Rattle.zone_octets.specs.Zone.{any_class}

@@ -1,10 +1,8 @@
 -- What the program's queries ask.
 use Rattle.dns_name.specs.ParsedName.{labels_of}
-use Rattle.dns_header.specs.Question as spec
 use Rattle.zone_core.specs.Query.{AxfrQuery}
 use Rattle.zone_core.specs.declared.query.Query.{Query}
 use Rattle.zone_core.specs.declared.owned_query.OwnedQuery.{OwnedQuery}
-use Rattle.zone_core.specs.declared.question.Question.{Question}
 
 -- the query with its name's labels
 abbrev pub asked_by : Query → AxfrQuery
@@ -13,14 +11,6 @@ asked_by query = record {
   recursion = query.rd;
   name = labels_of query.name;
   class = query.class;
-}
-
--- the same of a question
-abbrev pub question_by : Question → spec.Question
-question_by q = record {
-  name = labels_of q.name;
-  qtype = q.qtype;
-  qclass = q.qclass;
 }
 
 -- the same query where it holds its name itself

@@ -21,13 +21,21 @@ pub record AxfrQuery : Type 0 where
   pub name : List (List ℕ)
   pub class : ℕ
 
+-- the question for the transfer of the zone of a name and a class
+abbrev pub question_for : List (List ℕ) → ℕ → Question
+question_for name class = record { name = name; qtype = axfr_type; qclass = class }
+
 abbrev pub question_of : AxfrQuery → Question
-question_of query = record { name = query.name; qtype = axfr_type; qclass = query.class }
+question_of query = question_for query.name query.class
+
+-- the counts of a message with one question and no record, as octets
+abbrev pub one_question : List ℕ
+one_question = 0 ∷ 1 ∷ 0 ∷ 0 ∷ 0 ∷ 0 ∷ 0 ∷ 0 ∷ []
 
 -- the octets of a query with its flags clear (RFC 5936 2.1)
 abbrev pub query_octets : AxfrQuery → List ℕ
 query_octets query =
-    to_be_bytes w16 query.id ++ 0 ∷ 0 ∷ 0 ∷ 1 ∷ 0 ∷ 0 ∷ 0 ∷ 0 ∷ 0 ∷ 0 ∷ [] ++ question_octets (question_of query)
+    to_be_bytes w16 query.id ++ 0 ∷ 0 ∷ one_question ++ question_octets (question_of query)
 
 -- the rules that a message keeps, up to its question
 pub record KeepsHeaderRules (message : List ℕ) : Type 0 where

@@ -5,7 +5,8 @@ ghost use Rattle.zone_core.specs.Asked.{asked_by};
 ghost use Rattle.zone_core.specs.Query.{AsksOne, IsQuery, IsQueryFault, query_octets};
 
 use crate::query_error::QueryError;
-use crate::question::{HEADER_OCTETS, parse_question};
+use crate::question::{HEADER_OCTETS, compose_opening, parse_question};
+use dns_message::laws::header_is_its_fields;
 use dns_message::{Header, HeaderCounts};
 use dns_name::{Class, Name, Opcode, ParsedName, Rtype};
 use std::alloc::{AllocError, Global};
@@ -72,10 +73,10 @@ pub fn check_query(octets: &[u8]) -> Result<Query<'_>, QueryError>
     let Ok((question, end)) = parse_question(octets) else {
         return Err(QueryError::Malformed);
     };
-    if question.qtype != Rtype::AXFR {
+    if question.qtype() != Rtype::AXFR {
         return Err(QueryError::NotAxfr);
     }
-    if question.qclass.to_int() == ANY {
+    if question.qclass().to_int() == ANY {
         return Err(QueryError::ClassAny);
     }
     if end != octets.len() {
@@ -84,8 +85,8 @@ pub fn check_query(octets: &[u8]) -> Result<Query<'_>, QueryError>
     Ok(Query {
         id: header.id(),
         rd: header.rd(),
-        name: question.name,
-        class: question.qclass,
+        name: *question.qname(),
+        class: question.qclass(),
     })
 }
 
@@ -103,13 +104,11 @@ pub fn axfr_query(
     ensures { IfOk result (λ query. query.items
         ≡ query_octets (record { id = id; recursion = false; name = name.now; class = class })) }
 {
-    let mut query = Vec::with_capacity(alloc, HEADER_OCTETS + name.len() + 4)?;
-    query.extend_from_slice(&id.to_be_bytes())?;
-    query.extend_from_slice(&[0, 0, 0, 1, 0, 0, 0, 0, 0, 0])?;
-    query.extend_from_slice(name.as_slice())?;
-    query.extend_from_slice(&Rtype::AXFR.to_int().to_be_bytes())?;
-    query.extend_from_slice(&class.to_int().to_be_bytes())?;
-    Ok(query)
+    let mut header = Header::new();
+    header.set_id(id);
+    // The proof reads the octets off the fields.
+    header_is_its_fields(header);
+    compose_opening(alloc, header, name, class)
 }
 
 /// Whether a message counts one question and no record.

@@ -9,10 +9,10 @@ ghost use Rattle.zone_core.specs.Query.{AxfrQuery};
 ghost use Rattle.zone_send.specs.Sent.{message};
 
 use super::header::header_of;
-use dns_name::{Name, Rtype};
+use dns_name::Name;
 use std::alloc::{AllocError, Global};
 use zone_core::Query;
-use zone_core::question::HEADER_OCTETS;
+use zone_core::question::compose_opening;
 use zone_octets::header::put_number;
 
 /// The octets of a message's length on a stream.
@@ -20,9 +20,6 @@ const LENGTH_OCTETS: usize = 2;
 
 /// The place of the count of answers in a message (RFC 1035 4.1.1).
 const ANSWER_COUNT: usize = 6;
-
-/// The counts of a message with one question and no records.
-const ONE_QUESTION: [u8; 8] = [0, 1, 0, 0, 0, 0, 0, 0];
 
 /// A stream of whole frames, to whose last message records are still added.
 #[derive(Debug, Drop)]
@@ -151,11 +148,5 @@ fn opening(alloc: Global, query: &Query<'_>, name: &Name<Vec<u8>>) -> Result<Vec
     ensures octets { IfOk result (λ opening. opening.items ≡ message (asked_by query.now) []) }
     ensures name { OnOk result (IsName name.now) }
 {
-    let mut opening = Vec::with_capacity(alloc, HEADER_OCTETS + name.len() + 4)?;
-    opening.extend_from_slice(header_of(query).as_slice())?;
-    opening.extend_from_slice(&ONE_QUESTION)?;
-    opening.extend_from_slice(name.as_slice())?;
-    opening.extend_from_slice(&Rtype::AXFR.to_int().to_be_bytes())?;
-    opening.extend_from_slice(&query.class().to_int().to_be_bytes())?;
-    Ok(opening)
+    compose_opening(alloc, header_of(query), &name.for_ref(), query.class())
 }

@@ -1,5 +1,7 @@
 use Rattle.std.proofs.Common.{◌∙◌, arith}
-use Rattle.zone_core.specs.Asked.{asked_of, question_by}
+use Rattle.dns_name.specs.ParsedName.{labels_of}
+use Rattle.dns_header.specs.QuestionParts.{question_of}
+use Rattle.zone_core.specs.Asked.{asked_of}
 use Rattle.zone_core.proofs.Questions.{asks_not, asks_once, asks_other}
 use Rattle.zone_receive.proofs.message.behind_question.Goals as goal
 
@@ -10,7 +12,7 @@ returns-in_default-clause-none c =
 
 pub returns-then-is_question_of-clause-some : goal.returns-then-is_question_of-clause-some
 returns-then-is_question_of-clause-some c =
-    asks_once (asked_of c.args.query.now) c.args.is_first c.args.message.now c.in-Ok.end (question_by c.in-Ok.question) c.requires.header
+    asks_once (asked_of c.args.query.now) c.args.is_first c.args.message.now c.in-Ok.end (question_of labels_of c.in-Ok.question) c.requires.header
     (λ is. c.if-questions_in-eq0.false (c.questions_in.ensures ∙ is)) c.in-Ok.ensures.ok
     (c.is_question_of.ensures.0 c.if-is_question_of.true)
 
@@ -20,6 +22,6 @@ returns-then-is_question_of-clause-within c =
 
 pub returns-else-is_question_of-clause-none : goal.returns-else-is_question_of-clause-none
 returns-else-is_question_of-clause-none c =
-    asks_other (asked_of c.args.query.now) c.args.is_first c.args.message.now c.in-Ok.end (question_by c.in-Ok.question)
+    asks_other (asked_of c.args.query.now) c.args.is_first c.args.message.now c.in-Ok.end (question_of labels_of c.in-Ok.question)
     (λ is. c.if-questions_in-eq0.false (c.questions_in.ensures ∙ is)) c.in-Ok.ensures.ok
     (λ is. let yes = c.is_question_of.ensures.1 is in let no = c.if-is_question_of.false in absurd cc)
