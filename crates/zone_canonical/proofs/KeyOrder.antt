@@ -19,8 +19,8 @@ then_assoc Greater b c = refl
 
 -- what an octet and the digits after it come to
 data Coded (octet digits more all : ℕ) : Type 0 where
-  inside : octet < 256 → all ≡ suc octet * 257 ^ digits + more → Coded octet digits more all
-  past : 256 ≤ octet → all ≡ 257 ^ suc digits - 1 → Coded octet digits more all
+  inside : octet < 256 → all ≡ suc octet * 512 ^ digits + more → Coded octet digits more all
+  past : 256 ≤ octet → all ≡ 512 ^ suc digits - 1 → Coded octet digits more all
 
 coded : (octet digits : ℕ) (label : List ℕ) (labels : List (List ℕ))
     → Coded octet digits (code digits label labels) (code (suc digits) (octet ∷ label) labels)
@@ -31,10 +31,10 @@ coded octet digits label labels =
       | false ↦ λ e. past (ltb-false octet 256 e) (simp e)
     ] refl
 
-pow_more : (digits : ℕ) → 257 ^ suc digits ≡ 257 * 257 ^ digits
-pow_more digits = pow-succ' 257 digits
+pow_more : (digits : ℕ) → 512 ^ suc digits ≡ 512 * 512 ^ digits
+pow_more digits = pow-succ' 512 digits
 
-pow_some : (digits : ℕ) → 0 < 257 ^ digits
+pow_some : (digits : ℕ) → 0 < 512 ^ digits
 pow_some zero = omega arith
 pow_some (suc digits) = omega (arith, pow_more digits, pow_some digits)
 
@@ -42,36 +42,36 @@ pow_some (suc digits) = omega (arith, pow_more digits, pow_some digits)
 less_digit : (digit other unit more : ℕ) → digit < other → more < unit → digit * unit + more < other * unit
 less_digit digit other unit more less few = omega (arith, mul-le-mul_right unit (let h : digit + 1 ≤ other = omega arith in h))
 
-pub code_bound : (digits : ℕ) (label : List ℕ) (labels : List (List ℕ)) → code digits label labels < 257 ^ digits
+pub code_bound : (digits : ℕ) (label : List ℕ) (labels : List (List ℕ)) → code digits label labels < 512 ^ digits
 unfolding code
 code_bound zero label labels = omega arith
 code_bound (suc digits) [] [] = pow_some (suc digits)
 code_bound (suc digits) [] (label ∷ labels) = omega (arith, code_bound digits label labels, pow_more digits)
 code_bound (suc digits) (octet ∷ label) labels =
-    elim (coded octet digits label labels) as (λ _. code (suc digits) (octet ∷ label) labels < 257 ^ suc digits) [
+    elim (coded octet digits label labels) as (λ _. code (suc digits) (octet ∷ label) labels < 512 ^ suc digits) [
       | inside few is ↦
           omega (
             arith,
             is,
             pow_more digits,
-            less_digit (suc octet) 257 (257 ^ digits) (code digits label labels) (omega arith) (code_bound digits label labels),
+            less_digit (suc octet) 512 (512 ^ digits) (code digits label labels) (omega arith) (code_bound digits label labels),
           )
       | past many is ↦ omega (arith, is, pow_some (suc digits))
     ]
 
 pub code_digit : (octet digits : ℕ) (label : List ℕ) (labels : List (List ℕ)) → octet < 256
-    → code (suc digits) (octet ∷ label) labels ≡ suc octet * 257 ^ digits + code digits label labels
+    → code (suc digits) (octet ∷ label) labels ≡ suc octet * 512 ^ digits + code digits label labels
 code_digit octet digits label labels few =
-    elim (coded octet digits label labels) as (λ _. code (suc digits) (octet ∷ label) labels ≡ suc octet * 257 ^ digits + code digits label labels) [
+    elim (coded octet digits label labels) as (λ _. code (suc digits) (octet ∷ label) labels ≡ suc octet * 512 ^ digits + code digits label labels) [
       | inside few' is ↦ is
       | past many is ↦ absurd (omega arith)
     ]
 
 -- an octet comes to more than what may stand in its place
-some_octet : (octet digits : ℕ) (label : List ℕ) (labels : List (List ℕ)) → 257 ^ digits ≤ code (suc digits) (octet ∷ label) labels
+some_octet : (octet digits : ℕ) (label : List ℕ) (labels : List (List ℕ)) → 512 ^ digits ≤ code (suc digits) (octet ∷ label) labels
 some_octet octet digits label labels =
-    elim (coded octet digits label labels) as (λ _. 257 ^ digits ≤ code (suc digits) (octet ∷ label) labels) [
-      | inside few is ↦ omega (arith, is, mul-le-mul_right (257 ^ digits) (let h : 1 ≤ suc octet = omega arith in h))
+    elim (coded octet digits label labels) as (λ _. 512 ^ digits ≤ code (suc digits) (octet ∷ label) labels) [
+      | inside few is ↦ omega (arith, is, mul-le-mul_right (512 ^ digits) (let h : 1 ≤ suc octet = omega arith in h))
       | past many is ↦ omega (arith, is, pow_more digits, pow_some digits)
     ]
 
@@ -82,7 +82,7 @@ less_octet octet other digits label others labels more less below =
     elim (coded octet digits label labels) as (λ _. ⊥) [
       | inside few is ↦ elim (coded other digits others more) as (λ _. ⊥) [
         | inside few' is' ↦
-            omega (arith, is, is', less_digit (suc other) (suc octet) (257 ^ digits) (code digits others more) (omega arith) (code_bound digits others more))
+            omega (arith, is, is', less_digit (suc other) (suc octet) (512 ^ digits) (code digits others more) (omega arith) (code_bound digits others more))
         | past many' is' ↦ omega arith
       ]
       | past many is ↦ omega (arith, is, code_bound (suc digits) (other ∷ others) more)
@@ -94,7 +94,7 @@ same_octet : (octet other digits : ℕ) (label others : List ℕ) (labels more :
 same_octet octet other digits label others labels more same below =
     elim (coded octet digits label labels) as (λ _. code digits label labels < code digits others more) [
       | inside few is ↦ elim (coded other digits others more) as (λ _. code digits label labels < code digits others more) [
-        | inside few' is' ↦ omega (arith, is, is', ap (λ n. suc n * 257 ^ digits) same)
+        | inside few' is' ↦ omega (arith, is, is', ap (λ n. suc n * 512 ^ digits) same)
         | past many' is' ↦ omega arith
       ]
       | past many is ↦ absurd (omega (arith, is, code_bound (suc digits) (other ∷ others) more))
@@ -136,7 +136,7 @@ unfolding front_key
 front_order [] [] less = absurd (omega arith)
 front_order [] (label ∷ other) less = refl
 front_order (label ∷ name) [] less = absurd (omega arith)
-front_order (label ∷ name) (label' ∷ other) less = code_order 15 label label' name other less
+front_order (label ∷ name) (label' ∷ other) less = code_order 14 label label' name other less
 
 -- how a label stands to that of the apex, and what the key then is
 data Beside (label of_apex : List ℕ) (rest key : ℕ) : Type 0 where
@@ -156,7 +156,7 @@ beside of_apex label apex name =
 key_most : (apex name : List (List ℕ)) → key_from apex name ≤ 2 ^ 128 - 1
 unfolding key_from front_key
 key_most [] [] = omega arith
-key_most [] (label ∷ name) = omega (arith, code_bound 15 label name)
+key_most [] (label ∷ name) = omega (arith, code_bound 14 label name)
 key_most (of_apex ∷ apex) [] = omega arith
 key_most (of_apex ∷ apex) (label ∷ name) =
     elim (beside of_apex label apex name) as (λ _. key_from (of_apex ∷ apex) (label ∷ name) ≤ 2 ^ 128 - 1) [

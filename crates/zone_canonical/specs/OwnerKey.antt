@@ -7,19 +7,19 @@ use Rattle.std.specs.declared.cmp.Ordering.TheVariants.{Less, Equal, Greater}
 use Rattle.std.specs.Cmp.Lexicographic.{slice_cmp}
 use Rattle.dns_label.specs.Name.{low}
 
--- So many digits of base 257 as one number: those of the rest of a label, and of the labels after it. An octet's digit is one more
+-- So many digits of base 512 as one number: those of the rest of a label, and of the labels after it. An octet's digit is one more
 -- than the octet, so that 0 is left for the end of a label. No octet is past 255.
 unfoldable pub code : ℕ → List ℕ → List (List ℕ) → ℕ
 code zero label labels = 0
 code (suc digits) [] [] = 0
 code (suc digits) [] (label ∷ labels) = code digits label labels
 code (suc digits) (octet ∷ label) labels =
-    if nat_lt octet 256 then suc octet * 257 ^ digits + code digits label labels else 257 ^ suc digits - 1
+    if nat_lt octet 256 then suc octet * 512 ^ digits + code digits label labels else 512 ^ suc digits - 1
 
 -- the key of a name under the apex, by its labels from the right without those of the apex
 unfoldable pub front_key : List (List ℕ) → ℕ
 front_key [] = 0
-front_key (label ∷ labels) = code 15 label labels
+front_key (label ∷ labels) = code 14 label labels
 
 -- the key of a name that differs from an apex at a label by this order: 0 before the names under it, and the most after them
 abbrev pub key_beside : Ordering → ℕ → ℕ

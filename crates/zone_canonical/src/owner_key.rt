@@ -1,6 +1,6 @@
 //! Keys of owners: numbers that have the order of most owners of a zone (RFC 4034 6.1).
 //!
-//! A key is the labels under the apex, from the right and in lower case, as fifteen digits of base 257. An octet's digit is one more
+//! A key is the labels under the apex, from the right and in lower case, as fourteen digits of base 512. An octet's digit is one more
 //! than the octet, and 0 ends a label:
 //!
 //! ```text
@@ -14,7 +14,7 @@ ghost use Rattle.zone_canonical.specs.OwnerKey.{TakesLast, code, front_key, key_
 use dns_name::{Name, NameIter, RelativeName, ToName};
 
 /// How many digits a key has.
-const DIGITS: usize = 15;
+const DIGITS: usize = 14;
 
 /// Returns the key of an owner beside an apex. Owners that are not under it have keys too. Of two owners with different keys, that
 /// with the lesser one comes first.
@@ -37,7 +37,7 @@ fn key_under(front: &RelativeName<&[u8]>) -> u128
     let mut digits = Digits::of_front(front);
     let mut key = 0;
     for _ in 0..DIGITS {
-        key = key * 257 + u128::from(digits.next_digit());
+        key = key * 512 + u128::from(digits.next_digit());
     }
     key
 }
@@ -54,7 +54,7 @@ struct Digits<'a> {
 impl<'a> Digits<'a> {
     /// The digits of the labels, from the right.
     fn of_front(front: &'a RelativeName<&[u8]>) -> Digits<'a>
-        ensures { code 15 (map to_ascii_lowercase result.label.now) (reverse (low result.labels)) ≡ front_key (reverse (low front.now)) }
+        ensures { code 14 (map to_ascii_lowercase result.label.now) (reverse (low result.labels)) ≡ front_key (reverse (low front.now)) }
     {
         let mut labels = front.iter();
         let label = last_label(&mut labels);
@@ -64,7 +64,7 @@ impl<'a> Digits<'a> {
     /// Takes the next digit. Behind the labels all of them are 0.
     fn next_digit(&mut self) -> u16
         ensures digit { (left : ℕ) → code (suc left) (map to_ascii_lowercase self.old.label.now) (reverse (low self.old.labels))
-            ≡ result * 257 ^ left + code left (map to_ascii_lowercase self.new.label.now) (reverse (low self.new.labels)) }
+            ≡ result * 512 ^ left + code left (map to_ascii_lowercase self.new.label.now) (reverse (low self.new.labels)) }
         ensures within { result ≤ 256 }
     {
         match self.label.split_first() {

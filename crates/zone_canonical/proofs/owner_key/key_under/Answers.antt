@@ -7,13 +7,13 @@ use Rattle.zone_canonical.proofs.owner_key.key_under.Goals as goal
 
 pub overflow_mul-key : goal.overflow_mul-key
 overflow_mul-key c =
-    omega (arith, key_fits (c.loop.key * 257 + 0) (c.loop.counter + 1) (key_more c.loop.key 0 c.loop.counter c.loop.invariant.fits (omega arith)) (omega arith))
+    omega (arith, key_fits (c.loop.key * 512 + 0) (c.loop.counter + 1) (key_more c.loop.key 0 c.loop.counter c.loop.invariant.fits (omega arith)) (omega arith))
 
 pub overflow_add-key : goal.overflow_add-key
 overflow_add-key c =
     omega (
       arith,
-      key_fits (c.loop.key * 257 + c.from.result) (c.loop.counter + 1)
+      key_fits (c.loop.key * 512 + c.from.result) (c.loop.counter + 1)
           (key_more c.loop.key c.from.result c.loop.counter c.loop.invariant.fits (omega arith)) (omega arith),
     )
 
@@ -23,7 +23,7 @@ loop-preserved c = record {
   whole = λ left within.
       key_whole _ c.loop.key c.from.result left _ _ (c.loop.invariant.whole (suc left) (omega arith))
       (c.next_digit.ensures.digit left
-      ∙ ap (λ d. d * 257 ^ left + code left (map to_ascii_lowercase c.next_digit.new.self.label.now) (reverse (low c.next_digit.new.self.labels))) (sym c.from.ensures));
+      ∙ ap (λ d. d * 512 ^ left + code left (map to_ascii_lowercase c.next_digit.new.self.label.now) (reverse (low c.next_digit.new.self.labels))) (sym c.from.ensures));
 }
 
 pub returns : goal.returns

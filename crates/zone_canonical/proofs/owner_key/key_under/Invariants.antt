@@ -7,7 +7,7 @@ use Rattle.zone_canonical.proofs.owner_key.key_under.Given as goal
 -- so many digits are in the key, and the others are those to come
 abbrev pub invariant-loop : goal.invariant-loop
 invariant-loop l = record {
-  fits : l.key < 257 ^ l.counter;
-  whole : (left : ℕ) → l.counter + left ≡ 15
-      → front_key (reverse (low l.front)) ≡ l.key * 257 ^ left + code left (map to_ascii_lowercase l.digits.label.now) (reverse (low l.digits.labels));
+  fits : l.key < 512 ^ l.counter;
+  whole : (left : ℕ) → l.counter + left ≡ 14
+      → front_key (reverse (low l.front)) ≡ l.key * 512 ^ left + code left (map to_ascii_lowercase l.digits.label.now) (reverse (low l.digits.labels));
 }
