@@ -4,11 +4,11 @@ use Rattle.std.proofs.Math.Logic.{∥∥₁_elim}
 use Rattle.std.specs.List.{AllByRecursion}
 use Rattle.dns_rdata.specs.Data.{Data, ReadsData, number_of, typed, untyped}
 use Rattle.dns_rdata.specs.DataOctets.{data_octets}
-use Rattle.dns_rdata.specs.Fields.{IsData}
+use Rattle.dns_rdata.specs.Fields.{IsData, IsRow, kinds_of}
 use Rattle.dns_rdata.specs.ZoneData.{data_of}
 use Rattle.dns_rdata.specs.declared.zone_record_data.ZoneRecordData.{ZoneRecordData}
 use Rattle.zone_octets.specs.Record.{Record}
-use Rattle.zone_octets.specs.Typed.{HasLawfulData}
+use Rattle.zone_octets.specs.Typed.{HasFieldsOfType, HasLawfulData}
 use Rattle.zone_octets.proofs.Decided.{Decided, decided_octets}
 use Rattle.zone_octets.proofs.ReadData.{data_typed_at, none_read}
 
@@ -46,3 +46,8 @@ module _ (records : List Record) (index : ℕ) (other : Record) (within : index 
 pub number_read : (message : List ℕ) (place rtype : ℕ) (read : Data) → ReadsData message place rtype read → number_of read ≡ rtype
 number_read message place rtype (typed number row) reads = reads.0
 number_read message place rtype (untyped unknown) reads = reads.1.of_type
+
+-- it is in fields exactly if the type has some
+pub fields_read : (message : List ℕ) (place rtype : ℕ) (read : Data) → ReadsData message place rtype read → HasFieldsOfType read
+fields_read message place rtype (typed number row) reads = subst (λ n. IsRow n row) (sym reads.0) reads.1.is_row
+fields_read message place rtype (untyped unknown) reads = ap kinds_of reads.1.of_type ∙ reads.0

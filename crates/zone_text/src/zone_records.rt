@@ -76,6 +76,7 @@ impl<'a> ZoneRecord<'a> {
     ghost use Rattle.dns_rdata.specs.Data.{number_of};
     ghost use Rattle.dns_rdata.specs.DataOctets.{data_octets};
     ghost use Rattle.dns_rdata.specs.ZoneData.{data_of};
+    ghost use Rattle.zone_octets.specs.Typed.{HasFieldsOfType};
     ghost use Rattle.zone_text.specs.Seen.{seen_record};
 
     /// The name that the record is about.
@@ -117,6 +118,7 @@ impl<'a> ZoneRecord<'a> {
     pub fn parse_data(&self) -> ZoneRecordData<&'a [u8], ParsedName<&'a [u8]>>
         ensures rtype { number_of (data_of result) ≡ (seen_record self.now).rtype }
         ensures octets { data_octets (data_of result) ≡ (seen_record self.now).rdata }
+        ensures fields { HasFieldsOfType (data_of result) }
     {
         let mut parser = Parser::from_ref(self.data());
         match ZoneRecordData::parse_any_rdata(self.rtype(), &mut parser) {
