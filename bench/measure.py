@@ -6,7 +6,7 @@ peak of its memory, for `send` (zone text to stream, names in full and with poin
 `canon` (zone text to its canonical octets). Of the others those that are installed read the same text, a plain one with one NS record
 more, without which some take no zone. Times are also given as a ratio of that of `send` with names in full. Each is run three times,
 and the fastest counts. A peak below some 20 MB is that of the measuring program itself. A star marks a reader that found a fault
-in the zone, as a name server without an address."""
+in the zone, as a name server without an address. `libzscanner` is the scan of Knot's library alone, built from bench/libzscanner.c."""
 import argparse
 import filecmp
 import os
@@ -50,8 +50,9 @@ def fastest(words, stdin, stdout, must_pass=True):
 
 
 def peers(text):
-    """The command of each other zone reader on the zone's text, and the Debian package that has it."""
+    """The command of each other zone reader on the zone's text, and the Debian packages that it takes."""
     return {
+        "libzscanner": ([text, generate.APEX], "gcc, libknot-dev"),
         "kzonecheck": (["-o", ZONE, text], "knot-dnssecutils"),
         "nsd-checkzone": ([ZONE, text], "nsd"),
         "named-compilezone": (["-q", "-i", "none", "-o", os.devnull, ZONE, text], "bind9-utils"),
@@ -59,13 +60,24 @@ def peers(text):
     }
 
 
+# Where the scan of libzscanner is built.
+BUILT = tempfile.TemporaryDirectory()
+
+
+def build_scan():
+    """Builds the scan of libzscanner, where a C compiler and the library are installed."""
+    source, program = Path(__file__).with_name("libzscanner.c"), f"{BUILT.name}/libzscanner"
+    if shutil.which("cc"):
+        subprocess.run(["cc", "-O2", "-o", program, source, "-lzscanner"], stderr=subprocess.DEVNULL, check=False)
+
+
 def find(name):
-    """Where a program is installed, or nothing. Some lie where only root's PATH leads."""
-    return shutil.which(name, path=f"{os.environ.get('PATH', os.defpath)}:/usr/sbin:/sbin")
+    """Where a program is built or installed, or nothing. Some lie where only root's PATH leads."""
+    return shutil.which(name, path=f"{BUILT.name}:{os.environ.get('PATH', os.defpath)}:/usr/sbin:/sbin")
 
 
 def report_missing():
-    missing = [f"{name} (Debian package {package})" for name, (_, package) in peers("").items() if not find(name)]
+    missing = [f"{name} (Debian: {package})" for name, (_, package) in peers("").items() if not find(name)]
     if missing:
         print(f"Not installed, so not measured: {', '.join(missing)}.")
 
@@ -135,6 +147,7 @@ def main():
     parser.add_argument("program", help="the proved program")
     parser.add_argument("records", nargs="*", type=int, default=SIZES, help="sizes of the zones")
     arguments = parser.parse_args()
+    build_scan()
     report_missing()
     with tempfile.TemporaryDirectory() as folder:
         for records in arguments.records:
