@@ -1,5 +1,5 @@
 -- Facts on words for numbers.
-use Rattle.std.proofs.Common.{sym, Option, Bool, option_and_then, ◌≡◌, ◌<◌, ◌^◌, ℕ, true, false, List, length, Some, None, Result, Ok, Err, arith, refl, ◌∙◌, ap, map, take, drop, ◌++◌, ◌+◌, ◌≤◌, get_or, drop-cons, add-one, length-take, cond, nat_lt, ◌==◌, ◌&&◌, rules}
+use Rattle.std.proofs.Common.{sym, Option, Bool, option_and_then, ◌≡◌, ◌<◌, ◌^◌, ℕ, true, false, List, length, Some, None, Result, Ok, Err, arith, refl, ap, map, take, drop, ◌++◌, ◌+◌, ◌≤◌, get_or, drop-cons, add-one, length-take, cond, nat_lt, ◌==◌, ◌&&◌, rules}
 use Rattle.std.specs.Borrow.{Bor}
 use Rattle.std.proofs.lemmas.List.{length-map, drop_all}
 use Rattle.std.specs.Char.{is_ascii_digit, to_ascii_lowercase}
@@ -97,12 +97,11 @@ unfolding number_named
 number_named-hit table word i d within same = rw (drop-cons table i d within, same_text _ _ same) refl
 
 pub number_named-miss : (table : List (ℕ × Bor (List ℕ))) (word : List ℕ) (i : ℕ) (d : ℕ × Bor (List ℕ)) → i < length table
-    → (text : List ℕ) → text ≡ (get_or table i d).1.now
-    → (map to_ascii_lowercase text ≡ map to_ascii_lowercase word → false ≡ true)
+    → (map to_ascii_lowercase (get_or table i d).1.now ≡ map to_ascii_lowercase word → false ≡ true)
     → number_named (rows_of (drop i table)) word ≡ number_named (rows_of (drop (i + 1) table)) word
 unfolding number_named
-number_named-miss table word i d within text here differ =
-    let apart : map to_ascii_lowercase (get_or table i d).1.now ≡ map to_ascii_lowercase word → ⊥ = λ same. let e : false ≡ true = differ (ap (map to_ascii_lowercase) here ∙ same) in cc in
+number_named-miss table word i d within differ =
+    let apart : map to_ascii_lowercase (get_or table i d).1.now ≡ map to_ascii_lowercase word → ⊥ = λ same. let e : false ≡ true = differ same in cc in
     rw (drop-cons table i d within, other_text _ _ apart, add-one) refl
 
 pub number_named-none : (table : List (ℕ × Bor (List ℕ))) (word : List ℕ) (i : ℕ) → length table ≤ i

@@ -1,6 +1,6 @@
 //! Words for numbers of 16 bits: a mnemonic of a table, or a prefix and the number.
-ghost use Rattle.std.specs.Prelude.{◌≡◌, ◌^◌};
-ghost use Rattle.std.specs.Char.{is_ascii_digit};
+ghost use Rattle.std.specs.Prelude.{◌≡◌, ◌^◌, ◌↔◌, IsTrue, map};
+ghost use Rattle.std.specs.Char.{is_ascii_digit, to_ascii_lowercase};
 ghost use Rattle.std.specs.List.{list_all};
 ghost use Rattle.std.specs.Option.{option_copied};
 ghost use Rattle.dns_values.specs.Mnemonic as word_of;
@@ -25,11 +25,18 @@ fn number_named(table: &[Mnemonic], word: &[u8]) -> Option<u16>
     ensures { result ≡ word_of.number_named (word_of.rows_of table.now) word.now }
 {
     for row in table {
-        if row.1.as_bytes().eq_ignore_ascii_case(word) {
+        if is_named_by(word, row.1) {
             return Some(row.0);
         }
     }
     None
+}
+
+/// Returns whether the word is the mnemonic, in any case. Most mnemonics are of another length, which is seen first.
+fn is_named_by(word: &[u8], mnemonic: &str) -> bool
+    ensures { IsTrue result ↔ (map to_ascii_lowercase mnemonic.now ≡ map to_ascii_lowercase word.now) }
+{
+    mnemonic.len() == word.len() && mnemonic.as_bytes().eq_ignore_ascii_case(word)
 }
 
 /// The number behind the prefix, which may be in any case.
@@ -67,10 +74,9 @@ pub(crate) fn number_spelled(digits: &[u8]) -> Option<u32>
     if !is_digits(digits) {
         return None;
     }
-    match str::from_utf8(digits) {
-        Ok(text) => text.parse().ok(),
-        Err(_) => None,
-    }
+    // Digits are ASCII.
+    let text = unsafe { str::from_utf8_unchecked(digits) };
+    text.parse().ok()
 }
 
 /// Whether these are decimal digits alone.

@@ -4,6 +4,6 @@ use Rattle.dns_values.proofs.mnemonic.number_named.Goals as goal
 
 pub loop-row-preserved : goal.loop-row-preserved
 loop-row-preserved c =
-    sym (number_named-miss c.args.table.now c.args.word.now c.loop-row.row-index _ (omega arith) _
-    c.as_bytes.ensures.value c.if-eq_ignore_ascii_case.ensures.test.1)
+    sym (number_named-miss c.args.table.now c.args.word.now c.loop-row.row-index _ (omega arith)
+    c.if-is_named_by.ensures.1)
     ∙ c.loop-row.invariant
