@@ -4,3 +4,4 @@ pub mod Gap
 pub mod RowToken
 pub mod RowScanner
 pub mod AppendedName
+pub mod AppendedString

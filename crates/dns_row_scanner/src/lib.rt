@@ -3,12 +3,14 @@
 //! A part of `dns_zonefile`.
 #![tactic(auto)]
 
+mod appended_name;
+mod appended_string;
 mod entry_error;
 mod entry_scanner;
 mod gap;
 mod inline_name;
-mod name_scanner;
 mod octets;
+mod octets_scanner;
 mod row_scanner;
 mod row_token;
 mod scanned_name;
@@ -19,7 +21,7 @@ use dns_name::{Chain, Name, RelativeName};
 pub use entry_error::EntryError;
 pub use entry_scanner::EntryScanner;
 pub use inline_name::to_inline_name;
-pub use name_scanner::NameScanner;
+pub use octets_scanner::OctetsScanner;
 pub use row_scanner::RowScanner;
 pub use scanned_name::{absolute, scan_name};
 pub use text_name::TextName;

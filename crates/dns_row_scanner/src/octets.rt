@@ -11,7 +11,7 @@ use dns_scan::CharStr;
 use std::alloc::Global;
 
 /// Returns whether these are printable characters other than the backslash. Each of them is a symbol that stands for itself.
-fn are_plain(text: &[u8]) -> bool
+pub(crate) fn are_plain(text: &[u8]) -> bool
     ensures { result ≡ list_all is_plain text.now }
 {
     text.iter().all(|&octet| is_plain(octet))
@@ -32,10 +32,8 @@ pub(crate) fn plain_text(text: &[u8]) -> Option<&str>
     if !are_plain(text) {
         return None;
     }
-    match std::str::from_utf8(text) {
-        Ok(word) => Some(word),
-        Err(_) => unreachable!(),
-    }
+    // Printable characters are ASCII.
+    Some(unsafe { std::str::from_utf8_unchecked(text) })
 }
 
 /// Returns the octets that a text spells, each by a symbol. A text without a backslash is copied whole.

@@ -7,7 +7,7 @@ ghost use Rattle.dns_scan.specs.Token.{SameNames};
 ghost use Rattle.dns_tokens.specs.TokenSpan.{token_in};
 ghost use Rattle.dns_tokens.specs.declared.token_span.TokenSpan.{TokenSpan};
 
-mod names;
+mod appended;
 mod scans;
 
 use crate::row_token::RowToken;

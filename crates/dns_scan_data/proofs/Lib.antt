@@ -1,3 +1,4 @@
 mod InFull
 mod Names
+mod Strings
 pub mod Appending

@@ -12,7 +12,7 @@ use dns_rdata::rows::{
     ARow, AaaaRow, CaaRow, DnskeyRow, DsRow, HinfoRow, MinfoRow, MxRow, NameRow, RpRow, SoaRow,
     SrvRow, TxtRow,
 };
-use dns_row_scanner::NameScanner;
+use dns_row_scanner::OctetsScanner;
 use dns_text::{Scanner, ScannerError, scan_unknown_octets};
 
 /// Scans data of the type from the first tokens, takes these, and appends the data's octets with every name written out
@@ -23,7 +23,7 @@ use dns_text::{Scanner, ScannerError, scan_unknown_octets};
 ///
 /// Fails with an error other than `short_buf` only if the tokens do not begin with data of the type of at most 65,535 octets.
 /// Nothing is appended then.
-pub fn scan_data_into<S: NameScanner>(
+pub fn scan_data_into<S: OctetsScanner>(
     rtype: Rtype,
     scanner: &mut S,
     octets: &mut Vec<u8>,
@@ -69,7 +69,7 @@ fn scan_opaque_into<S: Scanner>(
 }
 
 /// Scans the fields of data of the type.
-fn scan_typed_into<S: NameScanner>(
+fn scan_typed_into<S: OctetsScanner>(
     rtype: Rtype,
     scanner: &mut S,
     octets: &mut Vec<u8>,
@@ -92,7 +92,7 @@ where
 }
 
 /// Scans the row of the type, if it has one.
-fn scan_row_of_type<S: NameScanner>(
+fn scan_row_of_type<S: OctetsScanner>(
     rtype: Rtype,
     scanner: &mut S,
     octets: &mut Vec<u8>,

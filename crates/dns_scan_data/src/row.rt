@@ -7,6 +7,7 @@ ghost use Rattle.dns_scan_data.specs.Appended.{AppendsRow, GoesOn};
 use crate::ScanFieldInto;
 use dns_name::FromBuilder;
 use dns_rdata::rows::{Last, Rest16, Rest64, RestText, Row, ScanRow, Strings};
+use dns_row_scanner::OctetsScanner;
 use dns_text::{Scanner, ScannerError};
 
 /// A row that is scanned into octets.
@@ -42,9 +43,14 @@ impl<S: Scanner, A: ScanFieldInto<S>, B: ScanRowInto<S>> ScanRowInto<S> for (A, 
     }
 }
 
-impl<Octs: FromBuilder + Drop, S: Scanner<Octets = Octs>> ScanRowInto<S> for Last<RestText<Octs>> {
+impl<Octs: FromBuilder + Drop, S: OctetsScanner<Octets = Octs>> ScanRowInto<S>
+    for Last<RestText<Octs>> {
+    #[tactic(auto, using(crate::proofs::Strings::text_gone))]
     fn scan_fields_into(scanner: &mut S, octets: &mut Vec<u8>) -> Result<(), S::Error> {
-        scan_and_append::<S, Last<RestText<Octs>>>(scanner, octets)
+        match scanner.scan_octets_into(octets) {
+            Ok(()) => Ok(()),
+            Err(error) => Err(error),
+        }
     }
 }
 
@@ -60,9 +66,17 @@ impl<Octs: FromBuilder + Drop, S: Scanner<Octets = Octs>> ScanRowInto<S> for Las
     }
 }
 
-impl<Octs: FromBuilder + Drop, S: Scanner<Octets = Octs>> ScanRowInto<S> for Last<Strings<Octs>> {
+/// Each token is a string. One is needed at least.
+impl<Octs: FromBuilder + Drop, S: OctetsScanner<Octets = Octs>> ScanRowInto<S>
+    for Last<Strings<Octs>> {
     fn scan_fields_into(scanner: &mut S, octets: &mut Vec<u8>) -> Result<(), S::Error> {
-        scan_and_append::<S, Last<Strings<Octs>>>(scanner, octets)
+        if !scanner.continues() {
+            return Err(S::Error::end_of_entry());
+        }
+        match scanner.scan_charstr_entry_into(octets) {
+            Ok(()) => Ok(()),
+            Err(error) => Err(error),
+        }
     }
 }
 

@@ -8,6 +8,7 @@ use dns_name::{OctetKind, run_end};
 use std::simd::prelude::*;
 
 /// Returns where the octets end that stand in a token for themselves, one after another from the place on.
+#[inline(always)]
 pub(crate) fn plain_end(text: &[u8], place: usize, quoted: bool) -> usize
     requires { place ≤ length text.now }
     ensures end { result ≡ place + prefix_len (is_plain_in quoted) (drop place text.now) }

@@ -14,7 +14,8 @@ pub(crate) struct TokenEnd {
     pub(crate) has_escape: bool,
 }
 
-/// Returns where the longest run of a token's symbols ends that begins at the place.
+/// Returns where the longest run of a token's symbols ends that begins at the place. Each token takes one call, so it is inlined.
+#[inline(always)]
 pub(crate) fn token_end(text: &[u8], place: usize, quoted: bool) -> TokenEnd
     requires { place ≤ length text.now }
     ensures run { RunsTo quoted text.now place result }

@@ -1,6 +1,6 @@
 -- What a reader gives, handed on as values or as octets.
 use Rattle.std.proofs.Common.{◌≡◌, ℕ, List, Option, Some, None, Ok, Err, String, Global, refl, sym, subst, ◌∙◌, ap}
-use Rattle.std.specs.Prelude.{Result, option_map, string_bytes}
+use Rattle.std.specs.Prelude.{Result, IfErr, IfOk, OnErr, option_map, string_bytes}
 use Rattle.dns_row_scanner.specs.NameInText.{SpellsUnder}
 use Rattle.dns_row_scanner.specs.declared.entry_error.EntryError.{EntryError}
 use Rattle.dns_text.specs.Rows.{TokenRow}
@@ -11,8 +11,9 @@ use Rattle.dns_zonefile.specs.Entry.Entry.{Include}
 use Rattle.dns_zonefile.specs.Reader.{Gives, Reader}
 use Rattle.dns_zonefile.specs.ReaderSeen.{given_in, given_of}
 use Rattle.dns_zonefile.specs.RowRead.{Form, GivesInForm, IsGiven, IsInForm}
-use Rattle.dns_zonefile.specs.Seen.{entry_of}
+use Rattle.dns_zonefile.specs.Seen.{context_of, entry_of}
 use Rattle.dns_zonefile.specs.Statement.{Says, Statement}
+use Rattle.dns_zonefile.specs.declared.context.Context as kept
 use Rattle.dns_zonefile.specs.declared.entry.ComposedEntry.TheVariants as composed
 use Rattle.dns_zonefile.specs.declared.entry.ComposedEntry.{ComposedEntry}
 use Rattle.dns_zonefile.specs.declared.entry.Entry as found
@@ -80,11 +81,6 @@ pub spelled_origin : (origin : Option (List (List ℕ))) → option_map spelled 
 spelled_origin None = refl
 spelled_origin (Some name) = refl
 
-pub none_handed : (entry : Option (found.Entry (List (List ℕ)))) → entry ≡ None → (octets : List ℕ)
-    → IsHandedOn octets (entry_of spelled entry) None octets
-none_handed entry is octets =
-    subst (λ (e : Option (found.Entry (List (List ℕ)))). IsHandedOn octets (entry_of spelled e) None octets) (sym is) (refl, refl)
-
 pub include_handed : (entry : Option (found.Entry (List (List ℕ)))) (path : String Global) (origin : Option (List (List ℕ)))
     → entry ≡ Some (entries.Include path origin) → (octets : List ℕ)
     → IsHandedOn octets (entry_of spelled entry) (Some (composed.Include path origin)) octets
@@ -94,3 +90,37 @@ include_handed entry path origin is octets =
       subst (λ (o : Option (List (List ℕ))). HandsOn octets (Ok (Some (Include (string_bytes path) o))) (Ok (Some (composed.Include path origin))) octets)
           (sym (spelled_origin origin)) HandsOn.include,
     )
+
+-- an include sets nothing
+file_after : {context after : Context} {statement : Statement} {entry : Entry} {path : List ℕ} {origin : Option (List (List ℕ))}
+    → Enters context statement entry after → entry ≡ Include path origin → after ≡ context
+file_after Enters.origin is = let no : ⊥ = cc in absurd no
+file_after Enters.ttl is = let no : ⊥ = cc in absurd no
+file_after Enters.file is = refl
+file_after (Enters.resource is_owner is_class known) is = let no : ⊥ = cc in absurd no
+
+abbrev kept_by : Context → kept.Context
+kept_by context = record {
+  origin = context.origin;
+  owner = context.owner;
+  default_ttl = context.default_ttl;
+  last_ttl = context.last_ttl;
+  class = context.class;
+}
+
+pub include_stays : (old new : kept.Context) {statement : Statement} {entry : Entry} {path : List ℕ} {origin : Option (List (List ℕ))}
+    → Enters (context_of old) statement entry (context_of new) → entry ≡ Include path origin → new ≡ old
+include_stays old new enters is = ap kept_by (file_after enters is)
+
+-- what holds of every value, and of every error
+pub if_ok_each : {T E : Type 0} (result : Result T E) (P Q : T → Type 0) → ((value : T) → P value → Q value) → IfOk result P → IfOk result Q
+if_ok_each (Ok value) P Q each is = each value is
+if_ok_each (Err error) P Q each is = tt
+
+pub if_err_each : {T E : Type 0} (result : Result T E) (P Q : E → Type 0) → ((error : E) → P error → Q error) → IfErr result P → IfErr result Q
+if_err_each (Ok value) P Q each is = tt
+if_err_each (Err error) P Q each is = each error is
+
+pub on_err_each : {T E : Type 0} (result : Result T E) (P : E → Type 0) (Q : Type 0) → ((error : E) → P error → Q) → IfErr result P → OnErr result Q
+on_err_each (Ok value) P Q each is = tt
+on_err_each (Err error) P Q each is = each error is

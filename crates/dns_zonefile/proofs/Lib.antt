@@ -12,3 +12,4 @@ pub mod GivenEntries
 pub mod Lengthened
 mod Forms
 mod ComposedRows
+mod LastOwners

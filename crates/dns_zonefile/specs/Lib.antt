@@ -10,3 +10,4 @@ pub mod ReaderSeen
 pub mod RowRead
 pub mod Composed
 pub mod ComposedRow
+pub mod LastOwner

@@ -8,18 +8,18 @@ ghost use Rattle.dns_zonefile.specs.Entry.{Enters, at_start};
 ghost use Rattle.dns_zonefile.specs.Seen.{context_of, entry_of, stated_of, statement_of};
 ghost use Rattle.dns_zonefile.specs.Statement.Statement.{SetOrigin, StateRecord};
 
+use crate::last_owner::LastOwner;
 use crate::{Entry, Stated, Statement};
 use dns_header::Record;
-use dns_name::{Class, Name, ToName, Ttl};
-use dns_row_scanner::{EntryError, InlineName, TextName, to_inline_name};
+use dns_name::{Class, Name, Octets, ToName, Ttl};
+use dns_row_scanner::{EntryError, TextName, to_inline_name};
 use std::alloc::Global;
 
 /// What the rows before have set.
 #[derive(Debug, Drop)]
 pub(crate) struct Context {
     pub(crate) origin: Option<Name<Vec<u8>>>,
-    /// The owner of the last record.
-    pub(crate) owner: Option<InlineName>,
+    pub(crate) owner: LastOwner,
     /// The value of `$TTL`.
     pub(crate) default_ttl: Option<Ttl>,
     /// The last TTL that a record stated.
@@ -43,7 +43,7 @@ impl Context {
     {
         Context {
             origin: None,
-            owner: None,
+            owner: LastOwner::none(),
             default_ttl: None,
             last_ttl: Ttl::HOUR,
             class: None,
@@ -121,19 +121,24 @@ impl Context {
         };
         let last_owner = to_inline_name(&owner);
         let resource = Record::new(owner, known.class, known.ttl, rdata);
-        self.take_over(last_owner, known.last_ttl, known.class);
+        self.take_over(&last_owner, known.last_ttl, known.class);
         Ok(Some(Entry::Record(resource)))
     }
 
     /// Takes over what a record sets.
-    pub(crate) fn take_over(&mut self, owner: InlineName, last_ttl: Ttl, class: Class)
+    pub(crate) fn take_over<Octs: Octets>(
+        &mut self,
+        owner: &Name<Octs>,
+        last_ttl: Ttl,
+        class: Class,
+    )
         ensures { context_of self.new ≡ record (context_of self.old) {
-          owner = Some owner;
+          owner = Some owner.now;
           last_ttl = last_ttl;
           class = Some class;
         } }
     {
-        self.owner = Some(owner);
+        self.owner.set(owner);
         self.last_ttl = last_ttl;
         self.class = Some(class);
     }
@@ -174,8 +179,8 @@ impl Context {
         ensures err { IfErr result (λ error. is_memory error ≡ false → self.now.owner ≡ None) }
         ensures same { OnErr result (octets.new.items ≡ octets.old.items) }
     {
-        match &self.owner {
-            Some(owner) => append_name(owner, octets),
+        match self.owner.get() {
+            Some(owner) => append_name(&owner, octets),
             None => Err(EntryError::Custom("no owner stated before")),
         }
     }
@@ -196,15 +201,15 @@ impl Context {
         ensures ok { IfOk result (λ owner. self.now.owner ≡ Some (N.name owner)) }
         ensures err { IfErr result (λ error. is_memory error ≡ false → self.now.owner ≡ None) }
     {
-        let Some(owner) = &self.owner else {
+        let Some(owner) = self.owner.get() else {
             return Err(EntryError::Custom("no owner stated before"));
         };
-        Ok(N::of_name(alloc, owner)?)
+        Ok(N::of_name(alloc, &owner)?)
     }
 }
 
 /// Appends the octets of a name. Fails with `OutOfMemory`, and changes nothing then.
-fn append_name(name: &InlineName, octets: &mut Vec<u8>) -> Result<(), EntryError>
+fn append_name(name: &Name<&[u8]>, octets: &mut Vec<u8>) -> Result<(), EntryError>
     ensures ok { OnOk result (IsName name.now × (octets.new.items ≡ octets.old.items ++ wire name.now)) }
     ensures err { IfErr result (λ error. is_memory error ≡ true) }
     ensures same { OnErr result (octets.new.items ≡ octets.old.items) }

@@ -1,8 +1,8 @@
 //! Entries of zone files.
 use dns_header::Record;
-use dns_name::ToName;
+use dns_name::{Name, ToName};
 use dns_rdata::ZoneRecordData;
-use dns_row_scanner::{InlineName, ScannedName, ScannedString};
+use dns_row_scanner::{ScannedName, ScannedString};
 
 /// The data of a record that is scanned.
 pub type ScannedRecordData = ZoneRecordData<Vec<u8>, ScannedName>;
@@ -37,6 +37,6 @@ pub enum ComposedEntry {
         /// The path of the file.
         path: ScannedString,
         /// The origin for the file, if the row states one.
-        origin: Option<InlineName>,
+        origin: Option<Name<Vec<u8>>>,
     },
 }

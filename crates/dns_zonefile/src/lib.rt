@@ -10,12 +10,13 @@ mod context;
 mod entry;
 mod entry_form;
 mod error;
+mod last_owner;
 pub mod laws;
 mod statement;
 mod zonefile;
 
 pub use dns_row_scanner::{
-    EntryError, EntryScanner, InlineName, NameScanner, RowScanner, ScannedName, ScannedString,
+    EntryError, EntryScanner, InlineName, OctetsScanner, RowScanner, ScannedName, ScannedString,
     TextName, absolute, scan_name, to_inline_name,
 };
 pub use dns_tokens::{BrokenRow, RowFound, RowReader, TokenSpan, read_row};

@@ -4,7 +4,6 @@ use super::RowScanner;
 use crate::gap::ends_white;
 use crate::octets::{octets_of, string_of};
 use crate::{EntryError, TextName};
-use dns_name::Compose;
 use dns_scan::{CharStr, Scanner};
 
 impl<'t, N: TextName> Scanner for RowScanner<'t, N> {
@@ -85,16 +84,8 @@ impl<'t, N: TextName> Scanner for RowScanner<'t, N> {
 
     fn scan_charstr_entry(&mut self) -> Result<Vec<u8>, EntryError> {
         let mut wire = Vec::new(self.alloc);
-        loop {
-            let Ok(token) = self.take_token() else {
-                return Ok(wire);
-            };
-            let string = string_of(self.alloc, token.text)?;
-            match string.compose(&mut wire) {
-                Ok(()) => {}
-                Err(_) => return Err(EntryError::OutOfMemory),
-            }
-        }
+        self.append_strings(&mut wire)?;
+        Ok(wire)
     }
 
     fn scan_ascii_entry(&mut self) -> Result<String, EntryError> {

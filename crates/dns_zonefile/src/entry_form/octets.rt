@@ -1,5 +1,5 @@
 //! Records as octets behind a vector, composed where they are scanned.
-ghost use Rattle.std.specs.Prelude.{◌≡◌, ◌∷◌, ◌++◌, List, ℕ, [], Some, Ok, true, false, IfErr, IfOk, OnErr, OnOk};
+ghost use Rattle.std.specs.Prelude.{◌≡◌, ◌∷◌, ◌++◌, List, ℕ, [], Option, Some, Ok, true, false, IfErr, IfOk, OnErr, OnOk};
 ghost use Rattle.dns_header.specs.Head.{fixed_octets};
 ghost use Rattle.dns_header.specs.Record.{RecordOf};
 ghost use Rattle.dns_rdata.specs.Data.{Data, ScansAnyData};
@@ -10,7 +10,7 @@ ghost use Rattle.dns_scan.specs.Token.{SameNames};
 ghost use Rattle.dns_zonefile.specs.ComposedRow.{BeginsWithName, ComposesData, ComposesRecord, HasNoOwner, IsHandedOn, OwnerStands};
 ghost use Rattle.dns_zonefile.specs.Entry as spec;
 ghost use Rattle.dns_zonefile.specs.Entry.{Enters};
-ghost use Rattle.dns_zonefile.specs.Entry.Entry.{Resource};
+ghost use Rattle.dns_zonefile.specs.Entry.Entry.{Include, Resource};
 ghost use Rattle.dns_zonefile.specs.Seen.{context_of, entry_of, row_of};
 ghost use Rattle.dns_zonefile.specs.Statement.{IsDirective, Says, Statement};
 
@@ -19,11 +19,11 @@ use crate::context::Context;
 use crate::statement::{begins_directive, scan_directive, scan_head};
 use crate::{ComposedEntry, Entry};
 use dns_name::{Class, Composer, Name, Rtype, ToName, Ttl};
-use dns_row_scanner::{EntryError, InlineName, NameScanner, RowScanner, to_inline_name};
+use dns_row_scanner::{EntryError, InlineName, OctetsScanner, RowScanner};
 use dns_scan_data::scan_data_into;
 use dns_text::Scanner;
 use dns_tokens::TokenSpan;
-use std::alloc::Global;
+use std::alloc::{AllocError, Global};
 
 /// A record whose octets were appended: what its row sets, and whether its data is opaque.
 #[derive(Clone, Copy)]
@@ -65,7 +65,7 @@ impl EntryForm for Vec<u8> {
                 Err(error) => return Err(error),
             };
             return match context.enter(alloc, statement) {
-                Ok(entry) => Ok(composed_of(entry)),
+                Ok(entry) => composed_of(alloc, entry),
                 Err(error) => Err(error),
             };
         }
@@ -73,7 +73,7 @@ impl EntryForm for Vec<u8> {
         match append_record(led, context, &mut scanner, self) {
             Ok(composed) => {
                 let owner = owner_in(&self[len..], composed.owner_len);
-                context.take_over(owner, composed.last_ttl, composed.class);
+                context.take_over(&owner, composed.last_ttl, composed.class);
                 Ok(Some(ComposedEntry::Record {
                     untyped: composed.untyped,
                 }))
@@ -86,15 +86,40 @@ impl EntryForm for Vec<u8> {
     }
 }
 
-/// Returns what is given of an entry that is no record.
-fn composed_of(entry: Option<Entry<InlineName>>) -> Option<ComposedEntry>
+/// Returns what is given of an entry that is no record. Fails with `OutOfMemory`, and only for an include.
+fn composed_of(
+    alloc: Global,
+    entry: Option<Entry<InlineName>>,
+) -> Result<Option<ComposedEntry>, EntryError>
     requires { (rr : RecordOf (List (List ℕ)) Data) → entry_of ⟦<InlineName as ToName>⟧.name entry ≡ Resource rr → ⊥ }
-    ensures { (octets : List ℕ) → IsHandedOn octets (entry_of ⟦<InlineName as ToName>⟧.name entry) result octets }
+    ensures ok { IfOk result (λ given. (octets : List ℕ)
+        → IsHandedOn octets (entry_of ⟦<InlineName as ToName>⟧.name entry) given octets) }
+    ensures err { IfErr result (λ error. (is_memory error ≡ true) × ((path : List ℕ) × (origin : Option (List (List ℕ)))
+        × (entry_of ⟦<InlineName as ToName>⟧.name entry ≡ Include path origin))) }
 {
     match entry {
-        None => None,
-        Some(Entry::Include { path, origin }) => Some(ComposedEntry::Include { path, origin }),
+        None => Ok(None),
+        Some(Entry::Include { path, origin }) => match origin_in_vec(alloc, origin) {
+            Ok(origin) => Ok(Some(ComposedEntry::Include { path, origin })),
+            Err(_) => Err(EntryError::OutOfMemory),
+        },
         Some(Entry::Record(_)) => unreachable!(),
+    }
+}
+
+/// Returns the origin for a file in a vector, so that what is given of a record is small.
+fn origin_in_vec(
+    alloc: Global,
+    origin: Option<InlineName>,
+) -> Result<Option<Name<Vec<u8>>>, AllocError>
+    ensures { IfOk result (λ in_vec. in_vec ≡ origin) }
+{
+    match origin {
+        Some(origin) => match origin.to_vec(alloc) {
+            Ok(origin) => Ok(Some(origin)),
+            Err(error) => Err(error),
+        },
+        None => Ok(None),
     }
 }
 
@@ -166,12 +191,11 @@ fn append_owner(
 }
 
 /// Returns the name that the first of the octets are, so many of them.
-
-fn owner_in(octets: &[u8], len: usize) -> InlineName
+fn owner_in(octets: &[u8], len: usize) -> Name<&[u8]>
     requires { (name : List (List ℕ)) × BeginsWithName octets.now len name }
     ensures { (name : List (List ℕ)) → BeginsWithName octets.now len name → result ≡ name }
 {
-    to_inline_name(&Name::from_octets_unchecked(&octets[..len]))
+    Name::from_octets_unchecked(&octets[..len])
 }
 
 /// Appends the octets of a type, a class and a TTL, and two zeros for the length of the data. Fails with `OutOfMemory`, and changes

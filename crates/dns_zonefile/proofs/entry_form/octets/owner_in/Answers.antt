@@ -1,4 +1,3 @@
-use Rattle.std.proofs.Common.{◌∙◌}
 use Rattle.dns_zonefile.proofs.ComposedRows.{first_name, first_written}
 use Rattle.dns_zonefile.proofs.entry_form.octets.owner_in.Goals as goal
 
@@ -6,4 +5,4 @@ pub from_octets_unchecked-requires : goal.from_octets_unchecked-requires
 from_octets_unchecked-requires c = first_written c.requires.1
 
 pub returns : goal.returns
-returns c = λ name begins. c.to_inline_name.ensures ∙ first_name begins c.from_octets_unchecked.ensures
+returns c = λ name begins. first_name begins c.from_octets_unchecked.ensures

@@ -1,8 +1,8 @@
-use Rattle.std.proofs.Common.{refl, sym, ap, ◌∙◌, arith, drop, List, ℕ}
+use Rattle.std.proofs.Common.{◌≡◌, true, false, refl, sym, ap, ◌∙◌, arith, drop, List, ℕ}
 use Rattle.std.proofs.lemmas.List.{take_rest}
 use Rattle.dns_zonefile.specs.Seen.{row_of}
 use Rattle.dns_zonefile.proofs.ComposedRows.{directs_no_record, record_begins, record_handed}
-use Rattle.dns_zonefile.proofs.Forms.{says_under, unentered}
+use Rattle.dns_zonefile.proofs.Forms.{if_err_each, if_ok_each, include_stays, on_err_each, says_under, unentered}
 use Rattle.dns_zonefile.proofs.Records.{no_direction, says_direction}
 use Rattle.dns_zonefile.proofs.entry_form.octets.VecU8EntryForm.take_row.Goals as goal
 
@@ -17,7 +17,9 @@ composed_of-requires c = λ rr is. directs_no_record c.in-Ok.ensures.ok refl c.i
 
 pub returns-in-Ok-enter-clause-ok : goal.returns-in-Ok-enter-clause-ok
 returns-in-Ok-enter-clause-ok c =
-    let begins = c.begins_directive.ensures.yes c.if-begins_directive.true in (
+    let begins = c.begins_directive.ensures.yes c.if-begins_directive.true in
+    if_ok_each c.composed_of.result _ _
+    (λ given handed. (
       _,
       record {
         statement = _;
@@ -25,8 +27,16 @@ returns-in-Ok-enter-clause-ok c =
             (says_direction begins.0 begins.1 c.in-Ok.ensures.ok);
         enters = c.in-Ok-enter.ensures.ok;
       },
-      c.composed_of.ensures _,
-    )
+      handed _,
+    )) c.composed_of.ensures.ok
+
+pub returns-in-Ok-enter-clause-err : goal.returns-in-Ok-enter-clause-err
+returns-in-Ok-enter-clause-err c =
+    if_err_each c.composed_of.result _ _ (λ error fails real. let bad : true ≡ false = sym fails.0 ∙ real in absurd cc) c.composed_of.ensures.err
+
+pub returns-in-Ok-enter-clause-same : goal.returns-in-Ok-enter-clause-same
+returns-in-Ok-enter-clause-same c =
+    on_err_each c.composed_of.result _ _ (λ error fails. include_stays _ _ c.in-Ok-enter.ensures.ok fails.1.2) c.composed_of.ensures.err
 
 pub returns-in-Err-enter-clause-err : goal.returns-in-Err-enter-clause-err
 returns-in-Err-enter-clause-err c = λ real.

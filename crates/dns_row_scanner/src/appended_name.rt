@@ -3,29 +3,15 @@ ghost use Rattle.std.specs.List.{list_all};
 ghost use Rattle.std.specs.Prelude.{◌≡◌, ◌≢◌, ◌+◌, ◌<◌, ◌≤◌, ◌++◌, ◌∷◌, [], List, ℕ, true, false, length, take, option_copied, IsTrue, IfErr, OnOk, OnErr};
 ghost use Rattle.dns_label.specs.Name.{IsName, wire};
 ghost use Rattle.dns_label.specs.NameText.{IsAbsoluteText};
-ghost use Rattle.dns_scan.specs.Token.{SameNames};
 ghost use Rattle.dns_wire.specs.Unescaped.{is_unescaped};
-ghost use Rattle.dns_row_scanner.specs.AppendedName.{AppendsName, OneLabelUnder, SpellsNoName};
+ghost use Rattle.dns_row_scanner.specs.AppendedName.{OneLabelUnder};
 ghost use Rattle.dns_row_scanner.specs.EntryError.{is_memory};
 ghost use Rattle.dns_row_scanner.specs.NameInText.{SpellsUnder};
 
 use crate::octets::is_plain;
 use crate::{EntryError, InlineName, TextName};
 use dns_name::Name;
-use dns_scan::Scanner;
 use std::alloc::{AllocError, Global};
-
-/// A scanner that appends names to octets.
-pub trait NameScanner: Scanner {
-    /// Takes the next token, and appends the octets of the name that it spells (RFC 1035 3.1).
-    ///
-    /// Fails as `scan_name` does, and then appends nothing.
-    fn scan_name_into(&mut self, octets: &mut Vec<u8>) -> Result<(), Self::Error>
-        ensures ok { OnOk result (AppendsName (Self.names self.old) (Self.tokens self.old) (Self.tokens self.new) octets.old.items octets.new.items) }
-        ensures err { IfErr result (λ error. Self.Error.is_short error ≡ false → SpellsNoName (Self.names self.old) (Self.tokens self.old)) }
-        ensures names { SameNames (Self.names self.old) (Self.names self.new) }
-        ensures same { OnErr result (octets.new.items ≡ octets.old.items) };
-}
 
 /// Appends the octets of the name that a token's text spells under the origin, if one is known, as `TextName::scan_name` has it.
 ///
@@ -47,6 +33,22 @@ pub(crate) fn append_name(
     if append_label(text, origin, octets) {
         return Ok(());
     }
+    append_spelled(alloc, text, origin, octets)
+}
+
+/// The same of any text. It spells the name into an array first, which is cleared, so other names do without this call.
+#[inline(never)]
+fn append_spelled(
+    alloc: Global,
+    text: &[u8],
+    origin: Option<&Name<Vec<u8>>>,
+    octets: &mut Vec<u8>,
+) -> Result<(), EntryError>
+    ensures ok { OnOk result ((name : List (List ℕ)) × SpellsUnder (option_copied origin.entry) text.now name × IsName name
+        × (octets.new.items ≡ octets.old.items ++ wire name)) }
+    ensures err { IfErr result (λ error. is_memory error ≡ false → (name : List (List ℕ)) → SpellsUnder (option_copied origin.entry) text.now name → ⊥) }
+    ensures same { OnErr result (octets.new.items ≡ octets.old.items) }
+{
     let name: InlineName = TextName::scan_name(alloc, text, origin)?;
     match octets.extend_from_slice(name.as_slice()) {
         Ok(()) => Ok(()),

@@ -1,6 +1,6 @@
 use Rattle.std.proofs.Common.{◌++◌, List, ℕ, ap, ◌∙◌}
 use Rattle.dns_row_scanner.proofs.OneLabel.{label_under}
-use Rattle.dns_row_scanner.proofs.name_scanner.append_before.Goals as goal
+use Rattle.dns_row_scanner.proofs.appended_name.append_before.Goals as goal
 
 pub returns-clause-ok : goal.returns-clause-ok
 returns-clause-ok c =

@@ -1,6 +1,6 @@
 use Rattle.dns_row_scanner.specs.NameInText.SpellsUnder.{absolute}
 use Rattle.dns_row_scanner.proofs.SpelledUnder.{absolute_name}
-use Rattle.dns_row_scanner.proofs.name_scanner.append_name.Goals as goal
+use Rattle.dns_row_scanner.proofs.appended_name.append_name.Goals as goal
 
 pub returns-then-append_dotted-clause-ok : goal.returns-then-append_dotted-clause-ok
 returns-then-append_dotted-clause-ok c =
