@@ -1,6 +1,7 @@
 pub mod Decided
 pub mod Each
 pub mod NameFronts
+mod FirstNames
 pub mod RowFronts
 pub mod RecordFronts
 pub mod Indexed

@@ -6,7 +6,7 @@ use Rattle.std.specs.List.{AllByRecursion, flat_map}
 use Rattle.std.proofs.Math.Seq.{take-append_seam, drop-append_seam}
 use Rattle.std.proofs.lemmas.List.{drop-drop}
 use Rattle.std.proofs.lemmas.Nat.{from_be_bytes-to_be_bytes_2, from_be_bytes-to_be_bytes_4}
-use Rattle.dns_label.specs.Name.{IsName, wire}
+use Rattle.dns_label.specs.Name.{wire}
 use Rattle.dns_label.specs.Labels.{labels_at}
 use Rattle.dns_label.proofs.Spelling.{labels_at-reads, spelled-written}
 use Rattle.dns_wire.specs.Flat.{IsWritten}
@@ -19,7 +19,6 @@ use Rattle.zone_octets.specs.Stored.{IsStored, AreStored, record_in, record_with
 use Rattle.dns_rdata.proofs.Fronts.{same_fronts}
 use Rattle.zone_octets.proofs.Each.{all_fronts}
 use Rattle.zone_octets.proofs.Indexed.{element_at}
-use Rattle.zone_octets.proofs.NameFronts.{wire_fronts}
 use Rattle.zone_octets.proofs.RecordFronts.{behind_owner, record_regrouped}
 
 abbrev fields_of : List (List ℕ) → ℕ → ℕ → ℕ → List ℕ → Record
@@ -290,13 +289,6 @@ owner_front octets len stored =
 
 pub owner_written : (octets : List ℕ) (len : ℕ) → IsStored octets len → IsWritten (take len octets)
 owner_written octets len stored = flat-written (take len octets) (record_in octets).owner stored.lawful.owner (owner_front octets len stored)
-
--- a name that a record begins with is its owner
-pub owner_found : (octets read rest : List ℕ) (name : List (List ℕ)) (r : Record) → IsRecord r → octets ≡ record_octets r → IsName name
-    → read ≡ wire name ++ rest → read ≡ octets → name ≡ r.owner
-owner_found octets read rest name r is whole is_name at same =
-    let regrouped : octets ≡ wire r.owner ++ behind_owner r [] = whole ∙ sym (append-nil (record_octets r)) ∙ record_regrouped r [] in
-    (wire_fronts name r.owner rest (behind_owner r []) is_name.labels is.owner.labels (sym at ∙ same ∙ regrouped)).0
 
 -- a record that is written part by part: its owner, its numbers, and its data behind their length
 pub written_record : (first second third : List ℕ) (r : Record) → first ≡ wire r.owner

@@ -5,6 +5,7 @@
 #![tactic(auto)]
 
 pub mod checks;
+pub mod front;
 pub mod header;
 pub mod record;
 pub mod record_data;

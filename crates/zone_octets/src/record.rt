@@ -6,8 +6,9 @@ ghost use Rattle.dns_wire.specs.Suffix.{EndsWith};
 ghost use Rattle.zone_octets.specs.Record as spec;
 ghost use Rattle.zone_octets.specs.Zone.{soa_type};
 
+use crate::front::first_name;
 use crate::header::number_at;
-use dns_name::{Class, Name, Parser, Rtype, ToName, Ttl};
+use dns_name::{Class, Name, Rtype, ToName, Ttl};
 use std::marker::Model;
 
 /// The octets of a record besides its owner and its data: type, class, TTL and length (RFC 1035 3.2.1).
@@ -39,13 +40,9 @@ impl<'a> Record<'a> {
         requires { (r : spec.Record) × IsRecord r × (octets.now ≡ record_octets r) }
         ensures { (r : spec.Record) → IsRecord r → octets.now ≡ record_octets r → result ≡ r }
     {
-        let mut parser = Parser::from_ref(octets);
-        match Name::parse(&mut parser) {
-            Ok(owner) => Record {
-                octets,
-                owner_len: owner.len(),
-            },
-            Err(_) => unreachable!(),
+        Record {
+            octets,
+            owner_len: first_name(octets).len(),
         }
     }
 

@@ -1,9 +1,9 @@
 -- A zone's text that is read record by record.
-use Rattle.std.proofs.Common.{◌≡◌, ◌≢◌, ◌+◌, ◌<◌, ◌^◌, ◌++◌, ◌∙◌, ℕ, Bool, true, false, List, [], ◌∷◌, Option, Some, None, Ok, Err, length, take, drop, refl, sym, ap, subst, arith, append_assoc}
+use Rattle.std.proofs.Common.{◌≡◌, ◌≢◌, ◌<◌, ◌^◌, ◌++◌, ◌∙◌, ℕ, Bool, false, List, [], ◌∷◌, Option, Some, None, Ok, length, take, drop, refl, sym, ap, subst, arith, append_assoc}
 use Rattle.std.specs.Prelude.{Result, IfSome}
 use Rattle.std.specs.Int.{to_be_bytes, w16}
 use Rattle.std.proofs.Math.Seq.{take-append_seam, drop-append_seam}
-use Rattle.std.specs.List.{AllByRecursion, push, flat_map}
+use Rattle.std.specs.List.{AllByRecursion, flat_map}
 use Rattle.dns_label.specs.Name.{IsName, wire}
 use Rattle.dns_label.specs.Octets.{AreOctets}
 use Rattle.dns_text.specs.Rows.{BeginsWithRows, TokenRow}
@@ -16,13 +16,12 @@ use Rattle.dns_rdata.specs.Fields as fields
 use Rattle.dns_rdata.specs.Fields.{IsData}
 use Rattle.dns_message.specs.Held.{record_of}
 use Rattle.dns_message.specs.Record.{IsRecord, record_octets}
-use Rattle.dns_row_scanner.specs.EntryError.{is_memory}
 use Rattle.dns_row_scanner.specs.declared.entry_error.EntryError.{EntryError}
 use Rattle.dns_zonefile.proofs.Going.{goes-nowhere}
-use Rattle.dns_zonefile.specs.Composed.{HandsOn, IsHeld, octets_of}
+use Rattle.dns_zonefile.specs.Composed.{HandsOn, IsHeld}
 use Rattle.dns_zonefile.specs.Entries.{AreEntries}
 use Rattle.dns_zonefile.specs.Entry.{Context, Entry}
-use Rattle.dns_zonefile.specs.Entry.Entry.{Directive, Include, Resource}
+use Rattle.dns_zonefile.specs.Entry.Entry.{Resource}
 use Rattle.dns_zonefile.specs.Reader.{Gives, GoesOver, Reader, left_of}
 use Rattle.dns_zonefile.specs.declared.entry.ComposedEntry.{ComposedEntry}
 use Rattle.dns_zonefile.specs.declared.entry.ComposedEntry.TheVariants as composed
@@ -31,16 +30,14 @@ use Rattle.zone_octets.specs.Records.{AreRecordsOf, IsRecordOf}
 use Rattle.zone_octets.specs.Stored.{AreStored}
 use Rattle.zone_octets.specs.Zone.{IsBehindSoa, IsUnder, IsZone, IsZoneFront, any_class}
 use Rattle.zone_octets.proofs.Each.{all_append, all_fronts, wire_back}
-use Rattle.zone_octets.proofs.NameFronts.{wire_fronts}
-use Rattle.zone_octets.proofs.RecordFronts.{behind_owner, record_regrouped}
 use Rattle.zone_octets.proofs.StoredRecords.{stored_length, stored_more, stored_none}
-use Rattle.zone_rules.specs.ZoneText.{IsWellTyped, IsZoneFault, IsZoneText, KeepRules, MayFollow, records_in, start_of}
+use Rattle.zone_rules.specs.ZoneText.{IsWellTyped, IsZoneFault, IsZoneText, MayFollow, records_in}
 use Rattle.zone_rules.specs.declared.zone_error.ZoneError.{ZoneError}
 use Rattle.zone_rules.specs.declared.zone_error.ZoneError.TheVariants as zone_error
 use Rattle.zone_rules.proofs.KeptContexts.{IsFitting, IsRowed, entries_fit}
 use Rattle.zone_rules.proofs.KeptRules.{keeps_directives, keeps_none, records_behind}
 use Rattle.zone_rules.proofs.RecordClasses.{zone_text_class}
-use Rattle.zone_rules.proofs.ReaderSteps.{HasKept, Meets, MeetsRecord, ended_behind, first_fault, kept_record, meets, next_read, out_fault, second_fault, unspellable_fault, untyped_fault}
+use Rattle.zone_rules.proofs.ReaderSteps.{HasKept, MeetsRecord, ended_behind, first_fault, kept_record, meets, next_read, out_fault, second_fault, unspellable_fault, untyped_fault}
 use Rattle.zone_text.specs.Reading.{BreaksRule, HasRead, IsHanded, HasReadAll, MayStandUnder, reader_at}
 
 -- in the words of the rules
@@ -273,12 +270,6 @@ no_record_read {octets = octets} {places = places} known all empty =
     none_of : (records : List Record) → length records ≡ 0 → records ≡ []
     none_of [] zero' = refl
     none_of (r ∷ records) zero' = absurd (omega (arith, zero'))
-
--- a name that records begin with is the first one's owner
-pub first_owner : (octets read rest : List ℕ) (name : List (List ℕ)) (r : Record) (others : List ℕ) → IsRecord r → octets ≡ record_octets r ++ others
-    → IsName name → read ≡ wire name ++ rest → read ≡ octets → name ≡ r.owner
-first_owner octets read rest name r others is whole is_name at same =
-    (wire_fronts name r.owner rest (behind_owner r others) is_name.labels is.owner.labels (sym at ∙ same ∙ whole ∙ record_regrouped r others)).0
 
 -- octets that are split where the old ones ended
 pub front_is : (place : ℕ) (old all more parted front : List ℕ) → place ≡ length old → all ≡ old ++ more → parted ≡ all → front ≡ take place parted

@@ -12,10 +12,11 @@ ghost use Rattle.zone_octets.specs.Zone.{any_class};
 ghost use Rattle.zone_rules.specs.ZoneText.{IsWellTyped, IsZoneFault, IsZoneText};
 ghost use Rattle.zone_text.specs.Reading.{BreaksRule, HasMet, HasRead, HasReadAll, MayStandUnder, reader_at};
 
-use dns_name::{Class, Name, Parser, ToName};
+use dns_name::{Class, Name, ToName};
 use dns_zonefile::{ComposedEntry, Zonefile};
 use std::alloc::{AllocError, Global};
 use zone_octets::checks::{is_data_of_type, is_spellable};
+use zone_octets::front::first_name;
 use zone_octets::record::Record;
 use zone_octets::record_list::RecordList;
 use zone_rules::ZoneError;
@@ -212,8 +213,5 @@ fn apex_of(octets: &[u8]) -> Option<Name<&[u8]>>
     if octets.is_empty() {
         return None;
     }
-    match Name::parse(&mut Parser::from_ref(octets)) {
-        Ok(apex) => Some(apex),
-        Err(_) => unreachable!(),
-    }
+    Some(first_name(octets))
 }

@@ -1,9 +1,14 @@
-use Rattle.std.proofs.Common.{◌≡◌, Option, List, ℕ, Some, ap, rules}
-use Rattle.dns_octets.specs.Parser.{rest_of}
-use Rattle.zone_text.proofs.ReadRecords.{first_owner}
+use Rattle.std.proofs.Common.{◌≡◌, ◌==◌, ℕ, List, true, false, length, ap, ◌∙◌, Some}
+use Rattle.zone_octets.proofs.RecordFronts.{behind_owner, record_regrouped}
 use Rattle.zone_text.proofs.read.apex_of.Goals as goal
+
+pub first_name-requires : goal.first_name-requires
+first_name-requires c =
+    let found = c.requires (λ none.
+    let bad : false ≡ true = c.if-is_empty.ensures ∙ ap (λ (l : List ℕ). length l == 0) none in
+    let no : ⊥ = cc in no) in
+    (found.0.owner, behind_owner found.0 found.1, found.2.owner, found.3 ∙ record_regrouped found.0 found.1)
 
 pub returns-clause-some : goal.returns-clause-some
 returns-clause-some c = λ r rest is whole.
-    let all : rest_of c.from_ref.result ≡ c.args.octets.now = search rules in
-    ap Some (first_owner c.args.octets.now _ _ c.in-Ok.apex r rest is whole c.in-Ok.ensures.ok.0 c.in-Ok.ensures.ok.1 all)
+    ap Some (c.first_name.ensures r.owner (behind_owner r rest) is.owner (whole ∙ record_regrouped r rest))

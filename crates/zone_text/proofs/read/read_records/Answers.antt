@@ -1,4 +1,4 @@
-use Rattle.std.proofs.Common.{◌≡◌, ◌<◌, false, length, ap, sym, subst, option_copied, Ok, rules}
+use Rattle.std.proofs.Common.{◌≡◌, ◌<◌, length, ap, sym, subst, option_copied, Ok, rules}
 use Rattle.std.proofs.lemmas.Result.{err_from_is_err_and}
 use Rattle.zone_octets.specs.Records.{AreRecordsOf}
 use Rattle.zone_rules.specs.ZoneText.{IsZoneText, records_in}

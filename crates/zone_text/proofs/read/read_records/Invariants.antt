@@ -1,4 +1,4 @@
-use Rattle.std.proofs.Common.{◌≡◌, Option, None, length, option_copied}
+use Rattle.std.proofs.Common.{◌≡◌, None, length, option_copied}
 use Rattle.dns_zonefile.specs.Reader.{left_of}
 use Rattle.dns_zonefile.specs.ReaderSeen.{reader_of, refused_in}
 use Rattle.zone_text.specs.Reading.{HasRead}

@@ -1,14 +1,20 @@
-use Rattle.std.proofs.Common.{◌≡◌, ap, ◌∙◌, length, rules}
-use Rattle.dns_octets.specs.Parser.{rest_of}
+use Rattle.std.proofs.Common.{[], ap, sym, ◌∙◌, append-nil, length}
 use Rattle.dns_label.specs.Name.{wire}
-use Rattle.zone_octets.proofs.StoredRecords.{owner_found, stored_of, record_in_whole}
+use Rattle.dns_message.specs.Record.{record_octets}
+use Rattle.zone_octets.proofs.RecordFronts.{behind_owner, record_regrouped}
+use Rattle.zone_octets.proofs.StoredRecords.{stored_of, record_in_whole}
 use Rattle.zone_octets.proofs.record.Record.from_octets.Goals as goal
+
+pub first_name-requires : goal.first_name-requires
+first_name-requires c =
+    let r = c.requires.0 in
+    (r.owner, behind_owner r [], c.requires.1.owner, c.requires.2 ∙ sym (append-nil (record_octets r)) ∙ record_regrouped r [])
 
 pub invariant_of-result : goal.invariant_of-result
 invariant_of-result c =
     let r = c.requires.0 in
-    let all : rest_of c.from_ref-parser.result ≡ c.args.octets.now = search rules in
-    let owner = owner_found c.args.octets.now _ _ c.in-Ok.owner r c.requires.1 c.requires.2 c.in-Ok.ensures.ok.0 c.in-Ok.ensures.ok.1 all in
+    let owner = c.first_name.ensures r.owner (behind_owner r []) c.requires.1.owner
+    (c.requires.2 ∙ sym (append-nil (record_octets r)) ∙ record_regrouped r []) in
     stored_of c.args.octets.now c.len.result r c.requires.1 c.requires.2 (c.len.ensures.octets ∙ ap (λ n. length (wire n)) owner)
 
 pub returns : goal.returns
