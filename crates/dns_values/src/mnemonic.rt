@@ -32,11 +32,25 @@ fn number_named(table: &[Mnemonic], word: &[u8]) -> Option<u16>
     None
 }
 
-/// Returns whether the word is the mnemonic, in any case. Most mnemonics are of another length, which is seen first.
+/// Returns whether the word is the mnemonic, in any case. Most mnemonics are of another length or end otherwise, which is seen
+/// first.
 fn is_named_by(word: &[u8], mnemonic: &str) -> bool
     ensures { IsTrue result ↔ (map to_ascii_lowercase mnemonic.now ≡ map to_ascii_lowercase word.now) }
 {
-    mnemonic.len() == word.len() && mnemonic.as_bytes().eq_ignore_ascii_case(word)
+    let mnemonic = mnemonic.as_bytes();
+    mnemonic.len() == word.len()
+        && has_same_end(mnemonic, word)
+        && mnemonic.eq_ignore_ascii_case(word)
+}
+
+/// Returns whether the last octets are the same letter, in any case; words without octets have the same end.
+fn has_same_end(word: &[u8], other: &[u8]) -> bool
+    ensures { map to_ascii_lowercase word.now ≡ map to_ascii_lowercase other.now → IsTrue result }
+{
+    match (word.last(), other.last()) {
+        (Some(last), Some(other_last)) => last.eq_ignore_ascii_case(other_last),
+        _ => true,
+    }
 }
 
 /// The number behind the prefix, which may be in any case.

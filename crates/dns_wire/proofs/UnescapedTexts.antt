@@ -1,10 +1,10 @@
 -- Names in text without escapes: labels are taken off the front, each with its dot, and written behind their lengths.
-use Rattle.std.proofs.Common.{◌≡◌, ℕ, ◌+◌, ◌-◌, ◌<◌, ◌≤◌, ◌↔◌, Bool, true, false, cond, suc, List, [], ◌∷◌, ◌++◌, length, map, take, drop, refl, sym, ◌∙◌, ap, subst, arith, append_assoc, append-nil, length-append}
+use Rattle.std.proofs.Common.{◌≡◌, ℕ, ◌+◌, ◌-◌, ◌<◌, ◌≤◌, ◌↔◌, Bool, true, false, cond, suc, List, [], ◌∷◌, ◌++◌, length, map, take, drop, set, refl, sym, ◌∙◌, ap, subst, arith, append_assoc, append-nil, length-append}
 use Rattle.std.proofs.lemmas.Bool.{false_from_ne_true, false≢true}
 use Rattle.std.proofs.lemmas.Bool.Decides.{nat_tests}
 use Rattle.std.specs.Prelude.{◌==◌, ◌||◌, nat_lt, not}
 use Rattle.std.specs.List.{AllByRecursion, flat_map, prefix_len}
-use Rattle.std.proofs.lemmas.List.{take-append-drop, drop-drop, length-drop, length-take-le}
+use Rattle.std.proofs.lemmas.List.{take-append-drop, drop-drop, length-drop, length-take-le, set-append_right}
 use Rattle.std.proofs.lemmas.List.Sums.{prefix_len-le-length}
 use Rattle.std.proofs.lemmas.List.Concat.{flat_map-append}
 use Rattle.dns_label.specs.declared.symbol.Symbol.{Symbol}
@@ -143,6 +143,13 @@ labels_next text rest octets label behind new taken front is_new =
       counted =
           omega (arith, taken.counted, ap (length {A = ℕ}) is_new, length-append octets (length label ∷ label), ap (length {A = ℕ}) front.whole, length-append label (46 ∷ behind));
     }
+
+-- A length goes over the octet before a label.
+pub length_written : (front taken rest : List ℕ) (before count place : ℕ) → place ≡ length front + length taken
+    → set ((front ++ taken) ++ before ∷ rest) place count ≡ (front ++ taken) ++ count ∷ rest
+length_written front taken rest before count place at =
+    set-append_right (front ++ taken) (before ∷ rest) place place count (length-append front taken ∙ sym at) (omega arith)
+    ∙ ap (λ k. (front ++ taken) ++ set (before ∷ rest) k count) {y = 0} (omega arith)
 
 -- The name that is read where nothing is left.
 pub record IsReadWhole (text octets : List ℕ) : Type 0 where

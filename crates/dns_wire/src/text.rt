@@ -114,6 +114,18 @@ pub fn append_absolute_text(octets: &mut Vec<u8>, text: &[u8]) -> Result<(), Fro
     if append_unescaped(octets, text) {
         return Ok(());
     }
+    append_spelled(octets, text)
+}
+
+/// The same for any text, whose name is spelled into an array first. It is a call of its own, so that the array is cleared only
+/// where it is used.
+#[inline(never)]
+fn append_spelled(octets: &mut Vec<u8>, text: &[u8]) -> Result<(), FromStrError>
+    ensures ok { OnOk result ((name : List (List ℕ)) × IsAbsoluteText text.now name × (octets.new.items ≡ octets.old.items ++ wire name)) }
+    ensures err { IfErr result (IsRefused IsAbsoluteText text.now) }
+    ensures relative { IfErr result (λ error. (error ≡ Presentation presentation.RelativeName) ↔ LacksLastDot text.now) }
+    ensures kept { OnErr result (octets.new.items ≡ octets.old.items) }
+{
     let Some(spelling) = Spelling::read_text(text)? else {
         octets.extend_from_slice(&[0])?;
         return Ok(());

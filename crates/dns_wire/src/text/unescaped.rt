@@ -30,7 +30,10 @@ pub(super) fn append_unescaped(octets: &mut Vec<u8>, text: &[u8]) -> bool
     is_whole
 }
 
-/// The same, but that some labels may be left behind where it is not the whole name.
+/// The same, but that octets may be left behind where it is not the whole name.
+///
+/// The text is appended as it is, with an octet before it. Before each label stands a dot then, or that octet, and the label's length
+/// goes there; the root's goes over the last dot.
 fn append_labels(octets: &mut Vec<u8>, text: &[u8]) -> Result<bool, AllocError>
     ensures name { IfOk result (λ is_whole. IsTrue is_whole → (name : List (List ℕ)) × IsAbsoluteText text.now name
         × (octets.new.items ≡ octets.old.items ++ wire name)) }
@@ -39,17 +42,19 @@ fn append_labels(octets: &mut Vec<u8>, text: &[u8]) -> Result<bool, AllocError>
     if text.is_empty() || text.len() > TEXT_MOST {
         return Ok(false);
     }
+    let front = octets.len();
     octets.reserve(text.len() + 1)?;
+    octets.push(0)?;
+    octets.extend_from_slice(text)?;
     let mut start = 0;
     while start < text.len() {
         let Some(label) = label_at(text, start) else {
             return Ok(false);
         };
-        octets.push(label.len() as u8)?;
-        octets.extend_from_slice(label)?;
+        octets[front + start] = label.len() as u8;
         start += label.len() + 1;
     }
-    octets.push(0)?;
+    octets[front + start] = 0;
     Ok(true)
 }
 

@@ -1,4 +1,4 @@
-use Rattle.std.proofs.Common.{◌≡◌, ◌∷◌, ◌++◌, List, ℕ, [], refl, ◌∙◌, ap, subst, inr}
+use Rattle.std.proofs.Common.{◌≡◌, List, ℕ, [], refl, ◌∙◌, ap, subst, inr}
 use Rattle.std.specs.Prelude.{Option, Err}
 use Rattle.std.proofs.lemmas.Result.{err_from_is_err_and}
 use Rattle.dns_label.specs.NameText.IsAbsoluteText.{root}
@@ -7,7 +7,7 @@ use Rattle.dns_wire.specs.declared.text.draft.Spelling.{Spelling}
 use Rattle.dns_wire.specs.Draft.{IsReadBy}
 use Rattle.dns_wire.proofs.LastDots.{open_lacks, dotted_lacks, root_lacks, told_other, told_short, told_read}
 use Rattle.dns_wire.proofs.Texts.{whole-absolute, open_label, whole-appended, whole-err, begun_some, begun_none}
-use Rattle.dns_wire.proofs.text.append_absolute_text.Goals as goal
+use Rattle.dns_wire.proofs.text.append_spelled.Goals as goal
 
 read_by : (text : List ℕ) (read of : Option Spelling) → read ≡ of → IsReadBy text read → IsReadBy text of
 read_by text read of is given = let P : Option Spelling → Type 0 = λ r. IsReadBy text r in subst P is given
@@ -26,7 +26,7 @@ pub returns-in_default-clause-ok : goal.returns-in_default-clause-ok
 returns-in_default-clause-ok c = (
   [],
   root (read_by c.args.text.now _ _ c.in_default.is c.in_ok-spelling.ensures.ok),
-  c.in_ok-extend_from_slice.ensures.items ∙ ap (λ l. l ++ 0 ∷ []) (c.append_unescaped.ensures.none c.if-append_unescaped.false),
+  c.in_ok-extend_from_slice.ensures.items,
 )
 
 pub returns-then-has_open_label-clause-err : goal.returns-then-has_open_label-clause-err
@@ -46,7 +46,7 @@ returns-clause-ok c =
     let given = read_by c.args.text.now _ _ c.in-Some.is c.in_ok-spelling.ensures.ok in
     let whole = whole-absolute c.args.text.now c.in-Some.spelling given.0 given.1
     (begun_none _ _ given.1 (λ more. let bad = c.if-has_open_label.ensures.1 more in cc)) in
-    whole-appended _ _ c.append_to.result _ _ _ (c.append_unescaped.ensures.none c.if-append_unescaped.false) whole c.append_to.ensures.ok
+    whole-appended _ _ c.append_to.result _ _ _ refl whole c.append_to.ensures.ok
 
 pub returns-clause-err : goal.returns-clause-err
 returns-clause-err c =
