@@ -1,14 +1,14 @@
 -- A text of one label without an escape, under an origin.
 use Rattle.std.proofs.Common.{◌≡◌, ◌+◌, ◌<◌, ◌≤◌, ℕ, true, List, [], ◌∷◌, ◌++◌, length, map, false, rules, refl, sym, ◌∙◌, ap, subst, arith, append_assoc, append-nil, length-append}
 use borrow.Author.Tests.{tests}
-use Rattle.std.proofs.lemmas.Bool.{and_parts}
+use Rattle.std.proofs.lemmas.Bool.{and_from, and_parts}
 use Rattle.std.specs.List.{AllByRecursion, flat_map, list_all}
-use Rattle.std.specs.Prelude.{◌≢◌}
+use Rattle.std.specs.Prelude.{◌≢◌, ◌==◌, not}
 use Rattle.dns_label.specs.declared.symbol.Symbol.{Symbol}
 use Rattle.dns_label.specs.declared.symbol.Symbol.TheVariants.{Char}
 use Rattle.dns_label.specs.Name.{IsName, wire}
 use Rattle.dns_label.specs.NameText.{IsRelativeText, is_dot, parts_of}
-use Rattle.dns_label.specs.Symbol.{spelled}
+use Rattle.dns_label.specs.Symbol.{is_plain, spelled}
 use Rattle.dns_wire.specs.Unescaped.{IsUnescaped, is_unescaped}
 use Rattle.dns_wire.proofs.Parts.{Reading, reading_here, reading-octet}
 use Rattle.dns_wire.proofs.UnescapedTexts.{unescaped_sound}
@@ -20,6 +20,15 @@ each_unescaped [] all = tt
 each_unescaped (octet ∷ text) all =
     let both = and_parts (is_unescaped octet) (list_all is_unescaped text) all in
     (unescaped_sound octet both.0, each_unescaped text both.1)
+
+-- plain octets without a dot among them
+pub unescaped_all : (text : List ℕ) → list_all is_plain text ≡ true → list_all (λ octet. not (octet == 46)) text ≡ true
+    → list_all is_unescaped text ≡ true
+unescaped_all [] plain undotted = refl
+unescaped_all (octet ∷ text) plain undotted =
+    let here = and_parts (is_plain octet) (list_all is_plain text) plain in
+    let other = and_parts (not (octet == 46)) (list_all (λ octet. not (octet == 46)) text) undotted in
+    and_from _ _ (and_from _ _ here.0 other.0) (unescaped_all text here.1 other.1)
 
 -- each octet is a symbol that stands for itself
 spelled_chars : (text : List ℕ) → flat_map spelled (map Char text) ≡ text

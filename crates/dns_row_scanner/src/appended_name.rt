@@ -1,6 +1,6 @@
 //! Names of tokens, appended as octets with no value between.
 ghost use Rattle.std.specs.List.{list_all};
-ghost use Rattle.std.specs.Prelude.{◌≡◌, ◌≢◌, ◌+◌, ◌<◌, ◌≤◌, ◌++◌, ◌∷◌, [], List, ℕ, true, false, length, take, option_copied, IsTrue, IfErr, OnOk, OnErr};
+ghost use Rattle.std.specs.Prelude.{◌≡◌, ◌≢◌, ◌+◌, ◌<◌, ◌≤◌, ◌++◌, ◌∷◌, ◌==◌, [], List, ℕ, true, false, not, length, take, option_copied, IsTrue, IfErr, OnOk, OnErr};
 ghost use Rattle.dns_label.specs.Name.{IsName, wire};
 ghost use Rattle.dns_label.specs.NameText.{IsAbsoluteText};
 ghost use Rattle.dns_wire.specs.Unescaped.{is_unescaped};
@@ -8,7 +8,7 @@ ghost use Rattle.dns_row_scanner.specs.AppendedName.{OneLabelUnder};
 ghost use Rattle.dns_row_scanner.specs.EntryError.{is_memory};
 ghost use Rattle.dns_row_scanner.specs.NameInText.{SpellsUnder};
 
-use crate::octets::is_plain;
+use crate::row_token::RowToken;
 use crate::{EntryError, InlineName, TextName};
 use dns_name::Name;
 use std::alloc::{AllocError, Global};
@@ -18,22 +18,22 @@ use std::alloc::{AllocError, Global};
 /// Fails as that does, and then appends nothing.
 pub(crate) fn append_name(
     alloc: Global,
-    text: &[u8],
+    token: RowToken<'_>,
     origin: Option<&Name<Vec<u8>>>,
     octets: &mut Vec<u8>,
 ) -> Result<(), EntryError>
-    ensures ok { OnOk result ((name : List (List ℕ)) × SpellsUnder (option_copied origin.entry) text.now name × IsName name
+    ensures ok { OnOk result ((name : List (List ℕ)) × SpellsUnder (option_copied origin.entry) token.entry.text.now name × IsName name
         × (octets.new.items ≡ octets.old.items ++ wire name)) }
-    ensures err { IfErr result (λ error. is_memory error ≡ false → (name : List (List ℕ)) → SpellsUnder (option_copied origin.entry) text.now name → ⊥) }
+    ensures err { IfErr result (λ error. is_memory error ≡ false → (name : List (List ℕ)) → SpellsUnder (option_copied origin.entry) token.entry.text.now name → ⊥) }
     ensures same { OnErr result (octets.new.items ≡ octets.old.items) }
 {
-    if append_dotted(text, octets) {
+    if append_dotted(token.text, octets) {
         return Ok(());
     }
-    if append_label(text, origin, octets) {
+    if append_label(token, origin, octets) {
         return Ok(());
     }
-    append_spelled(alloc, text, origin, octets)
+    append_spelled(alloc, token.text, origin, octets)
 }
 
 /// The same of any text. It spells the name into an array first, which is cleared, so other names do without this call.
@@ -70,45 +70,40 @@ fn append_dotted(text: &[u8], octets: &mut Vec<u8>) -> bool
 
 /// Appends the octets of the name that a text of one label without an escape spells under the origin, and returns whether it did. It
 /// appends nothing if there is no origin, if the text is another or the name too long, or if out of memory.
-fn append_label(text: &[u8], origin: Option<&Name<Vec<u8>>>, octets: &mut Vec<u8>) -> bool
-    ensures yes { IsTrue result → (name : List (List ℕ)) × SpellsUnder (option_copied origin.entry) text.now name × IsName name
+fn append_label(token: RowToken<'_>, origin: Option<&Name<Vec<u8>>>, octets: &mut Vec<u8>) -> bool
+    ensures yes { IsTrue result → (name : List (List ℕ)) × SpellsUnder (option_copied origin.entry) token.entry.text.now name × IsName name
         × (octets.new.items ≡ octets.old.items ++ wire name) }
     ensures no { result ≡ false → octets.new.items ≡ octets.old.items }
 {
     let Some(origin) = origin else {
         return false;
     };
-    if !is_one_label(text) || text.len() + origin.len() > 254 {
+    if !is_one_label(token) || token.text.len() + origin.len() > 254 {
         return false;
     }
     let len = octets.len();
-    let is_whole = append_before(text, origin, octets).is_ok();
+    let is_whole = append_before(token.text, origin, octets).is_ok();
     if !is_whole {
         octets.truncate(len);
     }
     is_whole
 }
 
-/// Returns whether the text is one label of octets that stand for themselves, and not the origin's `@`.
-fn is_one_label(text: &[u8]) -> bool
-    ensures { IsTrue result → (list_all is_unescaped text.now ≡ true) × (0 < length text.now) × (length text.now ≤ 63) × (text.now ≢ 64 ∷ []) }
+/// Returns whether the token's text is one label of octets that stand for themselves, and not the origin's `@`.
+#[tactic(auto, using(crate::proofs::OneLabel::unescaped_all))]
+fn is_one_label(token: RowToken<'_>) -> bool
+    ensures { IsTrue result → (list_all is_unescaped token.entry.text.now ≡ true) × (0 < length token.entry.text.now) × (length token.entry.text.now ≤ 63)
+        × (token.entry.text.now ≢ 64 ∷ []) }
 {
-    let is_short = !text.is_empty() && text.len() <= 63;
-    is_short && !matches!(text, [b'@']) && are_unescaped(text)
+    let is_short = !token.text.is_empty() && token.text.len() <= 63;
+    is_short && !matches!(token.text, [b'@']) && token.is_plain() && has_no_dot(token.text)
 }
 
-/// Returns whether these are printable characters other than the dot and the backslash.
-fn are_unescaped(text: &[u8]) -> bool
-    ensures { result ≡ list_all is_unescaped text.now }
+/// Returns whether no dot stands in the text.
+fn has_no_dot(text: &[u8]) -> bool
+    ensures { result ≡ list_all (λ octet. not (octet == 46)) text.now }
 {
-    text.iter().all(|&octet| is_unescaped(octet))
-}
-
-/// Returns whether this is a printable character other than the dot and the backslash.
-fn is_unescaped(octet: u8) -> bool
-    ensures { result ≡ is_unescaped octet }
-{
-    is_plain(octet) && octet != b'.'
+    text.iter().all(|&octet| octet != b'.')
 }
 
 /// Appends the label, behind its length, and the octets of the origin, or a part of them if out of memory.

@@ -5,50 +5,51 @@ ghost use Rattle.dns_scan.specs.CharStr.{string_wire};
 ghost use Rattle.dns_scan.specs.StringText.{IsStringText, Spells};
 
 use crate::EntryError;
-use crate::octets::{are_plain, octets_of, string_of};
+use crate::octets::{string_of, symbols_octets};
+use crate::row_token::RowToken;
 use std::alloc::{AllocError, Global};
 
 /// The most octets of a character string (RFC 1035 3.3).
 const STRING_MOST: usize = 255;
 
-/// Appends the octets that a text spells. A text without a backslash is appended as it stands.
+/// Appends the octets that a token's text spells. A text without a backslash is appended as it stands.
 ///
 /// Fails as `octets_of` does, and then appends nothing.
 pub(crate) fn append_text(
     alloc: Global,
-    text: &[u8],
+    token: RowToken<'_>,
     octets: &mut Vec<u8>,
 ) -> Result<(), EntryError>
-    ensures ok { OnOk result ((spelled : List ℕ) × Spells text.now spelled × (octets.new.items ≡ octets.old.items ++ spelled)) }
-    ensures err { IfErr result (λ error. is_memory error ≡ false → (spelled : List ℕ) → Spells text.now spelled → ⊥) }
+    ensures ok { OnOk result ((spelled : List ℕ) × Spells token.entry.text.now spelled × (octets.new.items ≡ octets.old.items ++ spelled)) }
+    ensures err { IfErr result (λ error. is_memory error ≡ false → (spelled : List ℕ) → Spells token.entry.text.now spelled → ⊥) }
     ensures same { OnErr result (octets.new.items ≡ octets.old.items) }
 {
-    if are_plain(text) {
-        octets.extend_from_slice(text)?;
+    if token.is_plain() {
+        octets.extend_from_slice(token.text)?;
         return Ok(());
     }
-    let spelled = octets_of(alloc, text)?;
+    let spelled = symbols_octets(alloc, token.text)?;
     octets.extend_from_slice(spelled.as_slice())?;
     Ok(())
 }
 
-/// Appends the character string that a text spells, its length first.
+/// Appends the character string that a token's text spells, its length first.
 ///
 /// Fails as `string_of` does, and then appends nothing.
 pub(crate) fn append_string(
     alloc: Global,
-    text: &[u8],
+    token: RowToken<'_>,
     octets: &mut Vec<u8>,
 ) -> Result<(), EntryError>
-    ensures ok { OnOk result ((string : List ℕ) × IsStringText text.now string × (octets.new.items ≡ octets.old.items ++ string_wire string)) }
-    ensures err { IfErr result (λ error. is_memory error ≡ false → (string : List ℕ) → IsStringText text.now string → ⊥) }
+    ensures ok { OnOk result ((string : List ℕ) × IsStringText token.entry.text.now string × (octets.new.items ≡ octets.old.items ++ string_wire string)) }
+    ensures err { IfErr result (λ error. is_memory error ≡ false → (string : List ℕ) → IsStringText token.entry.text.now string → ⊥) }
     ensures end { IfErr result (λ error. is_end error ≡ false) }
     ensures same { OnErr result (octets.new.items ≡ octets.old.items) }
 {
-    if text.len() <= STRING_MOST && are_plain(text) {
-        return append_counted(text, octets);
+    if token.text.len() <= STRING_MOST && token.is_plain() {
+        return append_counted(token.text, octets);
     }
-    let string = string_of(alloc, text)?;
+    let string = string_of(alloc, token)?;
     append_counted(string.as_slice(), octets)
 }
 

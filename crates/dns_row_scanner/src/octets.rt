@@ -6,6 +6,7 @@ ghost use Rattle.dns_row_scanner.specs.EntryError.{is_memory, is_end};
 ghost use Rattle.dns_scan.specs.StringText.{Spells, IsStringText};
 
 use crate::EntryError;
+use crate::row_token::RowToken;
 use dns_name::Symbol;
 use dns_scan::CharStr;
 use std::alloc::Global;
@@ -24,34 +25,31 @@ pub(crate) fn is_plain(octet: u8) -> bool
     b' ' <= octet && octet <= b'~' && octet != b'\\'
 }
 
-/// Returns the text if it has only printable characters other than the backslash.
-pub(crate) fn plain_text(text: &[u8]) -> Option<&str>
-    ensures some { IfSome result (λ word. (word.now ≡ text.now) × (list_all is_plain word.now ≡ true)) }
-    ensures none { IfNone result (list_all is_plain text.now ≡ false) }
+/// Returns the text, which has only printable characters other than the backslash.
+pub(crate) fn plain_word(text: &[u8]) -> &str
+    requires { list_all is_plain text.now ≡ true }
+    ensures { result.now ≡ text.now }
 {
-    if !are_plain(text) {
-        return None;
-    }
     // Printable characters are ASCII.
-    Some(unsafe { std::str::from_utf8_unchecked(text) })
+    unsafe { std::str::from_utf8_unchecked(text) }
 }
 
-/// Returns the octets that a text spells, each by a symbol. A text without a backslash is copied whole.
+/// Returns the octets that a token's text spells, each by a symbol. A text without a backslash is copied whole.
 ///
 /// Fails with `Custom` if a part of the text is no symbol, and with `OutOfMemory` if out of memory.
-pub(crate) fn octets_of(alloc: Global, text: &[u8]) -> Result<Vec<u8>, EntryError>
-    ensures ok { IfOk result (λ octets. Spells text.now octets.items) }
-    ensures err { IfErr result (λ error. is_memory error ≡ false → (octets : List ℕ) → Spells text.now octets → ⊥) }
+pub(crate) fn octets_of(alloc: Global, token: RowToken<'_>) -> Result<Vec<u8>, EntryError>
+    ensures ok { IfOk result (λ octets. Spells token.entry.text.now octets.items) }
+    ensures err { IfErr result (λ error. is_memory error ≡ false → (octets : List ℕ) → Spells token.entry.text.now octets → ⊥) }
     ensures end { IfErr result (λ error. is_end error ≡ false) }
 {
-    if are_plain(text) {
-        return Ok(Vec::from_slice(alloc, text)?);
+    if token.is_plain() {
+        return Ok(Vec::from_slice(alloc, token.text)?);
     }
-    symbols_octets(alloc, text)
+    symbols_octets(alloc, token.text)
 }
 
 /// Returns the octets that a text spells, read symbol by symbol.
-fn symbols_octets(alloc: Global, text: &[u8]) -> Result<Vec<u8>, EntryError>
+pub(crate) fn symbols_octets(alloc: Global, text: &[u8]) -> Result<Vec<u8>, EntryError>
     ensures ok { IfOk result (λ octets. Spells text.now octets.items) }
     ensures err { IfErr result (λ error. is_memory error ≡ false → (octets : List ℕ) → Spells text.now octets → ⊥) }
     ensures end { IfErr result (λ error. is_end error ≡ false) }
@@ -81,16 +79,16 @@ fn octet_of(symbol: Symbol) -> u8
     }
 }
 
-/// Returns the character string that a text spells.
+/// Returns the character string that a token's text spells.
 ///
 /// Fails with `Custom` if a part of the text is no symbol or it spells more than 255 octets, and with `OutOfMemory` if out of
 /// memory.
-pub(crate) fn string_of(alloc: Global, text: &[u8]) -> Result<CharStr<Vec<u8>>, EntryError>
-    ensures ok { IfOk result (λ string. IsStringText text.now string) }
-    ensures err { IfErr result (λ error. is_memory error ≡ false → (string : List ℕ) → IsStringText text.now string → ⊥) }
+pub(crate) fn string_of(alloc: Global, token: RowToken<'_>) -> Result<CharStr<Vec<u8>>, EntryError>
+    ensures ok { IfOk result (λ string. IsStringText token.entry.text.now string) }
+    ensures err { IfErr result (λ error. is_memory error ≡ false → (string : List ℕ) → IsStringText token.entry.text.now string → ⊥) }
     ensures end { IfErr result (λ error. is_end error ≡ false) }
 {
-    let octets = octets_of(alloc, text)?;
+    let octets = octets_of(alloc, token)?;
     match CharStr::from_octets(octets) {
         Ok(string) => Ok(string),
         Err(_) => Err(EntryError::Custom("long character string")),

@@ -1,10 +1,11 @@
 //! A scanner over the tokens of a row.
-ghost use Rattle.std.specs.Prelude.{◌≡◌, ◌∷◌, List, [], drop, map, option_copied, IfOk, IfErr, IfSome, IfNone, OnErr};
+ghost use Rattle.std.specs.Prelude.{◌≡◌, ◌∷◌, ℕ, Bool, true, List, [], All, drop, map, option_copied, IfOk, IfErr, IfSome, IfNone, OnErr};
 ghost use Rattle.dns_row_scanner.specs.Gap.{end_in, gap_before};
 ghost use Rattle.dns_row_scanner.specs.RowToken.{token_of};
 ghost use Rattle.dns_row_scanner.specs.declared.entry_error.EntryError.TheVariants.{EndOfEntry};
 ghost use Rattle.dns_scan.specs.Token.{SameNames};
-ghost use Rattle.dns_tokens.specs.TokenSpan.{token_in};
+ghost use Rattle.dns_tokens.specs.RowFound.{IsRowAt};
+ghost use Rattle.dns_tokens.specs.TokenSpan.{IsPlainUnmarked, token_in};
 ghost use Rattle.dns_tokens.specs.declared.token_span.TokenSpan.{TokenSpan};
 
 mod appended;
@@ -28,7 +29,10 @@ pub struct RowScanner<'t, N = ScannedName> {
     /// Where the tokens stand that are left.
     left: &'t [TokenSpan],
     origin: Option<&'t Name<Vec<u8>>>,
+    /// Whether the spans are of a row that was found in the text, so that they tell in which tokens a backslash stands.
+    is_row: bool,
     names: PhantomData<N>,
+    ghost marked: { is_row ≡ true → All (IsPlainUnmarked text.now) left.now },
 }
 
 impl<'t, N> RowScanner<'t, N> {
@@ -49,12 +53,47 @@ impl<'t, N> RowScanner<'t, N> {
         ensures origin { origin_of result ≡ option_copied origin.entry }
         ensures gap { gap_of result ≡ gap_before text.now place spans.now }
     {
+        RowScanner::over(alloc, text, place, spans, origin, false)
+    }
+
+    /// Returns a scanner over the tokens of the row that `read_row` found in the text at the place. It does not search tokens for a
+    /// backslash once more.
+    pub fn of_row(
+        alloc: Global,
+        text: &'t [u8],
+        place: usize,
+        spans: &'t [TokenSpan],
+        origin: Option<&'t Name<Vec<u8>>>,
+    ) -> Self
+        requires { (next : ℕ) × (led : Bool) × IsRowAt text.now place spans.now next led }
+        ensures tokens { tokens_of result ≡ map (λ span. token_in text.now span) spans.now }
+        ensures origin { origin_of result ≡ option_copied origin.entry }
+        ensures gap { gap_of result ≡ gap_before text.now place spans.now }
+    {
+        RowScanner::over(alloc, text, place, spans, origin, true)
+    }
+
+    /// Returns a scanner over the tokens of the spans, which are those of a row in the text or may be any.
+    fn over(
+        alloc: Global,
+        text: &'t [u8],
+        place: usize,
+        spans: &'t [TokenSpan],
+        origin: Option<&'t Name<Vec<u8>>>,
+        is_row: bool,
+    ) -> Self
+        requires { is_row ≡ true → All (IsPlainUnmarked text.now) spans.now }
+        ensures tokens { tokens_of result ≡ map (λ span. token_in text.now span) spans.now }
+        ensures origin { origin_of result ≡ option_copied origin.entry }
+        ensures gap { gap_of result ≡ gap_before text.now place spans.now }
+    {
         RowScanner {
             alloc,
             text,
             place,
             left: spans,
             origin,
+            is_row,
             names: PhantomData,
         }
     }
@@ -68,6 +107,7 @@ impl<'t, N> RowScanner<'t, N> {
         Some(RowToken {
             text: span.text(self.text),
             quoted: span.is_quoted(),
+            bare: self.is_row && !span.has_escape(),
         })
     }
 
@@ -86,6 +126,7 @@ impl<'t, N> RowScanner<'t, N> {
         let token = RowToken {
             text: span.text(self.text),
             quoted: span.is_quoted(),
+            bare: self.is_row && !span.has_escape(),
         };
         self.place = span.start().min(self.text.len())
             + token.text.len()

@@ -1,8 +1,10 @@
 //! Tokens of a row.
-ghost use Rattle.std.specs.Prelude.{◌≡◌, ◌∷◌, ◌↔◌, List, ℕ, [], IsTrue, IfSome, IfNone};
+ghost use Rattle.std.specs.Prelude.{◌≡◌, ◌∷◌, ◌↔◌, List, ℕ, [], true, IsTrue, IfSome, IfNone};
+ghost use Rattle.std.specs.List.{list_all};
+ghost use Rattle.dns_label.specs.Symbol.{is_plain};
 ghost use Rattle.dns_scan.specs.Token.{IsWord, marker};
 
-use crate::octets::plain_text;
+use crate::octets::{are_plain, plain_word};
 
 /// A token of a row.
 #[derive(Clone, Copy, Debug)]
@@ -11,6 +13,9 @@ pub(crate) struct RowToken<'t> {
     pub(crate) text: &'t [u8],
     /// Whether it is quoted.
     pub(crate) quoted: bool,
+    /// Whether it is known that no backslash stands in it.
+    pub(crate) bare: bool,
+    ghost plain: { bare ≡ true → list_all is_plain text.now ≡ true },
 }
 
 impl<'t> RowToken<'t> {
@@ -21,10 +26,18 @@ impl<'t> RowToken<'t> {
         ensures some { IfSome result (λ word. IsWord word.now (token_of self.entry)) }
         ensures none { IfNone result ((text : List ℕ) → IsWord text (token_of self.entry) → ⊥) }
     {
-        if self.quoted {
+        if self.quoted || !self.is_plain() {
             return None;
         }
-        plain_text(self.text)
+        Some(plain_word(self.text))
+    }
+
+    /// Returns whether the text has only printable characters other than the backslash. Each of them is a symbol that stands for
+    /// itself.
+    pub(crate) fn is_plain(self) -> bool
+        ensures { result ≡ list_all is_plain self.entry.text.now }
+    {
+        self.bare || are_plain(self.text)
     }
 
     /// Returns whether the token is the marker of data of an unknown type (RFC 3597 5).

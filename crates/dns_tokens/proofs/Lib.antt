@@ -2,3 +2,4 @@ pub mod PlainOctets
 pub mod TokenRuns
 pub mod Steps
 pub mod Rows
+pub mod PlainTokens

@@ -1,6 +1,7 @@
 -- Places of tokens in a text, and the tokens there.
-use Rattle.std.specs.Prelude.{◌≡◌, ◌==◌, ℕ, Bool, List, Option, take, drop}
-use Rattle.std.specs.List.{list_any}
+use Rattle.std.specs.Prelude.{◌≡◌, ◌==◌, ℕ, Bool, true, false, List, Option, take, drop}
+use Rattle.std.specs.List.{list_all, list_any}
+use Rattle.dns_label.specs.Symbol.{is_plain}
 use Rattle.dns_scan.specs.Token.{Token}
 use Rattle.dns_text.specs.Tokens.{Next}
 use Rattle.dns_tokens.specs.declared.token_span.TokenSpan.{TokenSpan}
@@ -29,6 +30,10 @@ has_backslash octets = list_any (λ octet. octet == 92) octets
 -- what the span says of backslashes is so in the text
 abbrev pub IsMarked : List ℕ → TokenSpan → Type 0
 IsMarked text span = is_marked span ≡ has_backslash (token_in text span).text
+
+-- if it says that there is none, each octet of the token is a printable character that stands for itself
+abbrev pub IsPlainUnmarked : List ℕ → TokenSpan → Type 0
+IsPlainUnmarked text span = is_marked span ≡ false → list_all is_plain (token_in text span).text ≡ true
 
 -- from there neither a token follows nor the end of the row
 abbrev pub NoNext : Bool → List ℕ → Type 0

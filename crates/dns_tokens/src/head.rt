@@ -20,8 +20,15 @@ pub(crate) enum Head {
 pub(crate) fn head_of(inside: bool, octet: u8) -> Head
     ensures { spec_head_of inside octet ≡ head_in result }
 {
+    // Most octets that are asked for are a space, a letter or a digit.
+    if octet == b' ' {
+        return Head::Go(inside);
+    }
+    if octet > b';' || octet.is_ascii_digit() {
+        return Head::Word;
+    }
     match octet {
-        b' ' | b'\t' | b'\r' => Head::Go(inside),
+        b'\t' | b'\r' => Head::Go(inside),
         b'\n' => { if inside { Head::Go(true) } else { Head::Feed } }
         b'(' => {
             if inside {

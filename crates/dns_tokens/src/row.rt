@@ -39,7 +39,7 @@ pub fn read_row(
     let mut reader = RowReader::new(text, place);
     loop {
         match reader.next_token() {
-            Ok(Some(token)) => tokens.push(token)?,
+            Ok(Some(token)) => tokens.push(token.by_fields())?,
             Ok(None) => {
                 return Ok(RowFound::Row {
                     next: reader.place(),

@@ -41,6 +41,20 @@ impl TokenSpan {
         self.has_escape
     }
 
+    /// Returns the same, built of its fields. What is pushed then is the fields alone, where a copy of the whole takes the octets
+    /// between them along.
+    #[inline(always)]
+    pub(crate) fn by_fields(self) -> TokenSpan
+        ensures { result ≡ self }
+    {
+        TokenSpan {
+            start: self.start,
+            len: self.len,
+            quoted: self.quoted,
+            has_escape: self.has_escape,
+        }
+    }
+
     /// Returns the token as it is written in the text that it was read from, without quotes.
     ///
     /// In a shorter text the token ends where that text ends.

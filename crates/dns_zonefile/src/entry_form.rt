@@ -1,6 +1,7 @@
 //! The forms in which the entries of rows are given.
 ghost use Rattle.std.specs.Prelude.{◌≡◌, List, ℕ, false, map, IfErr, IfOk, OnErr};
 ghost use Rattle.dns_row_scanner.specs.EntryError.{is_memory};
+ghost use Rattle.dns_tokens.specs.RowFound.{IsRowAt};
 ghost use Rattle.dns_tokens.specs.TokenSpan.{token_in};
 ghost use Rattle.dns_zonefile.specs.Entry as spec;
 ghost use Rattle.dns_zonefile.specs.Entry.{IsEntry};
@@ -26,8 +27,8 @@ pub(crate) trait EntryForm {
 
     ghost gives: { List ℕ → spec.Entry → Self.Given → List ℕ → Type 0 };
 
-    /// Returns the entry of the row whose tokens stand in the text from the place on, which white space leads or not, and takes
-    /// over what it sets. A directive is None.
+    /// Returns the entry of the row whose tokens stand in the text from the place on, as `read_row` found them, which white space
+    /// leads or not, and takes over what it sets. A directive is None.
     ///
     /// Fails with an error other than `OutOfMemory` only if the row is no entry. Nothing changes then.
     fn take_row(
@@ -39,6 +40,7 @@ pub(crate) trait EntryForm {
         spans: &[TokenSpan],
         led: bool,
     ) -> Result<Option<Self::Given>, EntryError>
+        requires { (next : ℕ) × IsRowAt text.now place spans.now next led }
         ensures ok { IfOk result (λ given. (entry : spec.Entry)
             × IsEntry (context_of context.old) (row_of led (map (λ span. token_in text.now span) spans.now)) entry (context_of context.new)
             × IsGiven gives (octets self.old) entry given (octets self.new)) }

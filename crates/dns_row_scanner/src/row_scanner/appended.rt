@@ -14,17 +14,17 @@ impl<'t, N: TextName> OctetsScanner for RowScanner<'t, N> {
         if token.quoted {
             return Err(EntryError::Custom("quoted name"));
         }
-        append_name(self.alloc, token.text, self.origin, octets)
+        append_name(self.alloc, token, self.origin, octets)
     }
 
     fn scan_octets_into(&mut self, octets: &mut Vec<u8>) -> Result<(), EntryError> {
         let token = self.take_token()?;
-        append_text(self.alloc, token.text, octets)
+        append_text(self.alloc, token, octets)
     }
 
     fn scan_charstr_into(&mut self, octets: &mut Vec<u8>) -> Result<(), EntryError> {
         let token = self.take_token()?;
-        append_string(self.alloc, token.text, octets)
+        append_string(self.alloc, token, octets)
     }
 
     fn scan_charstr_entry_into(&mut self, octets: &mut Vec<u8>) -> Result<(), EntryError> {
@@ -58,7 +58,7 @@ impl<'t, N> RowScanner<'t, N> {
             let Ok(token) = self.take_token() else {
                 return Ok(());
             };
-            match append_string(self.alloc, token.text, octets) {
+            match append_string(self.alloc, token, octets) {
                 Ok(()) => {}
                 Err(error) => return Err(error),
             }

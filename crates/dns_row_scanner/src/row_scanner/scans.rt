@@ -33,12 +33,12 @@ impl<'t, N: TextName> Scanner for RowScanner<'t, N> {
 
     fn scan_octets(&mut self) -> Result<Vec<u8>, EntryError> {
         let token = self.take_token()?;
-        octets_of(self.alloc, token.text)
+        octets_of(self.alloc, token)
     }
 
     fn scan_charstr(&mut self) -> Result<CharStr<Vec<u8>>, EntryError> {
         let token = self.take_token()?;
-        string_of(self.alloc, token.text)
+        string_of(self.alloc, token)
     }
 
     fn scan_opt_unknown_marker(&mut self) -> Result<bool, EntryError> {
@@ -75,7 +75,7 @@ impl<'t, N: TextName> Scanner for RowScanner<'t, N> {
 
     fn scan_string(&mut self) -> Result<String, EntryError> {
         let token = self.take_token()?;
-        let octets = octets_of(self.alloc, token.text)?;
+        let octets = octets_of(self.alloc, token)?;
         match String::from_utf8(octets) {
             Ok(text) => Ok(text),
             Err(_) => Err(EntryError::Custom("invalid UTF-8")),

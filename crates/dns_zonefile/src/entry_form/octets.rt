@@ -56,7 +56,7 @@ impl EntryForm for Vec<u8> {
         led: bool,
     ) -> Result<Option<ComposedEntry>, EntryError> {
         let origin = context.origin.as_ref();
-        let mut scanner: RowScanner<'_, InlineName> = RowScanner::new(
+        let mut scanner: RowScanner<'_, InlineName> = RowScanner::of_row(
             alloc, text, place, spans, origin,
         );
         if begins_directive(led, &scanner) {

@@ -1,7 +1,8 @@
 //! Entries as values.
-ghost use Rattle.std.specs.Prelude.{◌≡◌, false, map, option_copied, IfErr, IfOk};
+ghost use Rattle.std.specs.Prelude.{◌≡◌, ℕ, false, map, option_copied, IfErr, IfOk};
 ghost use Rattle.dns_row_scanner.specs.EntryError.{is_memory};
 ghost use Rattle.dns_row_scanner.specs.NameInText.{SpellsUnder};
+ghost use Rattle.dns_tokens.specs.RowFound.{IsRowAt};
 ghost use Rattle.dns_tokens.specs.TokenSpan.{token_in};
 ghost use Rattle.dns_zonefile.specs.Seen.{row_of, statement_of};
 ghost use Rattle.dns_zonefile.specs.Statement as spec_statement;
@@ -52,7 +53,7 @@ impl EntryForm for AsValues {
     }
 }
 
-/// Reads what the row says that begins at the place and whose tokens stand there, which white space leads or not.
+/// Reads what the row says that was found at the place, which white space leads or not.
 #[tactic(auto, using(crate::proofs::OneEntry::under_once))]
 fn scan_row<N: TextName>(
     alloc: Global,
@@ -62,11 +63,12 @@ fn scan_row<N: TextName>(
     led: bool,
     origin: Option<&Name<Vec<u8>>>,
 ) -> Result<Statement<Vec<u8>, N>, EntryError>
+    requires { (next : ℕ) × IsRowAt text.now place spans.now next led }
     ensures ok { IfOk result (λ statement. Says (SpellsUnder (option_copied origin.entry))
         (row_of led (map (λ span. token_in text.now span) spans.now)) (statement_of N.name statement)) }
     ensures err { IfErr result (λ error. is_memory error ≡ false → (statement : spec_statement.Statement)
         → Says (SpellsUnder (option_copied origin.entry)) (row_of led (map (λ span. token_in text.now span) spans.now)) statement → ⊥) }
 {
-    let mut scanner: RowScanner<'_, N> = RowScanner::new(alloc, text, place, spans, origin);
+    let mut scanner: RowScanner<'_, N> = RowScanner::of_row(alloc, text, place, spans, origin);
     scan_statement(led, &mut scanner)
 }

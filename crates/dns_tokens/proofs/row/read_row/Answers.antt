@@ -1,4 +1,4 @@
-use Rattle.std.proofs.Common.{◌∙◌}
+use Rattle.std.proofs.Common.{[], ◌∷◌, ◌++◌, ◌∙◌, ap}
 use Rattle.dns_tokens.proofs.Rows.{held_broken, held_last, held_more, next_shorter}
 use Rattle.dns_tokens.proofs.row.read_row.Goals as goal
 
@@ -12,7 +12,8 @@ loop-token-preserved c =
     let so_far = c.loop-token.invariant in
     record {
       text = c.next_token.ensures.text ∙ so_far.text;
-      held = held_more c.in-Ok-Some.token _ so_far.held so_far.text next marked c.in_ok-push-in-Ok-Some.ensures.items;
+      held = held_more c.in-Ok-Some.token _ so_far.held so_far.text next marked
+          (c.in_ok-push-in-Ok-Some.ensures.items ∙ ap (λ s. c.loop-token.tokens.items ++ s ∷ []) c.by_fields.ensures);
     }
 
 pub returns-in-Ok-None : goal.returns-in-Ok-None

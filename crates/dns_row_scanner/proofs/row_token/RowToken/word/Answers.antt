@@ -1,14 +1,19 @@
-use Rattle.dns_row_scanner.proofs.Refused.{if_some_weaker, if_none_weaker}
+use Rattle.std.proofs.Common.{◌∙◌, ap, sym}
+use Rattle.std.specs.List.{list_all}
+use Rattle.dns_label.specs.Symbol.{is_plain}
 use Rattle.dns_row_scanner.proofs.Words.{word_by, quoted_apart, other_apart}
 use Rattle.dns_row_scanner.proofs.row_token.RowToken.word.Goals as goal
+use Rattle.dns_row_scanner.proofs.row_token.RowToken.word.Goals.{then-self-via-then-self, then-self-via-else-self+then-not-is_plain}
 
 pub returns-then-self-clause-none : goal.returns-then-self-clause-none
-returns-then-self-clause-none c = λ text is. quoted_apart c.args.self.quoted c.args.self.text.now text c.if-self.true is
+returns-then-self-clause-none c = λ text is.
+    elim c.then-self.branch [
+      | then-self-via-then-self w ↦ quoted_apart c.args.self.quoted c.args.self.text.now text w.if-self.true is
+      | then-self-via-else-self+then-not-is_plain w ↦
+          other_apart c.args.self.quoted c.args.self.text.now text (sym w.is_plain.ensures ∙ w.if-not-is_plain.true) is
+    ]
 
 pub returns-clause-some : goal.returns-clause-some
-returns-clause-some c = if_some_weaker c.plain_text.result _ _
-    (λ word is. word_by c.args.self.quoted c.args.self.text.now word.now c.if-self.false is.0 is.1) c.plain_text.ensures.some
-
-pub returns-clause-none : goal.returns-clause-none
-returns-clause-none c = if_none_weaker c.plain_text.result _ _
-    (λ other text is. other_apart c.args.self.quoted c.args.self.text.now text other is) c.plain_text.ensures.none
+returns-clause-some c =
+    word_by c.args.self.quoted c.args.self.text.now c.plain_word.result.now c.if-self.false c.plain_word.ensures
+    (ap (list_all is_plain) c.plain_word.ensures ∙ sym c.is_plain.ensures ∙ c.if-not-is_plain.false)

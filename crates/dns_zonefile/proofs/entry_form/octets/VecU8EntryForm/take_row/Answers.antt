@@ -10,7 +10,7 @@ pub returns-in-Err-clause-err : goal.returns-in-Err-clause-err
 returns-in-Err-clause-err c = λ real entry after is.
     let begins = c.begins_directive.ensures.yes c.if-begins_directive.true in
     no_direction begins.0 begins.1 (c.in-Err.ensures.err real)
-    (says_under (sym (c.new-scanner.ensures.origin ∙ c.as_ref-origin.ensures.value)) (ap (row_of c.args.led) (sym c.new-scanner.ensures.tokens)) is.says)
+    (says_under (sym (c.of_row-scanner.ensures.origin ∙ c.as_ref-origin.ensures.value)) (ap (row_of c.args.led) (sym c.of_row-scanner.ensures.tokens)) is.says)
 
 pub composed_of-requires : goal.composed_of-requires
 composed_of-requires c = λ rr is. directs_no_record c.in-Ok.ensures.ok refl c.in-Ok-enter.ensures.ok is
@@ -23,7 +23,7 @@ returns-in-Ok-enter-clause-ok c =
       _,
       record {
         statement = _;
-        says = says_under (c.new-scanner.ensures.origin ∙ c.as_ref-origin.ensures.value) (ap (row_of c.args.led) c.new-scanner.ensures.tokens)
+        says = says_under (c.of_row-scanner.ensures.origin ∙ c.as_ref-origin.ensures.value) (ap (row_of c.args.led) c.of_row-scanner.ensures.tokens)
             (says_direction begins.0 begins.1 c.in-Ok.ensures.ok);
         enters = c.in-Ok-enter.ensures.ok;
       },
@@ -42,7 +42,7 @@ pub returns-in-Err-enter-clause-err : goal.returns-in-Err-enter-clause-err
 returns-in-Err-enter-clause-err c = λ real.
     let begins = c.begins_directive.ensures.yes c.if-begins_directive.true in
     unentered
-    (says_under (c.new-scanner.ensures.origin ∙ c.as_ref-origin.ensures.value) (ap (row_of c.args.led) c.new-scanner.ensures.tokens)
+    (says_under (c.of_row-scanner.ensures.origin ∙ c.as_ref-origin.ensures.value) (ap (row_of c.args.led) c.of_row-scanner.ensures.tokens)
     (says_direction begins.0 begins.1 c.in-Ok.ensures.ok))
     (c.in-Err-enter.ensures.err real)
 
@@ -58,7 +58,7 @@ owner_in-owner-requires c = (
 
 pub returns-in-Ok-append_record-clause-ok : goal.returns-in-Ok-append_record-clause-ok
 returns-in-Ok-append_record-clause-ok c =
-    record_handed (c.new-scanner.ensures.origin ∙ c.as_ref-origin.ensures.value) (ap (row_of c.args.led) c.new-scanner.ensures.tokens)
+    record_handed (c.of_row-scanner.ensures.origin ∙ c.as_ref-origin.ensures.value) (ap (row_of c.args.led) c.of_row-scanner.ensures.tokens)
     c.in-Ok-append_record.ensures.ok
     (c.owner_in-owner.ensures _ (record_begins _ c.len-len.result (omega arith)
     (take_rest c.deref.result.now c.len-len.result ∙ ap (λ (l : List ℕ). drop c.len-len.result l) c.deref.ensures.value)
@@ -67,5 +67,5 @@ returns-in-Ok-append_record-clause-ok c =
 pub returns-in-Err-append_record-clause-err : goal.returns-in-Err-append_record-clause-err
 returns-in-Err-append_record-clause-err c = λ real entry after is.
     c.in-Err-append_record.ensures.err real is.statement entry after
-    (says_under (sym (c.new-scanner.ensures.origin ∙ c.as_ref-origin.ensures.value)) (ap (row_of c.args.led) (sym c.new-scanner.ensures.tokens)) is.says)
+    (says_under (sym (c.of_row-scanner.ensures.origin ∙ c.as_ref-origin.ensures.value)) (ap (row_of c.args.led) (sym c.of_row-scanner.ensures.tokens)) is.says)
     is.enters
