@@ -1,4 +1,5 @@
 use Rattle.std.proofs.Common.{◌≡◌, ◌<◌, [], ◌∷◌, length, refl, sym, subst, rules}
+use Rattle.dns_tokens.specs.RowFound.{IsRowAt}
 use Rattle.dns_zonefile.specs.Entry.{IsEntry}
 use Rattle.dns_zonefile.specs.RowRead.{IsGiven}
 use Rattle.dns_zonefile.specs.Seen.{context_of}
@@ -10,6 +11,14 @@ returns-then-is_empty-clause-ok g c =
     let now = c.args.self.now in
     let none : length now.spans.items ≡ 0 = search rules in
     ([], tt, goes-bare now.text.items now.place c.args.next now.spans.items c.args.led c.requires (context_of now.context) now.count none, c.requires.behind, refl)
+
+pub take_row-requires : goal.take_row-requires
+take_row-requires g c =
+    let now = c.args.self.now in (
+      c.args.next,
+      subst (λ text. IsRowAt text now.place c.as_slice-spans.result.now c.args.next c.args.led) (sym c.as_slice-text.ensures.value)
+          (subst (λ spans. IsRowAt now.text.items now.place spans c.args.next c.args.led) (sym c.as_slice-spans.ensures.value) c.requires),
+    )
 
 pub returns-in-Err-clause-err : goal.returns-in-Err-clause-err
 returns-in-Err-clause-err g c =
