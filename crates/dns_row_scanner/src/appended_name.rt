@@ -1,6 +1,6 @@
 //! Names of tokens, appended as octets with no value between.
 ghost use Rattle.std.specs.List.{list_all};
-ghost use Rattle.std.specs.Prelude.{◌≡◌, ◌≢◌, ◌+◌, ◌<◌, ◌≤◌, ◌++◌, ◌∷◌, ◌==◌, [], List, ℕ, true, false, not, length, take, option_copied, IsTrue, IfErr, OnOk, OnErr};
+ghost use Rattle.std.specs.Prelude.{◌≡◌, ◌≢◌, ◌↔◌, ◌+◌, ◌<◌, ◌≤◌, ◌++◌, ◌∷◌, ◌==◌, [], List, ℕ, true, false, not, length, take, option_copied, IsTrue, IfErr, OnOk, OnErr};
 ghost use Rattle.dns_label.specs.Name.{IsName, wire};
 ghost use Rattle.dns_label.specs.NameText.{IsAbsoluteText};
 ghost use Rattle.dns_wire.specs.Unescaped.{is_unescaped};
@@ -62,10 +62,20 @@ fn append_dotted(text: &[u8], octets: &mut Vec<u8>) -> bool
     ensures yes { IsTrue result → (name : List (List ℕ)) × IsAbsoluteText text.now name × (octets.new.items ≡ octets.old.items ++ wire name) }
     ensures no { result ≡ false → octets.new.items ≡ octets.old.items }
 {
+    if is_root(text) {
+        return octets.push(0).is_ok();
+    }
     match text.split_last() {
         Some((b'.', _)) => Name::append_absolute_text(octets, text).is_ok(),
         _ => false,
     }
+}
+
+/// Returns whether the text spells the root, by its dot alone.
+fn is_root(text: &[u8]) -> bool
+    ensures { IsTrue result ↔ (text.now ≡ 46 ∷ []) }
+{
+    matches!(text, [b'.'])
 }
 
 /// Appends the octets of the name that a text of one label without an escape spells under the origin, and returns whether it did. It

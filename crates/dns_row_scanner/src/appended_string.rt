@@ -5,9 +5,9 @@ ghost use Rattle.dns_scan.specs.CharStr.{string_wire};
 ghost use Rattle.dns_scan.specs.StringText.{IsStringText, Spells};
 
 use crate::EntryError;
-use crate::octets::{string_of, symbols_octets};
+use crate::octets::append_symbols;
 use crate::row_token::RowToken;
-use std::alloc::{AllocError, Global};
+use std::alloc::AllocError;
 
 /// The most octets of a character string (RFC 1035 3.3).
 const STRING_MOST: usize = 255;
@@ -15,11 +15,7 @@ const STRING_MOST: usize = 255;
 /// Appends the octets that a token's text spells. A text without a backslash is appended as it stands.
 ///
 /// Fails as `octets_of` does, and then appends nothing.
-pub(crate) fn append_text(
-    alloc: Global,
-    token: RowToken<'_>,
-    octets: &mut Vec<u8>,
-) -> Result<(), EntryError>
+pub(crate) fn append_text(token: RowToken<'_>, octets: &mut Vec<u8>) -> Result<(), EntryError>
     ensures ok { OnOk result ((spelled : List ℕ) × Spells token.entry.text.now spelled × (octets.new.items ≡ octets.old.items ++ spelled)) }
     ensures err { IfErr result (λ error. is_memory error ≡ false → (spelled : List ℕ) → Spells token.entry.text.now spelled → ⊥) }
     ensures same { OnErr result (octets.new.items ≡ octets.old.items) }
@@ -28,19 +24,20 @@ pub(crate) fn append_text(
         octets.extend_from_slice(token.text)?;
         return Ok(());
     }
-    let spelled = symbols_octets(alloc, token.text)?;
-    octets.extend_from_slice(spelled.as_slice())?;
-    Ok(())
+    let len = octets.len();
+    match append_symbols(token.text, octets) {
+        Ok(()) => Ok(()),
+        Err(error) => {
+            octets.truncate(len);
+            Err(error)
+        }
+    }
 }
 
 /// Appends the character string that a token's text spells, its length first.
 ///
 /// Fails as `string_of` does, and then appends nothing.
-pub(crate) fn append_string(
-    alloc: Global,
-    token: RowToken<'_>,
-    octets: &mut Vec<u8>,
-) -> Result<(), EntryError>
+pub(crate) fn append_string(token: RowToken<'_>, octets: &mut Vec<u8>) -> Result<(), EntryError>
     ensures ok { OnOk result ((string : List ℕ) × IsStringText token.entry.text.now string × (octets.new.items ≡ octets.old.items ++ string_wire string)) }
     ensures err { IfErr result (λ error. is_memory error ≡ false → (string : List ℕ) → IsStringText token.entry.text.now string → ⊥) }
     ensures end { IfErr result (λ error. is_end error ≡ false) }
@@ -49,8 +46,35 @@ pub(crate) fn append_string(
     if token.text.len() <= STRING_MOST && token.is_plain() {
         return append_counted(token.text, octets);
     }
-    let string = string_of(alloc, token)?;
-    append_counted(string.as_slice(), octets)
+    let len = octets.len();
+    match append_spelled(token.text, octets) {
+        Ok(()) => Ok(()),
+        Err(error) => {
+            octets.truncate(len);
+            Err(error)
+        }
+    }
+}
+
+/// The same symbol by symbol, but that a part may be left behind where it fails. The length is written when it is known.
+fn append_spelled(text: &[u8], octets: &mut Vec<u8>) -> Result<(), EntryError>
+    ensures ok { OnOk result ((string : List ℕ) × IsStringText text.now string × (octets.new.items ≡ octets.old.items ++ string_wire string)) }
+    ensures err { IfErr result (λ error. is_memory error ≡ false → (string : List ℕ) → IsStringText text.now string → ⊥) }
+    ensures end { IfErr result (λ error. is_end error ≡ false) }
+    ensures front { take (length octets.old.items) octets.new.items ≡ octets.old.items }
+{
+    let place = octets.len();
+    match octets.push(0) {
+        Ok(()) => {}
+        Err(_) => return Err(EntryError::OutOfMemory),
+    }
+    append_symbols(text, octets)?;
+    let len = octets.len() - place - 1;
+    if len > STRING_MOST {
+        return Err(EntryError::Custom("long character string"));
+    }
+    octets[place] = len as u8;
+    Ok(())
 }
 
 /// Appends the octets of a string behind their number. Fails with `OutOfMemory`, and then appends nothing.

@@ -1,5 +1,5 @@
 //! The octets that the text of a token spells (RFC 1035 5.1).
-ghost use Rattle.std.specs.Prelude.{◌≡◌, List, ℕ, true, false, IfOk, IfErr, IfSome, IfNone};
+ghost use Rattle.std.specs.Prelude.{◌≡◌, ◌++◌, List, ℕ, true, false, length, take, IfOk, IfErr, OnOk};
 ghost use Rattle.std.specs.List.{list_all};
 ghost use Rattle.dns_label.specs.Symbol.{IsSymbol, is_plain, octet};
 ghost use Rattle.dns_row_scanner.specs.EntryError.{is_memory, is_end};
@@ -45,16 +45,21 @@ pub(crate) fn octets_of(alloc: Global, token: RowToken<'_>) -> Result<Vec<u8>, E
     if token.is_plain() {
         return Ok(Vec::from_slice(alloc, token.text)?);
     }
-    symbols_octets(alloc, token.text)
+    let mut octets = Vec::new(alloc);
+    append_symbols(token.text, &mut octets)?;
+    Ok(octets)
 }
 
-/// Returns the octets that a text spells, read symbol by symbol.
-pub(crate) fn symbols_octets(alloc: Global, text: &[u8]) -> Result<Vec<u8>, EntryError>
-    ensures ok { IfOk result (λ octets. Spells text.now octets.items) }
-    ensures err { IfErr result (λ error. is_memory error ≡ false → (octets : List ℕ) → Spells text.now octets → ⊥) }
+/// Appends the octets that a text spells, read symbol by symbol.
+///
+/// Fails with `Custom` if a part of the text is no symbol, and with `OutOfMemory` if out of memory. The octets of the symbols before
+/// may have been appended then.
+pub(crate) fn append_symbols(text: &[u8], octets: &mut Vec<u8>) -> Result<(), EntryError>
+    ensures ok { OnOk result ((spelled : List ℕ) × Spells text.now spelled × (octets.new.items ≡ octets.old.items ++ spelled)) }
+    ensures err { IfErr result (λ error. is_memory error ≡ false → (spelled : List ℕ) → Spells text.now spelled → ⊥) }
     ensures end { IfErr result (λ error. is_end error ≡ false) }
+    ensures front { take (length octets.old.items) octets.new.items ≡ octets.old.items }
 {
-    let mut octets = Vec::new(alloc);
     let mut rest = text;
     while !rest.is_empty() {
         let Some((symbol, behind)) = Symbol::split_from(rest) else {
@@ -65,7 +70,7 @@ pub(crate) fn symbols_octets(alloc: Global, text: &[u8]) -> Result<Vec<u8>, Entr
             Err(_) => return Err(EntryError::OutOfMemory),
         }
     }
-    Ok(octets)
+    Ok(())
 }
 
 /// Returns the octet that a symbol stands for.

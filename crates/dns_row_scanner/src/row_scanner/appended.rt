@@ -19,12 +19,12 @@ impl<'t, N: TextName> OctetsScanner for RowScanner<'t, N> {
 
     fn scan_octets_into(&mut self, octets: &mut Vec<u8>) -> Result<(), EntryError> {
         let token = self.take_token()?;
-        append_text(self.alloc, token, octets)
+        append_text(token, octets)
     }
 
     fn scan_charstr_into(&mut self, octets: &mut Vec<u8>) -> Result<(), EntryError> {
         let token = self.take_token()?;
-        append_string(self.alloc, token, octets)
+        append_string(token, octets)
     }
 
     fn scan_charstr_entry_into(&mut self, octets: &mut Vec<u8>) -> Result<(), EntryError> {
@@ -58,7 +58,7 @@ impl<'t, N> RowScanner<'t, N> {
             let Ok(token) = self.take_token() else {
                 return Ok(());
             };
-            match append_string(self.alloc, token, octets) {
+            match append_string(token, octets) {
                 Ok(()) => {}
                 Err(error) => return Err(error),
             }
