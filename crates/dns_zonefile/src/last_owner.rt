@@ -1,26 +1,27 @@
 //! The owner of the last record, which a row that white space leads has too (RFC 1035 5.1).
 ghost use Rattle.std.specs.Prelude.{◌≡◌, Some, None};
 
-use arrayvec::ArrayVec;
 use dns_name::{Name, Octets};
 use std::marker::Model;
 
 /// The owner of the last record, if there was one. Only as many octets are copied as it has.
 #[derive(Debug, Drop)]
 pub(crate) struct LastOwner {
-    /// The octets of the name. None if there was no record.
-    octets: ArrayVec<u8, 255>,
+    /// The octets of the name, and behind them octets without a meaning.
+    octets: [u8; 255],
+    /// How many octets the name has. 0 if there was no record.
+    len: usize,
 }
 
 impl Model for LastOwner {
-    ghost use Rattle.std.specs.Prelude.{List, Option, ℕ};
+    ghost use Rattle.std.specs.Prelude.{◌≡◌, ◌≤◌, List, Option, ℕ, length, take};
     ghost use Rattle.dns_zonefile.specs.LastOwner.{HoldsName, name_in};
 
     ghost Value = { Option (List (List ℕ)) };
 
-    ghost view = { λ last. name_in last.octets.items };
+    ghost view = { λ last. name_in (take last.len last.octets) };
 
-    ghost invariant = { λ last. HoldsName last.octets.items };
+    ghost invariant = { λ last. (length last.octets ≡ 255) × (last.len ≤ 255) × HoldsName (take last.len last.octets) };
 }
 
 impl LastOwner {
@@ -29,7 +30,8 @@ impl LastOwner {
         ensures { result ≡ None }
     {
         LastOwner {
-            octets: ArrayVec::new(),
+            octets: [0; 255],
+            len: 0,
         }
     }
 
@@ -37,19 +39,18 @@ impl LastOwner {
     pub(crate) fn set<Octs: Octets>(&mut self, name: &Name<Octs>)
         ensures { self.new ≡ Some name.now }
     {
-        self.octets.clear();
-        if self.octets.try_extend_from_slice(name.as_slice()).is_err() {
-            unreachable!();
-        }
+        let octets = name.as_slice();
+        self.octets[..octets.len()].copy_from_slice(octets);
+        self.len = octets.len();
     }
 
     /// Returns the name that is kept.
     pub(crate) fn get(&self) -> Option<Name<&[u8]>>
         ensures { result ≡ self.now }
     {
-        if self.octets.is_empty() {
+        if self.len == 0 {
             return None;
         }
-        Some(Name::from_octets_unchecked(self.octets.as_slice()))
+        Some(Name::from_octets_unchecked(&self.octets[..self.len]))
     }
 }

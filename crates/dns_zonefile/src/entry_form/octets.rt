@@ -1,5 +1,5 @@
 //! Records as octets behind a vector, composed where they are scanned.
-ghost use Rattle.std.specs.Prelude.{◌≡◌, ◌∷◌, ◌++◌, List, ℕ, [], Option, Some, Ok, true, false, IfErr, IfOk, OnErr, OnOk};
+ghost use Rattle.std.specs.Prelude.{◌≡◌, ◌∷◌, ◌++◌, Bool, List, ℕ, [], Option, Some, Ok, true, false, map, IfErr, IfOk, OnErr, OnOk};
 ghost use Rattle.dns_header.specs.Head.{fixed_octets};
 ghost use Rattle.dns_header.specs.Record.{RecordOf};
 ghost use Rattle.dns_rdata.specs.Data.{Data, ScansAnyData};
@@ -7,9 +7,12 @@ ghost use Rattle.dns_row_scanner.specs.EntryError.{is_memory};
 ghost use Rattle.dns_row_scanner.specs.RowScanner.{names_of, tokens_of};
 ghost use Rattle.dns_scan_data.specs.Appended.{GoesOn};
 ghost use Rattle.dns_scan.specs.Token.{SameNames};
+ghost use Rattle.dns_tokens.specs.RowFound.{IsRowAt};
+ghost use Rattle.dns_tokens.specs.TokenSpan.{token_in};
 ghost use Rattle.dns_zonefile.specs.ComposedRow.{BeginsWithName, ComposesData, ComposesRecord, HasNoOwner, IsHandedOn, OwnerStands};
+ghost use Rattle.dns_zonefile.specs.Directive.{BeginsDirective};
 ghost use Rattle.dns_zonefile.specs.Entry as spec;
-ghost use Rattle.dns_zonefile.specs.Entry.{Enters};
+ghost use Rattle.dns_zonefile.specs.Entry.{Enters, IsEntry};
 ghost use Rattle.dns_zonefile.specs.Entry.Entry.{Include, Resource};
 ghost use Rattle.dns_zonefile.specs.Seen.{context_of, entry_of, row_of};
 ghost use Rattle.dns_zonefile.specs.Statement.{IsDirective, Says, Statement};
@@ -60,14 +63,7 @@ impl EntryForm for Vec<u8> {
             alloc, text, place, spans, origin,
         );
         if begins_directive(led, &scanner) {
-            let statement = match scan_directive(&mut scanner) {
-                Ok(statement) => statement,
-                Err(error) => return Err(error),
-            };
-            return match context.enter(alloc, statement) {
-                Ok(entry) => composed_of(alloc, entry),
-                Err(error) => Err(error),
-            };
+            return take_directive(alloc, context, text, place, spans);
         }
         let len = self.len();
         match append_record(led, context, &mut scanner, self) {
@@ -83,6 +79,39 @@ impl EntryForm for Vec<u8> {
                 Err(error)
             }
         }
+    }
+}
+
+/// Returns what is given of a row that is a directive, and takes over what it sets. Fails with an error other than `OutOfMemory` only if
+/// the row is no entry. Nothing changes then. It stands apart so that a record needs no room for a statement.
+#[inline(never)]
+fn take_directive(
+    alloc: Global,
+    context: &mut Context,
+    text: &[u8],
+    place: usize,
+    spans: &[TokenSpan],
+) -> Result<Option<ComposedEntry>, EntryError>
+    requires row { (next : ℕ) × (led : Bool) × IsRowAt text.now place spans.now next led }
+    requires begins { BeginsDirective (map (λ span. token_in text.now span) spans.now) }
+    ensures ok { IfOk result (λ given. (entry : spec.Entry)
+        × IsEntry (context_of context.old) (row_of false (map (λ span. token_in text.now span) spans.now)) entry (context_of context.new)
+        × ((octets : List ℕ) → IsHandedOn octets entry given octets)) }
+    ensures err { IfErr result (λ error. is_memory error ≡ false → (entry : spec.Entry) (after : spec.Context)
+        → IsEntry (context_of context.old) (row_of false (map (λ span. token_in text.now span) spans.now)) entry after → ⊥) }
+    ensures same { OnErr result (context.new ≡ context.old) }
+{
+    let origin = context.origin.as_ref();
+    let mut scanner: RowScanner<'_, InlineName> = RowScanner::of_row(
+        alloc, text, place, spans, origin,
+    );
+    let statement = match scan_directive(&mut scanner) {
+        Ok(statement) => statement,
+        Err(error) => return Err(error),
+    };
+    match context.enter(alloc, statement) {
+        Ok(entry) => composed_of(alloc, entry),
+        Err(error) => Err(error),
     }
 }
 

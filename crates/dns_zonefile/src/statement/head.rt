@@ -118,6 +118,7 @@ fn next_word<S: EntryScanner>(scanner: &mut S) -> Result<HeadWord, S::Error>
 
 /// Returns what a word says: digits are a TTL, another word is a type, and only if it is none a class. Most words are of class IN, which
 /// is seen before the mnemonics of types are searched.
+#[inline(always)]
 #[tactic(auto, using(crate::proofs::Heads::number_alone))]
 fn word_of(text: &str) -> Option<HeadWord>
     ensures some { IfSome result (λ word. Heads text.now word) }
@@ -142,6 +143,7 @@ fn word_of(text: &str) -> Option<HeadWord>
 }
 
 /// Returns whether these are decimal digits alone.
+#[inline(always)]
 fn are_digits(text: &str) -> bool
     ensures { result ≡ list_all is_ascii_digit text.now }
 {
@@ -149,6 +151,7 @@ fn are_digits(text: &str) -> bool
 }
 
 /// Returns the TTL that digits spell.
+#[inline(always)]
 fn ttl_of(text: &str) -> Option<Ttl>
     ensures { result ≡ number_spelled (2 ^ 32) text.now }
 {
