@@ -13,3 +13,4 @@ pub mod Lengthened
 mod Forms
 mod ComposedRows
 mod LastOwners
+pub mod FrequentTypes

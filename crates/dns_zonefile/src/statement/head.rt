@@ -7,6 +7,7 @@ ghost use Rattle.dns_scan.specs.Token.{Token, SameNames, Takes};
 ghost use Rattle.dns_zonefile.specs.Statement.{HasHead};
 ghost use Rattle.dns_zonefile.specs.HeadWord.{Heads, IsHeadWord};
 
+use super::frequent_type::frequent_type;
 use dns_name::{Class, Rtype, Serial, Ttl};
 use dns_row_scanner::EntryScanner;
 use dns_text::{Scanner, ScannerError};
@@ -116,8 +117,8 @@ fn next_word<S: EntryScanner>(scanner: &mut S) -> Result<HeadWord, S::Error>
     scanner.scan_ascii_str(word_of)
 }
 
-/// Returns what a word says: digits are a TTL, another word is a type, and only if it is none a class. Most words are of class IN, which
-/// is seen before the mnemonics of types are searched.
+/// Returns what a word says: digits are a TTL, another word is a type, and only if it is none a class. Most words are of class IN or of
+/// a few types, which are seen before the mnemonics of all types are searched.
 #[inline(always)]
 #[tactic(auto, using(crate::proofs::Heads::number_alone))]
 fn word_of(text: &str) -> Option<HeadWord>
@@ -132,6 +133,9 @@ fn word_of(text: &str) -> Option<HeadWord>
     }
     if text == "IN" {
         return Some(HeadWord::Class(Class::IN));
+    }
+    if let Some(rtype) = frequent_type(text) {
+        return Some(HeadWord::Rtype(rtype));
     }
     if let Some(rtype) = Rtype::from_bytes(text.as_bytes()) {
         return Some(HeadWord::Rtype(rtype));

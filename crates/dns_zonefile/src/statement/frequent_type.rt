@@ -1,0 +1,26 @@
+//! The types that most records are of.
+ghost use Rattle.std.specs.Prelude.{◌≡◌, Some, IfSome};
+ghost use Rattle.dns_values.specs.Mnemonic.{type_read};
+
+use dns_name::Rtype;
+
+/// Returns the type whose mnemonic the text is, in upper case, if it is one that most records are of. So the mnemonics of all types are
+/// searched only for others.
+#[inline(always)]
+pub(crate) fn frequent_type(text: &str) -> Option<Rtype>
+    ensures { IfSome result (λ rtype. type_read text.now ≡ Some rtype) }
+{
+    match text {
+        "A" => Some(Rtype::A),
+        "NS" => Some(Rtype::NS),
+        "MX" => Some(Rtype::MX),
+        "TXT" => Some(Rtype::TXT),
+        "AAAA" => Some(Rtype::AAAA),
+        "CNAME" => Some(Rtype::CNAME),
+        "PTR" => Some(Rtype::PTR),
+        "SOA" => Some(Rtype::SOA),
+        "SRV" => Some(Rtype::SRV),
+        "CAA" => Some(Rtype::CAA),
+        _ => None,
+    }
+}
