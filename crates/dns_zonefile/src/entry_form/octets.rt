@@ -83,8 +83,7 @@ impl EntryForm for Vec<u8> {
 }
 
 /// Returns what is given of a row that is a directive, and takes over what it sets. Fails with an error other than `OutOfMemory` only if
-/// the row is no entry. Nothing changes then. It stands apart so that a record needs no room for a statement.
-#[inline(never)]
+/// the row is no entry. Nothing changes then.
 fn take_directive(
     alloc: Global,
     context: &mut Context,
