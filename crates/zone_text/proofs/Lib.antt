@@ -1,3 +1,5 @@
+mod LastRecord
 mod ReadRecords
+mod CountRecords
 mod ZoneForms
 mod ReadZoneData

@@ -1,8 +1,7 @@
 -- A zone's text that is read record by record.
-use Rattle.std.proofs.Common.{◌≡◌, ◌≢◌, ◌<◌, ◌^◌, ◌++◌, ◌∙◌, ℕ, Bool, false, List, [], ◌∷◌, Option, Some, None, Ok, length, take, drop, refl, sym, ap, subst, arith, append_assoc}
+use Rattle.std.proofs.Common.{◌≡◌, ◌≢◌, ◌<◌, ◌^◌, ◌++◌, ◌∙◌, ℕ, Bool, false, List, [], ◌∷◌, Option, Some, None, Ok, length, refl, sym, subst, arith, append_assoc}
 use Rattle.std.specs.Prelude.{Result, IfSome}
 use Rattle.std.specs.Int.{to_be_bytes, w16}
-use Rattle.std.proofs.Math.Seq.{take-append_seam, drop-append_seam}
 use Rattle.std.specs.List.{AllByRecursion, flat_map}
 use Rattle.dns_label.specs.Name.{IsName, wire}
 use Rattle.dns_label.specs.Octets.{AreOctets}
@@ -38,7 +37,7 @@ use Rattle.zone_rules.proofs.KeptContexts.{IsFitting, IsRowed, entries_fit}
 use Rattle.zone_rules.proofs.KeptRules.{keeps_directives, keeps_none, records_behind}
 use Rattle.zone_rules.proofs.RecordClasses.{zone_text_class}
 use Rattle.zone_rules.proofs.ReaderSteps.{HasKept, MeetsRecord, ended_behind, first_fault, kept_record, meets, next_read, out_fault, second_fault, unspellable_fault, untyped_fault}
-use Rattle.zone_text.specs.Reading.{BreaksRule, HasRead, IsHanded, HasReadAll, MayStandUnder, reader_at}
+use Rattle.zone_text.specs.Reading.{BeginWith, BreaksRule, HasRead, IsHanded, HasReadAll, MayStandUnder, StandsLast, reader_at}
 
 -- in the words of the rules
 pub kept_of : {text : List ℕ} {origin : Option (List (List ℕ))} {class : ℕ} {reader : Reader} {octets places : List ℕ} → class ≢ any_class
@@ -89,9 +88,9 @@ record_met {reader = reader} {new = new} {rr = rr} known read gives is counted =
 }
 
 -- its data, where the text does not have it as opaque octets
-pub data_met : {text : List ℕ} {origin : Option (List (List ℕ))} {class : ℕ} {reader new : Reader} {octets places after : List ℕ} {told : Bool}
+pub data_met : {text : List ℕ} {origin : Option (List (List ℕ))} {class : ℕ} {reader new : Reader} {octets places old after : List ℕ} {told : Bool}
     {given : Result (Option Entry) EntryError} → HasRead text origin class reader octets places → Gives reader given new
-    → (handed : IsHanded octets told given after) → told ≡ false → IsData (record_of handed.rr).rtype (record_of handed.rr).rdata
+    → (handed : IsHanded old told given after) → told ≡ false → IsData (record_of handed.rr).rtype (record_of handed.rr).rdata
 data_met {reader = reader} {new = new} read gives handed bare =
     let next = next_read (record { goes = read.goes }) (subst (λ g. Gives reader g new) handed.is gives) in
     let fit = fitting_last (read.entries ++ next.0) (Resource handed.rr) (entries_fit read.named next.2.goes.are) in
@@ -151,25 +150,22 @@ more_read {octets = octets} {places = places} {octets' = octets'} {places' = pla
       stored = subst (λ rs. AreStored octets' places' rs) kept.are stored;
     }
 
--- what the records begin with
-pub first_stored : {octets places : List ℕ} (records : List Record) → AreStored octets places records → octets ≢ []
-    → (r : Record) × (rest : List ℕ) × IsRecord r × (octets ≡ record_octets r ++ rest)
-first_stored [] stored some = absurd (some stored.whole)
-first_stored (r ∷ records) stored some = (r, flat_map record_octets records, stored.each.0, stored.whole)
+-- what the octets of records begin with
+pub begin_stored : {octets places : List ℕ} (records : List Record) → AreStored octets places records → BeginWith (apex_in records) octets
+begin_stored [] stored = stored.whole
+begin_stored (r ∷ records) stored = (r, flat_map record_octets records, stored.each.0, stored.whole, refl)
 
-record_octets_some : (r : Record) (rest : List ℕ) → record_octets r ++ rest ≢ []
-record_octets_some r rest none = wire_some r.owner none
-  where
-    wire_some : (owner : List (List ℕ)) → record_octets (record r { owner = owner }) ++ rest ≢ []
-    wire_some [] none = absurd cc
-    wire_some (label ∷ owner) none = absurd cc
-
--- the apex that is found is that of the records
-pub apex_found : {octets places : List ℕ} (records : List Record) (apex : Option (List (List ℕ))) → AreStored octets places records
-    → (octets ≡ [] → apex ≡ None)
-    → ((r : Record) (rest : List ℕ) → IsRecord r → octets ≡ record_octets r ++ rest → apex ≡ Some r.owner) → apex ≡ apex_in records
-apex_found [] apex stored none some = none stored.whole
-apex_found (r ∷ records) apex stored none some = some r (flat_map record_octets records) stored.each.0 stored.whole
+-- the record that is read, behind those octets
+pub stands_last : {old new : List ℕ} {told : Bool} {given : Result (Option Entry) EntryError} (apex : Option (List (List ℕ))) (place : ℕ) (seen : List ℕ)
+    → BeginWith apex old → (handed : IsHanded old told given new) → place ≡ length old → seen ≡ new
+    → StandsLast seen place apex (record_of handed.rr)
+stands_last {old} apex place seen begin handed at same = record {
+  before = old;
+  whole = same ∙ handed.octets;
+  at = at;
+  begin = begin;
+  is = record_is handed.rr handed.held;
+}
 
 -- the text ends behind what was read
 pub all_read : {text : List ℕ} {origin : Option (List (List ℕ))} {class : ℕ} {reader new : Reader} {octets places : List ℕ}
@@ -270,17 +266,6 @@ no_record_read {octets = octets} {places = places} known all empty =
     none_of : (records : List Record) → length records ≡ 0 → records ≡ []
     none_of [] zero' = refl
     none_of (r ∷ records) zero' = absurd (omega (arith, zero'))
-
--- octets that are split where the old ones ended
-pub front_is : (place : ℕ) (old all more parted front : List ℕ) → place ≡ length old → all ≡ old ++ more → parted ≡ all → front ≡ take place parted
-    → front ≡ old
-front_is place old all more parted front at whole same is =
-    is ∙ ap (λ l. take place l) (same ∙ whole) ∙ ap (λ n. take n (old ++ more)) at ∙ take-append_seam old more
-
-pub back_is : (place : ℕ) (old all more parted back : List ℕ) → place ≡ length old → all ≡ old ++ more → parted ≡ all → back ≡ drop place parted
-    → back ≡ more
-back_is place old all more parted back at whole same is =
-    is ∙ ap (λ l. drop place l) (same ∙ whole) ∙ ap (λ n. drop n (old ++ more)) at ∙ drop-append_seam old more
 
 -- nothing is read at first
 pub nothing_read : {text : List ℕ} {origin : Option (List (List ℕ))} {class : ℕ} {reader : Reader} {octets places : List ℕ} → IfSome origin IsName

@@ -1,12 +1,12 @@
 -- How far the reading of a zone's text has come. Only contracts inside the crate speak of it.
-use Rattle.std.specs.Prelude.{◌≡◌, ◌≢◌, ◌++◌, ℕ, Bool, Option, Some, None, Result, Ok, List, ⊤, IfSome}
+use Rattle.std.specs.Prelude.{◌≡◌, ◌≢◌, ◌++◌, ℕ, Bool, Option, Some, None, Result, Ok, List, [], ◌∷◌, length, ⊤, IfSome}
 use Rattle.dns_label.specs.Name.{IsName}
 use Rattle.dns_header.specs.Record.{RecordOf}
 use Rattle.dns_rdata.specs.Data.{Data, is_untyped}
 use Rattle.dns_rdata.specs.Fields.{IsData}
 use Rattle.dns_rdata.specs.DataOctets.{IsSpellable}
 use Rattle.dns_message.specs.Held.{record_of}
-use Rattle.dns_message.specs.Record.{record_octets}
+use Rattle.dns_message.specs.Record.{IsRecord, record_octets}
 use Rattle.dns_row_scanner.specs.declared.entry_error.EntryError.{EntryError}
 use Rattle.dns_zonefile.specs.Composed.{IsHeld}
 use Rattle.dns_zonefile.specs.Entry.{Entry}
@@ -40,6 +40,26 @@ pub record HasReadAll (text : List ℕ) (origin : Option (List (List ℕ))) (cla
   pub keep : KeepRules entries
   pub stored : AreStored octets places (records_in entries)
 
+-- the octets of the first of the records, if there is one
+abbrev pub first_octets : List Record → List ℕ
+first_octets [] = []
+first_octets (r ∷ records) = record_octets r
+
+-- The same where the octets are those of the first record alone, and the records are counted.
+pub record HasCounted (text : List ℕ) (origin : Option (List (List ℕ))) (class : ℕ) (reader : Reader) (octets : List ℕ) (count : ℕ) : Type 0 where
+  pub all : List ℕ
+  pub places : List ℕ
+  pub read : HasRead text origin class reader all places
+  pub first : octets ≡ first_octets (records_in read.entries)
+  pub counted : count ≡ length places
+
+-- All entries of the text do, and these are so many records.
+pub record HasCountedAll (text : List ℕ) (origin : Option (List (List ℕ))) (class count : ℕ) : Type 0 where
+  pub octets : List ℕ
+  pub places : List ℕ
+  pub all : HasReadAll text origin class octets places
+  pub counted : count ≡ length places
+
 -- The reader gives a record, whose octets stand behind the old ones. The text has its data as opaque octets or not.
 pub record IsHanded (old : List ℕ) (told : Bool) (given : Result (Option Entry) EntryError) (new : List ℕ) : Type 0 where
   pub rr : RecordOf (List (List ℕ)) Data
@@ -53,6 +73,20 @@ abbrev pub HasMet : Reader → List ℕ → Option Bool → Reader → List ℕ 
 HasMet reader old None new octets = Gives reader (Ok None) new × (octets ≡ old)
 HasMet reader old (Some told) new octets =
     (given : Result (Option Entry) EntryError) × Gives reader given new × IsHanded old told given octets
+
+-- the octets begin with a record of this owner, or there are none
+abbrev pub BeginWith : Option (List (List ℕ)) → List ℕ → Type 0
+BeginWith None octets = octets ≡ []
+BeginWith (Some apex) octets =
+    (soa : Record) × (rest : List ℕ) × IsRecord soa × (octets ≡ record_octets soa ++ rest) × (apex ≡ soa.owner)
+
+-- The octets from the place on are the record, and those before it begin with one of this owner, or there are none.
+pub record StandsLast (octets : List ℕ) (place : ℕ) (apex : Option (List (List ℕ))) (r : Record) : Type 0 where
+  pub before : List ℕ
+  pub whole : octets ≡ before ++ record_octets r
+  pub at : place ≡ length before
+  pub begin : BeginWith apex before
+  pub is : IsRecord r
 
 -- a record that may stand in the zone of this name, or be the first of a zone
 abbrev pub MayStandUnder : Option (List (List ℕ)) → Record → Type 0

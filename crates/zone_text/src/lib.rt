@@ -5,6 +5,7 @@
 //! records as octets.
 #![tactic(auto)]
 
+mod count;
 mod read;
 pub mod zone;
 mod zone_records;

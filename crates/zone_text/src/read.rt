@@ -10,7 +10,7 @@ ghost use Rattle.zone_octets.specs.Record as spec;
 ghost use Rattle.zone_octets.specs.Records.{AreRecordsOf};
 ghost use Rattle.zone_octets.specs.Zone.{any_class};
 ghost use Rattle.zone_rules.specs.ZoneText.{IsWellTyped, IsZoneFault, IsZoneText};
-ghost use Rattle.zone_text.specs.Reading.{BreaksRule, HasMet, HasRead, HasReadAll, MayStandUnder, reader_at};
+ghost use Rattle.zone_text.specs.Reading.{BreaksRule, HasMet, HasRead, HasReadAll, MayStandUnder, StandsLast, reader_at};
 
 use dns_name::{Class, Name, ToName};
 use dns_zonefile::{ComposedEntry, Zonefile};
@@ -50,7 +50,7 @@ fn are_octets(_octets: &[u8])
 {}
 
 /// Returns the reader of a zone's text of the class. Names stand under the origin, if there is one. Fails if out of memory.
-fn zonefile_of(
+pub(crate) fn zonefile_of(
     alloc: Global,
     text: Vec<u8>,
     origin: Option<&Name<&[u8]>>,
@@ -101,15 +101,7 @@ fn read_next(
     let Some(untyped) = met else {
         return Ok(false);
     };
-    let (before, record) = octets.split_at(place);
-    let record = Record::from_octets(record);
-    match check_record(
-        alloc,
-        apex_of(before),
-        &record,
-        untyped,
-        zonefile.entry_number(),
-    ) {
+    match check_last(alloc, octets, place, untyped, zonefile.entry_number()) {
         Ok(()) => {}
         Err(error) => return Err(error),
     }
@@ -120,12 +112,15 @@ fn read_next(
 }
 
 /// Appends the octets of the next record, and returns whether the text has its data as opaque octets, or None at the end of the text.
-fn meet_record(zonefile: &mut Zonefile, octets: &mut Vec<u8>) -> Result<Option<bool>, ZoneError>
+pub(crate) fn meet_record(
+    zonefile: &mut Zonefile,
+    octets: &mut Vec<u8>,
+) -> Result<Option<bool>, ZoneError>
     requires { refused_in zonefile.old ≡ None }
     ensures unrefused { OnOk result (refused_in zonefile.new ≡ None) }
     ensures ok { IfOk result (λ met. HasMet (reader_of zonefile.old) octets.old.items met (reader_of zonefile.new) octets.new.items) }
-    ensures err { IfErr result (λ error. (text : List ℕ) (origin : Option (List (List ℕ))) (class : ℕ) (places : List ℕ) → class ≢ any_class
-        → HasRead text origin class (reader_of zonefile.old) octets.old.items places → IsZoneFault text origin class error) }
+    ensures err { IfErr result (λ error. (text : List ℕ) (origin : Option (List (List ℕ))) (class : ℕ) (read places : List ℕ) → class ≢ any_class
+        → HasRead text origin class (reader_of zonefile.old) read places → IsZoneFault text origin class error) }
 {
     match zonefile.next_octets(octets) {
         Ok(Some(ComposedEntry::Record { untyped })) => Ok(Some(untyped)),
@@ -134,6 +129,26 @@ fn meet_record(zonefile: &mut Zonefile, octets: &mut Vec<u8>) -> Result<Option<b
         Err(error) if error.is_memory() => Err(ZoneError::OutOfMemory),
         Err(_) => Err(ZoneError::Text(zonefile.entry_number())),
     }
+}
+
+/// Refuses the record that stands at the place, by its entry's number, if it breaks a rule of the zone whose records stand before it.
+pub(crate) fn check_last(
+    alloc: Global,
+    octets: &[u8],
+    place: usize,
+    untyped: bool,
+    number: usize,
+) -> Result<(), ZoneError>
+    requires { (apex : Option (List (List ℕ))) × (r : spec.Record) × StandsLast octets.now place apex r
+        × (untyped ≡ false → IsData r.rtype r.rdata) }
+    ensures ok { OnOk result ((apex : Option (List (List ℕ))) (r : spec.Record) → StandsLast octets.now place apex r
+        → IsWellTyped r × MayStandUnder apex r) }
+    ensures err { IfErr result (λ error. (apex : Option (List (List ℕ))) (r : spec.Record) → StandsLast octets.now place apex r
+        → BreaksRule number apex r error) }
+{
+    let (before, record) = octets.split_at(place);
+    let record = Record::from_octets(record);
+    check_record(alloc, apex_of(before), &record, untyped, number)
 }
 
 /// Refuses a record, by its entry's number, that breaks a rule of the zone of this name, or is no zone's first record if there is no

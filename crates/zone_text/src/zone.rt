@@ -1,13 +1,15 @@
 //! A zone: its records, in order.
-ghost use Rattle.std.specs.Prelude.{◌≡◌, ◌≢◌, option_copied, IfOk, IfErr};
+ghost use Rattle.std.specs.Prelude.{◌≡◌, ◌≢◌, List, length, option_copied, IfOk, IfErr};
 ghost use Rattle.dns_text.specs.Layout.{layout_of};
 ghost use Rattle.zone_canonical.specs.Canonical.{IsCanonical};
+ghost use Rattle.zone_octets.specs.Record.{Record};
 ghost use Rattle.zone_octets.specs.Records.{AreRecordsOf};
 ghost use Rattle.zone_rules.specs.Printed.{IsPrinted};
 ghost use Rattle.zone_rules.specs.ZoneText.{IsZoneFault, IsZoneText};
 ghost use Rattle.zone_octets.specs.Zone.{any_class};
 ghost use Rattle.zone_text.specs.View.{IsZoneOf, apex_of};
 
+use crate::count::count_records;
 use crate::read::read_records;
 use crate::zone_records::ZoneRecords;
 use dns_name::{Class, Name};
@@ -70,6 +72,25 @@ impl Zone {
         }
         let records = read_records(alloc, text, origin, class)?;
         Ok(Zone { records, class })
+    }
+
+    /// Returns how many records the zone has that `from_text` reads from this text. It keeps only the first of them, the SOA.
+    ///
+    /// Fails as `from_text` does.
+    pub fn count_records(
+        alloc: Global,
+        text: Vec<u8>,
+        origin: Option<&Name<&[u8]>>,
+        class: Class,
+    ) -> Result<usize, ZoneError>
+        ensures ok { IfOk result (λ count. (records : List Record) × IsZoneText text.items (option_copied origin.entry) class records
+            × (count ≡ length records)) }
+        ensures err { IfErr result (IsZoneFault text.items (option_copied origin.entry) class) }
+    {
+        if class.to_int() == ANY {
+            return Err(ZoneError::ClassAny);
+        }
+        count_records(alloc, text, origin, class)
     }
 
     /// Returns the records in order. The SOA is the first of them.

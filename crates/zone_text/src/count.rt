@@ -1,0 +1,76 @@
+//! How many records a zone's text has (RFC 1035 5). Of the records only the first is kept.
+ghost use Rattle.std.specs.Prelude.{◌≡◌, ◌≢◌, ◌+◌, ◌<◌, ℕ, List, Option, None, Ok, true, false, length, option_copied, IfOk, IfErr, OnOk};
+ghost use Rattle.dns_zonefile.specs.Reader.{left_of};
+ghost use Rattle.dns_zonefile.specs.ReaderSeen.{reader_of, refused_in};
+ghost use Rattle.zone_octets.specs.Record as spec;
+ghost use Rattle.zone_octets.specs.Zone.{any_class};
+ghost use Rattle.zone_rules.specs.ZoneText.{IsZoneFault, IsZoneText};
+ghost use Rattle.zone_text.specs.Reading.{HasCounted, HasCountedAll};
+
+use crate::read::{check_last, meet_record, zonefile_of};
+use dns_name::{Class, Name};
+use dns_zonefile::Zonefile;
+use std::alloc::Global;
+use zone_rules::ZoneError;
+
+/// Returns how many records the text of a zone of the class has, if the zone's rules hold. Names stand under the origin, if there is one.
+pub(crate) fn count_records(
+    alloc: Global,
+    text: Vec<u8>,
+    origin: Option<&Name<&[u8]>>,
+    class: Class,
+) -> Result<usize, ZoneError>
+    requires { class ≢ any_class }
+    ensures ok { IfOk result (λ count. (records : List spec.Record) × IsZoneText text.items (option_copied origin.entry) class records
+        × (count ≡ length records)) }
+    ensures err { IfErr result (IsZoneFault text.items (option_copied origin.entry) class) }
+{
+    let mut zonefile = zonefile_of(alloc, text, origin, class)?;
+    let mut octets = Vec::new(alloc);
+    let mut count = 0;
+    while count_next(alloc, &mut zonefile, &mut octets)? {
+        count += 1;
+    }
+    if count == 0 {
+        return Err(ZoneError::NoSoa);
+    }
+    Ok(count)
+}
+
+/// Reads the next record, and returns whether there was one. The octets are those of the first record, once there is one.
+fn count_next(
+    alloc: Global,
+    zonefile: &mut Zonefile,
+    octets: &mut Vec<u8>,
+) -> Result<bool, ZoneError>
+    requires unrefused { refused_in zonefile.old ≡ None }
+    requires counted { (text : List ℕ) × (origin : Option (List (List ℕ))) × (class : ℕ) × (count : ℕ)
+        × HasCounted text origin class (reader_of zonefile.old) octets.old.items count }
+    ensures unrefused { OnOk result (refused_in zonefile.new ≡ None) }
+    ensures more { result ≡ Ok true → (text : List ℕ) (origin : Option (List (List ℕ))) (class count : ℕ) → class ≢ any_class
+        → HasCounted text origin class (reader_of zonefile.old) octets.old.items count
+        → HasCounted text origin class (reader_of zonefile.new) octets.new.items (count + 1) }
+    ensures shorter { result ≡ Ok true → length (left_of (reader_of zonefile.new)) < length (left_of (reader_of zonefile.old)) }
+    ensures end { result ≡ Ok false → (text : List ℕ) (origin : Option (List (List ℕ))) (class count : ℕ)
+        → HasCounted text origin class (reader_of zonefile.old) octets.old.items count → HasCountedAll text origin class count }
+    ensures err { IfErr result (λ error. (text : List ℕ) (origin : Option (List (List ℕ))) (class count : ℕ) → class ≢ any_class
+        → HasCounted text origin class (reader_of zonefile.old) octets.old.items count → IsZoneFault text origin class error) }
+{
+    let place = octets.len();
+    let met = match meet_record(zonefile, octets) {
+        Ok(met) => met,
+        Err(error) => return Err(error),
+    };
+    let Some(untyped) = met else {
+        return Ok(false);
+    };
+    match check_last(alloc, octets, place, untyped, zonefile.entry_number()) {
+        Ok(()) => {}
+        Err(error) => return Err(error),
+    }
+    // Only the first record is kept: its owner is the zone's name.
+    if place > 0 {
+        octets.truncate(place);
+    }
+    Ok(true)
+}
