@@ -1,18 +1,17 @@
 //! Names of tokens, appended as octets with no value between.
 ghost use Rattle.std.specs.List.{list_all};
-ghost use Rattle.std.specs.Prelude.{◌≡◌, ◌≢◌, ◌↔◌, ◌+◌, ◌<◌, ◌≤◌, ◌++◌, ◌∷◌, [], List, ℕ, true, false, length, take, option_copied, IsTrue, IfErr, OnOk, OnErr};
+ghost use Rattle.std.specs.Prelude.{◌≡◌, ◌≢◌, ◌↔◌, ◌+◌, ◌<◌, ◌≤◌, ◌++◌, ◌∷◌, ◌==◌, [], List, ℕ, true, false, not, length, take, option_copied, IsTrue, IfErr, OnOk, OnErr};
 ghost use Rattle.dns_label.specs.Name.{IsName, wire};
 ghost use Rattle.dns_label.specs.NameText.{IsAbsoluteText};
 ghost use Rattle.dns_wire.specs.Unescaped.{is_unescaped};
-ghost use Rattle.dns_row_scanner.specs.AppendedName.{OneLabelUnder, is_no_dot};
+ghost use Rattle.dns_row_scanner.specs.AppendedName.{OneLabelUnder};
 ghost use Rattle.dns_row_scanner.specs.EntryError.{is_memory};
 ghost use Rattle.dns_row_scanner.specs.NameInText.{SpellsUnder};
 
 use crate::row_token::RowToken;
 use crate::{EntryError, InlineName, TextName};
-use dns_name::{Name, OctetKind, run_end};
+use dns_name::Name;
 use std::alloc::{AllocError, Global};
-use std::simd::prelude::*;
 
 /// Appends the octets of the name that a token's text spells under the origin, if one is known, as `TextName::scan_name` has it.
 ///
@@ -107,29 +106,14 @@ fn is_one_label(token: RowToken<'_>) -> bool
         × (token.entry.text.now ≢ 64 ∷ []) }
 {
     let is_short = !token.text.is_empty() && token.text.len() <= 63;
-    is_short && !matches!(token.text, [b'@']) && token.is_plain() && has_no_dot(token)
+    is_short && !matches!(token.text, [b'@']) && token.is_plain() && has_no_dot(token.text)
 }
 
-/// Returns whether no dot stands in the token's text. Sixteen octets are looked at together, those behind a shorter token too.
-fn has_no_dot(token: RowToken<'_>) -> bool
-    ensures { IsTrue result → list_all is_no_dot token.entry.text.now ≡ true }
+/// Returns whether no dot stands in the text.
+fn has_no_dot(text: &[u8]) -> bool
+    ensures { result ≡ list_all (λ octet. not (octet == 46)) text.now }
 {
-    token.text.len() <= run_end::<OtherThanDot>(token.from, 0)
-}
-
-/// Octets other than the dot.
-struct OtherThanDot;
-
-impl OctetKind for OtherThanDot {
-    ghost has = { is_no_dot };
-
-    fn has(octet: u8) -> bool {
-        octet != b'.'
-    }
-
-    fn others(octets: u8x16) -> u64 {
-        octets.simd_eq(u8x16::splat(b'.')).to_bitmask()
-    }
+    text.iter().all(|&octet| octet != b'.')
 }
 
 /// Appends the label, behind its length, and the octets of the origin, or a part of them if out of memory.
