@@ -1,5 +1,6 @@
 //! A run of the program, from its input to its output.
-ghost use Rattle.std.specs.Prelude.{◌≡◌, ◌≢◌, ◌↔◌, ℕ, List, Option, false, IfOk, IfErr, IfSome, IsErrOf, IsTrue, OnOk};
+ghost use Rattle.std.specs.Prelude.{◌≡◌, ◌≢◌, ◌↔◌, ℕ, List, length, Option, false, IfOk, IfErr, IfSome, IsErrOf, IsTrue, OnOk};
+ghost use Rattle.zone_octets.specs.Record.{Record};
 ghost use Rattle.zone_rules.specs.ZoneText.{IsZoneFault, IsZoneText};
 ghost use Rattle.std.specs.Io.KnownBytes.{Appends, IsAtEnd};
 ghost use Rattle.zonewire.specs.Output.{IsOutput, IsJobFault, IsNotReceived, IsReceived, IsReceiveJobFault, IsReceiveOutput, IsSendOutput, IsSendJobFault, count_line, query_of};
@@ -19,7 +20,6 @@ use zone_receive::{ReceiveError, Receiver};
 use zone_rules::ZoneError;
 use zone_send::{Spelling, send};
 use zone_text::Zone;
-use zone_text::zone::records_of;
 
 /// Reads all the input, and writes what the job makes of it.
 ///
@@ -81,8 +81,8 @@ fn output(alloc: Global, input: Vec<u8>, job: &Job) -> Result<Vec<u8>, Fault>
             layout,
         } => receive_text(alloc, input, *class, *id, apex, *layout),
         Job::Check { origin, class } => {
-            let zone = read_zone(alloc, input, origin, *class)?;
-            let line = count_line(alloc, &zone)?;
+            let count = count_zone(alloc, input, origin, *class)?;
+            let line = count_line(alloc, count)?;
             Ok(line)
         }
         Job::Canon { origin, class } => {
@@ -93,11 +93,10 @@ fn output(alloc: Global, input: Vec<u8>, job: &Job) -> Result<Vec<u8>, Fault>
     }
 }
 
-/// Returns the line that says how many records the zone has.
-fn count_line(alloc: Global, zone: &Zone) -> Result<Vec<u8>, AllocError>
-    ensures { IfOk result (λ line. line.items ≡ count_line zone.now.records) }
+/// Returns the line that says how many records a zone has.
+fn count_line(alloc: Global, count: usize) -> Result<Vec<u8>, AllocError>
+    ensures { IfOk result (λ line. (records : List Record) → count ≡ length records → line.items ≡ count_line records) }
 {
-    let count = records_of(zone).len();
     let line = format!(in alloc; "{count} records\n")?;
     Ok(line.into_bytes())
 }
@@ -142,6 +141,25 @@ fn read_zone(
             Zone::from_text(alloc, input, Some(&name), class)
         }
         None => Zone::from_text(alloc, input, None, class),
+    }
+}
+
+/// Counts the records of the zone of the text, with the job's origin. Not all of them are kept in memory.
+fn count_zone(
+    alloc: Global,
+    input: Vec<u8>,
+    origin: &Option<Name<Vec<u8>>>,
+    class: Class,
+) -> Result<usize, ZoneError>
+    ensures ok { IfOk result (λ count. (records : List Record) × IsZoneText input.items origin.now class records × (count ≡ length records)) }
+    ensures err { IfErr result (IsZoneFault input.items origin.now class) }
+{
+    match origin {
+        Some(name) => {
+            let name = name.for_ref();
+            Zone::count_records(alloc, input, Some(&name), class)
+        }
+        None => Zone::count_records(alloc, input, None, class),
     }
 }
 

@@ -4,39 +4,76 @@ use rows::{Answer, Row, RowError};
 use std::alloc::Global;
 use zonewire::{DisplayKind, Zone, ZoneError, ZoneRecord};
 
-/// `Zone::read CLASS TEXT` and `Zone::read CLASS TEXT ORIGIN`: the apex, the class, the number of records, and each record.
+/// `Zone::read CLASS TEXT` and `Zone::read CLASS TEXT ORIGIN`: the apex, the class, the number of records as `Zone::count_records` has it,
+/// and each record. Why the text is refused, by both calls if they differ.
 pub fn answer_read(alloc: Global, row: &mut Row<'_>, out: &mut Answer) -> Result<(), RowError> {
     let class = row.value()?;
     let text = row.text_octets(alloc)?;
-    match read_zone(alloc, text.as_slice(), class, row)? {
+    let origin = read_origin(alloc, row)?;
+    let counted = count_records(alloc, text.as_slice(), class, &origin)?;
+    match read_zone(alloc, text.as_slice(), class, &origin) {
         Ok(zone) => {
             out.shown(&zone.apex())?;
             out.shown(&zone.class())?;
-            out.shown(&zone.records().count())?;
+            show_count(counted, out)?;
             for record in zone.records() {
                 show_record(&record, out)?;
             }
             Ok(())
         }
-        Err(error) => out.refused(&error),
+        Err(error) => {
+            if counted != Err(error) {
+                show_count(counted, out)?;
+            }
+            out.refused(&error)
+        }
     }
 }
 
-/// The zone of a text. Its origin is the next word, if there is one.
+/// The origin that the next word is, if there is one.
+fn read_origin(alloc: Global, row: &mut Row<'_>) -> Result<Option<Name<Vec<u8>>>, RowError> {
+    if !row.has_more() {
+        return Ok(None);
+    }
+    match Name::vec_from_str(alloc, row.word()?) {
+        Ok(origin) => Ok(Some(origin)),
+        Err(_) => Err(RowError::BadWord),
+    }
+}
+
+/// The zone of a text under the origin, if there is one.
 fn read_zone(
     alloc: Global,
     text: &[u8],
     class: Class,
-    row: &mut Row<'_>,
-) -> Result<Result<Zone, ZoneError>, RowError> {
-    if !row.has_more() {
-        return Ok(Zone::read(alloc, text, None, class));
+    origin: &Option<Name<Vec<u8>>>,
+) -> Result<Zone, ZoneError> {
+    match origin {
+        Some(origin) => Zone::read(alloc, text, Some(&origin.for_ref()), class),
+        None => Zone::read(alloc, text, None, class),
     }
-    let Ok(origin) = Name::vec_from_str(alloc, row.word()?) else {
-        return Err(RowError::BadWord);
-    };
-    let origin = origin.for_ref();
-    Ok(Zone::read(alloc, text, Some(&origin), class))
+}
+
+/// How many records that zone has.
+fn count_records(
+    alloc: Global,
+    text: &[u8],
+    class: Class,
+    origin: &Option<Name<Vec<u8>>>,
+) -> Result<Result<usize, ZoneError>, RowError> {
+    let text = Vec::from_slice(alloc, text)?;
+    Ok(match origin {
+        Some(origin) => Zone::count_records(alloc, text, Some(&origin.for_ref()), class),
+        None => Zone::count_records(alloc, text, None, class),
+    })
+}
+
+/// How many records there are, or why they are not counted.
+fn show_count(counted: Result<usize, ZoneError>, out: &mut Answer) -> Result<(), RowError> {
+    match counted {
+        Ok(count) => out.shown(&count),
+        Err(error) => out.refused(&error),
+    }
 }
 
 /// The owner, TTL, class and type of a record, and the octets of its data.

@@ -17,14 +17,14 @@ returns-in_err-zone-in-Send-clause-err c =
     (send-text-fault c.in-Send.origin c.in-Send.class c.in-Send.id c.in-Send.apex c.in-Send.max c.in-Send.spelling input error c.in_err-zone-in-Send.ensures.err) in
     subst (λ r. IfErr r (IsJobFault c.args.job.now input)) (sym (is ∙ ap Err of)) refused
 
-pub returns-in_err-zone-in-Check-clause-err : goal.returns-in_err-zone-in-Check-clause-err
-returns-in_err-zone-in-Check-clause-err c =
-    let (fault, is, of) = err_from_is_err_and c.from_residual-in_err-zone-in-Check.result c.from_residual-in_err-zone-in-Check.ensures.1 in
+pub returns-in_err-count-in-Check-clause-err : goal.returns-in_err-count-in-Check-clause-err
+returns-in_err-count-in-Check-clause-err c =
+    let (fault, is, of) = err_from_is_err_and c.from_residual-in_err-count-in-Check.result c.from_residual-in_err-count-in-Check.ensures.1 in
     let input = c.args.input.items in
-    let error = c.in_err-zone-in-Check.field-0.0 in
+    let error = c.in_err-count-in-Check.field-0.0 in
     let refused : IsJobFault c.args.job.now input (of_zone error) =
     subst (λ (j : Job). IsJobFault j input (of_zone error)) (sym c.in-Check.is)
-    (text-fault c.in-Check.origin c.in-Check.class input error c.in_err-zone-in-Check.ensures.err) in
+    (text-fault c.in-Check.origin c.in-Check.class input error c.in_err-count-in-Check.ensures.err) in
     subst (λ r. IfErr r (IsJobFault c.args.job.now input)) (sym (is ∙ ap Err of)) refused
 
 pub returns-in_err-zone-in-Canon-clause-err : goal.returns-in_err-zone-in-Canon-clause-err
