@@ -6,3 +6,4 @@ pub mod Words
 pub mod Gaps
 pub mod Refused
 pub mod OneLabel
+pub mod HandedOn

@@ -1,9 +1,10 @@
 -- A text of one label without an escape, under an origin.
-use Rattle.std.proofs.Common.{◌≡◌, ◌+◌, ◌<◌, ◌≤◌, ℕ, true, List, [], ◌∷◌, ◌++◌, length, map, false, rules, refl, sym, ◌∙◌, ap, subst, arith, append_assoc, append-nil, length-append}
+use Rattle.std.proofs.Common.{◌≡◌, ◌+◌, ◌<◌, ◌≤◌, ℕ, true, List, [], ◌∷◌, ◌++◌, Bool, length, map, take, zero, suc, cond, false, rules, refl, sym, ◌∙◌, ap, subst, arith, append_assoc, append-nil, length-append, length-take}
 use borrow.Author.Tests.{tests}
 use Rattle.std.proofs.lemmas.Bool.{and_from, and_parts}
-use Rattle.std.specs.List.{AllByRecursion, flat_map, list_all}
-use Rattle.std.specs.Prelude.{◌≢◌, ◌==◌, not}
+use Rattle.std.proofs.lemmas.List.{take-take}
+use Rattle.std.specs.List.{AllByRecursion, flat_map, list_all, prefix_len}
+use Rattle.std.specs.Prelude.{◌≢◌}
 use Rattle.dns_label.specs.declared.symbol.Symbol.{Symbol}
 use Rattle.dns_label.specs.declared.symbol.Symbol.TheVariants.{Char}
 use Rattle.dns_label.specs.Name.{IsName, wire}
@@ -12,7 +13,7 @@ use Rattle.dns_label.specs.Symbol.{is_plain, spelled}
 use Rattle.dns_wire.specs.Unescaped.{IsUnescaped, is_unescaped}
 use Rattle.dns_wire.proofs.Parts.{Reading, reading_here, reading-octet}
 use Rattle.dns_wire.proofs.UnescapedTexts.{unescaped_sound}
-use Rattle.dns_row_scanner.specs.AppendedName.{OneLabelUnder}
+use Rattle.dns_row_scanner.specs.AppendedName.{OneLabelUnder, is_no_dot}
 use Rattle.dns_row_scanner.specs.NameInText.{SpellsUnder}
 
 each_unescaped : (text : List ℕ) → list_all is_unescaped text ≡ true → AllByRecursion IsUnescaped text
@@ -21,13 +22,32 @@ each_unescaped (octet ∷ text) all =
     let both = and_parts (is_unescaped octet) (list_all is_unescaped text) all in
     (unescaped_sound octet both.0, each_unescaped text both.1)
 
+-- the octets of a run's front
+front_next : (test : ℕ → Bool) (n octet : ℕ) (text : List ℕ) (is : Bool) → test octet ≡ is → suc n ≤ cond is (1 + prefix_len test text) 0
+    → (n ≤ prefix_len test text → list_all test (take n text) ≡ true) → list_all test (take (suc n) (octet ∷ text)) ≡ true
+front_next test n octet text true is long on = and_from _ _ is (on (omega (arith, long)))
+front_next test n octet text false is long on = absurd (omega (arith, long))
+
+front_of_run : (test : ℕ → Bool) (n : ℕ) (text : List ℕ) → n ≤ prefix_len test text → list_all test (take n text) ≡ true
+front_of_run test zero text long = refl
+front_of_run test (suc n) [] long = refl
+front_of_run test (suc n) (octet ∷ text) long = front_next test n octet text (test octet) refl long (front_of_run test n text)
+
+pub near_run : (test : ℕ → Bool) (n most : ℕ) (text : List ℕ) → n ≤ most → n ≤ prefix_len test (take most text)
+    → list_all test (take n text) ≡ true
+near_run test n most text near long =
+    ap (list_all test) (sym (take-take n most text near)) ∙ front_of_run test n (take most text) long
+
+pub no_longer : (text from : List ℕ) → text ≡ take (length text) from → length text ≤ length from
+no_longer text from begins = omega (arith, ap length begins, length-take (length text) from)
+
 -- plain octets without a dot among them
-pub unescaped_all : (text : List ℕ) → list_all is_plain text ≡ true → list_all (λ octet. not (octet == 46)) text ≡ true
+pub unescaped_all : (text : List ℕ) → list_all is_plain text ≡ true → list_all is_no_dot text ≡ true
     → list_all is_unescaped text ≡ true
 unescaped_all [] plain undotted = refl
 unescaped_all (octet ∷ text) plain undotted =
     let here = and_parts (is_plain octet) (list_all is_plain text) plain in
-    let other = and_parts (not (octet == 46)) (list_all (λ octet. not (octet == 46)) text) undotted in
+    let other = and_parts (is_no_dot octet) (list_all is_no_dot text) undotted in
     and_from _ _ (and_from _ _ here.0 other.0) (unescaped_all text here.1 other.1)
 
 -- each octet is a symbol that stands for itself

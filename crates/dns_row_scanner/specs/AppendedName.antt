@@ -1,5 +1,5 @@
 -- A name that a token spells, appended to octets.
-use Rattle.std.specs.Prelude.{◌≡◌, ℕ, List, Some, ◌∷◌, ◌++◌}
+use Rattle.std.specs.Prelude.{◌≡◌, ◌==◌, ℕ, Bool, List, Some, ◌∷◌, ◌++◌, not}
 use Rattle.dns_label.specs.Name.{IsName, wire}
 use Rattle.dns_scan.specs.Token.{Token, unquoted}
 use Rattle.dns_row_scanner.specs.NameInText.{SpellsUnder}
@@ -16,6 +16,10 @@ pub record AppendsName (names : List ℕ → List (List ℕ) → Type 0) (tokens
 -- the first of the tokens spells no name
 abbrev pub SpellsNoName : (List ℕ → List (List ℕ) → Type 0) → List Token → Type 0
 SpellsNoName names tokens = (text : List ℕ) (left : List Token) (name : List (List ℕ)) → tokens ≡ unquoted text ∷ left → names text name → ⊥
+
+-- an octet other than the dot
+abbrev pub is_no_dot : ℕ → Bool
+is_no_dot octet = not (octet == 46)
 
 -- a text of one label spells that label and the origin behind it, and the octets of this name stand after the old ones
 pub record OneLabelUnder (text : List ℕ) (origin : List (List ℕ)) (old new : List ℕ) : Type 0 where

@@ -1,17 +1,18 @@
 //! Names of tokens, appended as octets with no value between.
 ghost use Rattle.std.specs.List.{list_all};
-ghost use Rattle.std.specs.Prelude.{◌≡◌, ◌≢◌, ◌↔◌, ◌+◌, ◌<◌, ◌≤◌, ◌++◌, ◌∷◌, ◌==◌, [], List, ℕ, true, false, not, length, take, option_copied, IsTrue, IfErr, OnOk, OnErr};
+ghost use Rattle.std.specs.Prelude.{◌≡◌, ◌≢◌, ◌↔◌, ◌+◌, ◌<◌, ◌≤◌, ◌++◌, ◌∷◌, [], List, ℕ, true, false, length, take, option_copied, IsTrue, IfErr, OnOk, OnErr};
 ghost use Rattle.dns_label.specs.Name.{IsName, wire};
 ghost use Rattle.dns_label.specs.NameText.{IsAbsoluteText};
 ghost use Rattle.dns_wire.specs.Unescaped.{is_unescaped};
-ghost use Rattle.dns_row_scanner.specs.AppendedName.{OneLabelUnder};
+ghost use Rattle.dns_row_scanner.specs.AppendedName.{OneLabelUnder, is_no_dot};
 ghost use Rattle.dns_row_scanner.specs.EntryError.{is_memory};
 ghost use Rattle.dns_row_scanner.specs.NameInText.{SpellsUnder};
 
 use crate::row_token::RowToken;
 use crate::{EntryError, InlineName, TextName};
-use dns_name::Name;
+use dns_name::{Name, OctetKind, run_end};
 use std::alloc::{AllocError, Global};
+use std::simd::prelude::*;
 
 /// Appends the octets of the name that a token's text spells under the origin, if one is known, as `TextName::scan_name` has it.
 ///
@@ -50,10 +51,7 @@ fn append_spelled(
     ensures same { OnErr result (octets.new.items ≡ octets.old.items) }
 {
     let name: InlineName = TextName::scan_name(alloc, text, origin)?;
-    match octets.extend_from_slice(name.as_slice()) {
-        Ok(()) => Ok(()),
-        Err(_) => Err(EntryError::OutOfMemory),
-    }
+    Ok(octets.extend_from_slice(name.as_slice())?)
 }
 
 /// Appends the octets of the name that a text spells with its last dot, and returns whether it did. It appends nothing if the text
@@ -106,14 +104,35 @@ fn is_one_label(token: RowToken<'_>) -> bool
         × (token.entry.text.now ≢ 64 ∷ []) }
 {
     let is_short = !token.text.is_empty() && token.text.len() <= 63;
-    is_short && !matches!(token.text, [b'@']) && token.is_plain() && has_no_dot(token.text)
+    is_short && !matches!(token.text, [b'@']) && token.is_plain() && has_no_dot(token)
 }
 
-/// Returns whether no dot stands in the text.
-fn has_no_dot(text: &[u8]) -> bool
-    ensures { result ≡ list_all (λ octet. not (octet == 46)) text.now }
+/// Returns whether no dot stands in the token's text. Sixteen octets are looked at together, so those behind a shorter token too, but
+/// no more: the next dot may be far.
+fn has_no_dot(token: RowToken<'_>) -> bool
+    ensures { IsTrue result → list_all is_no_dot token.entry.text.now ≡ true }
 {
-    text.iter().all(|&octet| octet != b'.')
+    let len = token.text.len();
+    let near = &token.from[..len.max(LANES).min(token.from.len())];
+    len <= run_end::<OtherThanDot>(near, 0)
+}
+
+/// How many octets are looked at together.
+const LANES: usize = 16;
+
+/// Octets other than the dot.
+struct OtherThanDot;
+
+impl OctetKind for OtherThanDot {
+    ghost has = { is_no_dot };
+
+    fn has(octet: u8) -> bool {
+        octet != b'.'
+    }
+
+    fn others(octets: u8x16) -> u64 {
+        octets.simd_eq(u8x16::splat(b'.')).to_bitmask()
+    }
 }
 
 /// Appends the label, behind its length, and the octets of the origin, or a part of them if out of memory.

@@ -25,13 +25,11 @@ pub(crate) fn append_text(token: RowToken<'_>, octets: &mut Vec<u8>) -> Result<(
         return Ok(());
     }
     let len = octets.len();
-    match append_symbols(token.text, octets) {
-        Ok(()) => Ok(()),
-        Err(error) => {
-            octets.truncate(len);
-            Err(error)
-        }
+    let appended = append_symbols(token.text, octets);
+    if appended.is_err() {
+        octets.truncate(len);
     }
+    appended
 }
 
 /// Appends the character string that a token's text spells, its length first.
@@ -47,13 +45,11 @@ pub(crate) fn append_string(token: RowToken<'_>, octets: &mut Vec<u8>) -> Result
         return append_counted(token.text, octets);
     }
     let len = octets.len();
-    match append_spelled(token.text, octets) {
-        Ok(()) => Ok(()),
-        Err(error) => {
-            octets.truncate(len);
-            Err(error)
-        }
+    let appended = append_spelled(token.text, octets);
+    if appended.is_err() {
+        octets.truncate(len);
     }
+    appended
 }
 
 /// The same symbol by symbol, but that a part may be left behind where it fails. The length is written when it is known.

@@ -106,6 +106,7 @@ impl<'t, N> RowScanner<'t, N> {
         let (span, _) = self.left.split_first()?;
         Some(RowToken {
             text: span.text(self.text),
+            from: &self.text[span.start().min(self.text.len())..],
             quoted: span.is_quoted(),
             bare: self.is_row && !span.has_escape(),
         })
@@ -125,6 +126,7 @@ impl<'t, N> RowScanner<'t, N> {
         };
         let token = RowToken {
             text: span.text(self.text),
+            from: &self.text[span.start().min(self.text.len())..],
             quoted: span.is_quoted(),
             bare: self.is_row && !span.has_escape(),
         };

@@ -1,5 +1,5 @@
 //! Tokens of a row.
-ghost use Rattle.std.specs.Prelude.{◌≡◌, ◌∷◌, ◌↔◌, List, ℕ, [], true, IsTrue, IfSome, IfNone};
+ghost use Rattle.std.specs.Prelude.{◌≡◌, ◌∷◌, ◌↔◌, List, ℕ, [], true, length, take, IsTrue, IfSome, IfNone};
 ghost use Rattle.std.specs.List.{list_all};
 ghost use Rattle.dns_label.specs.Symbol.{is_plain};
 ghost use Rattle.dns_scan.specs.Token.{IsWord, marker};
@@ -11,10 +11,13 @@ use crate::octets::{are_plain, plain_word};
 pub(crate) struct RowToken<'t> {
     /// The text as it is written, without quotes.
     pub(crate) text: &'t [u8],
+    /// The text that it stands in, from it on.
+    pub(crate) from: &'t [u8],
     /// Whether it is quoted.
     pub(crate) quoted: bool,
     /// Whether it is known that no backslash stands in it.
     pub(crate) bare: bool,
+    ghost begins: { text.now ≡ take (length text.now) from.now },
     ghost plain: { bare ≡ true → list_all is_plain text.now ≡ true },
 }
 

@@ -1,10 +1,10 @@
 -- What a reader gives, handed on as values or as octets.
-use Rattle.std.proofs.Common.{◌≡◌, ℕ, List, Option, Some, None, Ok, Err, String, Global, refl, sym, subst, ◌∙◌, ap}
+use Rattle.std.proofs.Common.{◌≡◌, ℕ, List, Option, Some, None, Ok, Err, String, Global, Box, box_value, refl, sym, subst, ◌∙◌, ap}
 use Rattle.std.specs.Prelude.{Result, IfErr, IfOk, OnErr, option_map, string_bytes}
 use Rattle.dns_row_scanner.specs.NameInText.{SpellsUnder}
 use Rattle.dns_row_scanner.specs.declared.entry_error.EntryError.{EntryError}
 use Rattle.dns_text.specs.Rows.{TokenRow}
-use Rattle.dns_zonefile.specs.Composed.{HandsOn, with_reason}
+use Rattle.dns_zonefile.specs.Composed.{HandsOn, included, with_reason}
 use Rattle.dns_zonefile.specs.ComposedRow.{IsHandedOn}
 use Rattle.dns_zonefile.specs.Entry.{Context, Entry, Enters, IsEntry}
 use Rattle.dns_zonefile.specs.Entry.Entry.{Include}
@@ -18,6 +18,7 @@ use Rattle.dns_zonefile.specs.declared.entry.ComposedEntry.TheVariants as compos
 use Rattle.dns_zonefile.specs.declared.entry.ComposedEntry.{ComposedEntry}
 use Rattle.dns_zonefile.specs.declared.entry.Entry as found
 use Rattle.dns_zonefile.specs.declared.entry.Entry.TheVariants as entries
+use Rattle.dns_zonefile.specs.declared.entry.IncludedFile.{IncludedFile}
 use Rattle.dns_zonefile.specs.declared.error.Error.{Error}
 use Rattle.dns_zonefile.proofs.Going.{no-directive}
 use Rattle.dns_zonefile.proofs.OneEntry.{under_once}
@@ -81,14 +82,14 @@ pub spelled_origin : (origin : Option (List (List ℕ))) → option_map spelled 
 spelled_origin None = refl
 spelled_origin (Some name) = refl
 
-pub include_handed : (entry : Option (found.Entry (List (List ℕ)))) (path : String Global) (origin : Option (List (List ℕ)))
-    → entry ≡ Some (entries.Include path origin) → (octets : List ℕ)
-    → IsHandedOn octets (entry_of spelled entry) (Some (composed.Include path origin)) octets
-include_handed entry path origin is octets =
-    subst (λ (e : Option (found.Entry (List (List ℕ)))). IsHandedOn octets (entry_of spelled e) (Some (composed.Include path origin)) octets) (sym is) (
+pub include_handed : (entry : Option (found.Entry (List (List ℕ)))) (path : String Global) (origin : Option (List (List ℕ))) (file : Box IncludedFile Global)
+    → entry ≡ Some (entries.Include path origin) → box_value file ≡ record { path = path; origin = origin } → (octets : List ℕ)
+    → IsHandedOn octets (entry_of spelled entry) (Some (composed.Include file)) octets
+include_handed entry path origin file is same octets =
+    subst (λ (e : Option (found.Entry (List (List ℕ)))). IsHandedOn octets (entry_of spelled e) (Some (composed.Include file)) octets) (sym is) (
       no-directive spelled (entries.Include path origin),
-      subst (λ (o : Option (List (List ℕ))). HandsOn octets (Ok (Some (Include (string_bytes path) o))) (Ok (Some (composed.Include path origin))) octets)
-          (sym (spelled_origin origin)) HandsOn.include,
+      subst (λ (e : Entry). HandsOn octets (Ok (Some e)) (Ok (Some (composed.Include file))) octets)
+          (ap included same ∙ ap (Include (string_bytes path)) (sym (spelled_origin origin))) HandsOn.include,
     )
 
 -- an include sets nothing

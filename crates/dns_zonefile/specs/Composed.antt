@@ -1,5 +1,5 @@
 -- What a call gives that writes records behind octets.
-use Rattle.std.specs.Prelude.{◌≡◌, ◌<◌, ◌^◌, ℕ, List, ◌++◌, length, Option, Some, None, Result, Ok, Err, String, string_bytes}
+use Rattle.std.specs.Prelude.{◌≡◌, ◌<◌, ◌^◌, ℕ, List, ◌++◌, length, Option, Some, None, Result, Ok, Err, string_bytes, Box, box_value}
 use Rattle.std.specs.Global.{Global}
 use Rattle.dns_label.specs.Name.{IsName}
 use Rattle.dns_header.specs.Head.{record_octets}
@@ -12,6 +12,7 @@ use Rattle.dns_zonefile.specs.Entry.Entry.{Include, Resource}
 use Rattle.dns_zonefile.specs.Error.{reason_of}
 use Rattle.dns_zonefile.specs.declared.entry.ComposedEntry.{ComposedEntry}
 use Rattle.dns_zonefile.specs.declared.entry.ComposedEntry.TheVariants as composed
+use Rattle.dns_zonefile.specs.declared.entry.IncludedFile.{IncludedFile}
 use Rattle.dns_zonefile.specs.declared.error.Error.{Error}
 
 -- the octets of a record with every name written out (RFC 1035 3.2.1)
@@ -26,13 +27,16 @@ pub record IsHeld (rr : RecordOf (List (List ℕ)) Data) : Type 0 where
   pub ttl : rr.ttl < 2 ^ 32
   pub rdata : length (data_octets rr.rdata) < 2 ^ 16
 
+-- an include of the file
+abbrev pub included : IncludedFile → Entry
+included file = Include (string_bytes file.path) file.origin
+
 -- What is given is handed on so, by the octets before it and behind it: the octets of a record, which hold its parts, stand behind
 -- those before. Nothing else changes them.
 pub data HandsOn (old : List ℕ) : Result (Option Entry) EntryError → Result (Option ComposedEntry) EntryError → List ℕ → Type 0 where
   resource : {rr : RecordOf (List (List ℕ)) Data} {new : List ℕ} → IsHeld rr → new ≡ old ++ octets_of rr
       → HandsOn old (Ok (Some (Resource rr))) (Ok (Some (composed.Record (is_untyped rr.rdata)))) new
-  include : {path : String Global} {origin : Option (List (List ℕ))}
-      → HandsOn old (Ok (Some (Include (string_bytes path) origin))) (Ok (Some (composed.Include path origin))) old
+  include : {file : Box IncludedFile Global} → HandsOn old (Ok (Some (included (box_value file)))) (Ok (Some (composed.Include file))) old
   ended : HandsOn old (Ok None) (Ok None) old
   refused : {error : EntryError} → HandsOn old (Err error) (Err error) old
 

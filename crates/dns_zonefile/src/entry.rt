@@ -1,8 +1,8 @@
 //! Entries of zone files.
 use dns_header::Record;
-use dns_name::{Name, ToName};
+use dns_name::ToName;
 use dns_rdata::ZoneRecordData;
-use dns_row_scanner::{ScannedName, ScannedString};
+use dns_row_scanner::{InlineName, ScannedName, ScannedString};
 
 /// The data of a record that is scanned.
 pub type ScannedRecordData = ZoneRecordData<Vec<u8>, ScannedName>;
@@ -32,11 +32,15 @@ pub enum ComposedEntry {
         /// Whether its data is opaque: the text has it as `\#`, or the type has no fields (RFC 3597).
         untyped: bool,
     },
-    /// `$INCLUDE`, which names another file.
-    Include {
-        /// The path of the file.
-        path: ScannedString,
-        /// The origin for the file, if the row states one.
-        origin: Option<Name<Vec<u8>>>,
-    },
+    /// `$INCLUDE`, which names another file. It stands in a box, so that what is given of a record is small.
+    Include(Box<IncludedFile>),
+}
+
+/// The file that `$INCLUDE` names.
+#[derive(Debug, Drop)]
+pub struct IncludedFile {
+    /// The path of the file.
+    pub path: ScannedString,
+    /// The origin for the file, if the row states one.
+    pub origin: Option<InlineName>,
 }

@@ -20,7 +20,7 @@ pub use dns_row_scanner::{
     TextName, absolute, scan_name, to_inline_name,
 };
 pub use dns_tokens::{BrokenRow, RowFound, RowReader, TokenSpan, read_row};
-pub use entry::{ComposedEntry, Entry, ScannedRecord, ScannedRecordData};
+pub use entry::{ComposedEntry, Entry, IncludedFile, ScannedRecord, ScannedRecordData};
 pub use error::Error;
 pub use statement::{Stated, Statement, scan_statement};
 pub use zonefile::Zonefile;

@@ -85,8 +85,8 @@ fn appends_one(
 ) -> Result<bool, RowError> {
     match zonefile.next_octets(octets) {
         Ok(Some(ComposedEntry::Record { .. })) => Ok(true),
-        Ok(Some(ComposedEntry::Include { path, origin })) => {
-            show_include(alloc, path.as_str(), origin.as_ref(), out)?;
+        Ok(Some(ComposedEntry::Include(file))) => {
+            show_include(alloc, file.path.as_str(), file.origin.as_ref(), out)?;
             Ok(true)
         }
         Ok(None) => Ok(false),

@@ -36,11 +36,11 @@ fn octets(rt: HostRuntime) -> Result<(), Fail> {
         assert!(rt; matches!(entry, Some(ComposedEntry::Record { .. })));
     }
     assert!(rt; octets.as_slice() == expected(alloc)?.as_slice());
-    let Some(ComposedEntry::Include { path, origin }) = zonefile.next_octets(&mut octets)? else {
+    let Some(ComposedEntry::Include(file)) = zonefile.next_octets(&mut octets)? else {
         panic!(rt; "no include");
     };
-    assert!(rt; path.as_str() == "f");
-    let Some(origin) = origin else {
+    assert!(rt; file.path.as_str() == "f");
+    let Some(origin) = &file.origin else {
         panic!(rt; "no origin");
     };
     assert!(rt; origin.as_slice() == b"\x01d\x01a\x00".as_slice());

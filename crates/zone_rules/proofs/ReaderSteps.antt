@@ -1,6 +1,6 @@
 -- What a reader gives of a zone's text, in the words of the rules.
-use Rattle.std.proofs.Common.{◌≡◌, ◌≢◌, ◌+◌, ◌++◌, ◌∙◌, ℕ, true, false, List, [], ◌∷◌, Option, Some, None, Ok, Err, String, Global, length, refl, sym, ap, subst, append_assoc, length-append, arith}
-use Rattle.std.specs.Prelude.{if◌then◌else◌, is_some, Result, string_bytes}
+use Rattle.std.proofs.Common.{◌≡◌, ◌≢◌, ◌+◌, ◌++◌, ◌∙◌, ℕ, true, false, List, [], ◌∷◌, Option, Some, None, Ok, Err, Box, Global, box_value, length, refl, sym, ap, subst, append_assoc, length-append, arith}
+use Rattle.std.specs.Prelude.{if◌then◌else◌, is_some, Result}
 use Rattle.std.specs.List.{push}
 use Rattle.dns_header.specs.Record.{RecordOf}
 use Rattle.dns_rdata.specs.Data.{Data}
@@ -10,7 +10,7 @@ use Rattle.dns_message.specs.Held.{record_of}
 use Rattle.dns_message.specs.Record.{record_octets}
 use Rattle.dns_row_scanner.specs.EntryError.{is_memory}
 use Rattle.dns_row_scanner.specs.declared.entry_error.EntryError.{EntryError}
-use Rattle.dns_zonefile.specs.Composed.{HandsOn}
+use Rattle.dns_zonefile.specs.Composed.{HandsOn, included}
 use Rattle.dns_zonefile.specs.Entries.{HasEntries, IsRefusedAfter}
 use Rattle.dns_zonefile.specs.Entry.{Context, Entry}
 use Rattle.dns_zonefile.specs.Entry.Entry.{Include, Resource}
@@ -18,6 +18,7 @@ use Rattle.dns_zonefile.specs.Reader.{AreDirectives, Gives, GoesOver, Reader, le
 use Rattle.dns_zonefile.specs.ReaderSeen.{entries_met, reader_of, refused_in}
 use Rattle.dns_zonefile.specs.declared.entry.ComposedEntry.{ComposedEntry}
 use Rattle.dns_zonefile.specs.declared.entry.ComposedEntry.TheVariants as composed
+use Rattle.dns_zonefile.specs.declared.entry.IncludedFile.{IncludedFile}
 use Rattle.dns_zonefile.specs.declared.error.Error.{Error}
 use Rattle.dns_zonefile.specs.declared.zonefile.Zonefile.{Zonefile}
 use Rattle.dns_zonefile.proofs.Going.{goes-nowhere, goes-on}
@@ -229,8 +230,8 @@ abbrev pub HandsOver : Reader → List ℕ → Result (Option ComposedEntry) Ent
 HandsOver reader old handed new octets =
     (found : Result (Option Entry) EntryError) × Gives reader found new × HandsOn old found handed octets
 
-handed_include : {old octets : List ℕ} {found : Result (Option Entry) EntryError} {path : String Global} {origin : Option (List (List ℕ))}
-    → HandsOn old found (Ok (Some (composed.Include path origin))) octets → found ≡ Ok (Some (Include (string_bytes path) origin))
+handed_include : {old octets : List ℕ} {found : Result (Option Entry) EntryError} {file : Box IncludedFile Global}
+    → HandsOn old found (Ok (Some (composed.Include file))) octets → found ≡ Ok (Some (included (box_value file)))
 handed_include HandsOn.include = refl
 
 handed_end : {old octets : List ℕ} {found : Result (Option Entry) EntryError} → HandsOn old found (Ok None) octets → found ≡ Ok None
@@ -241,8 +242,8 @@ handed_error : {old octets : List ℕ} {found : Result (Option Entry) EntryError
 handed_error HandsOn.refused = refl
 
 pub include_handed : {given : List ℕ} {origin : Option (List (List ℕ))} {class n : ℕ} {records : List Record} {reader new : Reader}
-    {old octets : List ℕ} {path : String Global} {file_origin : Option (List (List ℕ))} → HasKept given origin class records reader
-    → HandsOver reader old (Ok (Some (composed.Include path file_origin))) new octets → n ≡ new.count
+    {old octets : List ℕ} {file : Box IncludedFile Global} → HasKept given origin class records reader
+    → HandsOver reader old (Ok (Some (composed.Include file))) new octets → n ≡ new.count
     → IsZoneFault given origin class (zone_error.Include n)
 include_handed {reader = reader} {new = new} kept hands number =
     include_fault (meets kept

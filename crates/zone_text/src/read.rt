@@ -124,7 +124,7 @@ pub(crate) fn meet_record(
 {
     match zonefile.next_octets(octets) {
         Ok(Some(ComposedEntry::Record { untyped })) => Ok(Some(untyped)),
-        Ok(Some(ComposedEntry::Include { .. })) => Err(ZoneError::Include(zonefile.entry_number())),
+        Ok(Some(ComposedEntry::Include(_))) => Err(ZoneError::Include(zonefile.entry_number())),
         Ok(None) => Ok(None),
         Err(error) if error.is_memory() => Err(ZoneError::OutOfMemory),
         Err(_) => Err(ZoneError::Text(zonefile.entry_number())),

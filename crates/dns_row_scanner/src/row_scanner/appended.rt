@@ -29,13 +29,11 @@ impl<'t, N: TextName> OctetsScanner for RowScanner<'t, N> {
 
     fn scan_charstr_entry_into(&mut self, octets: &mut Vec<u8>) -> Result<(), EntryError> {
         let len = octets.len();
-        match self.append_strings(octets) {
-            Ok(()) => Ok(()),
-            Err(error) => {
-                octets.truncate(len);
-                Err(error)
-            }
+        let appended = self.append_strings(octets);
+        if appended.is_err() {
+            octets.truncate(len);
         }
+        appended
     }
 }
 
@@ -58,10 +56,7 @@ impl<'t, N> RowScanner<'t, N> {
             let Ok(token) = self.take_token() else {
                 return Ok(());
             };
-            match append_string(token, octets) {
-                Ok(()) => {}
-                Err(error) => return Err(error),
-            }
+            append_string(token, octets)?;
         }
     }
 }

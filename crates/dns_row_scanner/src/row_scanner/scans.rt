@@ -97,10 +97,7 @@ impl<'t, N: TextName> Scanner for RowScanner<'t, N> {
             let Some(word) = token.word() else {
                 return Err(EntryError::Custom("invalid word"));
             };
-            match joined.push_str(word) {
-                Ok(()) => {}
-                Err(_) => return Err(EntryError::OutOfMemory),
-            }
+            joined.push_str(word)?;
         }
     }
 

@@ -20,13 +20,13 @@ ghost use Rattle.dns_zonefile.specs.Statement.{IsDirective, Says, Statement};
 use super::EntryForm;
 use crate::context::Context;
 use crate::statement::{begins_directive, scan_directive, scan_head};
-use crate::{ComposedEntry, Entry};
+use crate::{ComposedEntry, Entry, IncludedFile};
 use dns_name::{Class, Composer, Name, Rtype, ToName, Ttl};
 use dns_row_scanner::{EntryError, InlineName, OctetsScanner, RowScanner};
 use dns_scan_data::scan_data_into;
 use dns_text::Scanner;
 use dns_tokens::TokenSpan;
-use std::alloc::{AllocError, Global};
+use std::alloc::Global;
 
 /// A record whose octets were appended: what its row sets, and whether its data is opaque.
 #[derive(Clone, Copy)]
@@ -127,27 +127,13 @@ fn composed_of(
 {
     match entry {
         None => Ok(None),
-        Some(Entry::Include { path, origin }) => match origin_in_vec(alloc, origin) {
-            Ok(origin) => Ok(Some(ComposedEntry::Include { path, origin })),
-            Err(_) => Err(EntryError::OutOfMemory),
-        },
+        Some(Entry::Include { path, origin }) => {
+            match Box::new(alloc, IncludedFile { path, origin }) {
+                Ok(file) => Ok(Some(ComposedEntry::Include(file))),
+                Err(_) => Err(EntryError::OutOfMemory),
+            }
+        }
         Some(Entry::Record(_)) => unreachable!(),
-    }
-}
-
-/// Returns the origin for a file in a vector, so that what is given of a record is small.
-fn origin_in_vec(
-    alloc: Global,
-    origin: Option<InlineName>,
-) -> Result<Option<Name<Vec<u8>>>, AllocError>
-    ensures { IfOk result (λ in_vec. in_vec ≡ origin) }
-{
-    match origin {
-        Some(origin) => match origin.to_vec(alloc) {
-            Ok(origin) => Ok(Some(origin)),
-            Err(error) => Err(error),
-        },
-        None => Ok(None),
     }
 }
 

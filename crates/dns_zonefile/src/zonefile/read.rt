@@ -52,9 +52,8 @@ impl Zonefile {
     /// The octets are the record's with every name written out: owner, type, class, TTL, length and data (RFC 1035 3.2.1). Nothing
     /// is appended for an include, at the end, and on failure. It fails as `next_entry` does.
     ///
-    /// Each part of a record is appended where it is scanned. Only a string or a text with a backslash, octets in base 16 or 64, and
-    /// opaque data are read into a vector of their own first. Of a row with several faults, it may tell another one than `next_entry`
-    /// does.
+    /// Each part of a record is appended where it is scanned. Only octets in base 16 or 64 and opaque data are read into a vector of
+    /// their own first. Of a row with several faults, it may tell another one than `next_entry` does.
     pub fn next_octets(&mut self, octets: &mut Vec<u8>) -> Result<Option<ComposedEntry>, Error>
         ensures gives { refused_in self.old ≡ None → (given : Result (Option spec.Entry) EntryError)
             × Gives (reader_of self.old) given (reader_of self.new)
