@@ -42,3 +42,19 @@ is_srv = refl
 pub is_caa : type_read (codes "CAA") ≡ Some 257
 unfolding types number_read number_behind number_named number_spelled
 is_caa = refl
+
+pub is_hinfo : type_read (codes "HINFO") ≡ Some 13
+unfolding types number_read number_behind number_named number_spelled
+is_hinfo = refl
+
+pub is_rp : type_read (codes "RP") ≡ Some 17
+unfolding types number_read number_behind number_named number_spelled
+is_rp = refl
+
+pub is_ds : type_read (codes "DS") ≡ Some 43
+unfolding types number_read number_behind number_named number_spelled
+is_ds = refl
+
+pub is_dnskey : type_read (codes "DNSKEY") ≡ Some 48
+unfolding types number_read number_behind number_named number_spelled
+is_dnskey = refl

@@ -1,10 +1,11 @@
 -- Data that is checked.
-use Rattle.std.proofs.Common.{◌≡◌, ◌≢◌, ◌<◌, ◌↔◌, ℕ, Bool, true, false, not, List, [], ◌∷◌, length, get_or, refl, sym, ap, ◌∙◌, subst, arith, nat_eq, nat_lt, slice_index, IsTrue}
+use Rattle.std.proofs.Common.{◌≡◌, ◌≢◌, ◌<◌, ◌↔◌, ℕ, Bool, true, false, not, List, [], ◌∷◌, length, drop, get_or, refl, sym, ap, ◌∙◌, subst, arith, nat_eq, nat_lt, slice_index, IsTrue}
 use Rattle.std.proofs.lemmas.Bool.Decides.{nat_tests}
 use lib.Pointwise.{pointwise, bytes_decides}
 use Rattle.dns_name.specs.Page.{Page, write}
 use Rattle.dns_name.specs.RecordData.{page_of}
 use Rattle.dns_name.specs.Spelling.{plain}
+use Rattle.dns_name.specs.Unknown.{UnknownData}
 use Rattle.dns_rdata.specs.Fields as fields
 use Rattle.dns_rdata.specs.Fields.{IsData}
 use Rattle.dns_rdata.specs.Data.{Data, ReadsData, parts_of, typed, untyped}
@@ -27,6 +28,14 @@ data_tested rtype data' message written place found told reads same at whole tes
       (λ holds. subst (IsData rtype) (sym is ∙ decides.0 (sym test ∙ holds)) (data_found rtype message place found reads)),
       (λ given. test ∙ decides.1 (is ∙ (data_typed_at rtype data' message place found given same at reads).octets_are)),
     )
+
+-- opaque data is read where the type has no fields, and then any octets are data of the type
+pub opaque_tested : (rtype : ℕ) (data' message : List ℕ) (place : ℕ) (found : Data) (unknown : UnknownData) → ReadsData message place rtype found
+    → found ≡ untyped unknown → message ≡ data' → place ≡ 0 → IsTrue true ↔ IsData rtype data'
+opaque_tested rtype data' message place found unknown reads opaque same at =
+    let here : ReadsData message place rtype (untyped unknown) = subst (ReadsData message place rtype) opaque reads in
+    let whole : unknown.octets ≡ data' = here.1.octets ∙ ap (λ n. drop n message) at ∙ same in
+    ((λ _. fields.opaque here.0 (omega (arith, here.1.short, ap length whole))), (λ _. refl))
 
 -- data of another type than CAA's
 pub other_spellable : (rtype : ℕ) (data' : List ℕ) → rtype ≢ 257 → IsTrue true ↔ IsSpellable rtype data'

@@ -19,6 +19,10 @@ pub fn is_data_of_type(alloc: Global, rtype: Rtype, data: &[u8]) -> Result<bool,
     let Ok(rdata) = parsed else {
         return Ok(false);
     };
+    if let ZoneRecordData::Unknown(_) = rdata {
+        // The type has no fields, so any octets are its data.
+        return Ok(true);
+    }
     // A name with pointers is read too: only data without them is written as it stands.
     let mut written = Vec::new(alloc);
     match rdata.compose_rdata(&mut written) {

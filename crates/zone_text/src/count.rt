@@ -57,17 +57,10 @@ fn count_next(
         → HasCounted text origin class (reader_of zonefile.old) octets.old.items count → IsZoneFault text origin class error) }
 {
     let place = octets.len();
-    let met = match meet_record(zonefile, octets) {
-        Ok(met) => met,
-        Err(error) => return Err(error),
-    };
-    let Some(untyped) = met else {
+    let Some(untyped) = meet_record(zonefile, octets)? else {
         return Ok(false);
     };
-    match check_last(alloc, octets, place, untyped, zonefile.entry_number()) {
-        Ok(()) => {}
-        Err(error) => return Err(error),
-    }
+    check_last(alloc, octets, place, untyped, zonefile.entry_number())?;
     // Only the first record is kept: its owner is the zone's name.
     if place > 0 {
         octets.truncate(place);

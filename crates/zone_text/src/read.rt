@@ -94,17 +94,10 @@ fn read_next(
         → IsZoneFault text origin class error) }
 {
     let place = octets.len();
-    let met = match meet_record(zonefile, octets) {
-        Ok(met) => met,
-        Err(error) => return Err(error),
-    };
-    let Some(untyped) = met else {
+    let Some(untyped) = meet_record(zonefile, octets)? else {
         return Ok(false);
     };
-    match check_last(alloc, octets, place, untyped, zonefile.entry_number()) {
-        Ok(()) => {}
-        Err(error) => return Err(error),
-    }
+    check_last(alloc, octets, place, untyped, zonefile.entry_number())?;
     match places.push(place) {
         Ok(()) => Ok(true),
         Err(_) => Err(ZoneError::OutOfMemory),

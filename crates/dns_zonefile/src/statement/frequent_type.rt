@@ -21,6 +21,10 @@ pub(crate) fn frequent_type(text: &str) -> Option<Rtype>
         "SOA" => Some(Rtype::SOA),
         "SRV" => Some(Rtype::SRV),
         "CAA" => Some(Rtype::CAA),
+        "HINFO" => Some(Rtype::HINFO),
+        "RP" => Some(Rtype::RP),
+        "DS" => Some(Rtype::DS),
+        "DNSKEY" => Some(Rtype::DNSKEY),
         _ => None,
     }
 }

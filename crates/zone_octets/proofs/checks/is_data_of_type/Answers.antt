@@ -1,4 +1,6 @@
-use Rattle.zone_octets.proofs.CheckedData.{data_tested}
+use Rattle.std.proofs.Common.{ap}
+use Rattle.dns_rdata.specs.ZoneData.{data_of}
+use Rattle.zone_octets.proofs.CheckedData.{data_tested, opaque_tested}
 use Rattle.zone_octets.proofs.ReadData.{none_read}
 use Rattle.zone_octets.proofs.checks.is_data_of_type.Goals as goal
 
@@ -8,6 +10,11 @@ returns-in_default c = (
   (λ is. absurd (none_read _ _ c.args.rtype c.args.data.now _ _ is c.from_ref-parser.ensures.octets c.from_ref-parser.ensures.place
       c.in_default.ensures.no_data)),
 )
+
+pub returns-in-Unknown : goal.returns-in-Unknown
+returns-in-Unknown c =
+    opaque_tested c.args.rtype c.args.data.now _ _ _ _ c.in-Ok.ensures.ok (ap data_of c.in-Unknown.is)
+    c.from_ref-parser.ensures.octets c.from_ref-parser.ensures.place
 
 pub returns-in-Ok-compose_rdata : goal.returns-in-Ok-compose_rdata
 returns-in-Ok-compose_rdata c =

@@ -1,6 +1,6 @@
 use Rattle.std.proofs.Common.{◌∙◌, ap}
 use Rattle.dns_values.specs.Mnemonic.{type_read}
-use Rattle.dns_zonefile.proofs.FrequentTypes.{is_a, is_ns, is_mx, is_txt, is_aaaa, is_cname, is_ptr, is_soa, is_srv, is_caa}
+use Rattle.dns_zonefile.proofs.FrequentTypes.{is_a, is_ns, is_mx, is_txt, is_aaaa, is_cname, is_ptr, is_soa, is_srv, is_caa, is_hinfo, is_rp, is_ds, is_dnskey}
 use Rattle.dns_zonefile.proofs.statement.frequent_type.frequent_type.Goals as goal
 
 pub returns-in-A : goal.returns-in-A
@@ -32,3 +32,15 @@ returns-in-SRV c = ap type_read c.in-SRV.is ∙ is_srv
 
 pub returns-in-CAA : goal.returns-in-CAA
 returns-in-CAA c = ap type_read c.in-CAA.is ∙ is_caa
+
+pub returns-in-HINFO : goal.returns-in-HINFO
+returns-in-HINFO c = ap type_read c.in-HINFO.is ∙ is_hinfo
+
+pub returns-in-RP : goal.returns-in-RP
+returns-in-RP c = ap type_read c.in-RP.is ∙ is_rp
+
+pub returns-in-DS : goal.returns-in-DS
+returns-in-DS c = ap type_read c.in-DS.is ∙ is_ds
+
+pub returns-in-DNSKEY : goal.returns-in-DNSKEY
+returns-in-DNSKEY c = ap type_read c.in-DNSKEY.is ∙ is_dnskey
