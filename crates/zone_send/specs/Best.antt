@@ -119,7 +119,7 @@ pub record IsSentFor (spelling : Spelling) (records : List Record) (class : ℕ)
   pub fewest : IsFewestBy spelling records query max stream
   pub best : IsBestBy spelling records query max stream
 
--- The query asks for the zone, and no messages hold the records.
+-- The octets are a query, and no messages of at most so many octets that answer it hold the records.
 pub record FitsNoMessages (spelling : Spelling) (records : List Record) (octets : List ℕ) (max : ℕ) : Type 0 where
   pub query : AxfrQuery
   pub is : IsQuery octets query
