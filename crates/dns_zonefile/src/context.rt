@@ -214,10 +214,7 @@ fn append_name(name: &Name<&[u8]>, octets: &mut Vec<u8>) -> Result<(), EntryErro
     ensures err { IfErr result (λ error. is_memory error ≡ true) }
     ensures same { OnErr result (octets.new.items ≡ octets.old.items) }
 {
-    match octets.extend_from_slice(name.as_slice()) {
-        Ok(()) => Ok(()),
-        Err(_) => Err(EntryError::OutOfMemory),
-    }
+    Ok(octets.extend_from_slice(name.as_slice())?)
 }
 
 /// Returns the class of a record that states this one, or none, where this one is known, or none. Fails with `Custom` if they differ, or

@@ -104,14 +104,9 @@ fn take_directive(
     let mut scanner: RowScanner<'_, InlineName> = RowScanner::of_row(
         alloc, text, place, spans, origin,
     );
-    let statement = match scan_directive(&mut scanner) {
-        Ok(statement) => statement,
-        Err(error) => return Err(error),
-    };
-    match context.enter(alloc, statement) {
-        Ok(entry) => composed_of(alloc, entry),
-        Err(error) => Err(error),
-    }
+    let statement = scan_directive(&mut scanner)?;
+    let entry = context.enter(alloc, statement)?;
+    composed_of(alloc, entry)
 }
 
 /// Returns what is given of an entry that is no record. Fails with `OutOfMemory`, and only for an include.
@@ -153,10 +148,7 @@ fn append_record(
     ensures more { OnErr result (GoesOn octets.old.items octets.new.items) }
 {
     let len = octets.len();
-    match append_owner(led, context, scanner, octets) {
-        Ok(()) => {}
-        Err(error) => return Err(error),
-    }
+    append_owner(led, context, scanner, octets)?;
     let owner_len = octets.len() - len;
     let head = match scan_head(scanner) {
         Ok(head) => head,
@@ -166,14 +158,8 @@ fn append_record(
         Ok(known) => known,
         Err(error) => return Err(error),
     };
-    match append_fixed(head.rtype, known.class, known.ttl, octets) {
-        Ok(()) => {}
-        Err(error) => return Err(error),
-    }
-    let untyped = match append_data(head.rtype, scanner, octets) {
-        Ok(untyped) => untyped,
-        Err(error) => return Err(error),
-    };
+    append_fixed(head.rtype, known.class, known.ttl, octets)?;
+    let untyped = append_data(head.rtype, scanner, octets)?;
     Ok(ComposedRecord {
         owner_len,
         class: known.class,
@@ -227,10 +213,7 @@ fn append_fixed(
     let [a, b] = rtype.to_int().to_be_bytes();
     let [c, d] = class.to_int().to_be_bytes();
     let [e, f, g, h] = ttl.as_secs().to_be_bytes();
-    match octets.extend_from_slice(&[a, b, c, d, e, f, g, h, 0, 0]) {
-        Ok(()) => Ok(()),
-        Err(_) => Err(EntryError::OutOfMemory),
-    }
+    Ok(octets.extend_from_slice(&[a, b, c, d, e, f, g, h, 0, 0])?)
 }
 
 /// Appends the octets of data of the type, whose tokens end the row, and writes their length over the two zeros before them. Returns
@@ -248,10 +231,7 @@ fn append_data(
     ensures more { OnErr result (GoesOn octets.old.items octets.new.items) }
 {
     let place = octets.len();
-    let untyped = match scan_data_into(rtype, scanner, octets) {
-        Ok(untyped) => untyped,
-        Err(error) => return Err(error),
-    };
+    let untyped = scan_data_into(rtype, scanner, octets)?;
     if scanner.continues() {
         return Err(EntryError::TrailingTokens);
     }

@@ -40,16 +40,10 @@ impl EntryForm for AsValues {
         led: bool,
     ) -> Result<Option<Entry>, EntryError> {
         let origin = context.origin.as_ref();
-        let statement: Statement<Vec<u8>, ScannedName> = match scan_row(
+        let statement: Statement<Vec<u8>, ScannedName> = scan_row(
             alloc, text, place, spans, led, origin,
-        ) {
-            Ok(statement) => statement,
-            Err(error) => return Err(error),
-        };
-        match context.enter(alloc, statement) {
-            Ok(entry) => Ok(entry),
-            Err(error) => Err(error),
-        }
+        )?;
+        context.enter(alloc, statement)
     }
 }
 

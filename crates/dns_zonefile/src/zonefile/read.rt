@@ -98,11 +98,10 @@ impl Zonefile {
         ensures refused { refused_in self.new ≡ refused_in self.old }
     {
         loop {
-            match self.read_row(form) {
-                Ok(RowRead::Passed) => {}
-                Ok(RowRead::Found(given)) => return Ok(Some(given)),
-                Ok(RowRead::Ended) => return Ok(None),
-                Err(error) => return Err(error),
+            match self.read_row(form)? {
+                RowRead::Passed => {}
+                RowRead::Found(given) => return Ok(Some(given)),
+                RowRead::Ended => return Ok(None),
             }
         }
     }
@@ -145,17 +144,7 @@ impl Zonefile {
         }
         let text = self.text.as_slice();
         let spans = self.spans.as_slice();
-        let given = match form.take_row(
-            self.alloc,
-            &mut self.context,
-            text,
-            self.place,
-            spans,
-            led,
-        ) {
-            Ok(given) => given,
-            Err(error) => return Err(error),
-        };
+        let given = form.take_row(self.alloc, &mut self.context, text, self.place, spans, led)?;
         self.place = next;
         self.count += 1;
         match given {

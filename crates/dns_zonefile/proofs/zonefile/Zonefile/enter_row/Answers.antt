@@ -1,4 +1,5 @@
 use Rattle.std.proofs.Common.{◌≡◌, ◌<◌, [], ◌∷◌, length, refl, sym, subst, rules}
+use Rattle.dns_row_scanner.proofs.HandedOn.{handed_on}
 use Rattle.dns_tokens.specs.RowFound.{IsRowAt}
 use Rattle.dns_zonefile.specs.Entry.{IsEntry}
 use Rattle.dns_zonefile.specs.RowRead.{IsGiven}
@@ -20,19 +21,20 @@ take_row-requires g c =
           (subst (λ spans. IsRowAt now.text.items now.place spans c.args.next c.args.led) (sym c.as_slice-spans.ensures.value) c.requires),
     )
 
-pub returns-in-Err-clause-err : goal.returns-in-Err-clause-err
-returns-in-Err-clause-err g c =
+pub returns-in_err-given-clause-err : goal.returns-in_err-given-clause-err
+returns-in_err-given-clause-err g c =
     let now = c.args.self.now in
     let some : 0 < length now.spans.items = search rules in
-    λ real. refused-row now.text.items now.place c.args.next now.spans.items c.args.led c.requires (context_of now.context) now.count some
-    (λ entry after is. c.in-Err.ensures.err real entry after
+    handed_on c.from_residual.result c.in_err-given.field-0.0 _ c.from_residual.ensures.1 (λ real.
+    refused-row now.text.items now.place c.args.next now.spans.items c.args.led c.requires (context_of now.context) now.count some
+    (λ entry after is. c.in_err-given.ensures.err real entry after
     (subst (λ row. IsEntry (context_of now.context) row entry after)
-    (same-row (sym c.as_slice-text.ensures.value) (sym c.as_slice-spans.ensures.value)) is))
+    (same-row (sym c.as_slice-text.ensures.value) (sym c.as_slice-spans.ensures.value)) is)))
 
 pub returns-in-Some-clause-ok : goal.returns-in-Some-clause-ok
 returns-in-Some-clause-ok g c =
     let now = c.args.self.now in
-    let ok = c.in-Ok.ensures.ok in
+    let ok = c.in_ok-given.ensures.ok in
     let gives = g.F.EntryForm.gives in
     let octets = g.F.EntryForm.octets in
     let given = subst (λ given. IsGiven gives (octets c.args.form.now) ok.0 given (octets c.take_row.new.self)) c.in-Some.is ok.2 in (
@@ -48,7 +50,7 @@ returns-in-Some-clause-ok g c =
 pub returns-in-None-clause-ok : goal.returns-in-None-clause-ok
 returns-in-None-clause-ok g c =
     let now = c.args.self.now in
-    let ok = c.in-Ok.ensures.ok in
+    let ok = c.in_ok-given.ensures.ok in
     let gives = g.F.EntryForm.gives in
     let octets = g.F.EntryForm.octets in
     let given = subst (λ given. IsGiven gives (octets c.args.form.now) ok.0 given (octets c.take_row.new.self)) c.in-None.is ok.2 in (
