@@ -1,7 +1,16 @@
-//! Runs of the program's jobs.
+//! The program's command lines, and runs of the jobs that they name.
+use dns_name::Name;
 use rows::{Answer, Row, RowError};
 use std::alloc::Global;
 use zonewire::{Job, StdSink, StdSource, WordsFault, job, run};
+
+/// `job WORD..`: the job that the program's words name, by its command and its fields in order, names as octets.
+pub fn answer_job(alloc: Global, row: &mut Row<'_>, out: &mut Answer) -> Result<(), RowError> {
+    match job_of_words(alloc, row)? {
+        Ok(job) => show_job(&job, out),
+        Err(fault) => show_fault(&fault, out),
+    }
+}
 
 /// `run text TEXT WORD..` and `run octets OCTETS WORD..`: what the job that the program's words name writes for the input, as
 /// octets where it sends or gives canonical octets, and else as text.
@@ -11,6 +20,14 @@ pub fn answer(alloc: Global, row: &mut Row<'_>, out: &mut Answer) -> Result<(), 
         "octets" => row.octets(alloc)?,
         _ => return Err(RowError::BadWord),
     };
+    match job_of_words(alloc, row)? {
+        Ok(job) => answer_run(alloc, job, input.as_slice(), out),
+        Err(fault) => show_fault(&fault, out),
+    }
+}
+
+/// Returns the job that the rest of the row's words name, or why they name none.
+fn job_of_words(alloc: Global, row: &mut Row<'_>) -> Result<Result<Job, WordsFault>, RowError> {
     let mut owned = Vec::new(alloc);
     for _ in 0..u32::MAX {
         if !row.has_more() {
@@ -22,15 +39,75 @@ pub fn answer(alloc: Global, row: &mut Row<'_>, out: &mut Answer) -> Result<(), 
     for word in owned.iter() {
         words.push(word.as_str())?;
     }
-    match job(alloc, words.as_slice()) {
-        Ok(job) => answer_job(alloc, job, input.as_slice(), out),
-        Err(WordsFault::Line(_)) => out.shown(&"refused Line"),
-        Err(fault) => out.refused(&fault),
+    Ok(job(alloc, words.as_slice()))
+}
+
+/// Shows why words name no job. The texts of `clap` are no part of an answer.
+fn show_fault(fault: &WordsFault, out: &mut Answer) -> Result<(), RowError> {
+    match fault {
+        WordsFault::Line(_) => out.shown(&"refused Line"),
+        fault => out.refused(fault),
+    }
+}
+
+/// Shows a job's command and fields.
+fn show_job(job: &Job, out: &mut Answer) -> Result<(), RowError> {
+    match job {
+        Job::Send {
+            origin,
+            class,
+            id,
+            apex,
+            max,
+            spelling,
+        } => {
+            out.shown(&"Send")?;
+            out.octets(octets_of(origin))?;
+            out.shown(&class.to_int())?;
+            out.shown(id)?;
+            out.octets(octets_of(apex))?;
+            out.shown(max)?;
+            out.named(spelling)
+        }
+        Job::Receive {
+            class,
+            id,
+            apex,
+            layout,
+        } => {
+            out.shown(&"Receive")?;
+            out.shown(&class.to_int())?;
+            out.shown(id)?;
+            out.octets(apex.as_slice())?;
+            out.named(layout)
+        }
+        Job::Check { origin, class } => show_text_job("Check", origin, class.to_int(), out),
+        Job::Canon { origin, class } => show_text_job("Canon", origin, class.to_int(), out),
+    }
+}
+
+/// Shows a job that reads a zone's text alone.
+fn show_text_job(
+    command: &str,
+    origin: &Option<Name<Vec<u8>>>,
+    class: u16,
+    out: &mut Answer,
+) -> Result<(), RowError> {
+    out.shown(&command)?;
+    out.octets(octets_of(origin))?;
+    out.shown(&class)
+}
+
+/// Returns the octets of a name, none if there is none.
+fn octets_of(name: &Option<Name<Vec<u8>>>) -> &[u8] {
+    match name {
+        Some(name) => name.as_slice(),
+        None => &[],
     }
 }
 
 /// What the job writes for the input. A fault leaves nothing written.
-fn answer_job(alloc: Global, job: Job, input: &[u8], out: &mut Answer) -> Result<(), RowError> {
+fn answer_run(alloc: Global, job: Job, input: &[u8], out: &mut Answer) -> Result<(), RowError> {
     let is_octets = matches!(&job, Job::Send { .. } | Job::Canon { .. });
     let mut output = Vec::new(alloc);
     let mut source = StdSource::new(input);
