@@ -1,5 +1,5 @@
 //! Records as they are written into messages.
-ghost use Rattle.std.specs.Prelude.{◌≡◌, ◌<◌, ◌++◌, ℕ, List, Err, length, OnOk, OnErr};
+ghost use Rattle.std.specs.Prelude.{◌≡◌, ◌≤◌, ◌<◌, ◌++◌, ℕ, List, Err, length, OnOk, OnErr};
 ghost use Rattle.dns_octets.specs.Builder.{GrowsTo, IsPast};
 ghost use Rattle.dns_octets.specs.declared.error.AppendError.TheVariants.{ShortBuf, BadLength};
 ghost use Rattle.dns_name.specs.Page.{write};
@@ -34,6 +34,8 @@ pub trait ComposeRecord {
             (parts_of (written self.now))).octets) }
         ensures bad { result ≡ Err BadLength → 65535 < data_length Target.spelling
             (page_of (Target.list target.old) (Target.known target.old)) (written self.now) }
+        ensures counts { OnOk result (data_length Target.spelling
+            (page_of (Target.list target.old) (Target.known target.old)) (written self.now) ≤ 65535) }
         ensures same_bound { Target.bound target.new ≡ Target.bound target.old }
         ensures stays { Target.stays target.old target.new };
 }
@@ -57,6 +59,8 @@ pub(crate) fn compose_parts<N: ToName, Data: ComposeRecordData, Target: Composer
         (parts_of (record { owner = N.name owner.now; rtype = Data.rtype rdata.now; class = class; ttl = ttl; rdata = Data.parts rdata.now }))).octets) }
     ensures bad { result ≡ Err BadLength → 65535 < data_length Target.spelling
         (page_of (Target.list target.old) (Target.known target.old)) (record { owner = N.name owner.now; rtype = Data.rtype rdata.now; class = class; ttl = ttl; rdata = Data.parts rdata.now }) }
+    ensures counts { OnOk result (data_length Target.spelling
+        (page_of (Target.list target.old) (Target.known target.old)) (record { owner = N.name owner.now; rtype = Data.rtype rdata.now; class = class; ttl = ttl; rdata = Data.parts rdata.now }) ≤ 65535) }
     ensures same_bound { Target.bound target.new ≡ Target.bound target.old }
     ensures stays { Target.stays target.old target.new }
 {
@@ -87,6 +91,8 @@ fn append_parts<N: ToName, Data: ComposeRecordData, Target: Composer>(
         (parts_of (record { owner = N.name owner.now; rtype = Data.rtype rdata.now; class = class; ttl = ttl; rdata = Data.parts rdata.now }))).octets) }
     ensures bad { result ≡ Err BadLength → 65535 < data_length Target.spelling
         (page_of (Target.list target.old) (Target.known target.old)) (record { owner = N.name owner.now; rtype = Data.rtype rdata.now; class = class; ttl = ttl; rdata = Data.parts rdata.now }) }
+    ensures counts { OnOk result (data_length Target.spelling
+        (page_of (Target.list target.old) (Target.known target.old)) (record { owner = N.name owner.now; rtype = Data.rtype rdata.now; class = class; ttl = ttl; rdata = Data.parts rdata.now }) ≤ 65535) }
     ensures same_bound { Target.bound target.new ≡ Target.bound target.old }
     ensures stays { Target.stays target.old target.new }
 {

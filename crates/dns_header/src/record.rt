@@ -1,5 +1,5 @@
 //! Records.
-ghost use Rattle.std.specs.Prelude.{◌≡◌, ◌<◌, ◌++◌, ℕ, List, Err, length, is_some, IfOk, IfSome, OnOk, OnErr};
+ghost use Rattle.std.specs.Prelude.{◌≡◌, ◌≤◌, ◌<◌, ◌++◌, ℕ, List, Err, length, is_some, IfOk, IfSome, OnOk, OnErr};
 ghost use Rattle.dns_octets.specs.Parser.{octets_of, place_of};
 ghost use Rattle.dns_name.specs.ParsedName.{labels_of};
 ghost use Rattle.dns_header.specs.Head.{Head, ReadsWhole};
@@ -171,6 +171,8 @@ impl<N: ToName, Data: ComposeRecordData> Record<N, Data> {
             (parts_of (written_of N.name Data.rtype Data.parts self.now))).octets) }
         ensures bad { result ≡ Err BadLength → 65535 < data_length Target.spelling
             (page_of (Target.list target.old) (Target.known target.old)) (written_of N.name Data.rtype Data.parts self.now) }
+        ensures counts { OnOk result (data_length Target.spelling
+            (page_of (Target.list target.old) (Target.known target.old)) (written_of N.name Data.rtype Data.parts self.now) ≤ 65535) }
         ensures same_bound { Target.bound target.new ≡ Target.bound target.old }
         ensures stays { Target.stays target.old target.new }
     {
@@ -189,6 +191,7 @@ impl<N: ToName, Data: ComposeRecordData> Record<N, Data> {
         ensures known { Target.known target.new ≡ Target.known target.old }
         ensures short { result ≡ Err ShortBuf → IsPast (Target.bound target.old) (length (Target.list target.old ++ canonical_of N.name Data.rtype Data.canonical_octets self.now)) }
         ensures bad { result ≡ Err BadLength → 65535 < length (Data.canonical_octets self.now.rdata) }
+        ensures counts { OnOk result (length (Data.canonical_octets self.now.rdata) ≤ 65535) }
         ensures same_bound { Target.bound target.new ≡ Target.bound target.old }
         ensures stays { Target.stays target.old target.new }
     {

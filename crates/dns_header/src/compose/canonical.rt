@@ -1,5 +1,5 @@
 //! Records in their canonical form (RFC 4034 6.2).
-ghost use Rattle.std.specs.Prelude.{◌≡◌, ◌<◌, ◌++◌, ℕ, List, Err, length, OnOk, OnErr};
+ghost use Rattle.std.specs.Prelude.{◌≡◌, ◌≤◌, ◌<◌, ◌++◌, ℕ, List, Err, length, OnOk, OnErr};
 ghost use Rattle.dns_label.specs.Name.{wire, low};
 ghost use Rattle.dns_octets.specs.Builder.{GrowsTo, IsPast};
 ghost use Rattle.dns_octets.specs.declared.error.AppendError.TheVariants.{ShortBuf, BadLength};
@@ -23,6 +23,7 @@ pub(crate) fn compose_canonical_parts<N: ToName, Data: ComposeRecordData, Target
     ensures short { result ≡ Err ShortBuf → IsPast (Target.bound target.old) (length (Target.list target.old
         ++ canonical_record (N.name owner.now) (Data.rtype rdata.now) class ttl (Data.canonical_octets rdata.now))) }
     ensures bad { result ≡ Err BadLength → 65535 < length (Data.canonical_octets rdata.now) }
+    ensures counts { OnOk result (length (Data.canonical_octets rdata.now) ≤ 65535) }
     ensures same_bound { Target.bound target.new ≡ Target.bound target.old }
     ensures stays { Target.stays target.old target.new }
 {
@@ -52,6 +53,7 @@ fn append_canonical_parts<N: ToName, Data: ComposeRecordData, Target: Composer>(
     ensures short { result ≡ Err ShortBuf → IsPast (Target.bound target.old) (length (Target.list target.old
         ++ canonical_record (N.name owner.now) (Data.rtype rdata.now) class ttl (Data.canonical_octets rdata.now))) }
     ensures bad { result ≡ Err BadLength → 65535 < length (Data.canonical_octets rdata.now) }
+    ensures counts { OnOk result (length (Data.canonical_octets rdata.now) ≤ 65535) }
     ensures same_bound { Target.bound target.new ≡ Target.bound target.old }
     ensures stays { Target.stays target.old target.new }
 {
