@@ -1,102 +1,73 @@
--- What a map by octets keeps, in order of writing.
-use Rattle.std.proofs.Common.{◌≡◌, ◌≤◌, ◌<◌, ℕ, zero, suc, Bool, true, false, Option, Some, None, List, [], ◌∷◌, ◌++◌, take, drop, map, refl, sym, ◌∙◌, ap, subst, arith}
-use Rattle.std.specs.Prelude.{Vec, Result, Ok, Err, OnOk, OnErr, nat_eq, slice_get}
-use Rattle.std.specs.HashMap.{HashMap}
-use Rattle.std.specs.Option.{option_map}
-use Rattle.std.specs.Map.{lookup, values_of}
+-- A map by octets, and the list of what it keeps.
+use Rattle.std.proofs.Common.{◌≡◌, ℕ, Bool, true, false, Option, Some, None, List, [], ◌∷◌, ◌++◌, refl, sym, ◌∙◌, ap, subst}
+use Rattle.std.specs.Prelude.{nat_eq, cond}
+use Rattle.std.specs.Map.{lookup, KeepsOthers}
 use Rattle.std.specs.Cmp.Lexicographic.{pointwise, nat_list_eq_equiv}
-use Rattle.std.proofs.lemmas.List.{take-append-drop, take-map, map-append}
-use Rattle.indexmap.specs.IndexMap.{insert_entry}
-use Rattle.indexmap.proofs.CallerLemmas.{insert_entry-new}
-use Rattle.dns_octets.specs.Builder.{Standing, Known, before}
-use Rattle.dns_name.specs.Spelling.{tree_spelling, place_in}
-use Rattle.dns_compress.specs.declared.spot.Spot.{Spot}
-use Rattle.dns_compress.specs.Tables.{in_order}
-use Rattle.dns_compress.specs.Kept.{kept_at, kept}
-use Rattle.dns_compress.proofs.InOrder.{in_order-pop, place_in-fresh, in_order-front, before-last, before-whole}
+use lib.Pointwise.{bytes_decides}
+use Rattle.dns_octets.specs.Builder.{Standing, Known}
+use Rattle.dns_name.specs.Spelling.{Spelling, tree_spelling, is_same, place_in}
+use Rattle.dns_compress.proofs.InOrder.{goes_last, place_in-fresh}
 
-first_in_order : (n : ℕ) (known : Known) → in_order tree_spelling known ≡ true → in_order tree_spelling (take n known) ≡ true
-first_in_order n known order =
-    in_order-front tree_spelling (take n known) (drop n known)
-    (subst (λ (l : Known). in_order tree_spelling l ≡ true) (sym (take-append-drop n known)) order)
+-- one suffix changes its place in the map, the others keep theirs
+module _ {K : Type 0} (items : K → List ℕ) (old new : List (K × ℕ)) (suffix : List ℕ) (place : Option ℕ) where
+  put_by : (q : List ℕ) (test : Bool) → pointwise nat_eq suffix q ≡ test
+      → lookup (λ key. pointwise nat_eq suffix (items key)) new ≡ place
+      → KeepsOthers (λ a b. pointwise nat_eq (items a) (items b)) (λ key. pointwise nat_eq suffix (items key)) old new
+      → lookup (λ key. pointwise nat_eq q (items key)) new ≡ cond test place (lookup (λ key. pointwise nat_eq q (items key)) old)
+  unfolding KeepsOthers
+  put_by q true is here keeps = subst (λ l. lookup (λ key. pointwise nat_eq l (items key)) new ≡ place) ((bytes_decides suffix q).0 is) here
+  put_by q false is here keeps =
+      keeps (λ key. pointwise nat_eq q (items key)) (λ x y same. nat_list_eq_equiv.congr q (items x) (items y) same)
+      (λ key same. subst (λ l. pointwise nat_eq q l ≡ false) ((bytes_decides suffix (items key)).0 same) (nat_list_eq_equiv.symm q suffix ∙ is))
 
-none_there : (found : Option Spot) → option_map (λ (spot : Spot). spot.place) found ≡ None → found ≡ None
-none_there None is = refl
-none_there (Some spot) is = absurd (cc)
+  pub lookup_put : (q : List ℕ)
+      → lookup (λ key. pointwise nat_eq suffix (items key)) new ≡ place
+      → KeepsOthers (λ a b. pointwise nat_eq (items a) (items b)) (λ key. pointwise nat_eq suffix (items key)) old new
+      → lookup (λ key. pointwise nat_eq q (items key)) new ≡ cond (pointwise nat_eq suffix q) place (lookup (λ key. pointwise nat_eq q (items key)) old)
+  lookup_put q here keeps = put_by q (pointwise nat_eq suffix q) refl here keeps
 
-module _ {A : Type 0} where
-  -- what is found by octets is where it is remembered
-  pub place_kept : (entries : List (Vec ℕ A × Spot)) (suffix : List ℕ)
-      → place_in tree_spelling (map kept_at entries) suffix ≡ option_map (λ spot. spot.place) (lookup (λ key. pointwise nat_eq suffix key.items) entries)
-  place_kept [] suffix = refl
-  place_kept (entry ∷ entries) suffix = by_test (pointwise nat_eq suffix entry.0.items) refl (place_kept entries suffix)
-    where
-      by_test : (test : Bool) → pointwise nat_eq suffix entry.0.items ≡ test
-          → place_in tree_spelling (map kept_at entries) suffix ≡ option_map (λ spot. spot.place) (lookup (λ key. pointwise nat_eq suffix key.items) entries)
-          → place_in tree_spelling (map kept_at (entry ∷ entries)) suffix
-          ≡ option_map (λ spot. spot.place) (lookup (λ key. pointwise nat_eq suffix key.items) (entry ∷ entries))
-      by_test true is on = rw (nat_list_eq_equiv.symm entry.0.items suffix, is) refl
-      by_test false is on = rw (nat_list_eq_equiv.symm entry.0.items suffix, is) on
+place_in-last : (s : Spelling) (known : Known) (other : Standing) (suffix : List ℕ) → place_in s known suffix ≡ None
+    → is_same s other.suffix suffix ≡ true → place_in s (known ++ other ∷ []) suffix ≡ Some other.place
+place_in-last s [] other suffix none same = rw same refl
+place_in-last s (one ∷ known) other suffix none same =
+    by_test (is_same s one.suffix suffix) refl (λ none. place_in-last s known other suffix none same)
+  where
+    by_test : (test : Bool) → is_same s one.suffix suffix ≡ test
+        → (place_in s known suffix ≡ None → place_in s (known ++ other ∷ []) suffix ≡ Some other.place)
+        → place_in s (one ∷ known ++ other ∷ []) suffix ≡ Some other.place
+    by_test true is on = absurd (let e : Some one.place ≡ None = rw is at none in cc)
+    by_test false is on = rw is (on (let e : place_in s known suffix ≡ None = rw is at none in e))
 
-  -- what is not remembered has no entry
-  no_entry : (entries : List (Vec ℕ A × Spot)) (suffix : List ℕ) → place_in tree_spelling (map kept_at entries) suffix ≡ None
-      → lookup (λ key. pointwise nat_eq suffix key.items) entries ≡ None
-  no_entry entries suffix none = none_there _ (sym (place_kept entries suffix) ∙ none)
+place_in-past : (s : Spelling) (known : Known) (other : Standing) (suffix : List ℕ) → is_same s other.suffix suffix ≡ false
+    → place_in s (known ++ other ∷ []) suffix ≡ place_in s known suffix
+place_in-past s [] other suffix differs = rw differs refl
+place_in-past s (one ∷ known) other suffix differs = by_test (is_same s one.suffix suffix) refl (place_in-past s known other suffix differs)
+  where
+    by_test : (test : Bool) → is_same s one.suffix suffix ≡ test → place_in s (known ++ other ∷ []) suffix ≡ place_in s known suffix
+        → place_in s (one ∷ known ++ other ∷ []) suffix ≡ place_in s (one ∷ known) suffix
+    by_test true is on = rw is refl
+    by_test false is on = rw is on
 
-  -- a new suffix goes last
-  module _ {S : Type 0} (spots new : HashMap (Vec ℕ A) Spot S) (key : Vec ℕ A) (spot : Spot)
-      (order : in_order tree_spelling (kept spots ++ kept_at (key, spot) ∷ []) ≡ true) where
-    pub kept_new : new.entries ≡ insert_entry (λ one other. pointwise nat_eq one.items other.items) spots.entries key spot
-        → kept new ≡ kept spots ++ kept_at (key, spot) ∷ []
-    kept_new is =
-        let none = place_in-fresh tree_spelling (kept spots) (kept_at (key, spot)) (in_order-pop tree_spelling (kept spots) (kept_at (key, spot)) order).1 in
-        ap (map kept_at) (is ∙ insert_entry-new (λ one other. pointwise nat_eq one.items other.items) spots key spot (no_entry spots.entries key.items none))
-        ∙ map-append kept_at spots.entries ((key, spot) ∷ [])
+-- a suffix more, and one less
 
-    pub order_new : {T E : Type 0} (result : Result T E)
-        → OnOk result (new.entries ≡ insert_entry (λ one other. pointwise nat_eq one.items other.items) spots.entries key spot)
-        → OnErr result (new.entries ≡ spots.entries) → in_order tree_spelling (kept new) ≡ true
-    order_new (Ok value) is same = subst (λ (l : Known). in_order tree_spelling l ≡ true) (sym (kept_new is)) order
-    order_new (Err error) is same =
-        subst (λ (l : Known). in_order tree_spelling l ≡ true) (ap (map kept_at) (sym same))
-        (in_order-pop tree_spelling (kept spots) (kept_at (key, spot)) order).0
+pub place_in-push : (known : Known) (other : Standing) (suffix : List ℕ) → goes_last tree_spelling known other ≡ true
+    → cond (pointwise nat_eq other.suffix suffix) (Some other.place) (place_in tree_spelling known suffix)
+    ≡ place_in tree_spelling (known ++ other ∷ []) suffix
+place_in-push known other suffix last = by_test (pointwise nat_eq other.suffix suffix) refl
+  where
+    by_test : (test : Bool) → pointwise nat_eq other.suffix suffix ≡ test
+        → cond test (Some other.place) (place_in tree_spelling known suffix) ≡ place_in tree_spelling (known ++ other ∷ []) suffix
+    by_test true is =
+        sym (place_in-last tree_spelling known other suffix
+        (subst (λ l. place_in tree_spelling known l ≡ None) ((bytes_decides other.suffix suffix).0 is) (place_in-fresh tree_spelling known other last)) is)
+    by_test false is = sym (place_in-past tree_spelling known other suffix is)
 
-  -- the first suffixes are in order
-  pub in_order-take : (n : ℕ) (entries first : List (Vec ℕ A × Spot)) → first ≡ take n entries → in_order tree_spelling (map kept_at entries) ≡ true
-      → in_order tree_spelling (map kept_at first) ≡ true
-  in_order-take n entries first is order =
-      subst (λ (l : Known). in_order tree_spelling l ≡ true) (take-map kept_at n entries ∙ ap (map kept_at) (sym is))
-      (first_in_order n (map kept_at entries) order)
-
-  -- the first suffixes and one more
-  record EndsIn (entries : List (Vec ℕ A × Spot)) (n : ℕ) (spot : Spot) : Type 0 where
-    last : Standing
-    ends : take (suc n) (map kept_at entries) ≡ take n (map kept_at entries) ++ last ∷ []
-    stop : last.stop ≡ spot.stop
-
-  ends_in : (entries : List (Vec ℕ A × Spot)) (n : ℕ) (spot : Spot) → slice_get (values_of entries) n ≡ Some spot → EndsIn entries n spot
-  ends_in [] n spot at = absurd (cc)
-  ends_in (entry ∷ entries) zero spot at = record {
-    last = kept_at entry;
-    ends = refl;
-    stop = (let same : entry.1 ≡ spot = cc in ap (λ (s : Spot). s.stop) same);
-  }
-  ends_in (entry ∷ entries) (suc n) spot at =
-      let on = ends_in entries n spot at in
-      record { last = on.last; ends = ap (λ (l : Known). kept_at entry ∷ l) on.ends; stop = on.stop }
-
-  module _ (entries : List (Vec ℕ A × Spot)) (len n : ℕ) (spot : Spot) (at : slice_get (values_of entries) n ≡ Some spot) where
-    -- a suffix that stops behind the length is not among those before it
-    pub before-skipped : len < spot.stop → before len (take n (map kept_at entries)) ≡ before len (take (suc n) (map kept_at entries))
-    before-skipped behind =
-        let on = ends_in entries n spot at in
-        sym (ap (before len) on.ends ∙ before-last len (take n (map kept_at entries)) on.last (omega (arith, on.stop)))
-
-    -- where the last stops no later than the length, no other does
-    pub before-counted : in_order tree_spelling (map kept_at entries) ≡ true → spot.stop ≤ len
-        → before len (take (suc n) (map kept_at entries)) ≡ take (suc n) (map kept_at entries)
-    before-counted order within =
-        let known : Known = map kept_at entries in
-        let on = ends_in entries n spot at in
-        rw on.ends (before-whole tree_spelling len (take n known) on.last
-        (subst (λ (l : Known). in_order tree_spelling l ≡ true) on.ends (first_in_order (suc n) known order)) (omega (arith, on.stop)))
+pub place_in-pop : (known : Known) (other : Standing) (suffix : List ℕ) → goes_last tree_spelling known other ≡ true
+    → cond (pointwise nat_eq other.suffix suffix) None (place_in tree_spelling (known ++ other ∷ []) suffix) ≡ place_in tree_spelling known suffix
+place_in-pop known other suffix last = by_test (pointwise nat_eq other.suffix suffix) refl
+  where
+    by_test : (test : Bool) → pointwise nat_eq other.suffix suffix ≡ test
+        → cond test None (place_in tree_spelling (known ++ other ∷ []) suffix) ≡ place_in tree_spelling known suffix
+    by_test true is =
+        sym (subst (λ l. place_in tree_spelling known l ≡ None) ((bytes_decides other.suffix suffix).0 is) (place_in-fresh tree_spelling known other last))
+    by_test false is = place_in-past tree_spelling known other suffix is

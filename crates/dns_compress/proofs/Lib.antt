@@ -11,3 +11,4 @@ pub mod Spots
 pub mod SpotsFound
 pub mod Texts
 pub mod Walking
+pub mod Joined

@@ -1,9 +1,11 @@
 pub mod Compressor
 pub mod Frame
 pub mod Kept
+pub mod Listed
 pub mod OctetHasher
 pub mod Seen
 pub mod StreamTarget
 pub mod Spots
 pub mod Tables
 pub mod Walk
+pub mod Joined

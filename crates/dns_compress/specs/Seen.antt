@@ -1,7 +1,7 @@
 -- What contracts see of tables of suffixes.
 use Rattle.std.specs.Prelude.{List}
 use Rattle.dns_octets.specs.Builder.{Known}
-use Rattle.dns_compress.specs.Kept.{kept}
+use Rattle.dns_compress.specs.Listed.{listed}
 use Rattle.dns_compress.specs.declared.spot.Spot.{Spot}
 use Rattle.dns_compress.specs.declared.static_table.StaticTable.{StaticTable}
 use Rattle.dns_compress.specs.declared.tree_table.TreeTable.{TreeTable}
@@ -13,7 +13,7 @@ spots_in table = table.written.items
 
 -- the suffixes that the others keep
 abbrev pub exact_in : TreeTable → Known
-exact_in table = kept table.suffixes.spots
+exact_in table = listed table.suffixes.list
 
 abbrev pub lowered_in : HashTable → Known
-lowered_in table = kept table.suffixes.spots
+lowered_in table = listed table.suffixes.list

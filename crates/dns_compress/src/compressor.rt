@@ -12,6 +12,7 @@ ghost use Rattle.dns_compress.specs.Walk.{IsWalked};
 use crate::append::append_walked;
 use crate::hash_table::HashTable;
 use crate::lower_case::lowered;
+use crate::octet_hasher::DEFAULT_SEED;
 use crate::static_table::StaticTable;
 use crate::table::Table;
 use crate::tree_table::TreeTable;
@@ -65,7 +66,17 @@ impl<Target: Truncate> Compressor<Target, TreeTable> {
         ensures target { target_in result ≡ target }
         ensures known { known_in result ≡ [] }
     {
-        Compressor::over(target, TreeTable::new(alloc))
+        Compressor::over(target, TreeTable::new(alloc, DEFAULT_SEED))
+    }
+
+    /// Makes a compressor that remembers nothing yet, as `new` does. It hashes with this seed, which changes no octet that it
+    /// writes.
+    pub fn with_seed(alloc: Global, target: Target, seed: u64) -> Self
+        requires { Target.known target ≡ [] }
+        ensures target { target_in result ≡ target }
+        ensures known { known_in result ≡ [] }
+    {
+        Compressor::over(target, TreeTable::new(alloc, seed))
     }
 }
 
@@ -79,7 +90,17 @@ impl<Target: Truncate> Compressor<Target, HashTable> {
         ensures target { target_in result ≡ target }
         ensures known { known_in result ≡ [] }
     {
-        Compressor::over(target, HashTable::new(alloc))
+        Compressor::over(target, HashTable::new(alloc, DEFAULT_SEED))
+    }
+
+    /// Makes a compressor that remembers nothing yet, as `new` does. It hashes with this seed, which changes no octet that it
+    /// writes.
+    pub fn with_seed(alloc: Global, target: Target, seed: u64) -> Self
+        requires { Target.known target ≡ [] }
+        ensures target { target_in result ≡ target }
+        ensures known { known_in result ≡ [] }
+    {
+        Compressor::over(target, HashTable::new(alloc, seed))
     }
 }
 

@@ -1,7 +1,7 @@
 //! Tables of suffixes that are the same up to ASCII case.
 ghost use Rattle.std.specs.Prelude.{◌≡◌, [], true, refl};
 ghost use Rattle.dns_name.specs.Spelling.{hash_spelling};
-ghost use Rattle.dns_compress.specs.Kept.{kept};
+ghost use Rattle.dns_compress.specs.Listed.{listed};
 
 use crate::suffix_map::SuffixMap;
 use crate::table::Table;
@@ -15,12 +15,12 @@ pub struct HashTable {
 }
 
 impl HashTable {
-    /// Makes a table without suffixes, which grows on this allocator.
-    pub(crate) fn new(alloc: Global) -> Self
-        ensures { kept result.suffixes.spots ≡ [] }
+    /// Makes a table without suffixes, which grows on this allocator and hashes with this seed.
+    pub(crate) fn new(alloc: Global, seed: u64) -> Self
+        ensures { listed result.suffixes.list ≡ [] }
     {
         HashTable {
-            suffixes: SuffixMap::new(alloc),
+            suffixes: SuffixMap::new(alloc, seed),
         }
     }
 }

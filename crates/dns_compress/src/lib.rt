@@ -12,10 +12,12 @@ mod octet_hasher;
 mod spot;
 mod static_table;
 mod stream_target;
+mod suffix_list;
 mod suffix_map;
 mod table;
 mod tree_table;
 mod walk;
+mod written;
 
 pub use compressor::{Compressor, HashCompressor, StaticCompressor, TreeCompressor};
 pub use hash_table::HashTable;

@@ -1,7 +1,7 @@
 //! Tables of suffixes that are the same octet for octet.
 ghost use Rattle.std.specs.Prelude.{◌≡◌, [], false, refl};
 ghost use Rattle.dns_name.specs.Spelling.{tree_spelling};
-ghost use Rattle.dns_compress.specs.Kept.{kept};
+ghost use Rattle.dns_compress.specs.Listed.{listed};
 
 use crate::suffix_map::SuffixMap;
 use crate::table::Table;
@@ -15,12 +15,12 @@ pub struct TreeTable {
 }
 
 impl TreeTable {
-    /// Makes a table without suffixes, which grows on this allocator.
-    pub(crate) fn new(alloc: Global) -> Self
-        ensures { kept result.suffixes.spots ≡ [] }
+    /// Makes a table without suffixes, which grows on this allocator and hashes with this seed.
+    pub(crate) fn new(alloc: Global, seed: u64) -> Self
+        ensures { listed result.suffixes.list ≡ [] }
     {
         TreeTable {
-            suffixes: SuffixMap::new(alloc),
+            suffixes: SuffixMap::new(alloc, seed),
         }
     }
 }

@@ -5,7 +5,7 @@ use Rattle.dns_label.specs.Name.{wire}
 use Rattle.dns_wire.proofs.LowNames.{length-wire-low}
 use Rattle.dns_name.specs.Spelling.{tree_spelling, hash_spelling}
 use Rattle.dns_compress.specs.Tables.{added, in_order}
-use Rattle.dns_compress.specs.Kept.{kept}
+use Rattle.dns_compress.specs.Listed.{listed}
 use Rattle.dns_compress.proofs.Adding.{added-lowered}
 use Rattle.dns_compress.proofs.Orders.{order_added, for_any}
 use Rattle.dns_compress.proofs.hash_table.HashTableTable.remember.Goals as goal
@@ -16,7 +16,7 @@ remember-requires-clause-order c =
     ≡ added tree_spelling c.args.count c.args.place c.args.stop c.args.key.now =
     added-lowered c.args.count c.args.place c.args.stop c.args.name.now
     ∙ ap (λ (n : List (List ℕ)). added tree_spelling c.args.count c.args.place c.args.stop n) (sym c.requires.key) in
-    subst (λ (l : Known). in_order tree_spelling (kept c.args.self.now.suffixes.spots ++ l) ≡ true) same
+    subst (λ (l : Known). in_order tree_spelling (listed c.args.self.now.suffixes.list ++ l) ≡ true) same
     (order_added _ c.args.count c.args.place c.args.stop c.args.name.now c.args.self.now.suffixes.order c.requires.sound c.requires.order
     c.requires.behind)
 
@@ -31,11 +31,11 @@ remember-requires-clause-room c =
 
 pub returns-clause-ok : goal.returns-clause-ok
 returns-clause-ok c =
-    subst (λ (l : Known). OnOk c.remember.result (kept c.remember.new.self.spots ≡ kept c.args.self.now.suffixes.spots ++ l))
+    subst (λ (l : Known). OnOk c.remember.result (listed c.remember.new.self.list ≡ listed c.args.self.now.suffixes.list ++ l))
     (ap (λ (n : List (List ℕ)). added tree_spelling c.args.count c.args.place c.args.stop n) c.requires.key
     ∙ sym (added-lowered c.args.count c.args.place c.args.stop c.args.name.now))
     c.remember.ensures.ok
 
 pub returns-clause-err : goal.returns-clause-err
 returns-clause-err c =
-    for_any c.remember.result (kept c.args.self.now.suffixes.spots) (kept c.remember.new.self.spots) c.remember.ensures.err
+    for_any c.remember.result (listed c.args.self.now.suffixes.list) (listed c.remember.new.self.list) c.remember.ensures.err

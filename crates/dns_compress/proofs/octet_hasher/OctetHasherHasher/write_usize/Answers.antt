@@ -6,6 +6,4 @@ use Rattle.dns_compress.proofs.octet_hasher.OctetHasherHasher.write_usize.Goals 
 
 pub returns : goal.returns
 unfolding write le_bytes
-returns c =
-    ap (λ n. record { state = n }) (c.step-self.ensures
-    ∙ ap (step c.args.self.now.state) (sym (from_le_bytes-to_le_bytes_8 c.args.len c.ranges.len.fits)))
+returns c = c.step.ensures ∙ ap (step c.args.self.now) (sym (from_le_bytes-to_le_bytes_8 c.args.len c.ranges.len.fits))
