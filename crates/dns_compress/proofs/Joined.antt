@@ -1,5 +1,5 @@
 -- A list of suffixes whose octets stand one after another.
-use Rattle.std.proofs.Common.{◌≡◌, ◌≤◌, ◌+◌, ◌-◌, ℕ, zero, suc, Some, List, [], ◌∷◌, ◌++◌, length, take, drop, refl, sym, ◌∙◌, ap, subst, arith, length-append}
+use Rattle.std.proofs.Common.{◌≡◌, ◌≤◌, ◌+◌, ◌-◌, ℕ, zero, suc, Some, List, [], ◌∷◌, ◌++◌, length, take, drop, refl, sym, ◌∙◌, ap, arith, length-append}
 use Rattle.std.specs.Prelude.{slice_get}
 use Rattle.std.proofs.lemmas.List.{length-drop, drop-drop, drop-take, take-take, take_all, take_at, drop_at}
 use Rattle.dns_octets.specs.Builder.{Known}
@@ -21,7 +21,7 @@ standings_in-take octets [] n within = refl
 standings_in-take octets (one ∷ written) n within =
     let whole : one.len + (n - one.len) ≡ n = omega (arith, within) in
     let rest : drop one.len (take n octets) ≡ take (n - one.len) (drop one.len octets) =
-        ap (λ m. drop one.len (take m octets)) (sym whole) ∙ drop-take one.len (n - one.len) octets in
+    ap (λ m. drop one.len (take m octets)) (sym whole) ∙ drop-take one.len (n - one.len) octets in
     ap (λ (l : List ℕ). record { suffix = l; place = one.place; stop = one.stop } ∷ standings_in (drop one.len (take n octets)) written)
     (take-take one.len n octets (omega (arith, within)))
     ∙ ap (λ (l : Known). record { suffix = take one.len octets; place = one.place; stop = one.stop } ∷ l)

@@ -1,5 +1,5 @@
 -- A map by octets, and the list of what it keeps.
-use Rattle.std.proofs.Common.{◌≡◌, ℕ, Bool, true, false, Option, Some, None, List, [], ◌∷◌, ◌++◌, refl, sym, ◌∙◌, ap, subst}
+use Rattle.std.proofs.Common.{◌≡◌, ℕ, Bool, true, false, Option, Some, None, List, [], ◌∷◌, ◌++◌, refl, sym, ◌∙◌, subst}
 use Rattle.std.specs.Prelude.{nat_eq, cond}
 use Rattle.std.specs.Map.{lookup, KeepsOthers}
 use Rattle.std.specs.Cmp.Lexicographic.{pointwise, nat_list_eq_equiv}
@@ -25,6 +25,40 @@ module _ {K : Type 0} (items : K → List ℕ) (old new : List (K × ℕ)) (suff
       → KeepsOthers (λ a b. pointwise nat_eq (items a) (items b)) (λ key. pointwise nat_eq suffix (items key)) old new
       → lookup (λ key. pointwise nat_eq q (items key)) new ≡ cond (pointwise nat_eq suffix q) place (lookup (λ key. pointwise nat_eq q (items key)) old)
   lookup_put q here keeps = put_by q (pointwise nat_eq suffix q) refl here keeps
+
+-- all suffixes keep their places
+module _ {K : Type 0} (items : K → List ℕ) where
+  found_key : (entries : List (K × ℕ)) (suffix : List ℕ) (place : ℕ) → lookup (λ key. pointwise nat_eq suffix (items key)) entries ≡ Some place
+      → (key : K) × (pointwise nat_eq suffix (items key) ≡ true)
+  found_key [] suffix place is = absurd (cc)
+  found_key (entry ∷ entries) suffix place is = by_test (pointwise nat_eq suffix (items entry.0)) refl (found_key entries suffix place)
+    where
+      by_test : (test : Bool) → pointwise nat_eq suffix (items entry.0) ≡ test
+          → (lookup (λ key. pointwise nat_eq suffix (items key)) entries ≡ Some place → (key : K) × (pointwise nat_eq suffix (items key) ≡ true))
+          → (key : K) × (pointwise nat_eq suffix (items key) ≡ true)
+      by_test true same on = (entry.0, same)
+      by_test false same on =
+          on (let e : lookup (λ key. pointwise nat_eq suffix (items key)) entries ≡ Some place = rw same at is in e)
+
+  module _ (old new : List (K × ℕ))
+      (same : (q : K) → lookup (λ key. pointwise nat_eq (items q) (items key)) new ≡ lookup (λ key. pointwise nat_eq (items q) (items key)) old) where
+    at_key : (suffix : List ℕ) (key : K) → pointwise nat_eq suffix (items key) ≡ true
+        → lookup (λ key. pointwise nat_eq suffix (items key)) new ≡ lookup (λ key. pointwise nat_eq suffix (items key)) old
+    at_key suffix key is =
+        subst (λ (l : List ℕ). lookup (λ key. pointwise nat_eq l (items key)) new ≡ lookup (λ key. pointwise nat_eq l (items key)) old)
+        (sym ((bytes_decides suffix (items key)).0 is)) (same key)
+
+    pub lookup_same : (suffix : List ℕ)
+        → lookup (λ key. pointwise nat_eq suffix (items key)) new ≡ lookup (λ key. pointwise nat_eq suffix (items key)) old
+    lookup_same suffix =
+        by_found (lookup (λ key. pointwise nat_eq suffix (items key)) old) refl (lookup (λ key. pointwise nat_eq suffix (items key)) new) refl
+      where
+        by_found : (was : Option ℕ) → lookup (λ key. pointwise nat_eq suffix (items key)) old ≡ was
+            → (is : Option ℕ) → lookup (λ key. pointwise nat_eq suffix (items key)) new ≡ is
+            → lookup (λ key. pointwise nat_eq suffix (items key)) new ≡ lookup (λ key. pointwise nat_eq suffix (items key)) old
+        by_found None before None now = now ∙ sym before
+        by_found (Some place) before is now = let key = found_key old suffix place before in at_key suffix key.0 key.1
+        by_found None before (Some place) now = let key = found_key new suffix place now in at_key suffix key.0 key.1
 
 place_in-last : (s : Spelling) (known : Known) (other : Standing) (suffix : List ℕ) → place_in s known suffix ≡ None
     → is_same s other.suffix suffix ≡ true → place_in s (known ++ other ∷ []) suffix ≡ Some other.place

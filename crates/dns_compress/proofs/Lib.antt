@@ -10,5 +10,6 @@ pub mod Sound
 pub mod Spots
 pub mod SpotsFound
 pub mod Texts
+pub mod Waiting
 pub mod Walking
 pub mod Joined

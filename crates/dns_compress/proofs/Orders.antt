@@ -1,6 +1,6 @@
 -- A table that is sound is in order: no suffix twice, and none stops before one that was written earlier.
 use Rattle.std.proofs.Common.{◌⊎◌, inl, inr, ◌≡◌, ◌≤◌, ◌<◌, ◌+◌, ℕ, Bool, true, false, List, [], ◌∷◌, ◌++◌, length, take, drop, refl, sym, ◌∙◌, ap, arith}
-use Rattle.std.specs.Prelude.{⊤, Result, Ok, Err, OnErr}
+use Rattle.std.specs.Prelude.{⊤}
 use Rattle.std.specs.List.{list_all}
 use Rattle.std.specs.Coded.{Coded-set, coded_bool}
 use Rattle.std.proofs.lemmas.Bool.{and_parts, and_from, leb-true, lt-leb, le-leb, false≢true}
@@ -108,8 +108,3 @@ order_added {s} known count place stop name order sound before behind =
     let e = before one there in
     let f = added_stop s place stop (take count name) (drop count name) other is in
     omega arith)))
-
--- what a failure leaves is the same, whatever octets it is said of
-pub for_any : {T E A : Type 0} (result : Result T E) (old new : List A) → OnErr result (new ≡ old) → OnErr result ((others : List ℕ) → new ≡ old)
-for_any (Ok value) old new same = same
-for_any (Err error) old new same = λ others. same

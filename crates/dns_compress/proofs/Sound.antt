@@ -17,6 +17,11 @@ pub sound_append : {s : Spelling} {known : Known} {octets : List ℕ} (new tail 
 sound_append {s} {known} new tail is sound =
     subst (λ l. ∥ IsSound s known l ∥₁) (sym is) (∥∥₁_map sound (λ sound. IsSound-append tail sound))
 
+pub sound_either : {s : Spelling} {known : Known} {octets : List ℕ} {T E : Type 0} (result : Result T E) (tail new : List ℕ)
+    → OnOk result (new ≡ octets ++ tail) → OnErr result (new ≡ octets) → ∥ IsSound s known octets ∥₁ → ∥ IsSound s known new ∥₁
+sound_either (Ok value) tail new appended same sound = sound_append new tail appended sound
+sound_either {s} {known} (Err error) tail new appended same sound = subst (λ l. ∥ IsSound s known l ∥₁) (sym same) sound
+
 pub sound_before : {s : Spelling} {known : Known} {octets : List ℕ} (len : ℕ) (new : List ℕ)
     → new ≡ take len octets → ∥ IsSound s known octets ∥₁ → ∥ IsSound s (before len known) new ∥₁
 sound_before {s} {known} len new is sound =

@@ -3,9 +3,11 @@ pub mod Frame
 pub mod Kept
 pub mod Listed
 pub mod OctetHasher
+pub mod Ready
 pub mod Seen
 pub mod StreamTarget
 pub mod Spots
 pub mod Tables
+pub mod Waiting
 pub mod Walk
 pub mod Joined

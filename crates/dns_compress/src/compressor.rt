@@ -154,6 +154,7 @@ impl<Target: Truncate, T: Table> Compressor<Target, T> {
             (length (T.known self.now.table (Target.list self.now.target)) + 0) (length (Target.list self.now.target)) name.now
             result.labels result.front result.near result.target }
         ensures front { result.front ≤ length (wire name.now) }
+        ensures labels { result.labels ≤ 255 }
         ensures near { ForSome result.target (λ place. place < 16384) }
         ensures name { IsName name.now }
     {
@@ -204,21 +205,18 @@ impl<Target: Truncate, T: Table> Compressor<Target, T> {
     {
         let place = self.target.octets().len();
         let walk = self.walk(name, key);
-        append_walked(&mut self.target, name.as_slice(), walk)?;
         if !walk.near {
+            append_walked(&mut self.target, name.as_slice(), walk)?;
             return Ok(());
         }
-        let octets = self.target.octets();
-        match self
-            .table
-            .remember(octets, name, key, walk.labels, place, octets.len())
-        {
-            Ok(()) => Ok(()),
-            Err(_) => {
-                self.target.truncate(place);
-                Err(AppendError::OutOfMemory)
-            }
+        if self.table.reserve(key, walk.labels).is_err() {
+            return Err(AppendError::OutOfMemory);
         }
+        append_walked(&mut self.target, name.as_slice(), walk)?;
+        let octets = self.target.octets();
+        self.table
+            .remember(octets, name, key, walk.labels, place, octets.len());
+        Ok(())
     }
 }
 

@@ -26,13 +26,15 @@ impl HashTable {
 }
 
 impl Table for HashTable {
-    ghost use Rattle.dns_compress.specs.Seen.{lowered_in};
+    ghost use Rattle.dns_compress.specs.Seen.{lowered_in, lowered_room};
 
     ghost spelling = { hash_spelling };
 
     ghost known = { λ table _. lowered_in table };
 
     ghost lowers = { true };
+
+    ghost has_room = { lowered_room };
 
     fn lowers(&self) -> bool {
         true
@@ -50,6 +52,10 @@ impl Table for HashTable {
         true
     }
 
+    fn reserve(&mut self, key: &Name<&[u8]>, count: usize) -> Result<(), AllocError> {
+        self.suffixes.reserve(key, count)
+    }
+
     fn remember(
         &mut self,
         _octets: &[u8],
@@ -58,10 +64,10 @@ impl Table for HashTable {
         count: usize,
         place: usize,
         stop: usize,
-    ) -> Result<(), AllocError> {
+    ) {
         // (Its length tells that a name has at most 255 octets.)
         let _len = name.len();
-        self.suffixes.remember(key, count, place, stop)
+        self.suffixes.remember(key, count, place, stop);
     }
 
     fn forget(&mut self, len: usize) {

@@ -12,6 +12,7 @@ mod octet_hasher;
 mod spot;
 mod static_table;
 mod stream_target;
+mod suffix_keys;
 mod suffix_list;
 mod suffix_map;
 mod table;

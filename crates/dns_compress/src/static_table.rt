@@ -1,5 +1,5 @@
 //! Tables of at most 24 suffixes, which take no memory.
-ghost use Rattle.std.specs.Prelude.{◌≡◌, false, ◌≤◌, ◌<◌, ◌+◌, ◌++◌, ◌↔◌, ◌^◌, [], List, ℕ, IsTrue, IfOk, OnErr, length};
+ghost use Rattle.std.specs.Prelude.{◌≡◌, ⊤, false, ◌≤◌, ◌<◌, ◌+◌, ◌++◌, ◌↔◌, ◌^◌, [], List, ℕ, IsTrue, IfOk, OnErr, length};
 ghost use Rattle.dns_name.specs.ParsedName.{labels_of};
 ghost use Rattle.dns_name.specs.Remembered.{IsSound};
 ghost use Rattle.dns_label.specs.Name.{low, wire};
@@ -92,6 +92,8 @@ impl Table for StaticTable {
 
     ghost lowers = { false };
 
+    ghost has_room = { λ _ _ _. ⊤ };
+
     fn lowers(&self) -> bool {
         false
     }
@@ -108,6 +110,10 @@ impl Table for StaticTable {
         true
     }
 
+    fn reserve(&mut self, _key: &Name<&[u8]>, _count: usize) -> Result<(), AllocError> {
+        Ok(())
+    }
+
     fn remember(
         &mut self,
         _octets: &[u8],
@@ -116,9 +122,8 @@ impl Table for StaticTable {
         count: usize,
         place: usize,
         stop: usize,
-    ) -> Result<(), AllocError> {
+    ) {
         self.push_all(name, count, place, stop);
-        Ok(())
     }
 
     fn forget(&mut self, len: usize) {

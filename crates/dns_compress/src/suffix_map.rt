@@ -1,7 +1,7 @@
 //! Any number of suffixes, by their octets.
-ghost use Rattle.std.specs.Prelude.{◌≡◌, ◌≤◌, ◌<◌, ◌+◌, ◌++◌, ◌∷◌, ◌^◌, [], List, ℕ, Some, None, true, false, cond, length, nat_eq, OnOk, OnErr};
+ghost use Rattle.std.specs.Prelude.{◌≡◌, ◌≤◌, ◌<◌, ◌+◌, ◌*◌, ◌++◌, ◌∷◌, ◌^◌, [], List, ℕ, Some, None, true, false, cond, length, nat_eq, OnOk, IfOk};
 ghost use Rattle.std.specs.Cmp.Lexicographic.{pointwise};
-ghost use Rattle.std.specs.HashMap.{IsEmpty, IsUnchanged};
+ghost use Rattle.std.specs.HashMap.{IsEmpty, spare};
 ghost use Rattle.dns_octets.specs.Builder.{Known, Standing, before};
 ghost use Rattle.dns_label.specs.Name.{wire};
 ghost use Rattle.dns_name.specs.Spelling.{place_in, tree_spelling};
@@ -9,32 +9,36 @@ ghost use Rattle.dns_name.specs.Remembered.{IsKnown};
 ghost use Rattle.dns_compress.specs.Tables.{added, in_order};
 ghost use Rattle.dns_compress.specs.Kept.{place_of};
 ghost use Rattle.dns_compress.specs.Listed.{listed};
+ghost use Rattle.dns_compress.specs.Waiting.{waiting, suffixes_of, octets_in, front_of};
 
 use crate::octet_hasher::OctetHashing;
+use crate::suffix_keys::SuffixKeys;
 use crate::suffix_list::SuffixList;
 use dns_name::Name;
 use std::alloc::{AllocError, Global};
 use std::collections::HashMap;
 
-/// Where each suffix stands, by its octets, and the suffixes in order of writing.
+/// Where each suffix stands, by its octets, and the suffixes in order of writing; and keys for those that come next.
 #[derive(Drop)]
 pub(crate) struct SuffixMap {
-    alloc: Global,
     places: HashMap<Vec<u8>, usize, OctetHashing>,
     list: SuffixList,
+    keys: SuffixKeys,
     ghost agree: { (suffix : List ℕ) → place_of places suffix ≡ place_in tree_spelling (listed list) suffix },
     ghost order: { in_order tree_spelling (listed list) ≡ true },
 }
 
 impl SuffixMap {
+    ghost use Rattle.dns_compress.specs.Ready.{IsReady};
+
     /// Makes a map without suffixes, which grows on this allocator and hashes with this seed.
     pub fn new(alloc: Global, seed: u64) -> Self
         ensures { listed result.list ≡ [] }
     {
         SuffixMap {
-            alloc,
             places: HashMap::with_hasher(alloc, OctetHashing::new(seed)),
             list: SuffixList::new(alloc),
+            keys: SuffixKeys::new(alloc),
         }
     }
 
@@ -45,66 +49,48 @@ impl SuffixMap {
         self.places.get(suffix).copied()
     }
 
-    /// Adds the suffixes of the name that begin with one of its first labels. Adds none of them if it fails, which it does
-    /// if out of memory.
-    pub fn remember(
-        &mut self,
-        name: &Name<&[u8]>,
-        count: usize,
-        place: usize,
-        stop: usize,
-    ) -> Result<(), AllocError>
-        requires order { in_order tree_spelling (listed self.old.list ++ added tree_spelling count place stop name.now) ≡ true }
-        requires before { (standing : Standing) → IsKnown standing (listed self.old.list) → standing.stop ≤ place }
-        requires room { place + length (wire name.now) < 2 ^ 64 }
-        requires behind { place < stop }
-        ensures ok { OnOk result (listed self.new.list ≡ listed self.old.list ++ added tree_spelling count place stop name.now) }
-        ensures err { OnErr result (listed self.new.list ≡ listed self.old.list) }
+    /// Makes keys and room for the suffixes of the name that begin with one of its first labels. Fails if out of memory.
+    pub fn reserve(&mut self, name: &Name<&[u8]>, count: usize) -> Result<(), AllocError>
+        requires { count ≤ 255 }
+        ensures room { OnOk result (IsReady self.new (suffixes_of count name.now)) }
+        ensures same { listed self.new.list ≡ listed self.old.list }
     {
-        match self.push_all(name, count, place, stop) {
-            Ok(()) => Ok(()),
-            Err(error) => {
-                self.cut(place);
-                Err(error)
-            }
-        }
+        self.keys.clear();
+        let octets = push_keys(&mut self.keys, name, count)?;
+        let count = self.keys.len();
+        grow(&mut self.places, count)?;
+        self.list.reserve(count, octets)
     }
 
-    /// Adds the suffixes of the name that begin with one of its first labels. Fails if out of memory, and has then added
-    /// some of them.
-    fn push_all(
-        &mut self,
-        name: &Name<&[u8]>,
-        count: usize,
-        place: usize,
-        stop: usize,
-    ) -> Result<(), AllocError>
+    /// Adds the suffixes of the name that begin with one of its first labels. By condition there is room.
+    pub fn remember(&mut self, name: &Name<&[u8]>, count: usize, place: usize, stop: usize)
+        requires ready { IsReady self.old (suffixes_of count name.now) }
         requires order { in_order tree_spelling (listed self.old.list ++ added tree_spelling count place stop name.now) ≡ true }
         requires room { place + length (wire name.now) < 2 ^ 64 }
-        ensures ok { OnOk result (listed self.new.list ≡ listed self.old.list ++ added tree_spelling count place stop name.now) }
-        ensures err { OnErr result ((len : ℕ) → len < stop → before len (listed self.new.list) ≡ before len (listed self.old.list)) }
+        ensures { listed self.new.list ≡ listed self.old.list ++ added tree_spelling count place stop name.now }
     {
         if count == 0 {
-            return Ok(());
+            return;
         }
         let Some((label, parent)) = name.split_first() else {
-            return Ok(());
+            return;
         };
-        self.push(name.as_slice(), place, stop)?;
-        self.push_all(&parent, count - 1, place + 1 + label.len(), stop)
+        self.push(name.as_slice(), place, stop);
+        self.remember(&parent, count - 1, place + 1 + label.len(), stop);
     }
 
-    /// Adds the suffix with these octets.
-    fn push(&mut self, suffix: &[u8], place: usize, stop: usize) -> Result<(), AllocError>
-        requires { in_order tree_spelling (listed self.old.list ++ record { suffix = suffix.now; place = place; stop = stop } ∷ []) ≡ true }
-        ensures ok { OnOk result (listed self.new.list ≡ listed self.old.list ++ record { suffix = suffix.now; place = place; stop = stop } ∷ []) }
-        ensures err { OnErr result (listed self.new.list ≡ listed self.old.list) }
+    /// Adds the suffix with these octets, of which the last key is. By condition there is room.
+    fn push(&mut self, suffix: &[u8], place: usize, stop: usize)
+        requires ready { IsReady self.old (front_of (waiting self.old.keys) ++ suffix.now ∷ []) }
+        requires order { in_order tree_spelling (listed self.old.list ++ record { suffix = suffix.now; place = place; stop = stop } ∷ []) ≡ true }
+        ensures last { listed self.new.list ≡ listed self.old.list ++ record { suffix = suffix.now; place = place; stop = stop } ∷ [] }
+        ensures ready { IsReady self.new (front_of (waiting self.old.keys)) }
     {
-        let key = Vec::from_slice(self.alloc, suffix)?;
-        self.list.reserve(1, suffix.len())?;
-        put(&mut self.places, key, place)?;
+        let Some(key) = self.keys.pop() else {
+            unreachable!();
+        };
+        put(&mut self.places, key, place);
         self.list.push(suffix, place, stop);
-        Ok(())
     }
 
     /// Takes out the suffixes that stop behind the length. Takes no memory.
@@ -144,17 +130,43 @@ impl SuffixMap {
     }
 }
 
-/// Puts the suffix at the place. Fails if out of memory.
-fn put(
-    places: &mut HashMap<Vec<u8>, usize, OctetHashing>,
-    suffix: Vec<u8>,
-    place: usize,
-) -> Result<(), AllocError>
-    ensures ok { OnOk result ((q : List ℕ) → place_of places.new q ≡ cond (pointwise nat_eq suffix.items q) (Some place) (place_of places.old q)) }
-    ensures err { OnErr result (IsUnchanged places.old places.new) }
+/// Makes keys for the suffixes of the name that begin with one of its first labels, the first one last. Returns how many octets
+/// they have. Fails if out of memory.
+fn push_keys(keys: &mut SuffixKeys, name: &Name<&[u8]>, count: usize) -> Result<usize, AllocError>
+    requires { count ≤ 255 }
+    ensures keys { OnOk result (waiting keys.new ≡ waiting keys.old ++ suffixes_of count name.now) }
+    ensures octets { IfOk result (λ octets. octets ≡ octets_in (suffixes_of count name.now)) }
+    ensures few { IfOk result (λ octets. octets ≤ 255 * count) }
 {
-    places.insert(suffix, place)?;
-    Ok(())
+    if count == 0 {
+        return Ok(0);
+    }
+    let Some((_, parent)) = name.split_first() else {
+        return Ok(0);
+    };
+    let octets = push_keys(keys, &parent, count - 1)?;
+    keys.push(name.as_slice())?;
+    Ok(octets + name.len())
+}
+
+/// Makes room for so many suffixes. Fails if out of memory.
+fn grow(places: &mut HashMap<Vec<u8>, usize, OctetHashing>, count: usize) -> Result<(), AllocError>
+    ensures room { OnOk result (count ≤ spare places.new) }
+    ensures same { (q : List ℕ) → place_of places.new q ≡ place_of places.old q }
+{
+    places.reserve(count)
+}
+
+/// Puts the suffix at the place. By condition there is room.
+fn put(places: &mut HashMap<Vec<u8>, usize, OctetHashing>, suffix: Vec<u8>, place: usize)
+    requires { 0 < spare places.old }
+    ensures place { (q : List ℕ) → place_of places.new q ≡ cond (pointwise nat_eq suffix.items q) (Some place) (place_of places.old q) }
+    ensures spare { spare places.old ≤ spare places.new + 1 }
+{
+    match places.insert(suffix, place) {
+        Ok(_) => {}
+        Err(_) => unreachable!(),
+    }
 }
 
 /// Takes the suffix out.

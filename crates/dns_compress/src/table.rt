@@ -1,5 +1,5 @@
 //! Tables of the suffixes that are remembered.
-ghost use Rattle.std.specs.Prelude.{◌≡◌, ◌≤◌, ◌<◌, ◌+◌, ◌++◌, ◌^◌, List, ℕ, Bool, length, take, OnOk, OnErr};
+ghost use Rattle.std.specs.Prelude.{◌≡◌, ◌≤◌, ◌<◌, ◌+◌, ◌++◌, ◌^◌, List, ℕ, Bool, length, take, OnOk};
 ghost use Rattle.dns_octets.specs.Builder.{Known, Standing, before};
 ghost use Rattle.dns_label.specs.Name.{IsName, wire};
 ghost use Rattle.dns_name.specs.Spelling.{Spelling, compresses, place_in, may_stand};
@@ -20,6 +20,9 @@ pub trait Table {
 
     ghost lowers: { Bool };
 
+    /// Whether there is memory for the suffixes of a name that begin with one of its first labels, by the key.
+    ghost has_room: { Self → ℕ → List (List ℕ) → Type 0 };
+
     /// Returns whether suffixes are looked up in lower case, and not as they are.
     fn lowers(&self) -> bool
         ensures { result ≡ lowers };
@@ -39,9 +42,15 @@ pub trait Table {
     fn can_compress(&self) -> bool
         ensures { result ≡ compresses spelling };
 
+    /// Takes what memory it needs to remember the suffixes of a name that begin with one of its first labels, where its suffixes
+    /// are looked up by those of the key. Remembers none of them yet. Fails if out of memory.
+    fn reserve(&mut self, key: &Name<&[u8]>, count: usize) -> Result<(), AllocError>
+        requires { count ≤ 255 }
+        ensures room { OnOk result (has_room self.new count key.now) }
+        ensures same { (octets : List ℕ) → known self.new octets ≡ known self.old octets };
+
     /// Remembers the suffixes of a name that begin with one of its first labels, where its suffixes are looked up by those of
-    /// the key. The name is spelled from the place on and stops at `stop`. Remembers none of them if it fails, which it does
-    /// if out of memory.
+    /// the key. The name is spelled from the place on and stops at `stop`. Takes no memory: by condition there is room.
     fn remember(
         &mut self,
         octets: &[u8],
@@ -50,14 +59,14 @@ pub trait Table {
         count: usize,
         place: usize,
         stop: usize,
-    ) -> Result<(), AllocError>
+    )
         requires key { key.now ≡ looked_up lowers name.now }
+        requires memory { has_room self.old count key.now }
         requires sound { ∥ IsSound spelling (known self.old octets.now ++ added spelling count place stop name.now) octets.now ∥₁ }
         requires order { (standing : Standing) → IsKnown standing (known self.old octets.now) → standing.stop ≤ place }
         requires room { place + length (wire name.now) < 2 ^ 64 }
         requires behind { place < stop }
-        ensures ok { OnOk result (known self.new octets.now ≡ known self.old octets.now ++ added spelling count place stop name.now) }
-        ensures err { OnErr result ((others : List ℕ) → known self.new others ≡ known self.old others) };
+        ensures { known self.new octets.now ≡ known self.old octets.now ++ added spelling count place stop name.now };
 
     /// Forgets the suffixes that stop behind the length.
     fn forget(&mut self, len: usize)

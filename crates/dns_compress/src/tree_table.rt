@@ -26,13 +26,15 @@ impl TreeTable {
 }
 
 impl Table for TreeTable {
-    ghost use Rattle.dns_compress.specs.Seen.{exact_in};
+    ghost use Rattle.dns_compress.specs.Seen.{exact_in, exact_room};
 
     ghost spelling = { tree_spelling };
 
     ghost known = { λ table _. exact_in table };
 
     ghost lowers = { false };
+
+    ghost has_room = { exact_room };
 
     fn lowers(&self) -> bool {
         false
@@ -50,6 +52,10 @@ impl Table for TreeTable {
         true
     }
 
+    fn reserve(&mut self, key: &Name<&[u8]>, count: usize) -> Result<(), AllocError> {
+        self.suffixes.reserve(key, count)
+    }
+
     fn remember(
         &mut self,
         _octets: &[u8],
@@ -58,8 +64,8 @@ impl Table for TreeTable {
         count: usize,
         place: usize,
         stop: usize,
-    ) -> Result<(), AllocError> {
-        self.suffixes.remember(key, count, place, stop)
+    ) {
+        self.suffixes.remember(key, count, place, stop);
     }
 
     fn forget(&mut self, len: usize) {

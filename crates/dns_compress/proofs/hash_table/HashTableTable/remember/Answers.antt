@@ -1,5 +1,4 @@
 use Rattle.std.proofs.Common.{◌≡◌, ◌∙◌, ◌++◌, ap, sym, subst, true, ℕ, List, arith, length}
-use Rattle.std.specs.Prelude.{OnOk}
 use Rattle.dns_octets.specs.Builder.{Known}
 use Rattle.dns_label.specs.Name.{wire}
 use Rattle.dns_wire.proofs.LowNames.{length-wire-low}
@@ -7,7 +6,7 @@ use Rattle.dns_name.specs.Spelling.{tree_spelling, hash_spelling}
 use Rattle.dns_compress.specs.Tables.{added, in_order}
 use Rattle.dns_compress.specs.Listed.{listed}
 use Rattle.dns_compress.proofs.Adding.{added-lowered}
-use Rattle.dns_compress.proofs.Orders.{order_added, for_any}
+use Rattle.dns_compress.proofs.Orders.{order_added}
 use Rattle.dns_compress.proofs.hash_table.HashTableTable.remember.Goals as goal
 
 pub remember-requires-clause-order : goal.remember-requires-clause-order
@@ -29,13 +28,9 @@ remember-requires-clause-room c =
       ap (λ (n : List (List ℕ)). length (wire n)) c.requires.key,
     )
 
-pub returns-clause-ok : goal.returns-clause-ok
-returns-clause-ok c =
-    subst (λ (l : Known). OnOk c.remember.result (listed c.remember.new.self.list ≡ listed c.args.self.now.suffixes.list ++ l))
+pub returns : goal.returns
+returns c =
+    c.remember.ensures
+    ∙ ap (λ (l : Known). listed c.args.self.now.suffixes.list ++ l)
     (ap (λ (n : List (List ℕ)). added tree_spelling c.args.count c.args.place c.args.stop n) c.requires.key
     ∙ sym (added-lowered c.args.count c.args.place c.args.stop c.args.name.now))
-    c.remember.ensures.ok
-
-pub returns-clause-err : goal.returns-clause-err
-returns-clause-err c =
-    for_any c.remember.result (listed c.args.self.now.suffixes.list) (listed c.remember.new.self.list) c.remember.ensures.err

@@ -1,10 +1,9 @@
-use Rattle.std.proofs.Common.{◌≡◌, ◌-◌, ◌∙◌, ◌++◌, ◌∷◌, [], ℕ, suc, Some, List, length, take, drop, ap, sym, arith, rules}
+use Rattle.std.proofs.Common.{◌≡◌, ◌-◌, ◌∙◌, ◌++◌, ◌∷◌, [], ℕ, Some, List, length, take, drop, ap, sym, arith, rules}
 use Rattle.std.specs.Prelude.{slice_get}
 use Rattle.std.proofs.lemmas.List.{take_all, length-drop}
 use Rattle.std.proofs.lemmas.Option.{slice_get_within}
-use Rattle.dns_octets.specs.Builder.{Known}
 use Rattle.dns_compress.specs.declared.written.Written.{Written}
-use Rattle.dns_compress.specs.Joined.{total, standings_in}
+use Rattle.dns_compress.specs.Joined.{standings_in}
 use Rattle.dns_compress.proofs.Joined.{ends_in, total_front, last_is}
 use Rattle.dns_compress.proofs.suffix_list.SuffixList.last.Goals as goal
 

@@ -1,7 +1,6 @@
-use Rattle.std.proofs.Common.{◌≡◌, ◌-◌, ◌∙◌, ◌++◌, ◌∷◌, [], ℕ, List, length, take, ap, sym, arith, rules}
+use Rattle.std.proofs.Common.{◌≡◌, ◌-◌, ◌∙◌, ℕ, List, length, take, ap, arith, rules}
 use Rattle.std.proofs.lemmas.List.{length-take-le}
-use Rattle.dns_compress.specs.declared.written.Written.{Written}
-use Rattle.dns_compress.specs.Joined.{total, standings_in}
+use Rattle.dns_compress.specs.Joined.{standings_in}
 use Rattle.dns_compress.proofs.Joined.{total_front, popped}
 use Rattle.dns_compress.proofs.suffix_list.SuffixList.pop.Goals as goal
 

@@ -1,12 +1,11 @@
-use Rattle.std.proofs.Common.{◌≡◌, ◌-◌, ◌∙◌, ◌++◌, ◌∷◌, [], ap, sym, subst, None, true, ℕ, length, take, arith, length-append}
+use Rattle.std.proofs.Common.{◌≡◌, ◌-◌, ◌∙◌, ◌++◌, ◌∷◌, [], ap, sym, subst, None, true, ℕ, length, take}
 use Rattle.std.specs.Prelude.{nat_eq, cond, Option}
 use Rattle.std.specs.Cmp.Lexicographic.{pointwise}
 use Rattle.dns_octets.specs.Builder.{Standing, Known, before}
 use Rattle.dns_name.specs.Spelling.{tree_spelling, place_in}
 use Rattle.dns_compress.specs.Tables.{in_order}
-use Rattle.dns_compress.specs.Kept.{place_of}
 use Rattle.dns_compress.specs.Listed.{listed}
-use Rattle.dns_compress.proofs.InOrder.{in_order-pop, before-last, before-whole}
+use Rattle.dns_compress.proofs.InOrder.{in_order-pop, before-whole}
 use Rattle.dns_compress.proofs.Kept.{place_in-pop}
 use Rattle.dns_compress.proofs.suffix_map.SuffixMap.pop_behind.Goals as goal
 
