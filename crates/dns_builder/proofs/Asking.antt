@@ -61,7 +61,7 @@ adds-none s draft header items is = record {
 -- one question more is added
 adds-more : (s : Spelling) (old mid new : Draft) (questions : List Question) (question : Question) → AddsQuestions s old questions mid
     → ((built : Built) → IsDraftOf s built mid → IsDraftOf s (with_item built (question_parts question)) new)
-    → IsTakenBy s 0 mid (question_parts question) → KeepsLimits mid new
+    → IsTakenBy s 0 mid (question_parts question) ⊥ → KeepsLimits mid new
     → AddsQuestions s old (questions ++ question ∷ []) new
 adds-more s old mid new questions question adds pushed taken limits header items is =
     let had = adds header items is in
@@ -96,7 +96,7 @@ module _ {A : Type 0} (see : A → Question) (item : Result A ParseError) (s : S
 
   pub has-more : (question : A) → item ≡ Ok question → (new : Draft)
       → ((built : Built) → IsDraftOf s built mid → IsDraftOf s (with_item built (question_parts (see question))) new)
-      → IsTakenBy s 0 mid (question_parts (see question)) → KeepsLimits mid new → HasAdded s cursor next old new
+      → IsTakenBy s 0 mid (question_parts (see question)) ⊥ → KeepsLimits mid new → HasAdded s cursor next old new
   has-more question is new pushed taken limits = record {
     questions = had.questions ++ see question ∷ [];
     gives = gives-more had.gives (given question is);

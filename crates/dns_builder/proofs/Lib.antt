@@ -21,3 +21,4 @@ pub mod OptOptions
 pub mod OptWritten
 pub mod OptLeaves
 pub mod MovedDown
+pub mod ReadsBack

@@ -5,7 +5,7 @@ use Rattle.std.specs.Int.{to_be_bytes, w16, w32}
 use Rattle.dns_octets.specs.Builder.{Known}
 use Rattle.dns_name.specs.Spelling.{Spelling, name_text, known_after, split_from}
 use Rattle.dns_name.specs.Page.{Page, write, with_name}
-use Rattle.dns_name.specs.RecordData.{page_of}
+use Rattle.dns_name.specs.RecordData.{page_of, counted_length}
 use Rattle.dns_name.specs.Remembered.{is_free, patched}
 use Rattle.dns_name.proofs.Known.{free_from}
 use Rattle.dns_name.proofs.Spelled.{StopsBefore}
@@ -113,6 +113,12 @@ write_opt s page class ttl options =
         ∙ ap (λ l. patched l (length fixed + 0) (to_be_bytes w16 (length options))) (append_assoc fixed (0 ∷ 0 ∷ []) options)
         ∙ patched_behind fixed (0 ∷ 0 ∷ options) 0 (to_be_bytes w16 (length options))
         ∙ append_assoc octets (fixed_octets 41 class ttl) (to_be_bytes w16 (length options) ++ options)
+
+-- its data is as long as its options
+pub opt_long : (s : Spelling) (page : Page) (options : List ℕ) → counted_length s page (Octets options End) ≡ length options
+unfolding write
+opt_long s page options =
+    omega (arith, length-append (page.octets ++ 0 ∷ 0 ∷ []) options, length-append page.octets (0 ∷ 0 ∷ []))
 
 -- the octets before the options of a record of zeros
 abbrev pub zeros : List ℕ

@@ -1,5 +1,5 @@
 -- An OPT record that a closure built is written on the page.
-use Rattle.std.proofs.Common.{◌≡◌, ◌≤◌, ◌+◌, ℕ, List, [], ◌++◌, Ok, Err, Option, Some, None, length, take, drop, refl, sym, ◌∙◌, ap, subst, arith, length-append, append_assoc}
+use Rattle.std.proofs.Common.{◌≡◌, ◌≤◌, ◌<◌, ◌+◌, ℕ, List, [], ◌++◌, Ok, Err, Option, Some, None, length, take, drop, refl, sym, ◌∙◌, ap, subst, arith, length-append, append_assoc}
 use Rattle.std.specs.Prelude.{Result, IfOk, OnOk, OnErr}
 use Rattle.std.specs.Borrow.{MutBor}
 use Rattle.std.specs.Fn.{Once, FnOnceReturnsAtMut}
@@ -9,18 +9,20 @@ use Rattle.dns_octets.specs.declared.error.AppendError.{AppendError}
 use Rattle.dns_octets.specs.declared.error.AppendError.TheVariants.{ShortBuf, OutOfMemory, BadLength}
 use Rattle.dns_octets.proofs.Grows.{GrowsTo-append}
 use Rattle.dns_name.specs.Spelling.{Spelling}
-use Rattle.dns_name.specs.Page.Parts.{End, Octets}
-use Rattle.dns_name.specs.RecordData.{page_of}
+use Rattle.dns_name.specs.Page.{Page, write}
+use Rattle.dns_name.specs.Page.Parts.{End, Octets, Named}
+use Rattle.dns_name.specs.RecordData.{page_of, counted_length}
 use Rattle.dns_header.specs.Header.{rcode_of}
 use Rattle.dns_header.specs.HeaderFields.{fields_of}
-use Rattle.dns_header.specs.Written.{Written}
+use Rattle.dns_header.specs.Head.{fixed_octets}
+use Rattle.dns_header.specs.Written.{Written, data_length}
 use Rattle.dns_builder.specs.declared.opt.OptBuilder.{OptBuilder}
 use Rattle.dns_builder.specs.OptBuilt.{OptBuilt, empty_opt}
-use Rattle.dns_builder.specs.OptAsked.{RefusesRecord, WritesOpt, refusal}
+use Rattle.dns_builder.specs.OptAsked.{BuildsOpt, RefusesRecord, WritesOpt, refusal}
 use Rattle.dns_builder.specs.OptClosed.{WritesFields}
 use Rattle.dns_builder.specs.OptSeen.{opt_in, start_of, LeavesMessage}
 use Rattle.dns_builder.proofs.OptOptions.{refused}
-use Rattle.dns_builder.proofs.OptPages.{zeros, opt_octets, write_opt, patch_opt, start-front}
+use Rattle.dns_builder.proofs.OptPages.{zeros, opt_octets, write_opt, patch_opt, opt_long, start-front}
 
 -- nothing is refused
 accepted : (refused : Option AppendError) (answer : Result (Unit {0}) AppendError) → refusal refused answer ≡ None
@@ -120,3 +122,14 @@ module _ {Target : Type 0} (list_of : Target → List ℕ) (known_of : Target �
         subst (λ (k : Known). WritesOpt closure (opt_in list_of) op s (page_of page known) header (page_of new k)) (sym same)
         (writes header new sets unrefused short w)
     written (Err error) more new same sets unrefused short w = tt
+
+-- the data of a record that is built has a length
+pub opt_short : {F Builder : Type 0}
+    (closure : Once F (MutBor Builder × Unit {0}) (Result (Unit {0}) AppendError × (MutBor Builder × Unit {0}))) (see : Builder → OptBuilt) (op : F)
+    (s : Spelling) (page : Page) (header : List ℕ) (opt : Written) → BuildsOpt closure see op page.octets header opt
+    → 65535 < data_length s page opt → ⊥
+opt_short closure see op s page header opt builds =
+    let front : Page = write s page (Named opt.owner (Octets (fixed_octets opt.rtype opt.class opt.ttl) End)) in
+    let options = (see builds.last).options in
+    let long : data_length s page opt ≡ length options = ap (counted_length s front) builds.is.rdata ∙ opt_long s front options in
+    λ too_long. omega (arith, too_long, long, builds.short)

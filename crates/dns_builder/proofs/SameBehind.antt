@@ -23,7 +23,7 @@ pub same_length : {front other : List ℕ} {page twin : Page} → length front �
 same_length {front} {other} long same =
     omega (arith, ap (length {A = ℕ}) same.octets, ap (length {A = ℕ}) same.twin_octets, length-append front same.tail, length-append other same.tail)
 
-same_octets : {front other : List ℕ} {page twin : Page} (more : List ℕ) → SameBehind front other page twin
+pub same_octets : {front other : List ℕ} {page twin : Page} (more : List ℕ) → SameBehind front other page twin
     → SameBehind front other (with_octets page more) (with_octets twin more)
 same_octets {front} {other} more same = record {
   tail = same.tail ++ more;
@@ -32,7 +32,7 @@ same_octets {front} {other} more same = record {
   known = same.known;
 }
 
-same_name : {front other : List ℕ} {page twin : Page} (s : Spelling) (name : List (List ℕ)) → length front ≡ length other
+pub same_name : {front other : List ℕ} {page twin : Page} (s : Spelling) (name : List (List ℕ)) → length front ≡ length other
     → SameBehind front other page twin → SameBehind front other (with_name s page name) (with_name s twin name)
 same_name {front} {other} {page} {twin} s name long same =
     let place : length twin.octets ≡ length page.octets = same_length long same in

@@ -14,3 +14,4 @@ pub mod OptReplaced
 pub mod OptAsked
 pub mod OptClosed
 pub mod OptAdded
+pub mod ReadBack

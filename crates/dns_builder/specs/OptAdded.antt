@@ -1,11 +1,11 @@
 -- An OPT record that a closure builds is added to a message (RFC 6891 6.1).
-use Rattle.std.specs.Prelude.{◌≡◌, ℕ, List, Result}
+use Rattle.std.specs.Prelude.{◌≡◌, ◌<◌, ℕ, List, Result}
 use Rattle.std.specs.Borrow.{MutBor}
 use Rattle.std.specs.Fn.{Once}
 use Rattle.dns_octets.specs.declared.error.AppendError.{AppendError}
 use Rattle.dns_name.specs.Spelling.{Spelling}
 use Rattle.dns_name.specs.Page.{write}
-use Rattle.dns_header.specs.Written.{Written, parts_of}
+use Rattle.dns_header.specs.Written.{Written, parts_of, data_length}
 use Rattle.dns_sections.specs.Refused.{as_push_error}
 use Rattle.dns_sections.specs.declared.error.PushError.{PushError}
 use Rattle.dns_builder.specs.Built.{Built, Draft, IsDraftOf}
@@ -21,7 +21,7 @@ module _ {F Builder : Type 0} (closure : Once F (MutBor Builder × Unit {0}) (Re
     pub header : List ℕ
     pub opt : Written
     pub builds : BuildsOpt closure see op old.page.octets header opt
-    pub taken : IsTakenBy s 3 old (parts_of opt)
+    pub taken : IsTakenBy s 3 old (parts_of opt) (65535 < data_length s old.page opt)
     pub adds : (built : Built) → IsDraftOf s built old → IsDraftOf s (with_header (with_item built (parts_of opt)) header) new
 
   -- Why no record is added: none is built; or the message would be as long as its limit with it, or has 65,535 such records.

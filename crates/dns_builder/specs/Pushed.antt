@@ -9,7 +9,7 @@ use Rattle.dns_sections.specs.declared.error.PushError.{PushError}
 -- A record is added to the section of this number, the last one that is begun; or it is refused, and everything stays.
 pub record PushesRecord (s : Spelling) (number : ℕ) (old : Draft) (item : Written) (result : Result (Unit {0}) PushError) (new : Draft) : Type 0 where
   pub ok : (built : Built) → IsDraftOf s built old → OnOk result (IsDraftOf s (with_item built (parts_of item)) new)
-  pub taken : OnOk result (IsTakenBy s number old (parts_of item))
+  pub taken : OnOk result (IsTakenBy s number old (parts_of item) (65535 < data_length s old.page item))
   pub err : OnErr result (new ≡ old)
   pub why : IfErr result (IsRefusedBy s number old (parts_of item) (65535 < data_length s old.page item))
   pub limits : KeepsLimits old new

@@ -33,6 +33,8 @@ pub(crate) trait Item {
             (parts self.now)).octets) }
         ensures bad { result ≡ Err BadLength → IsLong self.now Target.spelling
             (page_of (Target.list target.old) (Target.known target.old)) }
+        ensures counts { OnOk result (IsLong self.now Target.spelling
+            (page_of (Target.list target.old) (Target.known target.old)) → ⊥) }
         ensures same_bound { Target.bound target.new ≡ Target.bound target.old }
         ensures stays { Target.stays target.old target.new };
 }

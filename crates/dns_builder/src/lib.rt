@@ -6,6 +6,7 @@
 mod builder;
 mod draft;
 mod item;
+pub mod laws;
 mod opt;
 mod section;
 

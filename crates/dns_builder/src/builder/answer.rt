@@ -140,7 +140,8 @@ impl<Target: Composer> SectionBuilder<Target, Questions> {
     fn push_parsed(&mut self, question: &Question<ParsedName<&[u8]>>) -> Result<(), PushError>
         ensures ok { (built : Built) → IsDraftOf Target.spelling built (draft_of self.old)
             → OnOk result (IsDraftOf Target.spelling (with_item built (question_parts (question_of labels_of question.now))) (draft_of self.new)) }
-        ensures taken { OnOk result (IsTakenBy Target.spelling 0 (draft_of self.old) (question_parts (question_of labels_of question.now))) }
+        ensures taken { OnOk result (IsTakenBy Target.spelling 0 (draft_of self.old)
+            (question_parts (question_of labels_of question.now)) ⊥) }
         ensures err { OnErr result ((draft_of self.new) ≡ (draft_of self.old)) }
         ensures why { IfErr result (IsRefusedBy Target.spelling 0 (draft_of self.old)
             (question_parts (question_of labels_of question.now)) ⊥) }

@@ -30,7 +30,8 @@ pub trait RecordSectionBuilder<Target: Composer> {
     fn push<R: ComposeRecord + Drop>(&mut self, record: R) -> Result<(), PushError>
         ensures ok { (built : Built) → IsDraftOf Target.spelling built (draft self.old)
             → OnOk result (IsDraftOf Target.spelling (with_item built (parts_of (R.written «record»))) (draft self.new)) }
-        ensures taken { OnOk result (IsTakenBy Target.spelling number (draft self.old) (parts_of (R.written «record»))) }
+        ensures taken { OnOk result (IsTakenBy Target.spelling number (draft self.old) (parts_of (R.written «record»))
+            (65535 < data_length Target.spelling (draft self.old).page (R.written «record»))) }
         ensures err { OnErr result ((draft self.new) ≡ (draft self.old)) }
         ensures why { IfErr result (IsRefusedBy Target.spelling number (draft self.old) (parts_of (R.written «record»))
             (65535 < data_length Target.spelling (draft self.old).page (R.written «record»))) }
@@ -69,7 +70,8 @@ impl<Target: Composer> SectionBuilder<Target, Questions> {
     pub fn push<Q: ComposeQuestion + Drop>(&mut self, question: Q) -> Result<(), PushError>
         ensures ok { (built : Built) → IsDraftOf Target.spelling built (draft_of self.old)
             → OnOk result (IsDraftOf Target.spelling (with_item built (question_parts (Q.question question))) (draft_of self.new)) }
-        ensures taken { OnOk result (IsTakenBy Target.spelling 0 (draft_of self.old) (question_parts (Q.question question))) }
+        ensures taken { OnOk result (IsTakenBy Target.spelling 0 (draft_of self.old) (question_parts (Q.question question))
+            ⊥) }
         ensures err { OnErr result ((draft_of self.new) ≡ (draft_of self.old)) }
         ensures why { IfErr result (IsRefusedBy Target.spelling 0 (draft_of self.old) (question_parts (Q.question question))
             ⊥) }
@@ -91,7 +93,8 @@ impl<Target: Composer, S: RecordsSection> SectionBuilder<Target, S> {
     pub(super) fn push_record<R: ComposeRecord>(&mut self, record: &R) -> Result<(), PushError>
         ensures ok { (built : Built) → IsDraftOf Target.spelling built (draft_of self.old)
             → OnOk result (IsDraftOf Target.spelling (with_item built (parts_of (R.written «record».now))) (draft_of self.new)) }
-        ensures taken { OnOk result (IsTakenBy Target.spelling (S.number - 1) (draft_of self.old) (parts_of (R.written «record».now))) }
+        ensures taken { OnOk result (IsTakenBy Target.spelling (S.number - 1) (draft_of self.old) (parts_of (R.written «record».now))
+            (65535 < data_length Target.spelling (draft_of self.old).page (R.written «record».now))) }
         ensures err { OnErr result ((draft_of self.new) ≡ (draft_of self.old)) }
         ensures why { IfErr result (IsRefusedBy Target.spelling (S.number - 1) (draft_of self.old) (parts_of (R.written «record».now))
             (65535 < data_length Target.spelling (draft_of self.old).page (R.written «record».now))) }
@@ -110,7 +113,8 @@ impl<Target: Composer, S: RecordsSection> SectionBuilder<Target, S> {
     pub fn push<R: ComposeRecord + Drop>(&mut self, record: R) -> Result<(), PushError>
         ensures ok { (built : Built) → IsDraftOf Target.spelling built (draft_of self.old)
             → OnOk result (IsDraftOf Target.spelling (with_item built (parts_of (R.written «record»))) (draft_of self.new)) }
-        ensures taken { OnOk result (IsTakenBy Target.spelling (S.number - 1) (draft_of self.old) (parts_of (R.written «record»))) }
+        ensures taken { OnOk result (IsTakenBy Target.spelling (S.number - 1) (draft_of self.old) (parts_of (R.written «record»))
+            (65535 < data_length Target.spelling (draft_of self.old).page (R.written «record»))) }
         ensures err { OnErr result ((draft_of self.new) ≡ (draft_of self.old)) }
         ensures why { IfErr result (IsRefusedBy Target.spelling (S.number - 1) (draft_of self.old) (parts_of (R.written «record»))
             (65535 < data_length Target.spelling (draft_of self.old).page (R.written «record»))) }
@@ -132,7 +136,8 @@ impl<Target: Composer> SectionBuilder<Target, Answers> {
     pub fn push_ref<R: ComposeRecord>(&mut self, record: &R) -> Result<(), PushError>
         ensures ok { (built : Built) → IsDraftOf Target.spelling built (draft_of self.old)
             → OnOk result (IsDraftOf Target.spelling (with_item built (parts_of (R.written «record».now))) (draft_of self.new)) }
-        ensures taken { OnOk result (IsTakenBy Target.spelling 1 (draft_of self.old) (parts_of (R.written «record».now))) }
+        ensures taken { OnOk result (IsTakenBy Target.spelling 1 (draft_of self.old) (parts_of (R.written «record».now))
+            (65535 < data_length Target.spelling (draft_of self.old).page (R.written «record».now))) }
         ensures err { OnErr result ((draft_of self.new) ≡ (draft_of self.old)) }
         ensures why { IfErr result (IsRefusedBy Target.spelling 1 (draft_of self.old) (parts_of (R.written «record».now))
             (65535 < data_length Target.spelling (draft_of self.old).page (R.written «record».now))) }

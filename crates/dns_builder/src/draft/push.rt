@@ -21,7 +21,8 @@ impl<Target: Composer> Draft<Target> {
         requires few { number < 4 }
         ensures ok { (built : Built) → IsDraftOf Target.spelling built (draft_in self.old)
             → OnOk result (IsDraftOf Target.spelling (with_item built (I.parts item.now)) (draft_in self.new)) }
-        ensures taken { OnOk result (IsTakenBy Target.spelling number (draft_in self.old) (I.parts item.now)) }
+        ensures taken { OnOk result (IsTakenBy Target.spelling number (draft_in self.old) (I.parts item.now)
+            (I.IsLong item.now Target.spelling (draft_in self.old).page)) }
         ensures err { OnErr result ((draft_in self.new) ≡ (draft_in self.old)) }
         ensures why { IfErr result (IsRefusedBy Target.spelling number (draft_in self.old) (I.parts item.now)
             (I.IsLong item.now Target.spelling (draft_in self.old).page)) }

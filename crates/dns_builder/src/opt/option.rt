@@ -1,5 +1,5 @@
 //! Options of an OPT record, whose octets a closure writes (RFC 6891 6.1.2).
-ghost use Rattle.std.specs.Prelude.{◌≡◌, ◌⊎◌, ◌+◌, ◌++◌, Some, OnOk, IfOk, IfErr};
+ghost use Rattle.std.specs.Prelude.{◌≡◌, ◌⊎◌, ◌+◌, ◌++◌, Some, Err, OnOk, IfOk, IfErr, IfSome};
 ghost use Rattle.std.specs.Int.{to_be_bytes, w16};
 ghost use Rattle.dns_builder.specs.OptOption.{OnlyGrows, OnlyAppends, AddsOption, RefusesOption};
 
@@ -33,6 +33,7 @@ impl<Target: Composer> OptBuilder<Target> {
         ensures why { IfErr result (λ error. ((opt_in Target.list self.old).refused ≡ Some error)
             ⊎ RefusesOption F.FnOnce Target.list op (Target.list (target_of self.old)) (Target.bound (target_of self.old))
             (rdlen_of self.old) code option_len error) }
+        ensures again { IfSome (opt_in Target.list self.old).refused (λ error. (result ≡ Err error) × (self.new ≡ self.old)) }
         ensures leaves { LeavesMessage Target.list Target.known Target.bound Target.stays self.old self.new }
     {
         if let Some(error) = self.refused {

@@ -1,5 +1,5 @@
 //! An OPT record that replaces the one that is built (RFC 6891 6.1).
-ghost use Rattle.std.specs.Prelude.{◌≡◌, ◌⊎◌, Some, length, OnOk, IfErr};
+ghost use Rattle.std.specs.Prelude.{◌≡◌, ◌⊎◌, Some, Err, length, OnOk, IfErr, IfSome};
 ghost use Rattle.dns_header.specs.Opt.{options_octets};
 ghost use Rattle.dns_builder.specs.OptReplaced.{RefusesOctets};
 
@@ -25,6 +25,7 @@ impl<Target: Composer> OptBuilder<Target> {
         ensures why { IfErr result (λ error. ((opt_in Target.list self.old).refused ≡ Some error)
             ⊎ RefusesOctets (Target.list (target_of self.old)) (Target.bound (target_of self.old))
             (length (options_octets source.now.options)) error) }
+        ensures again { IfSome (opt_in Target.list self.old).refused (λ error. (result ≡ Err error) × (self.new ≡ self.old)) }
         ensures leaves { LeavesMessage Target.list Target.known Target.bound Target.stays self.old self.new }
     {
         if let Some(error) = self.refused {

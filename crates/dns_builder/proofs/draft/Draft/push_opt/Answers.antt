@@ -7,6 +7,7 @@ use Rattle.dns_header.specs.Written.{parts_of}
 use Rattle.dns_sections.specs.Refused.{as_push_error}
 use Rattle.dns_builder.specs.Built.{Draft}
 use Rattle.dns_builder.specs.OptAdded.RefusesOpt.{unbuilt, uncounted}
+use Rattle.dns_builder.specs.OptSeen.{opt_in}
 use Rattle.dns_builder.specs.Refused.{IsUncounted}
 use Rattle.dns_builder.specs.Seen.{draft_in}
 use Rattle.dns_builder.proofs.Begun.{handed-on}
@@ -14,6 +15,7 @@ use Rattle.dns_builder.proofs.Cleared.{grown-long}
 use Rattle.dns_builder.proofs.DraftPages.{number_grown}
 use Rattle.dns_builder.proofs.FreeHeader.{free_grown}
 use Rattle.dns_builder.proofs.NewHeader.{headed}
+use Rattle.dns_builder.proofs.OptWritten.{opt_short}
 use Rattle.dns_builder.proofs.OnResults.{on_err_any}
 use Rattle.dns_builder.proofs.Pushes.{pushed_on}
 use Rattle.dns_builder.proofs.draft.Draft.push_opt.Goals as goal
@@ -69,6 +71,7 @@ returns-clause-ok g c =
       opt = w.opt;
       builds = w.builds;
       taken = record {
+        counted = opt_short g.F.FnOnce (opt_in g.Target.Octets.list) c.args.op g.Target.Composer.spelling (draft_in c.args.self.now).page c.in_ok-header.header w.opt w.builds;
         short = subst (λ (p : Page). length p.octets < c.args.self.now.limit) w.written taken.short;
         few = subst (λ n. n < 65535) (number_grown 10 c.append_opt.ensures.grows (omega (arith, c.args.self.now.header))) taken.few;
       };
