@@ -11,7 +11,7 @@ import sys
 import tempfile
 from pathlib import Path
 
-from edits import ROOT, lower, needs_of
+from crates import ROOT, lines_for, lower, needs_of
 
 PROGRAM = "zone_main"
 
@@ -22,8 +22,7 @@ def copy_to(room, program):
     wanted = {program, *lower(program, needs)}
     for name in wanted:
         shutil.copytree(ROOT / "crates" / name, room / "crates" / name, ignore=shutil.ignore_patterns("out", "must-fail"))
-    lines = [it for it in (ROOT / "crates.txt").read_text().split("\n") if it.partition(":")[0] in wanted]
-    (room / "crates.txt").write_text("\n".join(lines) + "\n")
+    (room / "crates.txt").write_text(lines_for(wanted))
     shutil.copy(ROOT / "HANDLES", room)
     return len(wanted)
 
@@ -48,7 +47,7 @@ def main():
         room = Path(name)
         count = copy_to(room, program)
         print(f"The gate builds the program in a copy of {count} crates. It proves each crate first, for an hour or more; a")
-        print("toolchain that keeps what it has proved on this machine takes over what `make test` proved.", flush=True)
+        print("toolchain that keeps what it has proved on this machine takes over what `make prove` proved.", flush=True)
         if not run_gate(room):
             return 1
         to.parent.mkdir(exist_ok=True)

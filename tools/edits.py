@@ -1,22 +1,29 @@
 #!/usr/bin/env python3
-"""edits.py [CRATE..]: shows that the prover refuses each edit of must-fail/.
+"""edits.py [--jobs N] [CRATE..]: shows that the prover refuses each edit of must-fail/.
 
 It tries the edits that the gate tries (must-fail/*.edit) and those that the gate leaves out (must-fail/changes.md, others.md).
 The function that an edit changes has to be refused by itself: a contract is all that one function knows of another, so a changed
 function is judged as if the others were as they stand. A round has edits of different functions. It is put on a copy of the
 crate, and one check names the functions that it does not prove. What is not refused in a round, or stands in one that is no
 program, comes again in a smaller round, and in the end alone: a function that waits for a changed one is not judged beside it.
-Run `rt check` in the crate first, so that the copy finds its work done. The exit status is 1 if an edit is not refused, or is no
-program by itself."""
+
+The copy begins with what an earlier `rt check` of the crate kept, here or in another clone on this machine. It is checked as it stands
+first, which takes seconds where work was kept, and else the time of a first check: an edit of a crate that is not proved shows
+nothing. `--jobs` tries so many crates at once, and shares the processors among their checks. A line tells of each crate as it ends.
+The exit status is 1 if an edit is not refused, or is no program by itself, or if a crate is not proved."""
+import argparse
 import re
 import shutil
 import subprocess
 import sys
 import tempfile
+import time
+from concurrent.futures import ThreadPoolExecutor, as_completed
 from dataclasses import dataclass
 from pathlib import Path
 
-ROOT = Path(__file__).resolve().parent.parent
+from crates import ROOT, lines_for, lower, needs_of, processors
+
 HEAD = re.compile(r"^( *)(?:pub(?:\([^)]*\))? )?(?:const |unsafe |final )*fn (\w+)", re.M)
 NOTE = re.compile(r"(src/\S+\.rt):(\d+):\d+: ")
 CONST = re.compile(r"^ *(?:pub(?:\([^)]*\))? )?(?:const|static) \w+:", re.M)
@@ -161,23 +168,12 @@ def is_refused(function, lines, names):
     return any(re.search(function.names, it) for it in names)
 
 
-def lower(name, needs):
-    return {it for below in needs[name] for it in [below, *lower(below, needs)]} if name in needs else set()
-
-
-def needs_of():
-    rows = [it.partition(":") for it in (ROOT / "crates.txt").read_text().split("\n") if it and it[0] != "#"]
-    every = {name for name, _, _ in rows}
-    return {name: [it for it in words.split() if it in every] for name, _, words in rows}
-
-
 def copy_of(name, room):
     """A copy of the crate and what it stands on, with the work that their checks kept."""
     needs = needs_of()
     wanted = {name, *lower(name, needs)}
     (room / "HANDLES").write_text((ROOT / "HANDLES").read_text())
-    lines = [it for it in (ROOT / "crates.txt").read_text().split("\n") if it.partition(":")[0] in wanted]
-    (room / "crates.txt").write_text("\n".join(lines) + "\n")
+    (room / "crates.txt").write_text(lines_for(wanted))
     for it in wanted:
         # (of a crate below, only the library is wanted)
         left = ["must-fail"] if it == name else ["must-fail", "incremental"]
@@ -185,14 +181,14 @@ def copy_of(name, room):
     return room / "crates" / name
 
 
-def check(folder, crate, texts):
-    """What a check says of the copy with these texts in the place of its own."""
+def check(folder, crate, texts, flags):
+    """What a check says of the copy with these texts in the place of its own, and whether it proves it."""
     shutil.rmtree(crate / "src")
     shutil.copytree(folder / "src", crate / "src")
     for path, text in texts.items():
         (crate / path).write_text(text)
-    said = subprocess.run(["rt", "check"], cwd=crate, capture_output=True, text=True)
-    return said.stdout + said.stderr
+    said = subprocess.run(["rt", "check", *flags], cwd=crate, capture_output=True, text=True)
+    return said.stdout + said.stderr, said.returncode == 0
 
 
 def judge(places, said):
@@ -230,27 +226,59 @@ def try_changes(folder, changes, checked):
     return kept
 
 
-def try_crate(name):
-    """Tries a crate's changes. Answers how many were refused, and what to say of those that were not."""
-    folder = ROOT / "crates" / name
-    files = [*sorted(folder.glob("must-fail/*.edit")), *(folder / "must-fail" / it for it in ("changes.md", "others.md"))]
-    changes = [it for file in files if file.is_file() for it in changes_of(file)]
+def all_changes_of(name):
+    folder = ROOT / "crates" / name / "must-fail"
+    files = [*sorted(folder.glob("*.edit")), folder / "changes.md", folder / "others.md"]
+    return [it for file in files if file.is_file() for it in changes_of(file)]
+
+
+def try_crate(name, flags):
+    """Tries a crate's changes. Answers how many were refused, what to say of those that were not, and the seconds that it took."""
+    folder, changes, start = ROOT / "crates" / name, all_changes_of(name), time.monotonic()
     with tempfile.TemporaryDirectory(prefix="edits-") as room:
         crate = copy_of(name, Path(room))
-        kept = try_changes(folder, changes, lambda texts: check(folder, crate, texts))
-    return len(changes) - len(kept), [f"{name}: {it.title} ({it.path}) {why}" for it, why in kept]
+        said, is_proved = check(folder, crate, {}, flags)
+        if is_proved:
+            kept = try_changes(folder, changes, lambda texts: check(folder, crate, texts, flags)[0])
+        else:
+            print(said, file=sys.stderr, flush=True)
+            kept = [(it, "was not tried: the crate is not proved as it stands") for it in changes]
+    lines = [f"{name}: {it.title} ({it.path}) {why}" for it, why in kept]
+    return len(changes) - len(kept), lines, time.monotonic() - start
 
 
-def main(names):
+def flags_for(at_once):
+    """What each of so many checks at once is told: a share of the processors. One alone is left to choose."""
+    return ["--jobs", str(max(processors() // at_once, 1))] if at_once > 1 else []
+
+
+def try_crates(names, at_once):
+    """Tries the changes of these crates, so many at once, and tells of each crate as it ends."""
     refused, kept = 0, []
-    for name in names or needs_of():
-        if (ROOT / "crates" / name / "must-fail").is_dir():
-            some, others = try_crate(name)
+    with ThreadPoolExecutor(at_once) as pool:
+        waiting = {pool.submit(try_crate, name, flags_for(min(at_once, len(names)))): name for name in names}
+        for it in as_completed(waiting):
+            some, others, seconds = it.result()
             refused, kept = refused + some, kept + others
-            print(f"{name}: {some} refused, {len(others)} not", flush=True)
+            print(f"{waiting[it]}: {some} refused, {len(others)} not ({seconds:.0f} s)", flush=True)
+    return refused, kept
+
+
+def main():
+    parser = argparse.ArgumentParser(description="Shows that the prover refuses each edit of must-fail/.")
+    parser.add_argument("--jobs", type=int, default=1, metavar="N", help="how many crates at once")
+    parser.add_argument("crates", nargs="*", metavar="CRATE", help="these crates alone")
+    asked, needs = parser.parse_args(), needs_of()
+    unknown = [it for it in asked.crates if it not in needs]
+    if unknown:
+        parser.error(f"crates.txt names no crate {unknown[0]}")
+    names = [it for it in asked.crates or needs if all_changes_of(it)]
+    # (those with the most changes first, so that none is left for the end)
+    names.sort(key=lambda it: -len(all_changes_of(it)))
+    refused, kept = try_crates(names, max(asked.jobs, 1))
     print("\n".join(kept + [f"{refused} changes refused, {len(kept)} not"]))
     return 1 if kept else 0
 
 
 if __name__ == "__main__":
-    sys.exit(main(sys.argv[1:]))
+    sys.exit(main())

@@ -1,0 +1,34 @@
+"""What crates.txt says of the crates of this repository, and how many processors there are. The other tools import it."""
+import os
+from pathlib import Path
+
+ROOT = Path(__file__).resolve().parent.parent
+# What a control group may use of its processors: microseconds, and in how many.
+QUOTA = Path("/sys/fs/cgroup/cpu.max")
+
+
+def needs_of():
+    """The crates of this repository that each crate names, by its name, in the order of crates.txt."""
+    rows = [it.partition(":") for it in (ROOT / "crates.txt").read_text().split("\n") if it and it[0] != "#"]
+    every = {name for name, _, _ in rows}
+    return {name: [it for it in words.split() if it in every] for name, _, words in rows}
+
+
+def lower(name, needs):
+    """All crates below one."""
+    return {it for below in needs[name] for it in [below, *lower(below, needs)]} if name in needs else set()
+
+
+def lines_for(wanted):
+    """The text of a crates.txt of these crates alone."""
+    lines = [it for it in (ROOT / "crates.txt").read_text().split("\n") if it.partition(":")[0] in wanted]
+    return "\n".join(lines) + "\n"
+
+
+def processors():
+    """How many processors this process may use."""
+    found = len(os.sched_getaffinity(0))
+    if QUOTA.is_file():
+        most, span = QUOTA.read_text().split()
+        found = found if most == "max" else min(found, max(int(most) // int(span), 1))
+    return found
