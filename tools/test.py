@@ -1,0 +1,280 @@
+#!/usr/bin/env python3
+"""test.py [--jobs N] [--only CRATE..]: runs every test of this repository, and proves nothing.
+
+Which tests there are is read from crates.txt and the crates: the test functions of each crate that has some, the rows of each program
+`NAME_rows`, and the stored run of each other program (its files `args`, `stdin`, `data/`, `stdout` and `status`, read as the gate reads
+them: no `stdout` is no output, no `status` is 0). All run by `rt try`, which compiles with checks. `make prove` is the gate: it proves
+the crates, and runs the same tests and programs as two compilers build them.
+
+Rows are run in parts, since a run of `rt try` has 60 seconds and 1 MiB. The rows of a part that stops early are run again one by one, so
+that the row that stopped it is named. `--jobs` runs so many crates at once; without it there are as many as processors.
+
+It prints a line for each of them as it ends, with its seconds and processor seconds, and after one that failed the first rows that
+differ, or what else is wrong. The last line counts rows and test functions, and a stored run as one: `N passed, M failed`. The exit status is 1 if one failed.
+Nothing is written in the tree, so two runs at once, or one beside `rt ci`, are well."""
+import argparse
+import re
+import resource
+import subprocess
+import sys
+import tempfile
+import time
+from concurrent.futures import ProcessPoolExecutor, as_completed
+from dataclasses import dataclass
+from itertools import zip_longest
+from pathlib import Path
+
+from crates import ROOT, lower, needs_of, processors
+
+# How many rows a part of a program's rows has.
+PART = 100
+# How many differing rows are shown, and how much of each line, and how many lines of what `rt try` says.
+SHOWN, WIDTH, SAID = 5, 400, 30
+TEST = re.compile(r"^\s*#\[test\]", re.M)
+ENDED = re.compile(r"^run=ended status=(\d+) ", re.M)
+# A case of several, what its run came to, and what was said of it before.
+CASE = re.compile(r"(.*?)^case=(\S+) run=(\S+)(?: status=(\d+))? .*?$", re.M | re.S)
+PASSED_TEST = re.compile(r"^test \S+ \.\.\. ok$", re.M)
+# What a run that needs no proof says of its interpreter, which has other limits than the compiled program.
+INTERPRETER = re.compile(r"^interpreter: .*\n", re.M)
+
+
+@dataclass(frozen=True)
+class Row:
+    """A line that a program reads, and what it has to write for it."""
+
+    asked: str
+    wanted: str
+
+    def is_title(self):
+        return not self.asked or self.asked.startswith("#")
+
+
+@dataclass(frozen=True)
+class Outcome:
+    """How many tests passed and failed, and what to show of the failed ones."""
+
+    passed: int
+    failed: int
+    notes: tuple = ()
+
+
+@dataclass(frozen=True)
+class Job:
+    """What is run of a crate: its tests, its rows or its stored run, by the function that runs them in the crate's folder."""
+
+    crate: str
+    kind: str
+    run: callable
+
+    def folder(self):
+        return ROOT / "crates" / self.crate
+
+
+def tried(folder, words, given=b""):
+    """What `rt try` writes in a crate's folder, and what it says."""
+    ran = subprocess.run(["rt", "try", *words], cwd=folder, input=given, capture_output=True)
+    return ran.stdout, ran.stderr.decode(errors="backslashreplace")
+
+
+def lines_of(octets):
+    """The lines of a file or of what a program writes. An octet that is no text stands as a surrogate."""
+    lines = octets.decode(errors="surrogateescape").split("\n")
+    return lines[:-1] if lines[-1] == "" else lines
+
+
+def shortened(line):
+    """A line as it is shown: what does not print is escaped, and a long one is cut."""
+    line = line if line.isprintable() else line.encode("unicode_escape").decode()
+    return line if len(line) <= WIDTH else f"{line[:WIDTH]} .. ({len(line)} characters)"
+
+
+def last_lines(said):
+    return tuple(said.rstrip("\n").split("\n")[-SAID:])
+
+
+def difference(asked, wanted, given):
+    """Three lines on a row whose answer is another, or has none."""
+    lack = "(nothing)"
+    texts = (asked, lack if wanted is None else wanted, lack if given is None else given)
+    return tuple(f"{word} {it}" for word, it in zip(("row:   ", "wanted:", "given: "), texts))
+
+
+def tests_in(folder):
+    """How many test functions the sources of a crate have."""
+    return sum(len(TEST.findall(it.read_text())) for it in folder.glob("src/**/*.rt"))
+
+
+def run_tests(folder):
+    """Runs the test functions of a crate. One that the sources have and that did not pass has failed."""
+    written, said = tried(folder, ["--test"])
+    text = written.decode(errors="backslashreplace")
+    passed = len(PASSED_TEST.findall(text))
+    failed = max(tests_in(folder) - passed, 0)
+    if not failed and ENDED.findall(said)[-1:] != ["0"]:
+        failed = 1
+    failures = [it for it in lines_of(written) if not it.endswith(" ... ok")]
+    return Outcome(passed, failed, (*failures, *last_lines(said)) if failed else ())
+
+
+def octets_in(folder, name):
+    return (folder / name).read_bytes() if (folder / name).is_file() else b""
+
+
+def rows_of(folder):
+    """The rows of a program, with titles. A line that either file lacks is an empty one that no answer is like."""
+    asked, wanted = octets_in(folder, "stdin"), octets_in(folder, "stdout")
+    return [Row(a or "", "(nothing)" if b is None else b) for a, b in zip_longest(lines_of(asked), lines_of(wanted))]
+
+
+def answers_to_parts(folder, parts):
+    """What a program writes for each part of its rows, or what was said where it ended early, and what was said in all."""
+    with tempfile.TemporaryDirectory(prefix="rows-") as room:
+        for number, part in enumerate(parts):
+            text = "".join(f"{row.asked}\n" for row in part)
+            (Path(room) / f"{number:06}").write_bytes(text.encode(errors="surrogateescape"))
+        # (one step: the interpreter would say again what the compiled program says)
+        written, said = tried(folder, ["--steps", "1", "--cases", room])
+    texts = texts_of_cases(lines_of(written), len(parts))
+    ended = {int(name): (run == "ended" and status == "0", note) for note, name, run, status in CASE.findall(said)}
+    found = []
+    for number in range(len(parts)):
+        is_whole, note = ended.get(number, (False, said))
+        found.append((texts.get(number, []) if is_whole else None, INTERPRETER.sub("", note).strip()))
+    return found, said
+
+
+def texts_of_cases(lines, count):
+    """The lines that stand under the head of each case."""
+    heads, texts, here = {f"== {number:06}": number for number in range(count)}, {}, []
+    for line in lines:
+        if line in heads:
+            here = texts.setdefault(heads.pop(line), [])
+        else:
+            here.append(line)
+    return texts
+
+
+def judge_part(part, answers):
+    """The differences between what a part has to answer and what it answers, and how many of its rows differ."""
+    notes, failed = [], 0
+    for row, given in zip_longest(part, answers):
+        wanted = row and row.wanted
+        if given != wanted:
+            notes.append(difference(row.asked if row else "(no row)", wanted, given))
+            failed += 1
+    return notes, failed
+
+
+def run_rows(folder):
+    """Runs the rows of a program in parts, and those of a part that ends early one by one."""
+    rows = rows_of(folder)
+    counted = [row for row in rows if not row.is_title()]
+    parts = [rows[at : at + PART] for at in range(0, len(rows), PART)]
+    found, said = answers_to_parts(folder, parts)
+    if not CASE.search(said):
+        return Outcome(0, max(len(counted), 1), last_lines(said))
+    alone = [[row] for part, (answers, _) in zip(parts, found) if answers is None for row in part if not row.is_title()]
+    judged = [judge_part(part, answers) for part, (answers, _) in zip(parts, found) if answers is not None]
+    for part, (answers, note) in zip(alone, answers_to_parts(folder, alone)[0] if alone else ()):
+        stopped = ([difference(part[0].asked, part[0].wanted, note or "(it ended early)")], 1)
+        judged.append(stopped if answers is None else judge_part(part, answers))
+    notes = [it for some, _ in judged for it in some]
+    failed = sum(count for _, count in judged)
+    if alone and not failed:
+        notes, failed = [("the rows pass one by one, and a part of them together ends early:", *last_lines(said))], 1
+    return Outcome(max(len(counted) - failed, 0), failed, shown(notes))
+
+
+def shown(notes):
+    """The lines of the first differences."""
+    more = (f".. and {len(notes) - SHOWN} more",) if len(notes) > SHOWN else ()
+    return (*(line for note in notes[:SHOWN] for line in note), *more)
+
+
+def run_stored(folder):
+    """Runs a program on its stored arguments, input and files, and compares what it writes and its status."""
+    data = [it for it in sorted((folder / "data").rglob("*")) if it.is_file()]
+    words = [word for it in data for word in ("--data", f"{it.relative_to(folder / 'data')}={it}")]
+    arguments, wanted = octets_in(folder, "args").decode().splitlines(), octets_in(folder, "stdout")
+    written, said = tried(folder, [*words, "--", *arguments], octets_in(folder, "stdin"))
+    ended, status = ENDED.findall(said), octets_in(folder, "status").decode().strip() or "0"
+    if not ended:
+        return Outcome(0, 1, last_lines(said))
+    if ended[-1] != status:
+        return Outcome(0, 1, (f"status: wanted {status}, given {ended[-1]}", *last_lines(said)))
+    if written == wanted:
+        return Outcome(1, 0)
+    pairs = enumerate(zip_longest(lines_of(wanted), lines_of(written)), 1)
+    return Outcome(0, 1, shown([difference(f"line {at}", a, b) for at, (a, b) in pairs if a != b]))
+
+
+def jobs_of(crate):
+    """What is to be run of a crate."""
+    folder = ROOT / "crates" / crate
+    found = [Job(crate, "tests", run_tests)] if tests_in(folder) else []
+    if (folder / "src/main.rt").is_file() or (folder / "stdout").is_file():
+        is_rows = crate.endswith("_rows") and not (folder / "args").is_file()
+        found.append(Job(crate, "rows", run_rows) if is_rows else Job(crate, "stored run", run_stored))
+    return found
+
+
+def size_below(crate, needs):
+    """How long the sources are that a try of the crate compiles: the long ones go first."""
+    return sum(it.stat().st_size for name in {crate, *lower(crate, needs)} for it in (ROOT / "crates" / name).glob("src/**/*.rt"))
+
+
+def processor_seconds():
+    """The processor seconds of all that this process started and that has ended."""
+    used = resource.getrusage(resource.RUSAGE_CHILDREN)
+    return used.ru_utime + used.ru_stime
+
+
+def timed(job):
+    """Runs a job in a process of its own, whose children are the job's alone. Answers the seconds and processor seconds too."""
+    start, used = time.monotonic(), processor_seconds()
+    return job.run(job.folder()), time.monotonic() - start, processor_seconds() - used
+
+
+def tell(job, outcome, seconds, used):
+    """Prints the line of a job that has ended, and what is wrong."""
+    failed = f", {outcome.failed} FAILED" if outcome.failed else ""
+    print(f"{job.crate}, {job.kind}: {outcome.passed} passed{failed} ({seconds:.0f} s, {used:.0f} processor seconds)")
+    for line in outcome.notes:
+        print(f"    {shortened(line)}")
+    sys.stdout.flush()
+
+
+def run_all(jobs, at_once):
+    """Runs the jobs, so many at once, and tells of each as it ends. Answers their outcomes, and their processor seconds in all."""
+    outcomes, whole = [], 0.0
+    with ProcessPoolExecutor(at_once) as pool:
+        waiting = {pool.submit(timed, job): job for job in jobs}
+        for it in as_completed(waiting):
+            outcome, seconds, used = it.result()
+            tell(waiting[it], outcome, seconds, used)
+            outcomes.append(outcome)
+            whole += used
+    return outcomes, whole
+
+
+def main():
+    parser = argparse.ArgumentParser(description="Runs every test of this repository, and proves nothing.")
+    parser.add_argument("--jobs", type=int, default=processors(), metavar="N", help="how many crates at once")
+    parser.add_argument("--only", nargs="+", metavar="CRATE", help="these crates alone")
+    asked, needs, start = parser.parse_args(), needs_of(), time.monotonic()
+    unknown = [it for it in asked.only or () if it not in needs]
+    if unknown:
+        parser.error(f"crates.txt names no crate {unknown[0]}")
+    jobs = [job for name in asked.only or needs for job in jobs_of(name)]
+    jobs.sort(key=lambda job: -size_below(job.crate, needs))
+    at_once = max(asked.jobs, 1)
+    outcomes, used = run_all(jobs, at_once)
+    print(f"{time.monotonic() - start:.0f} seconds, {used:.0f} processor seconds, {at_once} at once")
+    failed = sum(it.failed for it in outcomes)
+    print(f"{sum(it.passed for it in outcomes)} passed, {failed} failed")
+    return 1 if failed else 0
+
+
+if __name__ == "__main__":
+    sys.exit(main())
