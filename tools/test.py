@@ -6,12 +6,13 @@ Which tests there are is read from crates.txt and the crates: the test functions
 them: no `stdout` is no output, no `status` is 0). All run by `rt try`, which compiles with checks. `make prove` is the gate: it proves
 the crates, and runs the same tests and programs as two compilers build them.
 
-Rows are run in parts, since a run of `rt try` has 60 seconds and 1 MiB. The rows of a part that stops early are run again one by one, so
-that the row that stopped it is named. `--jobs` runs so many crates at once; without it there are as many as processors.
+A run has ten minutes, since it is compiled with checks and a machine may be busy. Rows are run in parts, since a run has 1 MiB of
+output at most. The rows of a part that stops early are run again one by one, so that the row that stopped it is named. `--jobs` runs
+so many crates at once; without it there are as many as processors.
 
 It prints a line for each of them as it ends, with its seconds and processor seconds, and after one that failed the first rows that
-differ, or what else is wrong. The last line counts rows and test functions, and a stored run as one: `N passed, M failed`. The exit status is 1 if one failed.
-Nothing is written in the tree, so two runs at once, or one beside `rt ci`, are well."""
+differ, or what else is wrong. The last line counts rows and test functions, and a stored run as one: `N passed, M failed`. The exit
+status is 1 if one failed. Nothing is written in the tree, so it may run beside another run of it, or beside `rt ci`."""
 import argparse
 import re
 import resource
@@ -28,6 +29,8 @@ from crates import ROOT, lower, needs_of, processors
 
 # How many rows a part of a program's rows has.
 PART = 100
+# How many seconds a run may take.
+SECONDS = 600
 # How many differing rows are shown, and how much of each line, and how many lines of what `rt try` says.
 SHOWN, WIDTH, SAID = 5, 400, 30
 TEST = re.compile(r"^\s*#\[test\]", re.M)
@@ -48,6 +51,15 @@ class Row:
 
     def is_title(self):
         return not self.asked or self.asked.startswith("#")
+
+
+@dataclass(frozen=True)
+class Answers:
+    """What a program writes for a part of its rows, None if it ended early, with what was said; a run over a limit has no answer."""
+
+    lines: list
+    note: str = ""
+    is_over_limit: bool = False
 
 
 @dataclass(frozen=True)
@@ -73,7 +85,7 @@ class Job:
 
 def tried(folder, words, given=b""):
     """What `rt try` writes in a crate's folder, and what it says."""
-    ran = subprocess.run(["rt", "try", *words], cwd=folder, input=given, capture_output=True)
+    ran = subprocess.run(["rt", "try", "--seconds", str(SECONDS), *words], cwd=folder, input=given, capture_output=True)
     return ran.stdout, ran.stderr.decode(errors="backslashreplace")
 
 
@@ -128,7 +140,7 @@ def rows_of(folder):
 
 
 def answers_to_parts(folder, parts):
-    """What a program writes for each part of its rows, or what was said where it ended early, and what was said in all."""
+    """What a program writes for each part of its rows, and what was said in all."""
     with tempfile.TemporaryDirectory(prefix="rows-") as room:
         for number, part in enumerate(parts):
             text = "".join(f"{row.asked}\n" for row in part)
@@ -136,12 +148,11 @@ def answers_to_parts(folder, parts):
         # (one step: the interpreter would say again what the compiled program says)
         written, said = tried(folder, ["--steps", "1", "--cases", room])
     texts = texts_of_cases(lines_of(written), len(parts))
-    ended = {int(name): (run == "ended" and status == "0", note) for note, name, run, status in CASE.findall(said)}
-    found = []
-    for number in range(len(parts)):
-        is_whole, note = ended.get(number, (False, said))
-        found.append((texts.get(number, []) if is_whole else None, INTERPRETER.sub("", note).strip()))
-    return found, said
+    found = {number: Answers(None, said) for number in range(len(parts))}
+    for note, name, run, status in CASE.findall(said):
+        lines = texts.get(int(name), []) if (run, status) == ("ended", "0") else None
+        found[int(name)] = Answers(lines, INTERPRETER.sub("", note).strip(), run == "no-answer")
+    return [found[number] for number in range(len(parts))], said
 
 
 def texts_of_cases(lines, count):
@@ -174,14 +185,14 @@ def run_rows(folder):
     found, said = answers_to_parts(folder, parts)
     if not CASE.search(said):
         return Outcome(0, max(len(counted), 1), last_lines(said))
-    alone = [[row] for part, (answers, _) in zip(parts, found) if answers is None for row in part if not row.is_title()]
-    judged = [judge_part(part, answers) for part, (answers, _) in zip(parts, found) if answers is not None]
-    for part, (answers, note) in zip(alone, answers_to_parts(folder, alone)[0] if alone else ()):
-        stopped = ([difference(part[0].asked, part[0].wanted, note or "(it ended early)")], 1)
-        judged.append(stopped if answers is None else judge_part(part, answers))
+    alone = [[row] for part, it in zip(parts, found) if it.lines is None for row in part if not row.is_title()]
+    judged = [judge_part(part, it.lines) for part, it in zip(parts, found) if it.lines is not None]
+    for part, it in zip(alone, answers_to_parts(folder, alone)[0] if alone else ()):
+        stopped = ([difference(part[0].asked, part[0].wanted, it.note or "(it ended early)")], 1)
+        judged.append(stopped if it.lines is None else judge_part(part, it.lines))
     notes = [it for some, _ in judged for it in some]
     failed = sum(count for _, count in judged)
-    if alone and not failed:
+    if not failed and any(it.lines is None and not it.is_over_limit for it in found):
         notes, failed = [("the rows pass one by one, and a part of them together ends early:", *last_lines(said))], 1
     return Outcome(max(len(counted) - failed, 0), failed, shown(notes))
 
