@@ -46,26 +46,26 @@ length_with s draft item = length (write s draft.page item).octets
 abbrev pub counted_at : ℕ → Draft → ℕ
 counted_at number draft = number_at draft.page.octets (4 + 2 * number)
 
--- An item is taken. It can be appended: its data has at most 65,535 octets. The message is then shorter than its limit, and the
--- section had fewer than 65,535 items.
+-- An item is taken: its data has at most 65,535 octets, the message is then shorter than its limit, and the section had fewer than
+-- 65,535 items.
 pub record IsTakenBy (s : Spelling) (number : ℕ) (draft : Draft) (item : Parts) (IsLong : Type 0) : Type 0 where
   pub counted : IsLong → ⊥
   pub short : length_with s draft item < draft.limit
   pub few : counted_at number draft < 65535
 
--- An item can be appended, and the message would then be as long as its limit, or longer.
+-- An item whose data is not too long would make the message as long as its limit, or longer.
 pub record ExceedsLimit (s : Spelling) (draft : Draft) (item : Parts) (IsLong : Type 0) : Type 0 where
   pub counted : IsLong → ⊥
   pub long : draft.limit ≤ length_with s draft item
 
--- An item can be appended, and the message would be shorter than its limit, but the section has 65,535 items already.
+-- An item whose data is not too long would leave the message shorter than its limit, but the section has 65,535 items already.
 pub record OverflowsCount (s : Spelling) (number : ℕ) (draft : Draft) (item : Parts) (IsLong : Type 0) : Type 0 where
   pub counted : IsLong → ⊥
   pub short : length_with s draft item < draft.limit
   pub full : counted_at number draft ≡ 65535
 
--- Why an item is refused. It is not appended: the target is full, its data is longer than 65,535 octets, or memory was refused. Or it
--- is, and then the limit is judged, and after that the count.
+-- Why an item is refused. It is appended first, and is not if the target is full, its data is longer than 65,535 octets, or memory was
+-- refused. Then the limit is judged, and then the count.
 abbrev pub IsRefusedBy : Spelling → ℕ → Draft → Parts → Type 0 → PushError → Type 0
 IsRefusedBy s number draft item IsLong ShortBuf = IsPast draft.bound (length_with s draft item)
 IsRefusedBy s number draft item IsLong BadLength = IsLong
