@@ -1,6 +1,5 @@
 -- The octets of a message that is built spell its items.
-use Rattle.std.proofs.Common.{◌≡◌, ◌≤◌, ◌<◌, ◌^◌, ◌+◌, ℕ, zero, suc, List, [], ◌∷◌, ◌++◌, length, take, refl, sym, ◌∙◌, ap, subst, arith, length-append, append_assoc}
-use Rattle.std.specs.List.{flat_map}
+use Rattle.std.proofs.Common.{◌≡◌, ◌<◌, ◌^◌, ℕ, zero, suc, List, [], ◌∷◌, ◌++◌, length, take, refl, sym, ◌∙◌, ap, subst, arith, length-append, append_assoc}
 use Rattle.std.proofs.lemmas.List.{append-nil, take_all, take-append-le}
 use Rattle.dns_name.specs.Spelling.{Spelling}
 use Rattle.dns_name.specs.Page.{Page, Parts, with_octets, with_name, write}
@@ -12,9 +11,9 @@ use Rattle.dns_spelling.proofs.ReadParts.{written_read, written_sound}
 use Rattle.dns_header.specs.Head.{fixed_octets}
 use Rattle.dns_header.specs.Written.{Written, parts_of, data_length}
 use Rattle.dns_builder.specs.Built.{Built, Draft, IsDraftOf, header_octets, counts_octets, built_page, write_all}
-use Rattle.dns_builder.specs.Steps.{with_item, with_header, going_to, sections_to, onto_last}
+use Rattle.dns_builder.specs.Steps.{with_item, with_header, going_to, sections_to}
 use Rattle.dns_builder.specs.ReadBack.{SpellsItems, SpellsSections, ReadsBack, AreReadableAfter, IsReadable}
-use Rattle.dns_builder.proofs.Grown.{IsGrown, write_grows, all_grows}
+use Rattle.dns_builder.proofs.Grown.{IsGrown, all_grows}
 use Rattle.dns_builder.proofs.SameBehind.{SameBehind, same_length, same_octets, same_name, same_write, same_none}
 use Rattle.dns_builder.proofs.Sections.{items_of, write_all-append, items_onto}
 

@@ -2,7 +2,7 @@ use Rattle.std.proofs.Common.{◌≡◌, ◌+◌, ◌∙◌, ℕ, true, List, le
 use Rattle.dns_octets.specs.Builder.{Known, before}
 use Rattle.dns_name.specs.Remembered.{is_free, patched}
 use Rattle.dns_name.proofs.Known.{before_all}
-use Rattle.dns_builder.proofs.MovedDown.{moved_some, moved-more, moved-long, moved-all, moved-none, chunk-long}
+use Rattle.dns_builder.proofs.MovedDown.{moved_some, moved-more, moved-long, chunk-long}
 use Rattle.dns_builder.proofs.OptPages.{free_behind}
 use Rattle.dns_builder.proofs.opt.move_down.move_down.Goals as goal
 
