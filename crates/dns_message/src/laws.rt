@@ -18,6 +18,10 @@ ghost use Rattle.dns_message.specs.Answer.{answer_fields, answer_counts};
 ghost use Rattle.dns_message.specs.Held.{TakesRecord, record_of, written_parts_of};
 ghost use Rattle.dns_message.specs.Record.{Record, IsRecord, IsWritten, ReadsPlainRecord, ReadsRecord, record_octets};
 
+pub use dns_builder::laws::{
+    built_messages_are_read_back, other_headers_are_readable, other_sections_are_readable,
+    pushed_items_are_readable, taken_records_are_readable,
+};
 pub use dns_header::laws::{
     counts_are_four_numbers, header_is_its_fields, options_are_cut_from_their_octets,
     question_orders_by_name_type_class, question_skip_stops_where_parse_stops,

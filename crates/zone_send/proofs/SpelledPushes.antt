@@ -52,13 +52,13 @@ refused_large {s} {query} {item} {max} {group} r {draft} w error holds is refuse
         → max < spelled_size s query item (push group r)
     by_error ShortBuf refused other = omega (arith, past draft.bound 65535 _ holds.bound refused, more, holds.small)
     by_error BadLength refused other = omega (arith, refused, data_shorter s draft.page w, more, holds.small)
-    by_error LimitExceeded refused other = omega (arith, refused, holds.limit, more)
+    by_error LimitExceeded refused other = omega (arith, refused.long, holds.limit, more)
     by_error CountOverflow refused other =
-        let full : counted_at 1 draft ≡ 65535 = refused.1 in
+        let full : counted_at 1 draft ≡ 65535 = refused.full in
         let counted : counted_at 1 draft ≡ length (map item group) = counted_is 1 holds.built (omega arith) in
         absurd (omega (
           arith,
-          refused.0,
+          refused.short,
           full,
           counted,
           length-items item group,
@@ -72,7 +72,8 @@ refused_large {s} {query} {item} {max} {group} r {draft} w error holds is refuse
 -- a record that is taken is the last of the group
 taken_on : {s : Spelling} {query : AxfrQuery} {item : Record → Parts} {max : ℕ} {group : List Record} (r : Record) {old new : Draft}
     (w : Written) → HoldsGroup s query item max group old → parts_of w ≡ item r
-    → IsDraftOf s (with_item (answer_built query (map item group)) (parts_of w)) new → IsTakenBy s 1 old (parts_of w) → KeepsLimits old new
+    → IsDraftOf s (with_item (answer_built query (map item group)) (parts_of w)) new → IsTakenBy s 1 old (parts_of w) (65535 < data_length s old.page w)
+    → KeepsLimits old new
     → IsPushed s query item max group r true new
 taken_on {s} {query} {item} {max} {group} r {old} {new} w holds is built taken limits = (
   record {
@@ -105,7 +106,7 @@ pub pushed : {A : Type 0} (s : Spelling) (query : AxfrQuery) (item : Record → 
     (old new : Draft) (placed : Bool) (result : Result A PushError)
     → IsItem item r → IsWritten r (parts_of w) → HoldsGroup s query item max group old
     → ((built : Built) → IsDraftOf s built old → OnOk result (IsDraftOf s (with_item built (parts_of w)) new))
-    → OnOk result (IsTakenBy s 1 old (parts_of w)) → OnErr result (new ≡ old)
+    → OnOk result (IsTakenBy s 1 old (parts_of w) (65535 < data_length s old.page w)) → OnErr result (new ≡ old)
     → IfErr result (IsRefusedBy s 1 old (parts_of w) (65535 < data_length s old.page w)) → KeepsLimits old new
     → OnTrue placed (IsOk result) → OnFalse placed (IsErrAnd result (λ error. error ≢ OutOfMemory))
     → IsPushed s query item max group r placed new
@@ -168,9 +169,9 @@ asked_large {s} {query} {max} {draft} item error begun refused other = by_error 
         → max < spelled_size s query item []
     by_error ShortBuf refused other = omega (arith, past draft.bound 65535 _ begun.bound refused, more, begun.small)
     by_error BadLength refused other = absurd refused
-    by_error LimitExceeded refused other = omega (arith, refused, begun.limit, more)
+    by_error LimitExceeded refused other = omega (arith, refused.long, begun.limit, more)
     by_error CountOverflow refused other =
-        let full : counted_at 0 draft ≡ 65535 = refused.1 in
+        let full : counted_at 0 draft ≡ 65535 = refused.full in
         let counted : counted_at 0 draft ≡ 0 = counted_is 0 begun.built (omega arith) in
         absurd (omega (arith, full, counted))
     by_error OutOfMemory refused other = absurd (other refl)
@@ -210,7 +211,7 @@ asked {s = s} {query = query} {answers = answers} item q true (Ok x) begun is bu
 pub pushed_by : {A E : Type 0} (s : Spelling) (r : Record) (w : Written) (old new : Draft) (result : Result A PushError) (answer : Result Bool E)
     → IsWritten r (parts_of w)
     → ((built : Built) → IsDraftOf s built old → OnOk result (IsDraftOf s (with_item built (parts_of w)) new))
-    → OnOk result (IsTakenBy s 1 old (parts_of w)) → OnErr result (new ≡ old)
+    → OnOk result (IsTakenBy s 1 old (parts_of w) (65535 < data_length s old.page w)) → OnErr result (new ≡ old)
     → IfErr result (IsRefusedBy s 1 old (parts_of w) (65535 < data_length s old.page w)) → KeepsLimits old new
     → IfOk answer (λ taken. OnTrue taken (IsOk result))
     → IfOk answer (λ taken. OnFalse taken (IsErrAnd result (λ error. error ≢ OutOfMemory)))
