@@ -12,8 +12,10 @@ run: | toolchain
 	@echo; echo "'zonewire $$(paste -sd' ' $(ZONE)/args)' reads this zone:"; echo; cat $(ZONE)/stdin
 	@echo; echo "and writes these octets:"; echo; od -An -v -tx1 build/run.out
 
-# Every test without a proof: test functions, rows, the stored run of the program. JOBS=N runs so many crates at once, CRATES="a b" these alone.
+# Every test without a proof: test functions, rows, the stored run of the program; and first that docs/crates.svg is the picture of
+# crates.txt. JOBS=N runs so many crates at once, CRATES="a b" these alone.
 test: | toolchain
+	@python3 tools/crates_picture.py --check
 	@python3 tools/test.py $(if $(JOBS),--jobs $(JOBS)) $(if $(CRATES),--only $(CRATES))
 
 # The gate: every proof from nothing, the must-fail edits, the tests, the programs as two compilers build them.
@@ -23,6 +25,10 @@ prove: | toolchain
 # Each single change of the must-fail edits by itself, where the gate tries one file of a crate at once. JOBS and CRATES as for `test`.
 edits: | toolchain
 	@python3 tools/edits.py $(if $(JOBS),--jobs $(JOBS)) $(CRATES)
+
+# The picture of the crates, docs/crates.svg, from crates.txt.
+picture:
+	@python3 tools/crates_picture.py
 
 # The proved program, at build/zonewire.
 build: build/zonewire
@@ -43,4 +49,4 @@ rows:
 toolchain:
 	@command -v rt > /dev/null || { echo "The Rattle toolchain is missing: no command 'rt' is on the PATH." >&2; exit 1; }
 
-.PHONY: run test prove edits build bench rows toolchain
+.PHONY: run test prove edits picture build bench rows toolchain

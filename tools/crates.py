@@ -1,5 +1,6 @@
 """What crates.txt says of the crates of this repository, and how many processors there are. The other tools import it."""
 import os
+from dataclasses import dataclass, field
 from pathlib import Path
 
 ROOT = Path(__file__).resolve().parent.parent
@@ -12,6 +13,30 @@ def needs_of():
     rows = [it.partition(":") for it in (ROOT / "crates.txt").read_text().split("\n") if it and it[0] != "#"]
     every = {name for name, _, _ in rows}
     return {name: [it for it in words.split() if it in every] for name, _, words in rows}
+
+
+@dataclass
+class Layer:
+    """A layer of crates.txt: the title and the rest of the comment above its first crate, and the names of its crates."""
+
+    title: str
+    about: str
+    names: list = field(default_factory=list)
+
+
+def layers_of():
+    """The layers of crates.txt, in its order. A comment directly above a line of a crate begins one."""
+    found, above = [], ""
+    for line in (ROOT / "crates.txt").read_text().split("\n"):
+        if line and line[0] != "#":
+            if above.startswith("#"):
+                title, _, about = above.lstrip("# ").partition(":")
+                found.append(Layer(title.strip(), about.strip()))
+            elif not found:
+                raise ValueError(f"crates.txt: no comment with the name of a layer is above {line.partition(':')[0]}")
+            found[-1].names.append(line.partition(":")[0])
+        above = line
+    return found
 
 
 def lower(name, needs):
