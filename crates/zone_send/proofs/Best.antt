@@ -23,14 +23,16 @@ use Rattle.zone_text.specs.View.{apex_of}
 use Rattle.zone_send.specs.SentBy.{IsSentBy, IsBlockedBy, IsRefusedFor}
 use Rattle.zone_send.specs.Spelled.{answer_head, spelled_size}
 use Rattle.zone_send.specs.SpelledSent.{IsSpelledSent, IsTakenAs, spelled_message}
-use Rattle.zone_send.specs.Best.{IsFewest, IsSpelledFewest, IsFewestBy, HasNoSpelledCutting, HasNoCuttingBy, FitsNoMessages, IfRecord, IsShortest, IsBest, IsBestBy, IsNearTransfer, IsSentFor, IsTransferBy}
+use Rattle.zone_send.specs.Best.{IsFewest, IsSpelledFewest, IsFewestBy, HasNoCuttingBy, FitsNoMessages, IfRecord, IsShortest, IsBest, IsBestBy, IsNearTransfer, IsSentFor, IsTransferBy}
 use Rattle.zone_send.specs.declared.sending.Spelling.{Spelling}
 use Rattle.zone_send.specs.declared.sending.Spelling.TheVariants.{Plain, Static, Tree, Hash}
 use Rattle.zone_send.specs.declared.sending.error.SendError.{SendError}
 use Rattle.zone_send.specs.declared.sending.error.SendError.TheVariants as send_error
+use Rattle.zone_send.proofs.CanonicalTransfers.{kept_canonical}
 use Rattle.zone_send.proofs.Plain.{size_grows}
 use Rattle.zone_send.proofs.SendFaults.{query_for}
-use Rattle.zone_send.proofs.SentTransfers.{each_sendable, plain_small, sent_is_transfer}
+use Rattle.zone_send.proofs.SentOnce.{same_again}
+use Rattle.zone_send.proofs.SentTransfers.{plain_small, sendable_zone, sent_is_transfer}
 use Rattle.zone_send.proofs.SpelledAnswers.{framable_spelled}
 use Rattle.zone_send.proofs.SpelledCuts.{tree_parts_fit, hash_parts_fit, free_takes, free_no_fewer}
 use Rattle.zone_send.proofs.SpelledSums.{written_names}
@@ -43,7 +45,7 @@ near_transfer : (s : names.Spelling) (class : ℕ) (query : AxfrQuery) (records 
     → max < 2 ^ 16 → AreRecordsOf class records → IsQueryFor records class query → IsSpelledSent s records query max stream
     → IsNearTransfer query stream records
 near_transfer s class query records max stream folds fits are asks sent =
-    let t = spelled_taken s records class query max stream fits (record { each = each_sendable class records are.each; zone = are.zone }) asks sent in
+    let t = spelled_taken s records class query max stream fits (sendable_zone class records are) asks sent in
     record {
       others = t.0;
       transfer = t.1;
@@ -56,7 +58,7 @@ transfer_by : (spelling : Spelling) (class : ℕ) (query : AxfrQuery) (records :
 transfer_by Plain class query records max stream fits are asks sent = sent_is_transfer records class query max stream fits are asks sent
 transfer_by Static class query records max stream fits are asks sent = near_transfer static_spelling class query records max stream refl fits are asks sent
 transfer_by Tree class query records max stream fits are asks sent =
-    spelled_exact tree_spelling records class query max stream refl fits (record { each = each_sendable class records are.each; zone = are.zone }) asks sent
+    spelled_exact tree_spelling records class query max stream refl fits (sendable_zone class records are) asks sent
 transfer_by Hash class query records max stream fits are asks sent = near_transfer hash_spelling class query records max stream refl fits are asks sent
 
 -- ---- fewest messages
@@ -207,15 +209,21 @@ best_by Hash query records max stream sent = tt
 sent_zone : (spelling : Spelling) (class : ℕ) (query : AxfrQuery) (records : List Record) (octets : List ℕ) (max : ℕ) (stream : List ℕ)
     → max < 2 ^ 16 → query.id < 2 ^ 16 → IsQuery octets query → AsksFor query (apex_of records) class → AreRecordsOf class records
     → IsSentBy spelling records query max stream → IsSentFor spelling records class octets max stream
-sent_zone spelling class query records octets max stream fits small is asks are sent = record {
-  query = query;
-  is = is;
-  asks = asks;
-  sent = sent;
-  transfer = transfer_by spelling class query records max stream fits are (query_for query class records octets is small asks are) sent;
-  fewest = fewest_by spelling class query records max stream fits are is.question.name.is_name sent;
-  best = best_by spelling query records max stream sent;
-}
+sent_zone spelling class query records octets max stream fits small is asks are sent =
+    let sendable = sendable_zone class records are in
+    let is_for = query_for query class records octets is small asks are in
+    record {
+      query = query;
+      is = is;
+      asks = asks;
+      sent = sent;
+      transfer = transfer_by spelling class query records max stream fits are is_for sent;
+      fewest = fewest_by spelling class query records max stream fits are is.question.name.is_name sent;
+      best = best_by spelling query records max stream sent;
+      again = λ keeps others other received next.
+          same_again spelling records others class query max stream other keeps fits sendable is_for sent received next;
+      canonical = λ others form received. kept_canonical spelling records others class query max stream form fits sendable is_for sent received;
+    }
 
 pub sent_for : (spelling : Spelling) (class : ℕ) (query : AxfrQuery) (held records : List Record) (octets : List ℕ) (max : ℕ) (stream : List ℕ)
     → max < 2 ^ 16 → query.id < 2 ^ 16 → IsQuery octets query → AsksFor query (apex_of records) class → AreRecordsOf class records

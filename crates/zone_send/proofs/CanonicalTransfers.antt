@@ -1,20 +1,20 @@
 -- Records that differ in case alone have the same canonical form.
-use Rattle.std.proofs.Common.{◌≡◌, ℕ, ◌<◌, ◌^◌, Bool, true, false, List, [], ◌∷◌, ◌++◌, refl, sym, ap, ◌∙◌, subst}
+use Rattle.std.proofs.Common.{◌≡◌, ℕ, ◌<◌, ◌^◌, true, List, [], ◌∷◌, ◌++◌, refl, sym, ap, subst}
 use Rattle.std.specs.List.{AllByRecursion, AllZip}
 use Rattle.dns_label.specs.Name.{low}
 use Rattle.dns_name.specs.Spelling.{static_spelling, tree_spelling, hash_spelling}
-use Rattle.dns_rdata.specs.Fields.{Field, compressible, uncompressed, number8, number16, number32, ipv4, ipv6, string, strings, tag, rest_text, rest16, rest64, field_octets, octets, lowered, canonical_octets, IsData, IsRow}
+use Rattle.dns_rdata.specs.Fields.{Field, compressible, uncompressed, number8, number16, number32, ipv4, ipv6, string, strings, tag, rest_text, rest16, rest64, field_octets, octets, lowered, canonical_octets, IsData}
 use Rattle.dns_rdata.specs.Fields.IsData.{typed as typed_data, opaque as opaque_data}
-use Rattle.zone_canonical.specs.Canonical.{IsCanonical, IsCanonicalOf, IsCanonicalData, typed, opaque, HasCanonicalForm, AreAlike}
+use Rattle.zone_canonical.specs.Canonical.{IsCanonical, IsCanonicalData, typed, opaque, HasCanonicalForm, AreAlike}
 use Rattle.zone_canonical.proofs.Alike.{alike_same}
 use Rattle.zone_octets.specs.Record.{Record}
 use Rattle.zone_octets.specs.Records.{AreSendable, IsSendable}
 use Rattle.zone_core.specs.Query.{AxfrQuery}
 use Rattle.zone_core.specs.Transfer.{IsTransfer}
 use Rattle.zone_core.proofs.OneTransfer.{transfer_one}
-use Rattle.zone_send.specs.Sent.{IsQueryFor, IsSent}
+use Rattle.zone_send.specs.Sent.{IsQueryFor}
 use Rattle.zone_send.specs.SentBy.{IsSentBy}
-use Rattle.zone_send.specs.SpelledSent.{IsSpelledSent, IsNear, IsNearData, IsNearField, IsTakenAs}
+use Rattle.zone_send.specs.SpelledSent.{IsNear, IsNearData, IsNearField, IsTakenAs}
 use Rattle.zone_send.specs.SpelledSent.IsNearData.{same as same_data, fields as near_fields}
 use Rattle.zone_send.specs.declared.sending.Spelling.{Spelling}
 use Rattle.zone_send.specs.declared.sending.Spelling.TheVariants.{Plain, Static, Tree, Hash}

@@ -1,9 +1,5 @@
 -- What a stream and a refusal say of a zone and a query.
-use Rattle.std.proofs.Common.{◌≡◌, ℕ, ◌<◌, ◌^◌, Bool, List, [], ◌∷◌, get_or, refl, subst, ap, sym, ◌∙◌, arith}
-use Rattle.std.specs.Prelude.{IsTrue, nat_eq}
-use Rattle.std.specs.Cmp.Lexicographic.{pointwise}
-use lib.Pointwise.{pointwise_decides, bytes_decides}
-use Rattle.dns_label.specs.Name.{low}
+use Rattle.std.proofs.Common.{◌≡◌, ℕ, ◌<◌, ◌^◌, List, [], ◌∷◌, get_or, subst, arith}
 use Rattle.dns_header.specs.Header.{id_of}
 use Rattle.zone_octets.specs.Record.{Record}
 use Rattle.zone_send.specs.declared.sending.error.SendError.{SendError}
@@ -14,7 +10,7 @@ use Rattle.zone_octets.specs.Records.{AreRecordsOf, IsRecordOf}
 use Rattle.zone_octets.specs.Typed.{HasLawfulData}
 use Rattle.zone_core.specs.Cutting.{IsBlocked}
 use Rattle.zone_send.specs.Sent.{size, with_soa_again, IsQueryFor, AsksFor, IsSent}
-use Rattle.zone_send.specs.SentBy.{IsSentBy, IsBlockedBy, IsSendFault, IsRefusedFor}
+use Rattle.zone_send.specs.SentBy.{IsBlockedBy, IsSendFault, IsRefusedFor}
 use Rattle.zone_send.specs.Sending.{IsRefusedBy}
 use Rattle.zone_send.specs.SpelledSent.{IsSpelledBlocked}
 use Rattle.zone_send.specs.SpelledSending.{IsRefusedSpelled}
@@ -29,7 +25,7 @@ fault_of : (spelling : Spelling) (query : AxfrQuery) (class : ℕ) (records : Li
 fault_of spelling query class records octets max (send_error.Query fault) is asks refused = absurd refused
 fault_of spelling query class records octets max send_error.WrongZone is asks refused = absurd refused
 fault_of spelling query class records octets max (send_error.Record n) is asks refused = (query, is, asks, refused)
-fault_of spelling query class records octets max send_error.OutOfMemory is asks refused = tt
+fault_of spelling query class records octets max send_error.OutOfMemory is asks refused = (query, is, asks)
 
 pub fault_for : (spelling : Spelling) (query : AxfrQuery) (class : ℕ) (held records : List Record) (octets : List ℕ) (max : ℕ) (error : SendError)
     → IsQuery octets query → AsksFor query (apex_of records) class → held ≡ records → IsRefusedFor spelling held query max error
@@ -90,13 +86,3 @@ id_small (a ∷ (b ∷ octets)) each =
     let high : a < 256 = each 0 in
     let low_octet : b < 256 = each 1 in
     omega arith
-
--- the query asks for the zone where its class is the zone's and the names are found equal
-pub names_asked : (query : AxfrQuery) (apex : List (List ℕ)) (class : ℕ) (name other : List (List ℕ)) (result : Bool) → name ≡ query.name
-    → other ≡ apex → query.class ≡ class → result ≡ pointwise (pointwise nat_eq) (low name) (low other)
-    → (IsTrue result → AsksFor query apex class) × (AsksFor query apex class → IsTrue result)
-names_asked query apex class name other result name_is apex_is class_is is =
-    let decides = pointwise_decides {E = pointwise nat_eq} bytes_decides (low name) (low other) in (
-      λ yes. record { name = ap low (sym name_is) ∙ decides.0 (sym is ∙ yes) ∙ ap low apex_is; class_is = class_is },
-      λ asks. is ∙ decides.1 (ap low name_is ∙ asks.name ∙ ap low (sym apex_is)),
-    )

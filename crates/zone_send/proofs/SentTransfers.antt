@@ -98,10 +98,13 @@ each_sendable class (r ∷ records) each = (
   each_sendable class records each.1,
 )
 
+pub sendable_zone : (class : ℕ) (records : List Record) → AreRecordsOf class records → AreSendable class records
+sendable_zone class records are = record { each = each_sendable class records are.each; zone = are.zone }
+
 pub sent_is_transfer : (records : List Record) (class : ℕ) (query : AxfrQuery) (max : ℕ) (stream : List ℕ) → max < 2 ^ 16
     → AreRecordsOf class records → IsQueryFor records class query → IsSent records query max stream → IsExactTransfer query stream records
 sent_is_transfer records class query max stream fits are asks sent =
-    sendable_is_transfer records class query max stream fits (record { each = each_sendable class records are.each; zone = are.zone }) asks sent
+    sendable_is_transfer records class query max stream fits (sendable_zone class records are) asks sent
 
 -- What is sent and then received as a transfer of records is what is sent for these.
 pub received_is_sent_again : (records others : List Record) (class : ℕ) (query : AxfrQuery) (max : ℕ) (stream : List ℕ) → max < 2 ^ 16

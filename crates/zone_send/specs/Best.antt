@@ -1,6 +1,6 @@
 -- How good a stream is that is sent: no division of the records into messages has fewer, and no freely compressed messages
 -- are fewer or shorter (RFC 5936 2.2, RFC 1035 4.1.4).
-use Rattle.std.specs.Prelude.{◌≡◌, ◌≤◌, ℕ, List, length, ⊤}
+use Rattle.std.specs.Prelude.{◌≡◌, ◌≤◌, ◌↔◌, ℕ, List, length, ⊤}
 use Rattle.std.specs.List.{AllByRecursion, AllZip}
 use Rattle.dns_name.specs.Page.{Parts}
 use Rattle.dns_name.specs.Spelling.{tree_spelling, hash_spelling}
@@ -8,6 +8,7 @@ use Rattle.dns_name.specs.Spelling as names
 use Rattle.dns_message.specs.Record.{IsWritten}
 use Rattle.dns_size.specs.Free.{IsFree}
 use Rattle.dns_size.specs.Groups.{group_parts}
+use Rattle.zone_canonical.specs.Canonical.{IsCanonical}
 use Rattle.zone_octets.specs.Record.{Record}
 use Rattle.zone_core.specs.Query.{AxfrQuery, IsQuery}
 use Rattle.zone_core.specs.Frames.{frames, IsFramable}
@@ -15,7 +16,7 @@ use Rattle.zone_core.specs.Cutting.{IsCutting, Fits}
 use Rattle.zone_core.specs.Transfer.{IsTransfer, IsExactTransfer}
 use Rattle.zone_text.specs.View.{apex_of}
 use Rattle.zone_send.specs.Sent.{size, with_soa_again, AsksFor}
-use Rattle.zone_send.specs.SentBy.{IsSentBy}
+use Rattle.zone_send.specs.SentBy.{IsSentBy, KeepsCase}
 use Rattle.zone_send.specs.Spelled.{answer_head, spelled_size, IsFreeAnswer, SpellGroups}
 use Rattle.zone_send.specs.SpelledSent.{IsNear}
 use Rattle.zone_send.specs.declared.sending.Spelling.{Spelling}
@@ -108,8 +109,19 @@ IsBestBy Static records query max stream = ⊤
 IsBestBy Tree records query max stream = max ≤ 16384 → IsBest records query max stream
 IsBestBy Hash records query max stream = ⊤
 
+-- Whatever is sent for the records that are received of the stream, names written so, is the stream again.
+abbrev pub IsSentAgain : Spelling → AxfrQuery → ℕ → List ℕ → Type 0
+IsSentAgain spelling query max stream =
+    (others : List Record) (again : List ℕ) → IsTransfer query stream others → IsSentBy spelling others query max again → again ≡ stream
+
+-- The records that are received of the stream have the canonical octets of these (RFC 4034 6).
+abbrev pub KeepsCanonical : AxfrQuery → List Record → List ℕ → Type 0
+KeepsCanonical query records stream =
+    (others : List Record) (octets : List ℕ) → IsTransfer query stream others → IsCanonical records octets ↔ IsCanonical others octets
+
 -- What is sent for a zone in answer to the octets of a query, which asks for it: a reader takes the zone's records from the
 -- stream, no stream of these has fewer messages, and where suffixes are remembered octet for octet each message is a shortest one.
+-- What is received has the zone's canonical octets, and is sent again as the same stream where names keep their case.
 pub record IsSentFor (spelling : Spelling) (records : List Record) (class : ℕ) (octets : List ℕ) (max : ℕ) (stream : List ℕ) : Type 0 where
   pub query : AxfrQuery
   pub is : IsQuery octets query
@@ -118,6 +130,8 @@ pub record IsSentFor (spelling : Spelling) (records : List Record) (class : ℕ)
   pub transfer : IsTransferBy spelling query stream records
   pub fewest : IsFewestBy spelling records query max stream
   pub best : IsBestBy spelling records query max stream
+  pub again : KeepsCase spelling → IsSentAgain spelling query max stream
+  pub canonical : KeepsCanonical query records stream
 
 -- The octets are a query, and no messages of at most so many octets that answer it hold the records.
 pub record FitsNoMessages (spelling : Spelling) (records : List Record) (octets : List ℕ) (max : ℕ) : Type 0 where

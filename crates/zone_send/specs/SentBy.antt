@@ -33,14 +33,15 @@ IsBlockedBy Tree records query max n = IsSpelledBlocked tree_spelling records qu
 IsBlockedBy Hash records query max n = IsSpelledBlocked hash_spelling records query max n
 
 -- Why nothing is sent, by the first rule in the order of the variants: the query breaks a rule, it asks for another zone,
--- or a record is blocked. (Nothing is said of memory.)
+-- or a record is blocked. Memory runs out only for a query that asks for the zone.
 abbrev pub IsSendFault : Spelling → List Record → List (List ℕ) → ℕ → List ℕ → ℕ → SendError → Type 0
 IsSendFault spelling records apex class octets max (send_error.Query fault) = IsQueryFault octets fault
 IsSendFault spelling records apex class octets max send_error.WrongZone =
     (query : AxfrQuery) × IsQuery octets query × (AsksFor query apex class → ⊥)
 IsSendFault spelling records apex class octets max (send_error.Record n) =
     (query : AxfrQuery) × IsQuery octets query × AsksFor query apex class × IsBlockedBy spelling records query max n
-IsSendFault spelling records apex class octets max send_error.OutOfMemory = Unit {0}
+IsSendFault spelling records apex class octets max send_error.OutOfMemory =
+    (query : AxfrQuery) × IsQuery octets query × AsksFor query apex class
 
 -- why a stream for a query that asks for the zone does not grow to its end
 abbrev pub IsRefusedFor : Spelling → List Record → AxfrQuery → ℕ → SendError → Type 0

@@ -43,7 +43,7 @@ pub enum Spelling {
 /// most `max` octets, each behind its length in two octets (RFC 5936 2.2).
 ///
 /// Each message has the query's id, QR, AA and the query's RD, the query's question, and as many of the next records as
-/// have room. Refused by the first rule of `SendError` that is broken, and then nothing is given.
+/// have room. Fails with the first rule of `SendError` that is broken, and with `OutOfMemory` only if the query asks for the zone.
 pub fn send(
     alloc: Global,
     zone: &Zone,
@@ -63,7 +63,7 @@ pub fn send(
 /// The stream that `send` gives (RFC 5936 2.2), in the place of the octets that a vector holds, which are no longer needed: so a
 /// zone may be sent in the memory that its text had.
 ///
-/// Refused as `send` is; the vector is let go of then.
+/// Fails as `send` does; the vector is let go of then.
 pub fn send_into(
     alloc: Global,
     spare: Vec<u8>,
@@ -82,19 +82,18 @@ pub fn send_into(
         Ok(query) => query,
         Err(fault) => return Err(SendError::Query(fault)),
     };
-    let name = query.name().to_vec(alloc)?;
-    if !asks_for(&query, &name, zone) {
+    if !asks_for(&query, zone) {
         return Err(SendError::WrongZone);
     }
+    let name = query.name().to_vec(alloc)?;
     send_by(alloc, spare, &query, &name, records_of(zone), max, spelling)
 }
 
-/// Whether a query, whose name this is, asks for the zone.
-fn asks_for(query: &Query<'_>, name: &Name<Vec<u8>>, zone: &Zone) -> bool
-    requires { name.now ≡ (asked_by query.now).name }
+/// Whether a query asks for the zone.
+fn asks_for(query: &Query<'_>, zone: &Zone) -> bool
     ensures { IsTrue result ↔ AsksFor (asked_by query.now) (apex_of zone.now.records) zone.now.class }
 {
-    query.class() == zone.class() && name.for_ref() == zone.apex()
+    query.class() == zone.class() && query.name().name_eq(&zone.apex())
 }
 
 /// The stream of these records and the first of them again, in answer to a query of this name.

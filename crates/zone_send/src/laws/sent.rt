@@ -1,12 +1,21 @@
-//! What holds of a stream that is sent with every name written out.
+//! What holds of a stream that is sent with every name written out, and of zones and queries for which one can be sent.
 
 ghost use Rattle.std.specs.Prelude.{◌≡◌, ◌<◌, ◌≤◌, ◌^◌, ℕ, List, length};
 ghost use Rattle.zone_octets.specs.Record.{Record};
-ghost use Rattle.zone_octets.specs.Records.{AreSendable};
+ghost use Rattle.zone_octets.specs.Records.{AreOctets, AreRecordsOf, AreSendable};
 ghost use Rattle.zone_core.specs.Cutting.{Fits, IsFullCut, IsBlocked, Grows};
-ghost use Rattle.zone_core.specs.Query.{AxfrQuery};
+ghost use Rattle.zone_core.specs.Query.{AxfrQuery, IsQuery};
 ghost use Rattle.zone_core.specs.Transfer.{IsTransfer, IsExactTransfer};
-ghost use Rattle.zone_send.specs.Sent.{IsQueryFor, IsSent, size};
+ghost use Rattle.zone_send.specs.Sent.{AsksFor, IsQueryFor, IsSent, size};
+ghost use Rattle.zone_text.specs.View.{apex_of};
+
+/// The records that `Zone` holds are what the laws of sending ask for, and so is a query that `check_query` reads and whose name and
+/// class are the zone's.
+pub fn zones_can_be_sent()
+    ensures sendable { (class : ℕ) (records : List Record) → AreRecordsOf class records → AreSendable class records }
+    ensures asked { (query : AxfrQuery) (class : ℕ) (records : List Record) (octets : List ℕ) → AreOctets octets → IsQuery octets query →
+        AsksFor query (apex_of records) class → AreRecordsOf class records → IsQueryFor records class query }
+{}
 
 /// What is sent for a zone and a query that asks for it, with every name written out, is a transfer to that query, and of the
 /// very same records: their octets are those of the zone, names included, and so are those of the last SOA. No message has more

@@ -18,7 +18,7 @@ pub enum SendError {
     /// The record with this number, counted from 1 with the SOA again as the last, fits in no message.
     #[error("record {0} does not fit")]
     Record(usize),
-    /// A growth was refused.
+    /// Out of memory. The query asks for the zone.
     #[error("out of memory")]
     OutOfMemory,
 }

@@ -1,10 +1,13 @@
 use Rattle.std.proofs.Common.{◌<◌, ◌^◌, ◌∙◌, List, subst, sym, arith}
 use Rattle.std.specs.List.{AllByRecursion}
 use Rattle.std.proofs.lemmas.Result.{IfOk-weaker, MatchResult-weaker}
+use Rattle.dns_builder.proofs.Begun.{handed-on}
 use Rattle.zone_octets.specs.Record.{Record}
 use Rattle.zone_octets.specs.Typed.{HasLawfulData}
 use Rattle.zone_core.specs.Asked.{asked_by}
 use Rattle.zone_send.specs.Sent.{AsksFor}
+use Rattle.zone_send.specs.SentBy.{IsSendFault}
+use Rattle.zone_send.specs.declared.sending.error.SendError.TheVariants.{OutOfMemory}
 use Rattle.zone_text.specs.View.{apex_of}
 use Rattle.zone_send.proofs.SendFaults.{fault_for, id_small, all_lawful}
 use Rattle.zone_send.proofs.Best.{sent_for, none_for}
@@ -12,6 +15,14 @@ use Rattle.zone_send.proofs.sending.send_into.Goals as goal
 
 pub returns-then-not-asks_for-clause-err : goal.returns-then-not-asks_for-clause-err
 returns-then-not-asks_for-clause-err c = (asked_by c.in-Ok.query, c.in-Ok.ensures.ok, λ asks. let yes = c.if-not-asks_for.ensures.1 asks in absurd cc)
+
+pub returns-in_err-name-clause-err : goal.returns-in_err-name-clause-err
+returns-in_err-name-clause-err c =
+    let zone = c.args.zone.now in
+    let query = asked_by c.in-Ok.query in
+    let asks : AsksFor query (apex_of zone.records) zone.class = c.asks_for.ensures.0 c.if-not-asks_for.false in
+    handed-on c.from_residual.result OutOfMemory (IsSendFault c.args.spelling zone.records (apex_of zone.records) zone.class c.args.query.now c.args.max)
+    c.from_residual.ensures.1 (query, c.in-Ok.ensures.ok, asks)
 
 pub send_by-requires : goal.send_by-requires
 send_by-requires c = record {
