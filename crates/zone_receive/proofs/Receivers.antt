@@ -13,7 +13,7 @@ use Rattle.zone_receive.specs.declared.error.ReceiveError.TheVariants as receive
 use Rattle.zone_receive.specs.declared.intake.Intake.{Intake}
 use Rattle.zone_receive.specs.declared.receiver.Progress.{Progress}
 use Rattle.zone_receive.specs.declared.receiver.Progress.TheVariants as progress
-use Rattle.zone_receive.proofs.Intakes.{heard_is_begun, take_none}
+use Rattle.zone_receive.proofs.Intakes.{goes_none, heard_is_begun, take_none}
 
 -- where no last SOA has come
 pub stands_where : (first : Bool) (heard : Heard) (stream : List ℕ) → IsHeard heard stream → StandsIn (stage_where first) heard stream
@@ -119,6 +119,15 @@ feeds_all old at intake new query piece n view is all goes =
     → Takes (heard_in at intake query) stream piece (heard_in at new query) n in
     let Q : Heard → Type 0 = λ old. (stream : List ℕ) → StandsAt old stream → Takes old stream piece (heard_in at new query) n in
     subst Q view (subst P (sym is) (λ stream stands. takes_all intake new query stream piece n all goes stands))
+
+-- an empty piece
+pub feeds_empty : (old : Heard) (at : Progress) (intake : Intake) (query : AxfrQuery) (piece : List ℕ) → heard_in at intake query ≡ old
+    → at ≡ progress.Begun → piece ≡ [] → IsWaiting intake query → (stream : List ℕ) → StandsAt old stream → Takes old stream piece old 0
+feeds_empty old at intake query piece view is none waits stream stands =
+    let P : List ℕ → Type 0 = λ octets. GoesOn intake octets intake query in
+    let Q : Heard → Type 0 = λ heard. Takes old stream piece heard 0 in
+    let goes = subst P (take_none piece ∙ sym none) (goes_none intake query piece waits.known) in
+    subst Q view (feeds_all old at intake intake query piece 0 view is (sym (ap (length {A = ℕ}) none)) goes stream stands)
 
 pub feeds_end : (old : Heard) (at : Progress) (intake new : Intake) (query : AxfrQuery) (piece : List ℕ) (n : ℕ) → heard_in at intake query ≡ old
     → at ≡ progress.Begun → n ≤ length piece → EndsTransfer intake (take n piece) new query

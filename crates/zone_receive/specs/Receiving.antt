@@ -7,7 +7,7 @@ use Rattle.dns_header.specs.Header.{is_response, opcode_of, rcode_of, answer_cou
 use Rattle.zone_octets.specs.Record.{Record}
 use Rattle.dns_rdata.specs.DataOctets.{IsSpellable}
 use Rattle.zone_octets.specs.Zone.{IsUnder, soa_type}
-use Rattle.zone_core.specs.Query.{AxfrQuery, IsQueryFault}
+use Rattle.zone_core.specs.Query.{AxfrQuery, IsQuery, IsQueryFault}
 use Rattle.zone_core.specs.Frames.{frame, frames, IsFramable, Splits}
 use Rattle.zone_core.specs.Cutting.{joined}
 use Rattle.dns_message.specs.Record.{ReadsRecord}
@@ -213,10 +213,10 @@ pub record Refuses (old : Heard) (stream piece : List ℕ) (new : Heard) (error 
   pub kept : new.stage ≡ Refused error
   pub why : ((old.stage ≡ Refused error) × (new ≡ old)) ⊎ ((refusal_in old.stage ≡ None) × IsStreamFault old.query (stream ++ piece) error)
 
--- Why there is no receiver: the query breaks a rule. (Nothing is said of memory.)
+-- Why there is no receiver: the query breaks a rule, or memory runs out for one that breaks none.
 abbrev pub IsAskFault : List ℕ → ReceiveError → Type 0
 IsAskFault message (receive_error.Query fault) = IsQueryFault message fault
-IsAskFault message receive_error.OutOfMemory = ⊤
+IsAskFault message receive_error.OutOfMemory = (query : AxfrQuery) × IsQuery message query
 IsAskFault message receive_error.Short = ⊥
 IsAskFault message receive_error.Id = ⊥
 IsAskFault message receive_error.NotResponse = ⊥

@@ -53,7 +53,7 @@ impl Model for Receiver {
 impl Receiver {
     /// A receiver for the answers to a query, to which no octet has come.
     ///
-    /// Refused where the query breaks a rule, by the first one, and where there is no memory for the query's name.
+    /// Fails with the first rule that the query breaks, or with `OutOfMemory` if it breaks none and its name gets no memory.
     pub fn new(alloc: Global, query: &[u8]) -> Result<Receiver, ReceiveError>
         ensures ok { IfOk result (λ receiver. IsQuery query.now receiver.query) }
         ensures stands { IfOk result (λ receiver. (receiver.stage ≡ Fresh) × StandsAt receiver []) }
@@ -70,10 +70,11 @@ impl Receiver {
         })
     }
 
-    /// Takes the next piece of the stream, and answers how many octets of it were taken: all of them, or those up to the
+    /// Takes the next piece of the stream, and returns how many octets of it were taken: all of them, or those up to the
     /// end of the transfer; none once it has ended.
     ///
-    /// Refused by the first rule that the first bad message breaks, and then this refusal is the answer from then on.
+    /// Fails with the first rule that the first bad message breaks, or with `OutOfMemory`, and then with the same error at
+    /// every later call. An empty piece changes nothing, and fails only with an error that came before.
     pub fn feed(&mut self, piece: &[u8]) -> Result<usize, ReceiveError>
         ensures takes { (stream : List ℕ) → StandsAt self.old stream →
             MatchResult result (Takes self.old stream piece.now self.new) (Refuses self.old stream piece.now self.new) }
@@ -82,12 +83,16 @@ impl Receiver {
         ensures kept { (error : ReceiveError) → self.old.stage ≡ Refused error → (result ≡ Err error) × (self.new ≡ self.old) }
         ensures ended { self.old.stage ≡ Ended → (result ≡ Ok 0) × (self.new ≡ self.old) }
 
+        // An empty piece changes nothing, and is refused only where a refusal is kept.
+        ensures empty { piece.now ≡ [] → refusal_in self.old.stage ≡ None → (result ≡ Ok 0) × (self.new ≡ self.old) }
+
         // What is open of a frame is no longer than a frame can be.
         ensures bounded { length self.new.open_frame ≤ 65537 }
     {
         match self.progress {
             Progress::Done => Ok(0),
             Progress::Refused(error) => Err(error),
+            Progress::Begun if piece.is_empty() => Ok(0),
             Progress::Begun => match self.intake.take(&self.query, piece) {
                 Ok(None) => Ok(piece.len()),
                 Ok(Some(count)) => {

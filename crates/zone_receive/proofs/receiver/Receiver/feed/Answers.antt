@@ -1,9 +1,11 @@
 use Rattle.std.proofs.Common.{refl, sym, subst}
+use Rattle.std.proofs.lemmas.List.{nil_from_length}
 use Rattle.zone_core.specs.Asked.{asked_of}
+use Rattle.zone_core.proofs.Flags.{none_of}
 use Rattle.zone_receive.specs.Received.{IsAt}
 use Rattle.zone_receive.specs.declared.receiver.Progress.{Progress}
 use Rattle.zone_receive.proofs.Intakes.{goes_waits}
-use Rattle.zone_receive.proofs.Receivers.{ends_ended, feeds_again, feeds_all, feeds_bad, feeds_end, feeds_none}
+use Rattle.zone_receive.proofs.Receivers.{ends_ended, feeds_again, feeds_all, feeds_bad, feeds_empty, feeds_end, feeds_none}
 use Rattle.zone_receive.proofs.receiver.Receiver.feed.Goals as goal
 
 pub invariant_of-self : goal.invariant_of-self
@@ -26,6 +28,12 @@ returns-in-Done-clause-takes c =
 pub returns-in-Refused-clause-takes : goal.returns-in-Refused-clause-takes
 returns-in-Refused-clause-takes c =
     feeds_again _ c.self.inside.progress c.self.inside.intake (asked_of c.self.inside.query) c.args.piece.now c.in-Refused.error c.self.view_is c.in-Refused.is
+
+pub returns-in-Begun-clause-takes : goal.returns-in-Begun-clause-takes
+returns-in-Begun-clause-takes c =
+    let waits = rw c.in-Begun.is at c.self.invariant.is_at in
+    let none = nil_from_length c.args.piece.now (none_of _ _ c.is_empty.ensures c.if-is_empty.true) in
+    feeds_empty _ c.self.inside.progress c.self.inside.intake (asked_of c.self.inside.query) c.args.piece.now c.self.view_is c.in-Begun.is none waits
 
 pub returns-in-Ok-None-clause-takes : goal.returns-in-Ok-None-clause-takes
 returns-in-Ok-None-clause-takes c =
