@@ -8,50 +8,50 @@ mod unasked;
 use std::alloc::AllocError;
 use std::process::ExitCode;
 use unasked::Unasked;
-use zonewire::{Job, StdSink, StdSource, WordsFault, job, run};
+use zonewire::{Ending, StdSink, StdSource, WordsFault, program};
 
 fn main(rt: HostRuntime) -> ExitCode {
-    match asked(&rt) {
-        Ok(job) => perform(&rt, job),
-        Err(fault) => {
-            refuse(&rt, fault);
-            ExitCode::from(2)
+    let ending = match words_given(&rt) {
+        Ok(words) => perform(&rt, words.as_slice()),
+        Err(Unasked::OutOfMemory) => Ending::Refused(WordsFault::OutOfMemory),
+        Err(Unasked::NotText) => {
+            let _ = eprintln!(rt; "zonewire: a word is not UTF-8");
+            return ExitCode::from(2);
+        }
+    };
+    report(&rt, &ending);
+    ExitCode::from(ending.status())
+}
+
+/// Returns the words of the command line. Fails if one of them is not UTF-8, or out of memory.
+fn words_given(rt: &HostRuntime) -> Result<Vec<String>, Unasked> {
+    let given = std::env::args(rt).map_err(Unasked::of_words)?;
+    let mut words = Vec::new(rt.alloc());
+    for word in given {
+        words.push(word).map_err(AllocError::from)?;
+    }
+    Ok(words)
+}
+
+/// Runs the program with these words, from standard input to standard output.
+fn perform(rt: &HostRuntime, given: &[String]) -> Ending {
+    let mut words = Vec::new(rt.alloc());
+    for word in given {
+        if words.push(word.as_str()).is_err() {
+            return Ending::Refused(WordsFault::OutOfMemory);
         }
     }
-}
-
-/// The job that the program's words name.
-fn asked(rt: &HostRuntime) -> Result<Job, Unasked> {
-    let given = std::env::args(rt).map_err(Unasked::of_words)?;
-    let mut owned = Vec::new(rt.alloc());
-    for word in given {
-        owned.push(word).map_err(AllocError::from)?;
-    }
-    let mut words = Vec::new(rt.alloc());
-    for word in owned.iter() {
-        words.push(word.as_str()).map_err(AllocError::from)?;
-    }
-    Ok(job(rt.alloc(), words.as_slice())?)
-}
-
-/// Runs the job from standard input to standard output.
-fn perform(rt: &HostRuntime, job: Job) -> ExitCode {
     let mut source = StdSource::new(rt.stdin());
     let mut sink = StdSink::new(rt.stdout());
-    match run(rt.alloc(), &mut source, &mut sink, job) {
-        Ok(()) => ExitCode::SUCCESS,
-        Err(fault) => {
-            let _ = eprintln!(rt; "zonewire: {fault}");
-            ExitCode::from(1)
-        }
-    }
+    program(rt.alloc(), words.as_slice(), &mut source, &mut sink)
 }
 
-/// Says why the words were refused: by the parser's own text, or by the fault's.
-fn refuse(rt: &HostRuntime, fault: Unasked) {
-    let _ = match fault {
-        Unasked::NotText => eprintln!(rt; "zonewire: a word is not UTF-8"),
-        Unasked::Refused(WordsFault::Line(error)) => error.print(rt),
-        Unasked::Refused(fault) => eprintln!(rt; "zonewire: {fault}"),
+/// Says on standard error why the program failed: by the text of the fault, or by that of `clap`.
+fn report(rt: &HostRuntime, ending: &Ending) {
+    let _ = match ending {
+        Ending::Done => Ok(()),
+        Ending::Failed(fault) => eprintln!(rt; "zonewire: {fault}"),
+        Ending::Refused(WordsFault::Line(error)) => error.print(rt),
+        Ending::Refused(fault) => eprintln!(rt; "zonewire: {fault}"),
     };
 }

@@ -1,43 +1,33 @@
-//! Why the program's words name no job.
+//! Why the words of the command line are not there.
 ghost use Rattle.std.specs.Prelude.{◌≡◌};
-ghost use Rattle.zonewire.specs.declared.command_line.WordsFault.TheVariants.{OutOfMemory};
-ghost use Rattle.zone_main.specs.declared.unasked.Unasked.TheVariants.{Refused};
+ghost use Rattle.zone_main.specs.declared.unasked.Unasked.TheVariants.{OutOfMemory};
 
 use std::alloc::AllocError;
 use std::io::{Error, ErrorKind};
-use zonewire::WordsFault;
 
-/// Why no job is known.
+/// Why the words are not there.
 #[derive(Drop)]
 pub(crate) enum Unasked {
-    /// A word is no text: it is not UTF-8.
+    /// A word is not UTF-8.
     NotText,
-    /// The words are refused, or memory was wanting for them.
-    Refused(WordsFault),
+    /// Out of memory.
+    OutOfMemory,
 }
 
 impl Unasked {
-    /// Why the words were not handed over.
+    /// Returns what an error of `std::env::args` says.
     pub(crate) fn of_words(error: Error) -> Unasked {
         match error.kind() {
-            ErrorKind::OutOfMemory => Unasked::Refused(WordsFault::OutOfMemory),
+            ErrorKind::OutOfMemory => Unasked::OutOfMemory,
             _ => Unasked::NotText,
         }
     }
 }
 
 impl From<AllocError> for Unasked {
-    ghost from_gives = { λ _ fault. fault ≡ Refused OutOfMemory };
+    ghost from_gives = { λ _ fault. fault ≡ OutOfMemory };
 
     fn from(_: AllocError) -> Unasked {
-        Unasked::Refused(WordsFault::OutOfMemory)
-    }
-}
-
-impl From<WordsFault> for Unasked {
-    ghost from_gives = { λ reason fault. fault ≡ Refused reason };
-
-    fn from(reason: WordsFault) -> Unasked {
-        Unasked::Refused(reason)
+        Unasked::OutOfMemory
     }
 }

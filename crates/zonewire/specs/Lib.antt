@@ -4,3 +4,4 @@ pub mod Steps
 pub mod Stream
 pub mod Fault
 pub mod Output
+pub mod Program

@@ -22,4 +22,5 @@ pub use zone_send::laws::{
     plain_full_cut_is_fewest, received_is_sent_again, sent_again_is_the_same, sent_is_a_transfer,
     spelled_fronts_fit, spelled_is_a_transfer, spelled_is_sent_again,
     transfers_keep_canonical_octets, tree_full_cut_is_fewest, written_records_have_names,
+    zones_can_be_sent,
 };

@@ -2,7 +2,8 @@
 //!
 //! A zone's text, and a text that is printed, is one word: `%20` stands for a space, `%0a` for a line feed. Where a class or
 //! a limit is not named, it is IN or 512 octets. An origin and a layout may be left out: there is none, and it is `Simple`. A row of
-//! `run` has the input, and then the words of a command line of the program, as a row of `job` has. A spelling may be left out: names are written in full.
+//! `run` or `program` has the input, and then the words of a command line of the program, as a row of `job` has. A spelling may be
+//! left out: names are written in full.
 //! `sent_again` and `rival` hold what several calls return against one another.
 #![tactic(auto)]
 
@@ -36,6 +37,7 @@ impl Calls for ZonewireCalls {
             "Receiver" => streams::answer_receiver(alloc, row, out),
             "run" => programs::answer(alloc, row, out),
             "job" => programs::answer_job(alloc, row, out),
+            "program" => programs::answer_program(alloc, row, out),
             _ => Err(RowError::UnknownCall),
         }
     }

@@ -1,8 +1,8 @@
-//! The program's command lines, and runs of the jobs that they name.
+//! The program: its command lines, runs of the jobs that they name, and how it ends.
 use dns_name::Name;
 use rows::{Answer, Row, RowError};
 use std::alloc::Global;
-use zonewire::{Job, StdSink, StdSource, WordsFault, job, run};
+use zonewire::{Ending, Job, StdSink, StdSource, WordsFault, job, program, run};
 
 /// `job WORD..`: the job that the program's words name, by its command and its fields in order, names as octets.
 pub fn answer_job(alloc: Global, row: &mut Row<'_>, out: &mut Answer) -> Result<(), RowError> {
@@ -15,31 +15,72 @@ pub fn answer_job(alloc: Global, row: &mut Row<'_>, out: &mut Answer) -> Result<
 /// `run text TEXT WORD..` and `run octets OCTETS WORD..`: what the job that the program's words name writes for the input, as
 /// octets where it sends or gives canonical octets, and else as text.
 pub fn answer(alloc: Global, row: &mut Row<'_>, out: &mut Answer) -> Result<(), RowError> {
-    let input = match row.word()? {
-        "text" => row.text_octets(alloc)?,
-        "octets" => row.octets(alloc)?,
-        _ => return Err(RowError::BadWord),
-    };
+    let input = input_of(alloc, row)?;
     match job_of_words(alloc, row)? {
         Ok(job) => answer_run(alloc, job, input.as_slice(), out),
         Err(fault) => show_fault(&fault, out),
     }
 }
 
+/// `program text TEXT WORD..` and `program octets OCTETS WORD..`: the exit status of the program with these words and this
+/// input, the text that it writes to standard error behind its name, and its output as text.
+pub fn answer_program(alloc: Global, row: &mut Row<'_>, out: &mut Answer) -> Result<(), RowError> {
+    let input = input_of(alloc, row)?;
+    let owned = words_of(alloc, row)?;
+    let mut words = Vec::new(alloc);
+    for word in owned.iter() {
+        words.push(word.as_str())?;
+    }
+    let mut output = Vec::new(alloc);
+    let mut source = StdSource::new(input.as_slice());
+    let mut sink = StdSink::new(&mut output);
+    let ending = program(alloc, words.as_slice(), &mut source, &mut sink);
+    let text = error_text(alloc, &ending)?;
+    out.shown(&ending.status())?;
+    out.text(text.as_bytes())?;
+    out.text(output.as_slice())
+}
+
+/// Returns the text of the program's failure, none if it was done. The texts of `clap` are no part of an answer.
+fn error_text(alloc: Global, ending: &Ending) -> Result<String, RowError> {
+    let text = match ending {
+        Ending::Done => String::new(alloc),
+        Ending::Failed(fault) => format!(in alloc; "{fault}")?,
+        Ending::Refused(WordsFault::Line(_)) => format!(in alloc; "Line")?,
+        Ending::Refused(fault) => format!(in alloc; "{fault}")?,
+    };
+    Ok(text)
+}
+
+/// Returns the input of a run, as the row has it.
+fn input_of(alloc: Global, row: &mut Row<'_>) -> Result<Vec<u8>, RowError> {
+    match row.word()? {
+        "text" => row.text_octets(alloc),
+        "octets" => row.octets(alloc),
+        _ => Err(RowError::BadWord),
+    }
+}
+
 /// Returns the job that the rest of the row's words name, or why they name none.
 fn job_of_words(alloc: Global, row: &mut Row<'_>) -> Result<Result<Job, WordsFault>, RowError> {
-    let mut owned = Vec::new(alloc);
-    for _ in 0..u32::MAX {
-        if !row.has_more() {
-            break;
-        }
-        owned.push(row.text(alloc)?)?;
-    }
+    let owned = words_of(alloc, row)?;
     let mut words = Vec::new(alloc);
     for word in owned.iter() {
         words.push(word.as_str())?;
     }
     Ok(job(alloc, words.as_slice()))
+}
+
+/// Returns the rest of the row's words.
+fn words_of(alloc: Global, row: &mut Row<'_>) -> Result<Vec<String>, RowError> {
+    let mut words = Vec::new(alloc);
+    for _ in 0..u32::MAX {
+        if !row.has_more() {
+            break;
+        }
+        words.push(row.text(alloc)?)?;
+    }
+    Ok(words)
 }
 
 /// Shows why words name no job. The texts of `clap` are no part of an answer.
