@@ -1,6 +1,6 @@
 -- What the calls of a builder make of its message.
 use Rattle.std.specs.Prelude.{⊤, true, ◌≡◌, ◌≤◌, ◌<◌, ◌+◌, ◌*◌, ℕ, zero, suc, List, [], ◌∷◌, ◌++◌, length}
-use Rattle.dns_octets.specs.Builder.{IsPast}
+use Rattle.dns_octets.specs.Builder.{IsWithin, IsPast}
 use Rattle.dns_name.specs.Spelling.{Spelling}
 use Rattle.dns_name.specs.Page.{Parts, write}
 use Rattle.dns_header.specs.Header.{number_at}
@@ -46,21 +46,25 @@ length_with s draft item = length (write s draft.page item).octets
 abbrev pub counted_at : ℕ → Draft → ℕ
 counted_at number draft = number_at draft.page.octets (4 + 2 * number)
 
--- An item is taken: its data has at most 65,535 octets, the message is then shorter than its limit, and the section had fewer than
--- 65,535 items.
+-- An item is taken: its data has at most 65,535 octets, the target may hold the message with it, the message is then shorter than its
+-- limit, and the section had fewer than 65,535 items.
 pub record IsTakenBy (s : Spelling) (number : ℕ) (draft : Draft) (item : Parts) (IsLong : Type 0) : Type 0 where
   pub counted : IsLong → ⊥
+  pub fits : IsWithin draft.bound (length_with s draft item)
   pub short : length_with s draft item < draft.limit
   pub few : counted_at number draft < 65535
 
--- An item whose data is not too long would make the message as long as its limit, or longer.
+-- An item could be appended: its data is not too long, and the target may hold the message with it. The message would be as long as
+-- its limit, or longer.
 pub record ExceedsLimit (s : Spelling) (draft : Draft) (item : Parts) (IsLong : Type 0) : Type 0 where
   pub counted : IsLong → ⊥
+  pub fits : IsWithin draft.bound (length_with s draft item)
   pub long : draft.limit ≤ length_with s draft item
 
--- An item whose data is not too long would leave the message shorter than its limit, but the section has 65,535 items already.
+-- An item could be appended, and would leave the message shorter than its limit, but the section has 65,535 items already.
 pub record OverflowsCount (s : Spelling) (number : ℕ) (draft : Draft) (item : Parts) (IsLong : Type 0) : Type 0 where
   pub counted : IsLong → ⊥
+  pub fits : IsWithin draft.bound (length_with s draft item)
   pub short : length_with s draft item < draft.limit
   pub full : counted_at number draft ≡ 65535
 

@@ -250,6 +250,10 @@ impl<Target: Truncate, T: Table> OctetsBuilder for Compressor<Target, T> {
     fn append_slice(&mut self, octets: &[u8]) -> Result<(), AppendError> {
         self.target.append_slice(octets)
     }
+
+    fn len(&self) -> usize {
+        self.target.len()
+    }
 }
 
 impl<Target: Truncate, T: Table> Truncate for Compressor<Target, T> {

@@ -167,6 +167,10 @@ impl<Target: Composer> OctetsBuilder for StreamTarget<Target> {
         write_length(&mut self.target);
         Ok(())
     }
+
+    fn len(&self) -> usize {
+        self.target.len() - 2
+    }
 }
 
 impl<Target: Composer> Truncate for StreamTarget<Target> {

@@ -88,6 +88,10 @@ impl<C: Comparison> OctetsBuilder for OneSuffix<C> {
     fn append_slice(&mut self, octets: &[u8]) -> Result<(), AppendError> {
         self.octets.append_slice(octets)
     }
+
+    fn len(&self) -> usize {
+        self.octets.len()
+    }
 }
 
 impl<C: Comparison> Truncate for OneSuffix<C> {

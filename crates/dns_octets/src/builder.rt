@@ -39,6 +39,11 @@ pub trait OctetsBuilder: Octets + Remembers {
         ensures same_bound { bound self.new ≡ bound self.old }
         ensures stays { stays self.old self.new };
 
+    /// Returns how many octets the target holds, which are never more than its bound.
+    fn len(&self) -> usize
+        ensures value { result ≡ length (Self.list self.now) }
+        ensures within { IsWithin (bound self.now) result };
+
     ghost stays_on: { (a b c : Self) → stays a b → stays b c → stays a c };
 
     ghost stays_here: { (a : Self) → stays a a };

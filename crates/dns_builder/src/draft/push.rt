@@ -61,7 +61,7 @@ impl<Target: Composer> Draft<Target> {
         ensures why { IfErr result (IsUncounted number (draft_in self.old)) }
         ensures stays { Target.stays (held_in self.old) (held_in self.new) }
     {
-        if self.opt.target.octets().len() >= self.limit {
+        if self.opt.target.len() >= self.limit {
             return Err(PushError::LimitExceeded);
         }
         let Some(count) = self.count(number).checked_add(1) else {

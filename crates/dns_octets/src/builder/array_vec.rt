@@ -43,6 +43,10 @@ impl<const N: usize> OctetsBuilder for ArrayVec<u8, N> {
             Err(_) => Err(AppendError::ShortBuf),
         }
     }
+
+    fn len(&self) -> usize {
+        self.len()
+    }
 }
 
 impl<const N: usize> EmptyBuilder for ArrayVec<u8, N> {

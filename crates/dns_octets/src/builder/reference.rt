@@ -21,6 +21,10 @@ impl<T: OctetsBuilder> OctetsBuilder for &mut T {
     fn append_slice(&mut self, octets: &[u8]) -> Result<(), AppendError> {
         (**self).append_slice(octets)
     }
+
+    fn len(&self) -> usize {
+        (**self).len()
+    }
 }
 
 impl<T: Truncate> Truncate for &mut T {

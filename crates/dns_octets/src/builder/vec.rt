@@ -28,6 +28,10 @@ impl OctetsBuilder for Vec<u8> {
         self.extend_from_slice(octets)?;
         Ok(())
     }
+
+    fn len(&self) -> usize {
+        self.len()
+    }
 }
 
 impl EmptyBuilder for Vec<u8> {

@@ -127,4 +127,8 @@ impl<Builder: OctetsBuilder> OctetsBuilder for CharStrBuilder<Builder> {
         }
         self.builder.append_slice(octets)
     }
+
+    fn len(&self) -> usize {
+        self.builder.len()
+    }
 }
