@@ -1,6 +1,5 @@
 -- The labels that are found at a place of a message, as a function. If the message spells a name there (`Spelled`),
--- they
--- are that name; else they mean nothing.
+-- they are that name; else they mean nothing.
 use Rattle.std.specs.Prelude.{◌+◌, ◌-◌, ◌*◌, ◌==◌, ℕ, zero, suc, List, [], ◌∷◌, length, take, drop, nat_lt}
 use Rattle.std.specs.Prelude.{if◌then◌else◌}
 

@@ -3,8 +3,7 @@ use Rattle.std.specs.Prelude.{◌≡◌, ◌+◌, ◌-◌, ◌*◌, ◌<◌, ◌
 use Rattle.dns_label.specs.Name.{IsLabel, IsName}
 
 -- From the place on, with at most this number of pointers followed, the message spells the name, and `next` is the
--- place after
--- it: after the root's octet 0, or after the first pointer.
+-- place after it: after the root's octet 0, or after the first pointer.
 pub data Spells (message : List ℕ) : ℕ → ℕ → List (List ℕ) → ℕ → Type 0 where
   root : {pointers place : ℕ} (rest : List ℕ)
       → drop place message ≡ 0 ∷ rest

@@ -13,8 +13,7 @@ abbrev pub chars_of : {C : Type 0} → Symbols C → Result C SymbolCharsError
 chars_of symbols = symbols.chars
 
 -- A call gives the symbol that the characters spell, or None at their end. If they begin with no symbol it gives None,
--- and
--- keeps the error from then on.
+-- and keeps the error from then on.
 abbrev pub GivesSymbol : {C : Type 0} → (C → Option ℕ → C → Type 0) → Result C SymbolCharsError → Option Symbol
     → Result C SymbolCharsError → Type 0
 GivesSymbol steps (Ok start) (Some symbol) (Ok end) = IsSymbol symbol × Yields steps start (spelled symbol) end

@@ -19,8 +19,8 @@ pub trait Remembers {
 
 /// A target that octets are appended to.
 ///
-/// `bound` is the greatest number of octets it may hold, or None if only memory limits it. `stays`
-/// relates the target before a call to the target after it: what no call changes.
+/// `bound` is the greatest number of octets it may hold, or None if only memory limits it. `stays` relates the target
+/// before a call to the target after it: what no call changes.
 pub trait OctetsBuilder: Octets + Remembers {
     ghost bound: { Self → Option ℕ };
 
