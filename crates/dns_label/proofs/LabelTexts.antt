@@ -19,7 +19,7 @@ use Rattle.dns_label.specs.Taken.{RulesOut}
 use Rattle.dns_label.proofs.Taken.{yields_append}
 use Rattle.dns_label.proofs.SymbolTexts.{split_symbols, goes_on_in, no_more}
 
--- these symbols were taken, and stand for these octets
+-- these symbols were taken, for these octets
 pub record Taking (taken : List Symbol) (octets : List ℕ) : Type 0 where
   pub each : AllByRecursion IsOfLabel taken
   pub stand : octets ≡ map octet taken
@@ -96,14 +96,14 @@ rest_of taken rest label each is =
 abbrev pub SpellsLabel : List ℕ → Type 0
 SpellsLabel text = (label : List ℕ) × IsLabelText text label
 
--- no symbol comes where one should
+-- a symbol should follow, and none does
 pub no_symbol_none : (taken : List Symbol) (octets rest : List ℕ) → Taking taken octets → SpellsLabel (flat_map spelled taken ++ rest)
     → GoesOnInSymbols rest
 no_symbol_none taken octets rest taking spells =
     let found = rest_of taken rest spells.0 (each_of taken taking.each) spells.1 in
     goes_on_in rest found.more (each_of found.more found.each) found.written
 
--- one more than a label has, or a dot
+-- one symbol more than a label has, or a dot
 pub over_label : (taken : List Symbol) (octets rest : List ℕ) (symbol : Symbol) → Taking taken octets → IsSymbol symbol
     → (is_dot symbol ≡ false → length octets ≡ 63) → SpellsLabel (flat_map spelled taken ++ (spelled symbol ++ rest)) → ⊥
 over_label taken octets rest symbol taking is_symbol over spells =
@@ -162,7 +162,7 @@ module _ {C : Type 0} (steps : C → Option ℕ → C → Type 0) (start here en
             none_label taken (octets_owned label) taking is (subst Q (append-nil (flat_map spelled taken)) (subst P (ends refl) spells));
       }
 
--- the text that is left goes on with no symbol
+-- the rest of the text begins with no symbol
 pub no_text_left : (taken : List Symbol) (octets text rest : List ℕ) → Taking taken octets → text ≡ flat_map spelled taken ++ rest
     → (rest ≡ [] → ⊥) → ((symbol : Symbol) (behind : List ℕ) → IsSymbol symbol → rest ≡ spelled symbol ++ behind → ⊥)
     → SpellsLabel text → ⊥
@@ -227,7 +227,7 @@ spelled-long (Char c) = omega arith
 spelled-long (SimpleEscape c) = omega arith
 spelled-long (DecimalEscape n) = omega arith
 
--- what is behind a symbol is shorter
+-- what follows a symbol is shorter
 pub spelled-shorter : (symbol : Symbol) (rest behind : List ℕ) → rest ≡ spelled symbol ++ behind → length behind < length rest
 spelled-shorter symbol rest behind is =
     let some = spelled-long symbol in
@@ -285,7 +285,7 @@ why_empty steps start here next taken octets (Err error) taking gave ended none 
     let Q : LabelFromStrError → Type 0 = λ e. IsLabelFault steps start e in
     subst Q (sym why) (next, (here, subst P (none_of taken (sym taking.stand ∙ none)) gave, ended))
 
--- the octets of a text, one after another
+-- the octets of a text, one by one
 abbrev pub Octets : List ℕ → Option ℕ → List ℕ → Type 0
 Octets = YieldsFirst (λ octets. octets)
 
@@ -319,7 +319,7 @@ why_no_symbol text rest taken octets taking is some none = (
     by_case (inl ended) = some ended
     by_case (inr begins) = none begins.symbol begins.rest begins.is_symbol begins.written
 
--- what is told of either outcome
+-- what is promised of either result
 abbrev pub Tells : Result OwnedLabel LabelFromStrError → List ℕ → Type 0
 Tells result text =
     MatchResult result (λ label. IsLabelText text (octets_owned label)) (λ error. (SpellsLabel text → ⊥) × IsLabelFault Octets text error)

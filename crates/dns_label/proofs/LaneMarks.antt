@@ -1,4 +1,4 @@
--- Vectors each lane of which is all ones or zero, as comparisons leave them, and the masks that are made of them.
+-- Vectors whose lanes are all ones or zero each, as comparisons leave them, and the masks that are made of them.
 use Rattle.std.proofs.Common.{◌≡◌, ℕ, ◌%◌, ◌^◌, ◌≤◌, ◌||◌, Bool, true, false, not, cond, List, [], ◌∷◌, map, length, refl, ap, ◌∙◌, arith}
 use Rattle.std.proofs.lemmas.Simd.{zip2_of_maps, map-map, mask_l-mod}
 use Rattle.std.proofs.lemmas.List.{length-map}
@@ -25,7 +25,7 @@ either_marks test test' octets is is' =
     zip2_of_maps bit_or (λ octet. cond (test octet) 255 0) (λ octet. cond (test' octet) 255 0) octets is is'
     ∙ ap (λ (mark : ℕ → ℕ). map mark octets) (λ i octet. mark_either (test octet) (test' octet) i)
 
--- the mask of the octets that are not of a kind, where a test says which are not
+-- the mask of the octets that are not of a kind, if a test says which these are
 pub mask_of_marks : (test : ℕ → Bool) (octets : List ℕ) {lanes : List ℕ} → length octets ≤ 64 → lanes ≡ marks test octets
     → mask_l (map (top 7) lanes) % 2 ^ 64 ≡ mask_l (map (λ octet. not (not (test octet))) octets)
 mask_of_marks test octets few is =

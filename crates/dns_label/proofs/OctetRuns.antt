@@ -1,4 +1,4 @@
--- Runs of octets of a kind, seen a load at a time by the mask of the octets that are of no such kind.
+-- Runs of octets of a kind, found a load at a time by the mask of the octets of no such kind.
 use Rattle.std.proofs.Common.{◌≡◌, ℕ, ◌+◌, ◌-◌, ◌*◌, ◌/◌, ◌^◌, ◌<◌, ◌≤◌, Bool, true, false, not, cond, zero, suc, List, [], ◌∷◌, ◌++◌, map, length, drop, refl, sym, ap, ◌∙◌, arith}
 use native.Mathlib.Nat.{pow-suc, mul_comm, zero-div, div-one, div-div-eq-div-mul}
 use Rattle.std.proofs.lemmas.Simd.{chunk-drop, length-chunk, trailing_mask_l}
@@ -26,7 +26,7 @@ half : (b : Bool) (n : ℕ) → (cond b 1 0 + 2 * n) / 2 ≡ n
 half true n = omega arith
 half false n = omega arith
 
--- a mask without its lowest bits is that of the octets behind
+-- a mask without its lowest bits is that of the octets that follow
 shifted : (test : ℕ → Bool) (octets : List ℕ) (count : ℕ) → mask_l (map test octets) / 2 ^ count ≡ mask_l (map test (drop count octets))
 shifted test [] zero = div-one 0
 shifted test [] (suc count) = zero-div (2 ^ suc count)
@@ -40,13 +40,13 @@ module _ (has : ℕ → Bool) where
   abbrev others : List ℕ → ℕ
   others octets = mask_l (map (λ octet. not (has octet)) octets)
 
-  -- where no octet of the front is another, the run goes on behind it
+  -- if all octets of the front are of the kind, the run goes on after it
   on : (front rest : List ℕ) → others front ≡ 0 → prefix_len has (front ++ rest) ≡ length front + prefix_len has rest
   on [] rest none = omega arith
   on (octet ∷ front) rest none =
       all_on (has octet) (others front) (prefix_len has (front ++ rest)) (length front) (prefix_len has rest) none (on front rest)
 
-  -- where one is, it ends within
+  -- if one is not, the run ends in the front
   within : (front rest : List ℕ) → 0 < others front → prefix_len has (front ++ rest) ≡ prefix_len has front
   within [] rest some = absurd (omega arith)
   within (octet ∷ front) rest some =

@@ -1,4 +1,4 @@
--- The labels that are seen at a place are one list, and the one that is found there.
+-- The labels that are seen at a place are one list, and it is the one that is found there.
 use Rattle.std.proofs.Common.{◌≡◌, ℕ, ◌+◌, ◌-◌, ◌*◌, ◌<◌, ◌≤◌, ◌⊎◌, zero, suc, List, [], ◌∷◌, ◌++◌, length, drop, take, refl, sym, ◌∙◌, ap, subst, arith, inl, inr, true, false}
 use Rattle.std.proofs.Common.{length-append}
 use Rattle.std.proofs.lemmas.Grind.{common_steps}
@@ -15,7 +15,7 @@ use Rattle.dns_label.specs.Split.{NoLabel, StartsWithLabel, StartsWithPointer}
 use Rattle.dns_label.specs.Seen.{Seen, EndsThem, seen_in, seen_by, most_heads, labels_seen}
 use Rattle.dns_label.specs.Seen.Seen.{root, label, pointer, fault}
 
--- what stands in front decides
+-- the first octets decide
 seen_in-label : (more : ℕ → ℕ → List (List ℕ)) (pointers place : ℕ) (octets text rest : List ℕ) → octets ≡ length text ∷ text ++ rest
     → IsLabel text → seen_in more pointers place octets ≡ text ∷ more pointers (place + 1 + length text)
 seen_in-label more pointers place octets text rest is is_label =
@@ -98,7 +98,7 @@ seen_by-seen message (suc heads) {place = place} (pointer {pointers = pointers} 
 seen_by-seen message (suc heads) {pointers = pointers} {place = place} (fault error at ends) enough =
     seen_in-fault (seen_by message heads) pointers place (drop place message) error at ends
 
--- what stands in front, one of four
+-- the first octets: one of four cases
 data Front (octets : List ℕ) : ℕ → ℕ → Type 0 where
   at_root : {pointers place : ℕ} (rest : List ℕ) → octets ≡ 0 ∷ rest → Front octets pointers place
   at_label : {pointers place : ℕ} (text rest : List ℕ) → octets ≡ length text ∷ text ++ rest → IsLabel text → Front octets pointers place
@@ -192,7 +192,7 @@ unfolding labels_seen
 labels_seen-seen message {pointers} {place} seen =
     seen_by-seen message (most_heads (length message) pointers) seen (enough_all message pointers place)
 
--- where a name is spelled, its labels are seen
+-- if a name is spelled, its labels are seen
 pub seen-spelled : (message : List ℕ) {pointers place next : ℕ} {name : List (List ℕ)} → Spells message pointers place name next
     → Seen message pointers place (with_root name)
 seen-spelled message (spelled_root rest at) = root rest at
@@ -204,7 +204,7 @@ pub labels_seen-spelled : (message : List ℕ) {pointers place next : ℕ} {name
     → labels_seen message pointers place ≡ with_root name
 labels_seen-spelled message spells = labels_seen-seen message (seen-spelled message spells)
 
--- the next label stands there
+-- the next label is there
 pub next_label : (message : List ℕ) (pointers start left place : ℕ) (text rest : List ℕ) → StartsWithLabel (drop place message) text rest
     → 0 < length text → ((labels : List (List ℕ)) → Seen message left place labels → Seen message pointers start labels)
     → labels_seen message pointers start ≡ text ∷ labels_seen message left (place + 1 + length text)
@@ -233,7 +233,7 @@ pub some_octets : (octets : List ℕ) → (octets ≡ [] → false ≡ true) →
 some_octets [] some = let no = some refl in cc
 some_octets (octet ∷ octets) some = omega arith
 
--- no more labels than heads
+-- there are no more labels than heads
 length-seen_in : (more : ℕ → ℕ → List (List ℕ)) (heads pointers place : ℕ) (octets : List ℕ)
     → ((pointers place : ℕ) → length (more pointers place) ≤ heads) → length (seen_in more pointers place octets) ≤ heads + 1
 length-seen_in more heads pointers place octets few = by_front (front_of octets pointers place)

@@ -1,4 +1,4 @@
--- What a message spells at a place is one name, and the one that is found there.
+-- What a message spells at a place is one name, and it is the one that is found there.
 use Rattle.std.proofs.Common.{◌≡◌, ℕ, ◌+◌, ◌-◌, ◌*◌, ◌<◌, ◌≤◌, zero, suc, List, [], ◌∷◌, ◌++◌, length, drop, refl, sym, ◌∙◌, ap, subst, arith}
 use Rattle.std.proofs.Common.{length-append, append_assoc}
 use Rattle.std.proofs.lemmas.Grind.{common_steps}
@@ -19,7 +19,7 @@ pub head_in-pointer : (octets : List ℕ) (first second : ℕ) (rest : List ℕ)
     → head_in octets ≡ Points (256 * (first - 192) + second)
 head_in-pointer octets first second rest is both = rw is (grind (arith, common_steps))
 
--- where few enough heads are looked at, what is found is what is spelled
+-- with few enough heads looked at, what is found is what is spelled
 pub labels_from-spelled : (message : List ℕ) (heads : ℕ) {pointers place next : ℕ} {name : List (List ℕ)}
     → Spells message pointers place name next → pointers + length name < heads → labels_from heads message place ≡ name
 unfolding labels_from
@@ -39,7 +39,7 @@ length-wire (text ∷ name) each =
     let some = each.0.some in
     omega (arith, length-append text (wire name))
 
--- what is found at a place is the name that is read there
+-- what is found at a place is the name that a reader parses there
 pub labels_at-reads : {message : List ℕ} {place next : ℕ} {name : List (List ℕ)} → Reads message place name next
     → labels_at message place ≡ name
 unfolding labels_at
@@ -68,20 +68,20 @@ spelled_end message (pointer first second after rest at both back name) (label {
 spelled_end message (pointer first second after rest at both back name)
     (pointer first' second' after' rest' at' both' back' name') same = ap (λ n. n + 2) same
 
--- a message spells one name at a place, for its reader
+-- a message spells one name at a place for its reader
 pub reads_one : {message : List ℕ} {place next end : ℕ} {name other : List (List ℕ)} → Reads message place name next
     → Reads message place other end → (name ≡ other) × (next ≡ end)
 reads_one {message} {place} reads others =
     (sym (labels_at-reads reads) ∙ labels_at-reads others, spelled_end message reads.spelled others.spelled refl)
 
--- what stands behind the octets that are found at a place
+-- what follows the octets that are found at a place
 pub drop_behind : (message : List ℕ) (place behind : ℕ) (front rest : List ℕ) → drop place message ≡ front ++ rest
     → behind ≡ place + length front → drop behind message ≡ rest
 drop_behind message place behind front rest at is =
     ap (λ n. drop n message) is ∙ sym (drop-drop (length front) place message) ∙ ap (λ l. drop (length front) l) at
     ∙ drop-append_seam front rest
 
--- a name that is written out is read, whatever stands around it
+-- a name that is written out is read, whatever is around it
 pub spelled-written : (message : List ℕ) (pointers place : ℕ) (name : List (List ℕ)) (rest : List ℕ)
     → drop place message ≡ wire name ++ rest → AllByRecursion IsLabel name
     → Spells message pointers place name (place + length (wire name))

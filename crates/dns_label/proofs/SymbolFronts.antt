@@ -1,4 +1,4 @@
--- What characters begin with no symbol.
+-- Characters that begin with no symbol.
 use Rattle.std.proofs.Common.{◌≡◌, ℕ, true, false, ◌+◌, ◌*◌, ◌-◌, ◌/◌, ◌%◌, ◌<◌, ◌≤◌, List, [], ◌∷◌, ◌++◌, refl, inl, inr, arith}
 use Rattle.dns_label.specs.declared.symbol.Symbol.{Symbol}
 use Rattle.dns_label.specs.declared.symbol.Symbol.TheVariants.{Char, SimpleEscape, DecimalEscape}
@@ -47,7 +47,7 @@ symbol_escape (DecimalEscape n) c rest behind none is written =
 pub no_escape : (c : ℕ) (rest : List ℕ) → (32 ≤ c → c ≤ 126 → ⊥) → BeginsWithSymbol (92 ∷ c ∷ rest) → ⊥
 no_escape c rest none begins = symbol_escape begins.symbol c rest begins.rest none begins.is_symbol begins.written
 
--- the three digits behind a backslash before a digit
+-- the three digits after a backslash before a digit
 record Decimal (c : ℕ) (rest : List ℕ) : Type 0 where
   pub n : ℕ
   pub behind : List ℕ
@@ -102,17 +102,17 @@ pub reads_err : {S : Type 0} (steps : S → Option ℕ → S → Type 0) (start 
 reads_err steps start end (Ok found) is out = let no : false ≡ true = is in cc
 reads_err steps start end (Err error) is out = out
 
--- a fact that holds holds on an error
+-- a fact that holds in any case holds on an error
 pub fact_on_err : {T E : Type 0} {P : Type 0} (result : Result T E) → P → OnErr result P
 fact_on_err (Ok value) holds = tt
 fact_on_err (Err error) holds = holds
 
--- at a character the text is not at its end
+-- if there is a character, the text is not at its end
 pub goes_on : (c : ℕ) (rest : List ℕ) → GoesOnInSymbols (c ∷ rest) → BeginsWithSymbol (c ∷ rest)
 goes_on c rest (inl none) = cc
 goes_on c rest (inr begins) = begins
 
--- no digit stands behind a backslash and a digit
+-- no digit follows a backslash and a digit
 pub fault_behind_digit : {S : Type 0} (steps : S → Option ℕ → S → Type 0) (start here : S) (first : ℕ) (error : SymbolCharsError)
     → steps start (Some first) here → 48 ≤ first → first ≤ 57 → IsDigitFault steps here error → IsEscapeFault steps start error
 fault_behind_digit steps start here first BadChar step least most fault = fault
@@ -125,7 +125,7 @@ fault_behind_digit steps start here first BadEscape step least most fault = (
 fault_behind_digit steps start here first ShortInput step least most fault =
     (first ∷ [], ((least, most), tt), omega arith, (fault.0, (fault.1.0, (here, step, fault.1.1), fault.1.2)))
 
--- no digit stands behind a backslash and two digits
+-- no digit follows a backslash and two digits
 pub fault_behind_two : {S : Type 0} (steps : S → Option ℕ → S → Type 0) (start here there : S) (first tens : ℕ) (error : SymbolCharsError)
     → steps start (Some first) here → steps here (Some (48 + tens)) there → 48 ≤ first → first ≤ 57 → tens < 10
     → IsDigitFault steps there error → IsEscapeFault steps start error
@@ -143,7 +143,7 @@ fault_behind_two steps start here there first tens ShortInput step next least mo
   (fault.0, (fault.1.0, (here, step, (there, next, fault.1.1)), fault.1.2)),
 )
 
--- what is at fault behind a backslash
+-- which fault follows a backslash
 pub fault_behind_backslash : {S : Type 0} (steps : S → Option ℕ → S → Type 0) (start here : S) (error : SymbolCharsError)
     → steps start (Some 92) here → IsEscapeFault steps here error → IsSymbolFault steps start error
 fault_behind_backslash steps start here BadChar step fault = absurd fault

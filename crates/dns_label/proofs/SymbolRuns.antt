@@ -1,4 +1,4 @@
--- What the symbols of characters tell of the characters.
+-- What the symbols of characters say of the characters.
 use Rattle.std.proofs.Common.{◌≡◌, ℕ, List, [], ◌∷◌, refl, sym, ◌∙◌, ap, subst}
 use Rattle.std.specs.Prelude.{Option, Some, None, Result, Ok, Err}
 use Rattle.std.specs.List.{AllByRecursion, flat_map}
@@ -16,7 +16,7 @@ module _ {C : Type 0} (steps : C → Option ℕ → C → Type 0) where
   abbrev pub Giving : Symbols C → Option Symbol → Symbols C → Type 0
   Giving old found new = GivesSymbol steps (chars_of old) found (chars_of new)
 
-  -- symbols were given, and the characters stand behind their text
+  -- symbols were given, and the characters are now after their text
   pub record StandsBehind (start : C) (symbols : List Symbol) (end : Result C SymbolCharsError) : Type 0 where
     pub each : AllByRecursion IsSymbol symbols
     pub here : C
@@ -52,7 +52,7 @@ module _ {C : Type 0} (steps : C → Option ℕ → C → Type 0) where
         gave = yields_append steps (spelled symbol) (flat_map spelled symbols) start step.here more.here step.gave more.gave;
       }
 
-  -- the symbols are all, and no error is kept
+  -- these symbols are all, and no error is kept
   ends_well : (old new : Result C SymbolCharsError) (here end : C) → old ≡ Ok here → new ≡ Ok end
       → GivesSymbol steps old None new → steps here None end
   ends_well (Ok from) (Ok to) here end is are gives =

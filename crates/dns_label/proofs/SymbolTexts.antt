@@ -9,7 +9,7 @@ use Rattle.dns_label.specs.ReadSymbol.{GoesOnInSymbols}
 three_one : (n m : ℕ) → n / 100 ≡ m / 100 → n / 10 % 10 ≡ m / 10 % 10 → n % 10 ≡ m % 10 → n ≡ m
 three_one n m hundreds tens ones = omega arith
 
--- a text begins with one symbol
+-- a text begins with one symbol at most
 pub symbol_one : (symbol other : Symbol) (rest behind : List ℕ) → IsSymbol symbol → IsSymbol other
     → spelled symbol ++ rest ≡ spelled other ++ behind → (symbol ≡ other) × (rest ≡ behind)
 symbol_one (Char c) (Char d) rest behind is are same =
@@ -42,7 +42,7 @@ pub each_append : (front back : List Symbol) → AllByRecursion IsSymbol front �
 each_append [] back each all = all
 each_append (symbol ∷ front) back each all = (each.0, each_append front back each.1 all)
 
--- a text that begins with the text of symbols has them as its first
+-- a text that begins with the text of some symbols has these as its first symbols
 pub record Split (taken symbols : List Symbol) (rest : List ℕ) : Type 0 where
   pub more : List Symbol
   pub is : symbols ≡ taken ++ more
@@ -69,7 +69,7 @@ pub no_more : (more : List Symbol) → [] ≡ flat_map spelled more → more ≡
 no_more [] written = refl
 no_more (symbol ∷ more) written = absurd (spelled_some symbol (flat_map spelled more) (sym written))
 
--- symbols, and what they go on with
+-- symbols, and what follows them
 pub goes_on_in : (rest : List ℕ) (more : List Symbol) → AllByRecursion IsSymbol more → rest ≡ flat_map spelled more → GoesOnInSymbols rest
 goes_on_in rest [] each written = inl written
 goes_on_in rest (symbol ∷ more) each written =

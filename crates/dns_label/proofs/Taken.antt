@@ -1,4 +1,4 @@
--- What the calls of `next` on an iterator rule out.
+-- What calls of `next` on an iterator rule out.
 use Rattle.std.proofs.Common.{◌≡◌, true, false, List, [], ◌∷◌, ◌++◌, refl, sym, ◌∙◌, ap, subst, append_assoc, append-nil}
 use Rattle.std.specs.Prelude.{Option, Some, None}
 use Rattle.std.specs.Iterator.{Yields, Drains, YieldsFirst}

@@ -1,4 +1,4 @@
--- Which label a text spells (RFC 1035 5.1).
+-- Which label a text spells (RFC 1035, section 5.1).
 use Rattle.std.specs.Prelude.{◌≡◌, ℕ, true, false, List, [], ◌∷◌, ◌++◌, length, map, Option}
 use Rattle.std.specs.List.{AllByRecursion, flat_map}
 use Rattle.std.specs.Iterator.{Yields, Drains}
@@ -11,11 +11,11 @@ use Rattle.dns_label.specs.NameText.{is_dot}
 use Rattle.dns_label.specs.ReadSymbol.{GoesOnInSymbols}
 use Rattle.dns_label.specs.Taken.{RulesOut}
 
--- a dot that is not escaped is of no label
+-- a symbol of a label: any but a dot that is not escaped
 abbrev pub IsOfLabel : Symbol → Type 0
 IsOfLabel symbol = IsSymbol symbol × (is_dot symbol ≡ false)
 
--- The text is of such symbols, one for each octet of the label.
+-- The text consists of such symbols, one for each octet of the label.
 pub record IsLabelText (text label : List ℕ) : Type 0 where
   pub symbols : List Symbol
   pub each : AllByRecursion IsOfLabel symbols
@@ -23,7 +23,8 @@ pub record IsLabelText (text label : List ℕ) : Type 0 where
   pub octets : label ≡ map octet symbols
   pub is_label : IsLabel label
 
--- Symbols of a label come first, and then characters that rule the rest out, a dot, or nothing; or there are 64 of them.
+-- After symbols of a label, what follows can't go on in symbols, a dot follows, or there are 64 symbols; or there are
+-- no characters at all.
 abbrev pub IsLabelFault : {S : Type 0} → (S → Option ℕ → S → Type 0) → S → LabelFromStrError → Type 0
 IsLabelFault {S} steps start BadSymbol =
     (symbols : List Symbol) × (here : S) × AllByRecursion IsOfLabel symbols × Yields steps start (flat_map spelled symbols) here
@@ -36,7 +37,7 @@ IsLabelFault {S} steps start LongLabel =
     (symbols : List Symbol) × (here : S) × AllByRecursion IsOfLabel symbols × Yields steps start (flat_map spelled symbols) here
     × (length symbols ≡ 64)
 
--- a symbol is not taken behind these octets: it is a dot, or one too many
+-- a symbol can't follow these octets: it is a dot, or one too many
 abbrev pub IsOver : Symbol → List ℕ → LabelFromStrError → Type 0
 IsOver symbol octets Dot = is_dot symbol ≡ true
 IsOver symbol octets LongLabel = (is_dot symbol ≡ false) × (length octets ≡ 63)

@@ -1,9 +1,9 @@
--- The labels that are found at a place of a message, as a function. Where the message spells a name there (`Spelled`),
--- they are that name; elsewhere they stand for nothing.
+-- The labels that are found at a place of a message, as a function. If the message spells a name there (`Spelled`),
+-- they are that name; else they mean nothing.
 use Rattle.std.specs.Prelude.{◌+◌, ◌-◌, ◌*◌, ◌==◌, ℕ, zero, suc, List, [], ◌∷◌, length, take, drop, nat_lt}
 use Rattle.std.specs.Prelude.{if◌then◌else◌}
 
--- what octets in the place of a label begin with
+-- what the octets at the place of a label begin with
 pub data Head : Type 0 where
   Ends : Head
   Holds : List ℕ → Head
@@ -20,13 +20,13 @@ head_in (first ∷ rest) =
     else (if nat_lt first 64 then Holds (take first rest)
     else (if nat_lt first 192 then Ends else pointer_in first rest))
 
--- the labels that such a head leads to, where `more` has those from another place on
+-- the labels that such a head leads to, if `more` gives those from another place on
 abbrev pub labels_by : Head → ℕ → (ℕ → List (List ℕ)) → List (List ℕ)
 labels_by Ends place more = []
 labels_by (Holds label) place more = label ∷ more (place + 1 + length label)
 labels_by (Points target) place more = more target
 
--- the labels from a place on, by looking at no more than so many heads
+-- the labels from a place on, by looking at no more than this number of heads
 unfoldable pub labels_from : ℕ → List ℕ → ℕ → List (List ℕ)
 labels_from zero message place = []
 labels_from (suc heads) message place =

@@ -8,6 +8,7 @@ use Rattle.dns_label.specs.declared.label.owned.view.OwnedLabelMut.{OwnedLabelMu
 abbrev pub octets_viewed : OwnedLabelMut → List ℕ
 octets_viewed view = octets_owned view.label.now
 
--- the reference that it holds: to the label that it was made of, so that what it has when it ends is what that ends as
+-- the reference that it holds, which is to the label that it was made of: what the view is when the loan ends is what
+-- the label then is
 abbrev pub loan_viewed : OwnedLabelMut → GName
 loan_viewed view = view.label.ghost_name

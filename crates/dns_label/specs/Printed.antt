@@ -5,7 +5,8 @@ use Rattle.dns_label.specs.declared.symbol.Symbol.{Symbol}
 use Rattle.dns_label.specs.declared.symbol.Symbol.TheVariants.{Char, SimpleEscape, DecimalEscape}
 use Rattle.dns_label.specs.Symbol.{spelled}
 
--- what means something else in a zone file: a space, `"`, `$`, `(`, `)`, a dot, `;` and a backslash (RFC 1035 5.1)
+-- what means something else in a zone file: a space, `"`, `$`, `(`, `)`, a dot, `;` and a backslash (RFC 1035, section
+-- 5.1)
 abbrev pub is_special : ℕ → Bool
 is_special octet =
     (octet == 32) || ((octet == 34) || ((octet == 36) || ((octet == 40) || ((octet == 41) || ((octet == 46) || ((octet == 59)
@@ -20,7 +21,7 @@ printed_symbol octet =
 abbrev pub printed_label : List ℕ → List ℕ
 printed_label label = flat_map (λ octet. spelled (printed_symbol octet)) label
 
--- a dot behind each label
+-- a dot after each label
 abbrev pub printed_labels : List (List ℕ) → List ℕ
 printed_labels [] = []
 printed_labels (label ∷ labels) = printed_label label ++ 46 ∷ printed_labels labels

@@ -1,4 +1,4 @@
--- Reading symbols off an iterator of characters (RFC 1035 5.1).
+-- Reading symbols off an iterator of characters (RFC 1035, section 5.1).
 use Rattle.std.specs.Prelude.{◌≡◌, ◌<◌, ◌≤◌, ◌+◌, ◌⊎◌, ℕ, List, [], ◌∷◌, ◌++◌, length, Option, Some, None, Result, Ok, Err}
 use Rattle.std.specs.Iterator.{Yields, Drains}
 use Rattle.std.specs.List.{AllByRecursion}
@@ -15,7 +15,7 @@ pub record BeginsWithSymbol (text : List ℕ) : Type 0 where
   pub is_symbol : IsSymbol symbol
   pub written : text ≡ spelled symbol ++ rest
 
--- the text is at its end, or goes on with a symbol
+-- the text is empty, or begins with a symbol
 abbrev pub GoesOnInSymbols : List ℕ → Type 0
 GoesOnInSymbols text = (text ≡ []) ⊎ BeginsWithSymbol text
 
@@ -26,7 +26,7 @@ pub record BeginsWithDigit (text : List ℕ) : Type 0 where
   pub small : value < 10
   pub written : text ≡ (48 + value) ∷ rest
 
--- the characters of one symbol are taken, or there is no character, or one comes and no symbol
+-- the characters of one symbol are taken, or there is no character, or there is one and no symbol
 abbrev pub ReadsSymbol : {S : Type 0} → (S → Option ℕ → S → Type 0) → S → Result (Option Symbol) SymbolCharsError → S → Type 0
 ReadsSymbol steps start (Ok (Some symbol)) end = IsSymbol symbol × Yields steps start (spelled symbol) end
 ReadsSymbol steps start (Ok None) end = steps start None end
@@ -35,13 +35,14 @@ ReadsSymbol steps start (Err error) end = RulesOut steps start GoesOnInSymbols
 abbrev pub IsDigit : ℕ → Type 0
 IsDigit c = (48 ≤ c) × (c ≤ 57)
 
--- which error comes where a digit is wanted: a character is none, or none is left
+-- the error if a digit is wanted: the character is no digit, or no character is left
 abbrev pub IsDigitFault : {S : Type 0} → (S → Option ℕ → S → Type 0) → S → SymbolCharsError → Type 0
 IsDigitFault steps start BadChar = ⊥
 IsDigitFault {S} steps start BadEscape = (c : ℕ) × (here : S) × steps start (Some c) here × (IsDigit c → ⊥)
 IsDigitFault steps start ShortInput = Drains steps start []
 
--- which error comes behind a backslash: whatever follows what is taken, no symbol begins there; or the characters end in its digits
+-- the error after a backslash: whatever follows the characters taken, no symbol begins at the backslash; or the
+-- characters end before the third digit
 abbrev pub IsEscapeFault : {S : Type 0} → (S → Option ℕ → S → Type 0) → S → SymbolCharsError → Type 0
 IsEscapeFault steps start BadChar = ⊥
 IsEscapeFault {S} steps start BadEscape =
@@ -49,7 +50,7 @@ IsEscapeFault {S} steps start BadEscape =
 IsEscapeFault steps start ShortInput =
     (digits : List ℕ) × AllByRecursion IsDigit digits × (length digits < 3) × Drains steps start digits
 
--- which error comes in place of a symbol: its first character is not printable, or it is a backslash with a fault behind it
+-- the error in place of a symbol: the first character is not printable, or it is a backslash and a fault follows
 abbrev pub IsSymbolFault : {S : Type 0} → (S → Option ℕ → S → Type 0) → S → SymbolCharsError → Type 0
 IsSymbolFault {S} steps start BadChar = (c : ℕ) × (here : S) × steps start (Some c) here × (IsPrintable c → ⊥)
 IsSymbolFault {S} steps start BadEscape = (here : S) × steps start (Some 92) here × IsEscapeFault steps here BadEscape

@@ -1,4 +1,4 @@
--- The labels that are seen at a place of a message, whether or not it spells a name there (RFC 1035 4.1.4).
+-- The labels that are seen at a place of a message, whether it spells a name there or not (RFC 1035, section 4.1.4).
 use Rattle.std.specs.Prelude.{◌≡◌, ◌+◌, ◌-◌, ◌*◌, ◌<◌, ◌≤◌, ◌⊎◌, ◌==◌, ℕ, zero, suc, List, [], ◌∷◌, ◌++◌, length, drop, take, nat_lt, Option, Some, None}
 use Rattle.std.specs.Prelude.{if◌then◌else◌}
 use Rattle.dns_label.specs.declared.label.SplitLabelError.{SplitLabelError}
@@ -6,14 +6,14 @@ use Rattle.dns_label.specs.declared.label.SplitLabelError.TheVariants.{Pointer, 
 use Rattle.dns_label.specs.Name.{IsLabel}
 use Rattle.dns_label.specs.Split.{NoLabel}
 
--- what is no label ends them, but for a pointer to a place in front of its own while one may be followed
+-- what is no label ends them, except for a pointer to a place before its own while one may still be followed
 abbrev pub EndsThem : ℕ → ℕ → SplitLabelError → Type 0
 EndsThem pointers place (Pointer target) = (pointers ≡ 0) ⊎ (place ≤ target)
 EndsThem pointers place (BadType kind) = Unit {0}
 EndsThem pointers place ShortInput = Unit {0}
 
--- From the place on, with at most so many pointers followed, these labels are seen: all of a name, the root's empty one
--- last, or those in front of what is neither a label nor a pointer that is followed.
+-- From the place on, with at most this number of pointers followed, these labels are seen: all labels of a name, the
+-- root's empty one last, or those before what is neither a label nor a pointer that is followed.
 pub data Seen (message : List ℕ) : ℕ → ℕ → List (List ℕ) → Type 0 where
   root : {pointers place : ℕ} (rest : List ℕ)
       → drop place message ≡ 0 ∷ rest
@@ -34,7 +34,7 @@ pub data Seen (message : List ℕ) : ℕ → ℕ → List (List ℕ) → Type 0 
       → EndsThem pointers place error
       → Seen message pointers place []
 
--- The same as a function, by looking at no more than so many heads.
+-- The same as a function, by looking at no more than this number of heads.
 abbrev pub behind_pointer : (ℕ → ℕ → List (List ℕ)) → ℕ → ℕ → ℕ → List ℕ → List (List ℕ)
 behind_pointer more zero place first rest = []
 behind_pointer more (suc pointers) place first [] = []
@@ -52,7 +52,7 @@ unfoldable pub seen_by : List ℕ → ℕ → ℕ → ℕ → List (List ℕ)
 seen_by message zero pointers place = []
 seen_by message (suc heads) pointers place = seen_in (seen_by message heads) pointers place (drop place message)
 
--- so many heads there are at most: those of the message, once for each pointer and once more
+-- the greatest number of heads: those of the message, once for each pointer and once more
 abbrev pub most_heads : ℕ → ℕ → ℕ
 most_heads len zero = len + 1
 most_heads len (suc pointers) = most_heads len pointers + len + 1
@@ -60,7 +60,7 @@ most_heads len (suc pointers) = most_heads len pointers + len + 1
 unfoldable pub labels_seen : List ℕ → ℕ → ℕ → List (List ℕ)
 labels_seen message pointers place = seen_by message (most_heads (length message) pointers) pointers place
 
--- none are left behind the last
+-- no label is left after the last
 abbrev pub labels_to_see : List ℕ → ℕ → Option ℕ → List (List ℕ)
 labels_to_see message pointers None = []
 labels_to_see message pointers (Some place) = labels_seen message pointers place

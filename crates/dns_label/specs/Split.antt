@@ -1,15 +1,15 @@
--- What stands at the front of octets in the place of a label (RFC 1035 4.1.4).
+-- What octets begin with, at the place of a label (RFC 1035, section 4.1.4).
 use Rattle.std.specs.Prelude.{◌≡◌, ◌+◌, ◌-◌, ◌*◌, ◌<◌, ◌≤◌, ◌⊎◌, ℕ, List, [], ◌∷◌, ◌++◌, length}
 use Rattle.dns_label.specs.declared.label.SplitLabelError.{SplitLabelError}
 use Rattle.dns_label.specs.declared.label.SplitLabelError.TheVariants.{Pointer, BadType, ShortInput}
 use Rattle.dns_label.specs.declared.label.LabelTypeError.TheVariants.{Undefined, Extended}
 
--- a label of at most 63 octets behind its length, and then the rest
+-- the length of a label, at most 63 octets of it, and then the rest
 pub record StartsWithLabel (octets label rest : List ℕ) : Type 0 where
   pub spelled : octets ≡ length label ∷ label ++ rest
   pub short : length label ≤ 63
 
--- two octets, of which the first has both top bits set: the other 14 bits are a place
+-- two octets, the first with both top bits set: the other 14 bits are a place
 pub record StartsWithPointer (octets : List ℕ) (place : ℕ) : Type 0 where
   pub first : ℕ
   pub second : ℕ
@@ -18,7 +18,7 @@ pub record StartsWithPointer (octets : List ℕ) (place : ℕ) : Type 0 where
   pub both_bits : 192 ≤ first
   pub is : place ≡ 256 * (first - 192) + second
 
--- the first octet lies in a range
+-- the first octet is in a range
 pub record StartsWithin (octets : List ℕ) (least below : ℕ) : Type 0 where
   pub first : ℕ
   pub rest : List ℕ
@@ -26,7 +26,7 @@ pub record StartsWithin (octets : List ℕ) (least below : ℕ) : Type 0 where
   pub from : least ≤ first
   pub to : first < below
 
--- the octets end in a label or a pointer, or before it
+-- the octets end before a label or a pointer is complete
 abbrev pub EndsEarly : List ℕ → Type 0
 EndsEarly [] = Unit {0}
 EndsEarly (first ∷ rest) = ((first ≤ 63) × (length rest < first)) ⊎ ((192 ≤ first) × (rest ≡ []))

@@ -1,4 +1,4 @@
--- The symbols of text, each of which stands for an octet (RFC 1035 5.1).
+-- The symbols of text, each for one octet (RFC 1035, section 5.1).
 use Rattle.std.specs.Prelude.{◌+◌, ◌<◌, ◌≤◌, ◌≢◌, ◌/◌, ◌%◌, ◌⊎◌, ◌==◌, ◌&&◌, ℕ, Bool, List, [], ◌∷◌, nat_lt, not}
 use Rattle.dns_label.specs.declared.symbol.Symbol.{Symbol}
 use Rattle.dns_label.specs.declared.symbol.Symbol.TheVariants.{Char, SimpleEscape, DecimalEscape}
@@ -25,7 +25,7 @@ IsSymbol (Char c) = IsPrintable c × (c ≢ 92)
 IsSymbol (SimpleEscape c) = IsPrintable c × IsNoDigit c
 IsSymbol (DecimalEscape n) = n < 256
 
--- a number below 1000 by three digits
+-- a number below 1000 as three digits
 abbrev pub three_digits : ℕ → List ℕ
 three_digits n = (48 + n / 100) ∷ (48 + n / 10 % 10) ∷ (48 + n % 10) ∷ []
 

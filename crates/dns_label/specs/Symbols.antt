@@ -12,8 +12,8 @@ use Rattle.dns_label.specs.Taken.{RulesOut}
 abbrev pub chars_of : {C : Type 0} → Symbols C → Result C SymbolCharsError
 chars_of symbols = symbols.chars
 
--- A call gives the symbol that the characters spell, or none at their end. Where they begin with no symbol it gives none, and
--- then and later keeps why.
+-- A call gives the symbol that the characters spell, or None at their end. If they begin with no symbol it gives None,
+-- and keeps the error from then on.
 abbrev pub GivesSymbol : {C : Type 0} → (C → Option ℕ → C → Type 0) → Result C SymbolCharsError → Option Symbol
     → Result C SymbolCharsError → Type 0
 GivesSymbol steps (Ok start) (Some symbol) (Ok end) = IsSymbol symbol × Yields steps start (spelled symbol) end
@@ -23,7 +23,7 @@ GivesSymbol steps (Ok start) None (Err error) = RulesOut steps start GoesOnInSym
 GivesSymbol steps (Err error) (Some symbol) end = ⊥
 GivesSymbol steps (Err error) None end = end ≡ Err error
 
--- how many symbols come at most
+-- the greatest number of symbols that can still come
 abbrev pub symbols_left : {C : Type 0} → (C → Count) → Result C SymbolCharsError → Count
 symbols_left remaining (Ok chars) = remaining chars
 symbols_left remaining (Err error) = at_most 0

@@ -15,18 +15,18 @@ pub use slice_labels::SliceLabelsIter;
 use std::alloc::AllocError;
 use thiserror::Error;
 
-/// The octets are more than the 63 of a label (RFC 1035 2.3.4).
+/// There are more octets than the 63 of a label (RFC 1035, section 2.3.4).
 #[derive(Clone, Copy, Debug, PartialEq, Eq, Error)]
 #[error("long label")]
 pub struct LongLabelError;
 
-/// The octet in the place of a label's length is of a kind that no standard in use defines (RFC 1035 4.1.4).
+/// The octet at the place of a label's length is of a type that no standard in use defines (RFC 1035, section 4.1.4).
 #[derive(Clone, Copy, Debug, PartialEq, Eq, Error)]
 pub enum LabelTypeError {
     /// Its top bits are 10.
     #[error("undefined label type")]
     Undefined,
-    /// Its top bits are 01 (RFC 6891 5).
+    /// Its top bits are 01 (RFC 6891, section 5).
     #[error("unknown extended label type")]
     Extended,
 }
@@ -53,7 +53,7 @@ impl From<LabelTypeError> for SplitLabelError {
     }
 }
 
-/// A label of a domain name: at most 63 octets, and none in the root's (RFC 1035 3.1).
+/// A label of a domain name: at most 63 octets, and none in the root's label (RFC 1035, section 3.1).
 #[derive(Debug)]
 pub struct Label<'a> {
     octets: &'a [u8],
@@ -78,21 +78,21 @@ impl<'a> Label<'a> {
     ghost use Rattle.dns_label.specs.Label.{octets_of};
     ghost use Rattle.dns_label.specs.Split.{NoLabel, StartsWithLabel};
 
-    /// The root's label, which has no octets.
+    /// Returns the root's label, which has no octets.
     pub fn root() -> Label<'static>
         ensures { octets_of result ≡ [] }
     {
         Label { octets: &[] }
     }
 
-    /// The label `*` (RFC 4592 2.1.1).
+    /// Returns the label `*` (RFC 4592, section 2.1.1).
     pub fn wildcard() -> Label<'static>
         ensures { octets_of result ≡ 42 ∷ [] }
     {
         Label { octets: b"*" }
     }
 
-    /// The label of these octets. Refused past 63 of them.
+    /// Returns the label of these octets. Fails exactly if they are more than 63.
     pub fn from_slice(octets: &'a [u8]) -> Result<Self, LongLabelError>
         ensures ok { IfOk result (λ label. octets_of label ≡ octets.now) }
         ensures short { IsOk result ↔ (length octets.now ≤ 63) }
@@ -103,9 +103,11 @@ impl<'a> Label<'a> {
         Ok(Label { octets })
     }
 
-    /// The label at the front of the octets, which stands behind its length, and the octets behind it.
+    /// Splits a label off the front of the octets: a length, and that number of octets. Returns the label and the
+    /// octets after it.
     ///
-    /// Refused where the front is a pointer, is of another kind, or ends early (RFC 1035 4.1.4).
+    /// Fails if the octets begin with a pointer or with a length of another type, or end early (RFC 1035, section
+    /// 4.1.4).
     pub fn split_from(octets: &'a [u8]) -> Result<(Self, &'a [u8]), SplitLabelError>
         ensures ok { IfOk result (λ found. StartsWithLabel octets.now (octets_of found.0) found.1.now) }
         ensures err { IfErr result (NoLabel octets.now) }
@@ -131,35 +133,35 @@ impl<'a> Label<'a> {
         }
     }
 
-    /// The octets, without their length.
+    /// Returns the octets, without the length octet.
     pub fn as_slice(&self) -> &'a [u8]
         ensures { result.now ≡ octets_of self.now }
     {
         self.octets
     }
 
-    /// How many octets the label has, its length octet not counted.
+    /// Returns the number of octets, without the length octet.
     pub fn len(&self) -> usize
         ensures { result ≡ length (octets_of self.now) }
     {
         self.octets.len()
     }
 
-    /// Whether the label has no octets.
+    /// Returns whether the label has no octets.
     pub fn is_empty(&self) -> bool
         ensures { IsTrue result ↔ (octets_of self.now ≡ []) }
     {
         self.is_root()
     }
 
-    /// Whether this is the label `*` (RFC 4592 2.1.1).
+    /// Returns whether this is the label `*` (RFC 4592, section 2.1.1).
     pub fn is_wildcard(&self) -> bool
         ensures { IsTrue result ↔ (octets_of self.now ≡ 42 ∷ []) }
     {
         matches!(self.octets, [b'*'])
     }
 
-    /// Whether this is the root's label, which has no octets.
+    /// Returns whether this is the root's label, which has no octets.
     pub fn is_root(&self) -> bool
         ensures { IsTrue result ↔ (octets_of self.now ≡ []) }
     {
@@ -167,7 +169,7 @@ impl<'a> Label<'a> {
     }
 }
 
-/// The place that a pointer of these two octets gives.
+/// Returns the place that a pointer of these two octets gives.
 fn pointer_place(first: u8, second: u8) -> u16
     requires { 192 ≤ first }
     ensures { result ≡ 256 * (first - 192) + second }

@@ -1,6 +1,6 @@
-//! Labels of domain names, and the symbols in which text writes their octets.
+//! Labels of domain names, and the symbols that text writes their octets in.
 //!
-//! A part of `dns_name`, which hands all of it on. Its `specs/` say what a name is, which name a message spells at a
+//! A part of `dns_name`, which re-exports all of it. Its `specs/` say what a name is, which name a message spells at a
 //! place, and which name a text spells.
 #![tactic(auto)]
 

@@ -5,24 +5,24 @@ ghost use Rattle.std.specs.Simd.Lanes.{mask_l};
 
 use std::simd::prelude::*;
 
-/// How many octets are looked at together.
+/// The number of octets that are looked at together.
 const LANES: usize = 16;
 
-/// A kind of octets, as those that stand in a text for themselves.
+/// A kind of octets, such as those that a text writes as themselves.
 pub trait OctetKind {
     ghost has: { ℕ → Bool };
 
-    /// Whether an octet is of the kind.
+    /// Returns whether an octet is of the kind.
     fn has(octet: u8) -> bool
         ensures { result ≡ has octet };
 
-    /// Which of sixteen octets are of no such kind: a bit for each, that of the first the lowest.
+    /// Returns a mask of the octets that are not of the kind: a bit for each of the sixteen, the lowest for the first.
     fn others(octets: u8x16) -> u64
         ensures { result ≡ mask_l (map (λ octet. not (has octet)) octets) };
 }
 
-/// Where the octets of the kind end that stand one behind the other from a place on: that place itself where none stands there,
-/// and the text's end where all that is left are of the kind.
+/// Returns the end of the run of octets of the kind that starts at `place`: `place` itself if the octet there is of no
+/// such kind, and the text's end if all that is left are.
 pub fn run_end<K: OctetKind>(text: &[u8], place: usize) -> usize
     requires { place ≤ length text.now }
     ensures end { result ≡ place + prefix_len K.has (drop place text.now) }
@@ -43,7 +43,7 @@ pub fn run_end<K: OctetKind>(text: &[u8], place: usize) -> usize
     }
 }
 
-/// The same from a place among the last sixteen octets, which are looked at together with what stands before it.
+/// The same from a place among the last sixteen octets. It looks at these together, and ignores those before the place.
 fn last_run_end<K: OctetKind>(text: &[u8], place: usize) -> usize
     requires long { 16 ≤ length text.now }
     requires last { length text.now ≤ place + 16 }

@@ -1,4 +1,4 @@
-//! The symbols in which text writes octets.
+//! The symbols that text writes octets in.
 ghost use Rattle.std.specs.Prelude.{◌≡◌, ◌+◌, ◌≤◌, ◌<◌, ◌⊎◌, ◌++◌, ◌∷◌, ◌↔◌, List, ℕ, Some, IsTrue, IsOk, IfSome, IfNone, IfOk, IfErr, OnErr};
 ghost use Rattle.std.specs.Iterator.{MakesProgress, Yields};
 ghost use Rattle.dns_label.specs.Symbol.{IsPrintable, IsNoDigit, IsSymbol, spelled, octet, three_digits};
@@ -9,7 +9,7 @@ mod show;
 
 use thiserror::Error;
 
-/// Why characters are no symbols.
+/// Why characters are no symbol.
 #[derive(Clone, Copy, Debug, PartialEq, Eq, Error)]
 pub enum SymbolCharsError {
     /// A character outside 0x20 to 0x7E.
@@ -18,22 +18,22 @@ pub enum SymbolCharsError {
     /// A backslash before a character outside 0x20 to 0x7E, or before digits that are not three or give more than 255.
     #[error("illegal escape sequence")]
     BadEscape,
-    /// The characters end behind a backslash, or in the digits behind it.
+    /// The characters end after a backslash, or before the third digit after it.
     #[error("unexpected end of input")]
     ShortInput,
 }
 
-/// The symbol is none of a text, so that it stands for no octet.
+/// No text has this symbol, so that it stands for no octet.
 #[derive(Clone, Copy, Debug, PartialEq, Eq, Error)]
 #[error("bad symbol")]
 pub struct BadSymbol;
 
-/// A symbol of text, which stands for one octet (RFC 1035 5.1).
+/// A symbol of text, which stands for one octet (RFC 1035, section 5.1).
 #[derive(Clone, Copy, Debug, PartialEq, Eq)]
 pub enum Symbol {
     /// A character that stands for itself.
     Char(char),
-    /// A backslash before a character, which stands for that character and has no other meaning.
+    /// A backslash before a character, which stands for that character without any other meaning.
     SimpleEscape(u8),
     /// A backslash before the three decimal digits of an octet.
     DecimalEscape(u8),
@@ -43,10 +43,11 @@ impl Symbol {
     ghost use Rattle.dns_label.specs.ReadSymbol.{ReadsSymbol, IsSymbolFault};
     ghost use Rattle.dns_label.specs.Digit.{IsCharacter, IsDigitTo};
 
-    /// The next symbol of the characters, of which no more are taken; None where there is no character left.
+    /// Reads the next symbol off the characters and takes no more of them. Returns None if no character is left.
     ///
-    /// Refused where a character outside 0x20 to 0x7E comes, and at a backslash before one, before digits that are not
-    /// three or give more than 255, and at the end.
+    /// Fails with `BadChar` at a character outside 0x20 to 0x7E, with `BadEscape` at a backslash before such a
+    /// character or before digits that are not three or give more than 255, and with `ShortInput` if the characters end
+    /// too early after a backslash.
     pub fn from_chars<C: Iterator<Item = char>>(
         chars: &mut C,
     ) -> Result<Option<Symbol>, SymbolCharsError>
@@ -63,10 +64,10 @@ impl Symbol {
         }
     }
 
-    /// The octet that the symbol stands for.
+    /// Returns the octet that the symbol stands for.
     ///
-    /// Refused where no text has this symbol: a character outside 0x20 to 0x7E, escaped or not, a plain backslash, and a
-    /// digit that is escaped by itself.
+    /// Fails exactly if no text has this symbol: a character outside 0x20 to 0x7E, escaped or not, a plain backslash,
+    /// or a digit that is escaped by itself.
     pub fn into_octet(self) -> Result<u8, BadSymbol>
         ensures octet { IfOk result (λ value. value ≡ octet self) }
         ensures symbol { IsOk result ↔ IsSymbol self }
@@ -80,9 +81,9 @@ impl Symbol {
         }
     }
 
-    /// The octet that the symbol stands for, where that is printable.
+    /// Returns the octet that the symbol stands for, if it is printable.
     ///
-    /// Refused where no text has this symbol, and where the octet lies outside 0x20 to 0x7E.
+    /// Fails exactly if no text has this symbol, or if the octet is outside 0x20 to 0x7E.
     pub fn into_ascii(self) -> Result<u8, BadSymbol>
         ensures octet { IfOk result (λ value. value ≡ octet self) }
         ensures printable { IsOk result ↔ (IsSymbol self × IsPrintable (octet self)) }
@@ -93,9 +94,9 @@ impl Symbol {
         }
     }
 
-    /// The character that the symbol is, plain or escaped.
+    /// Returns the character that the symbol is, plain or escaped.
     ///
-    /// Refused where no text has this symbol, and at a number, which is no character.
+    /// Fails exactly if no text has this symbol, or if it is a number, which is no character.
     pub fn into_char(self) -> Result<char, BadSymbol>
         ensures char { IfOk result (λ value. value ≡ octet self) }
         ensures symbol { IsOk result ↔ (IsSymbol self × IsCharacter self) }
@@ -106,9 +107,10 @@ impl Symbol {
         }
     }
 
-    /// The value of a plain character as a digit to this base, letters of either case going on behind the 9.
+    /// Returns the value of a plain character as a digit of this base, 2 to 36. After the 9 come letters of either
+    /// case.
     ///
-    /// Refused where it is no such digit.
+    /// Fails if it is no such digit.
     pub fn into_digit(self, base: u32) -> Result<u32, BadSymbol>
         requires least { 2 ≤ base }
         requires most { base ≤ 36 }
@@ -121,9 +123,9 @@ impl Symbol {
         c.to_digit(base).ok_or(BadSymbol)
     }
 
-    /// The symbol at the front of the text, and the text behind it. None where no symbol stands there: at the end, at
-    /// an octet outside 0x20 to 0x7E, at a backslash before one, and at a backslash before digits that are not three
-    /// or give more than 255.
+    /// Splits a symbol off the front of the text. Returns the symbol and the text after it, or None if the text begins
+    /// with no symbol: at its end, at an octet outside 0x20 to 0x7E, at a backslash before one, and at a backslash
+    /// before digits that are not three or give more than 255.
     pub fn split_from(text: &[u8]) -> Option<(Symbol, &[u8])>
         ensures found { IfSome result (λ found. IsSymbol found.0 × (text.now ≡ spelled found.0 ++ found.1.now)) }
         ensures none { IfNone result ((symbol : Symbol) (rest : List ℕ) → IsSymbol symbol → text.now ≡ spelled symbol ++ rest → ⊥) }
@@ -137,14 +139,14 @@ impl Symbol {
     }
 }
 
-/// Whether a backslash may stand before the octet: a printable character that is no digit.
+/// Returns whether a backslash may escape the octet: a printable character that is no digit.
 fn is_escapable(octet: u8) -> bool
     ensures { IsTrue result ↔ (IsPrintable octet × IsNoDigit octet) }
 {
     matches!(octet, b' '..=b'/' | b':'..=b'~')
 }
 
-/// The symbol of which the backslash has been read off the characters.
+/// Reads the rest of a symbol off the characters, after its backslash.
 fn read_escape<C: Iterator<Item = char>>(chars: &mut C) -> Result<Symbol, SymbolCharsError>
     requires { C.can_next chars.old }
     ensures found { IfOk result (λ symbol. IsSymbol symbol × ((behind : List ℕ) × (spelled symbol ≡ 92 ∷ behind) × Yields C.next_gives chars.old behind chars.new)) }
@@ -170,7 +172,7 @@ fn read_escape<C: Iterator<Item = char>>(chars: &mut C) -> Result<Symbol, Symbol
     }
 }
 
-/// The value of the next character, a decimal digit.
+/// Reads the next character, a decimal digit, and returns its value.
 fn read_digit<C: Iterator<Item = char>>(chars: &mut C) -> Result<u16, SymbolCharsError>
     requires { C.can_next chars.old }
     ensures found { IfOk result (λ value. (value < 10) × C.next_gives chars.old (Some (48 + value)) chars.new) }
@@ -185,7 +187,7 @@ fn read_digit<C: Iterator<Item = char>>(chars: &mut C) -> Result<u16, SymbolChar
     }
 }
 
-/// The symbol of which the backslash has been read.
+/// Splits off the rest of a symbol, after its backslash.
 fn split_escape(text: &[u8]) -> Option<(Symbol, &[u8])>
     ensures found { IfSome result (λ found. IsSymbol found.0 × (92 ∷ text.now ≡ spelled found.0 ++ found.1.now)) }
     ensures none { IfNone result ((symbol : Symbol) (rest : List ℕ) → IsSymbol symbol → 92 ∷ text.now ≡ spelled symbol ++ rest → ⊥) }
@@ -201,7 +203,7 @@ fn split_escape(text: &[u8]) -> Option<(Symbol, &[u8])>
     }
 }
 
-/// The number of an octet by three digits.
+/// Splits off the number of an octet in three digits.
 fn split_decimal(text: &[u8]) -> Option<(u8, &[u8])>
     ensures found { IfSome result (λ found. text.now ≡ three_digits found.0 ++ found.1.now) }
     ensures none { IfNone result ((n : ℕ) (rest : List ℕ) → n < 256 → text.now ≡ three_digits n ++ rest → ⊥) }
@@ -214,7 +216,7 @@ fn split_decimal(text: &[u8]) -> Option<(u8, &[u8])>
     Some((u8::try_from(number).ok()?, rest))
 }
 
-/// The value of a decimal digit.
+/// Returns the value of a decimal digit, or None.
 fn digit(octet: u8) -> Option<u8>
     ensures value { IfSome result (λ value. (value < 10) × (octet ≡ 48 + value)) }
     ensures none { IfNone result ((octet < 48) ⊎ (57 < octet)) }

@@ -1,12 +1,12 @@
-//! The symbols that characters spell, one after another.
+//! The symbols that characters spell, one by one.
 ghost use Rattle.std.specs.Prelude.{◌≡◌, Ok, Err, IsOk, IfOk, IfErr, MatchResult};
 ghost use Rattle.std.specs.Result.{ForOk};
 
 use crate::{Symbol, SymbolCharsError};
 
-/// An iterator of the symbols that characters spell (RFC 1035 5.1).
+/// An iterator of the symbols that characters spell (RFC 1035, section 5.1).
 ///
-/// It ends with the characters, or where they begin with no symbol; `ok` tells which.
+/// It ends at the end of the characters, or if they begin with no symbol; `ok` tells which.
 #[derive(Drop)]
 pub struct Symbols<C> {
     chars: Result<C, SymbolCharsError>,
@@ -16,14 +16,14 @@ impl<C: Iterator<Item = char> + Drop> Symbols<C> {
     ghost use Rattle.dns_label.specs.Symbols.{chars_of};
     ghost use Rattle.dns_label.specs.UsedSymbols.{MayUse, Uses, StopsUsing};
 
-    /// The symbols of these characters.
+    /// Returns the symbols of these characters.
     pub fn new(chars: C) -> Self
         ensures { chars_of result ≡ Ok chars }
     {
         Symbols { chars: Ok(chars) }
     }
 
-    /// Whether the symbols ended without an error, or else with which.
+    /// Returns the error that the symbols ended with, if there is one.
     pub fn ok(self) -> Result<(), SymbolCharsError>
         ensures { MatchResult (chars_of self) (λ chars. result ≡ Ok tt) (λ error. result ≡ Err error) }
     {
@@ -31,10 +31,10 @@ impl<C: Iterator<Item = char> + Drop> Symbols<C> {
         Ok(())
     }
 
-    /// What a closure makes of the symbols of these characters.
+    /// Calls a closure with the symbols of these characters, and returns what it returns.
     ///
-    /// Refused where the closure refuses, by its error, and where the symbols ended with an error before or while it
-    /// took them, by that error.
+    /// Fails with the closure's own error, or with the error that the symbols ended with before or while the closure
+    /// took them.
     pub fn with<R: Drop, E: From<SymbolCharsError>, F: FnOnce(&mut Self) -> Result<R, E>>(
         chars: C,
         make: F,

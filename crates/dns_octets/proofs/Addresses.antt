@@ -2,7 +2,7 @@
 use Rattle.std.proofs.Common.{◌≡◌, ◌+◌, ◌-◌, ◌*◌, ◌/◌, ◌%◌, ◌<◌, ℕ, suc, List, [], ◌∷◌, length, get_or, refl, arith}
 use Rattle.std.specs.Net.Addr.{octets_of, segments_of}
 
--- a segment gives its two octets back
+-- a segment gives back its two octets
 high : (a b : ℕ) → b < 256 → (a * 256 + b) / 256 ≡ a
 high a b small = omega arith
 

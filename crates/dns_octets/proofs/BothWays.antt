@@ -1,4 +1,4 @@
--- Numbers and their octets, both ways.
+-- Numbers and their octets: each gives the other back.
 use Rattle.std.proofs.Common.{◌≡◌, ◌<◌, ◌^◌, ℕ, ℤ, List, [], ◌∷◌, length, get_or, w8, w16, w32, w64, ap, ◌∙◌, arith}
 use Rattle.std.specs.Int.{to_be_bytes, from_be_bytes, cast_signed, cast_unsigned}
 use Rattle.std.specs.Prelude.{slice_index}

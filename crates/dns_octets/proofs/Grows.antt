@@ -1,9 +1,9 @@
--- How octets, and what is remembered of them, grow.
+-- How octets grow, and what is remembered of them.
 use Rattle.std.proofs.Common.{◌≡◌, ℕ, List, [], ◌++◌, sym, ◌∙◌, arith}
 use Rattle.std.proofs.lemmas.List.{append-nil}
 use Rattle.dns_octets.specs.Builder.{Known, GrowsTo}
 
--- octets behind the old ones, and nothing new that is remembered
+-- octets after the old ones, and nothing new to remember
 pub GrowsTo-append : (old : List ℕ) (known : Known) (new : List ℕ) (new_known : Known) (tail : List ℕ)
     → new ≡ old ++ tail → new_known ≡ known → GrowsTo old known new new_known
 GrowsTo-append old known new new_known tail octets same =

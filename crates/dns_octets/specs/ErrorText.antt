@@ -3,7 +3,7 @@ use Rattle.std.specs.Prelude.{◌≡◌, ◌<◌, ◌≤◌, ℕ, List, take}
 use Rattle.std.specs.Str.{IsCharBoundary}
 use Rattle.dns_octets.specs.declared.error.FormError.{FormError}
 
--- what is kept of a text: the whole characters among its first 62 octets
+-- what is kept of a text: the whole characters in its first 62 octets
 pub record IsKept (text kept : List ℕ) : Type 0 where
   pub place : ℕ
   pub few : place ≤ 62
@@ -11,6 +11,6 @@ pub record IsKept (text kept : List ℕ) : Type 0 where
   pub most : (other : ℕ) → place < other → other ≤ 62 → IsCharBoundary text other → ⊥
   pub is : kept ≡ take place text
 
--- the text of an error of the form
+-- the text of a form error
 abbrev pub text_of : FormError → List ℕ
 text_of form = take form.len form.octets

@@ -1,4 +1,4 @@
-//! What octets are appended to.
+//! Targets that octets are appended to.
 ghost use Rattle.std.specs.Prelude.{◌≡◌, ◌<◌, ◌++◌, List, ℕ, [], Option, Ok, Err, Result, take, length, slice_set, IfOk, OnOk, OnErr};
 ghost use Rattle.dns_octets.specs.Builder.{Known, before, GrowsTo, IsWithin, IsPast};
 ghost use Rattle.dns_octets.specs.declared.error.AppendError.{AppendError};
@@ -12,22 +12,22 @@ use crate::error::AppendError;
 use crate::octets::Octets;
 use std::alloc::Global;
 
-/// A type that may remember where suffixes of names stand in its octets. A plain target remembers none.
+/// A type that may remember where suffixes of names are in its octets. A plain target remembers none.
 pub trait Remembers {
     ghost known: { Self → Known };
 }
 
 /// A target that octets are appended to.
 ///
-/// `bound` is how many octets it may hold, None where only memory bounds it. `stays` says what it
-/// keeps of the target that it stands on.
+/// `bound` is the greatest number of octets it may hold, or None if only memory limits it. `stays` relates the target
+/// before a call to the target after it: what no call changes.
 pub trait OctetsBuilder: Octets + Remembers {
     ghost bound: { Self → Option ℕ };
 
     ghost stays: { Self → Self → Type 0 };
 
-    /// Appends the octets, all or none. Refused with `ShortBuf` only where the target would then hold
-    /// more octets than it may, and with `OutOfMemory` where a growth was refused.
+    /// Appends all the octets, or none if it fails. Fails with `ShortBuf` only if the target is too full, and with
+    /// `OutOfMemory` only if out of memory.
     fn append_slice(&mut self, octets: &[u8]) -> Result<(), AppendError>
         ensures ok { OnOk result (Self.list self.new ≡ Self.list self.old ++ octets.now) }
         ensures err { OnErr result (Self.list self.new ≡ Self.list self.old) }
@@ -51,18 +51,18 @@ pub trait OctetsBuilder: Octets + Remembers {
 
 /// A target that can be made empty.
 ///
-/// `limit` is how many octets such a target may hold.
+/// `limit` is the greatest number of octets such a target may hold.
 pub trait EmptyBuilder: OctetsBuilder + Sized {
     ghost limit: { Option ℕ };
 
-    /// A target without octets, which grows on this allocator if it grows at all.
+    /// Returns a target without octets. If it grows, it allocates with `alloc`.
     fn empty(alloc: Global) -> Self
         ensures octets { Self.list result ≡ [] }
         ensures known { Self.known result ≡ [] }
         ensures limit { Self.bound result ≡ limit };
 
-    /// A target without octets that has room for so many. Refused with `ShortBuf` only where it may
-    /// not hold them, and with `OutOfMemory` where the memory was refused.
+    /// Returns a target without octets, with room for `capacity` octets. Fails with `ShortBuf` only if the target may
+    /// not hold that number of octets, and with `OutOfMemory` only if out of memory.
     fn with_capacity(alloc: Global, capacity: usize) -> Result<Self, AppendError>
         ensures octets { IfOk result (λ builder. Self.list builder ≡ []) }
         ensures known { IfOk result (λ builder. Self.known builder ≡ []) }
@@ -76,15 +76,15 @@ pub trait EmptyBuilder: OctetsBuilder + Sized {
 pub trait FromBuilder: Octets + Sized {
     type Builder: OctetsBuilder;
 
-    /// The octets of the target.
+    /// Returns the octets of the target.
     fn from_builder(builder: Self::Builder) -> Self
         ensures { Self.list result ≡ ⟦<Self::Builder as Octets>⟧.list builder };
 }
 
 /// A target that can be cut.
 pub trait Truncate: OctetsBuilder {
-    /// Keeps the first `len` octets, and of the remembered suffixes those that stand wholly in them.
-    /// A length that isn't below the present one changes nothing.
+    /// Keeps the first `len` octets, and the remembered suffixes that lie wholly in them. Changes nothing if `len` is
+    /// not below the present length.
     fn truncate(&mut self, len: usize)
         ensures octets { Self.list self.new ≡ take len (Self.list self.old) }
         ensures known { Self.known self.new ≡ before len (Self.known self.old) }
@@ -92,9 +92,9 @@ pub trait Truncate: OctetsBuilder {
         ensures stays { Self.stays self.old self.new };
 }
 
-/// A target whose octets can be changed where they stand.
+/// A target whose octets can be changed in place.
 pub trait WriteOctets: OctetsBuilder {
-    /// Puts an octet in the place of another one.
+    /// Sets the octet at `place`.
     fn set_octet(&mut self, place: usize, octet: u8)
         requires { place < length (Self.list self.old) }
         ensures octets { Self.list self.new ≡ slice_set (Self.list self.old) place octet }
@@ -103,24 +103,23 @@ pub trait WriteOctets: OctetsBuilder {
         ensures stays { Self.stays self.old self.new };
 }
 
-/// A target that gives its octets away.
+/// A target that can be turned into its octets.
 pub trait FreezeBuilder: Octets {
     type Octets: Octets;
 
-    /// The octets of the target.
+    /// Returns the octets of the target.
     fn freeze(self) -> Self::Octets
         ensures { ⟦<Self::Octets as Octets>⟧.list result ≡ Self.list self };
 }
 
-/// A value of other octets that can be made of a source.
+/// A value that can be made of a source over other octets.
 ///
-/// `octets_from_gives` relates the source to the answer.
+/// `octets_from_gives` relates the source to the result.
 pub trait OctetsFrom<S>: Sized {
     ghost octets_from_gives: { S → Result Self AppendError → Type 0 };
 
-    /// The same value over octets of this kind, which grow on this allocator if they grow at all.
-    /// Refused with `ShortBuf` where the octets don't fit, and with `OutOfMemory` where the memory
-    /// was refused.
+    /// Returns the same value over octets of this kind, which allocate with `alloc` if they grow. Fails with `ShortBuf`
+    /// if the octets do not fit, and with `OutOfMemory` if out of memory.
     fn try_octets_from(alloc: Global, source: S) -> Result<Self, AppendError>
         ensures { octets_from_gives source result };
 }

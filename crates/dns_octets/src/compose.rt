@@ -1,4 +1,4 @@
-//! Writing values as octets.
+//! Composing values into octets.
 ghost use Rattle.std.specs.Prelude.{◌≡◌, ◌++◌, ◌∷◌, [], List, ℕ, Err, length, OnOk, OnErr};
 ghost use Rattle.std.specs.Int.{to_be_bytes, cast_unsigned, w8, w16, w32, w64};
 ghost use Rattle.std.specs.Net.Addr.{ipv4_octets, ipv6_octets};
@@ -9,11 +9,12 @@ use crate::builder::OctetsBuilder;
 use crate::error::AppendError;
 use std::net::{Ipv4Addr, Ipv6Addr};
 
-/// A value that is written as octets; `composed` is these octets.
+/// A value that can be written as octets; `composed` is these octets.
 pub trait Compose {
     ghost composed: { Self → List ℕ };
 
-    /// Appends the octets of the value, all or none, as `OctetsBuilder::append_slice` does.
+    /// Appends the octets of the value, all or none, with the errors of
+    /// `OctetsBuilder::append_slice`.
     fn compose<Target: OctetsBuilder>(&self, target: &mut Target) -> Result<(), AppendError>
         ensures ok { OnOk result (Target.list target.new ≡ Target.list target.old ++ composed self.now) }
         ensures err { OnErr result (Target.list target.new ≡ Target.list target.old) }

@@ -1,4 +1,4 @@
-//! Why a message was not read or written.
+//! The errors of parsing and composing.
 ghost use Rattle.std.specs.Prelude.{◌≡◌};
 ghost use Rattle.dns_octets.specs.ErrorText.{IsKept, text_of};
 ghost use Rattle.dns_octets.specs.declared.error.FormError.{FormError};
@@ -13,21 +13,23 @@ use thiserror::Error;
 #[error("unexpected end of input")]
 pub struct ShortInput;
 
-/// How many octets of an error's text are kept.
+/// The number of octets that are kept of an error's text.
 const ROOM: usize = 62;
 
-/// The octets are there, and are not a value of the kind that was asked for.
-// (It keeps its text and no reference to it: what is generic over a lifetime can't answer with a type that holds `'static`.)
+/// The octets are there, but they are no value of the kind that was asked for.
+// (It keeps the text itself and no reference: what is generic over a lifetime can't return a type that holds
+// `'static`.)
 #[derive(Clone, Copy, Debug, PartialEq, Eq, Error)]
 #[error("{}", self.text())]
 pub struct FormError {
     octets: [u8; ROOM],
-    /// How many of them are the text; the others are 0.
+    /// The number of octets of the text; the other octets are 0.
     len: usize,
 }
 
 impl FormError {
-    /// An error that shows this text, or of a longer one the whole characters of its first 62 octets.
+    /// Returns an error that shows this text. Of a text longer than 62 octets it shows the whole characters in the
+    /// first 62 octets.
     pub fn new(message: &'static str) -> Self
         ensures { IsKept message.now (text_of result) }
     {
@@ -37,7 +39,7 @@ impl FormError {
         FormError { octets, len }
     }
 
-    /// The text.
+    /// Returns the text.
     fn text(&self) -> &str {
         match self.octets.get(..self.len) {
             Some(octets) => str::from_utf8(octets).unwrap_or(""),
@@ -46,19 +48,19 @@ impl FormError {
     }
 }
 
-/// Why a value was not read from a message.
+/// Why a value was not parsed.
 #[derive(Clone, Copy, Debug, PartialEq, Eq, Error)]
 pub enum ParseError {
     /// The octets ended before the value did.
     #[error("unexpected end of input")]
     ShortInput,
-    /// The octets are not a value of the kind that was asked for.
+    /// The octets are no value of the kind that was asked for.
     #[error("{0}")]
     Form(FormError),
 }
 
 impl ParseError {
-    /// An error of the form, which shows this text as `FormError::new` has it.
+    /// Returns a `Form` error that shows this text as `FormError::new` does.
     pub fn form_error(message: &'static str) -> Self
         ensures { (form : FormError) × (result ≡ parse_error.Form form) × IsKept message.now (text_of form) }
     {
@@ -85,13 +87,13 @@ impl From<FormError> for ParseError {
 /// Why octets were not appended.
 #[derive(Clone, Copy, Debug, PartialEq, Eq, Error)]
 pub enum AppendError {
-    /// The target may not hold so many octets.
+    /// The target may not hold that number of octets.
     #[error("buffer size exceeded")]
     ShortBuf,
-    /// A growth of the target was refused.
+    /// Out of memory.
     #[error("out of memory")]
     OutOfMemory,
-    /// The octets have another length than was stated, or one that its field can't state.
+    /// The octets have another length than was stated, or one that does not fit its field.
     #[error("bad length")]
     BadLength,
 }

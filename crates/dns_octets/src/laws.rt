@@ -1,12 +1,11 @@
-//! Laws of writing and reading values. Each function does nothing; what it ensures is the law.
+//! Laws of composing and parsing. Each function does nothing; what it ensures is the law.
 ghost use Rattle.std.specs.Prelude.{◌≡◌, length};
 
 use crate::compose::Compose;
 use crate::parse::Parse;
 use std::net::{Ipv4Addr, Ipv6Addr};
 
-/// The octets that a `u8` is written as are read as it, and octets are those of the `u8` that they
-/// are read as.
+/// The octets composed of a `u8` parse as it, and octets are those composed of the `u8` that they parse as.
 #[tactic(auto, using(crate::proofs::BothWays::both_ways))]
 pub fn u8_both_ways(number: u8, octets: &[u8], read: u8)
     requires { length octets.now ≡ 1 }
@@ -14,8 +13,7 @@ pub fn u8_both_ways(number: u8, octets: &[u8], read: u8)
     ensures read { ⟦<u8 as Parse<'static>>⟧.reads octets.now read → ⟦<u8 as Compose>⟧.composed read ≡ octets.now }
 {}
 
-/// The octets that a `u16` is written as are read as it, and octets are those of the `u16` that they
-/// are read as.
+/// The octets composed of a `u16` parse as it, and octets are those composed of the `u16` that they parse as.
 #[tactic(auto, using(crate::proofs::BothWays::both_ways))]
 pub fn u16_both_ways(number: u16, octets: &[u8], read: u16)
     requires { length octets.now ≡ 2 }
@@ -23,8 +21,7 @@ pub fn u16_both_ways(number: u16, octets: &[u8], read: u16)
     ensures read { ⟦<u16 as Parse<'static>>⟧.reads octets.now read → ⟦<u16 as Compose>⟧.composed read ≡ octets.now }
 {}
 
-/// The octets that a `u32` is written as are read as it, and octets are those of the `u32` that they
-/// are read as.
+/// The octets composed of a `u32` parse as it, and octets are those composed of the `u32` that they parse as.
 #[tactic(auto, using(crate::proofs::BothWays::both_ways))]
 pub fn u32_both_ways(number: u32, octets: &[u8], read: u32)
     requires { length octets.now ≡ 4 }
@@ -32,8 +29,7 @@ pub fn u32_both_ways(number: u32, octets: &[u8], read: u32)
     ensures read { ⟦<u32 as Parse<'static>>⟧.reads octets.now read → ⟦<u32 as Compose>⟧.composed read ≡ octets.now }
 {}
 
-/// The octets that a `u64` is written as are read as it, and octets are those of the `u64` that they
-/// are read as.
+/// The octets composed of a `u64` parse as it, and octets are those composed of the `u64` that they parse as.
 #[tactic(auto, using(crate::proofs::BothWays::both_ways))]
 pub fn u64_both_ways(number: u64, octets: &[u8], read: u64)
     requires { length octets.now ≡ 8 }
@@ -41,8 +37,7 @@ pub fn u64_both_ways(number: u64, octets: &[u8], read: u64)
     ensures read { ⟦<u64 as Parse<'static>>⟧.reads octets.now read → ⟦<u64 as Compose>⟧.composed read ≡ octets.now }
 {}
 
-/// The octets that a `i8` is written as are read as it, and octets are those of the `i8` that they
-/// are read as.
+/// The octets composed of an `i8` parse as it, and octets are those composed of the `i8` that they parse as.
 #[tactic(auto, using(crate::proofs::BothWays::both_ways))]
 pub fn i8_both_ways(number: i8, octets: &[u8], read: i8)
     requires { length octets.now ≡ 1 }
@@ -50,8 +45,7 @@ pub fn i8_both_ways(number: i8, octets: &[u8], read: i8)
     ensures read { ⟦<i8 as Parse<'static>>⟧.reads octets.now read → ⟦<i8 as Compose>⟧.composed read ≡ octets.now }
 {}
 
-/// The octets that a `i16` is written as are read as it, and octets are those of the `i16` that they
-/// are read as.
+/// The octets composed of an `i16` parse as it, and octets are those composed of the `i16` that they parse as.
 #[tactic(auto, using(crate::proofs::BothWays::both_ways))]
 pub fn i16_both_ways(number: i16, octets: &[u8], read: i16)
     requires { length octets.now ≡ 2 }
@@ -59,8 +53,7 @@ pub fn i16_both_ways(number: i16, octets: &[u8], read: i16)
     ensures read { ⟦<i16 as Parse<'static>>⟧.reads octets.now read → ⟦<i16 as Compose>⟧.composed read ≡ octets.now }
 {}
 
-/// The octets that a `i32` is written as are read as it, and octets are those of the `i32` that they
-/// are read as.
+/// The octets composed of an `i32` parse as it, and octets are those composed of the `i32` that they parse as.
 #[tactic(auto, using(crate::proofs::BothWays::both_ways))]
 pub fn i32_both_ways(number: i32, octets: &[u8], read: i32)
     requires { length octets.now ≡ 4 }
@@ -68,8 +61,7 @@ pub fn i32_both_ways(number: i32, octets: &[u8], read: i32)
     ensures read { ⟦<i32 as Parse<'static>>⟧.reads octets.now read → ⟦<i32 as Compose>⟧.composed read ≡ octets.now }
 {}
 
-/// The octets that a `i64` is written as are read as it, and octets are those of the `i64` that they
-/// are read as.
+/// The octets composed of an `i64` parse as it, and octets are those composed of the `i64` that they parse as.
 #[tactic(auto, using(crate::proofs::BothWays::both_ways))]
 pub fn i64_both_ways(number: i64, octets: &[u8], read: i64)
     requires { length octets.now ≡ 8 }
@@ -77,16 +69,16 @@ pub fn i64_both_ways(number: i64, octets: &[u8], read: i64)
     ensures read { ⟦<i64 as Parse<'static>>⟧.reads octets.now read → ⟦<i64 as Compose>⟧.composed read ≡ octets.now }
 {}
 
-/// The octets that an `Ipv4Addr` is written as are read as it, and octets are those of the `Ipv4Addr` that
-/// they are read as.
+/// The octets composed of an `Ipv4Addr` parse as it, and octets are those composed of the `Ipv4Addr` that they parse
+/// as.
 pub fn ipv4_addr_both_ways(address: Ipv4Addr, octets: &[u8], read: Ipv4Addr)
     requires { length octets.now ≡ 4 }
     ensures composed { ⟦<Ipv4Addr as Parse<'static>>⟧.reads (⟦<Ipv4Addr as Compose>⟧.composed address) address }
     ensures read { ⟦<Ipv4Addr as Parse<'static>>⟧.reads octets.now read → ⟦<Ipv4Addr as Compose>⟧.composed read ≡ octets.now }
 {}
 
-/// The octets that an `Ipv6Addr` is written as are read as it, and octets are those of the `Ipv6Addr` that
-/// they are read as.
+/// The octets composed of an `Ipv6Addr` parse as it, and octets are those composed of the `Ipv6Addr` that they parse
+/// as.
 pub fn ipv6_addr_both_ways(address: Ipv6Addr, octets: &[u8], read: Ipv6Addr)
     requires { length octets.now ≡ 16 }
     ensures composed { ⟦<Ipv6Addr as Parse<'static>>⟧.reads (⟦<Ipv6Addr as Compose>⟧.composed address) address }

@@ -1,6 +1,7 @@
-//! Octets: what holds them, and how they are read one after another.
+//! Octets: the types that hold them, the parser that reads them, and the targets that they are
+//! appended to.
 //!
-//! A part of `dns_name`, which hands all of it on.
+//! A part of `dns_name`, which re-exports all of it.
 #![tactic(auto)]
 
 mod builder;

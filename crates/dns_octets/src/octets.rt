@@ -1,4 +1,4 @@
-//! Whatever holds a list of octets.
+//! Types that hold octets.
 ghost use Rattle.std.specs.Prelude.{◌≡◌, ◌≤◌, List, ℕ, length, slice_range};
 ghost use Rattle.std.specs.Cow.{cow_slice_items};
 
@@ -9,11 +9,11 @@ use std::borrow::CowSlice;
 pub trait Octets {
     ghost list: { Self → List ℕ };
 
-    /// The octets.
+    /// Returns the octets.
     fn octets(&self) -> &[u8]
         ensures { result.now ≡ list self.now };
 
-    /// The octets from the place `start` to the place `end`.
+    /// Returns the octets from `start` up to `end`, without the one at `end`.
     fn range(&self, start: usize, end: usize) -> &[u8]
         requires in_order { start ≤ end }
         requires in_bounds { end ≤ length (list self.now) }

@@ -1,4 +1,4 @@
-//! Reading values from octets.
+//! Parsing values from octets.
 ghost use Rattle.std.specs.Prelude.{◌≡◌, ◌+◌, ◌≤◌, ◌↔◌, ◌∷◌, [], List, ℕ, length, take, slice_index, IsOk, IfOk, IfErr, OnOk, OnErr};
 ghost use Rattle.std.specs.Int.{from_be_bytes, cast_signed, w8, w16, w32, w64};
 ghost use Rattle.std.specs.Net.Addr.{ipv4_octets, ipv6_octets};
@@ -9,14 +9,14 @@ use crate::error::ParseError;
 use crate::parser::Parser;
 use std::net::{Ipv4Addr, Ipv6Addr};
 
-/// A value that is read from `width` octets; `reads` relates these octets to it.
+/// A value that is parsed from `width` octets; `reads` relates these octets to it.
 pub trait Parse<'a>: Sized {
     ghost width: { ℕ };
 
     ghost reads: { List ℕ → Self → Type 0 };
 
-    /// Reads a value. Refused where fewer octets are left than it has; the parser then stays where it
-    /// was.
+    /// Parses a value. Fails with `ShortInput` exactly if fewer than `width` octets are left. The parser then stays
+    /// where it was.
     fn parse(parser: &mut Parser<'a>) -> Result<Self, ParseError>
         ensures ok { IfOk result (λ value. reads (take width (rest_of parser.old)) value) }
         ensures place { OnOk result (GoesOn parser.old parser.new width) }
@@ -125,7 +125,7 @@ impl<'a> Parse<'a> for Ipv6Addr {
     }
 }
 
-/// The address of these octets.
+/// Returns the address of these octets.
 fn ipv6_addr(octets: &[u8; 16]) -> Ipv6Addr
     ensures { ipv6_octets result ≡ octets.now }
 {

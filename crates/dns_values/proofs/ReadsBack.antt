@@ -23,7 +23,7 @@ picked : {X : Type 0} (b : Bool) (y x : X) (rest : Option X) → cond b (Some y)
 picked true y x rest e = inl (refl, cc)
 picked false y x rest e = inr e
 
--- what a look-up gives passes the look-up, and each test that all of the list pass
+-- what a look-up finds passes the look-up's test, and each test that all of the list pass
 found : {X : Type 0} (p q : X → Bool) (xs : List X) (x : X) → find p xs ≡ Some x → list_all q xs ≡ true
     → (p x ≡ true) × (q x ≡ true)
 found p q [] x e all = cc

@@ -35,7 +35,7 @@ serial_cmp-ahead_far a b order distance = grind (arith, nat_tests)
 
 pub ruleset serial_cmp_rules = (serial_cmp-same, serial_cmp-behind_near, serial_cmp-behind_half, serial_cmp-behind_far, serial_cmp-ahead_near, serial_cmp-ahead_half, serial_cmp-ahead_far)
 
--- RFC 1982, section 3.2, in the other direction
+-- RFC 1982, section 3.2, the other way round
 pub serial_lt-serial_add : (serial n : ℕ) → serial < 2 ^ 32 → 0 < n → n < 2 ^ 31 → serial_lt serial (serial_add serial n) ≡ true
 serial_lt-serial_add serial n small some near = grind (arith, nat_tests)
 

@@ -21,18 +21,18 @@ digits_model = numerals_by_value _ (search rules)
 pub IsUtf8-digits : (ds : List ℕ) → list_all is_ascii_digit ds ≡ true → IsUtf8 ds
 IsUtf8-digits ds h = IsUtf8-from_ascii ds (IsAscii-from_digits ds (digits_model.to ds h))
 
--- what is no text of digits spells nothing
+-- what is no text of digits spells no number
 pub number_spelled-other : (limit : ℕ) (ds : List ℕ) → list_all is_ascii_digit ds ≡ false → number_spelled limit ds ≡ None
 unfolding number_spelled
 number_spelled-other limit ds h = rw h refl
 
--- what is a text of digits spells the number, where that is below the limit
+-- a text of digits spells its number, if that is below the limit
 pub number_spelled-digits : (limit : ℕ) (ds : List ℕ) → list_all is_ascii_digit ds ≡ true
     → number_spelled limit ds ≡ cond (nat_lt 0 (length ds) && nat_lt (digits_value 10 ds) limit) (Some (digits_value 10 ds)) None
 unfolding number_spelled
 number_spelled-digits limit ds h = rw h refl
 
--- which is what is parsed of it
+-- this number is what parsing returns
 pub number_spelled-ok : {E : Type 0} (ds : List ℕ) (r : Result ℕ E) → list_all is_ascii_digit ds ≡ true
     → OkIff r ((0 < length ds) × (digits_value 10 ds < 2 ^ 32)) (digits_value 10 ds) → result_ok r ≡ number_spelled (2 ^ 32) ds
 number_spelled-ok ds (Ok x) digits exact = rw number_spelled-digits (grind (arith, nat_tests))
@@ -61,14 +61,14 @@ number_spelled-short ds None e = limited-none (list_all is_ascii_digit ds && nat
 
 pub ruleset short_rules = (number_spelled-short)
 
--- two texts are the same up to case, or not
+-- two texts are the same up to ASCII case, or they are not
 pub same_text : (a b : List ℕ) → map to_ascii_lowercase a ≡ map to_ascii_lowercase b → str_eq_ignore_ascii_case a b ≡ true
 same_text a b e = (bytes_eq-Decides _ _).1 e
 
 pub other_text : (a b : List ℕ) → (map to_ascii_lowercase a ≡ map to_ascii_lowercase b → ⊥) → str_eq_ignore_ascii_case a b ≡ false
 other_text a b differ = elim (str_eq_ignore_ascii_case a b) as (λ v. str_eq_ignore_ascii_case a b ≡ v → v ≡ false) [ true ↦ (λ e. absurd (differ ((bytes_eq-Decides _ _).0 e))) | false ↦ (λ _. refl) ] refl
 
--- a word shorter than the prefix, or that begins otherwise, stands for no number by it
+-- a word that is shorter than the prefix or begins otherwise is no prefix and number
 pub number_behind-short : (prefix word : List ℕ) → length word < length prefix → number_behind prefix word ≡ None
 unfolding number_behind
 number_behind-short prefix word short =
@@ -89,7 +89,7 @@ number_behind-same prefix word same = rw (same_text _ _ same) refl
 
 pub ruleset behind_rules = (number_behind-short, number_behind-other, number_behind-same)
 
--- a look-up stops at the word's own row, and goes on behind a row that is another word's
+-- a look-up stops at the word's own row, and goes on after a row of another word
 pub number_named-hit : (table : List (ℕ × Bor (List ℕ))) (word : List ℕ) (i : ℕ) (d : ℕ × Bor (List ℕ)) → i < length table
     → map to_ascii_lowercase (get_or table i d).1.now ≡ map to_ascii_lowercase word
     → number_named (rows_of (drop i table)) word ≡ Some (get_or table i d).0
@@ -130,7 +130,7 @@ text_of-none table number i past = rw (drop_all i table past) refl
 
 pub ruleset text_rules = (text_of-hit, text_of-miss, text_of-none)
 
--- a number with a mnemonic is written so, and another behind the prefix
+-- a number with a mnemonic is written as it, and another one after the prefix
 pub text_written-named : (table : Mnemonics) (prefix text : List ℕ) (number : ℕ)
     → Some text ≡ text_of table number → text_written table prefix number ≡ text
 unfolding text_written

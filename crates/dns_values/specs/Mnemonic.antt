@@ -1,4 +1,4 @@
--- Words for numbers: a mnemonic of a table in any case, or a prefix and the number (RFC 3597, section 5).
+-- Words for numbers: a mnemonic of a table up to ASCII case, or a prefix and the number (RFC 3597, section 5).
 use Rattle.std.specs.Prelude.{ℕ, List, [], ◌∷◌, ◌++◌, ◌==◌, ◌&&◌, Option, Some, None, length, take, drop, find, codes, nat_lt, if◌then◌else◌, option_map, map, unwrap_or}
 use Rattle.std.specs.Borrow.{Bor}
 use Rattle.std.specs.Fmt.{decimal}
@@ -12,11 +12,11 @@ use Rattle.std.specs.Str.Parse.{digits_value}
 abbrev pub Mnemonics : Type 0
 Mnemonics = List (ℕ × List ℕ)
 
--- the rows of a table of the program
+-- the rows of a table in the code
 abbrev pub rows_of : List (ℕ × Bor (List ℕ)) → Mnemonics
 rows_of table = map (λ row. (row.0, row.1.now)) table
 
--- the types of records
+-- the record types
 unfoldable pub types : Mnemonics
 types =
     (1, codes "A") ∷ (2, codes "NS") ∷ (3, codes "MD") ∷ (4, codes "MF") ∷ (5, codes "CNAME") ∷ (6, codes "SOA") ∷
@@ -32,18 +32,18 @@ types =
 unfoldable pub classes : Mnemonics
 classes = (1, codes "IN") ∷ (3, codes "CH") ∷ (4, codes "HS") ∷ []
 
--- the number whose mnemonic is the word, in any case
+-- the number whose mnemonic is the word, up to ASCII case
 unfoldable pub number_named : Mnemonics → List ℕ → Option ℕ
 number_named table word = option_map (λ row. row.0) (find (λ row. str_eq_ignore_ascii_case row.1 word) table)
 
--- the number below the limit that is spelled by these digits: no sign, and zeros may lead
+-- the number below the limit that these digits spell: there is no sign, and leading zeros are allowed
 unfoldable pub number_spelled : ℕ → List ℕ → Option ℕ
 number_spelled limit digits =
     if list_all is_ascii_digit digits && nat_lt 0 (length digits) && nat_lt (digits_value 10 digits) limit
     then Some (digits_value 10 digits)
     else None
 
--- the number of 16 bits behind the prefix, which may be in any case
+-- the number of 16 bits after the prefix, which is compared up to ASCII case
 unfoldable pub number_behind : List ℕ → List ℕ → Option ℕ
 number_behind prefix word =
     if str_eq_ignore_ascii_case prefix (take (length prefix) word) then number_spelled 65536 (drop (length prefix) word) else None
@@ -56,7 +56,7 @@ number_read table prefix word = option_or (number_behind prefix word) (number_na
 unfoldable pub text_of : Mnemonics → ℕ → Option (List ℕ)
 text_of table number = option_map (λ row. row.1) (find (λ row. row.0 == number) table)
 
--- how a number is written: by its mnemonic, or behind the prefix
+-- how a number is written: as its mnemonic, or else as the prefix and its digits
 unfoldable pub text_written : Mnemonics → List ℕ → ℕ → List ℕ
 text_written table prefix number = unwrap_or (text_of table number) (prefix ++ decimal number)
 

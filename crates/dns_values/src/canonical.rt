@@ -9,32 +9,32 @@ use std::cmp::Ordering;
 pub trait CanonicalOrd {
     ghost canonical: { Self → Self → Ordering };
 
-    /// How the value stands to the other.
+    /// Compares the value to the other in canonical order.
     fn canonical_cmp(&self, other: &Self) -> Ordering
         ensures { result ≡ canonical self.now other.now };
 
-    /// Whether the value stands in front of the other.
+    /// Returns whether the value is before the other.
     fn canonical_lt(&self, other: &Self) -> bool
         ensures { result ≡ is_lt (canonical self.now other.now) }
     {
         self.canonical_cmp(other).is_lt()
     }
 
-    /// Whether the value doesn't stand behind the other.
+    /// Returns whether the value is before the other or equal to it.
     fn canonical_le(&self, other: &Self) -> bool
         ensures { result ≡ is_le (canonical self.now other.now) }
     {
         self.canonical_cmp(other).is_le()
     }
 
-    /// Whether the value stands behind the other.
+    /// Returns whether the value is after the other.
     fn canonical_gt(&self, other: &Self) -> bool
         ensures { result ≡ is_gt (canonical self.now other.now) }
     {
         self.canonical_cmp(other).is_gt()
     }
 
-    /// Whether the value doesn't stand in front of the other.
+    /// Returns whether the value is after the other or equal to it.
     fn canonical_ge(&self, other: &Self) -> bool
         ensures { result ≡ is_ge (canonical self.now other.now) }
     {

@@ -35,22 +35,22 @@ impl Class {
     /// Hesiod (RFC 1035).
     pub const HS: Class = Class(4);
 
-    /// The class of this number.
+    /// Returns the class of this number.
     pub const fn from_int(number: u16) -> Self
         ensures { result ≡ number }
     {
         Class(number)
     }
 
-    /// The number of the class.
+    /// Returns the number of the class.
     pub const fn to_int(self) -> u16
         ensures { result ≡ self }
     {
         self.0
     }
 
-    /// Reads a class, the high octet of its number first. Refused where fewer than two octets
-    /// are left; the parser then stays where it was.
+    /// Parses a class, the high octet of its number first. Fails with `ShortInput` exactly if fewer
+    /// than two octets are left. The parser then stays where it was.
     pub fn parse(parser: &mut Parser<'_>) -> Result<Self, ParseError>
         ensures ok { IfOk result (λ class. class ≡ from_be_bytes w16 (take 2 (rest_of parser.old))) }
         ensures place { OnOk result (GoesOn parser.old parser.new 2) }
@@ -61,8 +61,8 @@ impl Class {
         Ok(Class(parser.parse_u16_be()?))
     }
 
-    /// The class that a word stands for: its mnemonic in any case, or `CLASS` in any case and the
-    /// number in digits (RFC 3597, section 5).
+    /// Returns the class that a word stands for: its mnemonic, or `CLASS` and the number in digits,
+    /// both up to ASCII case (RFC 3597, section 5). Returns None if there is none.
     pub fn from_bytes(word: &[u8]) -> Option<Self>
         ensures { result ≡ class_read word.now }
     {
@@ -70,7 +70,7 @@ impl Class {
         Some(Class::from_int(number))
     }
 
-    /// The mnemonic, if there is one.
+    /// Returns the mnemonic, if there is one.
     fn mnemonic(self) -> Option<&'static str>
         ensures { option_copied result ≡ text_of classes self }
     {
@@ -78,7 +78,7 @@ impl Class {
     }
 }
 
-/// Writes the two octets of the number, the high one first.
+/// Composes the two octets of the number, the high octet first.
 impl Compose for Class {
     ghost composed = { λ class. to_be_bytes w16 class };
 
@@ -87,7 +87,7 @@ impl Compose for Class {
     }
 }
 
-/// Reads what `Class::from_bytes` does.
+/// Parses what `Class::from_bytes` does.
 impl FromStr for Class {
     type Err = ClassFromStrError;
 
@@ -98,7 +98,7 @@ impl FromStr for Class {
     }
 }
 
-/// Writes the mnemonic, or `CLASS` and the number where there is none.
+/// Writes the mnemonic, or `CLASS` and the number if it has none.
 impl fmt::Display for Class {
     ghost output = { λ class. Some (class_written class) };
 
@@ -116,11 +116,11 @@ impl fmt::Display for Class {
 #[error("unknown class")]
 pub struct ClassFromStrError;
 
-/// The numbers that have a mnemonic.
+/// The classes that have a mnemonic.
 #[rattlefmt::skip]
 static MNEMONICS: [Mnemonic; 3] = [(Class::IN.0, "IN"), (Class::CH.0, "CH"), (Class::HS.0, "HS")];
 
-/// The numbers that have a mnemonic.
+/// The classes that have a mnemonic.
 #[tactic(auto, unfolding(crate::specs::Mnemonic::classes))]
 fn mnemonics() -> &'static [Mnemonic]
     ensures { rows_of result.now ≡ classes }

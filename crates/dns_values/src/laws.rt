@@ -7,19 +7,19 @@ ghost use Rattle.dns_values.specs.Serial.{serial_add, serial_cmp, swapped};
 use crate::{Opcode, Rcode, Serial, Ttl};
 use dns_octets::Compose;
 
-/// What is printed of a record type reads back.
+/// A record type that is printed reads back as itself.
 #[tactic(auto, using(crate::proofs::ReadsBack::reads_back_rules))]
 pub fn type_reads_back(number: u16)
     ensures { type_read (type_written number) ≡ Some number }
 {}
 
-/// What is printed of a class reads back.
+/// A class that is printed reads back as itself.
 #[tactic(auto, using(crate::proofs::ReadsBack::reads_back_rules))]
 pub fn class_reads_back(number: u16)
     ensures { class_read (class_written number) ≡ Some number }
 {}
 
-/// A serial number is less than one that is 1 to 2^31 - 1 further on (RFC 1982, section 3.2).
+/// A serial number is less than one that is 1 to 2^31 - 1 later (RFC 1982, section 3.2).
 #[tactic(auto, using(crate::proofs::Serials::serial_laws))]
 pub fn serial_below_later(serial: u32, further: u32)
     requires some { 0 < further }
@@ -27,19 +27,19 @@ pub fn serial_below_later(serial: u32, further: u32)
     ensures { serial_cmp serial (serial_add serial further) ≡ Some Less }
 {}
 
-/// The sides of a comparison swapped reverse its answer, and None stays None.
+/// A comparison with its sides swapped returns the reverse, or None again.
 #[tactic(auto, using(crate::proofs::Serials::serial_laws))]
 pub fn serial_sides_swapped(serial: u32, other: u32)
     ensures { serial_cmp other serial ≡ swapped (serial_cmp serial other) }
 {}
 
-/// There is no answer exactly where the numbers are 2^31 apart.
+/// Two serial numbers have no order exactly if they are 2^31 apart.
 #[tactic(auto, using(crate::proofs::Serials::serial_laws))]
 pub fn serial_half_way_round(serial: u32, other: u32)
     ensures { (serial_cmp serial other ≡ None) ↔ ((serial + 2 ^ 31) % 2 ^ 32 ≡ other) }
 {}
 
-/// The opcodes that have names, in the order of their numbers (RFC 1035, 1996, 2136 and 3425).
+/// Returns the opcodes that have names, in the order of their numbers (RFC 1035, 1996, 2136 and 3425).
 pub fn named_opcodes() -> [Opcode; 5]
     ensures { result ≡ 0 ∷ 1 ∷ 2 ∷ 4 ∷ 5 ∷ [] }
 {
@@ -52,7 +52,7 @@ pub fn named_opcodes() -> [Opcode; 5]
     ]
 }
 
-/// The response codes that have names, in the order of their numbers (RFC 1035, section 4.1.1).
+/// Returns the response codes that have names, in the order of their numbers (RFC 1035, section 4.1.1).
 pub fn named_rcodes() -> [Rcode; 6]
     ensures { result ≡ 0 ∷ 1 ∷ 2 ∷ 3 ∷ 4 ∷ 5 ∷ [] }
 {
@@ -66,7 +66,8 @@ pub fn named_rcodes() -> [Rcode; 6]
     ]
 }
 
-/// The times that have names: none, a second, a minute, an hour, a day, the week that others are cut to, and the longest.
+/// Returns the times that have names: none, a second, a minute, an hour, a day, the week that `Ttl::cap` cuts to, and
+/// the longest.
 pub fn named_times() -> [Ttl; 7]
     ensures { result ≡ 0 ∷ 1 ∷ 60 ∷ (60 * 60) ∷ (24 * (60 * 60)) ∷ (7 * (24 * (60 * 60))) ∷ (2 ^ 32 - 1) ∷ [] }
 {
@@ -81,7 +82,7 @@ pub fn named_times() -> [Ttl; 7]
     ]
 }
 
-/// How many whole minutes, hours and days there are at most: those of the longest time.
+/// The greatest numbers of whole minutes, hours and days are those of the longest time.
 pub fn longest_times()
     ensures minutes { Ttl.MAX_MINUTES ≡ (2 ^ 32 - 1) / 60 }
     ensures hours { Ttl.MAX_HOURS ≡ (2 ^ 32 - 1) / (60 * 60) }

@@ -1,6 +1,6 @@
-//! Numbers that a message carries and that have a type of their own.
+//! The numbers of a message that have a type of their own.
 //!
-//! A part of `dns_name`, which hands all of it on.
+//! A part of `dns_name`, which re-exports all of it.
 #![tactic(auto)]
 
 mod canonical;

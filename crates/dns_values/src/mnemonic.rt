@@ -7,11 +7,11 @@ ghost use Rattle.dns_values.specs.Mnemonic as word_of;
 
 use std::str;
 
-/// A number and the text that stands for it.
+/// A number and its mnemonic.
 pub(crate) type Mnemonic = (u16, &'static str);
 
-/// The number that a word stands for: that of the mnemonic that it is in any case, or the number
-/// behind the prefix in any case (RFC 3597, section 5).
+/// Returns the number that a word stands for: that of the mnemonic, or the number after the prefix, both up to ASCII
+/// case (RFC 3597, section 5).
 #[tactic(auto, unfolding(crate::specs::Mnemonic::number_read))]
 pub(crate) fn number_read(table: &[Mnemonic], prefix: &str, word: &[u8]) -> Option<u16>
     ensures { result ≡ word_of.number_read (word_of.rows_of table.now) prefix.now word.now }
@@ -19,7 +19,7 @@ pub(crate) fn number_read(table: &[Mnemonic], prefix: &str, word: &[u8]) -> Opti
     number_behind(prefix.as_bytes(), word).or_else(|| number_named(table, word))
 }
 
-/// The number whose mnemonic is the word, in any case.
+/// Returns the number whose mnemonic is the word, up to ASCII case.
 #[tactic(auto, using(crate::proofs::Words::named_rules))]
 fn number_named(table: &[Mnemonic], word: &[u8]) -> Option<u16>
     ensures { result ≡ word_of.number_named (word_of.rows_of table.now) word.now }
@@ -32,8 +32,8 @@ fn number_named(table: &[Mnemonic], word: &[u8]) -> Option<u16>
     None
 }
 
-/// Returns whether the word is the mnemonic, in any case. Most mnemonics are of another length or end otherwise, which is seen
-/// first.
+/// Returns whether the word is the mnemonic, up to ASCII case. It looks at the length and the last octet first, because
+/// most mnemonics differ there.
 fn is_named_by(word: &[u8], mnemonic: &str) -> bool
     ensures { IsTrue result ↔ (map to_ascii_lowercase mnemonic.now ≡ map to_ascii_lowercase word.now) }
 {
@@ -43,7 +43,7 @@ fn is_named_by(word: &[u8], mnemonic: &str) -> bool
         && mnemonic.eq_ignore_ascii_case(word)
 }
 
-/// Returns whether the last octets are the same letter, in any case; words without octets have the same end.
+/// Returns whether the last octets are equal up to ASCII case; a word without octets has the same end as any other.
 fn has_same_end(word: &[u8], other: &[u8]) -> bool
     ensures { map to_ascii_lowercase word.now ≡ map to_ascii_lowercase other.now → IsTrue result }
 {
@@ -53,7 +53,7 @@ fn has_same_end(word: &[u8], other: &[u8]) -> bool
     }
 }
 
-/// The number behind the prefix, which may be in any case.
+/// Returns the number after the prefix, which is compared up to ASCII case.
 #[tactic(auto, using(crate::proofs::Words::behind_rules))]
 fn number_behind(prefix: &[u8], word: &[u8]) -> Option<u16>
     ensures { result ≡ word_of.number_behind prefix.now word.now }
@@ -69,7 +69,7 @@ fn number_behind(prefix: &[u8], word: &[u8]) -> Option<u16>
     }
 }
 
-/// The number of 16 bits that is spelled by these digits, which no sign may precede.
+/// Returns the number of 16 bits that these digits spell. A sign is no digit.
 #[tactic(auto, using(crate::proofs::Words::short_rules))]
 fn short_number_spelled(digits: &[u8]) -> Option<u16>
     ensures { result ≡ word_of.number_spelled 65536 digits.now }
@@ -80,7 +80,7 @@ fn short_number_spelled(digits: &[u8]) -> Option<u16>
     }
 }
 
-/// The number of 32 bits that is spelled by these digits, which no sign may precede.
+/// Returns the number of 32 bits that these digits spell. A sign is no digit.
 #[tactic(auto, using(crate::proofs::Words::spelled_rules))]
 pub(crate) fn number_spelled(digits: &[u8]) -> Option<u32>
     ensures { result ≡ word_of.number_spelled (2 ^ 32) digits.now }
@@ -93,14 +93,14 @@ pub(crate) fn number_spelled(digits: &[u8]) -> Option<u32>
     text.parse().ok()
 }
 
-/// Whether these are decimal digits alone.
+/// Returns whether all octets are decimal digits.
 fn is_digits(octets: &[u8]) -> bool
     ensures { result ≡ list_all is_ascii_digit octets.now }
 {
     octets.iter().all(u8::is_ascii_digit)
 }
 
-/// The text that stands for a number.
+/// Returns the mnemonic of a number.
 #[tactic(auto, using(crate::proofs::Words::text_rules))]
 pub(crate) fn text_of(table: &[Mnemonic], number: u16) -> Option<&'static str>
     ensures { option_copied result ≡ word_of.text_of (word_of.rows_of table.now) number }

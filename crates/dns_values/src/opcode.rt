@@ -3,7 +3,7 @@ ghost use Rattle.std.specs.Prelude.{◌≡◌};
 
 use std::marker::Model;
 
-/// The kind of query of a message (RFC 1035, section 4.1.1). A header has room for its low four bits.
+/// The kind of query of a message (RFC 1035, section 4.1.1). A header holds its low four bits.
 #[derive(Clone, Copy, Debug, PartialEq, Eq, PartialOrd, Ord, Hash)]
 pub struct Opcode(u8);
 
@@ -29,14 +29,14 @@ impl Opcode {
     /// An update of a zone (RFC 2136).
     pub const UPDATE: Opcode = Opcode(5);
 
-    /// The opcode of this number.
+    /// Returns the opcode of this number.
     pub const fn from_int(number: u8) -> Self
         ensures { result ≡ number }
     {
         Opcode(number)
     }
 
-    /// The number of the opcode.
+    /// Returns the number of the opcode.
     pub const fn to_int(self) -> u8
         ensures { result ≡ self }
     {

@@ -1,4 +1,4 @@
-//! What an option of an OPT record is.
+//! The codes of the options in an OPT record.
 ghost use Rattle.std.specs.Prelude.{◌≡◌, ◌+◌, ◌≤◌, ◌↔◌, take, length, IsOk, IfOk, OnOk, OnErr, IfErr};
 ghost use Rattle.std.specs.Int.{from_be_bytes, to_be_bytes, w16};
 ghost use Rattle.dns_octets.specs.Parser.{GoesOn, octets_of, place_of, rest_of};
@@ -21,22 +21,22 @@ impl Model for OptionCode {
 }
 
 impl OptionCode {
-    /// The code of this number.
+    /// Returns the code of this number.
     pub const fn from_int(number: u16) -> Self
         ensures { result ≡ number }
     {
         OptionCode(number)
     }
 
-    /// The number of the code.
+    /// Returns the number of the code.
     pub const fn to_int(self) -> u16
         ensures { result ≡ self }
     {
         self.0
     }
 
-    /// Reads a code, the high octet of its number first. Refused where fewer than two octets are
-    /// left; the parser then stays where it was.
+    /// Parses a code, the high octet of its number first. Fails with `ShortInput` exactly if fewer
+    /// than two octets are left. The parser then stays where it was.
     pub fn parse(parser: &mut Parser<'_>) -> Result<Self, ParseError>
         ensures ok { IfOk result (λ code. code ≡ from_be_bytes w16 (take 2 (rest_of parser.old))) }
         ensures place { OnOk result (GoesOn parser.old parser.new 2) }
@@ -48,7 +48,7 @@ impl OptionCode {
     }
 }
 
-/// Writes the two octets of the number, the high one first.
+/// Composes the two octets of the number, the high octet first.
 impl Compose for OptionCode {
     ghost composed = { λ code. to_be_bytes w16 code };
 

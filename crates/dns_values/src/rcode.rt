@@ -1,4 +1,4 @@
-//! How a question was answered.
+//! How a query was answered.
 ghost use Rattle.std.specs.Prelude.{◌≡◌, ◌<◌, ◌%◌};
 
 use std::marker::Model;
@@ -33,14 +33,14 @@ impl Rcode {
     /// The server refuses to answer (RFC 1035).
     pub const REFUSED: Rcode = Rcode(5);
 
-    /// The code of the number's low four bits.
+    /// Returns the code of the number's low four bits.
     pub fn masked_from_int(number: u8) -> Self
         ensures { result ≡ number % 16 }
     {
         Rcode(number % 16)
     }
 
-    /// The number of the code, below 16.
+    /// Returns the number of the code, below 16.
     pub fn to_int(self) -> u8
         ensures value { result ≡ self }
         ensures four_bits { result < 16 }
@@ -66,14 +66,14 @@ impl Model for OptRcode {
 }
 
 impl OptRcode {
-    /// The code of the number's low twelve bits.
+    /// Returns the code of the number's low twelve bits.
     pub fn masked_from_int(number: u16) -> Self
         ensures { result ≡ number % 4096 }
     {
         OptRcode(number % 4096)
     }
 
-    /// The number of the code, below 4,096.
+    /// Returns the number of the code, below 4,096.
     pub fn to_int(self) -> u16
         ensures value { result ≡ self }
         ensures twelve_bits { result < 4096 }
@@ -81,7 +81,7 @@ impl OptRcode {
         self.0
     }
 
-    /// What the header has of the code: its low four bits.
+    /// Returns the code's low four bits, which are in the header.
     pub fn rcode(self) -> Rcode
         ensures { result ≡ self % 16 }
     {

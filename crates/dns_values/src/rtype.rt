@@ -1,4 +1,4 @@
-//! What a record holds.
+//! The types of records.
 ghost use Rattle.std.specs.Prelude.{◌≡◌, ◌+◌, ◌≤◌, ◌↔◌, take, length, IsOk, IfOk, OnOk, OnErr, IfErr, Some};
 ghost use Rattle.std.specs.Int.{from_be_bytes, to_be_bytes, w16};
 ghost use Rattle.std.specs.Option.{option_copied};
@@ -76,7 +76,7 @@ impl Rtype {
     pub const KX: Rtype = Rtype(36);
     /// A subtree's new name (RFC 6672).
     pub const DNAME: Rtype = Rtype(39);
-    /// An extension of the message, no record of a zone (RFC 6891).
+    /// An extension of the message, not a record of a zone (RFC 6891).
     pub const OPT: Rtype = Rtype(41);
     /// A delegation's signing key (RFC 4034).
     pub const DS: Rtype = Rtype(43);
@@ -106,31 +106,31 @@ impl Rtype {
     pub const HTTPS: Rtype = Rtype(65);
     /// Who may send mail, obsolete (RFC 7208).
     pub const SPF: Rtype = Rtype(99);
-    /// A message's signature, no record of a zone (RFC 8945).
+    /// A message's signature, not a record of a zone (RFC 8945).
     pub const TSIG: Rtype = Rtype(250);
-    /// A question for what changed in a zone (RFC 1995).
+    /// A query for the changes of a zone (RFC 1995).
     pub const IXFR: Rtype = Rtype(251);
-    /// A question for a whole zone (RFC 5936).
+    /// A query for a whole zone (RFC 5936).
     pub const AXFR: Rtype = Rtype(252);
     /// Who may issue certificates (RFC 8659).
     pub const CAA: Rtype = Rtype(257);
 
-    /// The type of this number.
+    /// Returns the type of this number.
     pub const fn from_int(number: u16) -> Self
         ensures { result ≡ number }
     {
         Rtype(number)
     }
 
-    /// The number of the type.
+    /// Returns the number of the type.
     pub const fn to_int(self) -> u16
         ensures { result ≡ self }
     {
         self.0
     }
 
-    /// Reads a type, the high octet of its number first. Refused where fewer than two octets
-    /// are left; the parser then stays where it was.
+    /// Parses a type, the high octet of its number first. Fails with `ShortInput` exactly if fewer
+    /// than two octets are left. The parser then stays where it was.
     pub fn parse(parser: &mut Parser<'_>) -> Result<Self, ParseError>
         ensures ok { IfOk result (λ rtype. rtype ≡ from_be_bytes w16 (take 2 (rest_of parser.old))) }
         ensures place { OnOk result (GoesOn parser.old parser.new 2) }
@@ -141,8 +141,8 @@ impl Rtype {
         Ok(Rtype(parser.parse_u16_be()?))
     }
 
-    /// The type that a word stands for: its mnemonic in any case, or `TYPE` in any case and the
-    /// number in digits (RFC 3597, section 5).
+    /// Returns the type that a word stands for: its mnemonic, or `TYPE` and the number in digits,
+    /// both up to ASCII case (RFC 3597, section 5). Returns None if there is none.
     pub fn from_bytes(word: &[u8]) -> Option<Self>
         ensures { result ≡ type_read word.now }
     {
@@ -150,7 +150,7 @@ impl Rtype {
         Some(Rtype::from_int(number))
     }
 
-    /// The mnemonic, if there is one.
+    /// Returns the mnemonic, if there is one.
     fn mnemonic(self) -> Option<&'static str>
         ensures { option_copied result ≡ text_of types self }
     {
@@ -158,7 +158,7 @@ impl Rtype {
     }
 }
 
-/// Writes the two octets of the number, the high one first.
+/// Composes the two octets of the number, the high octet first.
 impl Compose for Rtype {
     ghost composed = { λ rtype. to_be_bytes w16 rtype };
 
@@ -167,7 +167,7 @@ impl Compose for Rtype {
     }
 }
 
-/// Reads what `Rtype::from_bytes` does.
+/// Parses what `Rtype::from_bytes` does.
 impl FromStr for Rtype {
     type Err = RtypeFromStrError;
 
@@ -178,7 +178,7 @@ impl FromStr for Rtype {
     }
 }
 
-/// Writes the mnemonic, or `TYPE` and the number where there is none.
+/// Writes the mnemonic, or `TYPE` and the number if it has none.
 impl fmt::Display for Rtype {
     ghost output = { λ rtype. Some (type_written rtype) };
 
@@ -196,7 +196,7 @@ impl fmt::Display for Rtype {
 #[error("unknown record type")]
 pub struct RtypeFromStrError;
 
-/// The numbers that have a mnemonic.
+/// The types that have a mnemonic.
 #[rattlefmt::skip]
 static MNEMONICS: [Mnemonic; 43] = [
     (Rtype::A.0, "A"),
@@ -244,7 +244,7 @@ static MNEMONICS: [Mnemonic; 43] = [
     (Rtype::CAA.0, "CAA"),
 ];
 
-/// The numbers that have a mnemonic.
+/// The types that have a mnemonic.
 #[tactic(auto, unfolding(crate::specs::Mnemonic::types))]
 fn mnemonics() -> &'static [Mnemonic]
     ensures { rows_of result.now ≡ types }

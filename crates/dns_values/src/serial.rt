@@ -18,11 +18,11 @@ use std::marker::Model;
 use std::str::FromStr;
 use thiserror::Error;
 
-/// A serial number, which goes round at 2^32 (RFC 1982).
+/// A serial number, which wraps around at 2^32 (RFC 1982).
 #[derive(Clone, Copy, Debug, PartialEq, Eq, Hash)]
 pub struct Serial(pub u32);
 
-/// Half of the way round.
+/// Half of the range.
 const HALF: u32 = 2_147_483_648;
 
 impl Model for Serial {
@@ -36,24 +36,25 @@ impl Model for Serial {
 }
 
 impl Serial {
-    /// How many octets a serial number has in a message.
+    /// The number of octets of a serial number in a message.
     pub const COMPOSE_LEN: u16 = 4;
 
-    /// The number of these octets, the high one first.
+    /// Returns the serial number of these octets, the high octet first.
     pub const fn from_be_bytes(octets: [u8; 4]) -> Self
         ensures { result ≡ from_be_bytes w32 octets }
     {
         Serial(u32::from_be_bytes(octets))
     }
 
-    /// The number.
+    /// Returns the number.
     pub const fn into_int(self) -> u32
         ensures { result ≡ self }
     {
         self.0
     }
 
-    /// The serial number that is so much further on (RFC 1982, section 3.1).
+    /// Returns the serial number that is `other` later, modulo 2^32 (RFC 1982, section 3.1).
+    /// `other` has to be below 2^31.
     pub fn add(self, other: u32) -> Self
         requires { other < 2 ^ 31 }
         ensures { result ≡ serial_add self other }
@@ -61,8 +62,8 @@ impl Serial {
         Serial(self.0.wrapping_add(other))
     }
 
-    /// How the serial number stands to the other; None where they are 2^31 apart (RFC 1982,
-    /// section 3.2).
+    /// Compares two serial numbers. Returns None exactly if they are 2^31 apart (RFC 1982, section
+    /// 3.2).
     #[tactic(auto, using(crate::proofs::Serials::serial_cmp_rules))]
     pub fn partial_cmp(&self, other: &Serial) -> Option<Ordering>
         ensures { result ≡ serial_cmp self.now other.now }
@@ -85,8 +86,8 @@ impl Serial {
         }
     }
 
-    /// Reads a serial number, the high octet first. Refused where fewer than four octets are left;
-    /// the parser then stays where it was.
+    /// Parses a serial number, the high octet first. Fails with `ShortInput` exactly if fewer than
+    /// four octets are left. The parser then stays where it was.
     pub fn parse(parser: &mut Parser<'_>) -> Result<Self, ParseError>
         ensures ok { IfOk result (λ serial. serial ≡ from_be_bytes w32 (take 4 (rest_of parser.old))) }
         ensures place { OnOk result (GoesOn parser.old parser.new 4) }
@@ -98,7 +99,7 @@ impl Serial {
     }
 }
 
-/// Writes the four octets of the number, the high one first.
+/// Composes the four octets of the number, the high octet first.
 impl Compose for Serial {
     ghost composed = { λ serial. to_be_bytes w32 serial };
 
@@ -133,7 +134,7 @@ impl From<Timestamp> for Serial {
     }
 }
 
-/// Reads digits alone, zeros in front allowed, up to 2^32 - 1.
+/// Parses digits up to 2^32 - 1. Leading zeros are allowed, a sign is not.
 impl FromStr for Serial {
     type Err = IllegalSignatureTime;
 

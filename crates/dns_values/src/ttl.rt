@@ -1,4 +1,4 @@
-//! How long a record may be kept.
+//! The time that a record may be kept.
 ghost use Rattle.std.specs.Prelude.{◌≡◌, ◌<◌, ◌≤◌, ◌+◌, ◌-◌, ◌*◌, ◌/◌, ◌%◌, ◌^◌, ◌↔◌, min, sum, take, length, IsTrue, IsOk, IfOk, IfErr, OnOk, OnErr};
 ghost use Rattle.std.specs.Int.{from_be_bytes, to_be_bytes, w32};
 ghost use Rattle.std.specs.Option.{SomeIff};
@@ -12,8 +12,8 @@ use std::time::Duration;
 
 /// How many seconds a record may be kept (RFC 1035, section 3.2.1).
 ///
-/// An operator is used where its result exists: a sum, a difference or a product from 0 to
-/// 2^32 - 1, and a quotient by a number that isn't 0.
+/// An operator may be used only if its result exists: a sum, a difference or a product from 0 to 2^32 - 1, and a
+/// quotient by a number other than 0.
 #[derive(Clone, Copy, Debug, PartialEq, Eq, PartialOrd, Ord, Hash)]
 pub struct Ttl(u32);
 
@@ -40,25 +40,25 @@ impl Ttl {
     pub const ZERO: Ttl = Ttl(0);
     /// The longest time, 2^32 - 1 seconds.
     pub const MAX: Ttl = Ttl(u32::MAX);
-    /// What a time is cut to where it may not be longer than a week (RFC 8767, section 4).
+    /// What `cap` cuts a longer time to: a week (RFC 8767, section 4).
     pub const CAP: Ttl = Ttl(604_800);
-    /// How many whole minutes there are at most.
+    /// The greatest number of whole minutes.
     pub const MAX_MINUTES: u32 = 71_582_788;
-    /// How many whole hours there are at most.
+    /// The greatest number of whole hours.
     pub const MAX_HOURS: u32 = 1_193_046;
-    /// How many whole days there are at most.
+    /// The greatest number of whole days.
     pub const MAX_DAYS: u16 = 49_710;
-    /// How many octets a time has in a message.
+    /// The number of octets of a time in a message.
     pub const COMPOSE_LEN: u16 = 4;
 
-    /// So many seconds.
+    /// Returns a time of `secs` seconds.
     pub const fn from_secs(secs: u32) -> Self
         ensures { result ≡ secs }
     {
         Ttl(secs)
     }
 
-    /// So many minutes.
+    /// Returns a time of `minutes` minutes, at most `MAX_MINUTES`.
     pub const fn from_mins(minutes: u32) -> Self
         requires { minutes ≤ Self.MAX_MINUTES }
         ensures { result ≡ minutes * 60 }
@@ -66,7 +66,7 @@ impl Ttl {
         Ttl(minutes * 60)
     }
 
-    /// So many hours.
+    /// Returns a time of `hours` hours, at most `MAX_HOURS`.
     pub const fn from_hours(hours: u32) -> Self
         requires { hours ≤ Self.MAX_HOURS }
         ensures { result ≡ hours * 3600 }
@@ -74,7 +74,7 @@ impl Ttl {
         Ttl(hours * 3_600)
     }
 
-    /// So many days.
+    /// Returns a time of `days` days, at most `MAX_DAYS`.
     pub const fn from_days(days: u16) -> Self
         requires { days ≤ Self.MAX_DAYS }
         ensures { result ≡ days * 86400 }
@@ -82,105 +82,105 @@ impl Ttl {
         Ttl(days as u32 * 86_400)
     }
 
-    /// The whole seconds of a duration, modulo 2^32.
+    /// Returns the whole seconds of a duration, modulo 2^32.
     pub fn from_duration_lossy(duration: Duration) -> Self
         ensures { result ≡ as_nanos duration / 1_000_000_000 % 2 ^ 32 }
     {
         Ttl((duration.as_secs() % (1 << 32)) as u32)
     }
 
-    /// How many seconds.
+    /// Returns the number of seconds.
     pub const fn as_secs(&self) -> u32
         ensures { result ≡ self.now }
     {
         self.0
     }
 
-    /// How many whole minutes.
+    /// Returns the number of whole minutes.
     pub const fn as_minutes(&self) -> u32
         ensures { result ≡ self.now / 60 }
     {
         self.0 / 60
     }
 
-    /// How many whole hours.
+    /// Returns the number of whole hours.
     pub const fn as_hours(&self) -> u32
         ensures { result ≡ self.now / 3600 }
     {
         self.0 / 3_600
     }
 
-    /// How many whole days.
+    /// Returns the number of whole days.
     pub const fn as_days(&self) -> u16
         ensures { result ≡ self.now / 86400 }
     {
         (self.0 / 86_400) as u16
     }
 
-    /// The time as a duration.
+    /// Returns the time as a duration.
     pub fn into_duration(self) -> Duration
         ensures { as_nanos result ≡ self * 1_000_000_000 }
     {
         Duration::from_secs(self.0 as u64)
     }
 
-    /// Whether it is no time at all.
+    /// Returns whether the time is 0.
     pub const fn is_zero(&self) -> bool
         ensures { IsTrue result ↔ (self.now ≡ 0) }
     {
         self.0 == 0
     }
 
-    /// The sum, None past 2^32 - 1 seconds.
+    /// Returns the sum, or None past 2^32 - 1 seconds.
     pub fn checked_add(self, rhs: Ttl) -> Option<Ttl>
         ensures { SomeIff result (self + rhs < 2 ^ 32) (self + rhs) }
     {
         Some(Ttl(self.0.checked_add(rhs.0)?))
     }
 
-    /// The difference, None below 0.
+    /// Returns the difference, or None below 0.
     pub fn checked_sub(self, rhs: Ttl) -> Option<Ttl>
         ensures { SomeIff result (rhs ≤ self) (self - rhs) }
     {
         Some(Ttl(self.0.checked_sub(rhs.0)?))
     }
 
-    /// The product, None past 2^32 - 1 seconds.
+    /// Returns the product, or None past 2^32 - 1 seconds.
     pub fn checked_mul(self, rhs: u32) -> Option<Ttl>
         ensures { SomeIff result (self * rhs < 2 ^ 32) (self * rhs) }
     {
         Some(Ttl(self.0.checked_mul(rhs)?))
     }
 
-    /// The quotient in whole seconds, None by 0.
+    /// Returns the quotient in whole seconds, or None if `rhs` is 0.
     pub fn checked_div(self, rhs: u32) -> Option<Ttl>
         ensures { SomeIff result (0 < rhs) (self / rhs) }
     {
         Some(Ttl(self.0.checked_div(rhs)?))
     }
 
-    /// The sum, at most 2^32 - 1 seconds.
+    /// Returns the sum, at most 2^32 - 1 seconds.
     pub fn saturating_add(self, rhs: Ttl) -> Ttl
         ensures { result ≡ min (self + rhs) (2 ^ 32 - 1) }
     {
         Ttl(self.0.saturating_add(rhs.0))
     }
 
-    /// The difference, at least 0.
+    /// Returns the difference, at least 0.
     pub fn saturating_sub(self, rhs: Ttl) -> Ttl
         ensures { result ≡ self - rhs }
     {
         Ttl(self.0.saturating_sub(rhs.0))
     }
 
-    /// The product, at most 2^32 - 1 seconds.
+    /// Returns the product, at most 2^32 - 1 seconds.
     pub fn saturating_mul(self, rhs: u32) -> Ttl
         ensures { result ≡ min (self * rhs) (2 ^ 32 - 1) }
     {
         Ttl(self.0.saturating_mul(rhs))
     }
 
-    /// The sum of all, None past 2^32 - 1 seconds.
+    /// Returns the sum of all, or None past 2^32 - 1 seconds.
     pub fn checked_sum(ttls: &[Ttl]) -> Option<Ttl>
         ensures { SomeIff result (sum ttls.now < 2 ^ 32) (sum ttls.now) }
     {
@@ -191,15 +191,15 @@ impl Ttl {
         Some(total)
     }
 
-    /// The time, or `CAP` where it is longer.
+    /// Returns the time, or `CAP` if the time is longer.
     pub fn cap(self) -> Ttl
         ensures { result ≡ min self 604_800 }
     {
         self.min(Ttl::CAP)
     }
 
-    /// Reads a time, the high octet first. Refused where fewer than four octets are left; the parser
-    /// then stays where it was.
+    /// Parses a time, the high octet first. Fails with `ShortInput` exactly if fewer than four octets are left. The
+    /// parser then stays where it was.
     pub fn parse(parser: &mut Parser<'_>) -> Result<Self, ParseError>
         ensures ok { IfOk result (λ ttl. ttl ≡ from_be_bytes w32 (take 4 (rest_of parser.old))) }
         ensures place { OnOk result (GoesOn parser.old parser.new 4) }
@@ -211,7 +211,7 @@ impl Ttl {
     }
 }
 
-/// Writes the four octets of the number, the high one first.
+/// Composes the four octets of the number, the high octet first.
 impl Compose for Ttl {
     ghost composed = { λ ttl. to_be_bytes w32 ttl };
 

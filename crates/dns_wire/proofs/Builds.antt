@@ -12,7 +12,7 @@ use Rattle.dns_wire.specs.Built.{Built, StandsFor, built_of, labels_built, built
 use Rattle.dns_wire.proofs.Wire.{labels_wire-append, length-labels_wire_more, wire_is}
 use Rattle.dns_wire.proofs.Drafts.{set_seam, labels_more}
 
--- labels that stand one behind the other to the end are found
+-- labels that follow one another to the end of the octets are found
 labels_from-labels : (message : List ℕ) (heads place : ℕ) (labels : List (List ℕ)) → drop place message ≡ labels_wire labels
     → AllByRecursion IsLabel labels → length labels < heads → labels_from heads message place ≡ labels
 unfolding labels_from
@@ -41,7 +41,7 @@ pub each_back : (front back : List (List ℕ)) → AllByRecursion IsLabel (front
 each_back [] back each = each
 each_back (label ∷ front) back each = each_back front back each.1
 
--- the open label stands behind the finished ones
+-- the open label follows the finished ones
 open_wire : (octets : List ℕ) (finished : List (List ℕ)) (text : List ℕ) → octets ≡ labels_wire (finished ++ text ∷ [])
     → octets ≡ labels_wire finished ++ (length text ∷ text)
 open_wire octets finished text is =
@@ -94,7 +94,7 @@ stands_ended octets head built stands =
       place = refl;
     }
 
--- a label more
+-- one label more
 pub wire_more : (octets : List ℕ) (labels : List (List ℕ)) (label : List ℕ) → octets ≡ labels_wire labels
     → octets ++ label_wire label ≡ labels_wire (labels ++ label ∷ [])
 wire_more octets labels label is =
@@ -152,7 +152,7 @@ stands_more octets place finished text more count stands is short few =
       place = stands.place;
     }
 
--- how many octets there are
+-- the number of octets
 pub stands_len : (octets : List ℕ) (head : Option ℕ) (built : Built) → StandsFor octets head built → length octets ≡ built_len built
 stands_len octets head built stands = ap (length {A = ℕ}) stands.whole
 
@@ -165,7 +165,7 @@ label_len built (octet ∷ label) some =
 pub ended_len : (built : Built) → built_len (ended built) ≡ built_len built
 ended_len built = ap (λ (l : List (List ℕ)). length (labels_wire l)) (append-nil (labels_built built))
 
--- with the root behind them the labels are a name
+-- with the root after them the labels are a name
 pub stands_name : (octets whole : List ℕ) (head : Option ℕ) (built : Built) → StandsFor octets head built → whole ≡ octets ++ 0 ∷ []
     → IsName (labels_built built) × (whole ≡ wire (labels_built built))
 stands_name octets whole head built stands is =

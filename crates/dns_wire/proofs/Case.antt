@@ -31,7 +31,7 @@ low_wire (text ∷ name) each =
     map-append to_ascii_lowercase text (wire name) ∙ ap (λ l. map to_ascii_lowercase text ++ l) (low_wire name each.1) in
     ap (λ n. n ∷ map to_ascii_lowercase (text ++ wire name)) here ∙ ap (λ l. length (map to_ascii_lowercase text) ∷ l) more
 
--- the wire form is of one name
+-- a wire form is that of one name only
 pub wire_one : (name other : List (List ℕ)) → wire name ≡ wire other → name ≡ other
 wire_one [] [] same = refl
 wire_one [] (text ∷ other) same =
@@ -83,7 +83,7 @@ pub low_left : {labels others rest : List (List ℕ)} {label : List ℕ} → lab
 low_left {rest = rest} {label = label} is none same =
     let e : low (label ∷ rest) ≡ low [] = sym (ap low is) ∙ same ∙ ap low none in cc
 
--- a call of `next` leaves the rest, also where there is none
+-- a call of `next` leaves the rest, also if there is no label
 pub next_drops : (result : Option Label) (labels new initial : List (List ℕ)) (count more : ℕ)
     → YieldsFirstBy octets_of (λ (l : List (List ℕ)). l) labels result new → labels ≡ drop count initial → more ≡ count + 1
     → new ≡ drop more initial
@@ -121,7 +121,7 @@ ends_short labels end short ends =
 low_rooted : (name : List (List ℕ)) → low (with_root name) ≡ low name ++ [] ∷ []
 low_rooted name = map-append (map to_ascii_lowercase) name ([] ∷ [])
 
--- the root's label at both ends says nothing
+-- the root's label at both ends changes nothing
 pub rooted_on : (name base : List (List ℕ)) → EndsWith (low (with_root name)) (low (with_root base)) → EndsWith (low name) (low base)
 rooted_on name base ends = record {
   front = ends.front;

@@ -19,7 +19,7 @@ use Rattle.dns_label.proofs.SymbolRuns.{Giving, symbols_yield, symbols_drain, sy
 use Rattle.dns_wire.specs.Draft.{IsReadable, AreReadable}
 use Rattle.dns_wire.proofs.Parts.{split_symbols, each_append, no_more, spelled_some}
 
--- a name's text is of symbols
+-- a name's text consists of symbols
 record OfSymbols (text : List ℕ) : Type 0 where
   pub symbols : List Symbol
   pub each : AllByRecursion IsSymbol symbols
@@ -62,7 +62,7 @@ more_of taken rest each (inr (name, is)) =
     }
 
 module _ {C : Type 0} (steps : C → Option ℕ → C → Type 0) where
-  -- the characters stop where no symbol begins
+  -- the characters stop if no symbol begins
   pub chars_stop : (start : C) (symbols : List Symbol) → StopsAt steps start symbols → RulesOut steps start IsReadable
   chars_stop start symbols stops =
       rules_behind {P = IsReadable} start stops.here (flat_map spelled symbols) stops.gave

@@ -1,4 +1,4 @@
--- Walks over a name that the end of the message cuts.
+-- Walks over a name that the end of the message cuts off.
 use Rattle.std.proofs.Common.{◌≡◌, ℕ, ◌+◌, ◌-◌, ◌*◌, ◌<◌, ◌≤◌, suc, List, [], ◌∷◌, ◌++◌, length, drop, inl, inr, refl, sym, ap, subst, arith, length-append}
 use Rattle.dns_label.specs.Split.{StartsWithLabel, StartsWithPointer, EndsEarly, NoLabel}
 use Rattle.dns_label.specs.declared.label.SplitLabelError.{SplitLabelError}
@@ -10,7 +10,7 @@ use Rattle.dns_wire.specs.Cut.IsCut.{here, label, pointer}
 use Rattle.dns_wire.specs.Skip.{Skips}
 use Rattle.dns_wire.specs.Skip.Skips.{root as skips_root, pointer as skips_pointer, label as skips_label}
 
--- what does not end early
+-- octets that do not end early
 early_first : (octets rest : List ℕ) (first : ℕ) → EndsEarly octets → octets ≡ first ∷ rest
     → (first ≤ 63 → first ≤ length rest) → (192 ≤ first → 0 < length rest) → ⊥
 early_first [] rest first early is short more = cc
@@ -43,7 +43,7 @@ cut-room more (label left rest at is_label within behind) wide = label left rest
 cut-room more (pointer first second rest at both back behind) wide =
     pointer first second rest at both back (cut-room more behind wide)
 
--- a label in front
+-- a label comes first
 pub cut-label : {message : List ℕ} {pointers : ℕ} (text rest : List ℕ) (room place count : ℕ) → StartsWithLabel (drop place message) text rest
     → 0 < length text → count ≡ length text + 1 → count ≤ room → IsCut message pointers (room - count) (place + count)
     → IsCut message pointers room place
@@ -65,7 +65,7 @@ cut-behind {message} {pointers} {room} {place} text rest count (label {label = o
     let P : ℕ → Type 0 = λ p. IsCut message pointers left p in
     (omega arith, cut-room (room - count) (subst P e behind) (omega arith))
 
--- a pointer in front
+-- a pointer comes first
 pub cut-pointer : {message : List ℕ} (room place target left pointers : ℕ) → StartsWithPointer (drop place message) target
     → target < place → pointers ≡ suc left → IsCut message left room target → IsCut message pointers room place
 cut-pointer {message} room place target left pointers at back more behind =
@@ -102,7 +102,7 @@ cut-led_on {message} {room = room} target left cut front more =
     let e : led.left ≡ left = omega (arith, led.more) in
     let P : ℕ → Type 0 = λ n. IsCut message n room target in subst P e led.behind
 
--- a label in front, by how many octets there are
+-- a label comes first, given its number of octets
 pub cut-step : {message : List ℕ} {pointers room place : ℕ} (text rest : List ℕ) (count room' place' : ℕ) → StartsWithLabel (drop place message) text rest
     → 0 < length text → count ≡ length text + 1 → count ≤ room → room' ≡ room - count → place' ≡ place + count
     → IsCut message pointers room' place' → IsCut message pointers room place
@@ -119,7 +119,7 @@ cut-stepped {message} {pointers} {room} {place} text rest count room' place' cut
     let Q : ℕ → Type 0 = λ r. IsCut message pointers r (place + count) in
     subst P (sym more) (subst Q (sym less) (cut-behind text rest count cut at some is).1)
 
--- a label too many, or the root's
+-- the root's label comes first, or a label that is too long
 pub cut-root : {message : List ℕ} {pointers room place : ℕ} (rest : List ℕ) → IsCut message pointers room place
     → drop place message ≡ 0 ∷ rest → ⊥
 cut-root rest (here early) is = early_first _ rest 0 early is (λ small. omega arith) (λ large. omega arith)
@@ -134,7 +134,7 @@ cut-long [] rest cut at long = cut-root rest cut at.spelled
 cut-long (octet ∷ text) rest cut at long =
     let behind = cut-behind (octet ∷ text) rest (length (octet ∷ text) + 1) cut at (omega arith) refl in omega (arith, behind.0)
 
--- nothing that can be there in front
+-- neither a label nor a pointer comes first
 pub cut-bad_type : {message : List ℕ} {pointers room place : ℕ} {error : SplitLabelError} {kind : LabelTypeError}
     → NoLabel (drop place message) error → error ≡ BadType kind → IsCut message pointers room place → ⊥
 cut-bad_type {message} {place = place} {kind = kind} none is cut =
@@ -154,13 +154,13 @@ cut-bad_type {message} {place = place} {kind = kind} none is cut =
     cut-kind Extended no_label cut = within 64 128 no_label.first no_label.rest no_label.spelled (omega (arith, no_label.from)) (omega (arith, no_label.to)) cut
     cut-kind Undefined no_label cut = within 128 192 no_label.first no_label.rest no_label.spelled (omega (arith, no_label.from)) (omega (arith, no_label.to)) cut
 
--- the end
+-- the message ends here
 pub cut-here : {message : List ℕ} {pointers room place : ℕ} {error : SplitLabelError}
     → NoLabel (drop place message) error → error ≡ ShortInput → IsCut message pointers room place
 cut-here {message} {place = place} none is =
     let P : SplitLabelError → Type 0 = λ e. NoLabel (drop place message) e in here (subst P is none)
 
--- what is passed is not cut
+-- what is skipped is not cut off
 pub skips-uncut : {message : List ℕ} {room place next : ℕ} (wide : ℕ) → Skips message room place next → IsCut message 0 wide place → ⊥
 skips-uncut wide (skips_root rest at) cut = cut-root rest cut at
 skips-uncut wide (skips_pointer first second rest at both) cut =

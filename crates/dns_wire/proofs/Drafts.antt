@@ -7,14 +7,14 @@ use Rattle.dns_wire.specs.declared.text.draft.Spelling.{Spelling}
 use Rattle.dns_wire.proofs.Case.{wire_one}
 use Rattle.dns_wire.proofs.Wire.{labels_wire-append, wire_is}
 
--- a write behind what is taken
+-- a write after what is taken
 pub take_set_at : (octets : List ℕ) (len : ℕ) (octet : ℕ) → len < length octets
     → take (suc len) (set octets len octet) ≡ take len octets ++ octet ∷ []
 take_set_at [] len octet within = absurd (omega arith)
 take_set_at (first ∷ octets) zero octet within = refl
 take_set_at (first ∷ octets) (suc len) octet within = ap (λ l. first ∷ l) (take_set_at octets len octet (omega arith))
 
--- a write within it
+-- a write within what is taken
 pub take_set_in : (octets : List ℕ) (len place : ℕ) (octet : ℕ) → place < len
     → take len (set octets place octet) ≡ set (take len octets) place octet
 take_set_in octets zero place octet within = absurd (omega arith)
@@ -36,7 +36,7 @@ draft-push octets len octet done begun within is =
     ap (λ (n : ℕ). take n (set octets len octet)) e ∙ take_set_at octets len octet within
     ∙ ap (λ l. l ++ octet ∷ []) is ∙ append_assoc (labels_wire done) (0 ∷ begun) (octet ∷ [])
 
--- how many octets there are
+-- the number of octets
 pub draft-len : (octets : List ℕ) (len : ℕ) (done : List (List ℕ)) (begun : List ℕ) → len ≤ length octets
     → take len octets ≡ labels_wire done ++ 0 ∷ begun → len ≡ length (labels_wire done) + 1 + length begun
 draft-len octets len done begun within is =
@@ -62,7 +62,7 @@ pub labels_more : (done : List (List ℕ)) (label : List ℕ) → AllByRecursion
 labels_more [] label each is_label = (is_label, tt)
 labels_more (first ∷ done) label each is_label = (each.0, labels_more done label each.1 is_label)
 
--- with no open label it is the wire form of the finished ones
+-- with no open label they are the wire form of the finished ones
 pub draft-wire : (octets : List ℕ) (len : ℕ) (done : List (List ℕ)) → take len octets ≡ labels_wire done ++ 0 ∷ []
     → take len octets ≡ wire done
 draft-wire octets len done is = is ∙ sym (wire_is done)

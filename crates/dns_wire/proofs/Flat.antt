@@ -12,7 +12,8 @@ use Rattle.dns_label.specs.Labels.{labels_at}
 use Rattle.dns_label.proofs.Spelling.{labels_at-reads, spelled-written, spelled_end}
 use Rattle.dns_wire.specs.Flat.{IsWritten, StartsWithName}
 
--- a name can be taken off the octets exactly where one can be taken off the rest, and what stays is the same
+-- if a name can be taken off the rest, one can be taken off the octets, and the same octets are left; and the other way
+-- round
 pub record Leads (octets rest : List ℕ) : Type 0 where
   pub on : (name : List (List ℕ)) (behind : List ℕ) → StartsWithName rest name behind
       → (whole : List (List ℕ)) × StartsWithName octets whole behind
@@ -38,7 +39,7 @@ no_label_no_front (first ∷ rest) text behind ShortInput (inl none) front =
 no_label_no_front (first ∷ rest) text behind ShortInput (inr none) front =
     let b = front.spelled in let long : length text ≡ first = cc in absurd (omega (arith, none.0, front.short))
 
--- the label that stands in front is the first one of the name
+-- the first label is the first one of the name
 pub label_on : (octets text rest : List ℕ) (name : List (List ℕ)) (behind : List ℕ) → StartsWithLabel octets text rest
     → 0 < length text → StartsWithName rest name behind → StartsWithName octets (text ∷ name) behind
 label_on octets text rest name behind front some here = record {
@@ -64,11 +65,11 @@ label_back octets text rest (first ∷ name) behind front some here =
     let same : text ++ rest ≡ first ++ (wire name ++ behind) = cc in
     (name, record { labels = here.labels.1; whole = (same_front text first rest (wire name ++ behind) same long).1 })
 
--- the root in front is a name
+-- the root's label is a name
 pub root_front : (octets rest : List ℕ) → StartsWithLabel octets [] rest → StartsWithName octets [] rest
 root_front octets rest front = record { labels = tt; whole = front.spelled }
 
--- a name in front has a label in front
+-- a name begins with a label
 pub name_front : (octets : List ℕ) (name : List (List ℕ)) (rest : List ℕ) → StartsWithName octets name rest
     → (text behind : List ℕ) × StartsWithLabel octets text behind
 name_front octets [] rest here = ([], rest, record { spelled = here.whole; short = omega arith })
@@ -81,7 +82,7 @@ name_front octets (first ∷ name) rest here = (
   },
 )
 
--- where no label can be split off, no name stands in front
+-- if no label can be split off, the octets begin with no name
 pub no_label_no_name : (octets : List ℕ) (error : SplitLabelError) → NoLabel octets error
     → (name : List (List ℕ)) (rest : List ℕ) → StartsWithName octets name rest → ⊥
 no_label_no_name octets error none name rest here =
@@ -99,20 +100,20 @@ leads-label octets here text rest leads front none = let some = some_octets text
       let front' = leads.back whole behind at in label_back here text rest front'.0 behind front some front'.1;
 }
 
--- where the root's label stands, the name ends
+-- at the root's label the name ends
 pub leads-root : (octets here text rest : List ℕ) → Leads octets here → StartsWithLabel here text rest → text ≡ []
     → (name : List (List ℕ)) × StartsWithName octets name rest
 leads-root octets here text rest leads front none =
     let P : List ℕ → Type 0 = λ t. StartsWithLabel here t rest in
     leads.on [] rest (root_front here rest (subst P none front))
 
--- where no label can be split off, there is no name
+-- if no label can be split off, there is no name
 pub leads-none : (octets here : List ℕ) (error : SplitLabelError) → Leads octets here → NoLabel here error
     → (name : List (List ℕ)) (rest : List ℕ) → StartsWithName octets name rest → ⊥
 leads-none octets here error leads none name rest at =
     let front = leads.back name rest at in no_label_no_name here error none front.0 rest front.1
 
--- a name that is all the octets is found in them
+-- a name that takes up all the octets is found in them
 pub written-whole : (octets : List ℕ) (name : List (List ℕ)) → length octets ≤ 255 → StartsWithName octets name []
     → IsWritten octets
 written-whole octets name few here =
@@ -124,11 +125,11 @@ written-whole octets name few here =
     let P : List (List ℕ) → Type 0 = λ n. IsName n in
     record { is_name = subst P found is_name; whole = is ∙ ap wire found }
 
--- a name in front, and nothing behind it
+-- a name, and nothing after it
 pub whole_front : (octets : List ℕ) (name : List (List ℕ)) → IsName name → octets ≡ wire name → StartsWithName octets name []
 whole_front octets name is_name is = record { labels = is_name.labels; whole = is ∙ sym (append-nil (wire name)) }
 
--- what is left behind the name in front is determined
+-- what follows the name is determined
 pub same_rest : (octets : List ℕ) (name other : List (List ℕ)) (rest behind : List ℕ) → StartsWithName octets name rest
     → StartsWithName octets other behind → rest ≡ behind
 same_rest octets name other rest behind here there =

@@ -1,4 +1,4 @@
--- The ends of names that lie flat in octets.
+-- Suffixes of names that are written out in octets.
 use Rattle.std.proofs.Common.{◌≡◌, ◌≤◌, ◌<◌, ◌∙◌, ℕ, List, [], ◌∷◌, ◌++◌, length, map, ap, sym, arith, drop, length-append, IsTrue, Bool}
 use Rattle.std.proofs.Math.Seq.{drop-append_seam}
 use Rattle.std.specs.Char.{to_ascii_lowercase}
@@ -10,7 +10,7 @@ use Rattle.dns_wire.proofs.Case.{low_wire, wire_one}
 use Rattle.dns_wire.proofs.LowNames.{length-wire-low}
 use Rattle.dns_wire.proofs.Wire.{length-wire_is, length-wire-append}
 
--- what is left of a name after labels were taken off: it ends with the other as the whole name does
+-- what is left of a name after labels were taken off: it ends with the other name exactly if the whole name does
 pub record Remains (name base : List (List ℕ)) (rest : List ℕ) : Type 0 where
   pub back : List (List ℕ)
   pub is_name : IsName back
@@ -27,7 +27,7 @@ remains_whole octets base written = record {
   gives = λ ends. ends;
 }
 
--- a name with more octets than its end has labels in front of that
+-- a name with more octets than its suffix has labels before that
 longer_by : (text : List ℕ) (parent base front : List (List ℕ)) → IsName (text ∷ parent) → IsName base
     → length (wire base) < length (wire (text ∷ parent)) → low (text ∷ parent) ≡ front ++ low base → EndsWith (low parent) (low base)
 longer_by text parent base [] is_name is_base long is =
@@ -74,7 +74,7 @@ remains_step {name} {end} {rest} {behind} {new} {len} so_far written long split 
     step name (labels_at end 0) rest behind new len so_far.back so_far.is_name so_far.is so_far.keeps so_far.gives written.is_name
     (omega (arith, long, whole)) split new_is
 
--- what has a first octet and as many more as that says is not refused
+-- the first octet, and the number of octets that it says, can be taken off
 fits : (rest behind base : List ℕ) (len : ℕ) (back : List (List ℕ)) → rest ≡ wire back → length base < length rest → 1 ≤ length base
     → rest ≡ len ∷ behind → len ≤ length behind
 fits rest behind base len [] is long some split = let one = ap length is in absurd (omega (arith, one))
@@ -91,7 +91,7 @@ remains_fits {name} {end} {rest} {behind} {len} so_far written long split =
     let whole = ap length written.whole in
     fits rest behind end len so_far.back so_far.is long (omega (arith, whole, length-wire_is (labels_at end 0))) split
 
--- names of no more octets than their end are that
+-- a name with no more octets than its suffix is that suffix
 no_front : (back base front : List (List ℕ)) → IsName back → IsName base → length (wire back) ≤ length (wire base)
     → low back ≡ front ++ low base → low back ≡ low base
 no_front back base [] is_name is_base few is = is

@@ -1,4 +1,4 @@
--- Labels that lie one behind the other, and parts of them.
+-- Labels that are written one after another, and runs of them.
 use Rattle.std.proofs.Common.{◌≡◌, ℕ, ◌≤◌, zero, suc, List, [], ◌∷◌, ◌++◌, length, take, drop, refl, sym, ◌∙◌, ap, subst, arith, append_assoc, length-append}
 use Rattle.std.proofs.Math.Seq.{take-append_seam, drop-append_seam}
 use Rattle.std.specs.List.{AllByRecursion}
@@ -26,7 +26,7 @@ within_wire (suc count) (text ∷ labels) few =
     ∙ ap (λ l. text ∷ labels_within count l) (drop-append_seam text (labels_wire labels))
     ∙ ap (λ l. text ∷ l) (within_wire count labels (omega arith))
 
--- the labels in the octets of labels are these
+-- the labels found in the octets of labels are these
 pub flat_labels-wire : (labels : List (List ℕ)) → flat_labels (labels_wire labels) ≡ labels
 unfolding flat_labels
 flat_labels-wire labels = within_wire (length (labels_wire labels)) labels (length-labels_wire labels)
@@ -49,7 +49,7 @@ pub short_with_root : (labels : List (List ℕ)) → AllByRecursion IsLabel labe
 short_with_root [] each = (omega arith, tt)
 short_with_root (text ∷ labels) each = (each.0.short, short_with_root labels each.1)
 
--- the label in front of such octets
+-- the first label of such octets
 pub record Splits (octets text behind : List ℕ) : Type 0 where
   pub labels : flat_labels octets ≡ text ∷ flat_labels behind
   pub are : AreLabels behind
@@ -77,7 +77,7 @@ front_by octets [] error is short some none = some is
 front_by octets (first ∷ labels) error is short some none =
     no_label_no_front octets first (labels_wire labels) error none (record { spelled = is; short = short.0 })
 
--- there is one where there is an octet
+-- there is one if there is an octet
 pub no_split : (octets : List ℕ) (error : SplitLabelError) → AreLabels octets → (length octets ≡ 0 → ⊥) → NoLabel octets error → ⊥
 no_split octets error are some none =
     front_by octets (flat_labels octets) error are.whole are.short (λ is. some (ap (length {A = ℕ}) is)) none
@@ -119,7 +119,7 @@ name_part {front = front} {more = more} is_name is =
     let P : List (List ℕ) → Type 0 = λ n. IsName n in
     let here = subst P is is_name in (name_front front more here, name_back front more here)
 
--- the octets of a relative name, with the root's behind them, are a name's
+-- the octets of a relative name and the root's are those of a name
 pub relative-written : (octets : List ℕ) (name : List (List ℕ)) → IsName name → octets ≡ labels_wire name → IsWritten (octets ++ 0 ∷ [])
 relative-written octets name is_name is =
     flat-written (octets ++ 0 ∷ []) name is_name (ap (λ l. l ++ 0 ∷ []) is ∙ sym (wire_is name))
@@ -167,7 +167,7 @@ start_within {labels = labels} front back place last is whole at =
       length-append (labels_wire front) (labels_wire back),
     )
 
--- of two label starts, the labels between
+-- the labels between two label starts
 pub record Parted (front back other_front other_back : List (List ℕ)) : Type 0 where
   pub part : List (List ℕ)
   pub front_is : other_front ≡ front ++ part

@@ -11,7 +11,7 @@ use Rattle.dns_label.specs.declared.label.LabelTypeError.{LabelTypeError}
 use Rattle.dns_label.specs.declared.label.LabelTypeError.TheVariants.{Undefined, Extended}
 use Rattle.dns_wire.proofs.Flat.{same_front, no_label_no_front}
 
--- all labels that are spelled are labels
+-- all labels that are spelled have 1 to 63 octets
 pub spelled-labels : {message : List ℕ} {pointers place next : ℕ} {name : List (List ℕ)} → Spells message pointers place name next
     → AllByRecursion IsLabel name
 spelled-labels (root rest at) = tt
@@ -34,7 +34,7 @@ spelled-root rest (label {label = text} rest' at is_label parent) front =
 spelled-root rest (pointer first second after rest' at both back name) front =
     let is = front.spelled in let none : first ≡ 0 = cc in absurd (omega arith)
 
--- what is spelled behind the label in front
+-- what is spelled after the first label
 pub record Behind (message : List ℕ) (pointers place end : ℕ) (text : List ℕ) (whole : List (List ℕ)) : Type 0 where
   pub parent : List (List ℕ)
   pub whole_is : whole ≡ text ∷ parent
@@ -61,7 +61,7 @@ spelled-label {message} {pointers} {place} {end} text rest (label {label = other
 spelled-label text rest (pointer first second after rest' at both back name) front some =
     let is = front.spelled in let none : first ≡ length text = cc in absurd (omega (arith, front.short))
 
--- what is spelled where the pointer in front leads
+-- what is spelled where the pointer leads
 pub record Led (message : List ℕ) (pointers place target end : ℕ) (whole : List (List ℕ)) : Type 0 where
   pub left : ℕ
   pub after : ℕ
@@ -92,7 +92,7 @@ spelled-pointer {message} {whole = whole} target (pointer {pointers = left} firs
       spelled = subst P e name;
     }
 
--- where there is neither a label nor a pointer in front, nothing is spelled
+-- if neither a label nor a pointer is at the place, nothing is spelled
 pub spelled-not : {message : List ℕ} {pointers place end : ℕ} {whole : List (List ℕ)} → Spells message pointers place whole end
     → ((text rest : List ℕ) → StartsWithLabel (drop place message) text rest → ⊥)
     → ((target : ℕ) → StartsWithPointer (drop place message) target → ⊥) → ⊥
@@ -138,7 +138,7 @@ spelled-short {message} {place = place} none spelled =
     spelled-not spelled (λ text rest front. no_label_no_front (drop place message) text rest ShortInput none front)
     (λ target front. short-no_pointer (drop place message) target none front)
 
--- the label in front lies within the message
+-- the label at the place is within the message
 pub label-within : (message text rest : List ℕ) (place : ℕ) → StartsWithLabel (drop place message) text rest
     → place ≤ length message → place + 1 + length text ≤ length message
 label-within message text rest place front within =

@@ -36,7 +36,7 @@ open_lacks text spelling read some =
       record { labels = each; short = omega arith },
     )
 
--- none was
+-- no label was open
 pub dotted_lacks : (text : List ℕ) (spelling : Spelling) (read : IsReadAs text spelling) → read.begun ≡ [] → LacksLastDot text → ⊥
 dotted_lacks text spelling read none lacks =
     let e : lacks.0 ≡ read.done ++ [] ∷ [] = read.only lacks.0 lacks.1.parts ∙ ap (λ t. read.done ++ t ∷ []) none in
@@ -52,7 +52,7 @@ root_lacks text is lacks =
     let R : List (List ℕ) → Type 0 = λ n. AllByRecursion IsLabel n in
     let label = (subst R e lacks.1.each).0 in omega (arith, label.some)
 
--- another error, of a text that does not leave it out
+-- any other error, for a text that does not leave the dot out
 module _ {T : Type 0} (text : List ℕ) (result : Result T FromStrError) (none : LacksLastDot text → ⊥) where
   pub told_other : (result ≡ Err (Presentation presentation.RelativeName) → ⊥)
       → IfErr result (λ error. (error ≡ Presentation presentation.RelativeName) ↔ LacksLastDot text)

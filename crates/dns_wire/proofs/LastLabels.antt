@@ -1,4 +1,4 @@
--- The last label of those that are left, which is found from the left.
+-- The last of the labels that are left, which is found from the left.
 use Rattle.std.proofs.Common.{◌≡◌, ℕ, ◌+◌, ◌≤◌, zero, suc, List, [], ◌∷◌, ◌++◌, length, take, refl, sym, ◌∙◌, ap, arith, append_assoc, append-nil, length-append, length-take, subst}
 use Rattle.std.specs.Prelude.{Option, Some, None}
 use Rattle.std.specs.List.{AllByRecursion}
@@ -9,7 +9,7 @@ use Rattle.dns_wire.specs.FlatLabels.{AreLabels, IsShort, flat_labels}
 use Rattle.dns_wire.proofs.FlatForms.{are_labels, flat_is, take_front}
 use Rattle.dns_wire.proofs.Wire.{length-labels_wire_more}
 
--- how far a walk over labels has come: which one was the last, behind how many, and what is left
+-- how far a walk over labels has come: the last label, the number of labels before it, and what is left
 abbrev pub Walked : List (List ℕ) → List (List ℕ) → ℕ → Option (ℕ × Label) → Type 0
 Walked all left count None = (all ≡ left) × (count ≡ 0)
 Walked all left count (Some last) =
@@ -31,7 +31,7 @@ walked_few all left count None at = omega (arith, at.1, ap (length {A = List ℕ
 walked_few all left count (Some last) at =
     omega (arith, at.2, at.3, ap (length {A = List ℕ}) at.1, length-append at.0 (octets_of last.1 ∷ left))
 
--- as many labels as stood in front
+-- as many labels as there were before it
 pub take_less : (most : ℕ) (labels front : List (List ℕ)) (label : List ℕ) → take most labels ≡ front ++ (label ∷ [])
     → take (length front) labels ≡ front
 take_less most labels [] label is = refl
@@ -69,7 +69,7 @@ walked_back all left count labels most last walked found none is =
     ap (λ (n : ℕ). take n labels) at.2 ∙ take_less most labels at.0 (octets_of last.1) (sym is ∙ whole) in
     whole ∙ ap (λ l. l ++ (octets_of last.1 ∷ [])) (sym front)
 
--- a label of flat octets, with those in front of it and the octets behind
+-- a label of flat octets, with the labels before it and the octets after it
 pub record Stands (octets : List ℕ) (text rest : List ℕ) : Type 0 where
   pub front : List (List ℕ)
   pub whole : flat_labels octets ≡ front ++ (text ∷ flat_labels rest)
@@ -90,7 +90,7 @@ short_front : (front : List (List ℕ)) (text : List ℕ) → AllByRecursion IsS
 short_front [] text each = tt
 short_front (label ∷ front) text each = (each.0, short_front front text each.1)
 
--- the octets in front of the last label
+-- the octets before the last label
 pub record Cuts (octets text part : List ℕ) : Type 0 where
   pub whole : flat_labels octets ≡ flat_labels part ++ (text ∷ [])
   pub are : AreLabels part

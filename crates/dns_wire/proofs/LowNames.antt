@@ -26,7 +26,7 @@ low_name name is_name = record {
   short = omega (arith, length-wire-low name is_name, is_name.short);
 }
 
--- names are the same in lower case where their octets are
+-- names are the same in lower case if their octets are
 pub low_octets : (name other : List (List ℕ)) → IsName name → IsName other → low name ≡ low other
     → map to_ascii_lowercase (wire name) ≡ map to_ascii_lowercase (wire other)
 low_octets name other is_name is_other same =

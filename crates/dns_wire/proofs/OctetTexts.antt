@@ -15,7 +15,7 @@ use Rattle.dns_wire.proofs.CharTexts.{more_of}
 use Rattle.dns_wire.proofs.Parts.{Reading, reading_here, reading-octet, reading-dot, symbol_one, spelled_some}
 use Rattle.dns_wire.proofs.Readings.{some_readable, over_none, empty_none, new_none, some_read, root_none, read_end}
 
--- symbols were taken off the front of the text, and put to the spelling
+-- symbols were taken off the front of the text, and added to the spelling
 pub record Taken (text rest : List ℕ) (spelling : Spelling) : Type 0 where
   pub symbols : List Symbol
   pub done : List (List ℕ)
@@ -38,7 +38,7 @@ whole_more text rest behind symbols symbol whole is =
 pub dot_symbol : IsSymbol (Char 46)
 dot_symbol = ((omega arith, omega arith), λ (e : 46 ≡ 92). omega arith)
 
--- an octet that is no dot begins no dot
+-- the symbol of an octet other than a dot is no dot
 pub plain_char : (c : ℕ) → c ≢ 46 → is_dot (Char c) ≡ false
 plain_char c none = search (rules, tests)
 
@@ -48,7 +48,7 @@ plain_begins c rest behind (Char d) none first next is = plain_char d (λ e. let
 plain_begins c rest behind (SimpleEscape d) none first next is = refl
 plain_begins c rest behind (DecimalEscape n) none first next is = refl
 
--- A text that goes on with a symbol: with its octet, with a dot that ends a label, or by being refused.
+-- A text goes on with a symbol: its octet is added, it is a dot that ends a label, or it makes the reader fail.
 module _ (text rest behind : List ℕ) (spelling : Spelling) (symbol : Symbol) (taken : Taken text rest spelling) (is_symbol : IsSymbol symbol)
     (is : rest ≡ spelled symbol ++ behind) where
   pub taken-octet : (new : Spelling) (c : ℕ) → is_dot symbol ≡ false → c ≡ octet symbol
@@ -106,7 +106,7 @@ module _ (text rest behind : List ℕ) (spelling : Spelling) (taken : Taken text
       (λ more written name.
       empty_none spelling taken.symbols more taken.done taken.begun (Char 46) name taken.reading taken.holds dot_symbol refl some none)
 
-  -- nothing was taken in front of the dot
+  -- nothing was taken before the dot
   pub root_alone : spelling.len ≡ 1 → behind ≡ [] → text ≡ 46 ∷ []
   root_alone one none =
       let new = new_none spelling taken.symbols taken.done taken.begun taken.reading taken.holds one in
@@ -122,7 +122,7 @@ module _ (text rest behind : List ℕ) (spelling : Spelling) (taken : Taken text
           root_none taken.symbols more (Char 46) symbol name new refl spells
 
 module _ (text rest : List ℕ) (spelling : Spelling) (taken : Taken text rest spelling) where
-  -- no symbol stands behind those that were taken
+  -- no symbol follows those that were taken
   pub bad_unreadable : (rest ≡ [] → ⊥) → ((symbol : Symbol) (behind : List ℕ) → IsSymbol symbol → rest ≡ spelled symbol ++ behind → ⊥)
       → IsReadable text → ⊥
   bad_unreadable some none readable =

@@ -21,7 +21,7 @@ then_equal Less = refl
 then_equal Equal = refl
 then_equal Greater = refl
 
--- lists whose fronts are as long are compared by these first
+-- lists with fronts of the same length are compared by these first
 pub cmp_seam : {K : Type 0} (R : K → K → Ordering) (xs ys us vs : List K) → length xs ≡ length ys
     → slice_cmp R (xs ++ us) (ys ++ vs) ≡ ordering_then (slice_cmp R xs ys) (slice_cmp R us vs)
 cmp_seam R [] [] us vs long = refl
@@ -36,7 +36,7 @@ reverse_low front rest = ap reverse (map-append (map to_ascii_lowercase) front r
 length_low : (labels : List (List ℕ)) → length (reverse (low labels)) ≡ length labels
 length_low labels = length-reverse (low labels) ∙ length-map labels (map to_ascii_lowercase)
 
--- labels in front of as many labels decide only where these are the same
+-- of labels that are followed by the same number of others, the front ones decide only if the others are the same
 pub order_front : (front others rest rests : List (List ℕ)) → length rest ≡ length rests
     → labels_order (front ++ rest) (others ++ rests) ≡ ordering_then (labels_order rest rests) (labels_order front others)
 order_front front others rest rests long =
@@ -48,7 +48,7 @@ order_front front others rest rests long =
 order_one : (label other : List ℕ) → labels_order (label ∷ []) (other ∷ []) ≡ label_order label other
 order_one label other = then_equal (label_order label other)
 
--- a label more on both sides
+-- one label more on both sides
 pub order_more : {labels others rest rests : List (List ℕ)} {label other : List ℕ} (order tied : Ordering)
     → labels ≡ label ∷ rest → others ≡ other ∷ rests → length rest ≡ length rests
     → order ≡ ordering_then (label_order label other) tied
@@ -60,7 +60,7 @@ order_more {labels} {others} {rest} {rests} {label} {other} order tied is are lo
     ap (λ o. ordering_then o tied) whole ∙ then_assoc (labels_order rest rests) (label_order label other) tied
     ∙ ap (ordering_then (labels_order rest rests)) (sym here)
 
--- nothing on both sides
+-- no label on either side
 pub order_none : {labels others : List (List ℕ)} (tied : Ordering) → labels ≡ [] → others ≡ []
     → ordering_then (labels_order labels others) tied ≡ tied
 order_none {labels} {others} tied none nothing =
@@ -86,7 +86,7 @@ order_less labels some =
     by_length [] none = absurd (omega arith)
     by_length (first ∷ l) more = refl
 
--- where one side has more labels, as many as the other has are compared first
+-- if one side has more labels than the other, its last ones are compared first, as many as the other has
 pub order_ends : (front others rest rests : List (List ℕ)) → length rest ≡ length rests → (length front ≡ 0) ⊎ (length others ≡ 0)
     → labels_order (front ++ rest) (others ++ rests)
     ≡ ordering_then (labels_order rest rests) (nat_cmp (length (front ++ rest)) (length (others ++ rests)))
@@ -114,7 +114,7 @@ end_right : (rest : List ℕ) (n m : ℕ) → length rest + m ≡ n → label_or
 end_right [] n m is = nat_cmp_is n m Equal (omega arith)
 end_right (octet ∷ rest) n m is = nat_cmp_is n m Greater (omega arith)
 
--- the octets behind as many that are the same
+-- after the octets of the shorter label, the lengths decide
 pub order_end : (octets others : List ℕ) (count : ℕ) → count ≤ length octets → count ≤ length others
     → (count ≡ length octets) ⊎ (count ≡ length others)
     → label_order (drop count octets) (drop count others) ≡ nat_cmp (length octets) (length others)
@@ -133,7 +133,7 @@ count_end count a b is =
       | false ↦ λ e. let more : b < a = leb-false a b e in (omega arith, omega arith, inr (let c : count ≡ b = omega arith in c))
     ] refl
 
--- as many labels as the other side has, from the right
+-- the last labels of one side, as many as the other side has
 pub order_aligned : (name other labels others : List (List ℕ)) (result tied : Ordering) → labels ≡ drop (length name - length other) name
     → others ≡ drop (length other - length name) other → tied ≡ nat_cmp (length name) (length other)
     → result ≡ ordering_then (labels_order labels others) tied → result ≡ labels_order name other
@@ -157,7 +157,7 @@ order_aligned name other labels others result tied is are here made =
           | false ↦ λ e. inr (let more : length other < length name = leb-false (length name) (length other) e in omega (arith, length-take (length other - length name) other))
         ] refl
 
--- both are as long
+-- both have the same number of labels
 pub aligned : (name other labels others : List (List ℕ)) → labels ≡ drop (length name - length other) name
     → others ≡ drop (length other - length name) other → length labels ≡ length others
 aligned name other labels others is are =

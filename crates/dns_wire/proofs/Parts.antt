@@ -15,7 +15,7 @@ abbrev pub joined : List ℕ → List (List ℕ) → List (List ℕ)
 joined begun [] = begun ∷ []
 joined begun (part ∷ parts) = (begun ++ part) ∷ parts
 
--- these parts are of a name other than the root: its labels, and an empty one where the last dot is there
+-- these parts are of a name other than the root: its labels, and an empty one if the last dot is there
 pub record IsListed (parts name : List (List ℕ)) : Type 0 where
   pub is_name : IsName name
   pub listed : (parts ≡ name) ⊎ (parts ≡ name ++ [] ∷ [])
@@ -53,7 +53,7 @@ joined_octet done begun symbol symbols plain =
     let some = some_part symbols in
     rw (plain, some.is) (ap (λ t. done ++ t ∷ some.more) (sym (append_assoc begun (octet symbol ∷ []) some.part)))
 
--- the first symbol is no dot, if there is one
+-- the first symbol is no dot, if there is a symbol
 abbrev pub StartsPlain : List Symbol → Type 0
 StartsPlain [] = Unit {0}
 StartsPlain (symbol ∷ symbols) = is_dot symbol ≡ false
@@ -83,7 +83,7 @@ plain_more : (taken : List Symbol) (symbol : Symbol) → StartsPlain taken → (
 plain_more [] symbol plain last = last refl
 plain_more (first ∷ taken) symbol plain last = plain
 
--- behind a dot
+-- after a dot
 pub reading-dot : (taken : List Symbol) (done : List (List ℕ)) (begun : List ℕ) (symbol : Symbol) → Reading taken done begun
     → IsSymbol symbol → is_dot symbol ≡ true → (taken ≡ [] → ⊥) → Reading (taken ++ symbol ∷ []) (done ++ begun ∷ []) []
 reading-dot taken done begun symbol reading is_symbol dot some = record {
@@ -92,7 +92,7 @@ reading-dot taken done begun symbol reading is_symbol dot some = record {
   parts = λ rest. ap parts_of (append_assoc taken (symbol ∷ []) rest) ∙ reading.parts (symbol ∷ rest) ∙ joined_dot done begun symbol rest dot;
 }
 
--- behind a symbol that stands for an octet
+-- after a symbol that stands for an octet
 pub reading-octet : (taken : List Symbol) (done : List (List ℕ)) (begun : List ℕ) (symbol : Symbol) → Reading taken done begun
     → IsSymbol symbol → is_dot symbol ≡ false → Reading (taken ++ symbol ∷ []) done (begun ++ octet symbol ∷ [])
 reading-octet taken done begun symbol reading is_symbol plain = record {
@@ -101,7 +101,7 @@ reading-octet taken done begun symbol reading is_symbol plain = record {
   parts = λ rest. ap parts_of (append_assoc taken (symbol ∷ []) rest) ∙ reading.parts (symbol ∷ rest) ∙ joined_octet done begun symbol rest plain;
 }
 
--- nothing was taken where no label is finished, and none begun
+-- nothing was taken if no label is finished and none is begun
 pub two_parts : (dot : Bool) (c : ℕ) (parts : List (List ℕ)) (symbol : Symbol) (symbols : List Symbol) → is_dot symbol ≡ dot
     → octet symbol ≡ c → parts_of symbols ≡ parts → Some_part parts → parts_of (symbol ∷ symbols) ≡ [] ∷ [] → ⊥
 two_parts true c parts symbol symbols dot is has some one =
@@ -154,7 +154,7 @@ plain_symbol (Char c) rest plain is =
 plain_symbol (SimpleEscape c) rest plain is = let e : ◌≡◌ {A = ℕ} 92 46 = cc in absurd (omega arith)
 plain_symbol (DecimalEscape n) rest plain is = let e : ◌≡◌ {A = ℕ} 92 46 = cc in absurd (omega arith)
 
--- the text is no dot alone
+-- the text is not a dot alone
 pub no_dot : (taken rest : List Symbol) → StartsPlain taken → (taken ≡ [] → rest ≡ []) → flat_map spelled (taken ++ rest) ≡ 46 ∷ [] → ⊥
 no_dot [] rest plain none is =
     let e = none refl in
@@ -232,7 +232,7 @@ empty_listed done part parts name listed = by_case listed.listed
         let label = label_among done [] (part ∷ parts) (subst P (sym is) listed.is_name).labels in omega (arith, label.some)
     by_case (inr is) = empty_dotted done part parts name listed.is_name.labels is
 
--- an octet more than a label or a name has
+-- one octet more than a label or a name may have
 pub octet_over : (taken rest : List Symbol) (done : List (List ℕ)) (begun : List ℕ) (len start c : ℕ)
     → Reading taken done (begun ++ c ∷ []) → start ≡ length (labels_wire done) → len ≡ start + 1 + length begun
     → (len ≡ start + 64) ⊎ (253 < len) → (name : List (List ℕ)) → IsListed (parts_of (taken ++ rest)) name → ⊥
@@ -247,7 +247,7 @@ octet_over taken rest done begun len start c reading at long over name listed =
     let short = among-short done part some.more name (omega arith) (subst P is listed) in
     omega (arith, short.0, short.1)
 
--- a dot behind an empty label
+-- a dot after an empty label
 pub dot_empty : (taken rest : List Symbol) (done : List (List ℕ)) (begun : List ℕ) → Reading taken (done ++ begun ∷ []) []
     → length begun ≡ 0 → (name : List (List ℕ)) → IsListed (parts_of (taken ++ rest)) name → ⊥
 dot_empty taken rest done (octet ∷ begun) reading none name listed = omega arith
@@ -259,7 +259,7 @@ dot_empty taken rest done [] reading none name listed =
     let P : List (List ℕ) → Type 0 = λ p. IsListed p name in
     empty_listed done some.part some.more name (subst P is listed)
 
--- a symbol behind a dot at the start
+-- a symbol after a dot at the start
 pub dot_more : (dot symbol : Symbol) (rest : List Symbol) → is_dot dot ≡ true → (name : List (List ℕ)) → IsListed (parts_of (dot ∷ symbol ∷ rest)) name → ⊥
 dot_more dot symbol rest is_dot name listed =
     let some = some_part (symbol ∷ rest) in

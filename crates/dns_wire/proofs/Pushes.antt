@@ -1,4 +1,4 @@
--- What is put to a name while it is built.
+-- What is appended to a name while it is built.
 use Rattle.std.proofs.Common.{◌≡◌, ℕ, ◌+◌, ◌<◌, ◌≤◌, true, false, List, [], ◌∷◌, ◌++◌, length, set, refl, sym, ◌∙◌, ap, subst, arith, append-nil, length-append, rules}
 use borrow.Author.Tests.{tests}
 use Rattle.std.specs.Prelude.{◌==◌, Option, Some, None, Result, Ok, Err, unwrap_or}
@@ -21,7 +21,7 @@ pub no_octets : (octets : List ℕ) → length octets ≡ 0 → octets ≡ []
 no_octets [] none = refl
 no_octets (octet ∷ octets) none = absurd (omega arith)
 
--- the open label is one
+-- the open label has at most 63 octets
 pub open_short : (octets : List ℕ) (head : Option ℕ) (finished : List (List ℕ)) (begun : Option (List ℕ))
     → StandsFor octets head (record { finished = finished; begun = begun }) → length (unwrap_or begun []) ≤ 63
 open_short octets head finished None stands = omega arith
@@ -49,7 +49,7 @@ labelled_short octets built (octet ∷ label) stands =
     let all = subst P (append-nil (labels_built built ++ (octet ∷ label) ∷ [])) stands.each in
     (each_back (labels_built built) ((octet ∷ label) ∷ []) all).0.short
 
--- the two length faults, where the sizes are known otherwise
+-- the two length errors, for sizes that are equal to known ones
 pub name_fault : {A : Type 0} (size known : ℕ) → size ≡ known → (A → 254 < known) × (254 < known → A) → (A → 254 < size) × (254 < size → A)
 name_fault size known is fault =
     let P : ℕ → Type 0 = λ n. 254 < n in
@@ -74,7 +74,7 @@ pub no_label_fault : {T : Type 0} (result : Result T PushError) (size len : ℕ)
     → (result ≡ Err LongLabel → (size ≤ 254) × (63 < len)) × ((size ≤ 254) × (63 < len) → result ≡ Err LongLabel)
 no_label_fault result size len none few = (λ is. absurd (none is), λ over. absurd (omega (arith, over.0, over.1, few over.0)))
 
--- octets put to an open label
+-- octets appended to an open label
 pub record OpenMore (octets : List ℕ) (place : ℕ) (built : Built) (more : List ℕ) : Type 0 where
   pub size : built_len (with_octets built more) ≡ length octets + length more
   pub count : place + 1 + open_len built ≡ length octets
@@ -133,7 +133,7 @@ open_new octets head built more stands is some =
     let P : Option ℕ → Type 0 = λ h. StandsFor octets h built in
     open_none octets built.finished built.begun more (subst P is stands) some
 
--- an answer is no other one
+-- a value is no error
 pub ok_no_error : {T : Type 0} (result : Result T PushError) (value : T) (error : PushError) → result ≡ Ok value → result ≡ Err error → ⊥
 ok_no_error result value error is are = let no : Ok value ≡ Err error = sym is ∙ are in cc
 
@@ -152,7 +152,7 @@ short_no_label is = cc
 pub short_no_name : ShortBuf ≡ LongName → ⊥
 short_no_name is = cc
 
--- octets that are put to the open label
+-- octets that are written to the open label
 pub stands_put : (octets grown new : List ℕ) (head : Option ℕ) (place : ℕ) (built : Built) (more : List ℕ) (count : ℕ) → StandsFor octets head built
     → head ≡ Some place → 0 < length more → grown ≡ octets ++ more → new ≡ set grown place count
     → count ≡ open_len built + length more → count ≤ 63 → length octets + length more ≤ 254 → StandsFor new head (with_octets built more)

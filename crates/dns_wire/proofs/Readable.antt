@@ -1,4 +1,4 @@
--- The labels of a name that is read at a place, one after another.
+-- The labels of a name that is read at a place, one by one.
 use Rattle.std.proofs.Common.{◌≡◌, ℕ, ◌+◌, ◌<◌, ◌≤◌, suc, List, [], ◌∷◌, length, drop, sym, ◌∙◌, ap, subst, arith, length-append}
 use Rattle.std.proofs.lemmas.List.{drop_all}
 use mathlib.Core.Logic.{∥∥₁_elim, ∥∥₁_map}
@@ -13,7 +13,7 @@ use Rattle.dns_label.proofs.Spelling.{labels_at-reads}
 use Rattle.dns_wire.specs.Parsed.{IsReadAt}
 use Rattle.dns_wire.proofs.Heads.{spelled-more, spelled-not, spelled-root, spelled-label, spelled-pointer}
 
--- where a name is read
+-- a name is read here
 pub read_at : (message : List ℕ) (place next : ℕ) (name : List (List ℕ)) → Reads message place name next → IsReadAt message place
 read_at message place next name reads =
     let P : List (List ℕ) → Type 0 = λ n. Reads message place n next in
@@ -30,7 +30,7 @@ pub name_behind : (text : List ℕ) (parent : List (List ℕ)) → IsName (text 
 name_behind text parent is_name =
     record { labels = is_name.labels.1; short = omega (arith, is_name.short, length-append text (wire parent)) }
 
--- behind a label
+-- after a label
 pub record Goes (message : List ℕ) (place next : ℕ) (text : List ℕ) : Type 0 where
   pub labels : labels_at message place ≡ text ∷ labels_at message next
   pub read : IsReadAt message next
@@ -104,7 +104,7 @@ pub pointer-back : (message : List ℕ) (place target : ℕ) → ∥ IsReadAt me
 pointer-back message place target there at forward =
     none_from_merely there (λ read. let led = spelled-pointer target read.reads.spelled at in omega (arith, led.back))
 
--- it is a place of the message
+-- the place is within the message
 pub read-within : (message : List ℕ) (place : ℕ) → ∥ IsReadAt message place ∥₁ → (length message < place → ⊥)
 read-within message place there out =
     let none : drop place message ≡ [] = drop_all place message (omega arith) in
@@ -120,7 +120,7 @@ pub read-root : (message : List ℕ) (place : ℕ) → ∥ IsReadAt message plac
     → labels_at message place ≡ []
 read-root message place there one = from_merely there (λ read. root_length (labels_at message place) read.reads.is_name one)
 
--- the same reading, of what the parser has
+-- the same reading, of the octets of the parser
 pub parsed_ok : {octets whole : List ℕ} {place pos next end : ℕ} {name : List (List ℕ)} → octets ≡ whole → place ≡ pos → end ≡ next
     → Reads octets place name next → Reads whole pos (labels_at octets place) end
 parsed_ok {octets} {whole} {place} {pos} {next} {end} same here there reads =

@@ -17,7 +17,7 @@ use Rattle.dns_wire.proofs.Drafts.{draft-len}
 use Rattle.dns_wire.proofs.Parts.{Reading, reading-dot, reading-octet, each_last, octet_over, dot_empty, dot_more, dot_text, no_dot, spelled_some, none_taken, some_taken, IsListed}
 use Rattle.dns_wire.proofs.Texts.{spell_none, read_as}
 
--- how many octets are held
+-- the number of octets that are held
 pub holds-len : (spelling : Spelling) (done : List (List ℕ)) (begun : List ℕ) → Holds spelling done begun
     → spelling.len ≡ length (labels_wire done) + 1 + length begun
 holds-len spelling done begun holds =
@@ -39,7 +39,7 @@ some_last : (taken : List Symbol) (symbol : Symbol) (rest : List Symbol) → tak
 some_last [] symbol rest is = cc
 some_last (first ∷ taken) symbol rest is = cc
 
--- symbols, of which there is one, are readable only where they spell a name
+-- one or more symbols are readable only if they spell a name
 pub some_readable : (taken : List Symbol) (symbol : Symbol) (rest : List Symbol)
     → ((name : List (List ℕ)) → SpellName (taken ++ symbol ∷ rest) name → ⊥) → AreReadable (taken ++ symbol ∷ rest) → ⊥
 some_readable taken symbol rest none (inl is) = some_last taken symbol rest is
@@ -55,7 +55,7 @@ read_none taken rest done begun symbol name reading none spells =
     (no_dot (taken ++ symbol ∷ []) rest reading.plain (λ is. absurd (some_last taken symbol [] is)))
     none (subst P (shifted taken symbol rest) spells)
 
--- an octet more than a label or a name has
+-- one octet more than a label or a name may have
 pub over_none : (spelling : Spelling) (taken rest : List Symbol) (done : List (List ℕ)) (begun : List ℕ) (symbol : Symbol) (name : List (List ℕ))
     → Reading taken done begun → Holds spelling done begun → IsSymbol symbol → is_dot symbol ≡ false
     → (spelling.len ≡ spelling.start + 64) ⊎ (253 < spelling.len) → SpellName (taken ++ symbol ∷ rest) name → ⊥
@@ -110,7 +110,7 @@ two_none : (rest : List Symbol) (dot symbol : Symbol) (name : List (List ℕ)) �
 two_none rest dot symbol name first spells =
     spell_none (dot ∷ symbol ∷ rest) name (two_text dot symbol rest first) (dot_more dot symbol rest first) spells
 
--- a symbol behind a dot at the start
+-- a symbol after a dot at the start
 pub root_none : (taken rest : List Symbol) (dot symbol : Symbol) (name : List (List ℕ)) → taken ≡ [] → is_dot dot ≡ true
     → SpellName (taken ++ dot ∷ symbol ∷ rest) name → ⊥
 root_none taken rest dot symbol name none first spells =

@@ -1,4 +1,4 @@
--- Passing a name without following its pointers.
+-- Skipping a name without following its pointers.
 use Rattle.std.proofs.Common.{◌≡◌, ℕ, ◌+◌, ◌-◌, ◌*◌, ◌<◌, ◌≤◌, List, [], ◌∷◌, ◌++◌, length, drop, refl, sym, ◌∙◌, ap, subst, arith, length-append, length-drop}
 use Rattle.dns_label.specs.Name.{wire}
 use Rattle.dns_label.specs.Spelled.{Spells, Reads}
@@ -13,7 +13,7 @@ use Rattle.dns_wire.proofs.Flat.{no_label_no_front}
 use Rattle.dns_wire.proofs.Heads.{bad_type-no_pointer, short-no_pointer}
 use Rattle.dns_wire.proofs.Wire.{length-wire_is}
 
--- the root in front
+-- the root's label comes first
 pub skips-root : (message text rest : List ℕ) (room place : ℕ) → StartsWithLabel (drop place message) text rest → text ≡ []
     → Skips message room place (place + 1)
 skips-root message text rest room place at none =
@@ -24,7 +24,7 @@ pub skips-pointer : (message : List ℕ) (room place target : ℕ) → StartsWit
     → Skips message room place (place + 2)
 skips-pointer message room place target at = pointer at.first at.second at.rest at.spelled at.both_bits
 
--- a label in front
+-- a label comes first
 pub skips-label : (message text rest : List ℕ) (room place count next : ℕ) → StartsWithLabel (drop place message) text rest
     → 0 < length text → count ≡ length text + 1 → count ≤ room → Skips message (room - count) (place + count) next
     → Skips message room place next
@@ -54,7 +54,7 @@ skips-behind {message} {room} {place} {next} text rest count (label {label = oth
     let P : ℕ → Type 0 = λ p. Skips message left p next in
     (omega arith, skips-room (room - count) (subst P e behind) (omega arith))
 
--- where there is neither a label nor a pointer in front, nothing is passed
+-- if neither a label nor a pointer is at the place, nothing is skipped
 pub skips-not : {message : List ℕ} {room place next : ℕ} → Skips message room place next
     → ((text rest : List ℕ) → StartsWithLabel (drop place message) text rest → ⊥)
     → ((target : ℕ) → StartsWithPointer (drop place message) target → ⊥) → ⊥
@@ -71,12 +71,12 @@ skips-not (pointer first second rest at both) no_label no_pointer =
       is = refl;
     })
 
--- a pointer lies within the message
+-- a pointer is within the message
 pub pointer-within : (message : List ℕ) (place target : ℕ) → StartsWithPointer (drop place message) target
     → place + 2 ≤ length message
 pointer-within message place target at = omega (arith, ap (length {A = ℕ}) at.spelled, length-drop place message)
 
--- what is read is passed
+-- what is spelled is skipped
 pub skips-spelled : {message : List ℕ} {pointers place next : ℕ} {name : List (List ℕ)} (room : ℕ)
     → Spells message pointers place name next → length (wire name) ≤ room + 1 → Skips message room place next
 skips-spelled room (spells_root rest at) few = root rest at
@@ -87,12 +87,12 @@ skips-spelled room (spells_label {label = text} {parent = parent} rest at is_lab
     label (room - (1 + length text)) rest at is_label (omega arith)
     (skips-spelled (room - (1 + length text)) behind (omega arith))
 
--- a name that is read is passed
+-- a name that is read is skipped
 pub skips-reads : {message : List ℕ} {place next : ℕ} {name : List (List ℕ)} → Reads message place name next
     → Skips message 254 place next
 skips-reads reads = skips-spelled 254 reads.spelled (omega (arith, reads.is_name.short))
 
--- what stands at a place ends in one place
+-- what is skipped at a place ends at one place
 pub skips-one : {message : List ℕ} {room wide place here next end : ℕ} → Skips message room place next
     → Skips message wide here end → place ≡ here → next ≡ end
 skips-one (root rest at) (root rest' at') same = omega arith

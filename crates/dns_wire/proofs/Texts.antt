@@ -37,7 +37,7 @@ pub no_text : (text : List ℕ) → (text ≡ 46 ∷ [] → ⊥)
 no_text text no_dot none name (absolute is) = no_absolute text no_dot none name is
 no_text text no_dot none name (relative is is_name) = none name name is.parts (record { is_name = is_name; listed = inl refl })
 
--- what a text spells by what was read of it
+-- what a text spells, given what was read of it
 pub record Whole (Spells : List ℕ → List (List ℕ) → Type 0) (text : List ℕ) (spelling : Spelling) : Type 0 where
   pub done : List (List ℕ)
   pub holds : Holds spelling done []
@@ -83,7 +83,7 @@ whole-dotted text spelling no_dot read none =
         let R : List (List ℕ) → Type 0 = λ n. AllByRecursion IsLabel n in
         let label = last_label read.done [] (subst R e is.each) in absurd (omega (arith, label.some))
 
--- where a label is open at the end
+-- a label is open at the end
 pub open_label : (text : List ℕ) (spelling : Spelling) → (text ≡ 46 ∷ [] → ⊥) → (read : IsReadAs text spelling)
     → 0 < length read.begun → (name : List (List ℕ)) → IsAbsoluteText text name → ⊥
 open_label text spelling no_dot read some name (root is) = no_dot is
@@ -106,7 +106,7 @@ whole-open text spelling ended no_dot read some holds = record {
         let e = read.only name is.parts in
         (omega (arith, ap (length {A = List ℕ}) e, length-append read.done (read.begun ∷ [])), e)
 
--- what is answered then
+-- what is returned then
 pub whole-ok : (Spells : List ℕ → List (List ℕ) → Type 0) (text : List ℕ) (spelling : Spelling) (name : List (List ℕ))
     → Whole Spells text spelling → IsName name → Holds spelling name [] → 0 < length name → Spells text name
 whole-ok Spells text spelling name whole is_name holds some =
@@ -156,7 +156,7 @@ pub whole-result : (Spells : List ℕ → List (List ℕ) → Type 0) (text : Li
 whole-result Spells text spelling (Ok name) whole made = whole-ok Spells text spelling name whole made.0 made.1 made.2
 whole-result Spells text spelling (Err error) whole made = tt
 
--- the same where its octets were appended to others
+-- the same if its octets were appended to others
 pub whole-appended : {T : Type 0} (text : List ℕ) (spelling : Spelling) (result : Result T FromStrError) (new before old : List ℕ)
     → before ≡ old → Whole IsAbsoluteText text spelling
     → OnOk result ((name : List (List ℕ)) × IsName name × Holds spelling name [] × (0 < length name) × (new ≡ before ++ wire name))

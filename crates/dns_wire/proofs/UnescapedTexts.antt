@@ -1,4 +1,4 @@
--- Names in text without escapes: labels are taken off the front, each with its dot, and written behind their lengths.
+-- Names in text without escapes: labels are taken off the front, each with its dot, and written after their lengths.
 use Rattle.std.proofs.Common.{◌≡◌, ℕ, ◌+◌, ◌-◌, ◌<◌, ◌≤◌, ◌↔◌, Bool, true, false, cond, suc, List, [], ◌∷◌, ◌++◌, length, map, take, drop, set, refl, sym, ◌∙◌, ap, subst, arith, append_assoc, append-nil, length-append}
 use Rattle.std.proofs.lemmas.Bool.{false_from_ne_true, false≢true}
 use Rattle.std.proofs.lemmas.Bool.Decides.{nat_tests}
@@ -17,7 +17,7 @@ use Rattle.dns_wire.proofs.OctetTexts.{dot_symbol, plain_char}
 use Rattle.dns_wire.proofs.Parts.{Reading, reading_here, reading-octet, reading-dot}
 use Rattle.dns_wire.proofs.Wire.{labels_wire-append, labels_wire-with_root}
 
--- the test says what the relation does
+-- the test agrees with the relation
 pub unescaped_sound : (octet : ℕ) → is_unescaped octet ≡ true → IsUnescaped octet
 unescaped_sound octet is = grind (arith, nat_tests)
 
@@ -46,7 +46,7 @@ run_each : (text : List ℕ) → AllByRecursion IsUnescaped (take (prefix_len is
 run_each [] = tt
 run_each (octet ∷ text) = each_next octet text (is_unescaped octet) refl (run_each text)
 
--- A run with a dot behind it is a label.
+-- A run with a dot after it is a label.
 pub label_found : (text label behind : List ℕ) (start end : ℕ) → end ≡ start + prefix_len is_unescaped (drop start text) → start ≤ length text
     → label ≡ take (end - start) (drop start text) → drop end text ≡ 46 ∷ behind → 0 < length label → length label ≤ 63
     → StartsWithUnescapedLabel (drop start text) label (drop (start + length label + 1) text)
@@ -66,7 +66,7 @@ label_found text label behind start end is_end within is dot some short =
           ∙ dot ∙ ap (λ l. 46 ∷ l) (ap (drop 1) (sym dot) ∙ drop-drop 1 end text ∙ ap (λ n. drop n text) next));
     }
 
--- symbols that stand for a label's octets
+-- the symbols of a label's octets
 spelled_chars : (label : List ℕ) → flat_map spelled (map Char label) ≡ label
 spelled_chars [] = refl
 spelled_chars (octet ∷ label) = ap (λ l. octet ∷ l) (spelled_chars label)
@@ -144,14 +144,14 @@ labels_next text rest octets label behind new taken front is_new =
           omega (arith, taken.counted, ap (length {A = ℕ}) is_new, length-append octets (length label ∷ label), ap (length {A = ℕ}) front.whole, length-append label (46 ∷ behind));
     }
 
--- A length goes over the octet before a label.
+-- A length is written over the octet before a label.
 pub length_written : (front taken rest : List ℕ) (before count place : ℕ) → place ≡ length front + length taken
     → set ((front ++ taken) ++ before ∷ rest) place count ≡ (front ++ taken) ++ count ∷ rest
 length_written front taken rest before count place at =
     set-append_right (front ++ taken) (before ∷ rest) place place count (length-append front taken ∙ sym at) (omega arith)
     ∙ ap (λ k. (front ++ taken) ++ set (before ∷ rest) k count) {y = 0} (omega arith)
 
--- The name that is read where nothing is left.
+-- The name that is read if nothing is left.
 pub record IsReadWhole (text octets : List ℕ) : Type 0 where
   pub name : List (List ℕ)
   pub is_name : IsName name

@@ -8,14 +8,15 @@ use Rattle.dns_label.specs.Split.{StartsWithLabel, StartsWithPointer}
 use Rattle.dns_wire.proofs.Wire.{length-wire_is, length-wire-append, length-labels_wire_more}
 use Rattle.dns_wire.proofs.Heads.{spelled-labels, spelled-label, spelled-pointer}
 
--- what is left of a name that has these labels in front
+-- what is left of a name that begins with these labels
 pub record Comes (message : List ℕ) (left place : ℕ) (front whole : List (List ℕ)) : Type 0 where
   pub name : List (List ℕ)
   pub after : ℕ
   pub spelled : Spells message left place name after
   pub whole_is : whole ≡ front ++ name
 
--- what is spelled at the start is the labels in front and what is spelled at the place, where `left` pointers are left
+-- what is spelled at the start is these labels and then what is spelled at the place with `left` pointers still to
+-- follow
 pub record Walks (message : List ℕ) (start place len left : ℕ) (behind : Option ℕ) : Type 0 where
   pub front : List (List ℕ)
   pub on : (name : List (List ℕ)) (after : ℕ) → Spells message left place name after
@@ -74,7 +75,7 @@ walks-pointer {message} {start} {place} {len} {left} {behind} target left' walks
   long = walks.long;
 }
 
--- where the root stands, the name is read
+-- at the root's label the name is read
 pub record Found (message : List ℕ) (start next len : ℕ) : Type 0 where
   pub name : List (List ℕ)
   pub reads : Reads message start name next
@@ -98,14 +99,14 @@ walks-root {message} {start} {place} {len} {left} {behind} text rest next len' w
       long = wide;
     }
 
--- where nothing is spelled at the place, no name is read at the start
+-- if nothing is spelled at the place, no name is read at the start
 pub walks-none : {message : List ℕ} {start place len left : ℕ} {behind : Option ℕ} → Walks message start place len left behind
     → ((name : List (List ℕ)) (after : ℕ) → Spells message left place name after → ⊥)
     → (name : List (List ℕ)) (next : ℕ) → Reads message start name next → ⊥
 walks-none walks none name next reads =
     let comes = walks.back name next reads.spelled in none comes.name comes.after comes.spelled
 
--- with the label before it, a name would be too long
+-- with the labels before it and this label, a name would be too long
 pub walks-long : {message : List ℕ} {start place len left : ℕ} {behind : Option ℕ} (text rest : List ℕ)
     → Walks message start place len left behind → StartsWithLabel (drop place message) text rest → 0 < length text
     → 254 < len + (length text + 1)

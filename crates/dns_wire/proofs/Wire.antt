@@ -42,7 +42,7 @@ pub few_labels : (name : List (List ℕ)) → IsName name → length (with_root 
 few_labels name is_name =
     omega (arith, length-wire name is_name.labels, is_name.short, length-append name ([] ∷ []))
 
--- a label written behind the labels before
+-- a label written after those before it
 pub wire_step : (whole items pushed extended text : List ℕ) (labels rest : List (List ℕ)) (count : ℕ)
     → whole ≡ items ++ labels_wire labels → labels ≡ text ∷ rest → pushed ≡ items ++ count ∷ [] → count ≡ length text
     → extended ≡ pushed ++ text → whole ≡ extended ++ labels_wire rest
@@ -57,7 +57,7 @@ pub wire_made : (items : List ℕ) (left name : List (List ℕ)) → labels_wire
 wire_made items left name is none =
     sym (append-nil items) ∙ sym (ap (λ n. items ++ labels_wire n) none) ∙ sym is ∙ labels_wire-with_root name
 
--- two lists of labels with one more at the end
+-- two equal lists, each of labels and a last label
 pub last_same : (a b : List (List ℕ)) (x y : List ℕ) → a ++ x ∷ [] ≡ b ++ y ∷ [] → (a ≡ b) × (x ≡ y)
 last_same [] [] x y same = let e : x ≡ y = cc in (refl, e)
 last_same [] (label ∷ b) x y same =
@@ -70,7 +70,7 @@ last_same (label ∷ a) (first ∷ b) x y same =
     let both = last_same a b x y f in
     (ap (λ l. l ∷ a) e ∙ ap (λ n. first ∷ n) both.0, both.1)
 
--- with a label in front, a name has that label's octets more
+-- with one more label first, a name has that label's octets more
 pub wire_more : {name parent : List (List ℕ)} {text : List ℕ} → name ≡ text ∷ parent
     → length (wire name) ≡ 1 + length text + length (wire parent)
 wire_more {parent = parent} {text = text} is =

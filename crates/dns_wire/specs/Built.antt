@@ -5,7 +5,7 @@ use Rattle.std.specs.List.{AllByRecursion}
 use Rattle.dns_label.specs.Name.{IsLabel, labels_wire}
 use Rattle.dns_label.specs.Labels.{labels_at}
 
--- what is built: the finished labels, and the octets of the open one, if a label is open
+-- what is built: the finished labels, and the octets of the open label if one is open
 pub record Built : Type 0 where
   pub finished : List (List ℕ)
   pub begun : Option (List ℕ)
@@ -17,11 +17,11 @@ nothing_built = record { finished = []; begun = None }
 abbrev pub labels_built : Built → List (List ℕ)
 labels_built built = built.finished ++ option_to_list built.begun
 
--- how many octets they take, each label behind its length
+-- the number of octets that they take, each label with its length
 abbrev pub built_len : Built → ℕ
 built_len built = length (labels_wire (labels_built built))
 
--- how many octets the open label has
+-- the number of octets of the open label
 abbrev pub open_len : Built → ℕ
 open_len built = length (unwrap_or built.begun [])
 
@@ -35,7 +35,7 @@ with_octets built (octet ∷ octets) =
 abbrev pub ended : Built → Built
 ended built = record { finished = labels_built built; begun = None }
 
--- a whole label behind them, unless it has no octets
+-- a whole label after them, unless it has no octets
 abbrev pub with_label : Built → List ℕ → Built
 with_label built [] = ended built
 with_label built (octet ∷ octets) = record { finished = labels_built built ++ (octet ∷ octets) ∷ []; begun = None }
@@ -44,11 +44,11 @@ with_label built (octet ∷ octets) = record { finished = labels_built built ++ 
 abbrev pub labels_ended : List (List ℕ) → Built
 labels_ended labels = record { finished = labels; begun = None }
 
--- whole labels behind them
+-- whole labels after them
 abbrev pub with_labels : Built → List (List ℕ) → Built
 with_labels built labels = labels_ended (labels_built built ++ labels)
 
--- These octets hold what is built, of which the open label's length stands at a place.
+-- These octets hold what is built, and the length of the open label is at the place `head`.
 pub record StandsFor (octets : List ℕ) (head : Option ℕ) (built : Built) : Type 0 where
   pub each : AllByRecursion IsLabel (labels_built built)
   pub whole : octets ≡ labels_wire (labels_built built)

@@ -1,10 +1,10 @@
--- Messages that end before a name in them does (RFC 1035 4.1.4).
+-- Messages that end before a name in them does (RFC 1035, section 4.1.4).
 use Rattle.std.specs.Prelude.{◌≡◌, ◌+◌, ◌-◌, ◌*◌, ◌<◌, ◌≤◌, ℕ, suc, List, ◌∷◌, ◌++◌, length, drop}
 use Rattle.dns_label.specs.Name.{IsLabel}
 use Rattle.dns_label.specs.Split.{EndsEarly}
 
--- From the place on there stand labels, whose octets on the wire are no more than `room`, and pointers, of which at most so
--- many are followed. Behind them the message ends, in a label or a pointer or before it.
+-- From the place on there are labels, with no more than `room` octets on the wire, and pointers, with at most this
+-- number of them followed. Then the message ends, before a label or a pointer is complete.
 pub data IsCut (message : List ℕ) : ℕ → ℕ → ℕ → Type 0 where
   here : {pointers room place : ℕ}
       → EndsEarly (drop place message)

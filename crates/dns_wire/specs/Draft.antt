@@ -30,7 +30,7 @@ abbrev pub IsReadBy : List ℕ → Option Spelling → Type 0
 IsReadBy text None = text ≡ 46 ∷ []
 IsReadBy text (Some spelling) = (text ≡ 46 ∷ [] → ⊥) × IsReadAs text spelling
 
--- a name's text, or no text at all
+-- a name's text, or the empty text
 abbrev pub IsReadable : List ℕ → Type 0
 IsReadable text = (text ≡ []) ⊎ ((name : List (List ℕ)) × IsNameText text name)
 

@@ -1,9 +1,9 @@
--- Labels that lie one behind the other, each behind its length (RFC 1035 3.1).
+-- Labels that are written one after another, each after its length (RFC 1035, section 3.1).
 use Rattle.std.specs.Prelude.{◌≡◌, ◌≤◌, ℕ, zero, suc, List, [], ◌∷◌, length, take, drop}
 use Rattle.std.specs.List.{AllByRecursion}
 use Rattle.dns_label.specs.Name.{labels_wire}
 
--- the labels in octets, as a function: at most so many of them
+-- the labels in octets, as a function: at most this number of them
 unfoldable pub labels_within : ℕ → List ℕ → List (List ℕ)
 labels_within zero octets = []
 labels_within (suc count) [] = []

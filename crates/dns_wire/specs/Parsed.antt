@@ -9,7 +9,7 @@ pub record IsReadAt (message : List ℕ) (place : ℕ) : Type 0 where
   pub next : ℕ
   pub reads : Reads message place (labels_at message place) next
 
--- the labels from the place on, the root's last, or none where there is no place
+-- the labels from the place on, the root's last; none if there is no place
 abbrev pub labels_left : List ℕ → Option ℕ → List (List ℕ)
 labels_left message None = []
 labels_left message (Some place) = with_root (labels_at message place)
@@ -18,12 +18,12 @@ abbrev pub IsLeft : List ℕ → Option ℕ → Type 0
 IsLeft message None = Unit {0}
 IsLeft message (Some place) = ∥ IsReadAt message place ∥₁
 
--- the name that is read at the place stands there in its wire form: no pointer is in it
+-- the name that is read at the place is written there in its wire form, without a pointer
 abbrev pub IsWrittenAt : List ℕ → ℕ → Type 0
 IsWrittenAt message place =
     take (length (wire (labels_at message place))) (drop place message) ≡ wire (labels_at message place)
 
--- the labels from this one on are those that are left at the place
+-- the labels from this number on are those that are left at the place
 pub record StandsAt (message : List ℕ) (labels : List (List ℕ)) (index : ℕ) (place : Option ℕ) : Type 0 where
   pub left : IsLeft message place
   pub is : drop index labels ≡ labels_left message place

@@ -1,4 +1,4 @@
--- Parts of names, by places in their octets.
+-- Runs of a name's labels, by places in its octets.
 use Rattle.std.specs.Prelude.{◌≡◌, ◌+◌, ◌++◌, ℕ, List, length}
 use Rattle.dns_label.specs.Name.{labels_wire}
 
@@ -9,7 +9,7 @@ pub record IsLabelStart (labels : List (List ℕ)) (place : ℕ) : Type 0 where
   pub whole : labels ≡ front ++ back
   pub at : place ≡ length (labels_wire front)
 
--- the labels in front of the place
+-- the labels before the place
 pub record IsFront (labels : List (List ℕ)) (place : ℕ) (part : List (List ℕ)) : Type 0 where
   pub back : List (List ℕ)
   pub whole : labels ≡ part ++ back

@@ -1,9 +1,9 @@
--- What a reader passes that follows no pointer (RFC 1035 4.1.4).
+-- What a reader skips that follows no pointer (RFC 1035, section 4.1.4).
 use Rattle.std.specs.Prelude.{◌≡◌, ◌+◌, ◌≤◌, ℕ, List, ◌∷◌, ◌++◌, length, drop}
 use Rattle.dns_label.specs.Name.{IsLabel}
 
--- From the place on there stand labels, whose octets on the wire are no more than `room`, and then the root's octet 0 or
--- a pointer, wherever that leads; `next` is the place behind it.
+-- From the place on there are labels, with no more than `room` octets on the wire, and then the root's octet 0 or a
+-- pointer, wherever that leads; `next` is the place after it.
 pub data Skips (message : List ℕ) : ℕ → ℕ → ℕ → Type 0 where
   root : {room place : ℕ} (rest : List ℕ)
       → drop place message ≡ 0 ∷ rest

@@ -1,4 +1,4 @@
--- Texts that are read as names, and why one was not taken.
+-- Texts that are read as names, and why a text was refused.
 use Rattle.std.specs.Prelude.{ℕ, List, Option}
 use Rattle.std.specs.List.{AllByRecursion, flat_map}
 use Rattle.std.specs.Iterator.{Drains}
@@ -19,18 +19,18 @@ pub record SpellName (symbols : List Symbol) (name : List (List ℕ)) : Type 0 w
 abbrev pub LacksLastDot : List ℕ → Type 0
 LacksLastDot text = (name : List (List ℕ)) × IsRelativeText text name × IsName name
 
--- The text spells no name; or it spells one, and memory was wanting.
+-- The text spells no name; or it spells one, and there was no memory for it.
 abbrev pub IsRefused : {A : Type 0} → (List A → List (List ℕ) → Type 0) → List A → FromStrError → Type 0
 IsRefused Spells text (Presentation error) = (name : List (List ℕ)) → Spells text name → ⊥
 IsRefused Spells text ShortBuf = (name : List (List ℕ)) × Spells text name
 
 -- The same of what an iterator gives: what was taken off it, with whatever may follow, spells no name; or all of it was
--- taken and spells one, and memory was wanting.
+-- taken and spells one, and there was no memory for it.
 abbrev pub IsRefusedBy : {S A : Type 0} → (S → Option A → S → Type 0) → S → (List A → List (List ℕ) → Type 0) → FromStrError → Type 0
 IsRefusedBy steps start Spells (Presentation error) = RulesOut steps start (λ items. (name : List (List ℕ)) × Spells items name)
 IsRefusedBy {A = A} steps start Spells ShortBuf = (items : List A) × Drains steps start items × ((name : List (List ℕ)) × Spells items name)
 
--- the text is at fault, and not memory
+-- the text is at fault, and memory is not
 abbrev pub IsFault : FromStrError → Type 0
 IsFault (Presentation error) = Unit {0}
 IsFault ShortBuf = ⊥

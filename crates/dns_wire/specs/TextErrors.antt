@@ -1,4 +1,4 @@
--- Why a text was not taken, by why its octets were not put to a name.
+-- Why a text was refused, by why its octets were not appended to a name.
 use Rattle.dns_wire.specs.declared.push_error.PushError.{PushError}
 use Rattle.dns_wire.specs.declared.push_error.PushError.TheVariants.{LongLabel, LongName, ShortBuf}
 use Rattle.dns_wire.specs.declared.text.FromStrError.{FromStrError}

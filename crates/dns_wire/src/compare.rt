@@ -11,7 +11,7 @@ ghost use Rattle.dns_wire.specs.Suffix.{EndsWith, StartsWith};
 use crate::{LabelIter, ToLabelIter};
 use std::cmp::Ordering;
 
-/// Whether the labels begin with the others.
+/// Returns whether the labels of `name` begin with those of `start`, up to ASCII case.
 pub fn starts_with<N: ToLabelIter, B: ToLabelIter>(name: &N, start: &B) -> bool
     ensures { IsTrue result ↔ StartsWith (low (N.labels name.now)) (low (B.labels start.now)) }
 {
@@ -30,7 +30,7 @@ pub fn starts_with<N: ToLabelIter, B: ToLabelIter>(name: &N, start: &B) -> bool
     }
 }
 
-/// Whether the labels end with the others.
+/// Returns whether the labels of `name` end with those of `end`, up to ASCII case.
 pub fn ends_with<N: ToLabelIter, B: ToLabelIter>(name: &N, end: &B) -> bool
     ensures { IsTrue result ↔ EndsWith (low (N.labels name.now)) (low (B.labels end.now)) }
 {
@@ -41,8 +41,8 @@ pub fn ends_with<N: ToLabelIter, B: ToLabelIter>(name: &N, end: &B) -> bool
     same_labels(behind(name.iter_labels(), extra), end.iter_labels())
 }
 
-/// Whether the name that these octets are ends with the other one, up to ASCII case. A name has at most one end of as many
-/// octets, so that alone is compared.
+/// Returns whether the name in these octets ends with the other one, up to ASCII case. A name has at most one suffix
+/// with a given number of octets, so that suffix alone is compared.
 pub fn flat_ends_with(octets: &[u8], end: &[u8]) -> bool
     requires name { IsWritten octets.now }
     requires end { IsWritten «end».now }
@@ -61,14 +61,15 @@ pub fn flat_ends_with(octets: &[u8], end: &[u8]) -> bool
     is_same_text(rest, end)
 }
 
-/// Whether octets are the same up to ASCII case. Most that are so are the same in case too, which is seen sooner.
+/// Returns whether octets are the same up to ASCII case. Most that are so also have the same case, which is found
+/// faster.
 fn is_same_text(octets: &[u8], other: &[u8]) -> bool
     ensures { IsTrue result ↔ (map to_ascii_lowercase octets.now ≡ map to_ascii_lowercase other.now) }
 {
     octets == other || octets.eq_ignore_ascii_case(other)
 }
 
-/// How many labels there are.
+/// Returns the number of labels, at most 128.
 pub fn count_labels<N: ToLabelIter>(name: &N) -> usize
     ensures count { result ≡ length (N.labels name.now) }
     ensures few { result ≤ 128 }
@@ -76,7 +77,7 @@ pub fn count_labels<N: ToLabelIter>(name: &N) -> usize
     name.iter_labels().count()
 }
 
-/// The labels behind so many.
+/// Returns the labels after the first `count`.
 fn behind<N: ToLabelIter>(labels: LabelIter<'_, N>, count: usize) -> LabelIter<'_, N>
     ensures { result ≡ drop count labels.entry }
 {
@@ -87,7 +88,7 @@ fn behind<N: ToLabelIter>(labels: LabelIter<'_, N>, count: usize) -> LabelIter<'
     labels
 }
 
-/// Whether the labels are the same.
+/// Returns whether the labels are the same up to ASCII case.
 pub fn same_labels<N: ToLabelIter, B: ToLabelIter>(
     labels: LabelIter<'_, N>,
     others: LabelIter<'_, B>,
@@ -109,7 +110,7 @@ pub fn same_labels<N: ToLabelIter, B: ToLabelIter>(
     }
 }
 
-/// The order of the labels from the right, where a missing one comes first.
+/// Compares the labels from the right in lower case; a missing label is before any other.
 pub fn cmp_labels<N: ToLabelIter, B: ToLabelIter>(name: &N, other: &B) -> Ordering
     ensures { result ≡ labels_order (N.labels name.now) (B.labels other.now) }
 {
@@ -120,7 +121,7 @@ pub fn cmp_labels<N: ToLabelIter, B: ToLabelIter>(name: &N, other: &B) -> Orderi
     cmp_aligned(labels, others, count.cmp(&other_count))
 }
 
-/// The order of two lists of as many labels from the right, and the given one where they are the same.
+/// Compares two lists with the same number of labels from the right, and returns `tied` if they are equal.
 fn cmp_aligned<N: ToLabelIter, B: ToLabelIter>(
     labels: LabelIter<'_, N>,
     others: LabelIter<'_, B>,
@@ -142,7 +143,7 @@ fn cmp_aligned<N: ToLabelIter, B: ToLabelIter>(
     order
 }
 
-/// The order of the octets of two labels.
+/// Compares the octets of two labels in lower case.
 fn cmp_octets(octets: &[u8], others: &[u8]) -> Ordering
     ensures { result ≡ label_order octets.now others.now }
 {

@@ -1,4 +1,4 @@
-//! Octets made of others.
+//! Octets made of other octets.
 ghost use Rattle.std.specs.Prelude.{◌≡◌, length, Err, IfOk};
 ghost use Rattle.dns_octets.specs.Builder.{IsPast};
 ghost use Rattle.dns_octets.specs.declared.error.AppendError.TheVariants.{ShortBuf, BadLength};
@@ -6,7 +6,8 @@ ghost use Rattle.dns_octets.specs.declared.error.AppendError.TheVariants.{ShortB
 use dns_octets::{AppendError, EmptyBuilder, FromBuilder, OctetsBuilder};
 use std::alloc::Global;
 
-/// Copies octets into another kind of octets.
+/// Copies octets into octets of another type. Fails with `ShortBuf` only if that type may not hold that number of
+/// octets, and with `OutOfMemory` only if out of memory.
 pub fn octets_from<Octs: FromBuilder>(alloc: Global, octets: &[u8]) -> Result<Octs, AppendError>
 where
     Octs::Builder: EmptyBuilder + Drop,

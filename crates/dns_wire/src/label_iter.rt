@@ -1,4 +1,4 @@
-//! What all names have in common: their labels, one after another.
+//! What all names have in common: their labels, one by one.
 ghost use Rattle.std.specs.Prelude.{◌≡◌, ◌≤◌, ◌+◌, List, ℕ, Option, length, drop, take, option_map, slice_get, IfSome, IsTrue, ◌↔◌};
 ghost use Rattle.dns_label.specs.Label.{octets_of};
 ghost use Rattle.dns_label.specs.Name.{labels_wire, low};
@@ -9,39 +9,40 @@ use crate::compare::{ends_with, starts_with};
 use dns_label::Label;
 use std::marker::Model;
 
-/// A name that gives its labels. Of an absolute name the last one is the root's, which is empty.
+/// A name that gives its labels. The last label of an absolute name is the root's, which is empty.
 pub trait ToLabelIter {
     ghost labels: { Self → List (List ℕ) };
 
-    /// Whether the label with this number stands at this place.
+    /// Whether the label with this number is at this place.
     ghost stands: { Self → ℕ → Option ℕ → Type 0 };
 
-    /// The label with this number, counted from 0 and from the left, or None behind the last one.
+    /// Returns the label with this number, counted from 0 and from the left, or None after the last one.
     fn label(&self, index: usize) -> Option<Label<'_>>
         ensures label { option_map octets_of result ≡ slice_get (labels self.now) index }
         ensures few { length (labels self.now) ≤ 128 };
 
-    /// How many octets the labels take on the wire, each behind its length.
+    /// Returns the number of octets of the labels on the wire, each with its length octet.
     fn compose_len(&self) -> u16
         ensures { result ≡ length (labels_wire (labels self.now)) };
 
-    /// Where the first label stands, in the name's own numbering of places.
+    /// Returns the place of the first label. What a place is depends on the type.
     fn first_place(&self) -> Option<usize>
         ensures stands { stands self.now 0 result }
         ensures are { ∥ AreOfName (labels self.now) ∥₁ }
         ensures few { length (labels self.now) ≤ 128 }
         ensures short { length (labels_wire (labels self.now)) ≤ 255 };
 
-    /// The label with this number, which stands at this place, and the place of the next. None behind the last one.
+    /// Returns the label with this number, which is at this place, and the place of the next one. Returns None after
+    /// the last label.
     ///
-    /// Labels taken one after another so take no more time than the name has octets and pointers.
+    /// Taking all labels one by one this way takes time in proportion to the octets and pointers of the name.
     fn label_at(&self, index: usize, place: Option<usize>) -> Option<(Label<'_>, Option<usize>)>
         requires { stands self.now index place }
         ensures label { option_map (λ found. octets_of found.0) result ≡ slice_get (labels self.now) index }
         ensures next { IfSome result (λ found. stands self.now (index + 1) found.1) }
         ensures few { length (labels self.now) ≤ 128 };
 
-    /// The labels from the left.
+    /// Returns an iterator of the labels from the left.
     final fn iter_labels(&self) -> LabelIter<'_, Self>
         ensures labels { result ≡ labels self.now }
         ensures few { length result ≤ 128 }
@@ -56,14 +57,14 @@ pub trait ToLabelIter {
         }
     }
 
-    /// Whether the labels begin with those of the other name, up to ASCII case (RFC 4343).
+    /// Returns whether the labels begin with those of the other name, up to ASCII case (RFC 4343).
     final fn starts_with<N: ToLabelIter>(&self, start: &N) -> bool
         ensures { IsTrue result ↔ StartsWith (low (labels self.now)) (low (N.labels start.now)) }
     {
         starts_with(self, start)
     }
 
-    /// Whether the labels end with those of the other name, up to ASCII case (RFC 4343).
+    /// Returns whether the labels end with those of the other name, up to ASCII case (RFC 4343).
     final fn ends_with<N: ToLabelIter>(&self, end: &N) -> bool
         ensures { IsTrue result ↔ EndsWith (low (labels self.now)) (low (N.labels end.now)) }
     {
@@ -71,14 +72,14 @@ pub trait ToLabelIter {
     }
 }
 
-/// The labels of a name, from the left.
+/// An iterator of the labels of a name, from the left.
 #[derive(Drop)]
 pub struct LabelIter<'a, N: ToLabelIter> {
     name: &'a N,
-    /// The number of the next label, and where it stands.
+    /// The number of the next label. Its place is in `place`.
     index: usize,
     place: Option<usize>,
-    /// How many of the labels from there on are left at most; those behind them were taken from the right.
+    /// The most labels that are still given from there on; those after them were taken from the right.
     most: usize,
 }
 
@@ -116,7 +117,7 @@ impl<'a, N: ToLabelIter> DoubleEndedIterator for LabelIter<'a, N> {
 
     ghost next_back_gives = { YieldsLastBy octets_of (λ labels. labels) };
 
-    /// The last label. It is found from the left, so this takes as long as there are labels.
+    /// Returns the last label. It is found from the left, so the time grows with the number of labels.
     fn next_back(&mut self) -> Option<Label<'a>> {
         let labels = LabelIter {
             name: self.name,

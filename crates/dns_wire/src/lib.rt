@@ -1,6 +1,8 @@
-//! Names as octets and as text (RFC 1035 3.1, 4.1.4, 5.1): walked, passed, compared label by label, and read from text.
+//! Names as octets and as text (RFC 1035, sections 3.1, 4.1.4 and 5.1): walking over them, skipping them, comparing
+//! them label by label, and reading them from text.
 //!
-//! A part of `dns_name`, which hands its types on. Its functions are for the crates of names, and know no name of their own.
+//! A part of `dns_name`, which re-exports its types. Its functions are for the crates of names, and it has no type of
+//! name itself.
 #![tactic(auto)]
 
 pub mod compare;

@@ -8,13 +8,13 @@ use thiserror::Error;
 /// Why octets or a label were not appended to a name.
 #[derive(Clone, Copy, Debug, PartialEq, Eq, Error)]
 pub enum PushError {
-    /// The label would have more than 63 octets (RFC 1035 2.3.4).
+    /// The label would have more than 63 octets (RFC 1035, section 2.3.4).
     #[error("long label")]
     LongLabel,
     /// The name would have more than 254 octets, and no room for the root.
     #[error("long domain name")]
     LongName,
-    /// There is no memory or no room for it.
+    /// Out of memory, or the target is too full.
     #[error("short buffer")]
     ShortBuf,
 }

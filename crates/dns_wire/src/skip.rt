@@ -1,4 +1,4 @@
-//! Passing a name in a message without reading it (RFC 1035 4.1.4).
+//! Skipping a name in a message without reading it (RFC 1035, section 4.1.4).
 ghost use Rattle.std.specs.Prelude.{◌≡◌, ◌≤◌, ◌↔◌, ℕ, length, IfOk, IfErr, OnErr};
 ghost use Rattle.dns_octets.specs.declared.error.ParseError.TheVariants.{ShortInput};
 ghost use Rattle.dns_wire.specs.Cut.{IsCut};
@@ -8,8 +8,10 @@ use crate::walk::label_at;
 use dns_label::SplitLabelError;
 use dns_octets::ParseError;
 
-/// The place behind the labels at a place and what ends them: the root, or a pointer, which is not followed. Refused
-/// where none stand there, or more than 254 octets of them: with `ShortInput` exactly where the message ends too early.
+/// Returns the place after the labels at `start` and what ends them: the root, or a pointer, which is not followed.
+///
+/// Fails if there are none, or more than 254 octets of labels; and with `ShortInput` exactly if the message ends after
+/// at most 254 octets of labels.
 pub fn skip_name(octets: &[u8], start: usize) -> Result<usize, ParseError>
     requires { start ≤ length octets.now }
     ensures ok { IfOk result (λ next. Skips octets.now 254 start next) }

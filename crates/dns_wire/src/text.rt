@@ -1,4 +1,4 @@
-//! Text to the octets of names (RFC 1035 5.1).
+//! Text to the octets of names (RFC 1035, section 5.1).
 ghost use Rattle.std.specs.Prelude.{◌≡◌, ◌↔◌, ◌++◌, List, ℕ, IfErr, OnOk, OnErr};
 ghost use Rattle.dns_label.specs.Name.{wire};
 ghost use Rattle.dns_label.specs.NameText.{IsAbsoluteText, is_dot as separates};
@@ -21,7 +21,7 @@ use unescaped::append_unescaped;
 /// Why a text spells no name.
 #[derive(Clone, Copy, Debug, PartialEq, Eq, Error)]
 pub enum PresentationError {
-    /// A part of the text is no symbol.
+    /// Some of the text is no symbol.
     #[error("bad symbol")]
     BadSymbol,
     /// A label has no octets.
@@ -33,7 +33,7 @@ pub enum PresentationError {
     /// The name has more than 255 octets.
     #[error("long domain name")]
     LongName,
-    /// There is no dot at the end.
+    /// The last dot is missing.
     #[error("relative domain name")]
     RelativeName,
 }
@@ -44,7 +44,7 @@ pub enum FromStrError {
     /// The text spells no name.
     #[error("{0}")]
     Presentation(PresentationError),
-    /// There is no memory or no room for the name.
+    /// Out of memory, or the target is too full for the name.
     #[error("short buffer")]
     ShortBuf,
 }
@@ -101,10 +101,11 @@ impl From<BadSymbol> for PresentationError {
     }
 }
 
-/// Appends the wire form of the name that octets of text spell with its last dot (RFC 1035 3.1).
+/// Appends the wire form of the name that octets of text spell with its last dot (RFC 1035, section 3.1).
 ///
-/// Fails with `Presentation` if the text spells no name with its last dot, and with `RelativeName` in it exactly if the text
-/// only leaves that dot out; and with `ShortBuf` if it spells one, and there is no memory for it. Then it appends nothing.
+/// Fails with `Presentation` exactly if the text spells no name with its last dot, and with `RelativeName` in it
+/// exactly if the text only leaves that dot out. Fails with `ShortBuf` only if the text spells a name, and out of
+/// memory. If it fails, it appends nothing.
 pub fn append_absolute_text(octets: &mut Vec<u8>, text: &[u8]) -> Result<(), FromStrError>
     ensures ok { OnOk result ((name : List (List ℕ)) × IsAbsoluteText text.now name × (octets.new.items ≡ octets.old.items ++ wire name)) }
     ensures err { IfErr result (IsRefused IsAbsoluteText text.now) }
@@ -117,8 +118,8 @@ pub fn append_absolute_text(octets: &mut Vec<u8>, text: &[u8]) -> Result<(), Fro
     append_spelled(octets, text)
 }
 
-/// The same for any text, whose name is spelled into an array first. It is a call of its own, so that the array is cleared only
-/// where it is used.
+/// The same for any text. The name is spelled into an array first. This is a call of its own, so that the array is
+/// cleared only if it is used.
 #[inline(never)]
 fn append_spelled(octets: &mut Vec<u8>, text: &[u8]) -> Result<(), FromStrError>
     ensures ok { OnOk result ((name : List (List ℕ)) × IsAbsoluteText text.now name × (octets.new.items ≡ octets.old.items ++ wire name)) }
@@ -136,7 +137,7 @@ fn append_spelled(octets: &mut Vec<u8>, text: &[u8]) -> Result<(), FromStrError>
     spelling.append_to(octets)
 }
 
-/// Whether the symbol separates labels.
+/// Returns whether the symbol separates labels.
 pub fn is_dot(symbol: Symbol) -> bool
     ensures { result ≡ separates symbol }
 {

@@ -1,4 +1,4 @@
-//! The walk over the heads of a name in a message (RFC 1035 4.1.4).
+//! Walking over the heads of a name in a message (RFC 1035, section 4.1.4).
 ghost use Rattle.std.specs.Prelude.{◌≡◌, ◌≤◌, ◌+◌, ◌↔◌, ◌∷◌, List, ℕ, length, drop, IfOk, IfErr, OnErr};
 ghost use Rattle.dns_label.specs.Label.{octets_of};
 ghost use Rattle.dns_label.specs.Labels.{labels_at};
@@ -15,15 +15,16 @@ use dns_octets::ParseError;
 /// What a walk over a name found.
 #[derive(Clone, Copy)]
 pub struct Walk {
-    /// How many octets the name has on the wire, the root's counted.
+    /// The number of octets of the name on the wire, with the root's.
     pub len: u16,
-    /// The place behind the name: behind its root, or behind its first pointer.
+    /// The place after the name: after its root, or after its first pointer.
     pub next: usize,
 }
 
 /// Walks over the heads of the name at a place.
 ///
-/// Fails where no name is read there: with `ShortInput` exactly where the message ends after at most 254 octets of labels.
+/// Fails if no name is read there, and with `ShortInput` exactly if the message ends after at most 254 octets of
+/// labels.
 pub fn walk_name(octets: &[u8], start: usize) -> Result<Walk, ParseError>
     requires { start ≤ length octets.now }
     ensures ok { IfOk result (λ walk. (name : List (List ℕ)) × Reads octets.now start name walk.next × (walk.len ≡ length (wire name))) }
@@ -68,7 +69,7 @@ pub fn walk_name(octets: &[u8], start: usize) -> Result<Walk, ParseError>
     }
 }
 
-/// Returns the label at a place, and the octets after it. Fails if no label stands there.
+/// Returns the label at a place, and the octets after it. Fails if there is no label.
 pub fn label_at(octets: &[u8], place: usize) -> Result<(Label<'_>, &[u8]), SplitLabelError>
     requires { place ≤ length octets.now }
     ensures ok { IfOk result (λ found. StartsWithLabel (drop place octets.now) (octets_of found.0) found.1.now) }
@@ -77,7 +78,7 @@ pub fn label_at(octets: &[u8], place: usize) -> Result<(Label<'_>, &[u8]), Split
     Label::split_from(&octets[place..])
 }
 
-/// Returns the label at the place, pointers followed, and the place of the next one: `None` after the root's.
+/// Returns the label at the place, with pointers followed, and the place of the next one: `None` after the root's.
 pub fn split_label(octets: &[u8], start: usize) -> (Label<'_>, Option<usize>)
     requires { ∥ IsReadAt octets.now start ∥₁ }
     ensures left { IsLeft octets.now result.1 }

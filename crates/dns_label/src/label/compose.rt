@@ -1,4 +1,4 @@
-//! Labels as octets on the wire (RFC 1035 3.1).
+//! Labels as octets on the wire (RFC 1035, section 3.1).
 ghost use Rattle.std.specs.Prelude.{◌≡◌, ◌+◌, ◌++◌, Err, length, OnOk, OnErr};
 ghost use Rattle.std.specs.Ordering.{nat_cmp};
 ghost use Rattle.std.specs.Cmp.Lexicographic.{slice_cmp};
@@ -13,7 +13,8 @@ use dns_octets::{AppendError, OctetsBuilder};
 use std::cmp::Ordering;
 
 impl Label<'_> {
-    /// Appends the length octet and the octets, all or none, as `OctetsBuilder::append_slice` does.
+    /// Appends the length octet and the octets, all or none, with the errors of
+    /// `OctetsBuilder::append_slice`.
     pub fn compose<Target: OctetsBuilder>(&self, target: &mut Target) -> Result<(), AppendError>
         ensures ok { OnOk result (Target.list target.new ≡ Target.list target.old ++ label_wire (octets_of self.now)) }
         ensures err { OnErr result (Target.list target.new ≡ Target.list target.old) }
@@ -28,8 +29,8 @@ impl Label<'_> {
         target.append_slice(self.wire().as_slice())
     }
 
-    /// Appends the length octet and the octets in lower case (RFC 4034 6.2), all or none, as
-    /// `OctetsBuilder::append_slice` does.
+    /// Appends the length octet and the octets in lower case (RFC 4034, section 6.2), all or none,
+    /// with the errors of `OctetsBuilder::append_slice`.
     pub fn compose_canonical<Target: OctetsBuilder>(
         &self,
         target: &mut Target,
@@ -47,7 +48,7 @@ impl Label<'_> {
         target.append_slice(self.low_wire().as_slice())
     }
 
-    /// How many octets the label has on the wire, its length octet counted.
+    /// Returns the number of octets of the label on the wire, with its length octet.
     pub fn compose_len(&self) -> u16
         ensures { result ≡ length (label_wire (octets_of self.now)) }
     {
@@ -68,7 +69,7 @@ impl Label<'_> {
         self.low_wire().as_slice().cmp(other.low_wire().as_slice())
     }
 
-    /// The octets behind their length.
+    /// Returns the length octet and the octets.
     pub(crate) fn wire(&self) -> ArrayVec<u8, 64>
         ensures { result.items ≡ label_wire (octets_of self.now) }
     {
@@ -80,7 +81,7 @@ impl Label<'_> {
         wire
     }
 
-    /// The octets in lower case, behind their length.
+    /// Returns the length octet and the octets in lower case.
     pub(crate) fn low_wire(&self) -> ArrayVec<u8, 64>
         ensures { result.items ≡ label_wire (low_label (octets_of self.now)) }
     {

@@ -1,4 +1,4 @@
-//! Labels that are changed where they stand.
+//! Labels that are changed in place.
 ghost use Rattle.std.specs.Prelude.{◌≡◌, ◌≤◌, ◌↔◌, length, IsOk, IfOk, IfErr};
 ghost use Rattle.dns_label.specs.Label.{octets_of};
 ghost use Rattle.dns_label.specs.Composed.{low_label};
@@ -6,7 +6,8 @@ ghost use Rattle.dns_label.specs.Split.{NoLabel, StartsWithLabel};
 
 use super::{Label, LongLabelError, SplitLabelError};
 
-/// A label of a domain name that is changed where it stands: at most 63 octets (RFC 1035 3.1), as many to its end.
+/// A label of a domain name that is changed in place: at most 63 octets (RFC 1035, section 3.1). Their number never
+/// changes.
 #[derive(Debug, Drop)]
 pub struct LabelMut<'a> {
     octets: &'a mut [u8],
@@ -16,9 +17,9 @@ pub struct LabelMut<'a> {
 impl<'a> LabelMut<'a> {
     ghost use Rattle.dns_label.specs.LabelMut.{octets_lent, loan_of};
 
-    /// The label of these octets. Refused past 63 of them.
+    /// Returns the label of these octets. Fails exactly if they are more than 63.
     ///
-    /// It holds the reference to them that it was given, so what it has when it ends is what they are then.
+    /// It keeps the reference to them: what the label is when the loan ends is what the octets then are.
     pub fn from_slice(octets: &'a mut [u8]) -> Result<Self, LongLabelError>
         ensures ok { IfOk result (λ label. octets_lent label ≡ octets.old) }
         ensures same { IfOk result (λ label. loan_of label ≡ octets.entry.ghost_name) }
@@ -30,7 +31,8 @@ impl<'a> LabelMut<'a> {
         Ok(LabelMut::of_short(octets))
     }
 
-    /// The label of these octets, of which there have to be at most 63. What it has when it ends is what they are then.
+    /// Returns the label of these octets, which must be at most 63. What the label is when the loan ends is what the
+    /// octets then are.
     pub fn of_short(octets: &'a mut [u8]) -> Self
         requires { length octets.old ≤ 63 }
         ensures octets { octets_lent result ≡ octets.old }
@@ -39,9 +41,11 @@ impl<'a> LabelMut<'a> {
         LabelMut { octets }
     }
 
-    /// The label at the front of the octets, which stands behind its length, and the octets behind it.
+    /// Splits a label off the front of the octets: a length, and that number of octets. Returns the label and the
+    /// octets after it.
     ///
-    /// Refused where the front is a pointer, is of another kind, or ends early (RFC 1035 4.1.4).
+    /// Fails if the octets begin with a pointer or with a length of another type, or end early (RFC 1035, section
+    /// 4.1.4).
     pub fn split_from(octets: &'a mut [u8]) -> Result<(Self, &'a mut [u8]), SplitLabelError>
         ensures ok { IfOk result (λ found. StartsWithLabel octets.old (octets_lent found.0) found.1.now) }
         ensures err { IfErr result (NoLabel octets.old) }
@@ -55,14 +59,14 @@ impl<'a> LabelMut<'a> {
         Ok((LabelMut::of_short(label), rest))
     }
 
-    /// The octets, without their length.
+    /// Returns the octets, without the length octet.
     pub fn as_slice(&self) -> &[u8]
         ensures { result.now ≡ octets_lent self.now }
     {
         &*self.octets
     }
 
-    /// The label as it is now.
+    /// Returns the label as it is now.
     pub fn as_label(&self) -> Label<'_>
         ensures { octets_of result ≡ octets_lent self.now }
     {
@@ -71,7 +75,7 @@ impl<'a> LabelMut<'a> {
         }
     }
 
-    /// Puts the ASCII letters into lower case (RFC 4034 6.2).
+    /// Puts the ASCII letters into lower case (RFC 4034, section 6.2).
     pub fn make_canonical(&mut self)
         ensures lower { octets_lent self.new ≡ low_label (octets_lent self.old) }
         ensures same { loan_of self.new ≡ loan_of self.old }

@@ -12,9 +12,9 @@ use std::alloc::AllocError;
 pub use text::LabelFromStrError;
 pub use view::OwnedLabelMut;
 
-/// A label of a domain name that holds its octets, at most 63 of them (RFC 1035 3.1). It takes no memory.
+/// A label of a domain name that holds its octets, at most 63 of them (RFC 1035, section 3.1). It allocates nothing.
 pub struct OwnedLabel {
-    /// The length, the octets of the label, and behind them octets without a meaning.
+    /// The length, the octets of the label, and after them octets without a meaning.
     wire: [u8; 64],
     pub ghost whole: { length wire ≡ 64 },
     pub ghost short: { slice_index wire 0 ≤ 63 },
@@ -37,7 +37,7 @@ impl Copy for OwnedLabel {}
 impl OwnedLabel {
     ghost use Rattle.dns_label.specs.OwnedLabel.{octets_owned};
 
-    /// The label that a view shows.
+    /// Returns a label that holds a copy of the octets.
     pub fn from_label(label: Label<'_>) -> Self
         ensures { octets_owned result ≡ octets_of label.entry }
     {
@@ -48,7 +48,7 @@ impl OwnedLabel {
         OwnedLabel { wire }
     }
 
-    /// A view of the label.
+    /// Returns a view of the label.
     pub fn as_label(&self) -> Label<'_>
         ensures { octets_of result ≡ octets_owned self.now }
     {
@@ -56,14 +56,14 @@ impl OwnedLabel {
         Label { octets }
     }
 
-    /// The octets behind their length.
+    /// Returns the length octet and the octets.
     pub fn as_wire_slice(&self) -> &[u8]
         ensures { result.now ≡ label_wire (octets_owned self.now) }
     {
         &self.wire[..self.wire_len()]
     }
 
-    /// Puts the ASCII letters into lower case (RFC 4034 6.2).
+    /// Puts the ASCII letters into lower case (RFC 4034, section 6.2).
     pub fn make_canonical(&mut self)
         ensures { octets_owned self.new ≡ low_label (octets_owned self.old) }
     {
@@ -71,7 +71,7 @@ impl OwnedLabel {
         self.wire[1..len].make_ascii_lowercase();
     }
 
-    /// How many octets the label has on the wire.
+    /// Returns the number of octets of the label on the wire, with its length octet.
     fn wire_len(&self) -> usize
         ensures { result ≡ 1 + length (octets_owned self.now) }
     {

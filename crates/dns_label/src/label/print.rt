@@ -1,4 +1,4 @@
-//! Labels as text (RFC 1035 5.1).
+//! Labels as text (RFC 1035, section 5.1).
 ghost use Rattle.std.specs.Prelude.{Some};
 ghost use Rattle.dns_label.specs.Label.{octets_of};
 ghost use Rattle.dns_label.specs.Printed.{printed_label};

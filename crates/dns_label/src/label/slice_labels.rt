@@ -1,4 +1,4 @@
-//! Labels one after another, from a place of a message on (RFC 1035 4.1.4).
+//! The labels of a message from a place on (RFC 1035, section 4.1.4).
 ghost use Rattle.std.specs.Prelude.{◌≡◌, ◌+◌, ◌*◌, ◌≤◌, List, ℕ, [], length, drop, IfSome, IfNone};
 ghost use Rattle.dns_label.specs.Label.{octets_of};
 ghost use Rattle.dns_label.specs.Name.{with_root};
@@ -9,16 +9,16 @@ ghost use Rattle.dns_label.specs.Seen.{Seen, labels_to_see};
 use super::{Label, SplitLabelError};
 use std::marker::Model;
 
-/// The labels that are seen from a place of a message on.
+/// An iterator of the labels that are seen from a place of a message on.
 ///
-/// They end with the root's label, or in front of what is neither a label nor a pointer that is followed: each has to
-/// point in front of its own place, and 255 are followed at most.
+/// It ends after the root's label, or before what is neither a label nor a pointer that is followed. It follows a
+/// pointer only to a place before the pointer's own, and at most 255 pointers.
 #[derive(Debug, Drop)]
 pub struct SliceLabelsIter<'a> {
     octets: &'a [u8],
-    /// Where the next label stands, or None behind the last.
+    /// The place of the next label, or None after the last.
     place: Option<usize>,
-    /// How many pointers may still be followed.
+    /// The number of pointers that may still be followed.
     pointers: u8,
 }
 
@@ -29,8 +29,8 @@ impl<'a> Model for SliceLabelsIter<'a> {
 }
 
 impl<'a> Label<'a> {
-    /// The labels that are seen from a place of a message on: those of the name that it spells there, the root's last, or
-    /// else those in front of the fault.
+    /// Iterates over the labels that are seen from a place of a message on: all labels of the name that the message
+    /// spells there, the root's last, or else those before the fault.
     pub fn iter_slice(octets: &'a [u8], start: usize) -> SliceLabelsIter<'a>
         ensures seen { Seen octets.now 255 start result }
         ensures few { length result ≤ 256 * (length octets.now + 1) }
@@ -65,8 +65,8 @@ impl<'a> Iterator for SliceLabelsIter<'a> {
     }
 }
 
-/// The label at a place, pointers followed: the label, where it stands, and how many pointers may still be followed. None
-/// where there is none.
+/// Returns the label at a place, with pointers followed: the label, its place, and the number of pointers that may
+/// still be followed. Returns None if there is no label.
 fn find_label(octets: &[u8], start: usize, pointers: u8) -> Option<(Label<'_>, usize, u8)>
     ensures found { IfSome result (λ found. (rest : List ℕ) × StartsWithLabel (drop found.1 octets.now) (octets_of found.0) rest) }
     ensures within { IfSome result (λ found. found.1 + 1 + length (octets_of found.0) ≤ length octets.now) }
@@ -92,7 +92,7 @@ fn find_label(octets: &[u8], start: usize, pointers: u8) -> Option<(Label<'_>, u
     }
 }
 
-/// The octets from a place on, none past their end.
+/// Returns the octets from a place on, or none if the place is past their end.
 fn octets_from(octets: &[u8], place: usize) -> &[u8]
     ensures { result.now ≡ drop place octets.now }
 {

@@ -7,8 +7,8 @@ use super::Symbol;
 use std::fmt;
 
 impl Symbol {
-    /// How an octet is written in a word of text: a space, `"`, `(`, `)`, `;` and a backslash behind a backslash, octets
-    /// outside 0x20 to 0x7E by three digits, and the others by themselves.
+    /// Returns the symbol that writes an octet in a word of text. A space, `"`, `(`, `)`, `;` and a backslash are
+    /// escaped by a backslash, octets outside 0x20 to 0x7E are written as three digits, and the others as themselves.
     pub fn from_octet(octet: u8) -> Self
         ensures { result ≡ word_symbol octet }
     {
@@ -18,8 +18,8 @@ impl Symbol {
         }
     }
 
-    /// How an octet is written between quotes: `"` and a backslash behind a backslash, octets outside 0x20 to 0x7E by
-    /// three digits, and the others by themselves.
+    /// Returns the symbol that writes an octet between quotes. `"` and a backslash are escaped by a backslash, octets
+    /// outside 0x20 to 0x7E are written as three digits, and the others as themselves.
     pub fn quoted_from_octet(octet: u8) -> Self
         ensures { result ≡ quoted_symbol octet }
     {
@@ -29,8 +29,8 @@ impl Symbol {
         }
     }
 
-    /// How an octet is written in plain text: a backslash behind a backslash, octets outside 0x20 to 0x7E by three
-    /// digits, and the others by themselves.
+    /// Returns the symbol that writes an octet in plain text. A backslash is escaped by a backslash, octets outside
+    /// 0x20 to 0x7E are written as three digits, and the others as themselves.
     pub fn display_from_octet(octet: u8) -> Self
         ensures { result ≡ plain_symbol octet }
     {
@@ -40,8 +40,8 @@ impl Symbol {
         }
     }
 
-    /// How an octet of a label is written: a space, `"`, `$`, `(`, `)`, a dot, `;` and a backslash behind a backslash,
-    /// octets outside 0x20 to 0x7E by three digits, and the others by themselves.
+    /// Returns the symbol that writes an octet of a label. A space, `"`, `$`, `(`, `)`, a dot, `;` and a backslash are
+    /// escaped by a backslash, octets outside 0x20 to 0x7E are written as three digits, and the others as themselves.
     pub(crate) fn label_from_octet(octet: u8) -> Self
         ensures { result ≡ printed_symbol octet }
     {
@@ -51,7 +51,7 @@ impl Symbol {
         }
     }
 
-    /// Whether a word may have the symbol: white space, `"`, `(`, `)` and `;` stand in one only escaped.
+    /// Returns whether a word may have the symbol: white space, `"`, `(`, `)` and `;` have to be escaped in a word.
     pub fn is_word_char(self) -> bool
         ensures { IsTrue result ↔ IsWordSymbol self }
     {
@@ -62,7 +62,7 @@ impl Symbol {
     }
 }
 
-/// An octet by itself, or by its number where it is not printable.
+/// Returns an octet as itself, or as its number if it is not printable.
 fn bare(octet: u8) -> Symbol
     ensures { result ≡ bare_symbol octet }
 {

@@ -34,7 +34,7 @@ impl<const N: usize> OctetsBuilder for ArrayVec<u8, N> {
         ensures fits { OnOk result (IsWithin (Some N) (length self.new.items)) }
         ensures not_bad { result ≡ Err BadLength → ⊥ }
 
-        // It takes no memory, so it is refused only where the octets do not fit.
+        // It allocates nothing, so it fails exactly if the octets do not fit.
         ensures room { IsOk result ↔ (length (self.old.items ++ octets.now) ≤ N) }
         ensures only { IfErr result (λ e. e ≡ ShortBuf) }
     {

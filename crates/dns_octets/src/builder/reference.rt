@@ -1,4 +1,4 @@
-//! Targets that are lent.
+//! Targets that are borrowed.
 ghost use Rattle.std.specs.Prelude.{◌≡◌, refl};
 ghost use Rattle.std.proofs.Common.{◌∙◌};
 

@@ -19,9 +19,9 @@ use dns_label::{Symbol, Symbols};
 #[derive(Drop)]
 pub struct Spelling {
     octets: [u8; 255],
-    /// How many octets there are.
+    /// The number of octets.
     len: usize,
-    /// Where the length of the open label goes.
+    /// The place for the length of the open label.
     start: usize,
     ghost whole: { length octets ≡ 255 },
     ghost room: { start < len },
@@ -67,7 +67,7 @@ impl Spelling {
 
     /// Reads characters, and leaves the last label open. Returns `None` if they are the root's dot alone.
     ///
-    /// Fails if there are characters and they spell no name, maybe before it has taken all of them.
+    /// Fails if there are characters and they spell no name, and may then leave some of them untaken.
     pub fn read_chars<C: Iterator<Item = char> + Drop>(
         chars: C,
     ) -> Result<Option<Spelling>, PresentationError>
@@ -85,7 +85,7 @@ impl Spelling {
 
     /// Reads symbols, and leaves the last label open. Returns `None` if they are the root's dot alone.
     ///
-    /// Fails if there are symbols and they spell no name, maybe before it has taken all of them.
+    /// Fails if there are symbols and they spell no name, and may then leave some of them untaken.
     pub fn read<S: Iterator<Item = Symbol>>(
         symbols: &mut S,
     ) -> Result<Option<Spelling>, PresentationError>
@@ -109,7 +109,7 @@ impl Spelling {
         Ok(Some(spelling))
     }
 
-    /// An open label without octets.
+    /// Returns an open label without octets.
     fn new() -> Spelling
         ensures { Holds result [] [] }
     {
@@ -120,14 +120,14 @@ impl Spelling {
         }
     }
 
-    /// Whether the open label has an octet.
+    /// Returns whether the open label has an octet.
     pub fn has_open_label(&self) -> bool
         ensures { IsTrue result ↔ (self.now.start + 1 < self.now.len) }
     {
         self.len - self.start > 1
     }
 
-    /// Whether it has no octet yet.
+    /// Returns whether nothing has been read yet.
     pub fn is_new(&self) -> bool
         ensures { IsTrue result ↔ IsNew self.now }
     {
@@ -151,7 +151,7 @@ impl Spelling {
         Ok(())
     }
 
-    /// Ends the open label, and begins the next. Fails if the label is empty.
+    /// Ends the open label, and begins the next one. Fails if the label is empty.
     pub fn end_label(&mut self) -> Result<(), PresentationError>
         ensures ok { OnOk result ((done : List (List ℕ)) (begun : List ℕ) → Holds self.old done begun → Holds self.new (done ++ begun ∷ []) []) }
         ensures err { OnErr result (self.old.len ≡ self.old.start + 1) }
@@ -168,8 +168,8 @@ impl Spelling {
         Ok(())
     }
 
-    /// Appends the octets of the finished labels and the root's to a vector. Fails if there is no label, or if memory runs out;
-    /// then it appends nothing.
+    /// Appends the octets of the finished labels and the root's to a vector. Fails with `Presentation` if there is no
+    /// label, and with `ShortBuf` if out of memory. If it fails, it appends nothing.
     pub fn append_to(&self, octets: &mut Vec<u8>) -> Result<(), FromStrError>
         requires { (done : List (List ℕ)) × Holds self.now done [] }
         ensures ok { OnOk result ((name : List (List ℕ)) × IsName name × Holds self.now name [] × (0 < length name)

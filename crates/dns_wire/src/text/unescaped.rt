@@ -1,4 +1,4 @@
-//! Names in text without escapes, as most names are (RFC 1035 5.1).
+//! Names in text without escapes, as most names are (RFC 1035, section 5.1).
 ghost use Rattle.std.specs.Prelude.{◌≡◌, ◌≤◌, ◌+◌, ◌↔◌, ◌++◌, List, ℕ, length, drop, take, IsTrue, IsFalse, IfOk, IfSome};
 ghost use Rattle.dns_label.specs.Name.{wire};
 ghost use Rattle.dns_label.specs.NameText.{IsAbsoluteText};
@@ -8,16 +8,16 @@ use dns_label::{OctetKind, run_end};
 use std::alloc::AllocError;
 use std::simd::prelude::*;
 
-/// The most octets of a label (RFC 1035 2.3.4).
+/// The greatest number of octets of a label (RFC 1035, section 2.3.4).
 const LABEL_MOST: usize = 63;
 
-/// The most octets of such a name's text: the name has one more, the root's.
+/// The greatest number of octets of such a name's text. The name has one octet more, the root's.
 const TEXT_MOST: usize = 254;
 
-/// Appends the octets of the name that a text without escapes spells, its last dot there, and answers whether it did.
+/// Appends the octets of the name that a text without escapes spells with its last dot, and returns whether it did.
 ///
-/// It did not where the text has an escape, where it spells no name or the root's, and where a growth was refused: which of
-/// these it is, a reader of symbols tells.
+/// It appends nothing if the text has an escape, spells no name or spells the root, or if out of memory. A reader of
+/// symbols tells which of these it is.
 pub(super) fn append_unescaped(octets: &mut Vec<u8>, text: &[u8]) -> bool
     ensures name { IsTrue result → (name : List (List ℕ)) × IsAbsoluteText text.now name × (octets.new.items ≡ octets.old.items ++ wire name) }
     ensures none { IsFalse result → octets.new.items ≡ octets.old.items }
@@ -30,10 +30,10 @@ pub(super) fn append_unescaped(octets: &mut Vec<u8>, text: &[u8]) -> bool
     is_whole
 }
 
-/// The same, but that octets may be left behind where it is not the whole name.
+/// The same, but leaves octets in the vector if they are not the whole name.
 ///
-/// The text is appended as it is, with an octet before it. Before each label stands a dot then, or that octet, and the label's length
-/// goes there; the root's goes over the last dot.
+/// It appends the text as it is, after one more octet. So each label follows a dot or that octet, and the label's
+/// length is written there. The root's length is written over the last dot.
 fn append_labels(octets: &mut Vec<u8>, text: &[u8]) -> Result<bool, AllocError>
     ensures name { IfOk result (λ is_whole. IsTrue is_whole → (name : List (List ℕ)) × IsAbsoluteText text.now name
         × (octets.new.items ≡ octets.old.items ++ wire name)) }
@@ -58,7 +58,7 @@ fn append_labels(octets: &mut Vec<u8>, text: &[u8]) -> Result<bool, AllocError>
     Ok(true)
 }
 
-/// The label at a place, of octets that stand for themselves and with a dot behind it.
+/// Returns the label at a place, if its octets all stand for themselves and a dot follows it.
 fn label_at(text: &[u8], start: usize) -> Option<&[u8]>
     requires { start ≤ length text.now }
     ensures { IfSome result (λ label. StartsWithUnescapedLabel (drop start text.now) label.now (drop (start + length label.now + 1) text.now)) }
@@ -71,7 +71,7 @@ fn label_at(text: &[u8], start: usize) -> Option<&[u8]>
     }
 }
 
-/// The octets that by themselves are symbols other than a dot.
+/// The octets that as characters are symbols other than a dot.
 struct UnescapedOctets;
 
 impl OctetKind for UnescapedOctets {
@@ -88,7 +88,7 @@ impl OctetKind for UnescapedOctets {
     }
 }
 
-/// Whether the octet by itself is a symbol other than a dot.
+/// Returns whether the octet as a character is a symbol other than a dot.
 pub(super) fn is_unescaped(octet: u8) -> bool
     ensures { IsTrue result ↔ IsUnescaped octet }
 {

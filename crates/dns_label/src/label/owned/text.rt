@@ -1,4 +1,4 @@
-//! Text to labels, and back (RFC 1035 5.1).
+//! Text to labels, and back (RFC 1035, section 5.1).
 ghost use Rattle.std.specs.Prelude.{◌≡◌, ◌≤◌, ◌<◌, ◌++◌, ◌∷◌, [], List, ℕ, Some, true, false, length, IfOk, IfErr, OnOk, OnErr, MatchResult};
 ghost use Rattle.std.specs.Iterator.{IsFinite, Drains, YieldsFirst};
 ghost use Rattle.dns_label.specs.OwnedLabel.{octets_owned};
@@ -17,10 +17,10 @@ use thiserror::Error;
 /// Why a text spells no label.
 #[derive(Clone, Copy, Debug, PartialEq, Eq, Error)]
 pub enum LabelFromStrError {
-    /// A part of it is no symbol.
+    /// Some of it is no symbol.
     #[error("bad symbol")]
     BadSymbol,
-    /// It has a dot that is not escaped, which separates labels.
+    /// It has a dot that is not escaped. Such a dot separates labels.
     #[error("dot in a label")]
     Dot,
     /// It is empty.
@@ -42,9 +42,9 @@ impl From<SymbolCharsError> for LabelFromStrError {
 impl OwnedLabel {
     ghost use Rattle.dns_label.specs.LabelText.{IsLabelText, IsLabelFault, IsOver};
 
-    /// The label that characters spell: symbols other than a dot, one for each of its 1 to 63 octets.
+    /// Returns the label that characters spell: symbols other than a dot, one for each of its 1 to 63 octets.
     ///
-    /// Refused where they spell none, and maybe before all of them are taken.
+    /// Fails if they spell no label, and may then leave some of them untaken.
     pub fn from_chars<C: Iterator<Item = char> + Drop>(
         mut chars: C,
     ) -> Result<Self, LabelFromStrError>
@@ -61,7 +61,7 @@ impl OwnedLabel {
         label.filled()
     }
 
-    /// The label that a text spells. Refused where it spells none.
+    /// Returns the label that a text spells. Fails if it spells none.
     fn from_text(text: &[u8]) -> Result<Self, LabelFromStrError>
         ensures ok { IfOk result (λ label. IsLabelText text.now (octets_owned label)) }
         ensures err { OnErr result (((label : List ℕ) × IsLabelText text.now label) → ⊥) }
@@ -79,7 +79,7 @@ impl OwnedLabel {
         read.filled()
     }
 
-    /// Puts the octet of a symbol behind the others. Refused at a dot, and past 63 octets.
+    /// Appends the octet of a symbol. Fails at a dot, and past 63 octets.
     fn push(&mut self, symbol: Symbol) -> Result<(), LabelFromStrError>
         requires { IsSymbol symbol }
         ensures plain { OnOk result (is_dot symbol ≡ false) }
@@ -101,7 +101,7 @@ impl OwnedLabel {
         Ok(())
     }
 
-    /// The label, if it has octets.
+    /// Returns the label. Fails if it has no octets.
     fn filled(self) -> Result<Self, LabelFromStrError>
         ensures ok { IfOk result (λ label. (octets_owned label ≡ octets_owned self) × (0 < length (octets_owned label))) }
         ensures err { OnErr result (octets_owned self ≡ []) }

@@ -4,7 +4,7 @@ use Rattle.std.proofs.lemmas.Result.{err_from_is_err_and}
 use Rattle.dns_label.specs.UsedSymbols.StopsUsing.{refused, ended}
 use Rattle.dns_label.proofs.symbols.Symbols.with.Goals as goal
 
--- the symbols have ended with the error that is told
+-- the symbols have ended with the error that is returned
 ends_badly : {C E : Type 0} (chars : Result C E) (told : Result (Unit {0}) E) (why : E)
     → MatchResult chars (λ chars. told ≡ Ok tt) (λ error. told ≡ Err error) → told ≡ Err why → chars ≡ Err why
 ends_badly (Ok chars) told why says is = cc
