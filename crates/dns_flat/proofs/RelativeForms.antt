@@ -71,7 +71,7 @@ no_front here error (first ∷ name) none some front =
     (omega (arith, ap (length {A = ℕ}) e, length-append here (0 ∷ []), length-append (length first ∷ first ++ labels_wire name) (0 ∷ []))) in
     no_label_no_front here first (labels_wire name) error none (record { spelled = same.0; short = front.labels.0.short })
 
--- where no label can be split off, there is no relative name
+-- if no label can be split off, there is no relative name
 pub leads_none : (octets here : List ℕ) (error : SplitLabelError) → Leads (octets ++ 0 ∷ []) (here ++ 0 ∷ []) → NoLabel here error → (length here ≡ 0 → ⊥)
     → (name : List (List ℕ)) → IsName name → octets ≡ labels_wire name → ⊥
 leads_none octets here error leads none some name is_name is =

@@ -26,7 +26,7 @@ where
     /// `in-addr.arpa.` (RFC 1035 3.5), or its 32 hexadecimal digits from the last, in lower case, and `ip6.arpa.` (RFC
     /// 3596 2.5).
     ///
-    /// Fails with `ShortBuf` only, if there is no room or no memory.
+    /// Its only error is `ShortBuf`, if there is no room or no memory.
     pub fn reverse_from_addr(alloc: Global, addr: IpAddr) -> Result<Self, PushError>
         ensures ok { IfOk result (λ name. name ≡ reverse_name addr) }
         ensures err { IfErr result (λ error. error ≡ ShortBuf) }
