@@ -88,7 +88,7 @@ pub folded_known : ((folded static_spelling).known ≡ record { suffix = 1 ∷ 9
 unfolding split_from name_text known_after
 folded_known = (refl, refl, refl)
 
--- data of two octets and a name after its length, which counts a pointer where one is written
+-- data of two octets and a name after its length, which counts a pointer if one is written
 abbrev pub counted : Spelling → List ℕ
 counted s =
     (write s empty (Named ((97 ∷ []) ∷ []) (Counted (Octets (0 ∷ 10 ∷ []) (Named ((97 ∷ []) ∷ []) End)) (Octets (7 ∷ []) End)))).octets

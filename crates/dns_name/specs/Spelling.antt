@@ -44,7 +44,7 @@ compresses s = has_room s.most 0
 abbrev pub is_near : ℕ → Bool
 is_near place = nat_lt place 16384
 
--- octets as they are compared: in lower case where case makes no difference
+-- octets as they are compared: in lower case if case makes no difference
 abbrev pub folded : Spelling → List ℕ → List ℕ
 folded s octets = if s.folds then map to_ascii_lowercase octets else octets
 
@@ -52,7 +52,7 @@ folded s octets = if s.folds then map to_ascii_lowercase octets else octets
 abbrev pub is_same : Spelling → List ℕ → List ℕ → Bool
 is_same s one other = pointwise nat_eq (folded s one) (folded s other)
 
--- the octets that a suffix is remembered by: in lower case where case makes no difference
+-- the octets that a suffix is remembered by: in lower case if case makes no difference
 abbrev pub remembered_form : Spelling → List (List ℕ) → List ℕ
 remembered_form s suffix = wire (map (folded s) suffix)
 
@@ -102,7 +102,7 @@ standings s place stop (label ∷ labels) suffix =
     record { suffix = remembered_form s (label ∷ labels ++ suffix); place = place; stop = stop }
     ∷ standings s (place + 1 + length label) stop labels suffix
 
--- all of them where pointers reach each, and else none
+-- all of them if pointers reach each, and else none
 abbrev pub if_near : Known → Known
 if_near added = if list_all (λ standing. is_near standing.place) added then added else []
 

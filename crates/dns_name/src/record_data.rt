@@ -144,7 +144,7 @@ pub trait ParseRecordData<'a>: RecordData + Sized {
     ghost reads: { List ℕ → ℕ → ℕ → Self → Type 0 };
 
     /// Parses the data of a type up to the end of the parser, or returns `None` if it takes no such type. Fails if what
-    /// is left is no data of the type. Without data, the parser stays where it is.
+    /// is left is no data of the type. If it returns no data, the parser stays where it is.
     fn parse_rdata(rtype: Rtype, parser: &mut Parser<'a>) -> Result<Option<Self>, ParseError>
         ensures taken { IfOk result (λ found. is_some found ≡ takes rtype) }
         ensures ok { IfOk result (λ found. IfSome found (λ rdata. reads (octets_of parser.old)
