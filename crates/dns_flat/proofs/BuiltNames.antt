@@ -1,4 +1,4 @@
--- Names that are made of what is built, and whole names put to it.
+-- Names made of what is built, and whole names appended to it.
 use Rattle.std.proofs.Common.{◌≡◌, ℕ, ◌+◌, ◌≤◌, List, ◌++◌, length, refl, sym, ◌∙◌, ap, subst, arith, append-nil, length-append}
 use Rattle.std.specs.Prelude.{Option, None}
 use Rattle.std.specs.List.{AllByRecursion}
@@ -30,7 +30,7 @@ stands_whole labels is_name is =
       place = refl;
     }
 
--- the labels of a relative name behind them
+-- with the labels of a relative name appended
 pub with_labels_len : (built : Built) (labels : List (List ℕ)) → built_len (with_labels built labels) ≡ built_len built + length (labels_wire labels)
 with_labels_len built labels =
     ap (λ (l : List (List ℕ)). length (labels_wire l)) (append-nil (labels_built built ++ labels)) ∙ length-labels_wire-append (labels_built built) labels
@@ -42,7 +42,7 @@ stands_joined {built = built} labels stands is_name is few =
     stands_whole (labels_built built ++ labels) all
     (is ∙ ap (λ o. o ++ labels_wire labels) stands.whole ∙ sym (labels_wire-append (labels_built built) labels))
 
--- the labels of an absolute name behind them
+-- with the labels of an absolute name appended
 pub origin_len : (built : Built) (origin : List (List ℕ)) → length (wire (labels_built built ++ origin)) ≡ built_len built + length (wire origin)
 origin_len built origin =
     ap (length {A = ℕ}) (wire-append (labels_built built) origin) ∙ length-append (labels_wire (labels_built built)) (wire origin)

@@ -1,4 +1,4 @@
--- Names of two parts.
+-- Chains of two names.
 use Rattle.std.proofs.Common.{◌≡◌, ℕ, ◌+◌, ◌<◌, ◌≤◌, ◌⊎◌, List, [], ◌∷◌, ◌++◌, length, refl, sym, ◌∙◌, ap, arith, append_assoc, subst, length-append, inl, inr}
 use Rattle.std.specs.List.{AllByRecursion}
 use mathlib.Core.Logic.{∥∥₁_map}
@@ -49,7 +49,7 @@ both_of front labels is_name few are =
       listed = listed_on front are.listed;
     }
 
--- a relative name and another one behind it
+-- a relative name followed by another one
 pub chain_are : (front labels : List (List ℕ)) → IsName front → length (labels_wire front) + length (labels_wire (before_root labels)) ≤ 254
     → ∥ AreOfName labels ∥₁ → ∥ AreOfName (front ++ labels) ∥₁
 chain_are front labels is_name few there = ∥∥₁_map there (both_of front labels is_name few)
@@ -71,7 +71,7 @@ are_short labels there many = none_from_merely there (λ are. let few = short_by
 pub length-labels_wire-append : (front more : List (List ℕ)) → length (labels_wire (front ++ more)) ≡ length (labels_wire front) + length (labels_wire more)
 length-labels_wire-append front more = ap (length {A = ℕ}) (labels_wire-append front more) ∙ length-append (labels_wire front) (labels_wire more)
 
--- the labels in front of the root's have no more octets than all
+-- the labels before the root's have no more octets than all
 pub before_less : (labels : List (List ℕ)) → length (labels_wire (before_root labels)) ≤ length (labels_wire labels)
 before_less [] = omega arith
 before_less ([] ∷ labels) = omega arith
@@ -89,7 +89,7 @@ pub before_end : {labels rest : List (List ℕ)} {text : List ℕ} → labels �
 before_end {rest = rest} is none =
     ap (λ (l : List (List ℕ)). length (labels_wire (before_root l))) is ∙ ap (λ (t : List ℕ). length (labels_wire (before_root (t ∷ rest)))) none
 
--- a relative name and an absolute one behind it
+-- a relative name followed by an absolute one
 pub joined_name : (front name : List (List ℕ)) → IsName front → IsName name → length (labels_wire front) + length (wire name) ≤ 255 → IsName (front ++ name)
 joined_name front name is_name is_other few = record {
   labels = all_labels front name is_name.labels is_other.labels;
@@ -106,7 +106,7 @@ room_by name each is_name (inl is) = omega (arith, is_name.short, length-wire_is
 room_by name each is_name (inr is) =
     let P : List (List ℕ) → Type 0 = λ l. AllByRecursion IsLabel l in absurd (never_rooted name (subst P is each))
 
--- two relative names, one behind the other
+-- two relative names in a row
 pub joined_relative : (front more : List (List ℕ)) → IsName front → IsName more → ∥ AreOfName (front ++ more) ∥₁ → IsName (front ++ more)
 joined_relative front more is_name is_other there =
     let each = all_labels front more is_name.labels is_other.labels in

@@ -1,4 +1,4 @@
--- A name in front of octets, of which the first 255 are looked at.
+-- A name at the start of octets; only the first 255 are read.
 use Rattle.std.proofs.Common.{◌≡◌, ℕ, ◌+◌, ◌-◌, ◌<◌, ◌≤◌, List, [], ◌∷◌, ◌++◌, length, take, drop, sym, ◌∙◌, ap, subst, arith, append_assoc, length-append, length-drop, length-take, zero, suc}
 use Rattle.std.proofs.Math.Seq.{take-append_seam, drop-append_seam}
 use Rattle.std.proofs.lemmas.List.{take-append-drop, drop-drop, take_all}
@@ -9,7 +9,7 @@ use Rattle.dns_octets.specs.declared.parser.Parser.{Parser}
 use Rattle.dns_wire.specs.Flat.{StartsWithName, IsWritten}
 use Rattle.dns_wire.proofs.Flat.{flat-labels, flat-written}
 
--- a name among the first 255 octets is in front of all
+-- a name at the start of the first 255 octets is at the start of all
 pub front_on : (rest : List ℕ) (name : List (List ℕ)) (behind : List ℕ) → StartsWithName (take 255 rest) name behind
     → rest ≡ wire name ++ (behind ++ drop 255 rest)
 front_on rest name behind here =
@@ -26,7 +26,7 @@ take_on zero (x ∷ a) b few = absurd (omega arith)
 take_on (suc n) (x ∷ a) b few =
     ap (λ l. x ∷ l) (take_on n a b (omega arith) ∙ ap (λ k. a ++ take k b) (omega arith))
 
--- a name in front of all is among the first 255 octets
+-- a name at the start of all is among the first 255 octets
 pub front_back : (rest : List ℕ) (name : List (List ℕ)) (behind : List ℕ) → IsName name → rest ≡ wire name ++ behind
     → StartsWithName (take 255 rest) name (take (255 - length (wire name)) behind)
 front_back rest name behind is_name is = record {
@@ -34,7 +34,7 @@ front_back rest name behind is_name is = record {
   whole = ap (λ l. take 255 l) is ∙ take_on 255 (wire name) behind is_name.short;
 }
 
--- what is taken as the name in front
+-- what is taken as the first name
 pub record Taken (octets taken : List ℕ) (place len : ℕ) : Type 0 where
   pub is_name : IsName (labels_at taken 0)
   pub written : IsWritten taken
@@ -93,7 +93,7 @@ front_all octets place few =
     take_all (length octets - place) (drop place octets) (omega (arith, length-drop place octets))
     ∙ sym (take_all 255 (drop place octets) (omega (arith, length-drop place octets)))
 
--- what is left where the parser has gone on
+-- what is left after the parser has moved on
 pub goes_rest : {old new : Parser} {count : ℕ} → GoesOn old new count → drop (place_of old + count) (octets_of old) ≡ rest_of new
 goes_rest {old} {new} {count} goes =
     ap (λ (n : ℕ). drop n (octets_of old)) (sym goes.place) ∙ ap (λ o. drop (place_of new) o.now) (sym goes.octets)

@@ -63,7 +63,7 @@ flat_rooted {octets} name is = flat_is octets (with_root name) (rooted name is)
 pub never_none : (name : List (List ℕ)) → with_root name ≡ [] → ⊥
 never_none name none = omega (arith, ap (length {A = List ℕ}) none, length-append name ([] ∷ []))
 
--- the label in front
+-- the first label
 pub record First (name : List (List ℕ)) (text behind : List ℕ) : Type 0 where
   pub parent : List (List ℕ)
   pub name_is : name ≡ text ∷ parent

@@ -1,4 +1,4 @@
--- Labels that were taken off octets, and what stands behind them.
+-- Labels taken off octets, and what follows them.
 use Rattle.std.proofs.Common.{◌≡◌, ℕ, ◌<◌, List, [], ◌∷◌, ◌++◌, length, refl, sym, ◌∙◌, ap, subst, arith, append_assoc, append-nil}
 use Rattle.dns_label.specs.Name.{labels_wire}
 use Rattle.dns_label.specs.Split.{StartsWithLabel, NoLabel}

@@ -61,7 +61,7 @@ pub within : {octets : List ℕ} {labels : List (List ℕ)} {place : ℕ} → oc
     → place ≤ length octets
 within {labels = labels} {place = place} is start = start_within start.front start.back place [] (no_last labels is) start.whole start.at
 
--- what is behind a place, cut at a later one
+-- what is after a place, cut at a later one
 pub start_behind : {labels back : List (List ℕ)} {start end : ℕ} → IsBack labels start back → IsLabelStart labels end → start ≤ end
     → IsLabelStart back (end - start)
 start_behind {back = back} {start = start} {end = end} behind to less =
@@ -84,7 +84,7 @@ is_between {part = part} behind less front = record {
   to = omega (arith, front.at);
 }
 
--- the same place parts the labels in one way
+-- the same place splits the labels in one way only
 pub same_place : (front back other_front other_back : List (List ℕ)) → front ++ back ≡ other_front ++ other_back
     → length (labels_wire front) ≡ length (labels_wire other_front) → (front ≡ other_front) × (back ≡ other_back)
 same_place [] back [] other_back same long = (refl, same)
@@ -108,7 +108,7 @@ length-labels_wire-low (text ∷ labels) =
       length-append (map to_ascii_lowercase text) (labels_wire (low labels)),
     )
 
--- the labels whose lower case is behind
+-- the labels before a suffix that is the other name up to ASCII case
 pub record Stripped (labels base : List (List ℕ)) : Type 0 where
   pub front : List (List ℕ)
   pub rest : List (List ℕ)
@@ -238,7 +238,7 @@ rest_next {octets} {rest} {text} behind {labels} {index} {place} next here found
           ∙ ap labels_wire (sym (front_rest labels index text more drops)),
     )
 
--- the first label, and those behind it
+-- the first label, and those after it
 pub first_written : {octets text : List ℕ} (behind : List ℕ) {labels : List (List ℕ)} → octets ≡ labels_wire labels → IsName labels
     → flat_labels octets ≡ text ∷ flat_labels behind → AreLabels behind → IsWritten (behind ++ 0 ∷ [])
 first_written {octets} {text} behind {labels} is is_name found are =

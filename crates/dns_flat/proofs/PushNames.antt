@@ -1,4 +1,4 @@
--- What the answers of calls that append names say.
+-- What the results of calls that append names say.
 use Rattle.std.proofs.Common.{◌≡◌, ℕ, ◌<◌, ◌≤◌, sym, ◌∙◌, arith}
 use Rattle.std.specs.Prelude.{Result, Ok, Err}
 use Rattle.dns_flat.specs.declared.builder.error.PushNameError.{PushNameError}

@@ -1,4 +1,4 @@
--- Symbols put to a name that is built.
+-- Symbols appended to a name that is built.
 use Rattle.std.proofs.Common.{◌≡◌, List, [], ◌∷◌, ◌++◌, sym, ◌∙◌, ap, subst}
 use Rattle.dns_label.specs.declared.symbol.Symbol.{Symbol}
 use Rattle.dns_wire.specs.Built.{Built}

@@ -1,4 +1,4 @@
--- Why no name was made of what an iterator gave.
+-- Why no name was made of an iterator's items.
 use Rattle.std.proofs.Common.{◌≡◌, ℕ, true, List, ◌++◌, refl, sym, subst, append-nil}
 use Rattle.std.specs.Prelude.{Option, Result, Ok, Err, IfOk, IfErr}
 use Rattle.std.specs.List.{AllByRecursion, flat_map}
@@ -12,7 +12,7 @@ use Rattle.dns_wire.specs.declared.text.FromStrError.{FromStrError}
 use Rattle.dns_wire.specs.declared.text.FromStrError.TheVariants.{Presentation, ShortBuf}
 
 module _ {S A T : Type 0} (steps : S → Option A → S → Type 0) (Spells : List A → List (List ℕ) → Type 0) where
-  -- all was taken
+  -- all were taken
   pub drained_refused : (start : S) (items : List A) (result : Result T FromStrError) → Drains steps start items
       → IfErr result (IsRefused Spells items) → IfErr result (IsRefusedBy steps start Spells)
   drained_refused start items (Ok value) gave refused = tt
@@ -42,7 +42,7 @@ symbols_refused symbols (Ok value) each refused = tt
 symbols_refused symbols (Err (Presentation error)) each refused = λ name is. refused name is.text
 symbols_refused symbols (Err ShortBuf) each refused = (refused.0, record { each = each; text = refused.1 })
 
--- what holds of every text that was read so holds of this one
+-- what holds for every text that was read like this holds for this one
 pub read_refused : {T : Type 0} (R : List ℕ → Type 0) (text : List ℕ) (result : Result T FromStrError) → R text
     → IfErr result (λ error. (text : List ℕ) → R text → IsRefused IsNameText text error) → IfErr result (IsRefused IsNameText text)
 read_refused R text (Ok value) is refused = tt

@@ -7,7 +7,7 @@ use Rattle.dns_wire.specs.Flat.{IsWritten, StartsWithName}
 use Rattle.dns_wire.proofs.Flat.{Leads, leads-label, root_front, written-whole, no_label_no_front, same_front}
 use Rattle.dns_wire.proofs.Wire.{wire_is}
 
--- what is in front of octets is in front of these and the root's
+-- what octets start with, the same octets and the root's start with too
 pub front_more : {octets text behind : List ℕ} → StartsWithLabel octets text behind
     → StartsWithLabel (octets ++ 0 ∷ []) text (behind ++ 0 ∷ [])
 front_more {text = text} {behind = behind} at = record {
@@ -33,7 +33,7 @@ leads_end octets here leads none few =
     let found = leads.on [] [] (root_front (here ++ 0 ∷ []) [] root) in
     written-whole (octets ++ 0 ∷ []) found.0 (omega (arith, length-append octets (0 ∷ []))) found.1
 
--- a relative name with the root behind it
+-- a relative name followed by the root
 whole_of : (octets : List ℕ) (name : List (List ℕ)) → IsName name → octets ≡ labels_wire name → StartsWithName (octets ++ 0 ∷ []) name []
 whole_of octets name is_name is = record {
   labels = is_name.labels;
@@ -71,7 +71,7 @@ no_front here error (first ∷ name) none some front =
     (omega (arith, ap (length {A = ℕ}) e, length-append here (0 ∷ []), length-append (length first ∷ first ++ labels_wire name) (0 ∷ []))) in
     no_label_no_front here first (labels_wire name) error none (record { spelled = same.0; short = front.labels.0.short })
 
--- where no label can be split off, there is no relative name
+-- if no label can be split off, there is no relative name
 pub leads_none : (octets here : List ℕ) (error : SplitLabelError) → Leads (octets ++ 0 ∷ []) (here ++ 0 ∷ []) → NoLabel here error → (length here ≡ 0 → ⊥)
     → (name : List (List ℕ)) → IsName name → octets ≡ labels_wire name → ⊥
 leads_none octets here error leads none some name is_name is =

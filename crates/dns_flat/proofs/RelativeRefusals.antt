@@ -1,4 +1,4 @@
--- Why no relative name was made of what an iterator gave.
+-- Why no relative name was made of an iterator's items.
 use Rattle.std.proofs.Common.{ℕ, true, List, ◌++◌, refl, subst, append-nil, inl, inr}
 use Rattle.std.specs.Prelude.{Option, Result, Ok, Err, IfErr}
 use Rattle.std.specs.Iterator.{Drains}

@@ -76,7 +76,7 @@ last_dot text spelling no_dot read none some =
     let more = draft-some spelling.octets spelling.len whole.done (omega arith) some whole.holds.written in
     (whole.done, whole.spells more (held_name spelling whole.done whole.holds))
 
--- what is answered then
+-- the result then
 pub relative-name : (text : List ℕ) (spelling : Spelling) (name : List (List ℕ)) → IsWholeRelative text spelling
     → IsName name × Holds spelling name [] → IsRelativeNameText text name
 relative-name text spelling name whole made =
@@ -87,7 +87,7 @@ relative-name text spelling name whole made =
 pub relative-spells : (text : List ℕ) (spelling : Spelling) → IsWholeRelative text spelling → SpellsRelative text
 relative-spells text spelling whole = (whole.done, whole.spells)
 
--- the octets in front of the open label's length
+-- the octets before the open label's length
 front_octets : (spelling : Spelling) (done : List (List ℕ)) → Holds spelling done [] → take spelling.start spelling.octets ≡ labels_wire done
 front_octets spelling done holds =
     let room = spelling.room in

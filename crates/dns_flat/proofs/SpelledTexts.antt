@@ -8,7 +8,7 @@ use Rattle.dns_wire.specs.Text.{IsFault}
 use Rattle.dns_wire.specs.declared.text.FromStrError.{FromStrError}
 use Rattle.dns_wire.specs.declared.text.FromStrError.TheVariants.{Presentation, ShortBuf}
 
--- memory was wanting
+-- there is no room or no memory
 pub spelled_short : (text : List ℕ) (error : FromStrError) → (IsFault error → ⊥) → SpellsEither text → IsNotSpelled text error
 spelled_short text (Presentation error) sound spells = absurd (sound tt)
 spelled_short text ShortBuf sound spells = spells

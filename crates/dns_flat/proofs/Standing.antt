@@ -1,4 +1,4 @@
--- Labels that stand at a place.
+-- Labels at a place.
 use Rattle.std.proofs.Common.{◌≡◌, ℕ, ◌+◌, ◌≤◌, zero, suc, List, [], ◌∷◌, length, drop, refl, ◌∙◌, ap, subst, arith}
 use Rattle.std.specs.Prelude.{Option, Some, None, slice_get}
 use Rattle.dns_label.specs.Name.{IsName, labels_wire, with_root}
@@ -6,7 +6,7 @@ use Rattle.dns_label.specs.Labels.{labels_at}
 use Rattle.dns_wire.specs.Parsed.{IsLeft, labels_left, StandsAt}
 use Rattle.dns_wire.proofs.Wire.{labels_wire-with_root}
 
--- the item in front of what is left, and what is left behind it
+-- the first item of what is left, and what is left after it
 pub front_item : {A : Type 0} (items : List A) (index : ℕ) (item : A) (rest : List A) → drop index items ≡ item ∷ rest
     → Some item ≡ slice_get items index
 front_item [] zero item rest is = cc

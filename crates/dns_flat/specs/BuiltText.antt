@@ -1,4 +1,4 @@
--- Symbols put to a name that is built (RFC 1035 5.1).
+-- Symbols appended to a name that is built (RFC 1035 5.1).
 use Rattle.std.specs.Prelude.{◌≡◌, ◌≤◌, ℕ, true, List, [], ◌∷◌, ◌++◌, Option, IsSome, if◌then◌else◌}
 use Rattle.dns_label.specs.declared.symbol.Symbol.{Symbol}
 use Rattle.std.specs.List.{flat_map}
@@ -12,7 +12,7 @@ use Rattle.dns_wire.specs.declared.text.PresentationError.{PresentationError}
 use Rattle.dns_wire.specs.declared.text.FromStrError.{FromStrError}
 use Rattle.dns_wire.specs.declared.text.FromStrError.TheVariants.{Presentation, ShortBuf}
 
--- a dot ends the open label, and another symbol puts its octet to it
+-- a dot ends the open label, and another symbol adds its octet to it
 abbrev pub put_symbol : Built → Symbol → Built
 put_symbol built symbol = if is_dot symbol then ended built else with_octets built (octet symbol ∷ [])
 
@@ -23,18 +23,18 @@ pub record MayPut (built : Built) (symbol : Symbol) : Type 0 where
   pub short_name : built_len (put_symbol built symbol) ≤ 254
   pub short_label : open_len (put_symbol built symbol) ≤ 63
 
--- so are symbols one behind the other
+-- the same for a list of symbols, one after another
 abbrev pub Puts : Built → List Symbol → Built → Type 0
 Puts built [] end = built ≡ end
 Puts built (symbol ∷ symbols) end = MayPut built symbol × Puts (put_symbol built symbol) symbols end
 
--- why a symbol was not put: it may not be, or memory was wanting
+-- why a symbol was not put: it may not be, or there is no room or no memory
 abbrev pub IsNotPut : Built → Symbol → FromStrError → Type 0
 IsNotPut built symbol (Presentation error) = MayPut built symbol → ⊥
 IsNotPut built symbol ShortBuf = MayPut built symbol
 
--- Why characters were not all put: their symbols stop at one that was not put, or they stop where no symbol begins. What
--- stood in front was put.
+-- Why characters were not all put: their symbols stop at one that was not put, or they stop where no symbol begins. All
+-- before was put.
 pub data StopsPutting {C : Type 0} (steps : C → Option ℕ → C → Type 0) (start : C) (old new : Built) : FromStrError → Type 0 where
   at_symbol : {error : FromStrError} (symbols : List Symbol) (symbol : Symbol) (end : C)
       → Yields steps start (flat_map spelled (symbols ++ symbol ∷ [])) end

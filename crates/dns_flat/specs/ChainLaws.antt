@@ -1,4 +1,4 @@
--- The root's label stays last behind more labels.
+-- The root's label is still last after more labels.
 use Rattle.std.specs.Prelude.{◌≡◌, ℕ, List, [], ◌∷◌, ◌++◌}
 use Rattle.std.proofs.Common.{sym, ◌∙◌, ap, append_assoc}
 use Rattle.dns_label.specs.Name.{with_root}

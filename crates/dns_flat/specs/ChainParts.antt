@@ -1,4 +1,4 @@
--- What a contract sees of a name of two parts.
+-- What a contract sees of a chain.
 use Rattle.dns_flat.specs.declared.chain.Chain.{Chain}
 
 abbrev pub left_of : {L R : Type 0} {ghosts others : _} → Chain L R ghosts others → L

@@ -1,4 +1,4 @@
--- The octets of a name, lent or written out.
+-- The octets of a name, borrowed or written out.
 use Rattle.std.specs.Prelude.{ℕ, List}
 use Rattle.dns_flat.specs.declared.wire_form.FlatWire.{FlatWire}
 use Rattle.dns_flat.specs.declared.wire_form.FlatWire.TheVariants.{Lent, Written}

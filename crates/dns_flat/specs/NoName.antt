@@ -11,13 +11,13 @@ use Rattle.dns_flat.specs.declared.name.NameError.TheVariants as flat
 use Rattle.dns_flat.specs.declared.relative.RelativeNameError.{RelativeNameError}
 use Rattle.dns_flat.specs.declared.relative.RelativeNameError.TheVariants as relative
 
--- labels without the root's in front, and then the rest
+-- labels without the root's, and then the rest
 pub record StartsWithLabels (octets rest : List ℕ) : Type 0 where
   pub labels : List (List ℕ)
   pub each : AllByRecursion IsLabel labels
   pub whole : octets ≡ labels_wire labels ++ rest
 
--- Behind labels there are octets, at the front of which no label stands.
+-- After some labels there are octets that start with no label.
 abbrev pub StopsAt : List ℕ → SplitLabelError → Type 0
 StopsAt octets error = (rest : List ℕ) × StartsWithLabels octets rest × NoLabel rest error
 

@@ -1,4 +1,4 @@
--- The order of names is a total one, and answers Equal exactly for names that are the same up to ASCII case.
+-- The order of names is total, and it is `Equal` exactly for names that are the same up to ASCII case.
 use Rattle.std.specs.Prelude.{◌≡◌, ℕ, Bool, true, false, List, [], ◌∷◌, reverse, nat_eq, IsTrue}
 use Rattle.std.proofs.Common.{refl, sym, ◌∙◌, ap}
 use Rattle.std.proofs.lemmas.List.{reverse-reverse}

@@ -17,7 +17,7 @@ SpellsAbsolute text = (name : List (List ℕ)) × IsAbsoluteText text name
 abbrev pub SpellsEither : List ℕ → Type 0
 SpellsEither text = SpellsRelative text ⊎ SpellsAbsolute text
 
--- it spells neither, or a relative name for which memory was wanting
+-- it spells neither, or it spells a relative name and there is no room or no memory
 abbrev pub IsNotMade : List ℕ → FromStrError → Type 0
 IsNotMade text (Presentation error) = SpellsEither text → ⊥
 IsNotMade text ShortBuf = SpellsRelative text
@@ -27,7 +27,7 @@ abbrev pub IsNoRelative : List ℕ → RelativeFromStrError → Type 0
 IsNoRelative text (FromStr error) = IsNotMade text error
 IsNoRelative text AbsoluteName = SpellsAbsolute text
 
--- The same of the characters that an iterator gives: what was taken off it, with whatever may follow, spells neither; or all
+-- The same for the characters of an iterator: what was taken from it, with whatever may follow, spells neither; or all
 -- of it was taken.
 abbrev pub IsNotMadeBy : {C : Type 0} → (C → Option ℕ → C → Type 0) → C → FromStrError → Type 0
 IsNotMadeBy steps start (Presentation error) = RulesOut steps start SpellsEither

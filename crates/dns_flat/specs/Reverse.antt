@@ -17,7 +17,7 @@ decimal_labels octets = map decimal (reverse octets)
 abbrev pub hex_labels : List ℕ → List (List ℕ)
 hex_labels octets = flat_map nibble_labels (reverse octets)
 
--- the labels in front of the last one
+-- the labels before the last one
 abbrev pub zone_labels : IpAddr → List (List ℕ)
 zone_labels (V4 addr) = decimal_labels (ipv4_octets addr) ++ codes "in-addr" ∷ []
 zone_labels (V6 addr) = hex_labels (ipv6_octets addr) ++ codes "ip6" ∷ []

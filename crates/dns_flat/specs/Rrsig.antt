@@ -1,4 +1,4 @@
--- The number of labels in the field of a signature (RFC 4034 3.1.3).
+-- The RRSIG Labels field (RFC 4034 3.1.3).
 use Rattle.std.specs.Prelude.{ℕ, List, [], ◌∷◌, length, if◌then◌else◌}
 use lib.Pointwise.{pointwise}
 use Rattle.std.specs.Prelude.{nat_eq}

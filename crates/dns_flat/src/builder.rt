@@ -24,14 +24,14 @@ pub use error::PushNameError;
 use std::alloc::Global;
 use std::marker::Model;
 
-/// A name that is built: finished labels, and maybe an open one. It has at most 254 octets, so that the root has room
-/// behind it.
+/// A name that is built: finished labels, and maybe an open one. It has at most 254 octets, so that the root still fits
+/// after it.
 ///
-/// A contract sees it as a `Built`, its labels. A refused call leaves it as it was.
+/// A contract sees it as a `Built`, its labels. A call that fails leaves it as it was.
 #[derive(Debug, Drop)]
 pub struct NameBuilder<B: OctetsBuilder> {
     builder: B,
-    /// Where the length of the open label stands, which is kept as it grows.
+    /// The place of the open label's length octet, which is updated as the label grows.
     head: Option<usize>,
 }
 
@@ -44,7 +44,7 @@ impl<B: OctetsBuilder> Model for NameBuilder<B> {
 }
 
 impl<B: EmptyBuilder> NameBuilder<B> {
-    /// Nothing yet, in octets that grow on this allocator if they grow at all.
+    /// Creates an empty builder. Its octets grow on this allocator if they grow at all.
     pub fn new(alloc: Global) -> Self
         ensures { result ≡ nothing_built }
     {
@@ -54,8 +54,8 @@ impl<B: EmptyBuilder> NameBuilder<B> {
         }
     }
 
-    /// Nothing yet, with room for so many octets. Refused where there can't be so many, which `ShortBuf` alone says, and
-    /// with `OutOfMemory` where the memory was refused.
+    /// Creates an empty builder with room for `capacity` octets. Fails if the octets can never be that many, and with
+    /// `ShortBuf` only then; and with `OutOfMemory` if out of memory.
     pub fn with_capacity(alloc: Global, capacity: usize) -> Result<Self, AppendError>
     where
         B: Drop,
@@ -72,14 +72,15 @@ impl<B: EmptyBuilder> NameBuilder<B> {
 }
 
 impl NameBuilder<Vec<u8>> {
-    /// Nothing yet, in a vector.
+    /// Creates an empty builder over a vector.
     pub fn new_vec(alloc: Global) -> Self
         ensures { result ≡ nothing_built }
     {
         NameBuilder::new(alloc)
     }
 
-    /// Nothing yet, in a vector with room for so many octets. Refused where the memory was refused.
+    /// Creates an empty builder over a vector with room for `capacity` octets. Fails if out of memory, and never with
+    /// `ShortBuf`.
     pub fn vec_with_capacity(alloc: Global, capacity: usize) -> Result<Self, AppendError>
         ensures ok { IfOk result (λ name. name ≡ nothing_built) }
         ensures short { result ≡ Err ShortBuf → ⊥ }
@@ -90,8 +91,8 @@ impl NameBuilder<Vec<u8>> {
 }
 
 impl<B: OctetsBuilder> NameBuilder<B> {
-    /// Goes on behind the octets of a builder, which are finished labels. Refused where they are no relative name,
-    /// uncompressed and whole, as `RelativeName::from_octets` has it.
+    /// Continues after the octets of a builder, which are finished labels. Fails if they are no relative name,
+    /// uncompressed and whole, as `RelativeName::from_octets` does.
     pub fn from_builder(builder: B) -> Result<Self, RelativeNameError>
     where
         B: Drop,
@@ -107,7 +108,7 @@ impl<B: OctetsBuilder> NameBuilder<B> {
         })
     }
 
-    /// The labels so far, each behind its length, the open one too.
+    /// Returns the labels so far, each after its length, the open one too.
     pub fn as_slice(&self) -> &[u8]
         ensures labels { result.now ≡ labels_wire (labels_built self.now) }
         ensures few { length result.now ≤ 254 }
@@ -115,7 +116,7 @@ impl<B: OctetsBuilder> NameBuilder<B> {
         self.builder.octets()
     }
 
-    /// How many octets the labels take, the open one's length counted too.
+    /// Returns the number of octets of the labels, with the open label's length octet.
     pub fn len(&self) -> usize
         ensures octets { result ≡ built_len self.now }
         ensures few { result ≤ 254 }
@@ -123,21 +124,21 @@ impl<B: OctetsBuilder> NameBuilder<B> {
         self.as_slice().len()
     }
 
-    /// Whether there is no label yet.
+    /// Returns whether there is no label yet.
     pub fn is_empty(&self) -> bool
         ensures { IsTrue result ↔ (labels_built self.now ≡ []) }
     {
         self.as_slice().is_empty()
     }
 
-    /// Whether a label is open.
+    /// Returns whether a label is open.
     pub fn in_label(&self) -> bool
         ensures { IsTrue result ↔ IsSome self.now.begun }
     {
         self.head.is_some()
     }
 
-    /// Ends the open label, if one is open.
+    /// Ends the open label, if there is one.
     pub fn end_label(&mut self)
         ensures { self.new ≡ ended self.old }
     {
@@ -146,7 +147,7 @@ impl<B: OctetsBuilder> NameBuilder<B> {
 }
 
 impl<B: WriteOctets> NameBuilder<B> {
-    /// Puts an octet to the open label, or begins a label with it, as `append_slice` does.
+    /// Appends an octet to the open label, or begins a label with it, as `append_slice` does.
     pub fn push(&mut self, octet: u8) -> Result<(), PushError>
         ensures ok { OnOk result (self.new ≡ with_octets self.old (octet ∷ [])) }
         ensures err { OnErr result (self.new ≡ self.old) }
@@ -156,10 +157,10 @@ impl<B: WriteOctets> NameBuilder<B> {
         self.append_slice(&[octet])
     }
 
-    /// Puts octets to the open label, or begins a label with them. No octets change nothing.
+    /// Appends octets to the open label, or begins a label with them. No octets change nothing.
     ///
-    /// Refused with `LongName` exactly where the labels would take more than 254 octets, else with `LongLabel` exactly
-    /// where the label would have more than 63, and with `ShortBuf` for want of room or memory.
+    /// Fails with `LongName` exactly if the labels would take more than 254 octets; else with `LongLabel` exactly if
+    /// the label would have more than 63; and with `ShortBuf` if there is no room or no memory.
     pub fn append_slice(&mut self, octets: &[u8]) -> Result<(), PushError>
         ensures ok { OnOk result (self.new ≡ with_octets self.old octets.now) }
         ensures err { OnErr result (self.new ≡ self.old) }
@@ -190,10 +191,10 @@ impl<B: WriteOctets> NameBuilder<B> {
 }
 
 impl<B: OctetsBuilder> NameBuilder<B> {
-    /// Ends the open label, if one is open, and puts a whole label behind it. A label without octets adds nothing.
+    /// Ends the open label, if there is one, and appends a whole label. A label without octets adds nothing.
     ///
-    /// Refused with `LongName` exactly where the labels would take more than 254 octets, else with `LongLabel` exactly
-    /// where the label has more than 63, and with `ShortBuf` for want of room or memory.
+    /// Fails with `LongName` exactly if the labels would take more than 254 octets; else with `LongLabel` exactly if
+    /// the label has more than 63; and with `ShortBuf` if there is no room or no memory.
     pub fn append_label(&mut self, label: &[u8]) -> Result<(), PushError>
         ensures ok { OnOk result (self.new ≡ with_label self.old label.now) }
         ensures err { OnErr result (self.new ≡ self.old) }
@@ -209,7 +210,7 @@ impl<B: OctetsBuilder> NameBuilder<B> {
     }
 }
 
-/// Appends a label behind its length, all or nothing.
+/// Appends a label after its length, all or nothing.
 fn append_label_to<B: OctetsBuilder>(builder: &mut B, label: &[u8]) -> Result<(), PushError>
     requires { length (B.list builder.old) ≤ 254 }
     ensures ok { OnOk result (B.list builder.new ≡ B.list builder.old ++ label_wire label.now) }

@@ -1,4 +1,4 @@
-//! Names of two parts, one behind the other.
+//! Chains: two names in a row, seen as one.
 ghost use Rattle.std.specs.Prelude.{◌≡◌, ◌+◌, ◌≤◌, ◌<◌, ◌↔◌, ◌++◌, List, ℕ, length, IsErr, IfOk};
 ghost use Rattle.dns_label.specs.Name.{IsName, labels_wire};
 ghost use Rattle.dns_wire.specs.Chain.{AreOfName, before_root, StandsInOne};
@@ -11,17 +11,17 @@ use dns_wire::ToLabelIter;
 use dns_wire::compare::count_labels;
 use thiserror::Error;
 
-/// The two parts have more than 254 octets in front of any root.
+/// The two names have more than 254 octets before any root.
 #[derive(Clone, Copy, Debug, PartialEq, Eq, Error)]
 #[error("long domain name")]
 pub struct LongChainError;
 
-/// The labels of a relative name, and behind them those of another name, absolute or relative.
+/// The labels of a relative name, followed by those of another name, absolute or relative.
 #[derive(Debug, Drop)]
 pub struct Chain<L: ToLabelIter, R: ToLabelIter> {
     left: L,
     right: R,
-    /// How many labels the first part has.
+    /// The number of labels of the first name.
     count: usize,
     ghost counted: { count ≡ length (L.labels left) },
     ghost are: { ∥ AreOfName (L.labels left ++ R.labels right) ∥₁ },
@@ -32,8 +32,7 @@ pub struct Chain<L: ToLabelIter, R: ToLabelIter> {
 impl<L: ToLabelIter, R: ToLabelIter> Chain<L, R> {
     ghost use Rattle.dns_flat.specs.ChainParts.{left_of, right_of};
 
-    /// The labels of the one name and behind them those of the other. Refused where there are more than 254 octets in
-    /// front of any root.
+    /// Chains the two names. Fails if they have more than 254 octets before any root.
     pub fn new(left: L, right: R) -> Result<Self, LongChainError>
     where
         L: ToRelativeName + Drop,
@@ -49,7 +48,7 @@ impl<L: ToLabelIter, R: ToLabelIter> Chain<L, R> {
         Ok(Chain { left, right, count })
     }
 
-    /// The two parts.
+    /// Returns the two names.
     pub fn unwrap(self) -> (L, R)
         ensures { (result.0 ≡ left_of self) × (result.1 ≡ right_of self) }
     {
@@ -58,7 +57,7 @@ impl<L: ToLabelIter, R: ToLabelIter> Chain<L, R> {
     }
 }
 
-/// How many octets the relative name has.
+/// Returns the number of octets of the relative name.
 fn relative_len<N: ToRelativeName>(name: &N) -> usize
     ensures len { result ≡ length (labels_wire (N.labels name.now)) }
     ensures name { IsName (N.labels name.now) }
@@ -69,7 +68,7 @@ fn relative_len<N: ToRelativeName>(name: &N) -> usize
     }
 }
 
-/// How many octets the labels in front of the root's have.
+/// Returns the number of octets of the labels before the root's.
 fn len_before_root<N: ToLabelIter>(name: &N) -> usize
     ensures len { result ≡ length (labels_wire (before_root (N.labels name.now))) }
     ensures short { result ≤ 255 }

@@ -1,6 +1,6 @@
 //! Flat names: absolute, relative, chains of them, and names while they are built (RFC 1035 3.1, 5.1).
 //!
-//! A part of `dns_name`, which hands its types on.
+//! `dns_name` re-exports the types of this crate.
 #![tactic(auto)]
 
 mod builder;

@@ -37,16 +37,16 @@ use thiserror::Error;
 /// Why octets are no name.
 #[derive(Clone, Copy, Debug, PartialEq, Eq, Error)]
 pub enum NameError {
-    /// An octet in the place of a label's length begins no label.
+    /// The octet at the place of a label's length begins no label.
     #[error("{0}")]
     BadLabel(LabelTypeError),
-    /// There is a pointer, which a flat name has not.
+    /// There is a compression pointer. A flat name has none.
     #[error("compressed domain name")]
     CompressedName,
     /// There are more than 255 octets.
     #[error("long domain name")]
     LongName,
-    /// There are octets behind the root.
+    /// There are octets after the root.
     #[error("trailing data")]
     TrailingData,
     /// The octets end before the root.
@@ -74,8 +74,8 @@ impl<Octs: Octets> Name<Octs> {
     /// The largest number of octets of a name, the root's counted (RFC 1035 2.3.4).
     pub const MAX_LEN: usize = 255;
 
-    /// The name that the octets are. Refused where they are no name, uncompressed and whole: with `LongName` where there
-    /// are too many of them, and else for what stands behind the labels in front.
+    /// Makes a name of its octets. Fails if they are no name, uncompressed and whole: with `LongName` if there are more
+    /// than 255 of them, and else with the error of what follows the first labels.
     pub fn from_octets(octets: Octs) -> Result<Self, NameError>
     where
         Octs: Drop,
@@ -88,14 +88,14 @@ impl<Octs: Octets> Name<Octs> {
         Ok(Name { octets })
     }
 
-    /// The octets that hold the name.
+    /// Returns the octets that hold the name.
     pub fn as_octets(&self) -> &Octs
         ensures { Octs.list result.now ≡ wire self.now }
     {
         &self.octets
     }
 
-    /// The octets that hold the name.
+    /// Returns the octets that hold the name.
     pub fn into_octets(self) -> Octs
         ensures { Octs.list result ≡ wire self }
     {
@@ -103,7 +103,7 @@ impl<Octs: Octets> Name<Octs> {
         octets
     }
 
-    /// The octets, uncompressed.
+    /// Returns the octets, uncompressed.
     pub fn as_slice(&self) -> &[u8]
         ensures octets { result.now ≡ wire self.now }
         ensures name { IsName self.now }
@@ -111,7 +111,7 @@ impl<Octs: Octets> Name<Octs> {
         self.octets.octets()
     }
 
-    /// The same name over borrowed octets.
+    /// Returns the same name over borrowed octets.
     pub fn for_ref(&self) -> Name<&[u8]>
         ensures { result ≡ self.now }
     {
@@ -120,7 +120,7 @@ impl<Octs: Octets> Name<Octs> {
         }
     }
 
-    /// How many octets the name has, the root's counted.
+    /// Returns the number of octets of the name, with the root's.
     pub fn len(&self) -> usize
         ensures octets { result ≡ length (wire self.now) }
         ensures name { IsName self.now }
@@ -128,21 +128,21 @@ impl<Octs: Octets> Name<Octs> {
         self.as_slice().len()
     }
 
-    /// Whether this is the root, which has no labels but its own.
+    /// Returns whether this is the root, which has no label but its own.
     pub fn is_root(&self) -> bool
         ensures { IsTrue result ↔ (self.now ≡ []) }
     {
         self.len() == 1
     }
 
-    /// How many labels there are, the root's counted.
+    /// Returns the number of labels, with the root's.
     pub fn label_count(&self) -> usize
         ensures { result ≡ length (with_root self.now) }
     {
         self.iter().count()
     }
 
-    /// The labels from the left, the root's last.
+    /// Returns the labels from the left, the root's last.
     pub fn iter(&self) -> NameIter<'_>
         ensures labels { result ≡ with_root self.now }
         ensures few { length result ≤ 128 }
@@ -150,7 +150,7 @@ impl<Octs: Octets> Name<Octs> {
         NameIter::at(self.as_slice())
     }
 
-    /// Whether the name ends with another one, up to ASCII case (RFC 4343).
+    /// Returns whether the name ends with another one, up to ASCII case (RFC 4343).
     pub fn ends_with<N: ToName>(&self, base: &N) -> bool
         ensures { IsTrue result ↔ EndsWith (low self.now) (low (N.name base.now)) }
     {
@@ -162,7 +162,7 @@ impl<Octs: Octets> Name<Octs> {
 }
 
 impl<'a> Name<&'a [u8]> {
-    /// The name that the octets are. Refused where they are no name, uncompressed and whole, as `from_octets` has it.
+    /// Makes a name of its octets. Fails if they are no name, uncompressed and whole, as `from_octets` does.
     pub fn from_slice(octets: &'a [u8]) -> Result<Self, NameError>
         ensures ok { IfOk result (λ name. IsName name × (octets.now ≡ wire name)) }
         ensures err { OnErr result ((name : List (List ℕ)) → IsName name → octets.now ≡ wire name → ⊥) }
@@ -172,10 +172,10 @@ impl<'a> Name<&'a [u8]> {
         Name::from_octets(octets)
     }
 
-    /// Reads a name with no pointer in it, and leaves the parser behind it.
+    /// Parses a name without compression pointers, and moves the parser after it.
     ///
-    /// Refused where no such name of at most 255 octets stands, and the parser then stays where it is: with `ShortInput`
-    /// exactly where the message ends too early, and else with an error of the form.
+    /// Fails if there is no such name of at most 255 octets at the parser's place: with `ShortInput` exactly if the
+    /// message ends after at most 254 octets of labels, and else with a form error. The parser then stays where it is.
     pub fn parse(parser: &mut Parser<'a>) -> Result<Self, ParseError>
         ensures ok { IfOk result (λ name. IsName name × (rest_of parser.old ≡ wire name ++ rest_of parser.new)) }
         ensures place { IfOk result (λ name. GoesOn parser.old parser.new (length (wire name))) }
@@ -193,7 +193,7 @@ impl<'a> Name<&'a [u8]> {
     }
 }
 
-/// The next 255 octets, or as many as are left.
+/// Returns the next 255 octets, or as many as are left.
 fn next_255<'a>(parser: &Parser<'a>) -> &'a [u8]
     ensures { result.now ≡ take 255 (rest_of parser.now) }
 {
@@ -203,7 +203,7 @@ fn next_255<'a>(parser: &Parser<'a>) -> &'a [u8]
     }
 }
 
-/// Why no name without pointers stands at the parser's place, where none does.
+/// Returns why there is no name without pointers at the parser's place.
 fn refusal(parser: &Parser<'_>) -> ParseError
     ensures { (result ≡ ShortInput) ↔ IsCut (octets_of parser.now) 0 254 (place_of parser.now) }
 {
@@ -241,7 +241,7 @@ impl<Octs: Octets> ToLabelIter for Name<Octs> {
     }
 
     fn first_place(&self) -> Option<usize> {
-        // What the type says of its octets is known where these are named.
+        // Naming the field makes the facts of its type known to the prover.
         let _ = &self.octets;
         Some(0)
     }
@@ -256,7 +256,7 @@ impl<Octs: Octets> ToName for Name<Octs> {
 
     ghost is_absolute = { λ _. refl };
 
-    /// The octets, uncompressed, which lie so.
+    /// Returns the octets, which are always flat here.
     fn as_flat_slice(&self) -> Option<&[u8]>
         ensures flat { IsSome result }
         ensures octets { IfSome result (λ octets. octets.now ≡ wire self.now) }
@@ -272,7 +272,7 @@ impl<Octs: Octets> ToName for Name<Octs> {
     }
 }
 
-/// Refuses octets that are no name.
+/// Fails if the octets are no name.
 fn check(octets: &[u8]) -> Result<(), NameError>
     ensures ok { OnOk result (IsWritten octets.now) }
     ensures err { OnErr result ((name : List (List ℕ)) → IsName name → octets.now ≡ wire name → ⊥) }
@@ -290,7 +290,7 @@ fn check(octets: &[u8]) -> Result<(), NameError>
     }
 }
 
-/// The octets behind the first root.
+/// Returns the octets after the first root.
 fn behind_root(octets: &[u8]) -> Result<&[u8], NameError>
     ensures ok { IfOk result (λ behind. (name : List (List ℕ)) × StartsWithName octets.now name behind.now) }
     ensures err { OnErr result ((name : List (List ℕ)) (rest : List ℕ) → StartsWithName octets.now name rest → ⊥) }

@@ -6,7 +6,7 @@ ghost use Rattle.dns_wire.specs.FlatLabels.{AreLabels, flat_labels};
 use dns_label::Label;
 use std::marker::Model;
 
-/// The labels of a flat name, from the left. Of an absolute name the root's is the last.
+/// The labels of a flat name, from the left. For an absolute name, the root's is the last.
 #[derive(Debug, Drop)]
 pub struct NameIter<'a> {
     rest: &'a [u8],
@@ -21,7 +21,7 @@ impl<'a> Model for NameIter<'a> {
 }
 
 impl<'a> NameIter<'a> {
-    /// The labels that the octets are.
+    /// Iterates over the labels in the octets.
     pub(crate) fn at(octets: &'a [u8]) -> Self
         requires { AreLabels octets.now }
         ensures { result ≡ flat_labels octets.now }
@@ -29,7 +29,7 @@ impl<'a> NameIter<'a> {
         NameIter { rest: octets }
     }
 
-    /// The label with this number, counted from 0.
+    /// Returns the label with this number, counted from 0.
     pub(crate) fn label(mut self, index: usize) -> Option<Label<'a>>
         ensures { option_map octets_of result ≡ slice_get self.entry index }
     {
@@ -58,7 +58,7 @@ impl<'a> DoubleEndedIterator for NameIter<'a> {
 
     ghost next_back_gives = { YieldsLastBy octets_of (λ labels. labels) };
 
-    /// The last label. It is found from the left, so this takes as long as there are labels.
+    /// Returns the last label. It is found from the left, so this takes time linear in the number of labels.
     fn next_back(&mut self) -> Option<Label<'a>> {
         let (label, front) = split_last(self.rest)?;
         self.rest = front;
@@ -66,7 +66,7 @@ impl<'a> DoubleEndedIterator for NameIter<'a> {
     }
 }
 
-/// The label in front, and the octets behind it. None where there are no octets.
+/// Returns the first label, and the octets after it, or `None` if there are no octets.
 pub(crate) fn split_first(octets: &[u8]) -> Option<(Label<'_>, &[u8])>
     requires { AreLabels octets.now }
     ensures some { IfSome result (λ found. flat_labels octets.now ≡ octets_of found.0 ∷ flat_labels found.1.now) }
@@ -82,7 +82,7 @@ pub(crate) fn split_first(octets: &[u8]) -> Option<(Label<'_>, &[u8])>
     }
 }
 
-/// The last label, and the octets in front of it. None where there are no octets.
+/// Returns the last label, and the octets before it, or `None` if there are no octets.
 fn split_last(octets: &[u8]) -> Option<(Label<'_>, &[u8])>
     requires { AreLabels octets.now }
     ensures some { IfSome result (λ found. flat_labels octets.now ≡ flat_labels found.1.now ++ octets_of found.0 ∷ []) }

@@ -11,7 +11,7 @@ use dns_wire::{LabelIter, ToLabelIter};
 use std::fmt;
 use std::marker::Model;
 
-/// Shows an absolute name with a dot behind each label; the root is a dot.
+/// Shows an absolute name with a dot after each label; the root is a dot.
 #[derive(Drop)]
 pub struct DisplayWithDot<'a, N: ToName> {
     name: &'a N,
@@ -24,7 +24,7 @@ impl<'a, N: ToName> Model for DisplayWithDot<'a, N> {
 }
 
 impl<'a, N: ToName> DisplayWithDot<'a, N> {
-    /// What shows the name.
+    /// Returns what shows the name.
     pub(crate) fn of(name: &'a N) -> Self
         ensures { result ≡ N.name name.now }
     {
@@ -40,7 +40,7 @@ impl<N: ToName> fmt::Display for DisplayWithDot<'_, N> {
     }
 }
 
-/// Shows the name with a dot behind each label; the root is a dot.
+/// Shows the name with a dot after each label; the root is a dot.
 impl<Octs: Octets> fmt::Display for Name<Octs> {
     ghost output = { λ name. Some (printed_name name) };
 
@@ -49,7 +49,7 @@ impl<Octs: Octets> fmt::Display for Name<Octs> {
     }
 }
 
-/// Shows the name with a dot between two labels; the name without labels is no text.
+/// Shows the name with a dot between two labels; the name without labels is the empty text.
 impl<Octs: Octets> fmt::Display for RelativeName<Octs> {
     ghost output = { λ name. Some (printed_relative name) };
 
@@ -59,7 +59,7 @@ impl<Octs: Octets> fmt::Display for RelativeName<Octs> {
     }
 }
 
-/// Shows the labels with a dot between two, and the last dot where the name is absolute; the root is a dot.
+/// Shows the labels with a dot between two, and a last dot if the name is absolute; the root is a dot.
 impl<L: ToLabelIter, R: ToLabelIter> fmt::Display for Chain<L, R> {
     ghost use Rattle.dns_flat.specs.ChainParts.{left_of, right_of};
 
@@ -86,7 +86,7 @@ fn write_name<N: ToLabelIter, W: fmt::Write>(f: &mut fmt::Formatter<W>, name: &N
     write_behind(f, labels)
 }
 
-/// Writes each label behind a dot.
+/// Writes a dot before each label.
 fn write_behind<N: ToLabelIter, W: fmt::Write>(
     f: &mut fmt::Formatter<W>,
     labels: LabelIter<'_, N>,

@@ -22,10 +22,10 @@ use thiserror::Error;
 /// Why octets are no relative name.
 #[derive(Clone, Copy, Debug, PartialEq, Eq, Error)]
 pub enum RelativeNameError {
-    /// An octet in the place of a label's length begins no label.
+    /// The octet at the place of a label's length begins no label.
     #[error("{0}")]
     BadLabel(LabelTypeError),
-    /// There is a pointer, which a flat name has not.
+    /// There is a compression pointer. A flat name has none.
     #[error("compressed domain name")]
     CompressedName,
     /// The octets end within a label.
@@ -39,8 +39,8 @@ pub enum RelativeNameError {
     AbsoluteName,
 }
 
-/// A relative name, uncompressed: labels without the root's, in at most 254 octets, so that the root's has room behind
-/// them (RFC 1035 3.1).
+/// A relative name, uncompressed: labels without the root's, in at most 254 octets, so that the root's fits after them
+/// (RFC 1035 3.1).
 ///
 /// A contract sees it as the list of its labels.
 #[derive(Debug, Drop)]
@@ -57,8 +57,8 @@ impl<Octs: Octets> Model for RelativeName<Octs> {
 }
 
 impl<Octs: Octets> RelativeName<Octs> {
-    /// The relative name that the octets are. Refused where they are none, uncompressed and whole: with `LongName` where
-    /// there are too many of them, and else for what stands behind the labels in front.
+    /// Makes a relative name of its octets. Fails if they are none, uncompressed and whole: with `LongName` if there
+    /// are more than 254 of them, and else with the error of what follows the first labels.
     pub fn from_octets(octets: Octs) -> Result<Self, RelativeNameError>
     where
         Octs: Drop,
@@ -71,7 +71,7 @@ impl<Octs: Octets> RelativeName<Octs> {
         Ok(RelativeName { octets })
     }
 
-    /// The relative name that the octets are, of which this is known.
+    /// Makes a relative name of octets that are known to be one.
     pub(crate) fn of_octets(octets: Octs) -> Self
         requires { IsWritten (Octs.list octets ++ 0 ∷ []) }
         ensures { Octs.list octets ≡ labels_wire result }
@@ -79,14 +79,14 @@ impl<Octs: Octets> RelativeName<Octs> {
         RelativeName { octets }
     }
 
-    /// The octets that hold the name.
+    /// Returns the octets that hold the name.
     pub fn as_octets(&self) -> &Octs
         ensures { Octs.list result.now ≡ labels_wire self.now }
     {
         &self.octets
     }
 
-    /// The octets that hold the name.
+    /// Returns the octets that hold the name.
     pub fn into_octets(self) -> Octs
         ensures octets { Octs.list result ≡ labels_wire self }
         ensures name { IsName self }
@@ -95,7 +95,7 @@ impl<Octs: Octets> RelativeName<Octs> {
         octets
     }
 
-    /// The octets, uncompressed.
+    /// Returns the octets, uncompressed.
     pub fn as_slice(&self) -> &[u8]
         ensures octets { result.now ≡ labels_wire self.now }
         ensures name { IsName self.now }
@@ -103,7 +103,7 @@ impl<Octs: Octets> RelativeName<Octs> {
         self.octets.octets()
     }
 
-    /// The same name over borrowed octets.
+    /// Returns the same name over borrowed octets.
     pub fn for_ref(&self) -> RelativeName<&[u8]>
         ensures { result ≡ self.now }
     {
@@ -112,7 +112,7 @@ impl<Octs: Octets> RelativeName<Octs> {
         }
     }
 
-    /// How many octets the name has.
+    /// Returns the number of octets of the name.
     pub fn len(&self) -> usize
         ensures octets { result ≡ length (labels_wire self.now) }
         ensures name { IsName self.now }
@@ -120,21 +120,21 @@ impl<Octs: Octets> RelativeName<Octs> {
         self.as_slice().len()
     }
 
-    /// Whether there are no labels.
+    /// Returns whether there are no labels.
     pub fn is_empty(&self) -> bool
         ensures { IsTrue result ↔ (self.now ≡ []) }
     {
         self.as_slice().is_empty()
     }
 
-    /// How many labels there are.
+    /// Returns the number of labels.
     pub fn label_count(&self) -> usize
         ensures { result ≡ length self.now }
     {
         self.iter().count()
     }
 
-    /// The labels from the left.
+    /// Returns the labels from the left.
     pub fn iter(&self) -> NameIter<'_>
         ensures labels { result ≡ self.now }
         ensures few { length result ≤ 127 }
@@ -144,8 +144,7 @@ impl<Octs: Octets> RelativeName<Octs> {
 }
 
 impl<'a> RelativeName<&'a [u8]> {
-    /// The relative name that the octets are. Refused where they are none, uncompressed and whole, as `from_octets` has
-    /// it.
+    /// Makes a relative name of its octets. Fails if they are none, uncompressed and whole, as `from_octets` does.
     pub fn from_slice(octets: &'a [u8]) -> Result<Self, RelativeNameError>
         ensures ok { IfOk result (λ name. IsName name × (octets.now ≡ labels_wire name)) }
         ensures err { OnErr result ((name : List (List ℕ)) → IsName name → octets.now ≡ labels_wire name → ⊥) }
@@ -156,7 +155,7 @@ impl<'a> RelativeName<&'a [u8]> {
     }
 }
 
-/// Refuses octets that are no relative name.
+/// Fails if the octets are no relative name.
 pub(crate) fn check(octets: &[u8]) -> Result<(), RelativeNameError>
     ensures ok { OnOk result (IsWritten (octets.now ++ 0 ∷ [])) }
     ensures err { OnErr result ((name : List (List ℕ)) → IsName name → octets.now ≡ labels_wire name → ⊥) }

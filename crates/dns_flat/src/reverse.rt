@@ -15,17 +15,18 @@ use dns_wire::copies::octets_from;
 use std::alloc::Global;
 use std::net::IpAddr;
 
-/// Octets of a reverse name, of which the longest has 74.
+/// Octets of a reverse name. The longest has 74.
 type Wire = ArrayVec<u8, 74>;
 
 impl<Octs: FromBuilder> Name<Octs>
 where
     Octs::Builder: EmptyBuilder + Drop,
 {
-    /// The name under which an address is looked up: its octets from the last in decimal digits and `in-addr.arpa.`
-    /// (RFC 1035 3.5), or its 32 hexadecimal digits from the last, in lower case, and `ip6.arpa.` (RFC 3596 2.5).
+    /// Returns the name under which an address is looked up: its octets from the last in decimal digits and
+    /// `in-addr.arpa.` (RFC 1035 3.5), or its 32 hexadecimal digits from the last, in lower case, and `ip6.arpa.` (RFC
+    /// 3596 2.5).
     ///
-    /// Refused with `ShortBuf` alone, for want of room or memory.
+    /// Its only error is `ShortBuf`, if there is no room or no memory.
     pub fn reverse_from_addr(alloc: Global, addr: IpAddr) -> Result<Self, PushError>
         ensures ok { IfOk result (λ name. name ≡ reverse_name addr) }
         ensures err { IfErr result (λ error. error ≡ ShortBuf) }
@@ -37,7 +38,7 @@ where
     }
 }
 
-/// The labels in front of `arpa`.
+/// Returns the labels before `arpa`.
 fn zone_wire(addr: IpAddr) -> Wire
     ensures labels { result.items ≡ labels_wire (zone_labels addr) }
     ensures each { AllByRecursion IsLabel (zone_labels addr) }
@@ -57,7 +58,7 @@ fn zone_wire(addr: IpAddr) -> Wire
     }
 }
 
-/// The octets from the last, each as a label of its decimal digits.
+/// Returns the octets from the last, each as a label of its decimal digits.
 fn decimal_wire(octets: &[u8]) -> Wire
     requires { length octets.now ≤ 4 }
     ensures labels { result.items ≡ labels_wire (decimal_labels octets.now) }
@@ -72,7 +73,7 @@ fn decimal_wire(octets: &[u8]) -> Wire
     wire
 }
 
-/// The octets from the last, each as two labels of a hexadecimal digit, the low one first.
+/// Returns the octets from the last, each as two labels of a hexadecimal digit, the low one first.
 fn hex_wire(octets: &[u8]) -> Wire
     requires { length octets.now ≤ 16 }
     ensures labels { result.items ≡ labels_wire (hex_labels octets.now) }
@@ -88,7 +89,7 @@ fn hex_wire(octets: &[u8]) -> Wire
     wire
 }
 
-/// Puts a label behind its length.
+/// Appends a label after its length.
 fn put_label(wire: &mut Wire, label: &[u8])
     requires { length wire.old.items + 1 + length label.now ≤ 74 }
     ensures { wire.new.items ≡ wire.old.items ++ label_wire label.now }

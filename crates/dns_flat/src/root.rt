@@ -12,7 +12,8 @@ impl<Octs: FromBuilder> Name<Octs>
 where
     Octs::Builder: EmptyBuilder + Drop,
 {
-    /// The root, in octets of this kind. Refused with `ShortBuf` only where they have no room for its one octet.
+    /// Returns the root, in octets of this kind. Fails with `ShortBuf` only if they have no room for its one octet, and
+    /// with `OutOfMemory` if out of memory.
     pub fn root(alloc: Global) -> Result<Self, AppendError>
         ensures root { IfOk result (λ name. name ≡ []) }
         ensures short { result ≡ Err ShortBuf → IsPast Octs.Builder.limit 1 }
@@ -23,14 +24,14 @@ where
 }
 
 impl Name<&'static [u8]> {
-    /// The root.
+    /// Returns the root.
     pub fn root_ref() -> Self
         ensures { result ≡ [] }
     {
         Name::from_octets_unchecked(&[0])
     }
 
-    /// The root.
+    /// Returns the root.
     pub fn root_slice() -> Self
         ensures { result ≡ [] }
     {
@@ -39,7 +40,7 @@ impl Name<&'static [u8]> {
 }
 
 impl Name<Vec<u8>> {
-    /// The root.
+    /// Returns the root. Fails if out of memory.
     pub fn root_vec(alloc: Global) -> Result<Self, AllocError>
         ensures { IfOk result (λ name. name ≡ []) }
     {

@@ -28,11 +28,11 @@ where
     ghost use Rattle.dns_wire.specs.Text.{IsRefused, IsRefusedBy, SpellName};
     ghost use Rattle.dns_wire.specs.Draft.{IsReadBy};
 
-    /// Reads the name that characters spell, with or without its last dot (RFC 1035 5.1). There is no origin, so `@` is a
-    /// label.
+    /// Reads the name that characters spell, with or without its last dot (RFC 1035 5.1). There is no origin, so `@` is
+    /// a label.
     ///
-    /// Fails with `Presentation` if they spell no name, maybe before it has taken all of them; and with `ShortBuf` if they
-    /// spell one, and there is no memory or no room for it.
+    /// Fails with `Presentation` if they spell no name, maybe before it has taken all of them; and with `ShortBuf` if
+    /// they spell one, and there is no memory or no room for it.
     pub fn from_chars<C: Iterator<Item = char> + Drop>(
         alloc: Global,
         chars: C,
@@ -48,8 +48,8 @@ where
 
     /// Reads the name that symbols spell, as their text does, with or without its last dot.
     ///
-    /// Fails with `Presentation` if they spell no name or one of them is no symbol of a text, maybe before it has taken all of
-    /// them; and with `ShortBuf` if they spell one, and there is no memory or no room for it.
+    /// Fails with `Presentation` if they spell no name or one of them is no symbol of a text, maybe before it has taken
+    /// all of them; and with `ShortBuf` if they spell one, and there is no memory or no room for it.
     pub fn from_symbols<S: Iterator<Item = Symbol> + Drop>(
         alloc: Global,
         mut symbols: S,
@@ -65,8 +65,8 @@ where
 
     /// Reads the name that a text spells, with or without its last dot.
     ///
-    /// Fails with `Presentation` if the text spells no name; and with `ShortBuf` if it spells one, and there is no memory or
-    /// no room for it.
+    /// Fails with `Presentation` if the text spells no name; and with `ShortBuf` if it spells one, and there is no
+    /// memory or no room for it.
     pub fn from_str(alloc: Global, text: &str) -> Result<Self, FromStrError>
         ensures ok { IfOk result (λ name. IsNameText text.now name) }
         ensures err { IfErr result (IsRefused IsNameText text.now) }
@@ -106,8 +106,8 @@ impl Name<Vec<u8>> {
 
     /// Reads the name that octets of text spell with its last dot.
     ///
-    /// Fails with `Presentation` if the text spells no name with its last dot, and with `RelativeName` in it exactly if the
-    /// text only leaves that dot out; and with `ShortBuf` if it spells one, and there is no memory for it.
+    /// Fails with `Presentation` if the text spells no name with its last dot, and with `RelativeName` in it exactly if
+    /// the text only leaves that dot out; and with `ShortBuf` if it spells one, and there is no memory for it.
     pub fn absolute_from_text(alloc: Global, text: &[u8]) -> Result<Self, FromStrError>
         ensures ok { IfOk result (λ name. IsAbsoluteText text.now name) }
         ensures err { IfErr result (IsRefused IsAbsoluteText text.now) }

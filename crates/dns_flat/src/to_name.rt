@@ -26,21 +26,20 @@ pub trait ToName: ToLabelIter {
     /// The labels without the root's.
     ghost name: { Self → List (List ℕ) };
 
-    /// The octets, uncompressed, where they lie so one behind the other, or None.
+    /// Returns the octets, uncompressed, if they are flat in memory already, or `None`.
     fn as_flat_slice(&self) -> Option<&[u8]>
         ensures octets { IfSome result (λ octets. octets.now ≡ wire (name self.now)) }
         ensures name { IsName (name self.now) };
 
-    /// The name, flat in octets of its own.
+    /// Copies the name to a vector. Fails if out of memory.
     fn to_vec(&self, alloc: Global) -> Result<Name<Vec<u8>>, AllocError>
         ensures { IfOk result (λ flat. flat ≡ name self.now) };
 
     ghost is_absolute: { (x : Self) → Self.labels x ≡ with_root (name x) };
 
-    /// The name, flat in octets of this kind.
+    /// Copies the name to octets of this kind.
     ///
-    /// Refused with `ShortBuf` only where these can't hold as many octets, and with `OutOfMemory` where memory was
-    /// wanting.
+    /// Fails with `ShortBuf` only if these can't hold as many octets, and with `OutOfMemory` if out of memory.
     final fn try_to_name<Octs: FromBuilder>(&self, alloc: Global) -> Result<Name<Octs>, AppendError>
     where
         Octs::Builder: EmptyBuilder + Drop,
@@ -51,7 +50,7 @@ pub trait ToName: ToLabelIter {
         copied_name(alloc, wire_of(self).as_slice())
     }
 
-    /// The name, flat in octets of this kind, as `try_to_name` gives it.
+    /// Copies the name to octets of this kind, as `try_to_name` does.
     final fn to_name<Octs: FromBuilder>(&self, alloc: Global) -> Result<Name<Octs>, AppendError>
     where
         Octs::Builder: EmptyBuilder + Drop,
@@ -62,10 +61,9 @@ pub trait ToName: ToLabelIter {
         self.try_to_name(alloc)
     }
 
-    /// The name in lower case (RFC 4034 6.2), flat in octets of this kind.
+    /// Copies the name in lower case (RFC 4034 6.2) to octets of this kind.
     ///
-    /// Refused with `ShortBuf` only where these can't hold as many octets, and with `OutOfMemory` where memory was
-    /// wanting.
+    /// Fails with `ShortBuf` only if these can't hold as many octets, and with `OutOfMemory` if out of memory.
     final fn try_to_canonical_name<Octs: FromBuilder>(
         &self,
         alloc: Global,
@@ -79,7 +77,7 @@ pub trait ToName: ToLabelIter {
         copied_name(alloc, lowered_wire_of(self).as_slice())
     }
 
-    /// The name in lower case, flat in octets of this kind, as `try_to_canonical_name` gives it.
+    /// Copies the name in lower case to octets of this kind, as `try_to_canonical_name` does.
     final fn to_canonical_name<Octs: FromBuilder>(
         &self,
         alloc: Global,
@@ -93,7 +91,8 @@ pub trait ToName: ToLabelIter {
         self.try_to_canonical_name(alloc)
     }
 
-    /// Appends the octets, uncompressed: all or none.
+    /// Appends the octets, uncompressed: all or none. Fails with `ShortBuf` only if the target is too full, and with
+    /// `OutOfMemory` if out of memory.
     final fn compose<Target: OctetsBuilder>(&self, target: &mut Target) -> Result<(), AppendError>
         ensures ok { OnOk result (Target.list target.new ≡ Target.list target.old ++ wire (name self.now)) }
         ensures err { OnErr result (Target.list target.new ≡ Target.list target.old) }
@@ -108,7 +107,8 @@ pub trait ToName: ToLabelIter {
         target.append_slice(wire_of(self).as_slice())
     }
 
-    /// Appends the octets in lower case, uncompressed (RFC 4034 6.2): all or none.
+    /// Appends the octets in lower case, uncompressed (RFC 4034 6.2): all or none. Fails with `ShortBuf` only if the
+    /// target is too full, and with `OutOfMemory` if out of memory.
     final fn compose_canonical<Target: OctetsBuilder>(
         &self,
         target: &mut Target,
@@ -126,7 +126,8 @@ pub trait ToName: ToLabelIter {
         target.append_slice(lowered_wire_of(self).as_slice())
     }
 
-    /// Whether two names are the same up to ASCII case (RFC 4343): whether their octets in lower case are.
+    /// Returns whether two names are the same up to ASCII case (RFC 4343), that is, whether their octets in lower case
+    /// are equal.
     final fn name_eq<N: ToName>(&self, other: &N) -> bool
         ensures labels { IsTrue result ↔ (low (name self.now) ≡ low (N.name other.now)) }
         ensures wire { IsTrue result ↔ (map to_ascii_lowercase (wire (name self.now)) ≡ map to_ascii_lowercase (wire (N.name other.now))) }
@@ -137,22 +138,22 @@ pub trait ToName: ToLabelIter {
         }
     }
 
-    /// The canonical order of names (RFC 4034 6.1): by their labels in lower case from the right, where a missing label
-    /// comes first.
+    /// Compares two names in the canonical order (RFC 4034 6.1): by their labels in lower case from the right, where a
+    /// missing label comes first.
     final fn name_cmp<N: ToName>(&self, other: &N) -> Ordering
         ensures { result ≡ labels_order (name self.now) (N.name other.now) }
     {
         cmp_labels(self, other)
     }
 
-    /// The order of the octets, uncompressed.
+    /// Compares the octets, uncompressed.
     final fn composed_cmp<N: ToName>(&self, other: &N) -> Ordering
         ensures { result ≡ slice_cmp nat_cmp (wire (name self.now)) (wire (N.name other.now)) }
     {
         wire_of(self).as_slice().cmp(wire_of(other).as_slice())
     }
 
-    /// The order of the octets in lower case, uncompressed.
+    /// Compares the octets in lower case, uncompressed.
     final fn lowercase_composed_cmp<N: ToName>(&self, other: &N) -> Ordering
         ensures { result ≡ slice_cmp nat_cmp (wire (low (name self.now))) (wire (low (N.name other.now))) }
     {
@@ -168,7 +169,7 @@ pub trait ToName: ToLabelIter {
         state.write(lowered_wire_of(self).as_slice());
     }
 
-    /// The name over its own octets where these lie flat, and else flat in a vector.
+    /// Returns the name over its own octets if these are flat, and else flat in a vector. Fails if out of memory.
     final fn to_cow(&self, alloc: Global) -> Result<Name<CowSlice<'_, u8>>, AllocError>
         ensures { IfOk result (λ flat. flat ≡ name self.now) }
     {
@@ -180,14 +181,15 @@ pub trait ToName: ToLabelIter {
         }
     }
 
-    /// What shows the name with a dot behind each label, and the root as a dot (RFC 1035 5.1).
+    /// Returns what shows the name with a dot after each label, and the root as a dot (RFC 1035 5.1).
     final fn fmt_with_dot(&self) -> DisplayWithDot<'_, Self>
         ensures { result ≡ name self.now }
     {
         DisplayWithDot::of(self)
     }
 
-    /// How many labels a signature counts: all but the root's and a first one that is the asterisk (RFC 4034 3.1.3).
+    /// Returns the number of labels that a signature counts: all but the root's and a first one that is the asterisk
+    /// (RFC 4034 3.1.3).
     final fn rrsig_label_count(&self) -> u8
         ensures { result ≡ rrsig_count (name self.now) }
     {

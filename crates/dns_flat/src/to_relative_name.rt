@@ -20,22 +20,21 @@ use std::cmp::Ordering;
 
 /// A relative name, whatever holds it.
 pub trait ToRelativeName: ToLabelIter {
-    /// The octets, uncompressed, where they lie so one behind the other, or None.
+    /// Returns the octets, uncompressed, if they are flat in memory already, or `None`.
     fn as_flat_slice(&self) -> Option<&[u8]>
         ensures octets { IfSome result (λ octets. octets.now ≡ labels_wire (Self.labels self.now)) }
         ensures name { IsName (Self.labels self.now) };
 
-    /// Whether there are no labels.
+    /// Returns whether there are no labels.
     final fn is_empty(&self) -> bool
         ensures { IsTrue result ↔ (Self.labels self.now ≡ []) }
     {
         count_labels(self) == 0
     }
 
-    /// The name, flat in octets of this kind.
+    /// Copies the name to octets of this kind.
     ///
-    /// Refused with `ShortBuf` only where these can't hold as many octets, and with `OutOfMemory` where memory was
-    /// wanting.
+    /// Fails with `ShortBuf` only if these can't hold as many octets, and with `OutOfMemory` if out of memory.
     final fn try_to_relative_name<Octs: FromBuilder>(
         &self,
         alloc: Global,
@@ -49,7 +48,7 @@ pub trait ToRelativeName: ToLabelIter {
         copied_relative(alloc, labels_of(self).as_slice())
     }
 
-    /// The name, flat in octets of this kind, as `try_to_relative_name` gives it.
+    /// Copies the name to octets of this kind, as `try_to_relative_name` does.
     final fn to_relative_name<Octs: FromBuilder>(
         &self,
         alloc: Global,
@@ -63,10 +62,9 @@ pub trait ToRelativeName: ToLabelIter {
         self.try_to_relative_name(alloc)
     }
 
-    /// The name in lower case (RFC 4034 6.2), flat in octets of this kind.
+    /// Copies the name in lower case (RFC 4034 6.2) to octets of this kind.
     ///
-    /// Refused with `ShortBuf` only where these can't hold as many octets, and with `OutOfMemory` where memory was
-    /// wanting.
+    /// Fails with `ShortBuf` only if these can't hold as many octets, and with `OutOfMemory` if out of memory.
     final fn try_to_canonical_relative_name<Octs: FromBuilder>(
         &self,
         alloc: Global,
@@ -80,7 +78,7 @@ pub trait ToRelativeName: ToLabelIter {
         copied_relative(alloc, lowered_labels_of(self).as_slice())
     }
 
-    /// The name in lower case, flat in octets of this kind, as `try_to_canonical_relative_name` gives it.
+    /// Copies the name in lower case to octets of this kind, as `try_to_canonical_relative_name` does.
     final fn to_canonical_relative_name<Octs: FromBuilder>(
         &self,
         alloc: Global,
@@ -94,7 +92,8 @@ pub trait ToRelativeName: ToLabelIter {
         self.try_to_canonical_relative_name(alloc)
     }
 
-    /// Appends the octets, uncompressed: all or none.
+    /// Appends the octets, uncompressed: all or none. Fails with `ShortBuf` only if the target is too full, and with
+    /// `OutOfMemory` if out of memory.
     final fn compose<Target: OctetsBuilder>(&self, target: &mut Target) -> Result<(), AppendError>
         ensures ok { OnOk result (Target.list target.new ≡ Target.list target.old ++ labels_wire (Self.labels self.now)) }
         ensures err { OnErr result (Target.list target.new ≡ Target.list target.old) }
@@ -109,7 +108,8 @@ pub trait ToRelativeName: ToLabelIter {
         target.append_slice(labels_of(self).as_slice())
     }
 
-    /// Appends the octets in lower case, uncompressed (RFC 4034 6.2): all or none.
+    /// Appends the octets in lower case, uncompressed (RFC 4034 6.2): all or none. Fails with `ShortBuf` only if the
+    /// target is too full, and with `OutOfMemory` if out of memory.
     final fn compose_canonical<Target: OctetsBuilder>(
         &self,
         target: &mut Target,
@@ -127,21 +127,21 @@ pub trait ToRelativeName: ToLabelIter {
         target.append_slice(lowered_labels_of(self).as_slice())
     }
 
-    /// Whether two names are the same up to ASCII case (RFC 4343).
+    /// Returns whether two names are the same up to ASCII case (RFC 4343).
     final fn name_eq<N: ToRelativeName>(&self, other: &N) -> bool
         ensures { IsTrue result ↔ (low (Self.labels self.now) ≡ low (N.labels other.now)) }
     {
         same_labels(self.iter_labels(), other.iter_labels())
     }
 
-    /// The order of the labels in lower case from the right, where a missing label comes first.
+    /// Compares two names by their labels in lower case from the right, where a missing label comes first.
     final fn name_cmp<N: ToRelativeName>(&self, other: &N) -> Ordering
         ensures { result ≡ labels_order (Self.labels self.now) (N.labels other.now) }
     {
         cmp_labels(self, other)
     }
 
-    /// The name, flat in octets of its own.
+    /// Copies the name to a vector. Fails if out of memory.
     final fn to_vec(&self, alloc: Global) -> Result<RelativeName<Vec<u8>>, AllocError>
         ensures { IfOk result (λ flat. flat ≡ Self.labels self.now) }
     {
@@ -149,7 +149,7 @@ pub trait ToRelativeName: ToLabelIter {
         Ok(RelativeName::of_octets(octets))
     }
 
-    /// The name over its own octets where these lie flat, and else flat in a vector.
+    /// Returns the name over its own octets if these are flat, and else flat in a vector. Fails if out of memory.
     final fn to_cow(&self, alloc: Global) -> Result<RelativeName<CowSlice<'_, u8>>, AllocError>
         ensures { IfOk result (λ flat. flat ≡ Self.labels self.now) }
     {
@@ -162,8 +162,7 @@ pub trait ToRelativeName: ToLabelIter {
         }
     }
 
-    /// The labels and behind them those of the other name. Refused where there are more than 254 octets in front of any
-    /// root.
+    /// Chains the name and another one. Fails if they have more than 254 octets before any root.
     final fn chain<N: ToLabelIter + Drop>(self, other: N) -> Result<Chain<Self, N>, LongChainError>
     where
         Self: Sized + Drop,
@@ -173,7 +172,7 @@ pub trait ToRelativeName: ToLabelIter {
         Chain::new(self, other)
     }
 
-    /// The labels and behind them the root's.
+    /// Chains the name and the root.
     final fn chain_root(self) -> Chain<Self, Name<&'static [u8]>>
     where
         Self: Sized + Drop,

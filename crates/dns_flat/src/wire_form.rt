@@ -1,4 +1,4 @@
-//! The octets of names of any kind, one label behind the other.
+//! The octets of names of any kind, one label after another.
 ghost use Rattle.std.specs.Prelude.{◌≡◌, length, map};
 ghost use Rattle.std.specs.Char.{to_ascii_lowercase};
 ghost use Rattle.dns_label.specs.Name.{IsName, labels_wire, wire, low};
@@ -8,7 +8,7 @@ use crate::{ToName, ToRelativeName};
 use arrayvec::ArrayVec;
 use dns_wire::ToLabelIter;
 
-/// The octets of an absolute name: lent where they lie so already, and else written out.
+/// The octets of an absolute name: borrowed if they are flat in memory already, and else written out.
 #[derive(Drop)]
 pub enum FlatWire<'a> {
     Lent(&'a [u8]),
@@ -16,7 +16,7 @@ pub enum FlatWire<'a> {
 }
 
 impl FlatWire<'_> {
-    /// The octets.
+    /// Returns the octets.
     pub fn as_slice(&self) -> &[u8]
         ensures { result.now ≡ octets_in self.now }
     {
@@ -27,7 +27,7 @@ impl FlatWire<'_> {
     }
 }
 
-/// The octets of the name.
+/// Returns the octets of the name.
 pub fn wire_of<N: ToName>(name: &N) -> FlatWire<'_>
     ensures octets { octets_in result ≡ wire (N.name name.now) }
     ensures name { IsName (N.name name.now) }
@@ -38,7 +38,7 @@ pub fn wire_of<N: ToName>(name: &N) -> FlatWire<'_>
     }
 }
 
-/// The octets of the name in lower case.
+/// Returns the octets of the name in lower case.
 pub fn lowered_wire_of<N: ToName>(name: &N) -> ArrayVec<u8, 255>
     ensures octets { result.items ≡ wire (low (N.name name.now)) }
     ensures name { IsName (low (N.name name.now)) }
@@ -50,7 +50,7 @@ pub fn lowered_wire_of<N: ToName>(name: &N) -> ArrayVec<u8, 255>
     octets
 }
 
-/// The octets of the labels, each behind its length.
+/// Returns the octets of the labels, each after its length.
 pub fn flat_octets<N: ToLabelIter>(name: &N) -> ArrayVec<u8, 255>
     ensures { result.items ≡ labels_wire (N.labels name.now) }
 {
@@ -64,7 +64,7 @@ pub fn flat_octets<N: ToLabelIter>(name: &N) -> ArrayVec<u8, 255>
     octets
 }
 
-/// The octets of the relative name.
+/// Returns the octets of the relative name.
 pub fn labels_of<N: ToRelativeName>(name: &N) -> FlatWire<'_>
     ensures octets { octets_in result ≡ labels_wire (N.labels name.now) }
     ensures name { IsName (N.labels name.now) }
@@ -75,7 +75,7 @@ pub fn labels_of<N: ToRelativeName>(name: &N) -> FlatWire<'_>
     }
 }
 
-/// The octets of the relative name in lower case.
+/// Returns the octets of the relative name in lower case.
 pub fn lowered_labels_of<N: ToRelativeName>(name: &N) -> ArrayVec<u8, 255>
     ensures octets { result.items ≡ labels_wire (low (N.labels name.now)) }
     ensures name { IsName (low (N.labels name.now)) }

@@ -7,7 +7,7 @@ use Rattle.dns_label.specs.Name.{wire, labels_wire, with_root}
 use Rattle.dns_wire.proofs.Wire.{labels_wire-with_root}
 use Rattle.dns_name.proofs.Growth.{GrowsTo-trans, IsPast-more}
 
--- of all labels these are left, and nothing but the others stands behind what was there
+-- these of all labels are left, and only the others follow what was there
 pub record Appends (old now : List ℕ) (old_known known : Known) (all left : List (List ℕ)) (old_bound bound : Option ℕ) : Type 0 where
   pub written : now ++ labels_wire left ≡ old ++ labels_wire all
   pub same_known : known ≡ old_known
@@ -42,7 +42,7 @@ appends_more {now = now} {rest = rest} {old_bound = old_bound} {bound = bound} l
   fits = inr (within_same bound old_bound _ is.same_bound within);
 }
 
--- where the next label is past the bound, so is the whole
+-- if the next label is past the bound, so is the whole
 pub appends_past : {old now : List ℕ} {old_known known : Known} {left rest : List (List ℕ)} {old_bound bound : Option ℕ}
     (name : List (List ℕ)) (label : List ℕ) → Appends old now old_known known (with_root name) left old_bound bound → left ≡ label ∷ rest
     → IsPast bound (length (now ++ length label ∷ label)) → IsPast old_bound (length (old ++ wire name))

@@ -52,7 +52,7 @@ other_form s one name other =
     true_false (is_same s one (wire name))
     (same_from s one (wire name) (sym (same_is s (remembered_form s name) one same) ∙ folded-form s name)) other)
 
--- a cut
+-- after a cut
 pub AreDistinct-before : (s : Spelling) (len : ℕ) (known : Known) → AreDistinct s known → AreDistinct s (before len known)
 AreDistinct-before s len [] distinct = tt
 AreDistinct-before s len (standing ∷ known) distinct =
@@ -67,7 +67,7 @@ AreDistinct-before s len (standing ∷ known) distinct =
         rw is (none, on)
     by_test s len standing known false is distinct on = rw is on
 
--- more suffixes, none of which is there
+-- with more suffixes, all of them new
 pub AreDistinct-append : (s : Spelling) (known more : Known) → AreDistinct s known → AreDistinct s more
     → ((standing : Standing) → IsKnown standing known → place_in s more standing.suffix ≡ None) → AreDistinct s (known ++ more)
 AreDistinct-append s [] more distinct on new = on
@@ -117,7 +117,7 @@ near_by : (s : Spelling) (known added : Known) (near : Bool) → AreDistinct s k
 near_by s known added true distinct on new = AreDistinct-append s known added distinct on new
 near_by s known added false distinct on new = AreDistinct-append s known [] distinct tt (λ standing there. refl)
 
--- a name
+-- after a name
 pub AreDistinct-name : (s : Spelling) (known : Known) (place stop : ℕ) (labels suffix : List (List ℕ)) → AreAbsent s known labels suffix
     → AreDistinct s known → AreDistinct s (known ++ if_near (standings s place stop labels suffix))
 AreDistinct-name s known place stop labels suffix absent distinct =

@@ -57,7 +57,7 @@ folded-form s (label ∷ parent) =
     ∙ sym (folded-append s label (wire parent)))
     ∙ sym (folded-append s (length label ∷ []) (label ++ wire parent))
 
--- where nothing is folded, a suffix is remembered by its own octets
+-- if nothing is folded, a suffix is remembered by its own octets
 pub form-exact : (s : Spelling) (name : List (List ℕ)) → s.folds ≡ false → remembered_form s name ≡ wire name
 form-exact s [] exact = refl
 form-exact s (label ∷ parent) exact =

@@ -10,7 +10,7 @@ use Rattle.dns_name.specs.Remembered.{IsKnown}
 use Rattle.dns_name.proofs.Known.{before-append, before_all, before_none, each_known, all_known}
 use Rattle.dns_name.proofs.Spelled.{StopsBefore, IsAdded, added_of, added_each, if_near-known}
 
--- a name makes the octets grow, and remembers only suffixes that stand in what is new
+-- a name makes the octets grow, and remembers only suffixes in what is new
 pub GrowsTo-name : (s : Spelling) (octets : List ℕ) (known : Known) (name : List (List ℕ)) → IsName name → StopsBefore (length octets) known
     → GrowsTo octets known (octets ++ name_text s known (length octets) name) (known_after s known (length octets) name)
 unfolding known_after name_text

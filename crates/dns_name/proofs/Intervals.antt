@@ -11,7 +11,7 @@ use Rattle.dns_wire.specs.Order.{labels_order}
 use Rattle.dns_wire.specs.Suffix.{EndsWith}
 use Rattle.dns_wire.proofs.Orders.{cmp_seam}
 
--- what is neither greater than the one nor less than the other agrees with both
+-- what is between two equal ones is equal to them, and the rest is between the rests
 level : (o p s t : Ordering) → o ≡ ordering_reverse p → is_gt (ordering_then o s) ≡ false → is_gt (ordering_then p t) ≡ false
     → (o ≡ Equal) × (is_gt s ≡ false) × (is_gt t ≡ false)
 level Equal Equal s t same lo hi = (refl, lo, hi)
@@ -71,7 +71,7 @@ apex_least apex name ends =
     ∙ ap (λ o. ordering_then o (slice_cmp (slice_cmp nat_cmp) [] rest)) (order_self front) in
     ap is_gt whole ∙ none_before rest
 
--- the order answers Equal for names that are the same up to ASCII case, and for no others
+-- the order is `Equal` for names that are the same up to ASCII case, and for no others
 pub order_equal : (name other : List (List ℕ)) → low name ≡ low other → labels_order name other ≡ Equal
 order_equal name other same =
     ap (λ l. slice_cmp (slice_cmp nat_cmp) (reverse l) (reverse (low other))) same ∙ order_self (reverse (low other))

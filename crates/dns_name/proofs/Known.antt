@@ -30,7 +30,7 @@ known-append_cases (other ∷ known) more (later is) = later_case (known-append_
     later_case (inl is) = inl (later is)
     later_case (inr is) = inr is
 
--- what holds of all holds of each
+-- what holds for all holds for each
 pub each_known : (P : Standing → Type 0) (known : Known) → All P known → (standing : Standing) → IsKnown standing known → P standing
 each_known P [] all standing is = elim is [ ]
 each_known P (other ∷ known) all standing first = All-head P other known all
@@ -64,7 +64,7 @@ found_in s [] suffix place found = absurd (let e : None ≡ Some place = found i
 found_in s (other ∷ known) suffix place found =
     found_by s known suffix place other (is_same s other.suffix suffix) refl (found_in s known suffix place) found
 
--- what is still remembered of octets that are cut to a length
+-- what is still remembered in octets that are cut to a length
 before_by : (len : ℕ) (other : Standing) (known : Known) (test : Bool) → nat_le other.stop len ≡ test
     → (standing : Standing) → (IsKnown standing (before len known) → IsKnown standing known × (standing.stop ≤ len))
     → IsKnown standing (before len (other ∷ known)) → IsKnown standing (other ∷ known) × (standing.stop ≤ len)
@@ -125,14 +125,14 @@ before_all len [] within = refl
 before_all len (other ∷ known) within =
     rw (le-leb other.stop len (within other first)) (ap (λ (l : Known). other ∷ l) (before_all len known (λ standing is. within standing (later is))))
 
--- and those that stop behind it go
+-- and those that stop after it go
 pub before_none : (len : ℕ) (known : Known) → ((standing : Standing) → IsKnown standing known → len < standing.stop)
     → before len known ≡ []
 before_none len [] behind = refl
 before_none len (other ∷ known) behind =
     rw (lt-leb other.stop len (behind other first)) (before_none len known (λ standing is. behind standing (later is)))
 
--- each stands in front of the range or behind it
+-- each is before the range or after it
 pub free_cases : (begin end : ℕ) (known : Known) → is_free begin end known ≡ true → (standing : Standing) → IsKnown standing known
     → (standing.stop ≤ begin) ⊎ (end ≤ standing.place)
 free_cases begin end [] free standing is = elim is [ ]

@@ -16,7 +16,7 @@ one_parts {parts = parts} {others = others} has other =
     let P : List ℕ → Type 0 = λ t. HasParts t others in
     sym (parts_one has.symbols has.each others (subst P has.written other) ∙ has.between)
 
--- the text that is a dot, and no text
+-- the text that is a dot, and the empty text
 dot_parts : {text : List ℕ} → text ≡ 46 ∷ [] → HasParts text ([] ∷ [] ∷ [])
 dot_parts is = record { symbols = Char 46 ∷ []; each = (((omega arith, omega arith), λ same. omega arith), tt); written = is; between = refl }
 
@@ -52,7 +52,7 @@ one_name (absolute is) (relative are is_other) = absurd (last_dot_apart is are)
 one_name (relative is is_name) (absolute are) = absurd (last_dot_apart are is)
 one_name (relative is is_name) (relative are is_other) = one_parts is.parts are.parts
 
--- a relative name, of no text too
+-- a relative name, of the empty text too
 no_text_apart : {text : List ℕ} {name : List (List ℕ)} → text ≡ [] → IsRelativeText text name → ⊥
 no_text_apart {name = name} none is = empty_first name is.each (one_parts is.parts (no_parts none))
 

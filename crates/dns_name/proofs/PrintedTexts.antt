@@ -16,7 +16,7 @@ use Rattle.dns_wire.proofs.Parts.{joined, joined_none, some_part, each_append}
 use Rattle.dns_flat.proofs.PrintedNames.{dotted-relative}
 use Rattle.dns_name.proofs.PrintedSymbols.{StandsFor, printed_stands}
 
--- the symbols of a label, and those of labels behind dots
+-- the symbols of a label, and those of labels after dots
 abbrev label_symbols : List ℕ → List Symbol
 label_symbols label = map printed_symbol label
 
@@ -55,7 +55,7 @@ octet_parts : (c : ℕ) (symbol : Symbol) (label : List ℕ) (symbols : List Sym
 octet_parts c symbol label symbols parts stands are =
     rw (stands.plain, are) (ap (λ (n : ℕ). onto n (joined label parts)) stands.same ∙ onto_joined c label parts)
 
--- the octets stand in front of the first part of what follows
+-- the octets come before the first part of what follows
 label_parts : (label : List ℕ) (more : List Symbol) → AreOctets label → parts_of (label_symbols label ++ more) ≡ joined label (parts_of more)
 label_parts [] more octets = sym (joined_none (parts_of more) (some_part more))
 label_parts (c ∷ label) more octets =

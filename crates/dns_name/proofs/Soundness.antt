@@ -1,4 +1,4 @@
--- What is remembered stays true of the octets: behind an append, a name, a cut and a patch.
+-- What is remembered stays true of the octets: after an append, a name, a cut and a patch.
 use Rattle.std.proofs.Common.{◌≡◌, ◌≤◌, ◌<◌, ◌+◌, ◌-◌, ℕ, ◌⊎◌, true, Option, Some, None, List, [], ◌++◌, length, take, drop, sym, ◌∙◌, ap, arith, inl, inr, length-append, append_assoc, length-take, length-drop}
 use Rattle.std.specs.Coded.{le_prop}
 use Rattle.std.proofs.lemmas.List.{append-nil, drop-append-le}
@@ -51,7 +51,7 @@ labelled-kept {place = place} kept is = record {
       (omega (arith, ap (length {A = ℕ}) is.text_is, length-append is.written is.behind))) is.spelled;
 }
 
--- more octets behind
+-- more octets follow
 pub text-append : {octets : List ℕ} {place : ℕ} {text : List ℕ} (tail : List ℕ) → HasText octets place text → HasText (octets ++ tail) place text
 text-append tail there = record {
   front = there.front;
@@ -79,7 +79,7 @@ IsSound-append tail sound = record {
       };
 }
 
--- the octets cut behind the text
+-- the octets are cut after the text
 pub text-take : {octets : List ℕ} {place : ℕ} {text : List ℕ} (len : ℕ) → place + length text ≤ len → HasText octets place text
     → HasText (take len octets) place text
 text-take {text = text} len within there =
@@ -99,7 +99,7 @@ within-less : (most : Option ℕ) (less more : ℕ) → less ≤ more → IsWith
 within-less None less more below within = tt
 within-less (Some most) less more below within = omega arith
 
--- the octets are cut, and what stands behind is forgotten
+-- the octets are cut, and what is after the cut is forgotten
 pub IsSound-before : {s : Spelling} {known : Known} {octets : List ℕ} (len : ℕ) → IsSound s known octets
     → IsSound s (before len known) (take len octets)
 IsSound-before {s} {known} len sound = record {

@@ -86,7 +86,7 @@ spelled_split s known place (text ∷ labels) suffix before =
     subst (λ l. SpellsName s known place l (text ∷ labels ++ suffix)) (sym (label_before text (labels_wire labels) (suffix_text s known suffix)))
     (label text text (same_from s text text refl) on)
 
--- where a suffix that is newly remembered stands in the text of its name
+-- the place of a newly remembered suffix in the text of its name
 pub record IsAdded (s : Spelling) (known : Known) (place : ℕ) (text : List ℕ) (stop : ℕ) (standing : Standing) : Type 0 where
   pub name : List (List ℕ)
   pub is_name : IsName name
@@ -163,7 +163,7 @@ standings_each s known place stop (text ∷ labels) suffix is_name before standi
     (spelled_split s known (place + 1 + length text) labels suffix on)
     (standings_each s known (place + 1 + length text) stop labels suffix (parent_name text (labels ++ suffix) is_name) on standing) is)
 
--- of a name no more suffixes are remembered than may be
+-- no more suffixes of a name are remembered than may be
 
 room_within : (most : Option ℕ) (count : ℕ) → has_room most count ≡ true → IsWithin most (count + 1)
 room_within None count room = tt
@@ -283,7 +283,7 @@ length-if_near added = by_test added (list_all (λ other. is_near other.place) a
     by_test added true = omega arith
     by_test added false = omega arith
 
--- the same of a target that writes each name in full
+-- the same for a target that writes each name in full
 pub plain_text : (place : ℕ) (name : List (List ℕ)) → name_text plain [] place name ≡ wire name
 plain_text place name = name_text-none plain place name refl
 

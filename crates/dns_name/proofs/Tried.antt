@@ -8,7 +8,7 @@ use Rattle.dns_name.specs.Page.Parts.{End, Named, Octets, Counted}
 abbrev pub empty : Page
 empty = record { octets = []; known = [] }
 
--- `aa.`, `ab.` and so on, so many
+-- `aa.`, `ab.` and so on, that number of them
 abbrev pub two_letters : ℕ → ℕ → List (List (List ℕ))
 two_letters zero letter = []
 two_letters (suc more) letter = ((97 ∷ letter ∷ []) ∷ []) ∷ two_letters more (letter + 1)
@@ -50,7 +50,7 @@ pub cut_back_is : (cut_back static_spelling ≡ 1 ∷ 97 ∷ 1 ∷ 1 ∷ 98 ∷ 
 unfolding split_from name_text known_after
 cut_back_is = (refl, refl, refl)
 
--- `a.b.` twice behind 16,382 octets: the place of `b.` is too far for a pointer
+-- `a.b.` twice after 16,382 octets: the place of `b.` is too far for a pointer
 abbrev pub again : Spelling → List ℕ
 again s =
     let name : List (List ℕ) = (97 ∷ []) ∷ (98 ∷ []) ∷ [] in
@@ -88,7 +88,7 @@ pub folded_known : ((folded static_spelling).known ≡ record { suffix = 1 ∷ 9
 unfolding split_from name_text known_after
 folded_known = (refl, refl, refl)
 
--- data of two octets and a name after its length, which counts a pointer where one is written
+-- data of two octets and a name after its length, which counts a pointer if one is written
 abbrev pub counted : Spelling → List ℕ
 counted s =
     (write s empty (Named ((97 ∷ []) ∷ []) (Counted (Octets (0 ∷ 10 ∷ []) (Named ((97 ∷ []) ∷ []) End)) (Octets (7 ∷ []) End)))).octets

@@ -1,4 +1,4 @@
--- Names that stand in their wire form in a message, and names with pointers.
+-- Names in their wire form in a message, and names with pointers.
 use Rattle.std.proofs.Common.{◌≡◌, ℕ, ◌+◌, ◌≤◌, suc, List, [], ◌∷◌, ◌++◌, length, take, drop, length-append, refl, sym, ◌∙◌, ap, subst, arith}
 use Rattle.dns_label.proofs.Spelling.{drop_behind}
 use Rattle.dns_label.specs.Name.{IsName, wire}
@@ -31,7 +31,7 @@ begins-behind text rest parent here =
     let both : text ++ take (length (wire parent)) rest ≡ text ++ wire parent = cc in
     (same_front text text (take (length (wire parent)) rest) (wire parent) both refl).1
 
--- what is behind the label in front
+-- what follows the first label
 pub behind_label : (message text rest : List ℕ) (place next : ℕ) → StartsWithLabel (drop place message) text rest
     → next ≡ place + 1 + length text → drop next message ≡ rest
 behind_label message text rest place next at is =
@@ -72,7 +72,7 @@ begins_low first rest [] is_name here = let e : first ≡ 0 = cc in omega arith
 begins_low first rest (text ∷ name) is_name here =
     let e : first ≡ length text = cc in omega (arith, is_name.labels.0.short)
 
--- a name in whose place a pointer stands is not written out
+-- a name that begins with a pointer is not written out
 pub pointer-written : (message : List ℕ) (place target : ℕ) → ∥ IsReadAt message place ∥₁
     → StartsWithPointer (drop place message) target → IsWrittenAt message place → ⊥
 pointer-written message place target there at here =

@@ -1,4 +1,4 @@
--- What is written one part after another, and behind a length.
+-- What is written one part after another, and after a length.
 use Rattle.std.proofs.Common.{◌≡◌, ◌≤◌, ◌<◌, ◌+◌, ◌-◌, ℕ, Bool, true, false, List, [], ◌∷◌, ◌++◌, length, take, drop, refl, sym, ◌∙◌, ap, subst, arith, inl, inr, length-append, length-take, length-drop, append_assoc, ◌⊎◌}
 use Rattle.std.specs.Int.{to_be_bytes, w16}
 use Rattle.std.proofs.Math.Seq.{take-append-add, drop-append-add}
@@ -47,13 +47,13 @@ write-long s page (Counted inner parts) =
       length-patched counted.octets place (to_be_bytes w16 (length counted.octets - (place + 2))) (omega (arith, length-append page.octets (0 ∷ 0 ∷ []))),
     )
 
--- data behind its length
+-- data after its length
 pub write-counted : (s : Spelling) (page : Page) (inner : Parts)
     → write s page (Counted inner End) ≡ with_count (length page.octets) (write s (with_octets page (0 ∷ 0 ∷ [])) inner)
 unfolding write
 write-counted s page inner = refl
 
--- a length that is patched counts for as much as before
+-- a patched length has as many octets as before
 pub length-counted : (s : Spelling) (page : Page) (inner : Parts)
     → length (write s page (Counted inner End)).octets ≡ length (write s (with_octets page (0 ∷ 0 ∷ [])) inner).octets
 length-counted s page inner =
@@ -101,7 +101,7 @@ GrowsTo-patch {old} {new} {known} {more} place over grown behind within = record
     Among : ℕ → Type 0
     Among n = (k : ℕ) (d : Standing) → k < length grown.added → StandsBetween (length old) n (slice_index_or grown.added k d)
 
--- the same, of octets that have grown
+-- the same for octets that have grown
 pub GrowsTo-is : {old new : List ℕ} {known more : Known} (last : List ℕ) (latest : Known) → GrowsTo old known new more → last ≡ new → latest ≡ more
     → GrowsTo old known last latest
 GrowsTo-is {old} {new} {known} {more} last latest grown same known_same =
@@ -123,7 +123,7 @@ pub octets_composed : (compress : Bool) (octets : List ℕ) (len : ℕ) → len 
 unfolding write
 octets_composed compress octets len is = record { composed = λ s page plain. omega (arith, length-append page.octets octets) }
 
--- octets alone have a length that can be told
+-- the length of octets alone is always known
 pub octets_told : (compress : Bool) (octets : List ℕ) (len : ℕ) → length octets ≤ 65535 → IsNone (Some len) ↔ IsUntold compress (Octets octets End)
 unfolding write
 octets_told compress octets len short = (
@@ -134,7 +134,7 @@ octets_told compress octets len short = (
   ])),
 )
 
--- a length that there is on every page is that of the parts in full
+-- the length that parts have on every page is that of the parts in full
 pub composed_in_full : {compress : Bool} {parts : Parts} {len : ℕ} → IsComposedLength compress parts len
     → length (write plain (page_of [] []) parts).octets ≡ len
 composed_in_full it = let long = it.composed plain (page_of [] []) (λ _. (refl, refl)) in omega (arith, long)

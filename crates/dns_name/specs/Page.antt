@@ -10,7 +10,7 @@ pub record Page : Type 0 where
   pub octets : List ℕ
   pub known : Known
 
--- octets as they are; a name that may be written with pointers; parts behind two octets that count theirs
+-- octets as they are; a name that may be written with pointers; parts after two octets that count theirs
 pub data Parts : Type 0 where
   End : Parts
   Octets : List ℕ → Parts → Parts
@@ -26,7 +26,7 @@ with_name s page name = record {
   known = known_after s page.known (length page.octets) name;
 }
 
--- the two octets at the place count what stands behind them
+-- the two octets at the place count what follows them
 abbrev pub with_count : ℕ → Page → Page
 with_count place page = record {
   octets = patched page.octets place (to_be_bytes w16 (length page.octets - (place + 2)));

@@ -9,10 +9,10 @@ use Rattle.dns_name.specs.declared.parsed.ParsedName.{ParsedName}
 abbrev pub labels_in : {Octs : Type 0} {ghosts : _} → (Octs → List ℕ) → ParsedName Octs ghosts → List (List ℕ)
 labels_in list name = labels_at (list name.octets) name.start
 
--- the same of a name that borrows the message
+-- the same for a name that borrows the message
 abbrev pub labels_of : {ghosts : _} → ParsedName (Bor (List ℕ)) ghosts → List (List ℕ)
 labels_of name = labels_in (λ octets. octets.now) name
 
--- the name stands in its wire form where it begins
+-- the name is in its wire form where it begins
 abbrev pub IsWrittenOut : {Octs : Type 0} {ghosts : _} → (Octs → List ℕ) → ParsedName Octs ghosts → Type 0
 IsWrittenOut list name = IsWrittenAt (list name.octets) name.start

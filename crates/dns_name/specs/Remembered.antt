@@ -1,4 +1,4 @@
--- What is remembered is there: each suffix is spelled where it is said to stand, up to case where the spelling folds.
+-- What is remembered is there: each suffix is spelled at its place, up to case where the spelling folds.
 use Rattle.std.specs.Prelude.{⊤, ◌≡◌, ◌≤◌, ◌<◌, ◌+◌, ℕ, Bool, true, Option, Some, None, if◌then◌else◌, List, [], ◌∷◌, ◌++◌, length, take, drop, nat_le}
 use Rattle.std.specs.List.{list_all}
 use Rattle.std.proofs.Common.{zero-le}
@@ -11,8 +11,8 @@ pub data IsKnown (standing : Standing) : Known → Type 0 where
   first : {known : Known} → IsKnown standing (standing ∷ known)
   later : {other : Standing} {known : Known} → IsKnown standing known → IsKnown standing (other ∷ known)
 
--- A text at a place spells a name: labels that are the same as its own one by one, up to the root or up to a pointer to a
--- remembered suffix that is the same as what is left, and that stops before the pointer.
+-- A text at a place spells a name: labels that are the same as its own one by one, up to the root or up to a pointer to
+-- a remembered suffix that is the same as what is left, and that stops before the pointer.
 pub data SpellsName (s : Spelling) (known : Known) : ℕ → List ℕ → List (List ℕ) → Type 0 where
   root : {place : ℕ} → SpellsName s known place (0 ∷ []) []
   label : {place : ℕ} {behind : List ℕ} {parent : List (List ℕ)} (text label : List ℕ)
@@ -43,7 +43,7 @@ pub record HasText (octets : List ℕ) (place : ℕ) (text : List ℕ) : Type 0 
   pub whole : octets ≡ front ++ (text ++ back)
   pub begins : length front ≡ place
 
--- a name other than the root stands in the octets, where a pointer reaches it
+-- a name other than the root is in the octets, where a pointer reaches it
 pub record StandsIn (s : Spelling) (known : Known) (octets : List ℕ) (standing : Standing) : Type 0 where
   pub name : List (List ℕ)
   pub is_name : IsName name
@@ -59,13 +59,13 @@ abbrev pub AreDistinct : Spelling → Known → Type 0
 AreDistinct s [] = ⊤
 AreDistinct s (standing ∷ known) = (place_in s known standing.suffix ≡ None) × AreDistinct s known
 
--- no more are remembered than may be, no suffix twice, and each stands in the octets
+-- no more are remembered than may be, no suffix twice, and each is in the octets
 pub record IsSound (s : Spelling) (known : Known) (octets : List ℕ) : Type 0 where
   pub few : IsWithin s.most (length known)
   pub distinct : AreDistinct s known
   pub each : (standing : Standing) → IsKnown standing known → StandsIn s known octets standing
 
--- so it is of a target that remembers nothing
+-- a target that remembers nothing is sound
 pub sound_none : (s : Spelling) (octets : List ℕ) → IsSound s [] octets
 sound_none s octets = record { few = none s.most; distinct = tt; each = λ standing is. elim is [ ] }
   where

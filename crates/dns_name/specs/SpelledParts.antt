@@ -5,7 +5,7 @@ use Rattle.dns_label.specs.Spelled.{Reads}
 use Rattle.dns_name.specs.Page.{Parts}
 use Rattle.dns_name.specs.Page.Parts.{End, Octets, Named, Counted}
 
--- The message spells the parts from a place on, and `next` is the place behind them. A name is read with the pointers
+-- The message spells the parts from a place on, and `next` is the place after them. A name is read with the pointers
 -- that it has, in the message up to the end of the parts that a length counts.
 pub data Spells : List ℕ → ℕ → Parts → ℕ → Type 0 where
   nothing : {message : List ℕ} {place : ℕ} → place ≤ length message → Spells message place End place

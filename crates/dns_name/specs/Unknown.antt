@@ -1,4 +1,4 @@
--- Data of a record of any type, which is not looked into (RFC 3597 3).
+-- Unknown data of a record of any type (RFC 3597 3).
 use Rattle.std.specs.Prelude.{◌≡◌, ◌≤◌, ℕ, Bool, List, length, drop, nat_eq}
 use Rattle.std.specs.Ordering.{on, eq_of_both, then_cmp, nat_cmp}
 use Rattle.std.specs.declared.cmp.Ordering.{Ordering}
@@ -9,11 +9,11 @@ pub record UnknownData : Type 0 where
   pub number : ℕ
   pub octets : List ℕ
 
--- of one type, and octet for octet
+-- of one type, and equal octet for octet
 abbrev pub unknown_eq : UnknownData → UnknownData → Bool
 unknown_eq = eq_of_both (on (λ rdata. rdata.number) nat_eq) (on (λ rdata. rdata.octets) (pointwise nat_eq))
 
--- by type, and then by octets, a beginning first
+-- by type, and then by octets, where a prefix comes first
 abbrev pub unknown_cmp : UnknownData → UnknownData → Ordering
 unknown_cmp = then_cmp (on (λ rdata. rdata.number) nat_cmp) (on (λ rdata. rdata.octets) (slice_cmp nat_cmp))
 

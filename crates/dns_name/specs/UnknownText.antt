@@ -1,4 +1,4 @@
--- How opaque data is printed (RFC 3597 5).
+-- How unknown data is printed (RFC 3597 5).
 use Rattle.std.specs.Prelude.{◌/◌, ◌%◌, ℕ, true, List, [], ◌∷◌, length}
 use Rattle.std.specs.List.{flat_map, join_with_byte}
 use Rattle.std.specs.Fmt.{decimal, digit_glyph}
@@ -12,7 +12,7 @@ abbrev pub hex_words : List ℕ → List (List ℕ)
 hex_words [] = []
 hex_words (octet ∷ octets) = hex_of (octet ∷ octets) ∷ []
 
--- the words: `\#`, how many octets there are, and these
+-- the words: `\#`, the number of octets, and these
 abbrev pub unknown_words : List ℕ → List (List ℕ)
 unknown_words octets = (92 ∷ 35 ∷ []) ∷ decimal (length octets) ∷ hex_words octets
 

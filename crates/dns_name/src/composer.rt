@@ -1,4 +1,4 @@
-//! Targets that names are appended to, and how they spell them (RFC 1035 4.1.4).
+//! Targets of names, and how they spell them (RFC 1035 4.1.4).
 ghost use Rattle.std.specs.Prelude.{◌≡◌, ◌≤◌, ◌+◌, ◌++◌, ℕ, List, Err, true, length, OnOk, OnErr};
 ghost use Rattle.dns_octets.specs.Builder.{GrowsTo, IsWithin, IsPast};
 ghost use Rattle.dns_octets.specs.declared.error.AppendError.TheVariants.{ShortBuf, BadLength};
@@ -13,16 +13,16 @@ mod vec;
 use dns_flat::ToName;
 use dns_octets::{AppendError, OctetsBuilder, Truncate};
 
-/// A target for messages, which may write a name with a pointer to where a suffix of it stands.
+/// A target for messages, which may write a name with a pointer to an earlier place of one of its suffixes.
 ///
-/// `spelling` says which suffixes it remembers, and which it takes for the same. What it remembers is always there: each
-/// suffix is spelled by its octets.
+/// `spelling` says which suffixes it remembers, and which it treats as the same. What it remembers is always there:
+/// each suffix is spelled by its octets.
 pub trait Composer: OctetsBuilder + Truncate {
     ghost spelling: { Spelling };
 
     /// Appends a name, all or nothing: its labels up to the longest suffix that is remembered, and a pointer to that
-    /// one, or all labels and the root. Refused with `ShortBuf` only where the target would then hold more octets than
-    /// it may, and with `OutOfMemory` where a growth was refused.
+    /// one, or all labels and the root. Fails with `ShortBuf` only if the target is too full, and with `OutOfMemory`
+    /// only if out of memory.
     fn append_compressed_name<N: ToName>(&mut self, name: &N) -> Result<(), AppendError>
         ensures ok { OnOk result (Self.list self.new ≡ Self.list self.old
             ++ name_text spelling (Self.known self.old) (length (Self.list self.old)) (N.name name.now)) }
@@ -40,12 +40,12 @@ pub trait Composer: OctetsBuilder + Truncate {
         ensures same_bound { Self.bound self.new ≡ Self.bound self.old }
         ensures stays { Self.stays self.old self.new };
 
-    /// Whether names may be written with pointers.
+    /// Returns whether names may be written with pointers.
     fn can_compress(&self) -> bool
         ensures { result ≡ compresses spelling };
 
-    /// Writes the octets over those from a place on. By condition these are there, and none of them spells a suffix that
-    /// is remembered.
+    /// Overwrites the octets from a place on. The caller has to prove that these are there, and that none of them
+    /// spells a suffix that is remembered.
     fn patch(&mut self, place: usize, octets: &[u8])
         requires within { place + length octets.now ≤ length (Self.list self.old) }
         requires free { is_free place (place + length octets.now) (Self.known self.old) ≡ true }

@@ -1,4 +1,4 @@
-//! Making names flat that are held otherwise.
+//! Makes names flat that are held otherwise.
 ghost use Rattle.std.specs.Prelude.{◌≡◌, ◌++◌, Err, length, IfOk};
 ghost use Rattle.dns_label.specs.Name.{wire};
 ghost use Rattle.dns_octets.specs.Builder.{IsPast};
@@ -11,21 +11,21 @@ use std::alloc::Global;
 
 /// A value whose names can be made flat.
 ///
-/// `flattens` says which value of the other kind is the same, and `is_long` that the flat names are too long for its
-/// octets.
+/// `flattens` relates the value to the flat one, and `is_long` says that the flat names are too long for the octets of
+/// the other kind.
 pub trait FlattenInto<T>: Sized {
     ghost flattens: { Self → T → Type 0 };
 
     ghost is_long: { Self → Type 0 };
 
-    /// The same value with flat names. Refused with `ShortBuf` only where these do not fit, and with `OutOfMemory` where
-    /// memory was wanting.
+    /// Returns the same value with flat names. Fails with `ShortBuf` only if these do not fit, and with `OutOfMemory`
+    /// if out of memory.
     fn try_flatten_into(self, alloc: Global) -> Result<T, AppendError>
         ensures ok { IfOk result (flattens self) }
         ensures short { result ≡ Err ShortBuf → is_long self }
         ensures not_bad { result ≡ Err BadLength → ⊥ };
 
-    /// The same value with flat names, as `try_flatten_into` gives it.
+    /// Returns the same value with flat names, as `try_flatten_into` does.
     final fn flatten_into(self, alloc: Global) -> Result<T, AppendError>
         ensures ok { IfOk result (flattens self) }
         ensures short { result ≡ Err ShortBuf → is_long self }

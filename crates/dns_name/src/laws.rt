@@ -1,6 +1,6 @@
 //! Laws of names: statements over the definitions, each the contract of a function that does nothing.
 //!
-//! A name is the list of its labels, whatever holds it, and the calls on names answer what the definitions below say of
+//! A name is the list of its labels, whatever holds it. The calls on names return what the definitions below say of
 //! these lists.
 ghost use Rattle.std.specs.Prelude.{◌≡◌, ◌≤◌, ◌↔◌, List, ℕ, false, map};
 ghost use Rattle.std.specs.Char.{to_ascii_lowercase};
@@ -26,20 +26,20 @@ pub use text::{
     text_spells_one_name,
 };
 
-/// Two names are the same up to ASCII case exactly where their octets in lower case are, and exactly where the order
-/// answers Equal (RFC 4343).
+/// Two names are the same up to ASCII case exactly if their octets in lower case are equal, and exactly if the order is
+/// `Equal` (RFC 4343).
 pub fn name_equality_is_lowered_wire()
     ensures wire { (name other : List (List ℕ)) → IsName name → IsName other
         → (low name ≡ low other) ↔ (map to_ascii_lowercase (wire name) ≡ map to_ascii_lowercase (wire other)) }
     ensures order { (name other : List (List ℕ)) → (low name ≡ low other) ↔ (labels_order name other ≡ Equal) }
 {}
 
-/// The order of names is a total one up to ASCII case (RFC 4034 6.1).
+/// The order of names is total up to ASCII case (RFC 4034 6.1).
 pub fn name_order_is_total()
     ensures { IsTotalOrder labels_order }
 {}
 
-/// The names at or under an apex are an interval in the order of names, of which the apex is the least.
+/// The names at or under an apex are an interval in the order of names, and the apex is the least of them.
 pub fn names_under_an_apex_are_an_interval()
     ensures interval { (apex first name last : List (List ℕ)) → EndsWith (low first) (low apex) → EndsWith (low last) (low apex)
         → is_gt (labels_order first name) ≡ false → is_gt (labels_order name last) ≡ false → EndsWith (low name) (low apex) }
@@ -57,7 +57,8 @@ pub fn equal_names_hash_alike<F: Octets, G: Octets, P: Octets>(
         → ⟦<Name<F> as Hash>⟧.hash_input flat.now ≡ ⟦<ParsedName<P> as Hash>⟧.hash_input parsed.now }
 {}
 
-/// Where a message is read, a reader that follows no pointer stops at the same place, and at no other (RFC 1035 4.1.4).
+/// At a place where a name is read, a reader that follows no pointer stops where the parser does, and nowhere else (RFC
+/// 1035 4.1.4).
 pub fn skip_stops_where_parse_stops()
     ensures stops { (message : List ℕ) (place next : ℕ) (name : List (List ℕ)) → Reads message place name next → Skips message 254 place next }
     ensures once { (message : List ℕ) (room place next end : ℕ) → Skips message room place next → Skips message room place end → next ≡ end }

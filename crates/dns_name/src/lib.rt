@@ -1,8 +1,9 @@
 //! Domain names: flat, in messages, and in text (RFC 1035 3.1, 4.1.4, 5.1).
 //!
-//! The face of the lowest layer. Names in messages, composers and the traits of record data are its own. Its parts are
-//! `dns_octets` (octets and how they are read), `dns_values` (the small values of records), `dns_label` (labels and
-//! symbols), `dns_wire` (names as octets and as text) and `dns_flat` (flat names), and it hands on what they are for.
+//! The public crate of the lowest layer. Its own are names in messages, composers and the traits of record data. It
+//! re-exports what the crates below are for: `dns_octets` (octets and how they are read), `dns_values` (the small
+//! values of records), `dns_label` (labels and symbols), `dns_wire` (names as octets and as text) and `dns_flat` (flat
+//! names).
 #![tactic(auto)]
 
 mod composer;

@@ -1,4 +1,4 @@
-//! How long the data of a record may be.
+//! The limit on the length of record data.
 ghost use Rattle.std.specs.Prelude.{◌≡◌, ◌≤◌, ◌+◌, ◌↔◌, ◌∷◌, [], sum, IsOk, ◌≢◌};
 ghost use Rattle.dns_octets.specs.declared.error.ParseError.TheVariants.{ShortInput};
 
@@ -13,7 +13,7 @@ pub struct LongRecordData;
 const TEXT: &str = "record data too long";
 
 impl LongRecordData {
-    /// The text of the error.
+    /// Returns the text of the error.
     pub fn as_str(self) -> &'static str
         ensures { result.now
             ≡ 114 ∷ 101 ∷ 99 ∷ 111 ∷ 114 ∷ 100 ∷ 32 ∷ 100 ∷ 97 ∷ 116 ∷ 97 ∷ 32 ∷ 116 ∷ 111 ∷ 111 ∷ 32 ∷ 108
@@ -22,7 +22,7 @@ impl LongRecordData {
         TEXT
     }
 
-    /// Refuses a length past 65,535.
+    /// Fails if the length is more than 65,535.
     pub fn check_len(len: usize) -> Result<(), LongRecordData>
         ensures { IsOk result ↔ (len ≤ 65535) }
     {
@@ -33,7 +33,7 @@ impl LongRecordData {
         }
     }
 
-    /// Refuses a length that goes past 65,535 with the further octets.
+    /// Fails if the length and the further octets are more than 65,535 together.
     pub fn check_append_len(len: usize, extra_len: usize) -> Result<(), LongRecordData>
         ensures { IsOk result ↔ (len + extra_len ≤ 65535) }
     {
@@ -42,7 +42,7 @@ impl LongRecordData {
         LongRecordData::check_len(len + extra_len)
     }
 
-    /// Refuses lengths that go past 65,535 together.
+    /// Fails if the lengths are more than 65,535 together.
     pub fn check_multi_len<const N: usize>(lens: &[usize; N]) -> Result<(), LongRecordData>
         ensures { IsOk result ↔ (sum lens.now ≤ 65535) }
     {

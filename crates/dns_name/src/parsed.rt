@@ -21,7 +21,7 @@ use dns_wire::walk::{split_label, walk_name};
 use std::alloc::{AllocError, Global};
 pub use suffixes::ParsedSuffixIter;
 
-/// An absolute name at a place of a message, where pointers may stand for the ends of names (RFC 1035 4.1.4).
+/// An absolute name at a place of a message, which may be compressed (RFC 1035 4.1.4).
 ///
 /// It holds the message's octets up to the end of its parser, and walks them anew each time.
 #[derive(Debug, Drop)]
@@ -45,12 +45,12 @@ impl<'a> ParsedName<&'a [u8]> {
     ghost use Rattle.dns_octets.specs.Parser.{octets_of, place_of};
     ghost use Rattle.dns_name.specs.ParsedName.{labels_of};
 
-    /// Reads the name at the parser's place, and leaves the parser behind it: behind its root, or behind its first
+    /// Parses the name at the parser's place, and moves the parser after it: after its root, or after its first
     /// pointer.
     ///
     /// A pointer has to be less than its own place, at most 255 of them are followed, and the name has at most 255
-    /// octets. Refused where no such name stands, and the parser then stays where it is: with `ShortInput` exactly where
-    /// the message ends too early, and else with an error of the form.
+    /// octets. Fails if there is no such name: with `ShortInput` exactly if the message ends after at most 254 octets
+    /// of labels and 255 pointers, and else with a form error. The parser then stays where it is.
     pub fn parse(parser: &mut Parser<'a>) -> Result<Self, ParseError>
         ensures ok { IfOk result (λ name. Reads (octets_of parser.old) (place_of parser.old) (labels_of name) (place_of parser.new)) }
         ensures err { OnErr result ((name : List (List ℕ)) (next : ℕ) → Reads (octets_of parser.old) (place_of parser.old) name next → ⊥) }
@@ -73,21 +73,21 @@ impl<'a> ParsedName<&'a [u8]> {
 impl<Octs: Octets> ParsedName<Octs> {
     ghost use Rattle.dns_name.specs.ParsedName.{labels_in};
 
-    /// Whether this is the root, which has no labels but its own.
+    /// Returns whether this is the root, which has no label but its own.
     pub fn is_root(&self) -> bool
         ensures { IsTrue result ↔ (labels_in Octs.list self.now ≡ []) }
     {
         self.len == 1
     }
 
-    /// How many labels there are, the root's counted.
+    /// Returns the number of labels, with the root's.
     pub fn label_count(&self) -> usize
         ensures { result ≡ length (with_root (labels_in Octs.list self.now)) }
     {
         self.iter().count()
     }
 
-    /// The labels from the left, the root's last.
+    /// Returns the labels from the left, the root's last.
     pub fn iter(&self) -> ParsedNameIter<'_>
         ensures labels { result ≡ with_root (labels_in Octs.list self.now) }
         ensures few { length result ≤ 128 }
@@ -127,7 +127,7 @@ impl<Octs: Octets> ToName for ParsedName<Octs> {
 
     ghost is_absolute = { λ _. refl };
 
-    /// The octets, uncompressed, or None exactly where there is a pointer in front of the root.
+    /// Returns the octets, uncompressed, or `None` exactly if there is a pointer before the root.
     fn as_flat_slice(&self) -> Option<&[u8]>
         ensures flat { IsSome result ↔ IsWrittenOut Octs.list self.now }
         ensures octets { IfSome result (λ octets. octets.now ≡ wire (labels_in Octs.list self.now)) }

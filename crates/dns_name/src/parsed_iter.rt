@@ -13,7 +13,7 @@ use std::marker::Model;
 #[derive(Debug, Drop)]
 pub struct ParsedNameIter<'a> {
     octets: &'a [u8],
-    /// Where the next label stands, or `None` after the root's.
+    /// The place of the next label, or `None` after the root's.
     place: Option<usize>,
     /// How many of the labels from there on are left at most; those after them were taken from the right.
     most: usize,
@@ -28,7 +28,7 @@ impl<'a> Model for ParsedNameIter<'a> {
 }
 
 impl<'a> ParsedNameIter<'a> {
-    /// The labels of the name that is read at the place.
+    /// Iterates over the labels of the name that is read at the place.
     pub(crate) fn at(octets: &'a [u8], place: usize) -> Self
         requires { ∥ IsReadAt octets.now place ∥₁ }
         ensures { result ≡ with_root (labels_at octets.now place) }
@@ -40,7 +40,7 @@ impl<'a> ParsedNameIter<'a> {
         }
     }
 
-    /// The label with this number, counted from 0.
+    /// Returns the label with this number, counted from 0.
     pub(crate) fn label(mut self, index: usize) -> Option<Label<'a>>
         ensures { option_map octets_of result ≡ slice_get self.entry index }
     {
@@ -73,7 +73,7 @@ impl<'a> DoubleEndedIterator for ParsedNameIter<'a> {
 
     ghost next_back_gives = { YieldsLastBy octets_of (λ labels. labels) };
 
-    /// The last label. It is found from the left, so this takes as long as there are labels.
+    /// Returns the last label. It is found from the left, so this takes time linear in the number of labels.
     fn next_back(&mut self) -> Option<Label<'a>> {
         let labels = ParsedNameIter {
             octets: self.octets,

@@ -1,4 +1,4 @@
-//! The data of records (RFC 1035 3.2.1): what all types of it have in common.
+//! The data of records (RFC 1035 3.2.1): what all its types have in common.
 ghost use Rattle.std.specs.Prelude.{◌≡◌, ◌≤◌, ◌<◌, ◌+◌, ◌++◌, ◌↔◌, ℕ, Bool, true, false, List, Err, length, is_some, IfOk, IfSome, IsNone, OnSome, OnOk, OnErr};
 ghost use Rattle.std.specs.Int.{to_be_bytes, w16};
 ghost use Rattle.dns_octets.specs.Builder.{GrowsTo, IsWithin, IsPast};
@@ -20,7 +20,7 @@ use dns_values::Rtype;
 pub trait RecordData {
     ghost rtype: { Self → ℕ };
 
-    /// The type of the data.
+    /// Returns the type of the data.
     fn rtype(&self) -> Rtype
         ensures { result ≡ rtype self.now };
 }
@@ -34,14 +34,15 @@ pub trait ComposeRecordData: RecordData {
 
     ghost canonical_octets: { Self → List ℕ };
 
-    /// How many octets the data has in a message. `compress` says that the target may write names with pointers. None
-    /// exactly where it may and there is such a name, and past 65,535 octets with every name in full.
+    /// Returns the number of octets of the data in a message. `compress` says that the target may write names with
+    /// pointers. Returns `None` exactly if it may and there is a name to compress, or if the data is more than 65,535
+    /// octets with every name in full.
     fn rdlen(&self, compress: bool) -> Option<u16>
         ensures some { IfSome result (λ len. IsComposedLength compress (parts self.now) len) }
         ensures none { IsNone result ↔ IsUntold compress (parts self.now) };
 
-    /// Appends the data, all or nothing. Refused with `ShortBuf` only where the target would then hold more octets than
-    /// it may, and with `OutOfMemory` where a growth was refused.
+    /// Appends the data, all or nothing. Fails with `ShortBuf` only if the target is too full, and with `OutOfMemory`
+    /// only if out of memory.
     fn compose_rdata<Target: Composer>(&self, target: &mut Target) -> Result<(), AppendError>
         ensures ok { OnOk result (page_of (Target.list target.new) (Target.known target.new)
             ≡ write Target.spelling (page_of (Target.list target.old) (Target.known target.old)) (parts self.now)) }
@@ -56,7 +57,7 @@ pub trait ComposeRecordData: RecordData {
         ensures same_bound { Target.bound target.new ≡ Target.bound target.old }
         ensures stays { Target.stays target.old target.new };
 
-    /// Appends the canonical form of the data, all or nothing, refused as `compose_rdata` is.
+    /// Appends the canonical form of the data, all or nothing. Fails as `compose_rdata` does.
     fn compose_canonical_rdata<Target: Composer>(
         &self,
         target: &mut Target,
@@ -70,8 +71,8 @@ pub trait ComposeRecordData: RecordData {
         ensures same_bound { Target.bound target.new ≡ Target.bound target.old }
         ensures stays { Target.stays target.old target.new };
 
-    /// Appends the data behind two octets that count it, all or nothing. Refused as `compose_rdata` is, and with
-    /// `BadLength` only where more than 65,535 octets would have to be counted.
+    /// Appends the data after two octets that count it, all or nothing. Fails as `compose_rdata` does, and with
+    /// `BadLength` only if more than 65,535 octets would have to be counted.
     final fn compose_len_rdata<Target: Composer>(
         &self,
         target: &mut Target,
@@ -104,8 +105,8 @@ pub trait ComposeRecordData: RecordData {
         }
     }
 
-    /// Appends the canonical form of the data behind two octets that count it, all or nothing, refused as
-    /// `compose_len_rdata` is.
+    /// Appends the canonical form of the data after two octets that count it, all or nothing. Fails as
+    /// `compose_len_rdata` does.
     final fn compose_canonical_len_rdata<Target: Composer>(
         &self,
         target: &mut Target,
@@ -133,7 +134,7 @@ pub trait ComposeRecordData: RecordData {
     }
 }
 
-/// Data of some types that is read from a message.
+/// Data of some types that is parsed from a message.
 ///
 /// `takes` says which types, and `reads` relates the octets of a message, the place where the data begins, and its type
 /// to the data that ends with these octets.
@@ -142,8 +143,8 @@ pub trait ParseRecordData<'a>: RecordData + Sized {
 
     ghost reads: { List ℕ → ℕ → ℕ → Self → Type 0 };
 
-    /// Reads the data of a type up to the end of the parser, or answers None where it takes no such type; the parser then
-    /// stays where it is. Refused where what is left is no data of the type; the parser then stays there too.
+    /// Parses the data of a type up to the end of the parser, or returns `None` if it takes no such type. Fails if what
+    /// is left is no data of the type. If it returns no data, the parser stays where it is.
     fn parse_rdata(rtype: Rtype, parser: &mut Parser<'a>) -> Result<Option<Self>, ParseError>
         ensures taken { IfOk result (λ found. is_some found ≡ takes rtype) }
         ensures ok { IfOk result (λ found. IfSome found (λ rdata. reads (octets_of parser.old)
@@ -157,12 +158,12 @@ pub trait ParseRecordData<'a>: RecordData + Sized {
         ensures err { OnErr result (parser.new ≡ parser.old) };
 }
 
-/// Data of any type that is read from a message; `reads_any` is as `ParseRecordData`'s `reads`.
+/// Data of any type that is parsed from a message; `reads_any` is like `reads` of `ParseRecordData`.
 pub trait ParseAnyRecordData<'a>: RecordData + Sized {
     ghost reads_any: { List ℕ → ℕ → ℕ → Self → Type 0 };
 
-    /// Reads the data of a type up to the end of the parser. Refused where what is left is no data of the type; the
-    /// parser then stays where it is.
+    /// Parses the data of a type up to the end of the parser. Fails if what is left is no data of the type. The parser
+    /// then stays where it is.
     fn parse_any_rdata(rtype: Rtype, parser: &mut Parser<'a>) -> Result<Self, ParseError>
         ensures ok { IfOk result (λ rdata. reads_any (octets_of parser.old) (place_of parser.old) rtype rdata) }
         ensures of_type { IfOk result (λ rdata. Self.rtype rdata ≡ rtype) }

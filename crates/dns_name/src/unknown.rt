@@ -23,7 +23,7 @@ use std::cmp::Ordering;
 use std::hash::{Hash, Hasher};
 use std::marker::Model;
 
-/// Data of a type, as at most 65,535 octets, whatever they mean.
+/// Unknown data of a type: at most 65,535 octets, whatever they mean.
 ///
 /// A contract sees it as the number of its type and its octets.
 #[derive(Debug, Drop)]
@@ -41,7 +41,7 @@ impl<Octs: Octets> Model for UnknownRecordData<Octs> {
 }
 
 impl<Octs: Octets> UnknownRecordData<Octs> {
-    /// The octets as data of the type. Refused past 65,535 of them.
+    /// Makes data of the type of these octets. Fails if there are more than 65,535.
     pub fn from_octets(rtype: Rtype, octets: Octs) -> Result<Self, LongRecordData>
     where
         Octs: Drop,
@@ -52,7 +52,7 @@ impl<Octs: Octets> UnknownRecordData<Octs> {
         Ok(UnknownRecordData { rtype, octets })
     }
 
-    /// The type.
+    /// Returns the type.
     pub fn rtype(&self) -> Rtype
         ensures { result ≡ self.now.number }
     {
@@ -60,7 +60,7 @@ impl<Octs: Octets> UnknownRecordData<Octs> {
         *rtype
     }
 
-    /// What holds the octets.
+    /// Returns what holds the octets.
     pub fn data(&self) -> &Octs
         ensures octets { Octs.list result.now ≡ self.now.octets }
         ensures short { length self.now.octets ≤ 65535 }
@@ -100,7 +100,7 @@ impl<Octs: Octets> ComposeRecordData for UnknownRecordData<Octs> {
     }
 }
 
-/// Takes all that is left in the parser, of any type. Refused past 65,535 octets.
+/// Takes all that is left in the parser, of any type. Fails if there are more than 65,535 octets.
 impl<'a> ParseAnyRecordData<'a> for UnknownRecordData<&'a [u8]> {
     ghost reads_any = { IsUnknownAt };
 
@@ -122,7 +122,7 @@ impl<'a> ParseRecordData<'a> for UnknownRecordData<&'a [u8]> {
     }
 }
 
-/// The same data in a vector. Refused where a growth was refused.
+/// Copies the data to a vector. Fails if out of memory.
 impl<S: Octets + Drop> OctetsFrom<UnknownRecordData<S>> for UnknownRecordData<Vec<u8>> {
     ghost octets_from_gives = { λ source result. IfOk result (λ rdata. rdata ≡ source)
         × (result ≡ Err ShortBuf → ⊥)
@@ -137,7 +137,7 @@ impl<S: Octets + Drop> OctetsFrom<UnknownRecordData<S>> for UnknownRecordData<Ve
     }
 }
 
-/// The same data in an array. Refused where it has no room.
+/// Copies the data to an array. Fails if it has no room.
 impl<S: Octets + Drop, const N: usize> OctetsFrom<UnknownRecordData<S>>
     for UnknownRecordData<ArrayVec<u8, N>> {
     ghost octets_from_gives = { λ source result. IfOk result (λ rdata. rdata ≡ source)
@@ -167,7 +167,7 @@ impl<Octs: Octets> Eq for UnknownRecordData<Octs> {
     ghost laws = { Prim.search (comparing, rules) };
 }
 
-/// By the number of the type, and then by the octets.
+/// Compares the numbers of the types, and then the octets.
 impl<Octs: Octets> Ord for UnknownRecordData<Octs> {
     ghost cmp = { unknown_cmp };
 
@@ -194,7 +194,7 @@ impl<Octs: Octets> PartialOrd for UnknownRecordData<Octs> {
     }
 }
 
-/// The same order.
+/// The same as `Ord`.
 impl<Octs: Octets> CanonicalOrd for UnknownRecordData<Octs> {
     ghost canonical = { unknown_cmp };
 

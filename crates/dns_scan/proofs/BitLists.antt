@@ -40,7 +40,7 @@ bits-add high (suc low) number =
     (ap (λ l. l ++ (number % 2) ∷ []) (bits-add high low (number / 2) ∙ ap (λ n. bits high n ++ bits low (number / 2)) (half_pow number low))
     ∙ append_assoc (bits high (number / 2 ^ suc low)) (bits low (number / 2)) ((number % 2) ∷ []))
 
--- what is above doesn't matter
+-- higher bits do not matter
 pub bits_low : (count high low : ℕ) → bits count (high * 2 ^ count + low) ≡ bits count low
 unfolding bits
 bits_low zero high low = refl

@@ -19,7 +19,7 @@ use Rattle.dns_scan.proofs.Encodings.{Ascii, is_ascii, decodes_one}
 abbrev pub IsPlain : ℕ → Type 0
 IsPlain c = IsPrintable c × (c ≢ 92)
 
--- the characters of the alphabets are such
+-- the characters of the alphabets are symbols by themselves
 hex_printable : (c : ℕ) → digit_value c < 32 → IsPrintable c
 hex_printable c is = (grind (arith, nat_tests), grind (arith, nat_tests))
 

@@ -55,12 +55,12 @@ plain_in (first ∷ symbols) more symbol [] is = cc
 plain_in (first ∷ symbols) more symbol (c ∷ text) is =
     let others : symbols ++ symbol ∷ more ≡ map Char text = cc in plain_in symbols more symbol text others
 
--- nothing that goes on with the symbol is one of octets
+-- no text that continues with the symbol is one of octets
 abbrev pub NoneBehind : Base → Held → Symbol → Type 0
 NoneBehind base held symbol = (symbols : List Symbol) (octets : List ℕ) → HasDeciphered base held symbols octets
     → (more : List Symbol) (all : List ℕ) → Deciphers base (symbols ++ symbol ∷ more) all → ⊥
 
--- nothing ends here
+-- no text ends here
 abbrev pub NoneEnds : Base → Held → Type 0
 NoneEnds base held = (symbols : List Symbol) (octets : List ℕ) → HasDeciphered base held symbols octets
     → (all : List ℕ) → Deciphers base symbols all → ⊥

@@ -109,7 +109,7 @@ pads_first : (pads : ℕ) (rest : List ℕ) → 0 < pads → PadOrEnd (replicate
 pads_first zero rest some = absurd (omega arith)
 pads_first (suc pads) rest some = refl
 
--- no pad is refused where it may stand
+-- a pad is refused only at a place where none may be
 pub no_more_pads : (old : Progress) → ((length old.waiting < 6) × (2 * (old.pads + 1) ≤ length old.waiting) → ⊥) → NoneGoesOn SixtyFour old 61
 no_more_pads old full text more octets read decodes =
     let at = decodes.text_of in
@@ -146,7 +146,7 @@ pub each_weaker : (P Q : ℕ → Type 0) (xs : List ℕ) → ((x : ℕ) → P x 
 each_weaker P Q [] more each = tt
 each_weaker P Q (x ∷ xs) more each = (more x each.0, each_weaker P Q xs more each.1)
 
--- pads stand in base 64 alone
+-- only base 64 has pads
 no_pads : (base : Base) (pads count : ℕ) → MayBePadded base pads count → (base ≡ SixtyFour → ⊥) → pads ≡ 0
 no_pads base pads count (inl none) other = none
 no_pads base pads count (inr some) other = absurd (other some.0)
@@ -157,7 +157,7 @@ unpadded base progress text other read =
     ∙ ap (λ n. read.characters ++ replicate n 61) (no_pads base progress.pads (length progress.waiting) read.padded other)
     ∙ append-nil read.characters
 
--- after a pad nothing but pads may stand
+-- only pads may follow a pad
 pub nothing_behind_pads : (base : Base) (old : Progress) (c : ℕ) → 0 < old.pads → (base ≡ SixtyFour → c ≡ 61 → ⊥) → NoneGoesOn base old c
 nothing_behind_pads Sixteen old c some other text more octets read decodes =
     let none = no_pads Sixteen old.pads (length old.waiting) read.padded (λ same. cc) in absurd (omega arith)
@@ -172,7 +172,7 @@ nothing_behind_pads SixtyFour old c some other text more octets read decodes =
     other refl
     (in_middle P (replicate old.pads 61) more c (subst (λ l. AllByRecursion P l) split.1 (replicated P at.pads 61 refl)))
 
--- what is no character stands nowhere
+-- what is no character may be nowhere
 pub no_character : (base : Base) (old : Progress) (c : ℕ) → (IsCharacter base c → ⊥) → (base ≡ SixtyFour → c ≡ 61 → ⊥) → NoneGoesOn base old c
 no_character Sixteen old c none other text more octets read decodes =
     none (in_middle (IsCharacter Sixteen) text more c (subst (λ l. AllByRecursion (IsCharacter Sixteen) l) (sym decodes.text_of) decodes.groups.each))
@@ -214,7 +214,7 @@ grouped_so base progress text read little = record {
   little = little;
 }
 
--- where no more is waited for, the text is one of the octets
+-- if no more is waited for, the text is one of the octets
 pub whole_decodes : (base : Base) (progress : Progress) (text : List ℕ) → HasRead base progress text
     → IsWhole base progress.pads (length progress.waiting) → Decodes base text progress.octets
 whole_decodes Sixteen progress text read whole = record {
@@ -241,7 +241,7 @@ whole_decodes SixtyFour progress text read whole =
       groups = grouped_so SixtyFour progress text read whole.0;
     }
 
--- where more is waited for, it is none
+-- if more is waited for, it is none
 waits : (base : Base) (progress : Progress) (text octets : List ℕ) (read : HasRead base progress text) (decodes : Decodes base text octets)
     → decodes.characters ≡ read.characters → width base ≤ 8 → length progress.waiting ≡ length decodes.groups.rest
 waits base progress text octets read decodes same wide =
@@ -306,7 +306,7 @@ refused_text base progress read rest text c ShortBuf taken whole why = record {
   why = why;
 }
 
--- a text that is refused for itself is none
+-- a text that is refused, not for lack of room or memory, is none
 pub refused_for_itself : (base : Base) (text : List ℕ) (error : DecodeError) → WhyNoText base text error → is_want_of_room error ≡ false
     → NoneIs base text
 refused_for_itself base text (IllegalChar c) why itself = why.1

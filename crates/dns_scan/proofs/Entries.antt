@@ -2,7 +2,7 @@
 use Rattle.std.proofs.Common.{◌≡◌, ℕ, List, [], ◌∷◌, ◌++◌, refl, sym, ◌∙◌, ap, subst, append_assoc, append-nil}
 use Rattle.dns_scan.specs.Token.{Token, IsEnding, IsEntry, IsWord}
 
--- what was taken goes on to the whole by what is left, and an entry before has one left
+-- what was taken and the rest of what is left make the whole, and an entry of the tokens before has one of those left
 pub record Entering (IsPiece : List ℕ → Token → Type 0) (before left : List Token) (taken : List ℕ) : Type 0 where
   pub on : (more : List ℕ) → IsEntry IsPiece left more → IsEntry IsPiece before (taken ++ more)
   pub back : (whole : List ℕ) → IsEntry IsPiece before whole → (more : List ℕ) × IsEntry IsPiece left more
@@ -45,7 +45,7 @@ entering_end IsPiece before left taken entering none =
     let Q : List Token → Type 0 = λ t. IsEntry IsPiece t [] in
     subst P (append-nil taken) (entering.on [] (subst Q (sym none) refl))
 
--- where a token has no piece
+-- if a token has no piece
 pub entering_none : (IsPiece : List ℕ → Token → Type 0) (before left next : List Token) (token : Token) (taken : List ℕ)
     → Entering IsPiece before left taken → left ≡ token ∷ next → ((piece : List ℕ) → IsPiece piece token → ⊥)
     → (whole : List ℕ) → IsEntry IsPiece before whole → ⊥
@@ -54,7 +54,7 @@ entering_none IsPiece before left next token taken entering is none whole entry 
     let Q : List Token → Type 0 = λ t. IsEntry IsPiece t at.0 in
     let split = subst Q is at.1 in none split.0 split.2
 
--- where nothing is left
+-- if nothing is left
 pub nothing_left : (before left : List Token) → left ≡ [] → IsEnding left before
 nothing_left before left none = record { taken = before; is = sym (ap (λ l. before ++ l) none ∙ append-nil before) }
 

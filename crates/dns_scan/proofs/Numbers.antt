@@ -12,7 +12,7 @@ use Rattle.dns_scan.specs.declared.encoding.base.Base.TheVariants.{Sixteen, Thir
 use Rattle.dns_scan.proofs.BitLists.{IsBit, bits_are}
 use Rattle.dns_scan.proofs.Groups.{eq_same}
 
--- a group has bits, and no more than so many
+-- a group has bits, and at most that number of them
 pub record IsGroup (count : ℕ) (group : List ℕ) : Type 0 where
   pub each : AllByRecursion IsBit group
   pub few : length group ≤ count
@@ -49,7 +49,7 @@ padded_small count group is =
     let P : ℕ → Type 0 = λ n. padded_number count group < 2 ^ n in
     subst P whole (omega (arith, number_onto (group ++ replicate (count - length group) 0) 0 (filled_bits count group is)))
 
--- where one more bit may make a group whole
+-- if one more bit may complete a group
 next_group : (count : ℕ) (held others : List ℕ) (bit : ℕ) (whole : Bool) → (length held + 1 == count) ≡ whole → length held < count
     → AllByRecursion IsBit (held ++ bit ∷ []) → AllByRecursion (IsGroup count) (grouped count [] others)
     → (length (held ++ bit ∷ []) < count → AllByRecursion (IsGroup count) (grouped count (held ++ bit ∷ []) others))

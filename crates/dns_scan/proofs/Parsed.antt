@@ -3,7 +3,7 @@ use Rattle.std.proofs.Common.{◌≡◌, ℕ, ◌+◌, ◌-◌, ◌<◌, ◌≤�
 use Rattle.std.proofs.lemmas.List.{length-drop, length-take-le, take-append-drop, drop-drop, take_all}
 use Rattle.dns_scan.specs.CharStr.{StartsWithString}
 
--- where a string stands, it ends within the octets
+-- if there is a string, it ends within the octets
 pub string_fits : (octets front string rest : List ℕ) (place number : ℕ) → front ≡ take 1 (drop place octets) → number ≡ get_or front 0 0
     → StartsWithString (drop place octets) string rest → place ≤ length octets → place + (1 + number) ≤ length octets
 string_fits octets front string rest place number is first starts within =

@@ -61,7 +61,7 @@ symbols_end text rest front reading none =
     let Q : List ℕ → Type 0 = λ l. AreWritten [] l in
     subst P (append-nil front) (reading.on [] (subst Q (sym none) written_none))
 
--- where no symbol stands
+-- if there is no symbol at the place
 pub symbols_none : (text rest : List ℕ) (front : List Symbol) → ReadingSymbols text rest front → (rest ≡ [] → ⊥)
     → ((symbol : Symbol) (behind : List ℕ) → IsSymbol symbol → rest ≡ spelled symbol ++ behind → ⊥)
     → (all : List Symbol) → AreWritten all text → ⊥

@@ -63,7 +63,7 @@ reading_end text rest taken reading none =
     let Q : List ℕ → Type 0 = λ l. Spells text l in
     subst Q (append-nil taken) (reading.on [] (subst P (sym none) spells_none))
 
--- where no symbol stands
+-- if there is no symbol at the place
 pub reading_none : (text rest taken : List ℕ) → Reading text rest taken → (rest ≡ [] → ⊥)
     → ((symbol : Symbol) (behind : List ℕ) → IsSymbol symbol → rest ≡ spelled symbol ++ behind → ⊥)
     → (all : List ℕ) → Spells text all → ⊥
@@ -74,7 +74,7 @@ reading_none text rest taken reading some none all spells =
     first [] each written = some written
     first (symbol ∷ symbols) each written = none symbol (flat_map spelled symbols) each.0 written
 
--- where there is no room for another octet
+-- if there is no room for another octet
 pub reading_full : (text rest behind taken : List ℕ) (symbol : Symbol) → Reading text rest taken → IsSymbol symbol
     → rest ≡ spelled symbol ++ behind → 255 ≤ length taken → (string : List ℕ) → IsStringText text string → ⊥
 reading_full text rest behind taken symbol reading is_symbol is full string is_text =

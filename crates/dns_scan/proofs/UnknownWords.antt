@@ -1,4 +1,4 @@
--- The number of octets before data of an unknown type.
+-- The number of octets before unknown data.
 use Rattle.std.proofs.Common.{◌≡◌, ℕ, List, [], ◌∷◌, ◌++◌, sym, ◌∙◌, ap, append_assoc}
 use Rattle.std.specs.Prelude.{Option, Some}
 use Rattle.dns_scan.specs.Scans.{ScansWord}

@@ -1,5 +1,5 @@
--- The encodings of RFC 4648: base 64 (section 4), base 32 with the hex alphabet and without padding (section 7), base 16
--- (section 8).
+-- The encodings of RFC 4648: base 64 (section 4), base 32 with the hex alphabet and without padding (section 7), base
+-- 16 (section 8).
 use Rattle.std.specs.Prelude.{◌≡◌, ◌+◌, ◌-◌, ◌%◌, ◌<◌, ◌==◌, ℕ, List, [], ◌++◌, length, map, replicate, nat_lt, if◌then◌else◌}
 use Rattle.std.specs.List.{AllByRecursion}
 use Rattle.std.specs.Char.{digit_value}
@@ -37,7 +37,7 @@ character Sixteen number = hex_character number
 character ThirtyTwoHex number = hex_character number
 character SixtyFour number = character_64 number
 
--- the number of a character of base 64, and 64 where there is none
+-- the number of a character of base 64, and 64 if there is none
 abbrev pub digit_64 : ℕ → ℕ
 digit_64 c =
     if c == 43 then 62 else (if c == 47 then 63
@@ -45,8 +45,8 @@ digit_64 c =
     else (if nat_lt c 65 then 64 else (if nat_lt c 91 then c - 65
     else (if nat_lt c 97 then 64 else (if nat_lt c 123 then c - 71 else 64)))))))
 
--- The number that a character stands for: letters in either case in base 16 and 32. What is no character has a number that
--- the alphabet lacks.
+-- The number that a character stands for: letters in upper or lower case in base 16 and 32. What is no character has a
+-- number that the alphabet lacks.
 abbrev pub digit : Base → ℕ → ℕ
 digit Sixteen c = digit_value c
 digit ThirtyTwoHex c = digit_value c
@@ -55,7 +55,7 @@ digit SixtyFour c = digit_64 c
 abbrev pub IsCharacter : Base → ℕ → Type 0
 IsCharacter base c = digit base c < size base
 
--- The characters' bits are those of the octets, and a rest that is too little for another character.
+-- The characters' bits are those of the octets, and a rest that is too short for another character.
 pub record Groups (base : Base) (characters octets : List ℕ) : Type 0 where
   pub each : AllByRecursion (IsCharacter base) characters
   pub are_octets : AreOctets octets
@@ -82,7 +82,7 @@ pub record Decodes (base : Base) (text octets : List ℕ) : Type 0 where
   pub text_of : IsTextOf base text characters
   pub groups : Groups base characters octets
 
--- what fills up so many characters modulo four, in base 64
+-- the pads after that number of characters modulo four, in base 64
 abbrev pub padding : Base → ℕ → List ℕ
 padding Sixteen count = []
 padding ThirtyTwoHex count = []

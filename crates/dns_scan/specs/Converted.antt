@@ -9,7 +9,7 @@ use Rattle.dns_scan.specs.Decoding.{Held, HasRead, progress_of}
 use Rattle.dns_scan.specs.Symbols.{HasSymbols, symbols_in}
 use Rattle.dns_scan.specs.Token.{Token}
 
--- the octets that a call gave, if any
+-- the octets that a call returned, if any
 abbrev pub octets_given : {O : Type 0} → (O → List ℕ) → Option O → List ℕ
 octets_given list None = []
 octets_given list (Some octets) = list octets
@@ -20,13 +20,13 @@ pub record IsConverted (converts : List Symbol → List ℕ → Type 0) (octets 
   pub has : HasSymbols symbols token
   pub converted : converts symbols octets
 
--- The symbols are plain characters, whose text is one of the octets. An escaped character is none of a text of an encoding.
+-- The symbols are plain characters, whose text is one of the octets. No text of an encoding has an escaped character.
 pub record Deciphers (base : Base) (symbols : List Symbol) (octets : List ℕ) : Type 0 where
   pub text : List ℕ
   pub plain : symbols ≡ map Char text
   pub decodes : Decodes base text octets
 
--- a converter was handed these symbols and has given these octets
+-- a converter was passed these symbols and has returned these octets
 pub record HasDeciphered (base : Base) (held : Held) (symbols : List Symbol) (given : List ℕ) : Type 0 where
   pub text : List ℕ
   pub plain : symbols ≡ map Char text

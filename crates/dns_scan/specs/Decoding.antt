@@ -21,7 +21,7 @@ pub record Held : Type 0 where
   pub waiting : List ℕ
   pub pads : ℕ
 
--- so far where no error has come
+-- the progress if there was no error
 abbrev pub progress_of : List ℕ → Held → Progress
 progress_of octets held = record { octets = octets; waiting = held.waiting; pads = held.pads; error = None }
 
@@ -30,7 +30,7 @@ abbrev pub octet_in : Option ℕ → List ℕ
 octet_in None = []
 octet_in (Some octet) = octet ∷ []
 
--- Pads stand only in base 64, after bits that are too few for another character, and no more than there may be: one for
+-- Pads are only in base 64, after bits that are too few for another character, and no more than there may be: one for
 -- two bits.
 abbrev pub MayBePadded : Base → ℕ → ℕ → Type 0
 MayBePadded base pads bits = (pads ≡ 0) ⊎ ((base ≡ SixtyFour) × (bits < 6) × (2 * pads ≤ bits))
@@ -52,17 +52,17 @@ IsWhole Sixteen pads bits = bits < 4
 IsWhole ThirtyTwoHex pads bits = bits < 5
 IsWhole SixtyFour pads bits = (bits < 6) × (2 * pads ≡ bits)
 
--- no text that goes on with the character after what was taken is one of octets
+-- no text that continues with the character after what was taken is one of octets
 abbrev pub NoneGoesOn : Base → Progress → ℕ → Type 0
 NoneGoesOn base progress c =
     (text more octets : List ℕ) → HasRead base progress text → Decodes base (text ++ c ∷ more) octets → ⊥
 
--- the character makes an octet whole, after so many pads and waiting bits
+-- the character completes an octet, after that number of pads and waiting bits
 abbrev pub MakesWhole : Base → ℕ → ℕ → ℕ → Type 0
 MakesWhole base pads bits c = (pads ≡ 0) × IsCharacter base c × (8 ≤ bits + width base)
 
--- Why a character is refused after what was taken: before any pad, for what it is; after a pad, for where it stands; and where
--- an octet is whole with it, because there is no room or no memory.
+-- Why a character is refused after what was taken: before any pad, for what it is; after a pad, for its place; and if
+-- it completes an octet, because there is no room or no memory.
 abbrev pub WhyRefused : Base → Progress → ℕ → DecodeError → Type 0
 WhyRefused base progress c (IllegalChar other) =
     (other ≡ c) × (progress.pads ≡ 0) × (IsCharacter base c → ⊥) × NoneGoesOn base progress c
@@ -84,7 +84,7 @@ pub record StopsWith (base : Base) (text : List ℕ) (error : DecodeError) : Typ
   pub taken : HasRead base progress front
   pub why : WhyRefused base progress refused error
 
--- the first character that is refused gives the error, and where there is none, the end of the text
+-- the first character that is refused decides the error, and if there is none, the end of the text
 abbrev pub WhyNoText : Base → List ℕ → DecodeError → Type 0
 WhyNoText base text (IllegalChar c) = StopsWith base text (IllegalChar c) × NoneIs base text
 WhyNoText base text TrailingInput = StopsWith base text TrailingInput × NoneIs base text

@@ -21,7 +21,7 @@ pub record HasNoSymbol (rest : List ℕ) : Type 0 where
   pub some : rest ≢ []
   pub none : (symbol : Symbol) (behind : List ℕ) → IsSymbol symbol → rest ≡ spelled symbol ++ behind → ⊥
 
--- Which fault comes first: something else than a symbol after at most 255 of them, or a 256th.
+-- Which fault comes first: something other than a symbol after at most 255 of them, or a 256th.
 abbrev pub HasFault : List ℕ → PresentationError → Type 0
 HasFault text BadSymbol =
     (octets : List ℕ) × (rest : List ℕ) × BeginsWith text octets rest × (length octets ≤ 255) × HasNoSymbol rest

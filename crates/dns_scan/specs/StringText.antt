@@ -19,20 +19,20 @@ pub record IsStringText (text string : List ℕ) : Type 0 where
   pub spells : Spells text string
   pub short : length string ≤ 255
 
--- Which printable characters are written after a backslash: in plain text the backslash; between quotes the quote too; in a word
--- the space, the quote, the parentheses, the semicolon and the backslash.
+-- Which printable characters are written after a backslash: in plain text the backslash; between quotes the quote too;
+-- in a word the space, the quote, the parentheses, the semicolon and the backslash.
 abbrev pub is_escaped : Style → ℕ → Bool
 is_escaped Plain octet = octet == 92
 is_escaped Quoted octet = (octet == 34) || (octet == 92)
 is_escaped Unquoted octet =
     (octet == 32) || ((octet == 34) || ((octet == 40) || ((octet == 41) || ((octet == 59) || (octet == 92)))))
 
--- what is not printable is written by three digits
+-- what is not printable is written as three digits
 abbrev pub symbol_of : Style → ℕ → Symbol
 symbol_of style octet =
     if is_printable octet then (if is_escaped style octet then SimpleEscape octet else Char octet) else DecimalEscape octet
 
--- the text of a string; that of a quoted one stands between its quotes
+-- the text of a string; that of a quoted one is between its quotes
 abbrev pub text_of : Style → List ℕ → List ℕ
 text_of style string = flat_map (λ octet. spelled (symbol_of style octet)) string
 

@@ -29,7 +29,7 @@ symbols_in [] = []
 symbols_in (Within symbol ∷ others) = symbol ∷ symbols_in others
 symbols_in (EndOfToken ∷ others) = symbols_in others
 
--- a closure took these one after another, and refused none; it is left so
+-- a closure took these one after another, and refused none; this is its state then
 abbrev pub TakesAll : {F Sym E : Type 0} → (F → Sym → Result (Unit {0}) E → F → Type 0) → F → List Sym → F → Type 0
 TakesAll step op symbols last = FoldsTo (λ before symbol after. step before symbol (Ok tt) after) op symbols last
 

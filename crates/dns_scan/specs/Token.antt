@@ -14,7 +14,7 @@ pub record Token : Type 0 where
 abbrev pub unquoted : List ℕ → Token
 unquoted text = record { quoted = false; text = text }
 
--- the tokens left are an ending of those before
+-- the tokens left are a suffix of those before
 pub record IsEnding (left before : List Token) : Type 0 where
   pub taken : List Token
   pub is : before ≡ taken ++ left
@@ -51,7 +51,7 @@ SpellsString string token = IsStringText token.text string
 abbrev pub IsWord : List ℕ → Token → Type 0
 IsWord text token = (token ≡ unquoted text) × (list_all is_plain text ≡ true)
 
--- what marks data of an unknown type: the unquoted `\#` (RFC 3597 5)
+-- the marker of unknown data: the unquoted `\#` (RFC 3597 5)
 abbrev pub marker : Token
 marker = unquoted (92 ∷ 35 ∷ [])
 

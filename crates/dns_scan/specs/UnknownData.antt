@@ -1,4 +1,4 @@
--- Data of an unknown type as text, after its marker (RFC 3597 5).
+-- Unknown data as text, after its marker (RFC 3597 5).
 use Rattle.std.specs.Prelude.{◌≡◌, ◌^◌, ℕ, List, [], ◌∷◌, length}
 use Rattle.std.specs.Str.{chars}
 use Rattle.dns_values.specs.Mnemonic.{number_spelled, type_read}

@@ -72,7 +72,7 @@ impl<Octs: Octets> CharStr<Octs> {
         CharStr { octets }
     }
 
-    /// The string without octets; what it would hold them in grows on this allocator, if it grows at all.
+    /// Returns the string without octets. Its octets grow on this allocator, if they grow at all.
     pub fn empty(alloc: Global) -> Self
     where
         Octs: FromBuilder,
@@ -84,7 +84,7 @@ impl<Octs: Octets> CharStr<Octs> {
         }
     }
 
-    /// How many octets there are, from 0 to 255.
+    /// Returns the number of octets, from 0 to 255.
     pub fn len(&self) -> usize
         ensures octets { result ≡ length self.now }
         ensures short { result ≤ 255 }
@@ -92,14 +92,14 @@ impl<Octs: Octets> CharStr<Octs> {
         self.as_slice().len()
     }
 
-    /// Whether there are no octets.
+    /// Returns whether there are no octets.
     pub fn is_empty(&self) -> bool
         ensures { IsTrue result ↔ (self.now ≡ []) }
     {
         self.as_slice().is_empty()
     }
 
-    /// The octets.
+    /// Returns the octets.
     pub fn as_slice(&self) -> &[u8]
         ensures octets { result.now ≡ self.now }
         ensures short { length self.now ≤ 255 }
@@ -107,7 +107,7 @@ impl<Octs: Octets> CharStr<Octs> {
         self.octets.octets()
     }
 
-    /// What holds the octets.
+    /// Returns what holds the octets.
     pub fn into_octets(self) -> Octs
         ensures octets { Octs.list result ≡ self }
         ensures short { length self ≤ 255 }
@@ -116,7 +116,7 @@ impl<Octs: Octets> CharStr<Octs> {
         octets
     }
 
-    /// The same string over borrowed octets.
+    /// Returns the same string over borrowed octets.
     pub fn for_ref(&self) -> CharStr<&[u8]>
         ensures { result ≡ self.now }
     {
@@ -125,7 +125,7 @@ impl<Octs: Octets> CharStr<Octs> {
         }
     }
 
-    /// The octets, one after another.
+    /// Returns the octets, one after another.
     pub fn iter(&self) -> CharStrIter<'_>
         ensures { result ≡ self.now }
     {
@@ -142,9 +142,9 @@ impl<'a> CharStr<&'a [u8]> {
         CharStr::from_octets(octets)
     }
 
-    /// Parses a string after its length octet. The parser then stands after the string.
+    /// Parses a string after its length octet, and moves the parser after the string.
     ///
-    /// Fails with `ShortInput` if the octets end before the string does; the parser then stays where it is.
+    /// Fails with `ShortInput` if the octets end before the string does. The parser then stays where it is.
     pub fn parse(parser: &mut Parser<'a>) -> Result<Self, ParseError>
         ensures ok { IfOk result (λ string. StartsWithString (rest_of parser.old) string (rest_of parser.new)) }
         ensures place { IfOk result (λ string. GoesOn parser.old parser.new (length (string_wire string))) }
@@ -290,8 +290,8 @@ impl<Octs: Octets> CanonicalOrd for CharStr<Octs> {
     }
 }
 
-/// The same string over other octets. Fails with `ShortBuf` only if these may not hold it, and with `OutOfMemory` if out of
-/// memory.
+/// Copies the string to other octets. Fails with `ShortBuf` only if these can't hold it, and with `OutOfMemory` if out
+/// of memory.
 impl<Source: Octets + Drop, Octs: FromBuilder> OctetsFrom<CharStr<Source>> for CharStr<Octs>
 where
     Octs::Builder: EmptyBuilder + Drop,

@@ -1,6 +1,6 @@
 //! Character strings, encodings and scanners of presentation text (RFC 1035 3.3 and 5.1, RFC 4648).
 //!
-//! A part of `dns_text`.
+//! `dns_text` re-exports this crate.
 #![tactic(auto)]
 
 mod char_str;

@@ -23,8 +23,8 @@ pub trait Scan<S: Scanner>: Sized {
 
     /// Reads the value, and takes its tokens.
     ///
-    /// Fails with an error other than `short_buf` only if the tokens do not begin with such a value; the tokens left are then
-    /// an ending of those left before.
+    /// Fails with an error other than `short_buf` only if the tokens do not begin with such a value; the tokens left
+    /// are then a suffix of those left before.
     fn scan(scanner: &mut S) -> Result<Self, S::Error>
         ensures ok { IfOk result (λ value. scans scanner.old value (S.tokens scanner.new)) }
         ensures err { IfErr result (λ error. S.Error.is_short error ≡ false → (value : Self) (left : List Token) → scans scanner.old value left → ⊥) }

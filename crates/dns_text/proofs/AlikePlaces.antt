@@ -1,4 +1,4 @@
--- Places behind which pieces have the same text.
+-- Places after which pieces have the same text.
 use Rattle.std.proofs.Common.{◌≡◌, ◌-◌, ℕ, zero, suc, nat_lt, Bool, true, false, if◌then◌else◌, List, [], ◌∷◌, ◌++◌, refl, sym, ◌∙◌, ap, subst, append_assoc}
 use Rattle.dns_text.specs.Document.{Layout, Piece, depth, gap, has_data, is_first, is_inside, piece_text, place_behind}
 use Rattle.dns_text.specs.Document.Layout.{Simple, Tabbed, Multiline}
@@ -6,7 +6,7 @@ use Rattle.dns_text.specs.Document.Piece.{Token, Comment, Open, Close, Newline}
 use Rattle.dns_text.specs.Lines.{place_after}
 use Rattle.dns_text.proofs.DocumentSplits.{some_open, text_behind}
 
--- pieces behind pieces
+-- pieces after pieces
 pub text_behind-append : (layout : Layout) (line pieces others : List Piece)
     → text_behind layout line (pieces ++ others) ≡ text_behind layout line pieces ++ text_behind layout (place_after line pieces) others
 text_behind-append layout line [] others = refl
@@ -18,7 +18,7 @@ pub place_after-append : (line pieces others : List Piece) → place_after line 
 place_after-append line [] others = refl
 place_after-append line (piece ∷ pieces) others = place_after-append (place_behind line piece) pieces others
 
--- The same marks are open, the line begins at both or at none, and there is data in front in both blocks or in none.
+-- The same marks are open, the line begins at both or at none, and both open blocks have data or neither.
 pub record Alike (layout : Layout) (line other : List Piece) : Type 0 where
   pub depth_is : depth line ≡ depth other
   pub first_is : is_first layout line ≡ is_first layout other
@@ -38,7 +38,7 @@ alike_gap layout line other alike = gap_by layout line other (is_inside other) r
 same_inside : (layout : Layout) (line other : List Piece) → Alike layout line other → is_inside line ≡ is_inside other
 same_inside layout line other alike = ap (nat_lt 0) alike.depth_is
 
--- the places behind the same piece
+-- the places after the same piece
 alike_token : (layout : Layout) (line other : List Piece) (token : List ℕ) → Alike layout line other
     → Alike layout (Token token ∷ line) (Token token ∷ other)
 alike_token layout line other token alike = record { depth_is = alike.depth_is; first_is = refl; data_is = λ inside. refl }
@@ -75,7 +75,7 @@ first_close Simple line other alike = alike.first_is
 first_close Tabbed line other alike = alike.first_is
 first_close Multiline line other alike = let d = alike.depth_is in let first = alike.first_is in cc
 
--- who is inside behind a mark that closes was so in front of it
+-- what is inside after a closing mark was inside before it
 inside_before : (n : ℕ) → nat_lt 0 (n - 1) ≡ true → nat_lt 0 n ≡ true
 inside_before zero inside = inside
 inside_before (suc n) inside = some_open n

@@ -14,7 +14,7 @@ pub nothing_either : (b : Bool) → ◌≡◌ {A = List ℕ} (if b then [] else 
 nothing_either true = refl
 nothing_either false = refl
 
--- a mark is not seen but under Multiline
+-- a mark is shown under Multiline only
 pub unseen_open : (layout : Layout) (line : List Piece) → (layout ≡ Multiline → ⊥) → (piece_text layout line Open ≡ [])
     × (is_first layout (Open ∷ line) ≡ is_first layout line)
 unseen_open Simple line other = (nothing_either (is_inside line), refl)
@@ -33,7 +33,7 @@ unseen_comment Simple line comment other = (refl, refl)
 unseen_comment Tabbed line comment other = (refl, refl)
 unseen_comment Multiline line comment other = absurd (other refl)
 
--- The one place is in a block of the other's and this many more, in which there is nothing that is seen.
+-- One place is in a block of the other's and this many more, and nothing in them is shown.
 record Sunk (layout : Layout) (line other : List Piece) (n : ℕ) : Type 0 where
   pub depth_is : depth line ≡ suc (n + depth other)
   pub first_is : is_first layout line ≡ is_first layout other
@@ -80,7 +80,7 @@ sunk_text layout (Newline ∷ pieces) n line other flat closed bare sunk =
 data_inside : (line : List Piece) → is_inside line ≡ true → has_data (Open ∷ line) ≡ has_data line
 data_inside line inside = cc
 
--- a block without tokens adds nothing but under Multiline
+-- a block without tokens adds nothing, except under Multiline
 pub bare_block : (layout : Layout) (line block behind : List Piece) → (layout ≡ Multiline → ⊥) → closes 0 block ≡ true
     → AllByRecursion IsNoToken block → text_behind layout line (Open ∷ block ++ Close ∷ behind) ≡ text_behind layout line behind
 bare_block layout line block behind flat closed bare =

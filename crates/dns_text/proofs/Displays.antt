@@ -1,4 +1,4 @@
--- What a document that is displayed writes to the formatter that is lent.
+-- What a displayed document writes to the formatter that is borrowed.
 use Rattle.std.proofs.Common.{◌≡◌, ℕ, List, [], ◌∷◌, refl, sym, subst, MutBor, Some}
 use Rattle.std.specs.List.{FoldsTo, concat}
 use Rattle.std.specs.Fmt.{HasWritten, IsPlainFormatter, WritesInCalls}
@@ -40,7 +40,7 @@ module _ {W : Type 0} (took : W → List ℕ → W → Type 0) where
       subst (λ l. HasWritten took start.target.now l back) (text_in_front-written_behind (layout_of start.kind) [] document)
       (plain_writes start.target.now _ back text plain)
 
-  -- the writer stood at the begin of a line, and the formatter is back with what was written
+  -- the writer was at the start of a line, and the formatter is back with what was written
   pub displayed : (start now : Writer (MutBor (Formatter W))) (old back : Formatter W) (kind : DisplayKind) (document : List Piece)
       → start.target.now ≡ old → start.kind ≡ kind → IsAt start []
       → (now.target.ghost_name ≡ start.target.ghost_name → back ≡ now.target.now)

@@ -19,13 +19,13 @@ use Rattle.dns_text.proofs.TokenSymbols.{differs, ends_low, ends_nil, ends_plain
 abbrev pub text_behind : Layout → List Piece → List Piece → List ℕ
 text_behind layout line pieces = flat_map (λ placed. piece_text layout placed.front placed.piece) (placed_from line pieces)
 
--- what follows stands inside parentheses
+-- what follows is inside parentheses
 abbrev pub inside_of : Layout → List Piece → Bool
 inside_of Simple line = false
 inside_of Tabbed line = false
 inside_of Multiline line = is_inside line
 
--- how the text behind a line reads: as rows; behind a comment; behind a token; and where the line begins
+-- how the text after a line reads: as rows; after a comment; after a token; and at the start of a line
 record Reads (layout : Layout) (line : List Piece) (text : List ℕ) (rows : List (List Token)) : Type 0 where
   pub split : Split (inside_of layout line) text rows
   pub skipped : inside_of layout line ≡ true → is_first layout line ≡ false → Split (inside_of layout line) (from_feed text) rows
@@ -52,7 +52,7 @@ inside_token Simple line text = refl
 inside_token Tabbed line text = refl
 inside_token Multiline line text = refl
 
--- what separates is white space
+-- a separator is white space
 own_goes : (text : List ℕ) (row : List Token) (rows : List (List Token)) → Split true text (row ∷ rows) → Split true (own_line ++ text) (row ∷ rows)
 own_goes text row rows s =
     split_goes 10 refl (split_goes 32 refl (split_goes 32 refl (split_goes 32 refl (split_goes 32 refl
@@ -81,7 +81,7 @@ gap_goes : (layout : Layout) (line : List Piece) (text : List ℕ) (row : List T
     → Split (inside_of layout line) text (row ∷ rows) → Split (inside_of layout line) (gap layout line ++ text) (row ∷ rows)
 gap_goes layout line text row rows s = gap_by layout line text row rows (is_first layout line) (is_inside line) refl s
 
--- what separates ends a token
+-- a separator ends a token
 tab_ends : (some : Bool) (text : List ℕ) → EndsToken false ((if some then 32 ∷ [] else 9 ∷ []) ++ text)
 tab_ends true text = ends_plain false 32 text refl
 tab_ends false text = ends_low false 9 text (omega arith)
@@ -132,7 +132,7 @@ first_close line false is first outside =
     sym (ap (λ (b : Bool). if b then false else is_first Multiline line) is) ∙ first in
     ap (λ (n : ℕ). n - 1) (outside behind)
 
--- under Multiline a line begins outside of blocks, since the marks of a block are seen
+-- under Multiline a line begins outside of blocks, since the marks of a block are shown
 first_is_outside : (line : List Piece) → is_first Multiline line ≡ true → depth line ≡ 0
 first_is_outside [] first = refl
 first_is_outside (token_piece text ∷ line) first = cc
@@ -141,7 +141,7 @@ first_is_outside (Open ∷ line) first = first_open line (is_inside line) refl f
 first_is_outside (Close ∷ line) first = first_close line (depth line == 1) refl first (first_is_outside line)
 first_is_outside (Newline ∷ line) first = first_is_outside line first
 
--- a piece that is not seen
+-- a piece that is not shown
 unseen : (layout : Layout) (line line' : List Piece) (text : List ℕ) (rows : List (List Token))
     → inside_of layout line' ≡ inside_of layout line → is_first layout line' ≡ is_first layout line
     → Reads layout line' text rows → Reads layout line text rows
@@ -173,7 +173,7 @@ token_step layout line found text rest row rows writes next =
       first = λ is. ap (λ l. is_led ((l ++ text) ++ rest)) (no_gap layout line is) ∙ token_unled found text rest writes;
     }
 
--- a comment that is seen
+-- a comment that is shown
 comment_step : (line : List Piece) (text rest : List ℕ) (row : List Token) (rows : List (List Token)) → is_inside line ≡ true
     → has_feed text ≡ false → Reads Multiline (Comment text ∷ line) rest (row ∷ rows)
     → Reads Multiline line ((9 ∷ 59 ∷ 32 ∷ text) ++ rest) (row ∷ rows)
@@ -187,7 +187,7 @@ comment_step line text rest row rows here no_feed next =
       first = λ is. let bad : true ≡ false = sym here ∙ is_outside_at line (first_is_outside line is) in cc;
     }
 
--- the mark in front of a block that is seen
+-- the opening mark of a block that is shown
 open_step : (line : List Piece) (rest : List ℕ) (row : List Token) (rows : List (List Token)) → is_inside line ≡ false
     → Reads Multiline (Open ∷ line) rest (row ∷ rows)
     → Reads Multiline line ((gap Multiline line ++ 40 ∷ []) ++ rest) (row ∷ rows)
@@ -203,7 +203,7 @@ open_step line rest row rows out next =
       first = λ is. ap (λ l. is_led ((l ++ 40 ∷ []) ++ rest)) (no_gap Multiline line is);
     }
 
--- the mark behind it
+-- the closing mark
 close_step : (line : List Piece) (rest : List ℕ) (row : List Token) (rows : List (List Token)) → depth line ≡ 1
     → Reads Multiline (Close ∷ line) rest (row ∷ rows)
     → Reads Multiline line ((own_line ++ 41 ∷ []) ++ rest) (row ∷ rows)
@@ -238,7 +238,7 @@ pub no_text : (b : Bool) (rest : List ℕ) → (if b then [] else []) ++ rest �
 no_text true rest = refl
 no_text false rest = refl
 
--- a mark in front of a block
+-- an opening mark of a block
 open_reads : (layout : Layout) (line : List Piece) (rest : List ℕ) (row : List Token) (rows : List (List Token)) (inside : Bool)
     → is_inside line ≡ inside → Reads layout (Open ∷ line) rest (row ∷ rows)
     → Reads layout line (piece_text layout line Open ++ rest) (row ∷ rows)
@@ -255,7 +255,7 @@ open_reads Multiline line rest row rows false is next =
     let text_of : Bool → List ℕ = λ b. (if b then [] else (gap Multiline line ++ 40 ∷ [])) ++ rest in
     subst (λ l. Reads Multiline line l (row ∷ rows)) (sym (ap text_of is)) (open_step line rest row rows is next)
 
--- a mark behind a block
+-- a closing mark of a block
 close_reads : (layout : Layout) (line : List Piece) (rest : List ℕ) (row : List Token) (rows : List (List Token)) (n : ℕ)
     → depth line ≡ suc n → Reads layout (Close ∷ line) rest (row ∷ rows)
     → Reads layout line (piece_text layout line Close ++ rest) (row ∷ rows)

@@ -1,4 +1,4 @@
--- What the text of a document is, by what stands between its pieces.
+-- What the text of a document is, told by what is between its pieces.
 use Rattle.std.proofs.Common.{◌≡◌, ℕ, true, false, List, [], ◌∷◌, ◌++◌, refl, sym, ◌∙◌, ap, append_assoc, append-nil}
 use Rattle.std.specs.List.{AllByRecursion}
 use Rattle.dns_text.specs.Document.{Layout, Piece, document_text, is_inside}
@@ -11,7 +11,7 @@ use Rattle.dns_text.proofs.DocumentSplits.{is_outside_at, text_behind}
 use Rattle.dns_text.proofs.InnerBlocks.{held_newline, inner_block, line_end, no_comment}
 use Rattle.dns_text.proofs.LineTexts.{line_reads, parts_end}
 
--- what stands behind the same pieces counts alone
+-- only what follows the same pieces matters
 behind : (layout : Layout) (front one other : List Piece)
     → text_behind layout (place_after [] front) one ≡ text_behind layout (place_after [] front) other
     → document_text layout (front ++ one) ≡ document_text layout (front ++ other)

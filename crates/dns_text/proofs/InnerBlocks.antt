@@ -9,7 +9,7 @@ use Rattle.dns_text.proofs.AlikePlaces.{Alike, alike_text, text_behind-append}
 use Rattle.dns_text.proofs.DocumentSplits.{is_inside_at, text_behind}
 use Rattle.dns_text.proofs.TokenSymbols.{differs}
 
--- The one place is one block deeper than the other, which is inside one and this many more.
+-- One place is one block deeper than the other, which is inside one and this many more.
 record Deeper (layout : Layout) (line other : List Piece) (n : ℕ) : Type 0 where
   pub depth_is : depth line ≡ suc (suc n)
   pub other_is : depth other ≡ suc n
@@ -30,7 +30,7 @@ deeper_comment Simple line other n comment deeper = record { depth_is = deeper.d
 deeper_comment Tabbed line other n comment deeper = record { depth_is = deeper.depth_is; other_is = deeper.other_is; first_is = deeper.first_is; data_is = deeper.data_is }
 deeper_comment Multiline line other n comment deeper = record { depth_is = deeper.depth_is; other_is = deeper.other_is; first_is = refl; data_is = deeper.data_is }
 
--- a mark inside a block is not seen, and neither is a line end
+-- a mark inside a block is not shown, and neither is a line end
 inner_open : (layout : Layout) (line : List Piece) → is_inside line ≡ true → (piece_text layout line Open ≡ [])
     × (is_first layout (Open ∷ line) ≡ is_first layout line) × (has_data (Open ∷ line) ≡ has_data line)
 inner_open Simple line inside = (cc, refl, cc)
@@ -60,7 +60,7 @@ both_more : (layout : Layout) (line other : List Piece) (piece : Piece) (pieces 
 both_more layout line other piece pieces one others =
     ap (λ l. l ++ text_behind layout (place_behind line piece) pieces) one ∙ ap (λ l. piece_text layout other piece ++ l) others
 
--- Pieces that close their own marks and so many others have the same text at both places.
+-- Pieces that close their own marks and that number of others have the same text at both places.
 abbrev Same : Layout → List Piece → List Piece → List Piece → ℕ → Type 0
 Same layout line other pieces m =
     (text_behind layout line pieces ≡ text_behind layout other pieces) × Deeper layout (place_after line pieces) (place_after other pieces) m
@@ -121,7 +121,7 @@ deeper_same layout (Newline ∷ pieces) n m k line other closed is deeper =
     (subst (λ l. Same layout l (place_behind other Newline) pieces m) (sym one.1)
     (subst (λ l. Same layout (Newline ∷ line) l pieces m) (sym two.1) behind))
 
--- how many marks are open, but for one
+-- how many marks are open, minus one
 one_open : (line : List Piece) → is_inside line ≡ true → depth line ≡ suc (depth line - 1)
 one_open line inside = omega (arith, ltb-true 0 (depth line) inside)
 
@@ -165,7 +165,7 @@ line_end layout line behind out =
     let text : Bool → List ℕ = λ b. (if b then [] else 10 ∷ []) ++ text_behind layout (if b then Newline ∷ line else []) behind in
     ap text out
 
--- a comment is left out but under Multiline
+-- a comment is left out, except under Multiline
 pub no_comment : (layout : Layout) (line behind : List Piece) (comment : List ℕ) → (layout ≡ Multiline → ⊥)
     → text_behind layout line (Comment comment ∷ behind) ≡ text_behind layout line behind
 no_comment Simple line behind comment other = alike_text Simple (Comment comment ∷ line) line behind (record { depth_is = refl; first_is = refl; data_is = λ here. refl })

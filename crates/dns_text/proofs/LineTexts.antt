@@ -11,12 +11,12 @@ use Rattle.dns_text.proofs.AlikePlaces.{place_after-append, text_behind-append}
 use Rattle.dns_text.proofs.BareBlocks.{unseen_close, unseen_open}
 use Rattle.dns_text.proofs.DocumentSplits.{is_inside_at, is_outside_at, text_behind}
 
--- texts where a line begins or doesn't: none has the separator in front where it is the first of its line
+-- texts at the start of a line or not: each has the separator before it, except the first of a line
 abbrev led : Bool → ℕ → List (List ℕ) → List ℕ
 led true c texts = join_with_byte c texts
 led false c texts = flat_map (λ text. c ∷ text) texts
 
--- whether the line still begins behind these
+-- whether the line still begins after these
 abbrev still_first : Bool → List (List ℕ) → Bool
 still_first first [] = first
 still_first first (text ∷ texts) = false
@@ -50,14 +50,14 @@ led_append first c (text ∷ texts) others =
     ∙ sym (append_assoc sep (text ++ led false c texts) (led false c others))
     ∙ ap (λ l. l ++ led false c others) (sym (led_cons first c text texts))
 
--- what stands in front of a word
+-- what is before a word
 word_gap : (layout : Layout) (line : List Piece) → depth line ≡ 0
     → gap layout line ≡ (if is_first layout line then [] else separator layout ∷ [])
 word_gap Simple line at = let out = is_outside_at line at in cc
 word_gap Tabbed line at = let out = is_outside_at line at in cc
 word_gap Multiline line at = let out = is_outside_at line at in cc
 
--- what stands in front of data, where it isn't the first of its block
+-- what is before data, unless it is the first of its block
 abbrev inner_gap : Layout → List ℕ
 inner_gap Simple = 32 ∷ []
 inner_gap Tabbed = 32 ∷ []
@@ -75,7 +75,7 @@ notes Simple comments = []
 notes Tabbed comments = []
 notes Multiline comments = flat_map (λ comment. 9 ∷ 59 ∷ 32 ∷ comment) comments
 
--- the place behind a token
+-- the place after a token
 record BehindToken (layout : Layout) (line behind : List Piece) : Type 0 where
   pub depth_is : depth behind ≡ depth line
   pub first_is : is_first layout behind ≡ false
@@ -122,7 +122,7 @@ noted_reads layout line noted =
       others.1,
     )
 
--- data behind the first of its block
+-- data after the first of its block
 abbrev data_text : Layout → List Noted → List ℕ
 data_text layout some = flat_map (λ noted. inner_gap layout ++ noted_text layout noted) some
 
@@ -146,7 +146,7 @@ data_reads layout line (noted ∷ some) at gap_is =
       subst (λ l. InBlock layout l false) (sym (place_after-append line (noted_pieces noted) (flat_map noted_pieces some))) others.1,
     )
 
--- the data of a block, of which the first stands behind a gap of its own
+-- the data of a block; the first has a separator of its own
 first_data : (layout : Layout) (line : List Piece) (noted : Noted) (some : List Noted) → depth line ≡ 1
     → (text_behind layout line (flat_map noted_pieces (noted ∷ some)) ≡ gap layout line ++ (noted_text layout noted ++ data_text layout some))
     × InBlock layout (place_after line (flat_map noted_pieces (noted ∷ some))) false
@@ -163,7 +163,7 @@ first_data layout line noted some at =
       subst (λ l. InBlock layout l false) (sym (place_after-append line (noted_pieces noted) (flat_map noted_pieces some))) others.1,
     )
 
--- What a part comes to at a place outside of blocks, where the line begins or doesn't.
+-- What a part becomes at a place outside of blocks, at the start of a line or not.
 record PartReads (layout : Layout) (line : List Piece) (part : Part) (first : Bool) : Type 0 where
   pub text : text_behind layout line (part_pieces part) ≡ led first (separator layout) (part_texts layout part)
   pub depth_is : depth (place_after line (part_pieces part)) ≡ 0
@@ -213,7 +213,7 @@ flat_block layout line some flat =
     ∙ ap (λ l. inner ++ l) (unseen_close layout last flat).0
     ∙ append-nil inner
 
--- the place behind a block whose marks are not seen
+-- the place after a block whose marks are not shown
 flat_place : (layout : Layout) (line : List Piece) (some : List Noted) (first : Bool) → (layout ≡ Multiline → ⊥)
     → InBlock layout (place_after (Open ∷ line) (flat_map noted_pieces some)) first
     → (depth (place_after line (part_pieces (Block some))) ≡ 0) × (is_first layout (place_after line (part_pieces (Block some))) ≡ first)

@@ -1,4 +1,4 @@
--- A text has one row at a place, none where it ends, and is rows of tokens in one way.
+-- A text has one row at a place, none at its end, and splits into rows of tokens in one way only.
 use Rattle.std.proofs.Common.{◌≡◌, ℕ, Bool, true, false, List, [], ◌∷◌, ◌++◌, Option, Some, None, ◌==◌, if◌then◌else◌, not, refl, sym, ◌∙◌, ap, subst}
 use Rattle.std.specs.List.{flat_map}
 use Rattle.std.proofs.lemmas.Bool.Decides.{Decides-eqb}
@@ -19,7 +19,7 @@ record Reads (is_quoted : Bool) (text : List ℕ) (behind : List ℕ → List �
   pub found_is : found ≡ Some (record { quoted = is_quoted; text = front })
   pub out_is : out ≡ inside
 
--- what the next token says behind the octet in front
+-- what the next token is after the first octet
 abbrev After : Bool → ℕ → Head → List ℕ → Option Token → Bool → List ℕ → Type 0
 After inside octet (Go behind) text found out rest = Next behind text found out rest
 After inside octet Comment text found out rest = Next inside (from_feed text) found out rest
@@ -116,12 +116,12 @@ none_after octet text false is none' behind =
     ap (λ (b : Bool). if b then octet ∷ text else from_feed text) is
     ∙ behind (sym (ap (λ (b : Bool). if b then true else has_feed text) is) ∙ none')
 
--- what is left of a text without a line feed behind its comment
+-- what is left after its comment of a text without a line feed
 none_from_feed : (text : List ℕ) → has_feed text ≡ false → from_feed text ≡ []
 none_from_feed [] none' = refl
 none_from_feed (octet ∷ text) none' = none_after octet text (octet == 10) refl none' (none_from_feed text)
 
--- where a text ends there is no token, and no row
+-- at the end of a text there is no token, and no row
 abbrev head_if_no_gap : Bool → ℕ → Head
 head_if_no_gap inside octet =
     if octet == 10 then (if inside then Go true else Feed)

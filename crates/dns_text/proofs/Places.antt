@@ -1,4 +1,4 @@
--- The place of a writer behind one more piece, and the text of that piece.
+-- The place of a writer after one more piece, and the text of that piece.
 use Rattle.std.proofs.Common.{◌≡◌, ◌-◌, ◌==◌, ℕ, suc, nat_lt, if◌then◌else◌, Bool, true, false, List, [], ◌∷◌, ◌++◌, refl, sym, ◌∙◌, ap, subst}
 use Rattle.std.specs.Fmt.{WritesInCalls}
 use Rattle.std.proofs.Output.{writes_in_calls_append, writes_in_calls_single}
@@ -113,7 +113,7 @@ shows_mark took old between behind gap' mark is first second =
       text = subst (λ l. WritesInCalls took old.target (under_multiline l (gap' ++ mark)) behind) (sym is) text;
     }
 
--- the same place, of a writer that is known by its parts
+-- the same place, for a writer that is known by its parts
 pub marked : (kind kind' : DisplayKind) (line : List Piece) (open' : ℕ) (first first' data' data'' : Bool)
     → kind' ≡ kind → first' ≡ first → data'' ≡ data'
     → IsPlace (layout_of kind) line open' first data' → IsPlace (layout_of kind') line open' first' data''

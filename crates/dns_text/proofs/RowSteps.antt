@@ -1,4 +1,4 @@
--- A row of a text, step by step from its front.
+-- A row of a text, step by step from its start.
 use Rattle.std.proofs.Common.{◌≡◌, ◌==◌, ◌<◌, ℕ, Bool, true, false, List, [], ◌∷◌, ◌++◌, length, Some, None, if◌then◌else◌, map, refl, sym, ◌∙◌, ap, subst, arith, append_assoc}
 use Rattle.std.specs.List.{AllByRecursion, flat_map}
 use Rattle.dns_label.specs.declared.symbol.Symbol.{Symbol}
@@ -15,7 +15,7 @@ use Rattle.dns_text.specs.Rows.BeginsWithRows.{none, more}
 use Rattle.dns_text.specs.DocumentRows.WritesToken.{quoted, unquoted}
 use Rattle.dns_text.proofs.TokenSymbols.{ends_plain, symbol_first, word_head, word_no_gap}
 
--- rows, of which the first begins inside parentheses or outside; white space leads none of the others
+-- rows; the first begins inside parentheses or outside, and none of the others begins with white space
 pub data Split : Bool → List ℕ → List (List Token) → Type 0 where
   nothing : Split false [] []
   row : {inside : Bool} {text rest : List ℕ} {tokens : List Token} {rows : List (List Token)} → Row inside text tokens rest
@@ -34,7 +34,7 @@ rows_of {text} is (row {tokens = tokens} {rows = rows} first next others) =
     subst (λ (r : TokenRow). BeginsWithRows text (r ∷ map unled rows) []) (unled_row (is_led text) tokens is)
     (more first (rows_of next others))
 
--- behind white space or a parenthesis
+-- after white space or a parenthesis
 row_goes : {inside behind : Bool} {text rest : List ℕ} {tokens : List Token} (octet : ℕ) → head_of inside octet ≡ Go behind
     → Row behind text tokens rest → Row inside (octet ∷ text) tokens rest
 row_goes octet head (end next) = end (goes octet _ head next)
@@ -44,7 +44,7 @@ pub split_goes : {inside behind : Bool} {text : List ℕ} {tokens : List Token} 
     → head_of inside octet ≡ Go behind → Split behind text (tokens ∷ rows) → Split inside (octet ∷ text) (tokens ∷ rows)
 split_goes octet head (row first next others) = row (row_goes octet head first) next others
 
--- behind a comment
+-- after a comment
 row_comment : (inside : Bool) (skipped text rest : List ℕ) (tokens : List Token) (octet : ℕ) → head_of inside octet ≡ Comment
     → skipped ≡ from_feed text → Row inside skipped tokens rest → Row inside (octet ∷ text) tokens rest
 row_comment inside skipped text rest _ octet head is (end next) =
@@ -58,7 +58,7 @@ pub split_comment : (inside : Bool) (skipped text : List ℕ) (tokens : List Tok
 split_comment inside skipped text tokens rows octet head is (row {rest = rest} first next others) =
     row (row_comment inside skipped text rest tokens octet head is first) next others
 
--- behind the line feed of a row
+-- after the line feed of a row
 pub split_feed : {text : List ℕ} {rows : List (List Token)} → is_led text ≡ false → Split false text rows
     → Split false (10 ∷ text) ([] ∷ rows)
 split_feed next others = row (end (ended 10 refl)) next others
@@ -81,7 +81,7 @@ quote_next true text behind are =
 quote_next false text behind are =
     quoted_next 34 refl (record { symbols = are.symbols; each = are.each; written = are.written; whole = refl; longest = ends_plain true 34 behind refl })
 
--- behind a token
+-- after a token
 pub split_token : (inside : Bool) (found : Token) (text behind : List ℕ) (tokens : List Token) (rows : List (List Token))
     → WritesToken found text → EndsToken false behind → Split inside behind (tokens ∷ rows)
     → Split inside (text ++ behind) ((found ∷ tokens) ∷ rows)
@@ -92,7 +92,7 @@ split_token inside found _ behind tokens rows (quoted {text} are) ends (row firs
     subst P (sym (append_assoc text (34 ∷ []) behind))
     (row (token inside behind (quote_next inside text behind are) first) next others)
 
--- white space leads no token
+-- no token begins with white space
 word_unled : (text behind : List ℕ) (symbols : List Symbol) → AllByRecursion (IsIn false) symbols → text ≡ flat_map spelled symbols
     → 0 < length text → is_led (text ++ behind) ≡ false
 word_unled [] behind symbols each written some = absurd (omega arith)

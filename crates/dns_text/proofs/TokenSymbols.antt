@@ -1,5 +1,5 @@
--- Symbols are a prefix code: no symbol's spelling begins another's. So the longest run of a token's symbols at the front of a
--- text is one, and the octet that it begins with is known.
+-- Symbols are a prefix code: no symbol's spelling is a prefix of another's. So a text starts with one longest run of a
+-- token's symbols, and the octet that it begins with is known.
 use Rattle.std.proofs.Common.{◌≡◌, ℕ, ◌+◌, ◌/◌, ◌%◌, ◌<◌, ◌≤◌, List, [], ◌∷◌, ◌++◌, Bool, true, false, ◌==◌, refl, sym, ◌∙◌, ap, subst, arith, append_assoc, inl, inr}
 use Rattle.std.proofs.lemmas.Bool.Decides.{nat_tests}
 use Rattle.std.specs.List.{AllByRecursion, flat_map}
@@ -9,7 +9,7 @@ use Rattle.dns_label.specs.Symbol.{IsSymbol, spelled}
 use Rattle.dns_text.specs.Tokens.{IsIn, EndsToken, stands_plain, head_of, is_gap}
 use Rattle.dns_text.specs.Tokens.Head.{Word}
 
--- three digits of a number say which number
+-- three digits spell one number
 one_number : (m n : ℕ) → m < 256 → n < 256 → 48 + m / 100 ≡ 48 + n / 100 → 48 + m / 10 % 10 ≡ 48 + n / 10 % 10
     → 48 + m % 10 ≡ 48 + n % 10 → m ≡ n
 one_number m n small small' hundreds tens ones = omega arith
@@ -19,7 +19,7 @@ no_digit : (c n : ℕ) → IsSymbol (SimpleEscape c) → n < 256 → c ≡ 48 + 
 no_digit c n (print, inl low) small is = absurd (omega arith)
 no_digit c n (print, inr high) small is = absurd (omega arith)
 
--- the symbol at the front of a text is one
+-- a text starts with one symbol
 pub one_symbol : (a b : Symbol) (x y : List ℕ) → IsSymbol a → IsSymbol b → spelled a ++ x ≡ spelled b ++ y → (a ≡ b) × (x ≡ y)
 one_symbol (Char c) (Char d) x y is is' same = (cc, cc)
 one_symbol (Char c) (SimpleEscape d) x y is is' same = absurd (is.1 (cc))
@@ -48,7 +48,7 @@ symbol_first quoted (SimpleEscape c) octet text rest is at =
 symbol_first quoted (DecimalEscape n) octet text rest is at =
     let e : 92 ≡ octet = cc in (omega arith, subst (λ (n : ℕ). stands_plain quoted n ≡ true) e (backslash_stands quoted))
 
--- where a token's text ends
+-- the end of a token's text
 pub ends_nil : (quoted : Bool) → EndsToken quoted []
 ends_nil quoted (Char c) rest is at = cc
 ends_nil quoted (SimpleEscape c) rest is at = cc
@@ -75,7 +75,7 @@ word_no_gap octet print stands =
     let carriage = differs octet 13 (λ e. omega arith) in
     rw (space, tab, carriage) refl
 
--- the octet that a word begins with is no other thing between tokens
+-- the octet that a word begins with means nothing else between tokens
 pub word_head : (inside : Bool) (octet : ℕ) → 32 ≤ octet → stands_plain false octet ≡ true → head_of inside octet ≡ Word
 word_head inside octet print stands =
     let gap = differs octet 32 (plain_differs octet 32 stands refl) in
@@ -88,7 +88,7 @@ word_head inside octet print stands =
     let quote = differs octet 34 (plain_differs octet 34 stands refl) in
     rw (gap, tab, carriage, feed, open', close, comment, quote) refl
 
--- the longest run of a token's symbols at the front of a text is one
+-- a text starts with one longest run of a token's symbols
 pub one_run : (quoted : Bool) (xs ys : List Symbol) (x y : List ℕ) → AllByRecursion (IsIn quoted) xs → AllByRecursion (IsIn quoted) ys
     → EndsToken quoted x → EndsToken quoted y → flat_map spelled xs ++ x ≡ flat_map spelled ys ++ y → (xs ≡ ys) × (x ≡ y)
 one_run quoted [] [] x y each each' ends ends' same = (refl, same)

@@ -73,7 +73,7 @@ pub marks_multiline : document_text Multiline marks
     ≡ codes "a (" ++ 10 ∷ codes "        b" ++ 10 ∷ codes "        c" ++ 10 ∷ codes "        ) d e" ++ 10 ∷ []
 marks_multiline = refl
 
--- two rows as lines of words and blocks, of which one has no data, and their text
+-- two rows as lines of words and blocks, one without data, and their text
 abbrev pub bare_token : List ℕ → Noted
 bare_token token = record { token = token; comments = [] }
 

@@ -1,4 +1,4 @@
--- The tokens of opaque data as they are written one after another.
+-- The tokens of unknown data as they are written one after another.
 use Rattle.std.proofs.Common.{◌≡◌, ◌<◌, ℕ, suc, List, [], ◌∷◌, length, decimal, ap, arith}
 use Rattle.dns_label.specs.Octets.{AreOctets}
 use Rattle.dns_scan.specs.Encodings.{encoded_16}

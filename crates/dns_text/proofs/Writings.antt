@@ -1,4 +1,4 @@
--- Pieces one behind the other.
+-- Pieces one after another.
 use Rattle.std.proofs.Common.{◌≡◌, List, [], ◌∷◌, ◌++◌, refl, sym, ◌∙◌, subst, append_assoc, append-nil, Result, Ok, Err, OnOk, IsOk}
 use Rattle.std.specs.List.{flat_map}
 use Rattle.dns_text.specs.Document.{Layout, Piece, piece_text, placed_from}

@@ -1,5 +1,5 @@
--- Documents: what is printed, before a layout is chosen, and the text of a document under each layout. A document is a list
--- of pieces; how a piece is written depends on its place alone, which is the list of the pieces in front of it on its line.
+-- Documents: what is printed, before a layout is chosen, and the text of a document under each layout. A document is a
+-- list of pieces. How a piece is written depends on its place only: the list of the pieces before it on its line.
 use Rattle.std.specs.Prelude.{◌-◌, ◌==◌, ℕ, suc, Bool, true, false, List, [], ◌∷◌, ◌++◌, nat_lt, if◌then◌else◌}
 use Rattle.std.specs.List.{flat_map}
 
@@ -19,7 +19,7 @@ pub data Piece : Type 0 where
   Close : Piece
   Newline : Piece
 
--- how many marks are open behind these pieces of a line, of which the nearest is the first
+-- how many marks are open after these pieces of a line, the nearest piece first
 abbrev pub depth : List Piece → ℕ
 depth [] = 0
 depth (Token token ∷ front) = depth front
@@ -32,7 +32,7 @@ depth (Newline ∷ front) = depth front
 abbrev pub is_inside : List Piece → Bool
 is_inside front = nat_lt 0 (depth front)
 
--- whether there is a token in front in the block that is open
+-- whether the open block has a token already
 abbrev pub has_data : List Piece → Bool
 has_data [] = false
 has_data (Token token ∷ front) = true
@@ -41,7 +41,7 @@ has_data (Open ∷ front) = if is_inside front then has_data front else false
 has_data (Close ∷ front) = has_data front
 has_data (Newline ∷ front) = has_data front
 
--- whether a piece is seen at a place of a line: comments and the marks of a block under Multiline alone
+-- whether a piece is shown at a place of a line: comments and the marks of a block under Multiline only
 abbrev pub is_seen : Layout → List Piece → Piece → Bool
 is_seen layout front (Token token) = true
 is_seen Multiline front (Comment comment) = true
@@ -49,7 +49,7 @@ is_seen Multiline front Open = if is_inside front then false else true
 is_seen Multiline front Close = depth front == 1
 is_seen layout front piece = false
 
--- whether the line begins here: nothing is seen in front
+-- whether the line begins here: nothing is shown before
 abbrev pub is_first : Layout → List Piece → Bool
 is_first layout [] = true
 is_first layout (piece ∷ front) = if is_seen layout front piece then false else is_first layout front
@@ -58,13 +58,13 @@ is_first layout (piece ∷ front) = if is_seen layout front piece then false els
 abbrev pub own_line : List ℕ
 own_line = 10 ∷ 32 ∷ 32 ∷ 32 ∷ 32 ∷ 32 ∷ 32 ∷ 32 ∷ 32 ∷ []
 
--- what stands in front of a token or a block outside of blocks, where the line doesn't begin
+-- what is before a token or a block outside of blocks, unless the line begins there
 abbrev pub outer_gap : Layout → List ℕ
 outer_gap Simple = 32 ∷ []
 outer_gap Tabbed = 9 ∷ []
 outer_gap Multiline = 32 ∷ []
 
--- what stands in front of a token in a block
+-- what is before a token in a block
 abbrev pub data_gap : Layout → List Piece → List ℕ
 data_gap Simple front = 32 ∷ []
 data_gap Tabbed front = if has_data front then 32 ∷ [] else 9 ∷ []
@@ -79,7 +79,7 @@ under_multiline Simple text = []
 under_multiline Tabbed text = []
 under_multiline Multiline text = text
 
--- how a piece is written at a place. A comment stands behind a tab, a semicolon and a space.
+-- how a piece is written at a place. A comment follows a tab, a semicolon and a space.
 abbrev pub piece_text : Layout → List Piece → Piece → List ℕ
 piece_text layout front (Token token) = gap layout front ++ token
 piece_text layout front (Comment comment) = under_multiline layout (9 ∷ 59 ∷ 32 ∷ comment)
@@ -87,7 +87,7 @@ piece_text layout front Open = if is_inside front then [] else under_multiline l
 piece_text layout front Close = if depth front == 1 then under_multiline layout (own_line ++ 41 ∷ []) else []
 piece_text layout front Newline = if is_inside front then [] else 10 ∷ []
 
--- the place behind a piece: a line ends outside of blocks alone
+-- the place after a piece: a line ends outside of blocks only
 abbrev pub place_behind : List Piece → Piece → List Piece
 place_behind front (Token token) = Token token ∷ front
 place_behind front (Comment comment) = Comment comment ∷ front

@@ -9,7 +9,7 @@ use Rattle.dns_text.specs.Document.Piece.{Token as token_piece}
 use Rattle.dns_scan.specs.Token.{Token}
 use Rattle.dns_text.specs.Tokens.{IsIn, has_feed}
 
--- symbols that stand in a quoted token, or in an unquoted one
+-- symbols that may be in a quoted token, or in an unquoted one
 pub record AreSymbols (quoted : Bool) (text : List ℕ) : Type 0 where
   pub symbols : List Symbol
   pub each : AllByRecursion (IsIn quoted) symbols
@@ -20,8 +20,8 @@ pub data WritesToken : Token → List ℕ → Type 0 where
   quoted : {text : List ℕ} → AreSymbols true text → WritesToken (record { quoted = true; text = text }) (34 ∷ text ++ 34 ∷ [])
   unquoted : {text : List ℕ} → AreSymbols false text → 0 < length text → WritesToken (record { quoted = false; text = text }) text
 
--- The tokens of a document's rows, where so many marks are open. Every mark and every token has a line end behind it, each
--- mark in front of a block one behind it, and comments stand in blocks alone.
+-- The tokens of a document's rows, if that number of marks is open. A line end follows every mark and every token, a
+-- closing mark follows each opening one, and comments are in blocks only.
 pub data HasRows : ℕ → List Piece → List (List Token) → Type 0 where
   none : HasRows 0 [] []
   token : {depth : ℕ} {pieces : List Piece} {row : List Token} {rows : List (List Token)} {found : Token} {text : List ℕ}

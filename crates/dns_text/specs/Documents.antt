@@ -4,7 +4,7 @@ use Rattle.dns_name.specs.UnknownText.{unknown_words}
 use Rattle.dns_text.specs.Document.{Piece}
 use Rattle.dns_text.specs.Document.Piece.{Token, Open, Close}
 
--- the words of opaque data, each a token (RFC 3597 5)
+-- the words of unknown data, each a token (RFC 3597 5)
 abbrev pub unknown_tokens : List ℕ → List Piece
 unknown_tokens octets = map Token (unknown_words octets)
 

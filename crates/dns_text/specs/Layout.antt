@@ -1,4 +1,4 @@
--- The layouts that are asked for.
+-- The layouts to choose from.
 use Rattle.dns_text.specs.declared.layout.DisplayKind.{DisplayKind}
 use Rattle.dns_text.specs.declared.layout.DisplayKind.TheVariants as kinds
 use Rattle.dns_text.specs.Document.{Layout}

@@ -3,7 +3,7 @@ use Rattle.std.specs.Prelude.{◌≡◌, ℕ, Bool, true, false, List, [], ◌�
 use Rattle.dns_scan.specs.Token.{Token}
 use Rattle.dns_text.specs.Tokens.{Row, is_end, is_gap}
 
--- a row: whether white space leads it, which says that it is of the owner before it; and its tokens, perhaps none
+-- a row: whether it begins with white space, which says that it is of the owner before it; and its tokens, perhaps none
 pub record TokenRow : Type 0 where
   pub led : Bool
   pub tokens : List Token
@@ -23,7 +23,7 @@ pub data BeginsWithRows : List ℕ → List TokenRow → List ℕ → Type 0 whe
   more : {text behind rest : List ℕ} {tokens : List Token} {rows : List TokenRow} → Row false text tokens behind
       → BeginsWithRows behind rows rest → BeginsWithRows text (record { led = is_led text; tokens = tokens } ∷ rows) rest
 
--- The text is these rows, and behind the last of them it ends.
+-- The text is these rows, and ends after the last of them.
 pub record IsText (text : List ℕ) (rows : List TokenRow) : Type 0 where
   pub rest : List ℕ
   pub begins : BeginsWithRows text rows rest
@@ -34,7 +34,7 @@ pub record IsTextOnly (text : List ℕ) (rows : List TokenRow) : Type 0 where
   pub is : IsText text rows
   pub only : (others : List TokenRow) → IsText text others → others ≡ rows
 
--- Behind these rows the text is broken: it goes on, but with no row. Nothing behind that is read.
+-- After these rows the text is broken: it goes on, but with no row. Nothing after that is read.
 pub record BreaksAfter (text : List ℕ) (rows : List TokenRow) : Type 0 where
   pub rest : List ℕ
   pub begins : BeginsWithRows text rows rest

@@ -13,7 +13,7 @@ is_gap octet = (octet == 32) || ((octet == 9) || (octet == 13))
 
 -- what an octet means between two tokens, outside or inside parentheses
 pub data Head : Type 0 where
-  -- nothing: what follows stands inside parentheses or not
+  -- nothing: what follows is inside parentheses or not
   Go : Bool → Head
   Comment : Head
   Feed : Head
@@ -30,7 +30,7 @@ head_of inside octet =
     else (if octet == 41 then (if inside then Go false else Refused)
     else (if octet == 59 then Comment else (if octet == 34 then Quote else Word)))))
 
--- In a quoted token a quote stands only escaped; in an unquoted one a space, `"`, `(`, `)` and `;` do.
+-- A quote is only escaped in a quoted token; a space, `"`, `(`, `)` and `;` are only escaped in an unquoted one.
 abbrev pub stands_plain : Bool → ℕ → Bool
 stands_plain true octet = if octet == 34 then false else true
 stands_plain false octet =
@@ -40,7 +40,7 @@ abbrev pub Stands : Bool → Symbol → Type 0
 Stands quoted (Char c) = stands_plain quoted c ≡ true
 Stands quoted _ = ⊤
 
--- a symbol that may stand in a token
+-- a symbol that may be in a token
 abbrev pub IsIn : Bool → Symbol → Type 0
 IsIn quoted symbol = IsSymbol symbol × Stands quoted symbol
 
@@ -48,7 +48,7 @@ IsIn quoted symbol = IsSymbol symbol × Stands quoted symbol
 abbrev pub EndsToken : Bool → List ℕ → Type 0
 EndsToken quoted text = (symbol : Symbol) (rest : List ℕ) → IsIn quoted symbol → text ≡ spelled symbol ++ rest → ⊥
 
--- the front of the text is a longest run of a token's symbols
+-- the text starts with a longest run of a token's symbols
 pub record IsRun (quoted : Bool) (text front rest : List ℕ) : Type 0 where
   pub symbols : List Symbol
   pub each : AllByRecursion (IsIn quoted) symbols
@@ -61,8 +61,8 @@ abbrev pub from_feed : List ℕ → List ℕ
 from_feed [] = []
 from_feed (octet ∷ rest) = if octet == 10 then octet ∷ rest else from_feed rest
 
--- From a place inside parentheses or outside, the next token of the row, or none at its end; then whether what follows is
--- inside, and what is left.
+-- From a place inside parentheses or outside, the next token of the row, or none at its end; then whether what follows
+-- is inside, and what is left.
 pub data Next : Bool → List ℕ → Option Token → Bool → List ℕ → Type 0 where
   ended : {inside : Bool} {rest : List ℕ} (octet : ℕ) → head_of inside octet ≡ Feed → Next inside (octet ∷ rest) None false rest
   goes : {inside : Bool} {text : List ℕ} {found : Option Token} {out : Bool} {rest : List ℕ} (octet : ℕ) (behind : Bool)
@@ -75,7 +75,7 @@ pub data Next : Bool → List ℕ → Option Token → Bool → List ℕ → Typ
       → IsRun false (octet ∷ text) front rest → 0 < length front
       → Next inside (octet ∷ text) (Some (record { quoted = false; text = front })) inside rest
 
--- the tokens of a row, and what is left behind its line feed
+-- the tokens of a row, and what is left after its line feed
 pub data Row : Bool → List ℕ → List Token → List ℕ → Type 0 where
   end : {inside : Bool} {text rest : List ℕ} → Next inside text None false rest → Row inside text [] rest
   token : {inside : Bool} {text rest : List ℕ} {found : Token} {others : List Token} (out : Bool) (behind : List ℕ)
@@ -90,6 +90,6 @@ abbrev pub is_end : List ℕ → Bool
 is_end [] = true
 is_end (octet ∷ rest) = if is_gap octet then is_end rest else (if octet == 59 then not (has_feed rest) else false)
 
--- A row without tokens, which is no entry; `rest` is behind its line feed.
+-- A row without tokens, which is no entry; `rest` is what follows its line feed.
 abbrev pub IsEmptyRow : List ℕ → List ℕ → Type 0
 IsEmptyRow text rest = Row false text [] rest

@@ -3,7 +3,7 @@ use Rattle.std.specs.Prelude.{List, [], ◌∷◌, codes}
 use Rattle.dns_text.specs.Document.{Piece}
 use Rattle.dns_text.specs.Document.Piece.{Token, Comment, Open, Close, Newline}
 
--- a block inside a block, a line end inside one, a token behind one, and a line that begins with one
+-- a block inside a block, a line end inside one, a token after one, and a line that begins with one
 abbrev pub nested : List Piece
 nested =
     Newline ∷ Open ∷ Token (codes "b") ∷ Newline ∷ Open ∷ Token (codes "c") ∷ Close ∷ Token (codes "d") ∷ Close
@@ -13,7 +13,7 @@ nested =
 abbrev pub bare : List Piece
 bare = Token (codes "a") ∷ Comment (codes "note") ∷ Newline ∷ Token (codes "b") ∷ Open ∷ Close ∷ Newline ∷ []
 
--- marks one by one, of which the last closes no block
+-- marks one by one; the last closes no block
 abbrev pub marks : List Piece
 marks =
     Token (codes "a") ∷ Open ∷ Token (codes "b") ∷ Open ∷ Token (codes "c") ∷ Close ∷ Close ∷ Token (codes "d") ∷ Close

@@ -18,12 +18,12 @@ abbrev pub labels_of : {O : Type 0} → UncertainName O → List (List ℕ)
 labels_of (Absolute name) = name
 labels_of (Relative name) = name
 
--- the labels, with that of the root where the name is absolute
+-- the labels, with that of the root if the name is absolute
 abbrev pub seen_labels : {O : Type 0} → UncertainName O → List (List ℕ)
 seen_labels (Absolute name) = with_root name
 seen_labels (Relative name) = name
 
--- the labels under a suffix: those of an absolute name alone, and those of a relative one in front of the suffix's
+-- the labels with a suffix: those of an absolute name alone, and those of a relative one before the suffix's
 abbrev pub chained_labels : {O : Type 0} → UncertainName O → List (List ℕ) → List (List ℕ)
 chained_labels (Absolute name) suffix = with_root name
 chained_labels (Relative name) suffix = name ++ suffix
@@ -38,7 +38,7 @@ abbrev pub text_of : {O : Type 0} → UncertainName O → List ℕ
 text_of (Absolute name) = printed_name name
 text_of (Relative name) = printed_relative name
 
--- the label with this number stands at this place
+-- the label with this number is at this place
 abbrev pub StandsIn : {O : Type 0} → UncertainName O → ℕ → Option ℕ → Type 0
 StandsIn (Absolute name) index place = StandsAt (wire name) (with_root name) index place
 StandsIn (Relative name) index place = stands_in_relative (labels_wire name) name index place
@@ -47,6 +47,6 @@ StandsIn (Relative name) index place = stands_in_relative (labels_wire name) nam
 abbrev pub IsNoName : List ℕ → Type 0
 IsNoName octets = (name : List (List ℕ)) → IsName name → (octets ≡ wire name → ⊥) × (octets ≡ labels_wire name → ⊥)
 
--- the text spells the name as the kind that it is
+-- the text spells the name, with its last dot if it is absolute and without it if it is relative
 abbrev pub IsTextOf : {O : Type 0} → List ℕ → UncertainName O → Type 0
 IsTextOf text name = IsEitherText (is_absolute name) text (labels_of name)

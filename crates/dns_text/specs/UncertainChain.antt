@@ -1,4 +1,4 @@
--- What a contract sees of an uncertain name under a suffix.
+-- What a contract sees of an uncertain name with a suffix.
 use Rattle.std.specs.Prelude.{◌≡◌, List, ℕ, Option, ◌++◌, length, refl}
 use Rattle.dns_label.specs.Name.{labels_wire, wire, with_root}
 use Rattle.dns_wire.specs.Chain.{StandsInOne}
@@ -9,19 +9,19 @@ use Rattle.dns_flat.specs.Relative.{StandsIn as stands_in_relative}
 use Rattle.dns_text.specs.declared.uncertain.chain.UncertainChain.{UncertainChain}
 use Rattle.dns_text.specs.declared.uncertain.chain.UncertainChain.TheVariants.{Absolute, Relative}
 
--- the labels, by those of the suffix
+-- the labels, given those of the suffix
 abbrev pub labels_in : {O R : Type 0} {ghosts others : _} → (R → List (List ℕ)) → UncertainChain O R ghosts others → List (List ℕ)
 labels_in labels (Absolute name) = with_root name
 labels_in labels (Relative chain) = left_of chain ++ labels (right_of chain)
 
--- the label with this number stands at this place
+-- the label with this number is at this place
 abbrev pub StandsIn : {O R : Type 0} {ghosts others : _} → (R → List (List ℕ)) → (R → ℕ → Option ℕ → Type 0)
     → UncertainChain O R ghosts others → ℕ → Option ℕ → Type 0
 StandsIn labels stands (Absolute name) index place = StandsAt (wire name) (with_root name) index place
 StandsIn labels stands (Relative chain) index place =
     StandsInOne (stands_in_relative (labels_wire (left_of chain)) (left_of chain)) (stands (right_of chain)) (length (left_of chain)) index place
 
--- the labels without the root's, by those of a suffix that is absolute
+-- the labels without the root's, given those of a suffix that is absolute
 abbrev pub name_in : {O R : Type 0} {ghosts others : _} → (R → List (List ℕ)) → UncertainChain O R ghosts others → List (List ℕ)
 name_in own (Absolute name) = name
 name_in own (Relative chain) = left_of chain ++ own (right_of chain)

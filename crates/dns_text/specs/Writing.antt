@@ -5,12 +5,12 @@ use Rattle.std.specs.Fn.{FnOnceReturns, Once}
 use Rattle.std.specs.declared.fmt.Error.{Error}
 use Rattle.dns_text.specs.Document.{Piece}
 
--- the pieces in front, of which the nearest is the first, once these are written too
+-- the pieces before, the nearest first, once these are written too
 abbrev pub written_behind : List Piece → List Piece → List Piece
 written_behind front [] = front
 written_behind front (piece ∷ pieces) = written_behind (piece ∷ front) pieces
 
--- Whatever was written since a start, these pieces were written behind it.
+-- Whatever was written since a start, these pieces were written after it.
 abbrev pub Adds : {F : Type 0} → (F → List Piece → F → Type 0) → F → List Piece → F → Type 0
 Adds {F} writes old pieces new =
     (start : F) (front : List Piece) → writes start front old → writes start (written_behind front pieces) new

@@ -6,23 +6,24 @@ use Rattle.dns_text.specs.Document.{Layout, Piece, depth, has_data, is_first, pi
 use Rattle.dns_text.specs.Document.Layout.{Simple, Tabbed, Multiline}
 use Rattle.dns_text.specs.Layout.{layout_of}
 
--- of the pieces in front, those on the line
+-- the pieces of the current line, out of all pieces before
 abbrev pub line_of : List Piece → List Piece
 line_of [] = []
 line_of (piece ∷ front) = place_behind (line_of front) piece
 
--- the text of the pieces in front
+-- the text of the pieces before
 abbrev pub text_in_front : Layout → List Piece → List ℕ
 text_in_front layout [] = []
 text_in_front layout (piece ∷ front) = text_in_front layout front ++ piece_text layout (line_of front) piece
 
--- how many marks are open behind these pieces of a line, whether it begins, and whether there is data in the block
+-- how many marks are open after these pieces of a line, whether the line begins there, and whether there is data in the
+-- block
 pub record IsPlace (layout : Layout) (line : List Piece) (open' : ℕ) (first data' : Bool) : Type 0 where
   pub depth_is : open' ≡ depth line
   pub first_is : first ≡ is_first layout line
   pub data_is : data' ≡ has_data line
 
--- the writer stands behind these pieces of a line
+-- the writer is after these pieces of a line
 abbrev pub IsAt : {W : Type 0} → Writer W → List Piece → Type 0
 IsAt writer line = IsPlace (layout_of writer.kind) line writer.depth writer.is_first writer.has_data
 
@@ -32,7 +33,7 @@ pub record IsWritten {W : Type 0} (took : W → List ℕ → W → Type 0) (star
   pub at : IsAt now (line_of front)
   pub text : WritesInCalls took start.target (text_in_front (layout_of start.kind) front) now.target
 
--- whether the line begins behind a mark of a block
+-- whether the line begins after a mark of a block
 abbrev pub first_behind_mark : Layout → Bool → Bool
 first_behind_mark Simple first = first
 first_behind_mark Tabbed first = first

@@ -17,7 +17,7 @@ pub struct ZoneFileDisplay<'a, T> {
 }
 
 impl<'a, T> ZoneFileDisplay<'a, T> {
-    /// Shows the value under the layout.
+    /// Makes what shows the value under the layout.
     pub(crate) fn new(value: &'a T, kind: DisplayKind) -> Self
         ensures value { shown_value result ≡ value.now }
         ensures kind { shown_kind result ≡ kind }

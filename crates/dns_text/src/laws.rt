@@ -15,22 +15,23 @@ use crate::UncertainName;
 use dns_name::Octets;
 use dns_name::laws::{dotted_text_reads_back, relative_text_reads_back, text_spells_one_name};
 
-/// Under each layout the text of a document splits into rows with the tokens of its own rows, and with no others. White space
-/// leads none of them, so each has an owner of its own (RFC 1035 5.1). The tokens are words and quoted strings, the comments have no line feed and stand in blocks, and a
-/// line end stands behind the last piece.
+/// Under each layout the text of a document splits into rows with the tokens of its own rows, and with no others. No
+/// row begins with white space, so each has an owner of its own (RFC 1035 5.1). The tokens are words and quoted
+/// strings, the comments have no line feed and are in blocks, and a line end follows the last piece.
 pub fn printed_documents_split()
     ensures { (layout : Layout) (document : List Piece) (rows : List (List Token)) → HasRows 0 document rows
         → IsTextOnly (document_text layout document) (map unled rows) }
 {}
 
-/// What the text of a document is under each layout, said by what stands between its pieces.
+/// What the text of a document is under each layout, told by what is between its pieces.
 ///
-/// `line`, `lines`: on a line of words and blocks one space stands between any two texts, under `Tabbed` a tab. A block's
-/// tokens are texts of their own under `Simple`, and one text with spaces under `Tabbed`. Under `Multiline` they stand between
-/// parentheses, each behind eight spaces on a line of its own, as the last of the parentheses does. `end`: a line end outside
-/// of blocks is a line feed, and what follows is as if nothing stood in front. Inside a block it adds nothing (`held`), and
-/// neither do the marks of a block there (`inner`). Under `Simple` and `Tabbed` a block without tokens adds nothing (`bare`), and
-/// neither does a comment (`comment`). Under `Multiline` that is a tab, `; ` and its text, wherever it stands (`noted`).
+/// `line`, `lines`: on a line of words and blocks there is one space between any two texts, under `Tabbed` a tab. A
+/// block's tokens are texts of their own under `Simple`, and one text with spaces under `Tabbed`. Under `Multiline`
+/// they are between parentheses, each after eight spaces on a line of its own, and so is the closing parenthesis.
+/// `end`: a line end outside of blocks is a line feed, and what follows is as at the start of a document. Inside a
+/// block it adds nothing (`held`), and neither do the marks of a block there (`inner`). Under `Simple` and `Tabbed` a
+/// block without tokens adds nothing (`bare`), and neither does a comment (`comment`). Under `Multiline` a comment is a
+/// tab, `; ` and its text, wherever it is (`noted`).
 pub fn documents_print_by_layout()
     ensures line { (layout : Layout) (parts : List Part) → document_text layout (line_pieces parts) ≡ line_text layout parts }
     ensures lines { (layout : Layout) (lines : List (List Part)) → document_text layout (lines_pieces lines) ≡ lines_text layout lines }
@@ -49,7 +50,7 @@ pub fn documents_print_by_layout()
         → document_text Multiline (front ++ Comment text ∷ []) ≡ document_text Multiline front ++ 9 ∷ 59 ∷ 32 ∷ text }
 {}
 
-/// What shows a name that is absolute or relative spells that name, of its kind, and no other.
+/// The text that shows a name, absolute or relative, spells that name, of its kind, and no other.
 pub fn uncertain_text_reads_back<Octs: Octets>(name: &UncertainName<Octs>)
     ensures spells { AllByRecursion AreOctets (labels_of name.now) → IsTextOf (text_of name.now) name.now }
     ensures alone { AllByRecursion AreOctets (labels_of name.now) → (other : _) → IsTextOf (text_of name.now) other

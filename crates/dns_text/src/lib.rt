@@ -1,8 +1,8 @@
-//! Presentation text: tokens and rows, character strings, encodings, documents and their layouts (RFC 1035 5.1,
-//! RFC 4648).
+//! Presentation text: tokens and rows, character strings, encodings, documents and their layouts (RFC 1035 5.1, RFC
+//! 4648).
 //!
-//! Its part `dns_scan` (character strings, encodings, scanners) is handed on. Values show their documents through a
-//! `Formatter`, under one of three layouts; names may be absolute or relative. Besides it holds definitions: how a zone
+//! Re-exports `dns_scan` (character strings, encodings, scanners). Values show their documents through a `Formatter`,
+//! under one of three layouts; names may be absolute or relative. The crate also has the definitions of how a zone
 //! file's text is cut into rows of tokens.
 #![tactic(auto)]
 

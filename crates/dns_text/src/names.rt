@@ -1,4 +1,4 @@
-//! Names as tokens: a dot behind each label, and the root as a dot.
+//! Names as tokens: a dot after each label, and the root as a dot.
 ghost use Rattle.std.specs.Prelude.{[], ◌∷◌, ◌++◌, OnOk};
 ghost use Rattle.dns_label.specs.Printed.{printed_name};
 ghost use Rattle.dns_flat.specs.ChainParts.{left_of, right_of};

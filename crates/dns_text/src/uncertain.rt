@@ -26,15 +26,15 @@ use std::fmt;
 #[derive(Debug, Drop)]
 #[derive_where(PartialEq, Eq, Hash)]
 pub enum UncertainName<Octs: Octets> {
-    /// With the root's label behind the others.
+    /// With the root's label after the others.
     Absolute(Name<Octs>),
-    /// Without it.
+    /// Without the root's label.
     Relative(RelativeName<Octs>),
 }
 
 impl<Octs: Octets> UncertainName<Octs> {
-    /// The name that the octets are: absolute where the root's label is their last, and relative where there is none.
-    /// Refused where they are neither, uncompressed and whole, by the error that they have as a relative name.
+    /// Makes a name of its octets: absolute if the root's label is the last, and relative if there is none. Fails if
+    /// they are neither, uncompressed and whole, with the error that they have as a relative name.
     pub fn from_octets(octets: Octs) -> Result<Self, RelativeNameError>
     where
         Octs: Drop,
@@ -52,10 +52,10 @@ impl<Octs: Octets> UncertainName<Octs> {
         }
     }
 
-    /// The name that a text spells (RFC 1035 5.1): absolute exactly where it ends with a dot that is not escaped. The empty
-    /// text is the relative name without labels.
+    /// Reads the name that a text spells (RFC 1035 5.1): an absolute one exactly if it ends with a dot that is not
+    /// escaped. The empty text is the relative name without labels.
     ///
-    /// Refused with `Presentation` where the text spells no name, and with `ShortBuf` where it spells one, and there is no
+    /// Fails with `Presentation` if the text spells no name, and with `ShortBuf` if it spells one, and there is no
     /// memory or no room for it.
     pub fn from_str(alloc: Global, text: &str) -> Result<Self, FromStrError>
     where
@@ -73,9 +73,9 @@ impl<Octs: Octets> UncertainName<Octs> {
         }
     }
 
-    /// The name that characters spell, as `from_str` has it.
+    /// Reads the name that characters spell, as `from_str` does.
     ///
-    /// Refused with `Presentation` where they spell no name, maybe before all of them are taken; and with `ShortBuf` where
+    /// Fails with `Presentation` if they spell no name, maybe before it has taken all of them; and with `ShortBuf` if
     /// they spell one, and there is no memory or no room for it.
     pub fn from_chars<C: Iterator<Item = char> + Drop>(
         alloc: Global,
@@ -95,21 +95,21 @@ impl<Octs: Octets> UncertainName<Octs> {
         }
     }
 
-    /// Whether the name is absolute.
+    /// Returns whether the name is absolute.
     pub fn is_absolute(&self) -> bool
         ensures { result ≡ is_absolute self.now }
     {
         matches!(self, UncertainName::Absolute(_))
     }
 
-    /// Whether the name is relative.
+    /// Returns whether the name is relative.
     pub fn is_relative(&self) -> bool
         ensures { result ≡ not (is_absolute self.now) }
     {
         matches!(self, UncertainName::Relative(_))
     }
 
-    /// The absolute name, if it is one.
+    /// Returns the absolute name, or `None` if the name is relative.
     pub fn as_absolute(&self) -> Option<&Name<Octs>>
         ensures some { IsSome result ↔ (is_absolute self.now ≡ true) }
         ensures name { IfSome result (λ name. self.now ≡ Absolute name.now) }
@@ -120,7 +120,7 @@ impl<Octs: Octets> UncertainName<Octs> {
         }
     }
 
-    /// The relative name, if it is one.
+    /// Returns the relative name, or `None` if the name is absolute.
     pub fn as_relative(&self) -> Option<&RelativeName<Octs>>
         ensures some { IsSome result ↔ (is_absolute self.now ≡ false) }
         ensures name { IfSome result (λ name. self.now ≡ Relative name.now) }
@@ -131,10 +131,10 @@ impl<Octs: Octets> UncertainName<Octs> {
         }
     }
 
-    /// The name with the root's label behind it, in the same octets, if that is not there yet.
+    /// Returns the name with the root's label, which it appends in the same octets if it is not there yet.
     ///
-    /// Refused with `ShortBuf` only where these can't hold another octet, and with `OutOfMemory` where memory was
-    /// wanting.
+    /// Fails with `ShortBuf` only if these can't hold another octet, and with `OutOfMemory` if out of memory. An
+    /// absolute name never fails.
     pub fn into_absolute(self) -> Result<Name<Octs>, AppendError>
     where
         Octs: OctetsBuilder + Drop,
@@ -150,7 +150,7 @@ impl<Octs: Octets> UncertainName<Octs> {
         }
     }
 
-    /// The absolute name. One that is relative is handed back.
+    /// Returns the absolute name. Fails if the name is relative, and then returns it.
     pub fn try_into_absolute(self) -> Result<Name<Octs>, Self>
         ensures ok { IfOk result (λ name. self ≡ Absolute name) }
         ensures err { IfErr result (λ name. (name ≡ self) × (is_absolute self ≡ false)) }
@@ -161,7 +161,7 @@ impl<Octs: Octets> UncertainName<Octs> {
         }
     }
 
-    /// The relative name. One that is absolute is handed back.
+    /// Returns the relative name. Fails if the name is absolute, and then returns it.
     pub fn try_into_relative(self) -> Result<RelativeName<Octs>, Self>
         ensures ok { IfOk result (λ name. self ≡ Relative name) }
         ensures err { IfErr result (λ name. (name ≡ self) × (is_absolute self ≡ true)) }
@@ -172,7 +172,7 @@ impl<Octs: Octets> UncertainName<Octs> {
         }
     }
 
-    /// The octets that hold the name.
+    /// Returns the octets that hold the name.
     pub fn as_octets(&self) -> &Octs
         ensures { Octs.list result.now ≡ octets_of self.now }
     {
@@ -182,7 +182,7 @@ impl<Octs: Octets> UncertainName<Octs> {
         }
     }
 
-    /// The octets, uncompressed.
+    /// Returns the octets, uncompressed.
     pub fn as_slice(&self) -> &[u8]
         ensures octets { result.now ≡ octets_of self.now }
         ensures name { IsName (labels_of self.now) }
@@ -194,7 +194,7 @@ impl<Octs: Octets> UncertainName<Octs> {
     }
 }
 
-/// The absolute name that a text spells, which is known to spell one.
+/// Reads the absolute name of a text that is known to spell one. Fails only if there is no memory or no room for it.
 fn read_absolute<Octs: FromBuilder>(alloc: Global, text: &str) -> Result<Name<Octs>, FromStrError>
 where
     Octs::Builder: EmptyBuilder + Drop,
@@ -222,7 +222,7 @@ impl<Octs: Octets> From<RelativeName<Octs>> for UncertainName<Octs> {
     }
 }
 
-/// Shows the name with a dot between two labels, and one behind the last label of an absolute name.
+/// Shows the name with a dot between two labels, and one after the last label of an absolute name.
 impl<Octs: Octets> fmt::Display for UncertainName<Octs> {
     ghost output = { λ name. Some (text_of name) };
 

@@ -1,4 +1,4 @@
-//! Values of one token, and data that is not looked into.
+//! Values of one token, and unknown data.
 ghost use Rattle.std.specs.Prelude.{[], ◌∷◌, OnOk, decimal};
 ghost use Rattle.dns_values.specs.Mnemonic.{class_written, type_written};
 ghost use Rattle.dns_text.specs.Document.Piece.{Token};
@@ -59,7 +59,7 @@ impl<Octs: Octets> ZonefileFmt for UnknownRecordData<Octs> {
     }
 }
 
-/// Writes the tokens of data that is not looked into.
+/// Writes the tokens of unknown data.
 fn write_unknown<F: Formatter>(formatter: &mut F, octets: &[u8]) -> fmt::Result
     ensures { OnOk result (Adds F.writes formatter.old (unknown_tokens octets.now) formatter.new) }
 {

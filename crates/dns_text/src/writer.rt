@@ -1,4 +1,4 @@
-//! Documents written as text under a layout.
+//! Writes documents as text under a layout.
 ghost use Rattle.std.specs.Prelude.{◌≡◌, ◌++◌, ◌∷◌, [], List, IfSome, OnOk};
 ghost use Rattle.dns_text.specs.Document.{Piece, gap};
 ghost use Rattle.dns_text.specs.Document.Piece.{Comment};
@@ -10,7 +10,7 @@ use crate::formatter::Formatter;
 use crate::layout::DisplayKind;
 use std::fmt::{self, Write};
 
-/// A line of its own in a block.
+/// The start of a new line in a block.
 const OWN_LINE: &str = "\n        ";
 
 /// Writes a document as text under a layout.
@@ -18,16 +18,16 @@ const OWN_LINE: &str = "\n        ";
 pub(crate) struct Writer<W> {
     target: W,
     kind: DisplayKind,
-    /// How many blocks are open.
+    /// The number of open blocks.
     depth: usize,
-    /// Whether nothing is seen on the line yet.
+    /// Whether nothing is shown on the line yet.
     is_first: bool,
-    /// Whether a token stands in front in the block that is open.
+    /// Whether the open block has a token already.
     has_data: bool,
 }
 
 impl<W: fmt::Write> Writer<W> {
-    /// Writes to the target, where a line begins.
+    /// Writes to the target, which is at the start of a line.
     pub(crate) fn new(target: W, kind: DisplayKind) -> Writer<W>
         ensures kind { result.kind ≡ kind }
         ensures target { result.target ≡ target }
@@ -42,14 +42,14 @@ impl<W: fmt::Write> Writer<W> {
         }
     }
 
-    /// The target, once all is written.
+    /// Returns the target, once all is written.
     pub(crate) fn into_target(self) -> W
         ensures { result ≡ self.target }
     {
         self.target
     }
 
-    /// What stands in front of a token.
+    /// Returns what separates a token from what is before it.
     fn gap(&self) -> &'static str
         ensures { (line : List Piece) → IsAt self.now line → result.now ≡ gap (layout_of self.now.kind) line }
     {
@@ -63,7 +63,7 @@ impl<W: fmt::Write> Writer<W> {
         }
     }
 
-    /// Shows a comment, under `Multiline` alone.
+    /// Shows a comment, under `Multiline` only.
     fn show_comment<T: fmt::Display>(&mut self, comment: &T) -> fmt::Result
         ensures { OnOk result (IfSome (T.output comment.now) (λ text.
             Adds (IsWritten W.write_str_gives) self.old (Comment text ∷ []) self.new)) }
@@ -77,7 +77,7 @@ impl<W: fmt::Write> Writer<W> {
         Ok(())
     }
 
-    /// Shows a mark of a block behind what separates it, under `Multiline` alone.
+    /// Shows a mark of a block after what separates it, under `Multiline` only.
     fn show_mark(&mut self, gap: &str, mark: &str) -> fmt::Result
         ensures { OnOk result (ShowsMark W.write_str_gives (gap.now ++ mark.now) self.old self.new) }
     {

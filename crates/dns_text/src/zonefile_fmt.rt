@@ -13,11 +13,11 @@ use std::fmt;
 pub trait ZonefileFmt {
     ghost document: { Self → List Piece };
 
-    /// Writes the document of the value. An error is one of the formatter.
+    /// Writes the document of the value. Passes on the errors of the formatter.
     fn fmt<F: Formatter>(&self, formatter: &mut F) -> fmt::Result
         ensures { OnOk result (Adds F.writes formatter.old (document self.now) formatter.new) };
 
-    /// What shows the value under a layout.
+    /// Returns what shows the value under a layout.
     final fn display_zonefile(&self, kind: DisplayKind) -> ZoneFileDisplay<'_, Self>
     where
         Self: Sized,
@@ -28,7 +28,7 @@ pub trait ZonefileFmt {
     }
 }
 
-/// Formatters write the values that have documents.
+/// Lets formatters write the values that have documents.
 pub trait WriteShow: Formatter {
     /// Writes the document of the value.
     fn write_show<T: ZonefileFmt>(&mut self, value: &T) -> fmt::Result

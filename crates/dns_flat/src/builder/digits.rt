@@ -10,10 +10,10 @@ use dns_octets::OctetsBuilder;
 use dns_wire::PushError;
 
 impl<B: OctetsBuilder> NameBuilder<B> {
-    /// Ends the open label, if one is open, and puts a label of the number's decimal digits behind it.
+    /// Ends the open label, if there is one, and appends a label of the number's decimal digits.
     ///
-    /// Refused with `LongName` exactly where the labels would take more than 254 octets, and with `ShortBuf` for want of
-    /// room or memory.
+    /// Fails with `LongName` exactly if the labels would take more than 254 octets, and with `ShortBuf` if there is no
+    /// room or no memory.
     pub fn append_dec_u8_label(&mut self, value: u8) -> Result<(), PushError>
         ensures ok { OnOk result (self.new ≡ with_label self.old (decimal value)) }
         ensures err { OnErr result (self.new ≡ self.old) }
@@ -23,11 +23,11 @@ impl<B: OctetsBuilder> NameBuilder<B> {
         self.append_label(decimal_label(value).as_slice())
     }
 
-    /// Ends the open label, if one is open, and puts a label behind it: the hexadecimal digit of the number's low four
-    /// bits, in lower case.
+    /// Ends the open label, if there is one, and appends a label of one octet: the hexadecimal digit of the number's
+    /// low four bits, in lower case.
     ///
-    /// Refused with `LongName` exactly where the labels would take more than 254 octets, and with `ShortBuf` for want of
-    /// room or memory.
+    /// Fails with `LongName` exactly if the labels would take more than 254 octets, and with `ShortBuf` if there is no
+    /// room or no memory.
     pub fn append_hex_digit_label(&mut self, nibble: u8) -> Result<(), PushError>
         ensures ok { OnOk result (self.new ≡ with_label self.old (digit_glyph false (nibble % 16) ∷ [])) }
         ensures err { OnErr result (self.new ≡ self.old) }
@@ -38,7 +38,7 @@ impl<B: OctetsBuilder> NameBuilder<B> {
     }
 }
 
-/// The decimal digits of a number.
+/// Returns the decimal digits of a number.
 pub(crate) fn decimal_label(value: u8) -> ArrayVec<u8, 3>
     ensures digits { result.items ≡ decimal value }
     ensures few { length result.items ≤ 3 }
@@ -54,7 +54,7 @@ pub(crate) fn decimal_label(value: u8) -> ArrayVec<u8, 3>
     digits
 }
 
-/// The hexadecimal digit of a number's low four bits, in lower case.
+/// Returns the hexadecimal digit of a number's low four bits, in lower case.
 pub(crate) fn hex_label(value: u8) -> u8
     ensures { result ≡ digit_glyph false (value % 16) }
 {

@@ -11,7 +11,7 @@ pub enum PushNameError {
     /// The name would be too long.
     #[error("long domain name")]
     LongName,
-    /// There is no memory or no room for it.
+    /// There is no room or no memory for it.
     #[error("short buffer")]
     ShortBuf,
 }

@@ -10,7 +10,7 @@ use crate::{Name, RelativeName, ToName};
 use dns_octets::{FreezeBuilder, OctetsBuilder};
 
 impl<B: OctetsBuilder + FreezeBuilder> NameBuilder<B> {
-    /// The relative name of all labels, in the same octets.
+    /// Returns the relative name of all labels, in the same octets.
     pub fn finish(self) -> RelativeName<B::Octets>
         ensures { result ≡ labels_built self }
     {
@@ -20,8 +20,8 @@ impl<B: OctetsBuilder + FreezeBuilder> NameBuilder<B> {
 }
 
 impl<B: OctetsBuilder + FreezeBuilder + Drop> NameBuilder<B> {
-    /// The name of all labels and the root. Refused with `ShortBuf`, for want of room or memory, and never with
-    /// `LongName`.
+    /// Returns the name of all labels and the root. Fails with `ShortBuf` if there is no room or no memory for the
+    /// root's octet, and never with `LongName`.
     pub fn into_name(self) -> Result<Name<B::Octets>, PushNameError>
         ensures ok { IfOk result (λ name. name ≡ labels_built self) }
         ensures long { result ≡ Err LongName → ⊥ }
@@ -34,10 +34,10 @@ impl<B: OctetsBuilder + FreezeBuilder + Drop> NameBuilder<B> {
         Ok(Name::from_octets_unchecked(builder.freeze()))
     }
 
-    /// The name of all labels and those of an absolute name behind them.
+    /// Returns the name of all labels, followed by those of an absolute name.
     ///
-    /// Refused with `LongName` exactly where it would have more than 255 octets, and with `ShortBuf` for want of room or
-    /// memory.
+    /// Fails with `LongName` exactly if it would have more than 255 octets, and with `ShortBuf` if there is no room or
+    /// no memory.
     pub fn append_origin<N: ToName>(self, origin: &N) -> Result<Name<B::Octets>, PushNameError>
         ensures ok { IfOk result (λ name. name ≡ labels_built self ++ N.name origin.now) }
         ensures long { (result ≡ Err LongName) ↔ (255 < length (wire (labels_built self ++ N.name origin.now))) }

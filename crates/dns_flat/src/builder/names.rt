@@ -1,4 +1,4 @@
-//! Whole names put to a name that is built, and names that are built further.
+//! Whole names appended to a name that is built, and names that are built further.
 ghost use Rattle.std.specs.Prelude.{◌≡◌, ◌<◌, ◌↔◌, Err, OnOk, OnErr};
 ghost use Rattle.dns_wire.specs.Built.{built_len, labels_ended, with_labels};
 ghost use Rattle.dns_flat.specs.declared.builder.error.PushNameError.TheVariants.{LongName};
@@ -9,10 +9,10 @@ use crate::{RelativeName, ToRelativeName};
 use dns_octets::OctetsBuilder;
 
 impl<B: OctetsBuilder> NameBuilder<B> {
-    /// Ends the open label, if one is open, and puts the labels of a relative name behind it.
+    /// Ends the open label, if there is one, and appends the labels of a relative name.
     ///
-    /// Refused with `LongName` exactly where the labels would take more than 254 octets, and with `ShortBuf` for want of
-    /// room or memory.
+    /// Fails with `LongName` exactly if the labels would take more than 254 octets, and with `ShortBuf` if there is no
+    /// room or no memory.
     pub fn append_name<N: ToRelativeName>(&mut self, name: &N) -> Result<(), PushNameError>
         ensures ok { OnOk result (self.new ≡ with_labels self.old (N.labels name.now)) }
         ensures err { OnErr result (self.new ≡ self.old) }
@@ -29,7 +29,7 @@ impl<B: OctetsBuilder> NameBuilder<B> {
 }
 
 impl<Octs: OctetsBuilder> RelativeName<Octs> {
-    /// A builder that goes on behind the labels of the name, in the same octets.
+    /// Returns a builder that continues after the labels of the name, in the same octets.
     pub fn into_builder(self) -> NameBuilder<Octs>
         ensures { result ≡ labels_ended self }
     {

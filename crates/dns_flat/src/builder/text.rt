@@ -13,11 +13,11 @@ use dns_wire::text::is_dot;
 use dns_wire::{FromStrError, PresentationError};
 
 impl<B: WriteOctets> NameBuilder<B> {
-    /// Puts symbols one behind the other: a dot ends the open label, and another symbol puts its octet to it.
+    /// Appends symbols one after another: a dot ends the open label, and another symbol adds its octet to it.
     ///
-    /// Stops at the first symbol that may not be put, since it is none of a text, is a dot with no label in front, or
-    /// makes the label or the name too long; and with `ShortBuf` for want of room or memory. The symbols in front of it
-    /// stay.
+    /// Stops at the first symbol that does not fit. It fails with an error of the text if the symbol is none of a text,
+    /// is a dot with no label before it, or makes the label or the name too long; and with `ShortBuf` if there is no
+    /// room or no memory. The symbols before it stay.
     pub fn append_symbols<S: Iterator<Item = Symbol> + Drop>(
         &mut self,
         mut symbols: S,
@@ -30,9 +30,9 @@ impl<B: WriteOctets> NameBuilder<B> {
         self.append_all(&mut symbols)
     }
 
-    /// Puts the symbols that characters spell one behind the other, as `append_symbols` does.
+    /// Appends the symbols that characters spell one after another, as `append_symbols` does.
     ///
-    /// Stops too where no symbol begins. The symbols in front stay.
+    /// Fails too if no symbol begins at a character. The symbols before it stay.
     pub fn append_chars<C: Iterator<Item = char> + Drop>(
         &mut self,
         chars: C,
@@ -50,7 +50,7 @@ impl<B: WriteOctets> NameBuilder<B> {
         }
     }
 
-    /// The same, of symbols that are lent.
+    /// Does the same with symbols that are borrowed.
     fn append_all<S: Iterator<Item = Symbol>>(
         &mut self,
         symbols: &mut S,
@@ -66,7 +66,7 @@ impl<B: WriteOctets> NameBuilder<B> {
         Ok(())
     }
 
-    /// Puts a symbol, or leaves the name as it was.
+    /// Appends a symbol, or leaves the name as it was.
     fn push_symbol(&mut self, symbol: Symbol) -> Result<(), FromStrError>
         ensures ok { OnOk result (MayPut self.old symbol × (self.new ≡ put_symbol self.old symbol)) }
         ensures err { IfErr result (λ error. (self.new ≡ self.old) × IsNotPut self.old symbol error) }

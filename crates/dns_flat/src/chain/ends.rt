@@ -1,4 +1,4 @@
-//! Absolute and relative names of two parts.
+//! Chains as absolute and as relative names.
 ghost use Rattle.std.specs.Prelude.{◌++◌};
 
 use super::Chain;

@@ -12,8 +12,8 @@ use dns_wire::copies::octets_from;
 use std::alloc::Global;
 
 impl<Octs: Octets> Name<Octs> {
-    /// The name that the octets are, uncompressed and whole (RFC 1035 3.1). They are not looked at: the caller owes that they
-    /// are a name's.
+    /// Makes a name of its octets, uncompressed and whole (RFC 1035 3.1). It does not check them: the caller has to
+    /// prove that they are a name's.
     pub fn from_octets_unchecked(octets: Octs) -> Self
         requires { IsWritten (Octs.list octets) }
         ensures { Octs.list octets ≡ wire result }
@@ -22,7 +22,7 @@ impl<Octs: Octets> Name<Octs> {
     }
 }
 
-/// The name of these octets, in octets of another kind.
+/// Returns the name of these octets, in octets of another kind.
 pub(crate) fn copied_name<Octs: FromBuilder>(
     alloc: Global,
     octets: &[u8],
@@ -37,8 +37,8 @@ where
     Ok(Name::from_octets_unchecked(octets_from(alloc, octets)?))
 }
 
-/// The same name over other octets. Refused with `ShortBuf` only where these can't hold as many octets, and with
-/// `OutOfMemory` where memory was wanting.
+/// Copies the name to other octets. Fails with `ShortBuf` only if these can't hold as many octets, and with
+/// `OutOfMemory` if out of memory.
 impl<Source: Octets + Drop, Octs: FromBuilder> OctetsFrom<Name<Source>> for Name<Octs>
 where
     Octs::Builder: EmptyBuilder + Drop,

@@ -1,6 +1,6 @@
 //! Parts of absolute names.
 //!
-//! A place is a number of octets from the front. Where a part is asked for by places, labels begin at these by condition;
+//! A place is a number of octets from the start of the name. A call that takes places requires that labels begin there;
 //! `is_label_start` tells.
 ghost use Rattle.std.specs.Prelude.{◌≡◌, ◌≤◌, ◌↔◌, ◌∷◌, ◌++◌, List, ℕ, [], Some, length, slice_get, IsTrue, IfSome, IfNone, IfOk, IfErr};
 ghost use Rattle.dns_label.specs.Label.{octets_of};
@@ -17,14 +17,14 @@ use dns_wire::ToLabelIter;
 use dns_wire::compare::starts_with;
 
 impl<Octs: Octets> Name<Octs> {
-    /// Whether a label begins at the place. The root's label does so too.
+    /// Returns whether a label begins at the place. The root's label counts too.
     pub fn is_label_start(&self, place: usize) -> bool
         ensures { IsTrue result ↔ IsLabelStart self.now place }
     {
         self.for_relative().is_label_start(place)
     }
 
-    /// The first label, which is the root's where there is no other.
+    /// Returns the first label, which is the root's if there is no other.
     pub fn first(&self) -> Label<'_>
         ensures { Some (octets_of result) ≡ slice_get (with_root self.now) 0 }
     {
@@ -34,21 +34,21 @@ impl<Octs: Octets> Name<Octs> {
         }
     }
 
-    /// The last label, which is the root's.
+    /// Returns the last label, which is the root's.
     pub fn last(&self) -> Label<'_>
         ensures { Some (octets_of result) ≡ slice_get (with_root self.now) (length self.now) }
     {
         Label::root()
     }
 
-    /// Whether the labels begin with those of the other name, up to ASCII case (RFC 4343).
+    /// Returns whether the labels begin with those of the other name, up to ASCII case (RFC 4343).
     pub fn starts_with<N: ToLabelIter>(&self, start: &N) -> bool
         ensures { IsTrue result ↔ StartsWith (low (with_root self.now)) (low (N.labels start.now)) }
     {
         starts_with(self, start)
     }
 
-    /// The labels from the place `start` to the place `end`.
+    /// Returns the labels from the place `start` to the place `end`.
     pub fn slice(&self, start: usize, end: usize) -> RelativeName<&[u8]>
         requires start { IsLabelStart self.now start }
         requires end { IsLabelStart self.now end }
@@ -58,7 +58,7 @@ impl<Octs: Octets> Name<Octs> {
         self.for_relative().between(start, end)
     }
 
-    /// The labels from the place `start` to the place `end`, as `slice` gives them.
+    /// Returns the labels from the place `start` to the place `end`, as `slice` does.
     pub fn range(&self, start: usize, end: usize) -> RelativeName<&[u8]>
         requires start { IsLabelStart self.now start }
         requires end { IsLabelStart self.now end }
@@ -68,7 +68,7 @@ impl<Octs: Octets> Name<Octs> {
         self.slice(start, end)
     }
 
-    /// The name from the place `start` on.
+    /// Returns the name from the place `start` on.
     pub fn slice_from(&self, start: usize) -> Name<&[u8]>
         requires { IsLabelStart self.now start }
         ensures { IsBack self.now start result }
@@ -77,7 +77,7 @@ impl<Octs: Octets> Name<Octs> {
         Name::from_octets_unchecked(back)
     }
 
-    /// The labels in front of the place, and the name from there on.
+    /// Returns the labels before the place, and the name from there on.
     pub fn split(&self, mid: usize) -> (RelativeName<&[u8]>, Name<&[u8]>)
         requires { IsLabelStart self.now mid }
         ensures front { IsFront self.now mid result.0 }
@@ -86,7 +86,7 @@ impl<Octs: Octets> Name<Octs> {
         (self.for_relative().front(mid), self.slice_from(mid))
     }
 
-    /// The labels in front of the place, in the same octets.
+    /// Returns the labels before the place, in the same octets.
     pub fn truncate(self, mid: usize) -> RelativeName<Octs>
     where
         Octs: Truncate,
@@ -98,7 +98,7 @@ impl<Octs: Octets> Name<Octs> {
         name
     }
 
-    /// The labels without the root's, over borrowed octets.
+    /// Returns the labels without the root's, over borrowed octets.
     fn for_relative(&self) -> RelativeName<&[u8]>
         ensures { result ≡ self.now }
     {
@@ -107,7 +107,7 @@ impl<Octs: Octets> Name<Octs> {
         RelativeName::of_octets(front)
     }
 
-    /// The labels without the root's, in the same octets.
+    /// Returns the labels without the root's, in the same octets.
     pub fn into_relative(self) -> RelativeName<Octs>
     where
         Octs: Truncate,
@@ -119,7 +119,7 @@ impl<Octs: Octets> Name<Octs> {
         RelativeName::of_octets(octets)
     }
 
-    /// The first label and the name behind it, or None at the root.
+    /// Returns the first label and the name after it, or `None` for the root.
     pub fn split_first(&self) -> Option<(Label<'_>, Name<&[u8]>)>
         ensures some { IfSome result (λ found. self.now ≡ octets_of found.0 ∷ found.1) }
         ensures none { IfNone result (self.now ≡ []) }
@@ -131,7 +131,7 @@ impl<Octs: Octets> Name<Octs> {
         Some((label, Name::from_octets_unchecked(behind)))
     }
 
-    /// The name without its first label, or None at the root.
+    /// Returns the name without its first label, or `None` for the root.
     pub fn parent(&self) -> Option<Name<&[u8]>>
         ensures some { IfSome result (λ parent. (label : List ℕ) × (self.now ≡ label ∷ parent)) }
         ensures none { IfNone result (self.now ≡ []) }
@@ -142,8 +142,8 @@ impl<Octs: Octets> Name<Octs> {
         }
     }
 
-    /// The labels in front of the other name, up to ASCII case, in the same octets. Refused where the name does not end
-    /// with it, and then hands itself back.
+    /// Returns the labels before the other name, up to ASCII case, in the same octets. Fails if the name does not end
+    /// with it, and then returns the name itself.
     pub fn strip_suffix<N: ToName>(self, base: &N) -> Result<RelativeName<Octs>, Self>
     where
         Octs: Truncate,

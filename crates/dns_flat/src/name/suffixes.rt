@@ -10,10 +10,10 @@ use crate::name_iter::split_first;
 use dns_octets::Octets;
 use std::marker::Model;
 
-/// A flat name and its parents, one after another, down to the root.
+/// A flat name and its parents, up to the root.
 #[derive(Debug, Drop)]
 pub struct SuffixIter<'a> {
-    /// The octets of the next name, or None behind the root.
+    /// The octets of the next name, or `None` after the root.
     rest: Option<&'a [u8]>,
 }
 
@@ -30,7 +30,7 @@ impl<'a> Model for SuffixIter<'a> {
 }
 
 impl<Octs: Octets> Name<Octs> {
-    /// The name itself, its parent, and so on down to the root.
+    /// Returns the name itself, its parent, and so on up to the root.
     pub fn iter_suffixes(&self) -> SuffixIter<'_>
         ensures suffixes { result ≡ suffixes self.now }
         ensures few { length result ≤ 128 }
@@ -57,7 +57,7 @@ impl<'a> Iterator for SuffixIter<'a> {
     }
 }
 
-/// The octets of the parent of a name, or None of the root's.
+/// Returns the octets of the parent of a name, or `None` for the root.
 fn parent_octets(octets: &[u8]) -> Option<&[u8]>
     requires { IsWritten octets.now }
     ensures left { IsLeftFlat result }

@@ -1,4 +1,4 @@
-//! Relative names that are made lower case in their own octets (RFC 4034 6.2).
+//! Relative names made lower case in place (RFC 4034 6.2).
 ghost use Rattle.std.specs.Prelude.{◌≡◌};
 ghost use Rattle.dns_label.specs.Name.{low};
 
@@ -6,7 +6,7 @@ use super::RelativeName;
 use arrayvec::ArrayVec;
 
 impl RelativeName<Vec<u8>> {
-    /// Puts the ASCII letters into lower case.
+    /// Changes the ASCII letters to lower case.
     pub fn make_canonical(&mut self)
         ensures { self.new ≡ low self.old }
     {
@@ -15,7 +15,7 @@ impl RelativeName<Vec<u8>> {
 }
 
 impl<const N: usize> RelativeName<ArrayVec<u8, N>> {
-    /// Puts the ASCII letters into lower case.
+    /// Changes the ASCII letters to lower case.
     pub fn make_canonical(&mut self)
         ensures { self.new ≡ low self.old }
     {

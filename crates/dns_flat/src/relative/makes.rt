@@ -12,7 +12,7 @@ use dns_wire::copies::octets_from;
 use std::alloc::{AllocError, Global};
 
 impl<Octs: Octets> ToRelativeName for RelativeName<Octs> {
-    /// The octets, uncompressed, which lie so.
+    /// Returns the octets, which are always flat here.
     fn as_flat_slice(&self) -> Option<&[u8]>
         ensures flat { IsSome result }
         ensures octets { IfSome result (λ octets. octets.now ≡ labels_wire self.now) }
@@ -22,7 +22,7 @@ impl<Octs: Octets> ToRelativeName for RelativeName<Octs> {
     }
 }
 
-/// The relative name of these octets, in octets of another kind.
+/// Returns the relative name of these octets, in octets of another kind.
 pub(crate) fn copied_relative<Octs: FromBuilder>(
     alloc: Global,
     octets: &[u8],
@@ -37,8 +37,8 @@ where
     Ok(RelativeName::of_octets(octets_from(alloc, octets)?))
 }
 
-/// The same name over other octets. Refused with `ShortBuf` only where these can't hold as many octets, and with
-/// `OutOfMemory` where memory was wanting.
+/// Copies the name to other octets. Fails with `ShortBuf` only if these can't hold as many octets, and with
+/// `OutOfMemory` if out of memory.
 impl<Source: Octets + Drop, Octs: FromBuilder> OctetsFrom<RelativeName<Source>>
     for RelativeName<Octs>
 where
@@ -57,7 +57,8 @@ impl<Octs: FromBuilder> RelativeName<Octs>
 where
     Octs::Builder: EmptyBuilder + Drop,
 {
-    /// The name without labels.
+    /// Returns the name without labels. Fails with `ShortBuf` only if the octets can't hold any, and with `OutOfMemory`
+    /// if out of memory.
     pub fn empty(alloc: Global) -> Result<Self, AppendError>
         ensures ok { IfOk result (λ name. name ≡ []) }
         ensures short { result ≡ Err ShortBuf → IsPast ⟦<Octs::Builder as EmptyBuilder>⟧.limit 0 }
@@ -66,7 +67,8 @@ where
         copied_relative(alloc, &[])
     }
 
-    /// The name of the label that is the asterisk alone (RFC 4592 2.1.1).
+    /// Returns the name whose one label is the asterisk (RFC 4592 2.1.1). Fails with `ShortBuf` only if the octets
+    /// can't hold its two, and with `OutOfMemory` if out of memory.
     pub fn wildcard(alloc: Global) -> Result<Self, AppendError>
         ensures ok { IfOk result (λ name. name ≡ (42 ∷ []) ∷ []) }
         ensures short { result ≡ Err ShortBuf → IsPast ⟦<Octs::Builder as EmptyBuilder>⟧.limit 2 }
@@ -77,28 +79,28 @@ where
 }
 
 impl RelativeName<&'static [u8]> {
-    /// The name without labels.
+    /// Returns the name without labels.
     pub fn empty_ref() -> Self
         ensures { result ≡ [] }
     {
         RelativeName::of_octets(b"".as_slice())
     }
 
-    /// The name without labels.
+    /// Returns the name without labels.
     pub fn empty_slice() -> Self
         ensures { result ≡ [] }
     {
         Self::empty_ref()
     }
 
-    /// The name of the label that is the asterisk alone (RFC 4592 2.1.1).
+    /// Returns the name whose one label is the asterisk (RFC 4592 2.1.1).
     pub fn wildcard_ref() -> Self
         ensures { result ≡ (42 ∷ []) ∷ [] }
     {
         RelativeName::of_octets(b"\x01*".as_slice())
     }
 
-    /// The name of the label that is the asterisk alone (RFC 4592 2.1.1).
+    /// Returns the name whose one label is the asterisk (RFC 4592 2.1.1).
     pub fn wildcard_slice() -> Self
         ensures { result ≡ (42 ∷ []) ∷ [] }
     {
@@ -107,14 +109,14 @@ impl RelativeName<&'static [u8]> {
 }
 
 impl RelativeName<Vec<u8>> {
-    /// The name without labels.
+    /// Returns the name without labels. Fails if out of memory.
     pub fn empty_vec(alloc: Global) -> Result<Self, AllocError>
         ensures { IfOk result (λ name. name ≡ []) }
     {
         RelativeName::empty_ref().to_vec(alloc)
     }
 
-    /// The name of the label that is the asterisk alone (RFC 4592 2.1.1).
+    /// Returns the name whose one label is the asterisk (RFC 4592 2.1.1). Fails if out of memory.
     pub fn wildcard_vec(alloc: Global) -> Result<Self, AllocError>
         ensures { IfOk result (λ name. name ≡ (42 ∷ []) ∷ []) }
     {
@@ -123,10 +125,9 @@ impl RelativeName<Vec<u8>> {
 }
 
 impl<Octs: OctetsBuilder + Drop> RelativeName<Octs> {
-    /// The name with the root's label behind it, in the same octets.
+    /// Returns the name with the root's label appended, in the same octets.
     ///
-    /// Refused with `ShortBuf` only where these can't hold another octet, and with `OutOfMemory` where memory was
-    /// wanting.
+    /// Fails with `ShortBuf` only if these can't hold another octet, and with `OutOfMemory` if out of memory.
     pub fn into_absolute(self) -> Result<Name<Octs>, AppendError>
         ensures ok { IfOk result (λ name. name ≡ self) }
         ensures short { result ≡ Err ShortBuf → (octets : Octs) × (Octs.list octets ≡ labels_wire self) × IsPast (Octs.bound octets) (length (wire self)) }

@@ -1,7 +1,7 @@
 //! Parts of relative names.
 //!
-//! A place is a number of octets from the front. Where a part is asked for by places, labels begin at these by condition,
-//! or the name ends there; `is_label_start` tells.
+//! A place is a number of octets from the start of the name. A call that takes places requires that labels begin there,
+//! or that the name ends there; `is_label_start` tells.
 ghost use Rattle.std.specs.Prelude.{◌≡◌, ◌≤◌, ◌-◌, ◌↔◌, ◌∷◌, ◌++◌, List, ℕ, [], length, option_map, slice_get, IsTrue, IfSome, IfNone, OnOk, OnErr};
 ghost use Rattle.dns_label.specs.Label.{octets_of};
 ghost use Rattle.dns_label.specs.Name.{low};
@@ -23,7 +23,7 @@ use thiserror::Error;
 pub struct StripSuffixError;
 
 impl<'a> RelativeName<&'a [u8]> {
-    /// The labels in front of the place.
+    /// Returns the labels before the place.
     pub(crate) fn front(self, mid: usize) -> Self
         requires { IsLabelStart self mid }
         ensures { IsFront self.entry mid result }
@@ -32,7 +32,7 @@ impl<'a> RelativeName<&'a [u8]> {
         RelativeName::of_octets(front)
     }
 
-    /// The labels from the place on.
+    /// Returns the labels from the place on.
     pub(crate) fn back(self, mid: usize) -> Self
         requires { IsLabelStart self mid }
         ensures { IsBack self.entry mid result }
@@ -41,7 +41,7 @@ impl<'a> RelativeName<&'a [u8]> {
         RelativeName::of_octets(back)
     }
 
-    /// The labels between the places.
+    /// Returns the labels between the places.
     pub(crate) fn between(self, start: usize, end: usize) -> Self
         requires start { IsLabelStart self start }
         requires end { IsLabelStart self end }
@@ -51,7 +51,7 @@ impl<'a> RelativeName<&'a [u8]> {
         self.back(start).front(end - start)
     }
 
-    /// The first label and those behind it.
+    /// Returns the first label and those after it.
     pub(crate) fn first_and_rest(self) -> Option<(Label<'a>, Self)>
         ensures some { IfSome result (λ found. self.entry ≡ octets_of found.0 ∷ found.1) }
         ensures none { IfNone result (self.entry ≡ []) }
@@ -62,42 +62,42 @@ impl<'a> RelativeName<&'a [u8]> {
 }
 
 impl<Octs: Octets> RelativeName<Octs> {
-    /// Whether a label begins at the place, or the name ends there.
+    /// Returns whether a label begins at the place, or the name ends there.
     pub fn is_label_start(&self, place: usize) -> bool
         ensures { IsTrue result ↔ IsLabelStart self.now place }
     {
         starts_label(self.as_slice(), place)
     }
 
-    /// The first label, or None where there is none.
+    /// Returns the first label, or `None` if there is none.
     pub fn first(&self) -> Option<Label<'_>>
         ensures { option_map octets_of result ≡ slice_get self.now 0 }
     {
         self.iter().label(0)
     }
 
-    /// The last label, or None where there is none.
+    /// Returns the last label, or `None` if there is none.
     pub fn last(&self) -> Option<Label<'_>>
         ensures { option_map octets_of result ≡ slice_get self.now (length self.now - 1) }
     {
         self.iter().label(self.label_count().saturating_sub(1))
     }
 
-    /// Whether the labels begin with those of the other name, up to ASCII case (RFC 4343).
+    /// Returns whether the labels begin with those of the other name, up to ASCII case (RFC 4343).
     pub fn starts_with<N: ToLabelIter>(&self, start: &N) -> bool
         ensures { IsTrue result ↔ StartsWith (low self.now) (low (N.labels start.now)) }
     {
         starts_with(self, start)
     }
 
-    /// Whether the labels end with those of the other name, up to ASCII case (RFC 4343).
+    /// Returns whether the labels end with those of the other name, up to ASCII case (RFC 4343).
     pub fn ends_with<N: ToLabelIter>(&self, end: &N) -> bool
         ensures { IsTrue result ↔ EndsWith (low self.now) (low (N.labels end.now)) }
     {
         ends_with(self, end)
     }
 
-    /// The labels from the place `start` to the place `end`.
+    /// Returns the labels from the place `start` to the place `end`.
     pub fn slice(&self, start: usize, end: usize) -> RelativeName<&[u8]>
         requires start { IsLabelStart self.now start }
         requires end { IsLabelStart self.now end }
@@ -107,7 +107,7 @@ impl<Octs: Octets> RelativeName<Octs> {
         self.for_ref().between(start, end)
     }
 
-    /// The labels from the place `start` to the place `end`, as `slice` gives them.
+    /// Returns the labels from the place `start` to the place `end`, as `slice` does.
     pub fn range(&self, start: usize, end: usize) -> RelativeName<&[u8]>
         requires start { IsLabelStart self.now start }
         requires end { IsLabelStart self.now end }
@@ -117,7 +117,7 @@ impl<Octs: Octets> RelativeName<Octs> {
         self.slice(start, end)
     }
 
-    /// The labels in front of the place, and those from there on.
+    /// Returns the labels before the place, and those from there on.
     pub fn split(&self, mid: usize) -> (RelativeName<&[u8]>, RelativeName<&[u8]>)
         requires { IsLabelStart self.now mid }
         ensures front { IsFront self.now mid result.0 }
@@ -126,7 +126,7 @@ impl<Octs: Octets> RelativeName<Octs> {
         (self.for_ref().front(mid), self.for_ref().back(mid))
     }
 
-    /// Keeps the labels in front of the place.
+    /// Keeps the labels before the place.
     pub fn truncate(&mut self, mid: usize)
     where
         Octs: Truncate,
@@ -136,7 +136,7 @@ impl<Octs: Octets> RelativeName<Octs> {
         self.octets.truncate(mid);
     }
 
-    /// The first label and those behind it, or None where there is none.
+    /// Returns the first label and those after it, or `None` if there is none.
     pub fn split_first(&self) -> Option<(Label<'_>, RelativeName<&[u8]>)>
         ensures some { IfSome result (λ found. self.now ≡ octets_of found.0 ∷ found.1) }
         ensures none { IfNone result (self.now ≡ []) }
@@ -144,7 +144,7 @@ impl<Octs: Octets> RelativeName<Octs> {
         self.for_ref().first_and_rest()
     }
 
-    /// The labels behind the first, or None where there is none.
+    /// Returns the labels after the first, or `None` if there is none.
     pub fn parent(&self) -> Option<RelativeName<&[u8]>>
         ensures some { IfSome result (λ parent. (label : List ℕ) × (self.now ≡ label ∷ parent)) }
         ensures none { IfNone result (self.now ≡ []) }
@@ -155,7 +155,7 @@ impl<Octs: Octets> RelativeName<Octs> {
         }
     }
 
-    /// Takes the labels of the other name off the end, up to ASCII case (RFC 4343). Refused where the name does not end
+    /// Removes the labels of the other name from the end, up to ASCII case (RFC 4343). Fails if the name does not end
     /// with them, and then changes nothing.
     pub fn strip_suffix<N: ToLabelIter>(&mut self, base: &N) -> Result<(), StripSuffixError>
     where
@@ -189,7 +189,7 @@ impl<Octs: Octets> ToLabelIter for RelativeName<Octs> {
     }
 
     fn first_place(&self) -> Option<usize> {
-        // What the type says of its octets is known where these are named.
+        // Naming the field makes the facts of its type known to the prover.
         let _ = &self.octets;
         Some(0)
     }
@@ -202,7 +202,7 @@ impl<Octs: Octets> ToLabelIter for RelativeName<Octs> {
     }
 }
 
-/// Whether a label of the octets begins at the place, or they end there.
+/// Returns whether a label of the octets begins at the place, or they end there.
 pub(crate) fn starts_label(octets: &[u8], place: usize) -> bool
     requires { AreLabels octets.now }
     ensures { IsTrue result ↔ IsLabelStart (flat_labels octets.now) place }

@@ -54,12 +54,12 @@ impl<Octs: FromBuilder> RelativeName<Octs>
 where
     Octs::Builder: EmptyBuilder + Drop,
 {
-    /// The relative name that characters spell, which has no last dot (RFC 1035 5.1). No characters are the name without
-    /// labels.
+    /// Reads the relative name that characters spell, which has no last dot (RFC 1035 5.1). No characters are the name
+    /// without labels.
     ///
-    /// Refused with `AbsoluteName` where they spell an absolute name with its last dot; with `Presentation` where they
-    /// spell no name, maybe before all of them are taken; and with `ShortBuf` where they spell a relative name, and there
-    /// is no memory or no room for it.
+    /// Fails with `AbsoluteName` if they spell an absolute name with its last dot; with `Presentation` if they spell no
+    /// name, maybe before it has taken all of them; and with `ShortBuf` if they spell a relative name, and there is no
+    /// memory or no room for it.
     pub fn from_chars<C: Iterator<Item = char> + Drop>(
         alloc: Global,
         chars: C,
@@ -72,10 +72,10 @@ where
         RelativeName::of_read(alloc, Spelling::read_chars(chars)?)
     }
 
-    /// The relative name that a text spells, which has no last dot. The empty text is the name without labels.
+    /// Reads the relative name that a text spells, which has no last dot. The empty text is the name without labels.
     ///
-    /// Refused with `AbsoluteName` where the text spells an absolute name with its last dot; with `Presentation` where it
-    /// spells no name; and with `ShortBuf` where it spells a relative name, and there is no memory or no room for it.
+    /// Fails with `AbsoluteName` if the text spells an absolute name with its last dot; with `Presentation` if it
+    /// spells no name; and with `ShortBuf` if it spells a relative name, and there is no memory or no room for it.
     pub fn from_str(alloc: Global, text: &str) -> Result<Self, RelativeFromStrError>
         ensures ok { IfOk result (λ name. IsRelativeNameText text.now name) }
         ensures err { IfErr result (IsNoRelative text.now) }
@@ -83,7 +83,7 @@ where
         RelativeName::of_read(alloc, Spelling::read_text(text.as_bytes())?)
     }
 
-    /// The relative name that was read, the last label of which may be open.
+    /// Makes the relative name that was read. Its last label may be open.
     fn of_read(alloc: Global, read: Option<Spelling>) -> Result<Self, RelativeFromStrError>
         requires { (text : List ℕ) × IsReadBy text read }
         ensures ok { IfOk result (λ name. (text : List ℕ) → IsReadBy text read → IsRelativeNameText text name) }
@@ -104,7 +104,7 @@ where
 }
 
 impl RelativeName<Vec<u8>> {
-    /// The relative name that a text spells, as `from_str` has it.
+    /// Reads the relative name that a text spells, as `from_str` does.
     pub fn vec_from_str(alloc: Global, text: &str) -> Result<Self, RelativeFromStrError>
         ensures ok { IfOk result (λ name. IsRelativeNameText text.now name) }
         ensures err { IfErr result (IsNoRelative text.now) }

@@ -11,7 +11,7 @@ use dns_wire::FromStrError;
 use dns_wire::text::Spelling;
 use std::alloc::Global;
 
-/// The name that a text spells where no origin is known: the last dot says which of the two it is.
+/// A name read from a text when no origin is known: the last dot decides between the two.
 #[derive(Debug, Drop)]
 pub enum SpelledName<Octs: Octets> {
     /// The last dot is there.
@@ -24,10 +24,10 @@ impl<Octs: FromBuilder> SpelledName<Octs>
 where
     Octs::Builder: EmptyBuilder + Drop,
 {
-    /// The name that characters spell (RFC 1035 5.1): absolute exactly where they end with a dot that is not escaped. No
-    /// characters are the relative name without labels.
+    /// Reads the name that characters spell (RFC 1035 5.1): an absolute one exactly if they end with a dot that is not
+    /// escaped. No characters are the relative name without labels.
     ///
-    /// Refused with `Presentation` where they spell no name, maybe before all of them are taken; and with `ShortBuf` where
+    /// Fails with `Presentation` if they spell no name, maybe before it has taken all of them; and with `ShortBuf` if
     /// they spell one, and there is no memory or no room for it.
     pub fn from_chars<C: Iterator<Item = char> + Drop>(
         alloc: Global,
@@ -41,7 +41,7 @@ where
         SpelledName::of_read(alloc, Spelling::read_chars(chars)?)
     }
 
-    /// The name that was read, the last label of which may be open.
+    /// Makes the name that was read. Its last label may be open.
     fn of_read(alloc: Global, read: Option<Spelling>) -> Result<Self, FromStrError>
         requires { (text : List ℕ) × IsReadBy text read }
         ensures ok { IfOk result (λ name. (text : List ℕ) → IsReadBy text read → IsSpelledBy text name) }

@@ -1,4 +1,4 @@
-//! Targets of messages of a fixed size.
+//! Fixed-size arrays as targets of messages.
 ghost use Rattle.dns_name.specs.Spelling.{plain};
 ghost use Rattle.dns_name.specs.Remembered.{sound_none};
 
@@ -8,7 +8,7 @@ use arrayvec::ArrayVec;
 use dns_flat::ToName;
 use dns_octets::AppendError;
 
-/// Names are written in full.
+/// Writes names in full.
 impl<const N: usize> Composer for ArrayVec<u8, N> {
     ghost spelling = { plain };
 

@@ -52,7 +52,7 @@ fn append_labels<T: OctetsBuilder, N: ToName>(target: &mut T, name: &N) -> Resul
     Ok(())
 }
 
-/// Appends the label behind its length, or its length alone where there is room for that alone.
+/// Appends the label after its length, or its length alone if there is room for that alone.
 fn append_label<T: OctetsBuilder>(target: &mut T, label: &Label<'_>) -> Result<(), AppendError>
     ensures ok { OnOk result (T.list target.new ≡ T.list target.old
         ++ length (octets_of label.now) ∷ octets_of label.now) }

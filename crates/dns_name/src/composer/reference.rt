@@ -1,9 +1,9 @@
-//! Targets of messages that are lent.
+//! Borrowed targets of messages.
 use super::Composer;
 use dns_flat::ToName;
 use dns_octets::AppendError;
 
-/// Names are written as the target that is lent writes them.
+/// Writes names as the borrowed target does.
 impl<T: Composer> Composer for &mut T {
     ghost spelling = { T.spelling };
 

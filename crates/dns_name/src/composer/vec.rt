@@ -10,7 +10,7 @@ use super::in_full::append_in_full;
 use dns_flat::ToName;
 use dns_octets::AppendError;
 
-/// Names are written in full.
+/// Writes names in full.
 impl Composer for Vec<u8> {
     ghost spelling = { plain };
 

@@ -19,15 +19,15 @@ pub fn relative_text_reads_back()
     ensures alone { (name other : List (List ℕ)) → IsName name → AllByRecursion AreOctets name → IsRelativeNameText (printed_relative name) other → other ≡ name }
 {}
 
-/// A text spells one name, whether its last dot is there or not; one relative name; and not a relative name and an absolute
-/// one with its last dot.
+/// A text spells one name, whether its last dot is there or not; one relative name; and not a relative name and an
+/// absolute one with its last dot.
 pub fn text_spells_one_name()
     ensures name { (text : List ℕ) (name other : List (List ℕ)) → IsNameText text name → IsNameText text other → name ≡ other }
     ensures relative { (text : List ℕ) (name other : List (List ℕ)) → IsRelativeNameText text name → IsRelativeNameText text other → name ≡ other }
     ensures apart { (text : List ℕ) (name other : List (List ℕ)) → IsRelativeNameText text name → IsAbsoluteText text other → ⊥ }
 {}
 
-/// The labels that are seen of a name one by one print as the name does, absolute or relative.
+/// The labels of a name, seen one by one, print as the name does, absolute or relative.
 pub fn seen_labels_print_as_their_name()
     ensures absolute { (name : List (List ℕ)) → IsName name → printed_seen (with_root name) ≡ printed_name name }
     ensures relative { (name : List (List ℕ)) → IsName name → printed_seen name ≡ printed_relative name }

@@ -23,7 +23,7 @@ impl<'a> ParsedName<&'a [u8]> {
     ghost use Rattle.dns_name.specs.ParsedName.{labels_of};
     ghost use Rattle.dns_wire.specs.Skip.{Skips};
 
-    /// Reads the name at the parser's place, over the octets that the parser borrows, as `parse` does.
+    /// Parses the name at the parser's place, over the octets that the parser borrows, as `parse` does.
     pub fn parse_ref(parser: &mut Parser<'a>) -> Result<Self, ParseError>
         ensures ok { IfOk result (λ name. Reads (octets_of parser.old) (place_of parser.old) (labels_of name) (place_of parser.new)) }
         ensures err { OnErr result ((name : List (List ℕ)) (next : ℕ) → Reads (octets_of parser.old) (place_of parser.old) name next → ⊥) }
@@ -34,11 +34,11 @@ impl<'a> ParsedName<&'a [u8]> {
         ParsedName::parse(parser)
     }
 
-    /// Leaves the parser behind the name at its place, and follows no pointer.
+    /// Moves the parser after the name at its place, and follows no pointer.
     ///
-    /// It stops where `parse` does if a name is read there. Refused where there stand no labels of at most 254 octets
-    /// with the root or a pointer behind them, and the parser then stays where it is: with `ShortInput` exactly where the
-    /// message ends too early, and else with an error of the form.
+    /// If a name is read there, it stops where `parse` does. Fails if there are no labels of at most 254 octets that
+    /// the root or a pointer follows: with `ShortInput` exactly if the message ends after at most 254 octets of labels,
+    /// and else with a form error. The parser then stays where it is.
     pub fn skip(parser: &mut Parser<'_>) -> Result<(), ParseError>
         ensures ok { OnOk result (Skips (octets_of parser.old) 254 (place_of parser.old) (place_of parser.new)) }
         ensures err { OnErr result ((next : ℕ) → Skips (octets_of parser.old) 254 (place_of parser.old) next → ⊥) }
@@ -51,8 +51,8 @@ impl<'a> ParsedName<&'a [u8]> {
         Ok(())
     }
 
-    /// Takes the first label off, so that the name becomes its parent, and gives that label. Answers None at the root,
-    /// which stays.
+    /// Takes off the first label and returns it, so that the name becomes its parent. Returns `None` for the root,
+    /// which does not change.
     pub fn split_first(&mut self) -> Option<Label<'a>>
         ensures some { IfSome result (λ label. labels_of self.old ≡ label_octets label ∷ labels_of self.new) }
         ensures none { IfNone result ((labels_of self.old ≡ []) × (self.new ≡ self.old)) }
@@ -65,7 +65,7 @@ impl<'a> ParsedName<&'a [u8]> {
         Some(first.label)
     }
 
-    /// The same name, over the octets that this one borrows.
+    /// Returns the same name, over the octets that this one borrows.
     pub fn deref_octets(&self) -> ParsedName<&'a [u8]>
         ensures { result ≡ self.now }
     {
@@ -76,7 +76,7 @@ impl<'a> ParsedName<&'a [u8]> {
 impl<Octs: Octets> ParsedName<Octs> {
     ghost use Rattle.dns_name.specs.ParsedName.{labels_of, labels_in, IsWrittenOut};
 
-    /// Whether the name is not written out at its place: there is a pointer in front of its root.
+    /// Returns whether the name is compressed at its place: there is a pointer before its root.
     pub fn is_compressed(&self) -> bool
         ensures out { result ≡ false → IsWrittenOut Octs.list self.now }
         ensures compressed { IsTrue result → IsWrittenOut Octs.list self.now → ⊥ }
@@ -84,7 +84,7 @@ impl<Octs: Octets> ParsedName<Octs> {
         has_pointer(self.octets.octets(), self.start)
     }
 
-    /// The same name over borrowed octets.
+    /// Returns the same name over borrowed octets.
     pub fn ref_octets(&self) -> ParsedName<&[u8]>
         ensures { labels_of result ≡ labels_in Octs.list self.now }
     {
@@ -95,35 +95,36 @@ impl<Octs: Octets> ParsedName<Octs> {
         }
     }
 
-    /// The first label, which is the root's where there is no other.
+    /// Returns the first label, which is the root's if there is no other.
     pub fn first(&self) -> Label<'_>
         ensures { Some (label_octets result) ≡ slice_get (with_root (labels_in Octs.list self.now)) 0 }
     {
         split_label(self.octets.octets(), self.start).0
     }
 
-    /// The last label, which is the root's.
+    /// Returns the last label, which is the root's.
     pub fn last(&self) -> Label<'_>
         ensures { Some (label_octets result) ≡ slice_get (with_root (labels_in Octs.list self.now)) (length (labels_in Octs.list self.now)) }
     {
         Label::root()
     }
 
-    /// Whether the labels begin with those of the other name, up to ASCII case (RFC 4343).
+    /// Returns whether the labels begin with those of the other name, up to ASCII case (RFC 4343).
     pub fn starts_with<N: ToLabelIter>(&self, start: &N) -> bool
         ensures { IsTrue result ↔ StartsWith (low (with_root (labels_in Octs.list self.now))) (low (N.labels start.now)) }
     {
         starts_with(self, start)
     }
 
-    /// Whether the name ends with another one, up to ASCII case (RFC 4343).
+    /// Returns whether the name ends with another one, up to ASCII case (RFC 4343).
     pub fn ends_with<N: ToName>(&self, base: &N) -> bool
         ensures { IsTrue result ↔ EndsWith (low (labels_in Octs.list self.now)) (low (N.name base.now)) }
     {
         ends_with(self, base)
     }
 
-    /// Takes the first label off, so that the name becomes its parent. Answers None at the root, which stays.
+    /// Takes off the first label, so that the name becomes its parent. Returns `None` for the root, which does not
+    /// change.
     pub fn parent(&mut self) -> Option<()>
         ensures some { IfSome result (λ _. (label : List ℕ) × (labels_in Octs.list self.old ≡ label ∷ labels_in Octs.list self.new)) }
         ensures none { IfNone result ((labels_in Octs.list self.old ≡ []) × (labels_in Octs.list self.new ≡ [])) }
@@ -137,7 +138,7 @@ impl<Octs: Octets> ParsedName<Octs> {
     }
 }
 
-/// Whether there is a pointer in the name that is read at the place.
+/// Returns whether there is a pointer in the name that is read at the place.
 fn has_pointer(octets: &[u8], start: usize) -> bool
     requires { ∥ IsReadAt octets.now start ∥₁ }
     ensures out { result ≡ false → IsWrittenAt octets.now start }
@@ -159,17 +160,17 @@ fn has_pointer(octets: &[u8], start: usize) -> bool
     }
 }
 
-/// The first label of a name, and the name behind it.
+/// The first label of a name, and the name after it.
 #[derive(Drop)]
 struct First<'a> {
     label: Label<'a>,
-    /// Where the name behind the label begins.
+    /// The place of the name after the label.
     next: usize,
-    /// How many octets that name has on the wire, the root's counted.
+    /// The number of octets of that name on the wire, with the root's.
     len: u16,
 }
 
-/// Splits the first label off the name that is read at the place and has so many octets. Answers None at the root.
+/// Splits the first label off the name of `len` octets that is read at the place. Returns `None` for the root.
 fn split_first(octets: &[u8], start: usize, len: u16) -> Option<First<'_>>
     requires read { ∥ IsReadAt octets.now start ∥₁ }
     requires counted { len ≡ length (wire (labels_at octets.now start)) }

@@ -5,7 +5,7 @@ use super::ParsedName;
 use dns_octets::Octets;
 use std::marker::Model;
 
-/// A name in a message and its parents, one after another, down to the root.
+/// A name in a message and its parents, up to the root.
 #[derive(Debug, Drop)]
 pub struct ParsedSuffixIter<'a> {
     name: Option<ParsedName<&'a [u8]>>,
@@ -25,7 +25,7 @@ impl<Octs: Octets> ParsedName<Octs> {
     ghost use Rattle.dns_name.specs.ParsedName.{labels_in};
     ghost use Rattle.dns_wire.specs.Suffix.{suffixes};
 
-    /// The name itself, its parent, and so on down to the root.
+    /// Returns the name itself, its parent, and so on up to the root.
     pub fn iter_suffixes(&self) -> ParsedSuffixIter<'_>
         ensures suffixes { result ≡ suffixes (labels_in Octs.list self.now) }
         ensures few { length result ≤ 128 }
@@ -58,7 +58,7 @@ impl<'a> ParsedName<&'a [u8]> {
     ghost use Rattle.dns_wire.specs.Suffix.{suffixes};
     ghost use Rattle.dns_name.specs.Suffixes.{suffixes_left};
 
-    /// The parent, or None at the root.
+    /// Returns the parent, or `None` for the root.
     fn to_parent(&self) -> Option<Self>
         ensures { suffixes (labels_of self.now) ≡ labels_of self.now ∷ suffixes_left result }
     {

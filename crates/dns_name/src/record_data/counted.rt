@@ -1,4 +1,4 @@
-//! Data behind its length, which is patched when the data is written.
+//! Data after its length, which is patched when the data is written.
 ghost use Rattle.std.specs.Prelude.{◌≡◌, ◌≤◌, ◌<◌, ◌+◌, ◌-◌, ◌++◌, ◌↔◌, true, Err, length, IsOk, IfErr, OnOk, OnErr};
 ghost use Rattle.std.specs.Int.{to_be_bytes, w16};
 ghost use Rattle.dns_octets.specs.Builder.{GrowsTo, IsPast};
@@ -12,7 +12,7 @@ use super::ComposeRecordData;
 use crate::Composer;
 use dns_octets::AppendError;
 
-/// Appends the data behind its length, or as much of them as there is room for.
+/// Appends the data after its length, or as much of them as there is room for.
 pub fn append_counted<Data: ComposeRecordData, Target: Composer>(
     rdata: &Data,
     target: &mut Target,
@@ -40,7 +40,7 @@ pub fn append_counted<Data: ComposeRecordData, Target: Composer>(
     Ok(())
 }
 
-/// Appends the canonical form of the data behind its length, or as much of them as there is room for.
+/// Appends the canonical form of the data after its length, or as much of them as there is room for.
 pub fn append_canonical_counted<Data: ComposeRecordData, Target: Composer>(
     rdata: &Data,
     target: &mut Target,
@@ -65,7 +65,8 @@ pub fn append_canonical_counted<Data: ComposeRecordData, Target: Composer>(
     Ok(())
 }
 
-/// Writes into the two octets at the place how many stand behind them. Refused where a number of 16 bits can't say that.
+/// Writes into the two octets at the place the number of octets after them. Fails if that number does not fit in 16
+/// bits.
 fn count_behind<Target: Composer>(target: &mut Target, place: usize) -> Result<(), AppendError>
     requires within { place + 2 ≤ length (Target.list target.old) }
     requires free { is_free place (place + 2) (Target.known target.old) ≡ true }

@@ -12,7 +12,7 @@ impl<T: RecordData> RecordData for &T {
     }
 }
 
-/// Written as what is borrowed.
+/// Writes what is borrowed.
 impl<T: ComposeRecordData> ComposeRecordData for &T {
     ghost parts = { λ rdata. T.parts rdata.now };
 

@@ -1,4 +1,4 @@
-//! Data that is not looked into, in octets of another kind.
+//! Unknown data, in octets of another kind.
 ghost use Rattle.std.specs.Prelude.{◌≡◌, length};
 ghost use Rattle.dns_octets.specs.Builder.{IsPast};
 

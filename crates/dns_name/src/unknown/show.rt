@@ -16,7 +16,7 @@ impl<Octs: Octets> fmt::Display for UnknownRecordData<Octs> {
     }
 }
 
-/// Writes the octets behind their number.
+/// Writes the number of octets, and then these.
 fn write_unknown<W: fmt::Write>(f: &mut fmt::Formatter<W>, octets: &[u8]) -> fmt::Result
     ensures { DisplaysOnOk W.write_str_gives f.old result (Some (unknown_text octets.now)) f.new }
 {
@@ -28,7 +28,7 @@ fn write_unknown<W: fmt::Write>(f: &mut fmt::Formatter<W>, octets: &[u8]) -> fmt
     write_hex(f, octets)
 }
 
-/// Writes two digits of base 16, in capitals, for each octet.
+/// Writes two hexadecimal digits, in capitals, for each octet.
 fn write_hex<W: fmt::Write>(f: &mut fmt::Formatter<W>, octets: &[u8]) -> fmt::Result
     ensures { DisplaysOnOk W.write_str_gives f.old result (Some (hex_of octets.now)) f.new }
 {

@@ -40,8 +40,8 @@ impl<Builder: OctetsBuilder> CharStrBuilder<Builder> {
         }
     }
 
-    /// Returns a string without octets that has room for `capacity` of them. Fails with `ShortBuf` only if its target may not
-    /// hold them, and with `OutOfMemory` if out of memory.
+    /// Returns a string without octets that has room for `capacity` of them. Fails with `ShortBuf` only if its target
+    /// can't hold them, and with `OutOfMemory` if out of memory.
     pub fn with_capacity(alloc: Global, capacity: usize) -> Result<Self, AppendError>
     where
         Builder: EmptyBuilder,
@@ -55,7 +55,7 @@ impl<Builder: OctetsBuilder> CharStrBuilder<Builder> {
         })
     }
 
-    /// Goes on with what the builder holds. Fails if that is more than 255 octets.
+    /// Continues with what the builder holds. Fails if that is more than 255 octets.
     pub fn from_builder(builder: Builder) -> Result<Self, CharStrError>
     where
         Builder: Drop,
@@ -68,28 +68,28 @@ impl<Builder: OctetsBuilder> CharStrBuilder<Builder> {
         Ok(CharStrBuilder { builder })
     }
 
-    /// The octets so far.
+    /// Returns the octets so far.
     pub fn as_slice(&self) -> &[u8]
         ensures { result.now ≡ octets_in Builder.list self.now }
     {
         self.octets()
     }
 
-    /// How many octets there are, from 0 to 255.
+    /// Returns the number of octets, from 0 to 255.
     pub fn len(&self) -> usize
         ensures { result ≡ length (octets_in Builder.list self.now) }
     {
         self.as_slice().len()
     }
 
-    /// Whether there are no octets.
+    /// Returns whether there are no octets.
     pub fn is_empty(&self) -> bool
         ensures { IsTrue result ↔ (octets_in Builder.list self.now ≡ []) }
     {
         self.as_slice().is_empty()
     }
 
-    /// The string of the octets.
+    /// Returns the string of the octets.
     pub fn finish(self) -> CharStr<Builder::Octets>
     where
         Builder: FreezeBuilder,

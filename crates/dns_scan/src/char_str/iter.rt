@@ -16,7 +16,7 @@ impl<'a> Model for CharStrIter<'a> {
 }
 
 impl<'a> CharStrIter<'a> {
-    /// All of these octets.
+    /// Iterates over all of these octets.
     pub(crate) fn over(octets: &'a [u8]) -> Self
         ensures { result ≡ octets.now }
     {

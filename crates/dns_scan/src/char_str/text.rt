@@ -46,7 +46,7 @@ impl From<PresentationError> for FromStrError {
 /// How the octets of a string are written.
 #[derive(Clone, Copy, Debug, PartialEq, Eq)]
 enum Style {
-    /// With nothing around it that has a meaning.
+    /// With nothing special around it.
     Plain,
     /// Between quotes.
     Quoted,
@@ -79,8 +79,8 @@ impl<'a> Model for DisplayUnquoted<'a> {
 }
 
 impl<Octs: Octets> CharStr<Octs> {
-    /// Returns what shows the string between quotes. A backslash stands before each quote and backslash; octets outside 0x20
-    /// to 0x7E are a backslash and three digits.
+    /// Returns what shows the string between quotes. There is a backslash before each quote and backslash; octets
+    /// outside 0x20 to 0x7E are a backslash and three digits.
     pub fn display_quoted(&self) -> DisplayQuoted<'_>
         ensures { result ≡ self.now }
     {
@@ -89,9 +89,9 @@ impl<Octs: Octets> CharStr<Octs> {
         }
     }
 
-    /// Returns what shows the string as a word. A backslash stands before each space, quote, parenthesis, semicolon and
-    /// backslash; octets outside 0x20 to 0x7E are a backslash and three digits. The string without octets shows as no text,
-    /// which is no token.
+    /// Returns what shows the string as a word. There is a backslash before each space, quote, parenthesis, semicolon
+    /// and backslash; octets outside 0x20 to 0x7E are a backslash and three digits. The string without octets shows as
+    /// the empty text, which is no token.
     pub fn display_unquoted(&self) -> DisplayUnquoted<'_>
         ensures { result ≡ self.now }
     {
@@ -125,7 +125,7 @@ impl<Octs: Octets> CharStr<Octs> {
 #[derive(Drop)]
 struct Taken {
     octets: [u8; 255],
-    /// How many octets there are.
+    /// The number of octets.
     len: usize,
     ghost whole: { length octets ≡ 255 },
     ghost short: { len ≤ 255 },
@@ -166,7 +166,8 @@ pub(crate) fn octet_of(symbol: Symbol) -> u8
     }
 }
 
-/// Shows the plain text: each backslash is written twice, and octets outside 0x20 to 0x7E are a backslash and three digits.
+/// Shows the plain text: each backslash is written twice, and octets outside 0x20 to 0x7E are a backslash and three
+/// digits.
 impl<Octs: Octets> fmt::Display for CharStr<Octs> {
     ghost output = { λ string. Some (plain_text string) };
 

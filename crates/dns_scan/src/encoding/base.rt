@@ -39,7 +39,8 @@ impl Base {
         }
     }
 
-    /// Returns the number of a character, in base 16 and 32 in either case, or None if it is not of the alphabet.
+    /// Returns the number of a character, in base 16 and 32 in upper or lower case, or `None` if it is not in the
+    /// alphabet.
     pub(crate) fn digit(self, character: char) -> Option<u32>
         ensures found { IfSome result (λ number. (number ≡ digit self character) × (number < size self)) }
         ensures none { IfNone result (IsCharacter self character → ⊥) }

@@ -1,4 +1,4 @@
-//! Base 16 (RFC 4648 8): two characters for an octet, in either case.
+//! Base 16 (RFC 4648 8): two characters for an octet, in upper or lower case.
 ghost use Rattle.std.specs.Prelude.{◌≡◌, List, ℕ, [], false, IfOk, IfErr, OnErr, string_bytes};
 ghost use Rattle.std.specs.Str.{chars};
 ghost use Rattle.dns_scan.specs.Encodings.{encoded_16, Decodes16};
@@ -27,11 +27,10 @@ pub type Decoder<Builder> = decoder::Decoder<Base16, Builder>;
 /// A converter of the symbols of a text in base 16.
 pub type SymbolConverter = symbol_converter::SymbolConverter<Base16>;
 
-/// Returns the octets of a text.
+/// Decodes a text to its octets.
 ///
-/// Fails with `IllegalChar` at the first character that is not of the alphabet, with `ShortInput` if the text
-/// ends within a group of characters, and with `ShortBuf` if there is no room or no
-/// memory for the octets.
+/// Fails with `IllegalChar` at the first character that is not in the alphabet, with `ShortInput` if the text ends
+/// within a group of characters, and with `ShortBuf` if there is no room or no memory for the octets.
 pub fn decode<Octs: FromBuilder>(alloc: Global, text: &str) -> Result<Octs, DecodeError>
 where
     Octs::Builder: EmptyBuilder + Drop,
@@ -55,9 +54,9 @@ pub fn encode_string(alloc: Global, octets: &[u8]) -> Result<String, AllocError>
     display(octets).to_string(alloc)
 }
 
-/// Returns the octets of all words that are left in an entry, joined to one text, which may be empty.
+/// Decodes all words that are left in an entry, joined to one text, which may be empty.
 ///
-/// Fails as `decode` does, and if a token is no word; the tokens left are then an ending of those left before.
+/// Fails as `decode` does, and if a token is no word; the tokens left are then a suffix of those left before.
 pub fn scan_entry<S: Scanner>(scanner: &mut S) -> Result<S::Octets, S::Error>
     ensures ok { IfOk result (λ octets. (text : List ℕ) × IsEntry IsWord (S.tokens scanner.old) text
         × Decodes16 (chars text) (⟦<S::Octets as Octets>⟧.list octets) × (S.tokens scanner.new ≡ [])) }

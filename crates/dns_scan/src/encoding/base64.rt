@@ -1,4 +1,4 @@
-//! Base 64 with padding to fours of characters (RFC 4648 4). Bits that are left over are ignored.
+//! Base 64 with padding to a multiple of four characters (RFC 4648 4). Bits that are left over are ignored.
 ghost use Rattle.std.specs.Prelude.{◌≡◌, List, ℕ, [], false, IfOk, IfErr, OnErr, string_bytes};
 ghost use Rattle.std.specs.Str.{chars};
 ghost use Rattle.dns_scan.specs.Encodings.{encoded_64, Decodes64};
@@ -27,11 +27,11 @@ pub type Decoder<Builder> = decoder::Decoder<Base64, Builder>;
 /// A converter of the symbols of a text in base 64.
 pub type SymbolConverter = symbol_converter::SymbolConverter<Base64>;
 
-/// Returns the octets of a text.
+/// Decodes a text to its octets.
 ///
-/// Fails with `IllegalChar` at the first character that is not of the alphabet, with
-/// `TrailingInput` after the padding, with `ShortInput` if the text ends within a group of characters or before its padding, and with `ShortBuf` if there is no room or no
-/// memory for the octets.
+/// Fails with `IllegalChar` at the first character that is not in the alphabet, with `TrailingInput` after the padding,
+/// with `ShortInput` if the text ends within a group of characters or before its padding, and with `ShortBuf` if there
+/// is no room or no memory for the octets.
 pub fn decode<Octs: FromBuilder>(alloc: Global, text: &str) -> Result<Octs, DecodeError>
 where
     Octs::Builder: EmptyBuilder + Drop,
@@ -55,9 +55,9 @@ pub fn encode_string(alloc: Global, octets: &[u8]) -> Result<String, AllocError>
     display(octets).to_string(alloc)
 }
 
-/// Returns the octets of all words that are left in an entry, joined to one text, which may be empty.
+/// Decodes all words that are left in an entry, joined to one text, which may be empty.
 ///
-/// Fails as `decode` does, and if a token is no word; the tokens left are then an ending of those left before.
+/// Fails as `decode` does, and if a token is no word; the tokens left are then a suffix of those left before.
 pub fn scan_entry<S: Scanner>(scanner: &mut S) -> Result<S::Octets, S::Error>
     ensures ok { IfOk result (λ octets. (text : List ℕ) × IsEntry IsWord (S.tokens scanner.old) text
         × Decodes64 (chars text) (⟦<S::Octets as Octets>⟧.list octets) × (S.tokens scanner.new ≡ [])) }

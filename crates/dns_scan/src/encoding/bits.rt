@@ -1,4 +1,4 @@
-//! Bits that wait for others.
+//! Bits that wait for the rest of their octet.
 ghost use Rattle.std.specs.Prelude.{◌≡◌, ◌+◌, ◌≤◌, ◌<◌, ◌^◌, List, ℕ, [], ◌++◌, length};
 ghost use Rattle.dns_scan.specs.Bits.{bits};
 
@@ -7,7 +7,7 @@ use std::marker::Model;
 /// At most 16 bits, in their order.
 #[derive(Debug, Drop)]
 pub(crate) struct Bits {
-    /// The number of the bits, of which the first is the highest.
+    /// The bits as a number, the first the highest.
     number: u32,
     count: u32,
 }
@@ -21,7 +21,7 @@ impl Model for Bits {
 }
 
 impl Bits {
-    /// No bits.
+    /// Returns no bits.
     pub(crate) fn none() -> Self
         ensures { result ≡ [] }
     {
@@ -31,7 +31,7 @@ impl Bits {
         }
     }
 
-    /// Returns how many bits there are.
+    /// Returns the number of bits.
     pub(crate) fn len(&self) -> u32
         ensures { result ≡ length self.now }
     {
@@ -48,7 +48,7 @@ impl Bits {
         self.count += count;
     }
 
-    /// Takes the first `count` bits, and returns their number.
+    /// Takes the first `count` bits, and returns them as a number.
     pub(crate) fn take(&mut self, count: u32) -> u32
         requires { count ≤ length self.old }
         ensures taken { self.old ≡ bits count result ++ self.new }

@@ -4,10 +4,10 @@ use thiserror::Error;
 /// Why a text was not decoded.
 #[derive(Clone, Copy, Debug, PartialEq, Eq, Error)]
 pub enum DecodeError {
-    /// This character is not of the alphabet, or is a pad where none may stand.
+    /// This character is not in the alphabet, or is a pad where none is allowed.
     #[error("illegal character '{0}'")]
     IllegalChar(char),
-    /// There is a character after the padding that may not stand there.
+    /// There is a character after the padding that is not allowed there.
     #[error("trailing input")]
     TrailingInput,
     /// The text ends before a group of characters, or its padding, does.

@@ -14,12 +14,13 @@ use std::marker::{Model, PhantomData};
 
 /// A decoder that takes a text character by character.
 ///
-/// A contract sees the octets that are whole, the bits that wait for others, the pads, and the error that every call returns.
+/// A contract sees the whole octets, the bits that wait for the rest of theirs, the pads, and the error that every
+/// later call returns.
 #[derive(Debug, Drop)]
 pub struct Decoder<E: Encoding, Builder: OctetsBuilder> {
     builder: Builder,
     group: Group,
-    /// What every later call returns.
+    /// The error that every later call returns, if there was one.
     error: Option<DecodeError>,
     encoding: PhantomData<E>,
 }
@@ -77,7 +78,7 @@ impl<E: Encoding, Builder: OctetsBuilder> Decoder<E, Builder> {
         }
     }
 
-    /// Takes the next character, where no error has come.
+    /// Takes the next character, if there was no error yet.
     fn take(&mut self, character: char) -> Result<(), DecodeError>
         requires { self.old.error ≡ None }
         ensures ok { OnOk result ((text : List ℕ) → HasRead E.BASE self.old text → HasRead E.BASE self.new (text ++ character ∷ [])) }
@@ -92,8 +93,8 @@ impl<E: Encoding, Builder: OctetsBuilder> Decoder<E, Builder> {
         }
     }
 
-    /// Returns the octets of the text that it took. Fails with `ShortInput` if the text ends within a group of characters or
-    /// before its padding, and with the error that is kept, if any.
+    /// Returns the octets of the text that it took. Fails with `ShortInput` if the text ends within a group of
+    /// characters or before its padding, and with the error that is kept, if any.
     pub fn finalize(self) -> Result<Builder::Octets, DecodeError>
     where
         Builder: FreezeBuilder + Drop,
@@ -128,7 +129,7 @@ impl<E: Encoding, Builder: OctetsBuilder> Decoder<E, Builder> {
     }
 }
 
-/// Puts the octets of a text into the builder, which has none yet.
+/// Decodes a text into the builder, which has no octets yet.
 pub(crate) fn decode_into<E: Encoding, Builder: OctetsBuilder + Drop>(
     builder: Builder,
     text: &str,
@@ -144,7 +145,7 @@ pub(crate) fn decode_into<E: Encoding, Builder: OctetsBuilder + Drop>(
     decoder.finish()
 }
 
-/// Returns the octets of a text.
+/// Decodes a text to its octets.
 pub(crate) fn decode<E: Encoding, Octs: FromBuilder>(
     alloc: Global,
     text: &str,

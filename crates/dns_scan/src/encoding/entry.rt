@@ -10,7 +10,7 @@ use super::{DecodeError, Encoding};
 use crate::{Scanner, ScannerError};
 use dns_name::{FreezeBuilder, Octets};
 
-/// Returns the octets of all words that are left in an entry, joined to one text.
+/// Decodes all words that are left in an entry, joined to one text.
 pub(crate) fn scan_entry<E: Encoding, S: Scanner>(scanner: &mut S) -> Result<S::Octets, S::Error>
     ensures ok { IfOk result (λ octets. (text : List ℕ) × IsEntry IsWord (S.tokens scanner.old) text
         × Decodes E.BASE (chars text) (⟦<S::Octets as Octets>⟧.list octets) × (S.tokens scanner.new ≡ [])) }
@@ -28,7 +28,7 @@ pub(crate) fn scan_entry<E: Encoding, S: Scanner>(scanner: &mut S) -> Result<S::
     }
 }
 
-/// Returns the scanner's error for one of decoding.
+/// Returns the scanner's error for a decoding error.
 pub(crate) fn scan_error<Error: ScannerError>(error: DecodeError) -> Error
     ensures short { Error.is_short result ≡ is_want_of_room error }
     ensures end { Error.is_end result ≡ false }

@@ -13,9 +13,9 @@ use std::marker::Model;
 /// The bits of a group of characters that are too few for an octet yet, and the pads.
 #[derive(Debug, Drop)]
 pub(crate) struct Group {
-    /// The bits that wait for others.
+    /// The bits that wait for the rest of their octet.
     waiting: Bits,
-    /// How many pads have come.
+    /// The number of pads so far.
     pads: u32,
 }
 
@@ -102,7 +102,7 @@ impl Group {
     }
 }
 
-/// Returns whether one more pad may follow these, where so many bits wait.
+/// Returns whether one more pad may follow these, if `bits` bits wait.
 fn pad_fits(pads: u32, bits: u32) -> bool
     requires { pads < 4 }
     ensures { IsTrue result ↔ ((bits < 6) × (2 * (pads + 1) ≤ bits)) }
@@ -110,7 +110,7 @@ fn pad_fits(pads: u32, bits: u32) -> bool
     bits < 6 && 2 * (pads + 1) <= bits
 }
 
-/// Returns whether a text may end after these pads, where so many bits wait.
+/// Returns whether a text may end after these pads, if `bits` bits wait.
 fn is_whole(base: Base, pads: u32, bits: u32) -> bool
     requires { pads < 4 }
     ensures { IsTrue result ↔ IsWhole base pads bits }

@@ -24,9 +24,10 @@ impl Octets for DecodedOctet {
     }
 }
 
-/// A converter of symbols, each of which is a plain character of the text. It takes no memory, and never fails for lack of it.
+/// A converter of symbols, which have to be plain characters of the text. It takes no memory, and never fails for lack
+/// of it.
 ///
-/// A contract sees the bits that wait for others, and the pads.
+/// A contract sees the bits that wait for the rest of their octet, and the pads.
 #[derive(Debug, Drop)]
 pub struct SymbolConverter<E: Encoding> {
     group: Group,
@@ -116,8 +117,8 @@ impl<E: Encoding, Error: ScannerError> ConvertSymbols<EntrySymbol, Error> for Sy
 }
 
 impl Group {
-    /// Takes the next symbol, and returns the octet that is whole with it, if any. Fails if it is no plain character. It takes no
-    /// memory.
+    /// Takes the next symbol, and returns the octet that is whole with it, if any. Fails if it is no plain character.
+    /// It takes no memory.
     fn take_symbol<Error: ScannerError>(
         &mut self,
         base: Base,
@@ -140,7 +141,7 @@ impl Group {
         }
     }
 
-    /// Ends the symbols, where no octet is left. Fails if they may not end here.
+    /// Ends the symbols. No octet is left then. Fails if they may not end here.
     fn end_symbols<Error: ScannerError>(&self, base: Base) -> Result<Option<DecodedOctet>, Error>
         ensures ok { IfOk result (λ given. (symbols : List Symbol) (octets : List ℕ) → HasDeciphered base self.now symbols octets
             → Deciphers base symbols (octets ++ octets_given ⟦<DecodedOctet as Octets>⟧.list given)) }

@@ -10,7 +10,7 @@ use std::marker::Model;
 pub(crate) struct Values<'a> {
     octets: &'a [u8],
     waiting: Bits,
-    /// How many bits a group has.
+    /// The number of bits of a group.
     width: u32,
 }
 

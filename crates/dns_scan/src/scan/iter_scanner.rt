@@ -16,15 +16,15 @@ use dns_name::{Compose, Name};
 use std::alloc::{AllocError, Global};
 use std::marker::Model;
 
-/// A scanner over texts, each of which is an unquoted token. Nothing stands between them, so none follows white space. There is
-/// no origin: a name may lack its last dot.
+/// A scanner over texts, where each text is an unquoted token. There is nothing between them, so none follows white
+/// space. There is no origin: a name may lack its last dot.
 ///
 /// A contract sees it as the list of the tokens that are left.
 #[derive(Debug, Drop)]
 pub struct IterScanner<'a> {
     alloc: Global,
     texts: Vec<&'a str>,
-    /// How many of them have been taken.
+    /// The number of tokens that have been taken.
     place: usize,
 }
 
@@ -37,7 +37,8 @@ impl<'a> Model for IterScanner<'a> {
 }
 
 impl<'a> IterScanner<'a> {
-    /// Returns a scanner over the texts of the iterator. It and what is scanned grow on this allocator. Fails if out of memory.
+    /// Returns a scanner over the texts of the iterator. It and what is scanned grow on this allocator. Fails if out of
+    /// memory.
     pub fn new<I: Iterator<Item = &'a str>>(alloc: Global, texts: I) -> Result<Self, AllocError>
         requires can { I.can_next texts }
         requires finite { IsFinite (I.remaining texts) }
@@ -220,7 +221,7 @@ fn string_of(alloc: Global, text: &str) -> Result<CharStr<Vec<u8>>, StrError>
     }
 }
 
-/// Returns whether the text is that of the marker of data of an unknown type.
+/// Returns whether the text is the marker of unknown data.
 fn is_marker(text: &str) -> bool
     ensures { IsTrue result ↔ (text.now ≡ 92 ∷ 35 ∷ []) }
 {

@@ -47,7 +47,7 @@ impl<S: Scanner> Scan<S> for u128 {
     }
 }
 
-/// The number below 2^8 that these digits spell.
+/// Returns the number below 2^8 that these digits spell, if they spell one.
 #[tactic(auto, using(crate::proofs::Numerals::spelled_rules))]
 fn spelled_u8(text: &str) -> Option<u8>
     ensures { result ≡ number_spelled (2 ^ 8) text.now }
@@ -58,7 +58,7 @@ fn spelled_u8(text: &str) -> Option<u8>
     text.parse().ok()
 }
 
-/// The number below 2^16 that these digits spell.
+/// Returns the number below 2^16 that these digits spell, if they spell one.
 #[tactic(auto, using(crate::proofs::Numerals::spelled_rules))]
 fn spelled_u16(text: &str) -> Option<u16>
     ensures { result ≡ number_spelled (2 ^ 16) text.now }
@@ -69,7 +69,7 @@ fn spelled_u16(text: &str) -> Option<u16>
     text.parse().ok()
 }
 
-/// The number below 2^32 that these digits spell.
+/// Returns the number below 2^32 that these digits spell, if they spell one.
 #[tactic(auto, using(crate::proofs::Numerals::spelled_rules))]
 pub(crate) fn spelled_u32(text: &str) -> Option<u32>
     ensures { result ≡ number_spelled (2 ^ 32) text.now }
@@ -80,7 +80,7 @@ pub(crate) fn spelled_u32(text: &str) -> Option<u32>
     text.parse().ok()
 }
 
-/// The number below 2^64 that these digits spell.
+/// Returns the number below 2^64 that these digits spell, if they spell one.
 #[tactic(auto, using(crate::proofs::Numerals::spelled_rules))]
 fn spelled_u64(text: &str) -> Option<u64>
     ensures { result ≡ number_spelled (2 ^ 64) text.now }
@@ -91,7 +91,7 @@ fn spelled_u64(text: &str) -> Option<u64>
     text.parse().ok()
 }
 
-/// The number below 2^128 that these digits spell.
+/// Returns the number below 2^128 that these digits spell, if they spell one.
 #[tactic(auto, using(crate::proofs::Numerals::spelled_rules))]
 fn spelled_u128(text: &str) -> Option<u128>
     ensures { result ≡ number_spelled (2 ^ 128) text.now }

@@ -16,13 +16,13 @@ use dns_name::{
 
 /// A scanner over the tokens of an entry.
 ///
-/// `tokens` are those that are left, `names` says which name a text spells here, and `gap` are the octets of the text between
-/// the next token and the one before it, or the start of the row. Each call that scans takes the tokens of its value. It fails
-/// with an error other than `short_buf` only if the tokens do not begin with such a value; the tokens left are then an ending
-/// of those left before.
+/// `tokens` are those that are left, `names` says which name a text spells here, and `gap` are the octets of the text
+/// between the next token and the one before it, or the start of the entry. Each call that scans takes the tokens of
+/// its value. It fails with an error other than `short_buf` only if the tokens do not begin with such a value; the
+/// tokens left are then a suffix of those left before.
 ///
-/// A call that takes one token fails with `end_of_entry` exactly if there is none (`short_buf` aside). One that takes all that
-/// are left never does.
+/// A call that takes one token fails with `end_of_entry` exactly if there is none (`short_buf` aside). One that takes
+/// all that are left never does.
 pub trait Scanner {
     type Octets: FromBuilder + Drop;
 
@@ -38,8 +38,8 @@ pub trait Scanner {
 
     ghost gap: { Self → List ℕ };
 
-    /// Returns whether white space stands directly before the next token. A row that begins with white space goes on with the
-    /// owner of the row before it (RFC 1035 5.1).
+    /// Returns whether there is white space directly before the next token. An entry that begins with white space has
+    /// the owner of the entry before it (RFC 1035 5.1).
     fn has_space(&self) -> bool
         ensures { result ≡ ends_white (gap self.now) };
 
@@ -66,7 +66,7 @@ pub trait Scanner {
         ensures left { OnErr result (IsEnding (tokens self.new) (tokens self.old)) }
         ensures names { SameNames (names self.old) (names self.new) };
 
-    /// Takes the next token if it is the marker of data of an unknown type, and returns whether it is. Fails only with
+    /// Takes the next token if it is the marker of unknown data, and returns whether it is. Fails only with
     /// `short_buf`.
     fn scan_opt_unknown_marker(&mut self) -> Result<bool, Self::Error>
         ensures marked { IfOk result (λ marked. IsTrue marked → tokens self.old ≡ marker ∷ tokens self.new) }
@@ -75,8 +75,8 @@ pub trait Scanner {
         ensures left { OnErr result (IsEnding (tokens self.new) (tokens self.old)) }
         ensures names { SameNames (names self.old) (names self.new) };
 
-    /// Hands the text of a word to the closure, and returns what that returns. A word is an unquoted token without a
-    /// backslash. Fails if the closure returns None.
+    /// Passes the text of a word to the closure, and returns what that returns. A word is an unquoted token without a
+    /// backslash. Fails if the closure returns `None`.
     fn scan_ascii_str<F, T>(&mut self, op: F) -> Result<T, Self::Error>
     where
         F: FnOnce(&str) -> Option<T>,
@@ -120,8 +120,8 @@ pub trait Scanner {
         ensures left { OnErr result (IsEnding (tokens self.new) (tokens self.old)) }
         ensures names { SameNames (names self.old) (names self.new) };
 
-    /// Returns a builder that holds no octets yet, has all its room and remembers nothing. The tokens stay. Fails only with
-    /// `short_buf`.
+    /// Returns a builder that holds no octets yet, has all its room and remembers nothing. The tokens stay. Fails only
+    /// with `short_buf`.
     fn octets_builder(&mut self) -> Result<Self::OctetsBuilder, Self::Error>
         ensures ok { IfOk result (λ builder. ⟦<Self::OctetsBuilder as Octets>⟧.list builder ≡ []) }
         ensures known { IfOk result (λ builder. ⟦<Self::OctetsBuilder as Remembers>⟧.known builder ≡ []) }
@@ -131,8 +131,8 @@ pub trait Scanner {
         ensures gap { gap self.new ≡ gap self.old }
         ensures names { SameNames (names self.old) (names self.new) };
 
-    /// Returns the text of the next token, as it is written and without its quotes. The token stays. Fails with `end_of_entry`
-    /// if there is none.
+    /// Returns the text of the next token, as it is written and without its quotes. The token stays. Fails with
+    /// `end_of_entry` if there is none.
     fn peek_text(&self) -> Result<&[u8], Self::Error>
         ensures ok { IfOk result (λ text. (left : List Token) × Takes (HasText text.now) (tokens self.now) left) }
         ensures err { OnErr result (tokens self.now ≡ []) }
@@ -143,10 +143,10 @@ pub trait Scanner {
         ensures taken { tokens self.new ≡ drop 1 (tokens self.old) }
         ensures names { SameNames (names self.old) (names self.new) };
 
-    /// Hands the symbols of the next token to the closure, one after another, and takes the token.
+    /// Passes the symbols of the next token to the closure, one after another, and takes the token.
     ///
-    /// Fails if there is none, if a part of its text is no symbol, and if the closure fails; the tokens stay then. Only the
-    /// closure's error can be `short_buf`.
+    /// Fails if there is none, if a part of its text is no symbol, and if the closure fails; the tokens then stay. Only
+    /// the closure's error can be `short_buf`.
     final fn scan_symbols<F>(&mut self, op: F) -> Result<(), Self::Error>
     where
         F: FnMut(Symbol) -> Result<(), Self::Error>,
@@ -163,10 +163,11 @@ pub trait Scanner {
         Ok(())
     }
 
-    /// Hands the symbols of all tokens that are left to the closure, one after another, with a mark after each token's.
+    /// Passes the symbols of all tokens that are left to the closure, one after another, with a mark after each
+    /// token's.
     ///
-    /// Fails if a part of a token's text is no symbol, and if the closure fails. Only the closure's error can be `short_buf` or
-    /// `end_of_entry`.
+    /// Fails if a part of a token's text is no symbol, and if the closure fails. Only the closure's error can be
+    /// `short_buf` or `end_of_entry`.
     final fn scan_entry_symbols<F>(&mut self, mut op: F) -> Result<(), Self::Error>
     where
         F: FnMut(EntrySymbol) -> Result<(), Self::Error>,
@@ -185,9 +186,9 @@ pub trait Scanner {
         Ok(())
     }
 
-    /// Returns the octets to which the converter, which took nothing yet, converts the symbols of the next token.
+    /// Converts the symbols of the next token to octets. The converter must have taken nothing yet.
     ///
-    /// Fails if there is no such token, and with `short_buf` if there is no room or no memory; the tokens stay then.
+    /// Fails if there is no such token, and with `short_buf` if there is no room or no memory; the tokens then stay.
     final fn convert_token<C>(&mut self, mut converter: C) -> Result<Self::Octets, Self::Error>
     where
         C: ConvertSymbols<Symbol, Self::Error> + Drop,
@@ -206,8 +207,8 @@ pub trait Scanner {
         Ok(builder.freeze())
     }
 
-    /// Returns the octets to which the converter, which took nothing yet, converts the symbols of all tokens that are left,
-    /// with a mark after each token's.
+    /// Converts the symbols of all tokens that are left to octets, with a mark after each token's. The converter must
+    /// have taken nothing yet.
     ///
     /// Fails if the tokens left are not converted to any, and with `short_buf` if there is no room or no memory.
     final fn convert_entry<C>(&mut self, mut converter: C) -> Result<Self::Octets, Self::Error>

@@ -5,14 +5,13 @@ use thiserror::Error;
 
 /// The error of a scanner.
 ///
-/// `is_short` tells the lack of room or memory from what is wrong with the tokens, and `is_end` the lack of a token from all
-/// else.
+/// `is_short` is true exactly for the lack of room or memory, and `is_end` exactly for the lack of a token.
 pub trait ScannerError: Sized {
     ghost is_short: { Self → Bool };
 
     ghost is_end: { Self → Bool };
 
-    /// A token is none of those that were scanned for, as the message says.
+    /// A token is not what was scanned for, as the message says.
     fn custom(message: &'static str) -> Self
         ensures short { is_short result ≡ false }
         ensures end { is_end result ≡ false };
@@ -36,7 +35,7 @@ pub trait ScannerError: Sized {
 /// A scanner's error that shows a text.
 #[derive(Clone, Copy, Debug, PartialEq, Eq, Error)]
 pub enum StrError {
-    /// A token is none of those that were scanned for.
+    /// A token is not what was scanned for.
     #[error("{0}")]
     Custom(&'static str),
     /// There are no tokens left.

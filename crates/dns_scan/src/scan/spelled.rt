@@ -8,8 +8,8 @@ use crate::char_str::octet_of;
 use dns_name::Symbol;
 use std::alloc::Global;
 
-/// Returns the octets that a text spells, each by a symbol. Fails if a part of it is no symbol, and with `ShortBuf` if out of
-/// memory.
+/// Returns the octets that a text spells, each by a symbol. Fails if a part of it is no symbol, and with `ShortBuf` if
+/// out of memory.
 pub(crate) fn octets_of(alloc: Global, text: &[u8]) -> Result<Vec<u8>, StrError>
     ensures ok { IfOk result (λ octets. Spells text.now octets.items) }
     ensures err { IfErr result (λ error. is_short error ≡ false → (octets : List ℕ) → Spells text.now octets → ⊥) }

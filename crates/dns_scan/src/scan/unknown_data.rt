@@ -1,4 +1,4 @@
-//! Data of types that are not known (RFC 3597 5).
+//! Unknown data as text (RFC 3597 5).
 ghost use Rattle.std.specs.Prelude.{◌≡◌, ◌≤◌, List, ℕ, [], false, length, IfOk, IfErr, OnErr};
 ghost use Rattle.dns_scan.specs.Token.{IsEnding, SameNames};
 ghost use Rattle.dns_scan.specs.UnknownData.{IsUnknownData, ScansUnknown};
@@ -6,7 +6,7 @@ ghost use Rattle.dns_scan.specs.UnknownData.{IsUnknownData, ScansUnknown};
 use crate::{Scan, Scanner, ScannerError, base16};
 use dns_name::{FromBuilder, Octets, Rtype, UnknownRecordData};
 
-/// Returns the octets of data of an unknown type, whose marker `\#` has been taken: their number, and words of base 16 that are
+/// Returns the octets of unknown data whose marker `\#` has been taken: their number, and words of base 16 that are
 /// joined before digits are paired.
 ///
 /// Fails if the tokens left are no such data, and with `short_buf` if there is no room or no memory for it.
@@ -25,7 +25,7 @@ pub fn scan_unknown_octets<S: Scanner>(scanner: &mut S) -> Result<S::Octets, S::
     Ok(octets)
 }
 
-/// Returns data of this unknown type, whose marker `\#` has been taken.
+/// Returns unknown data of this type, whose marker `\#` has been taken.
 ///
 /// Fails if the tokens left are no such data, and with `short_buf` if there is no room or no memory for it.
 pub fn scan_without_marker<S: Scanner>(
@@ -44,7 +44,7 @@ pub fn scan_without_marker<S: Scanner>(
     }
 }
 
-/// Data of an unknown type is a word for the type, the marker `\#`, and the number of its octets and these themselves.
+/// Unknown data is a word for the type, the marker `\#`, the number of octets, and the octets.
 impl<Octs: FromBuilder + Drop, S: Scanner<Octets = Octs>> Scan<S> for UnknownRecordData<Octs> {
     ghost scans = { λ scanner rdata left. ScansUnknown (S.tokens scanner) rdata left };
 

@@ -26,7 +26,7 @@ impl<S: Scanner> Scan<S> for Ttl {
     }
 }
 
-/// A type is a mnemonic in any case, or `TYPE` and its number (RFC 3597 5).
+/// A type is a mnemonic, up to ASCII case, or `TYPE` and its number (RFC 3597 5).
 impl<S: Scanner> Scan<S> for Rtype {
     ghost scans = { λ scanner value left. ScansWord type_read (S.tokens scanner) value left };
 
@@ -35,7 +35,7 @@ impl<S: Scanner> Scan<S> for Rtype {
     }
 }
 
-/// A class is a mnemonic in any case, or `CLASS` and its number (RFC 3597 5).
+/// A class is a mnemonic, up to ASCII case, or `CLASS` and its number (RFC 3597 5).
 impl<S: Scanner> Scan<S> for Class {
     ghost scans = { λ scanner value left. ScansWord class_read (S.tokens scanner) value left };
 
@@ -53,14 +53,14 @@ impl<Octs: Octets, S: Scanner<Name = Name<Octs>>> Scan<S> for Name<Octs> {
     }
 }
 
-/// The serial number that these digits spell.
+/// Returns the serial number that these digits spell, if they spell one.
 fn read_serial(text: &str) -> Option<Serial>
     ensures { result ≡ number_spelled (2 ^ 32) text.now }
 {
     text.parse().ok()
 }
 
-/// The time to live of so many seconds as these digits spell.
+/// Returns the time to live of as many seconds as these digits spell, if they spell a number.
 fn read_ttl(text: &str) -> Option<Ttl>
     ensures { result ≡ number_spelled (2 ^ 32) text.now }
 {
@@ -70,14 +70,14 @@ fn read_ttl(text: &str) -> Option<Ttl>
     }
 }
 
-/// The type that the word stands for.
+/// Returns the type that the word stands for, if any.
 fn read_rtype(text: &str) -> Option<Rtype>
     ensures { result ≡ type_read text.now }
 {
     text.parse().ok()
 }
 
-/// The class that the word stands for.
+/// Returns the class that the word stands for, if any.
 fn read_class(text: &str) -> Option<Class>
     ensures { result ≡ class_read text.now }
 {

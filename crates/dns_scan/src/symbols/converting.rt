@@ -8,7 +8,8 @@ ghost use Rattle.dns_scan.specs.Symbols.{AreWritten, marked};
 use crate::{ConvertSymbols, EntrySymbol, ScannerError};
 use dns_name::{Octets, OctetsBuilder, Symbol};
 
-/// Appends the octets that a converter returned, if any. Fails only if there are some, and no room or no memory for them.
+/// Appends the octets that a converter returned, if any. Fails only if there are some, and no room or no memory for
+/// them.
 pub(crate) fn append_given<Error: ScannerError, Octs: Octets + Drop, Builder: OctetsBuilder>(
     builder: &mut Builder,
     given: Option<Octs>,
@@ -26,7 +27,7 @@ pub(crate) fn append_given<Error: ScannerError, Octs: Octets + Drop, Builder: Oc
     }
 }
 
-/// Hands the symbols of a text to a converter that took none yet, and appends the octets that it returns.
+/// Passes the symbols of a text to a converter that took none yet, and appends the octets that it returns.
 pub(crate) fn convert_text<
     Error: ScannerError,
     C: ConvertSymbols<Symbol, Error>,
@@ -48,7 +49,7 @@ pub(crate) fn convert_text<
     Ok(())
 }
 
-/// Hands the symbols of a token's text, and then the mark, to a converter, and appends the octets that it returns.
+/// Passes the symbols of a token's text, and then the mark, to a converter, and appends the octets that it returns.
 pub(crate) fn convert_marked<
     Error: ScannerError,
     C: ConvertSymbols<EntrySymbol, Error>,

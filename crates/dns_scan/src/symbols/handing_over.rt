@@ -6,8 +6,8 @@ ghost use Rattle.dns_scan.specs.Symbols.{AreWritten, TakesAll, RefusesOne, Never
 use crate::{EntrySymbol, ScannerError};
 use dns_name::Symbol;
 
-/// Hands the symbols of a text to the closure, and returns the closure. Fails with an error of its own if a part of the text is
-/// no symbol.
+/// Passes the symbols of a text to the closure, and returns the closure. Fails with an error of its own if a part of
+/// the text is no symbol.
 pub(crate) fn hand_over<Error: ScannerError, F: FnMut(Symbol) -> Result<(), Error>>(
     text: &[u8],
     mut op: F,
@@ -28,7 +28,8 @@ pub(crate) fn hand_over<Error: ScannerError, F: FnMut(Symbol) -> Result<(), Erro
     Ok(op)
 }
 
-/// Hands the symbols of a token's text, and then the mark, to the closure, and returns the closure. Fails as `hand_over` does.
+/// Passes the symbols of a token's text, and then the mark, to the closure, and returns the closure. Fails as
+/// `hand_over` does.
 pub(crate) fn hand_over_marked<Error: ScannerError, F: FnMut(EntrySymbol) -> Result<(), Error>>(
     text: &[u8],
     mut op: F,

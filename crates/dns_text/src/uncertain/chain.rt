@@ -1,4 +1,4 @@
-//! Uncertain names that were put under a suffix.
+//! Uncertain names with a suffix.
 ghost use Rattle.std.specs.Prelude.{◌≡◌, ◌↔◌, ◌<◌, ◌+◌, length, Some, IsErr, IfOk, false};
 ghost use Rattle.dns_label.specs.Name.{labels_wire};
 ghost use Rattle.dns_wire.specs.Chain.{before_root};
@@ -12,8 +12,7 @@ use dns_name::{Chain, Label, LongChainError, Name, Octets, RelativeName, ToLabel
 use std::alloc::{AllocError, Global};
 use std::fmt;
 
-/// An uncertain name under a suffix: one that is absolute stays as it is, and one that is relative stands in front of the
-/// suffix.
+/// An uncertain name with a suffix: an absolute name stays as it is, and a relative one is followed by the suffix.
 #[derive(Debug, Drop)]
 pub enum UncertainChain<Octs: Octets, R: ToLabelIter>
 where
@@ -21,13 +20,13 @@ where
 {
     /// The absolute name, without the suffix.
     Absolute(Name<Octs>),
-    /// The relative name, and the suffix behind it.
+    /// The relative name, followed by the suffix.
     Relative(Chain<RelativeName<Octs>, R>),
 }
 
 impl<Octs: Octets> UncertainName<Octs> {
-    /// The name under the suffix: an absolute name alone, and the labels of a relative one with those of the suffix behind
-    /// them. Refused where these have more than 254 octets in front of any root.
+    /// Appends a suffix: an absolute name stays as it is, and the labels of a relative one are followed by those of the
+    /// suffix. Fails if these have more than 254 octets before any root.
     pub fn chain<R: ToLabelIter + Drop>(
         self,
         suffix: R,
@@ -81,7 +80,7 @@ impl<Octs: Octets, R: ToLabelIter> ToLabelIter for UncertainChain<Octs, R> {
     }
 }
 
-/// Absolute or under a name, the name is absolute.
+/// The name is absolute, with or without the suffix.
 impl<Octs: Octets, R: ToName> ToName for UncertainChain<Octs, R> {
     ghost name = { name_in R.name };
 
@@ -102,7 +101,7 @@ impl<Octs: Octets, R: ToName> ToName for UncertainChain<Octs, R> {
     }
 }
 
-/// Shows the labels with a dot between two, and the last dot where the root's is the last; the root is a dot.
+/// Shows the labels with a dot between two, and a last dot if the root's is the last; the root is a dot.
 impl<Octs: Octets, R: ToLabelIter> fmt::Display for UncertainChain<Octs, R> {
     ghost output = { λ chain. Some (printed_seen (labels_in R.labels chain)) };
 

@@ -4,7 +4,7 @@ use Rattle.dns_flat.proofs.PartForms.{stripped, strip_start, strip_within, strip
 use Rattle.dns_wire.proofs.Wire.{length-wire_is, labels_wire-with_root}
 use Rattle.dns_flat.proofs.name.Name.strip_suffix.Goals as goal
 
--- how many octets the other name has
+-- the number of octets of the other name
 base_len : {labels : List (List ℕ)} (name : List (List ℕ)) (count : ℕ) → count ≡ length (labels_wire labels) → labels ≡ with_root name
     → count ≡ length (labels_wire name) + 1
 base_len name count is absolute =
