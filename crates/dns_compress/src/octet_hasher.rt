@@ -7,7 +7,7 @@ use std::hash::{BuildHasher, Hasher};
 /// 2^64 divided by the golden ratio.
 const MULTIPLIER: u64 = 0x9e37_79b9_7f4a_7c15;
 
-/// The seed of compressors that are given none: the first digits of pi after the point.
+/// The default seed of compressors: the first digits of pi after the point.
 pub(crate) const DEFAULT_SEED: u64 = 0x243f_6a88_85a3_08d3;
 
 /// Makes hashers from a seed.

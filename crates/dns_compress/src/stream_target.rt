@@ -36,8 +36,8 @@ pub struct StreamTarget<Target: Composer> {
 impl StreamTarget<Vec<u8>> {
     ghost use Rattle.dns_compress.specs.StreamTarget.{message_in};
 
-    /// Returns a stream target with an empty message, in a vector that grows on this allocator. Fails with
-    /// `OutOfMemory` only if out of memory, and with no other error.
+    /// Returns a stream target with an empty message, in a vector that grows on this allocator. Fails only with
+    /// `OutOfMemory`, if out of memory.
     pub fn new_vec(alloc: Global) -> Result<Self, AppendError>
         ensures ok { IfOk result (λ stream. message_in (λ octets. octets.items) stream ≡ []) }
         ensures short { result ≡ Err ShortBuf → ⊥ }

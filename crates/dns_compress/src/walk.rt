@@ -50,8 +50,8 @@ impl Walk {
     }
 }
 
-/// Walks over the labels of a name from the place on, up to the first suffix that is remembered or may not be. Its
-/// suffixes are looked up by those of the key.
+/// Walks over the labels of a name from the place on, up to the first suffix that is remembered, or that may not be
+/// remembered. Its suffixes are looked up by those of the key.
 pub(crate) fn walk_labels<T: Table>(
     table: &T,
     octets: &[u8],
