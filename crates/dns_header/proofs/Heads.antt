@@ -23,7 +23,7 @@ pub no_head : {message : List ℕ} {place behind : ℕ} {name : List (List ℕ)}
     → Reads message place name behind → length message < behind + 10 → NoHead message place
 no_head owner short head next is = omega (arith, short, is.whole, (reads_one owner is.owner).1)
 
--- without a head there is no record
+-- without a record header there is no record
 pub no_whole : {message : List ℕ} {place : ℕ} → NoHead message place → NoWhole message place
 no_whole none head data_place next is = none head data_place is.reads
 
