@@ -7,8 +7,8 @@ use Rattle.dns_name.specs.RecordData.{page_of}
 use Rattle.dns_spelling.specs.Alike.{HaveNames, LengthsFit, SpellsAlike}
 use Rattle.dns_builder.specs.Built.{Built, header_octets}
 
--- The message spells the items one after another from the place on, with pointers to suffixes written before (RFC 1035
--- 4.1.4); `next` is the place after the last item.
+-- The message spells the items one after another from the place on, with pointers to suffixes written before
+-- (RFC 1035 4.1.4); `next` is the place after the last item.
 pub data SpellsItems (s : Spelling) (message : List ℕ) : ℕ → List Parts → ℕ → Type 0 where
   none : {place : ℕ} → SpellsItems s message place [] place
   more : {place mid next : ℕ} {item : Parts} {items : List Parts} → SpellsAlike s message place item mid

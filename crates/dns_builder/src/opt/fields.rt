@@ -25,8 +25,8 @@ impl<Target: Composer> OptBuilder<Target> {
         self.fields.set_udp_payload_size(value);
     }
 
-    /// Returns the response code of the message: its high eight bits from the record, the low four from the header (RFC
-    /// 6891 6.1.3).
+    /// Returns the response code of the message: its high eight bits from the record, the low four from the header
+    /// (RFC 6891 6.1.3).
     pub fn rcode(&self) -> OptRcode
         ensures { result ≡ extended_rcode (opt_in Target.list self.now).fields (rcode_of (opt_in Target.list self.now).header) }
     {
