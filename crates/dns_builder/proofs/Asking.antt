@@ -16,7 +16,7 @@ use Rattle.dns_sections.specs.declared.error.PushError.{PushError}
 use Rattle.dns_builder.proofs.SameBehind.{SameBehind, same_length, same_all, same_none}
 use Rattle.dns_builder.proofs.Sections.{items_of, write_all-append}
 
--- one question more is given
+-- one question more is returned
 gives-more : {old mid new : Cursor} {questions : List Question} {question : Question} → GivesQuestions old questions mid
     → GivesQuestion mid (Some (Ok question)) new → GivesQuestions old (questions ++ question ∷ []) new
 gives-more GivesQuestions.none gives = GivesQuestions.more gives GivesQuestions.none
@@ -75,7 +75,7 @@ adds-more s old mid new questions question adds pushed taken limits header items
     same = append_assoc items (map question_parts questions) (question_parts question ∷ [])
         ∙ ap (λ l. items ++ l) (sym (map-append question_parts questions (question ∷ [])))
 
--- the questions so far are given, and added
+-- the questions so far are returned, and added
 pub record HasAdded (s : Spelling) (cursor now : Cursor) (old new : Draft) : Type 0 where
   pub questions : List Question
   pub gives : GivesQuestions cursor questions now
@@ -88,7 +88,7 @@ has-none s cursor now draft same = record {
   adds = adds-none s draft;
 }
 
--- an item that a cursor gives, as it is seen
+-- an item that a cursor returns, as contracts see it
 module _ {A : Type 0} (see : A → Question) (item : Result A ParseError) (s : Spelling) (cursor now next : Cursor) (old mid : Draft)
     (had : HasAdded s cursor now old mid) (gives : GivesQuestion now (seen see (Some item)) next) where
   given : (question : A) → item ≡ Ok question → GivesQuestion now (Some (Ok (see question))) next

@@ -15,12 +15,12 @@ use Rattle.dns_builder.specs.Steps.{going_to, sections_to, with_header, KeepsLim
 use Rattle.dns_sections.specs.declared.error.PushError.{PushError}
 use Rattle.dns_builder.proofs.DraftPages.{length-begun}
 
--- where no section is begun, the questions are begun empty
+-- if no section was started, the questions start empty
 first-begun : (sections : List (List Parts)) → length sections ≡ 0 → sections_to 1 sections ≡ [] ∷ []
 first-begun [] none = refl
 first-begun (items ∷ sections) none = absurd (omega arith)
 
--- the header that is set stands before no question
+-- the header that is set precedes no question
 pub begins : (s : Spelling) (query : List ℕ) (rcode : ℕ) (built : Built) (old new : Draft) (header : List ℕ) → IsDraftOf s built old
     → length old.starts ≡ 0 → AnswersHeader query rcode built.header header → IsDraftOf s (with_header (going_to 1 built) header) new
     → (header : List ℕ) × AnswersHeader query rcode built.header header × IsDraftOf s (record { header = header; sections = [] ∷ [] }) new
@@ -49,7 +49,7 @@ answers-header query old with_id with_qr with_opcode with_rd new id opcode rd rc
     small : opcode % 16 ≡ opcode_of query
     small = omega arith
 
--- a query's header is that of the message
+-- a query's header is that of its message
 pub of-message : (query message : List ℕ) (rcode : ℕ) (old new : List ℕ) → fields_of query ≡ fields_of message
     → AnswersHeader query rcode old new → AnswersHeader message rcode old new
 of-message query message rcode old new same says =
@@ -60,16 +60,16 @@ pub recoded : (query : List ℕ) (rcode code : ℕ) (old mid new : List ℕ) →
     → fields_of new ≡ record (fields_of mid) { rcode = code } → AnswersHeader query code old new
 recoded query rcode code old mid new says sets = sets ∙ ap (λ (f : HeaderFields). record f { rcode = code }) says
 
--- an error that is handed on
+-- an error that is returned
 pub handed-on : {A E : Type 0} (result : Result A E) (error : E) (Why : E → Type 0) → IsErrAnd result (λ e. e ≡ error) → Why error → IfErr result Why
 handed-on (Ok value) error Why is why = tt
 handed-on (Err other) error Why is why = subst Why (sym is) why
 
--- limits that stay twice
+-- limits that stay in two steps
 pub limits-on : (a b c : Draft) → KeepsLimits a b → KeepsLimits b c → KeepsLimits a c
 limits-on a b c first next = record { limit = next.limit ∙ first.limit; bound = next.bound ∙ first.bound }
 
--- the answer's header stands, with questions behind it
+-- the answer's header is set, and questions follow it
 module _ (s : Spelling) (query message : List ℕ) (rcode : ℕ) (built : Built) (begun pushed : Draft)
     (same : fields_of query ≡ fields_of message)
     (begin : (header : List ℕ) × AnswersHeader query rcode built.header header × IsDraftOf s (record { header = header; sections = [] ∷ [] }) begun)
@@ -80,11 +80,11 @@ module _ (s : Spelling) (query message : List ℕ) (rcode : ℕ) (built : Built)
   asks : HoldsQuestions s begin.0 [] questions pushed
   asks = adds begin.0 [] begin.2
 
-  -- the header, and the questions behind it
+  -- the header, and the questions after it
   abbrev message_of : List ℕ → Built
   message_of header = record { header = header; sections = map question_parts questions ∷ [] }
 
-  -- all that read were pushed, and the answer section is begun
+  -- all that parse were pushed, and the answer section is started
   pub answered : AreReadable (first_question message) questions → (new : Draft)
       → ((b : Built) → IsDraftOf s b pushed → IsDraftOf s (going_to 2 b) new) → KeepsLimits pushed new → BeginsAnswer s message rcode built new
   answered readable new goes limits =
@@ -99,7 +99,7 @@ module _ (s : Spelling) (query message : List ℕ) (rcode : ℕ) (built : Built)
         short = λ some. omega (arith, asks.short some, limits.limit, ap (λ (p : Page). length p.octets) same_page);
       }
 
-  -- the next one was refused
+  -- the push of the next one failed
   pub refused : (old : Draft) → KeepsLimits old pushed → (error : PushError) → RefusesNext s (first_question message) questions pushed error
       → RefusesQuestion s message rcode built old questions error
   refused old limits error next = record {
@@ -111,7 +111,7 @@ module _ (s : Spelling) (query message : List ℕ) (rcode : ℕ) (built : Built)
     refused = next;
   }
 
-  -- the response code is then set to SERVFAIL, and the answer section is begun
+  -- the response code is then set to SERVFAIL, and the answer section is started
   pub failed : (old : Draft) → KeepsLimits old pushed → (error : PushError) → RefusesNext s (first_question message) questions pushed error
       → (was header : List ℕ) → ((b : Built) → IsDraftOf s b pushed → was ≡ b.header)
       → fields_of header ≡ record (fields_of was) { rcode = 2 }

@@ -1,4 +1,4 @@
--- What a target remembers once it is emptied, and its header after a cut and where a part of it is written anew.
+-- What a target remembers once it is emptied, and its header after a cut and after a part of it is overwritten.
 use Rattle.std.proofs.Common.{◌≡◌, ◌≤◌, ◌<◌, ◌+◌, ◌*◌, ◌-◌, ℕ, zero, suc, true, List, [], ◌∷◌, ◌++◌, length, take, drop, sym, ◌∙◌, ap, subst, arith, length-append, length-drop}
 use Rattle.std.specs.Prelude.{slice_index}
 use Rattle.std.specs.Coded.{le_prop}
@@ -23,7 +23,7 @@ cleared {s} {known} {octets} sound =
 pub grown-long : (end : ℕ) {old new : List ℕ} {known more : Known} → GrowsTo old known new more → end ≤ length old → end ≤ length new
 grown-long end {old} {new} grown within = omega (arith, ap (length {A = ℕ}) grown.octets, length-append old grown.tail)
 
--- after a cut the header is free as it was
+-- after a cut the header is still free
 pub free_cut : (len end : ℕ) (known cut : Known) → cut ≡ before len known → is_free 0 end known ≡ true → is_free 0 end cut ≡ true
 free_cut len end known cut is free = subst (λ (k : Known). is_free 0 end k ≡ true) (sym is) (free_before 0 end len known free)
 
@@ -39,11 +39,11 @@ free_counts (suc (suc zero)) known few free = free_within 0 12 8 12 known free (
 free_counts (suc (suc (suc zero))) known few free = free_within 0 12 10 12 known free (omega arith) (omega arith)
 free_counts (suc (suc (suc (suc more)))) known few free = absurd (omega arith)
 
--- octets that are cut at a length are no shorter than it
+-- octets cut at a length are at least as long
 pub take-long : (end len : ℕ) (octets cut : List ℕ) → cut ≡ take len octets → end ≤ len → end ≤ length octets → end ≤ length cut
 take-long end len octets cut is long whole = omega (arith, ap (length {A = ℕ}) is, length-take len octets)
 
--- octets are no shorter where some of them are written anew
+-- octets are no shorter after some of them are overwritten
 pub patched-long : (place : ℕ) (octets over new : List ℕ) → new ≡ patched octets place over → place ≤ length octets → length octets ≤ length new
 patched-long place octets over new is within =
     omega (
@@ -55,11 +55,11 @@ patched-long place octets over new is within =
       length-drop (place + length over) octets,
     )
 
--- so are octets with more behind
+-- so are octets with more after them
 pub append-long : (octets more new : List ℕ) → new ≡ octets ++ more → length more ≤ length new
 append-long octets more new is = omega (arith, ap (length {A = ℕ}) is, length-append octets more)
 
--- the first starts stand where they stood
+-- the first starts keep their places
 pub behind-take : (end count : ℕ) (starts cut : List ℕ) → cut ≡ take count starts
     → ((number : ℕ) → number < length starts → end ≤ slice_index starts number)
     → (number : ℕ) → number < length cut → end ≤ slice_index cut number

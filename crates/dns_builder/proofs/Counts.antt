@@ -1,4 +1,4 @@
--- The counts in a header, and one or more of them written anew.
+-- The counts in a header, and one or more of them overwritten.
 use Rattle.std.proofs.Common.{◌≡◌, ◌<◌, ◌≤◌, ◌+◌, ◌-◌, ◌*◌, ℕ, zero, suc, List, ◌++◌, length, take, drop, refl, ◌∙◌, ap, subst, arith}
 use Rattle.std.specs.Prelude.{replicate}
 use Rattle.std.specs.Int.{from_be_bytes, to_be_bytes, w16}
@@ -19,7 +19,7 @@ put zero value count (suc other) = count (suc other)
 put (suc number) value count zero = count zero
 put (suc number) value count (suc other) = put number value (λ k. count (suc k)) other
 
--- the first so many stay, and the others are zero
+-- the first counts stay, and the others are zero
 abbrev pub first_of : ℕ → (ℕ → ℕ) → ℕ → ℕ
 first_of zero count number = 0
 first_of (suc first) count zero = count zero
@@ -30,7 +30,7 @@ patched_behind_four : (header tail : List ℕ) (place : ℕ) (over : List ℕ) �
 patched_behind_four header tail place over four =
     subst (λ n. patched (header ++ tail) (n + place) over ≡ header ++ patched tail place over) four (patched_behind header tail place over)
 
--- a count is written anew
+-- a count is overwritten
 pub patched_count : (header rest : List ℕ) (count : ℕ → ℕ) (number value : ℕ) → length header ≡ 4 → number < 4
     → patched (header ++ (four_counts count ++ rest)) (4 + 2 * number) (to_be_bytes w16 value)
     ≡ header ++ (four_counts (put number value count) ++ rest)

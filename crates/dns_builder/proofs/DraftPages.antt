@@ -1,4 +1,4 @@
--- The page of a message that is built: its header, and what its items are written as after any header.
+-- The page of a message that is built: its header, and its items as they are written after any header.
 use Rattle.std.proofs.Common.{◌≡◌, ◌≤◌, ◌<◌, ◌+◌, ◌*◌, ℕ, List, [], ◌++◌, length, take, drop, sym, ◌∙◌, ap, arith, length-append, length-drop, append_assoc}
 use Rattle.std.specs.Int.{from_be_bytes, w16}
 use Rattle.std.proofs.lemmas.List.{take-append-le, drop-append-le}
@@ -30,7 +30,7 @@ recounted header rest sections others count change changed same =
     ap change (append_assoc header (counts_octets sections) rest) ∙ changed
     ∙ ap (λ l. header ++ (l ++ rest)) (sym (same_counts others count same)) ∙ sym (append_assoc header (counts_octets others) rest)
 
--- a page on which the items of `other` stand after the header of `built`, where a change makes the one header the other
+-- a page with the items of `other` after the header of `built`, when a change turns one header into the other
 pub page_rewritten : (s : Spelling) (built other : Built) (page : Page) (change : List ℕ → List ℕ)
     → length built.header ≡ 4 → length other.header ≡ 4
     → page ≡ write_all s (page_of (header_octets built) []) (items_of other.sections)
@@ -51,12 +51,12 @@ pub starts_headed : (s : Spelling) (built other : Built) (sections : List (List 
 starts_headed s built other sections four other_four =
     same_starts s sections (length-header built four ∙ sym (length-header other other_four)) (same_none (header_octets built) (header_octets other))
 
--- so many sections are begun
+-- the number of sections that were started
 pub length-begun : {s : Spelling} {built : Built} {draft : Draft} → IsDraftOf s built draft → length draft.starts ≡ length built.sections
 length-begun {s} {built} is =
     ap (length {A = ℕ}) is.starts ∙ length-starts s (page_of (header_octets built) []) built.sections
 
--- what stands after the header
+-- what follows the header
 pub page_behind : {s : Spelling} {built : Built} {draft : Draft} → IsDraftOf s built draft → IsGrown (page_of (header_octets built) []) draft.page
 page_behind {s} {built} is =
     rw is.page (all_grows s (page_of (header_octets built) []) (items_of built.sections))
@@ -69,7 +69,7 @@ counted_is {s} {built} {draft} number is few =
     ap (λ l. number_at l (4 + 2 * number)) (grows.octets ∙ append_assoc built.header (counts_octets built.sections) grows.tail)
     ∙ number_of_count built.header grows.tail (λ k. count_at k built.sections) number is.header few (count_few built.sections number is.few)
 
--- and stay so where more is written after them
+-- and stay so if more is written after them
 pub number_grown : {old new : List ℕ} {known more : Known} (place : ℕ) → GrowsTo old known new more → place + 2 ≤ length old
     → number_at new place ≡ number_at old place
 number_grown {old} place grows within =

@@ -1,4 +1,4 @@
--- No remembered suffix stands in the header, whatever is written after it or cut off.
+-- No remembered suffix is in the header, whatever is written after it or cut off.
 use Rattle.std.proofs.Common.{◌≡◌, ◌≤◌, ℕ, true, ◌⊎◌, List, length, inl, inr, subst, arith}
 use Rattle.dns_octets.specs.Builder.{Standing, Known, StandsBetween, GrowsTo, before}
 use Rattle.dns_name.specs.Remembered.{IsKnown, is_free}

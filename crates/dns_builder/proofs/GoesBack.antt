@@ -1,4 +1,4 @@
--- Sections are dropped: the page is cut back to where they began, and their counts are zero.
+-- Sections are dropped: the page is cut back to their start, and their counts are zero.
 use Rattle.std.proofs.Common.{◌≡◌, ◌<◌, ◌≤◌, ◌+◌, ◌-◌, ◌*◌, ℕ, List, [], ◌++◌, length, take, drop, refl, sym, ◌∙◌, ap, subst, arith}
 use Rattle.std.specs.Prelude.{replicate, slice_index}
 use Rattle.dns_octets.specs.Builder.{Known, StandsBetween, before}

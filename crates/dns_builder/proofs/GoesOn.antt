@@ -1,4 +1,4 @@
--- Empty sections are begun.
+-- Empty sections are started.
 use Rattle.std.proofs.Common.{◌≡◌, ◌≤◌, ◌+◌, ◌-◌, ℕ, [], ◌∷◌, ◌++◌, length, sym, ◌∙◌, ap, arith}
 use Rattle.std.specs.Prelude.{replicate}
 use Rattle.dns_name.specs.Spelling.{Spelling}
@@ -33,7 +33,7 @@ went_on {s} {built} {draft} count new is begun page starts = record {
         ++ replicate (count - length built.sections) (length (built_page s built).octets)
     more = λ i. is.starts i ++ replicate (count - length-begun is i) (length (is.page i).octets)
 
--- one section is begun
+-- one section is started
 pub began : {s : Spelling} {built : Built} {draft : Draft} (count : ℕ) (new : Draft) → IsDraftOf s built draft
     → count ≡ length draft.starts + 1 → new.page ≡ draft.page → new.starts ≡ draft.starts ++ length draft.page.octets ∷ []
     → IsDraftOf s (going_to count built) new

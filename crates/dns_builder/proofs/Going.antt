@@ -1,4 +1,4 @@
--- Going to a section makes of a message what the model makes of it.
+-- Going to a section does to a message what the model does.
 use Rattle.std.proofs.Common.{◌≡◌, ◌<◌, ◌≤◌, ℕ, length, ap}
 use Rattle.dns_name.specs.Spelling.{Spelling}
 use Rattle.dns_builder.specs.Built.{Built, Draft, IsDraftOf}

@@ -1,4 +1,4 @@
--- What is written stands after the page, and what is then newly remembered stands in it.
+-- What is written follows the page, and what is then newly remembered is in it.
 use Rattle.std.proofs.Common.{◌≤◌, ◌+◌, ◌-◌, ℕ, Bool, true, false, List, [], ◌∷◌, ◌++◌, length, refl, ap, arith, length-append}
 use Rattle.std.specs.Prelude.{All, if◌then◌else◌}
 use Rattle.std.specs.List.{list_all}
@@ -22,7 +22,7 @@ IsGrown page grown = GrowsTo page.octets page.known grown.octets grown.known
 pub grown_longer : {page grown : Page} → IsGrown page grown → length page.octets ≤ length grown.octets
 grown_longer {page} grows = omega (arith, ap (length {A = ℕ}) grows.octets, length-append page.octets grows.tail)
 
--- labels that are written from a place on
+-- labels written from a place on
 standings_between : (s : Spelling) (begin place stop : ℕ) (labels suffix : List (List ℕ)) → begin ≤ place
     → place + length (labels_wire labels) ≤ stop → All (StandsBetween begin stop) (standings s place stop labels suffix)
 standings_between s begin place stop [] suffix behind within = All-nil (StandsBetween begin stop)

@@ -84,7 +84,7 @@ module _ (octets : List ℕ) (to from read write : ℕ) (down : to ≤ from) (be
       long : length octets ≤ read
       long = omega (arith, moved-long now is)
 
--- at first none is moved
+-- at first none are moved
 pub moved-none : (octets : List ℕ) (to from : ℕ) → octets ≡ moved_some octets to from from to
 moved-none octets to from =
     sym (take-append-drop to octets)

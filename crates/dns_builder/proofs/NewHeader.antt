@@ -1,4 +1,4 @@
--- Another header in the place of the first four octets.
+-- Another header instead of the first four octets.
 use Rattle.std.proofs.Common.{◌≡◌, ℕ, List, ◌++◌, length, sym, ◌∙◌, ap, append_assoc}
 use Rattle.dns_name.specs.Spelling.{Spelling}
 use Rattle.dns_name.specs.RecordData.{page_of}

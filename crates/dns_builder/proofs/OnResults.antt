@@ -1,4 +1,4 @@
--- What holds where a result is Ok or Err leads to other facts there.
+-- Facts about an Ok or Err result lead to other facts about it.
 use Rattle.std.specs.Prelude.{Result, Ok, Err, OnOk, OnErr}
 
 pub on_both : {T E : Type 0} {P Q R : Type 0} (result : Result T E) → (P → Q → R) → OnOk result P → OnOk result Q → OnOk result R

@@ -1,4 +1,4 @@
--- The message is left as it is, but for the OPT record and the response code, by one call and then by another.
+-- Two calls leave the message as it is, but for the OPT record and the response code, if each of them does.
 use Rattle.std.proofs.Common.{ℕ, List, Option, ◌∙◌}
 use Rattle.dns_octets.specs.Builder.{Known}
 use Rattle.dns_header.specs.Header.{rcode_of}

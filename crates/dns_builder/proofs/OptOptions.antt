@@ -1,4 +1,4 @@
--- An option that a closure writes: the octets of its target before and after.
+-- An option that a closure appends: the octets of its target before and after.
 use Rattle.std.proofs.Common.{◌≡◌, ◌+◌, ℕ, List, ◌++◌, Ok, Err, Option, length, sym, ◌∙◌, ap, subst, arith, length-append, append_assoc}
 use Rattle.std.specs.Prelude.{Result}
 use Rattle.std.specs.Borrow.{MutBor}
@@ -12,7 +12,7 @@ use Rattle.dns_header.specs.Opt.{option_octets}
 use Rattle.dns_builder.specs.OptReplaced.{RefusesOctets}
 use Rattle.dns_builder.specs.OptOption.{OnlyGrows, Writes, AddsOption, RefusesOption}
 
--- what a refused append answers
+-- the result of an append that fails
 abbrev pub refused : AppendError → Result (Unit {0}) AppendError
 refused error = Err error
 
@@ -63,7 +63,7 @@ module _ {F Target : Type 0} (closure : Once F (MutBor Target × Unit {0}) (Resu
         ∙ ap (λ n. here ++ (to_be_bytes w16 code ++ (to_be_bytes w16 n ++ octets))) (sym long);
   }
 
-  -- the octets before the option's are refused
+  -- the octets before the option's cannot be appended
   pub no-head : (bound : Option ℕ) (used : ℕ) (head : List ℕ) (error : AppendError) → length head ≡ 4
       → (refused error ≡ refused ShortBuf → IsPast bound (length (here ++ head)))
       → (refused error ≡ refused BadLength → ⊥) → RefusesOption closure list_of op here bound used code len error
@@ -72,7 +72,7 @@ module _ {F Target : Type 0} (closure : Once F (MutBor Target × Unit {0}) (Resu
   no-head bound used head OutOfMemory four short bad = RefusesOption.no_memory
   no-head bound used head BadLength four short bad = absurd (bad (λ _. refused BadLength))
 
--- octets are refused
+-- octets cannot be appended
 pub no-octets : (here octets : List ℕ) (bound : Option ℕ) (error : AppendError)
     → (refused error ≡ refused ShortBuf → IsPast bound (length (here ++ octets))) → (refused error ≡ refused BadLength → ⊥)
     → RefusesOctets here bound (length octets) error

@@ -1,4 +1,4 @@
--- What an OPT record is on a page: the octets before its options, and these.
+-- An OPT record on a page: the octets before its options, and the options.
 use Rattle.std.proofs.Common.{◌≡◌, ◌≤◌, ◌<◌, ◌+◌, ◌-◌, ℕ, true, List, [], ◌∷◌, ◌++◌, length, take, drop, inl, sym, ◌∙◌, ap, arith, length-append, length-drop, append_assoc}
 use Rattle.std.proofs.lemmas.List.{append-nil, length-take, take-append-drop, take-append-le, drop-append-le, drop_at}
 use Rattle.std.specs.Int.{to_be_bytes, w16, w32}
@@ -13,14 +13,14 @@ use Rattle.dns_header.specs.Head.{fixed_octets, record_parts}
 use Rattle.dns_name.specs.Page.Parts.{End, Octets}
 use Rattle.dns_builder.proofs.Patches.{patched_behind}
 
--- so many octets stand behind
+-- as many octets are at the end
 pub length-last : (octets : List ℕ) (count : ℕ) → 8 ≤ length octets - count → length (drop (length octets - count) octets) ≡ count
 length-last octets count some = omega (arith, length-drop (length octets - count) octets)
 
 pub length-last-few : (octets : List ℕ) (count : ℕ) → length (drop (length octets - count) octets) ≤ count
 length-last-few octets count = omega (arith, length-drop (length octets - count) octets)
 
--- more octets behind are as many more that stand behind
+-- octets that are appended leave the start where it is
 
 start-more : (octets tail : List ℕ) (count more : ℕ) → more ≡ count + length tail → length (octets ++ tail) - more ≡ length octets - count
 start-more octets tail count more is = omega (arith, length-append octets tail)
@@ -37,7 +37,7 @@ last-more octets tail new count more is counts =
     ap (λ l. drop (length l - more) l) is ∙ ap (λ n. drop n (octets ++ tail)) (start-more octets tail count more counts)
     ∙ drop-append-le (length octets - count) octets tail (omega arith)
 
--- the front is as long as it begins where the rest does
+-- the front is as long as the place at which the rest begins
 pub start-front : (octets front : List ℕ) (begin : ℕ) → begin ≤ length octets → take begin octets ≡ front → begin ≡ length front
 start-front octets front begin within is = omega (arith, ap (length {A = ℕ}) is, length-take begin octets)
 
@@ -71,22 +71,22 @@ module _ (octets : List ℕ) (count replaced : ℕ) where
         ∙ drop_at (take (behind-replaced - replaced) octets) (drop behind-replaced octets) (behind-replaced - replaced)
         (omega (arith, length-take (behind-replaced - replaced) octets))
 
--- nothing that is remembered stands behind a page
+-- nothing that is remembered is after a page
 pub free_behind : (len begin end : ℕ) (known : Known) → StopsBefore len known → len ≤ begin → is_free begin end known ≡ true
 free_behind len begin end known within behind =
     free_from begin end known (λ standing is. inl (omega (arith, within standing is, behind)))
 
--- the root is one octet, of which nothing is remembered
+-- the root is one octet, and nothing is remembered of it
 root_page : (s : Spelling) (page : Page) → with_name s page [] ≡ page_of (page.octets ++ 0 ∷ []) page.known
 unfolding name_text known_after split_from
 root_page s page = λ i. page_of (page.octets ++ 0 ∷ []) (append-nil page.known i)
 
--- the octets of an OPT record: the root, the type, the class, the TTL, and the options behind their length
+-- the octets of an OPT record: the root, the type, the class, the TTL, and the options after their length
 abbrev pub opt_octets : ℕ → ℕ → List ℕ → List ℕ
 opt_octets class ttl options =
     0 ∷ 0 ∷ 41 ∷ ((to_be_bytes w16 class ++ (to_be_bytes w32 ttl ++ to_be_bytes w16 (length options))) ++ options)
 
--- a record with these is written so
+-- how a record with these is written
 pub write_opt : (s : Spelling) (page : Page) (class ttl : ℕ) (options : List ℕ)
     → write s page (record_parts [] 41 class ttl (Octets options End)) ≡ page_of (page.octets ++ opt_octets class ttl options) page.known
 unfolding write
@@ -124,7 +124,7 @@ opt_long s page options =
 abbrev pub zeros : List ℕ
 zeros = 0 ∷ 0 ∷ 41 ∷ 0 ∷ 0 ∷ 0 ∷ 0 ∷ 0 ∷ 0 ∷ 0 ∷ 0 ∷ []
 
--- what it says is written over the zeros
+-- the fields of the record overwrite the zeros
 pub patch_opt : (page : List ℕ) (class ttl start : ℕ) (options old new : List ℕ) → old ≡ page ++ (zeros ++ options) → start ≡ length page + 11
     → new ≡ patched old (start - 8) (to_be_bytes w16 class ++ (to_be_bytes w32 ttl ++ to_be_bytes w16 (length options)))
     → new ≡ page ++ opt_octets class ttl options

@@ -24,7 +24,7 @@ use Rattle.dns_builder.specs.OptSeen.{opt_in, start_of, LeavesMessage}
 use Rattle.dns_builder.proofs.OptOptions.{refused}
 use Rattle.dns_builder.proofs.OptPages.{zeros, opt_octets, write_opt, patch_opt, opt_long, start-front}
 
--- nothing is refused
+-- no call failed
 accepted : (refused : Option AppendError) (answer : Result (Unit {0}) AppendError) → refusal refused answer ≡ None
     → (refused ≡ None) × (answer ≡ Ok tt)
 accepted None (Ok done) is = (refl, refl)
@@ -32,7 +32,7 @@ accepted None (Err error) is = cc
 accepted (Some error) (Ok done) is = cc
 accepted (Some error) (Err other) is = cc
 
--- the octets of a record without options are refused
+-- the octets of a record without options cannot be appended
 pub no-zeros : {F Builder : Type 0}
     (closure : Once F (MutBor Builder × Unit {0}) (Result (Unit {0}) AppendError × (MutBor Builder × Unit {0}))) (see : Builder → OptBuilt) (op : F)
     (message : List ℕ) (bound : Option ℕ) (error : AppendError) → (refused error ≡ refused ShortBuf → IsPast bound (length message + 11))
@@ -53,7 +53,7 @@ module _ {Target : Type 0} (list_of : Target → List ℕ) (known_of : Target �
   pub start-last : start_of list_of last ≡ length page + 11
   start-last = start-front (list_of last.target) (page ++ zeros) (start_of list_of last) (omega arith) front ∙ length-append page zeros
 
-  -- the octets without the options that others replaced
+  -- the octets without the replaced options
   abbrev pub kept : List ℕ
   kept = take (start_of list_of last) (list_of last.target) ++ (opt_in list_of last).options
 
@@ -71,7 +71,7 @@ module _ {Target : Type 0} (list_of : Target → List ℕ) (known_of : Target �
   octets-new new w = patch_opt page last.fields.payload_size w.ttl (start_of list_of last) (opt_in list_of last).options kept new
       kept-is start-last w.written
 
-  -- whatever comes of it, the page has grown
+  -- in each case the page has grown
   pub grown : {T E : Type 0} (result : Result T E) (known more : Known) (new : List ℕ) → more ≡ known
       → OnErr result (new ≡ list_of last.target)
       → OnOk result (WritesFields (start_of list_of last) (opt_in list_of last) kept new)
@@ -112,7 +112,7 @@ module _ {Target : Type 0} (list_of : Target → List ℕ) (known_of : Target �
               ∙ sym (write_opt s (page_of page known) last.fields.payload_size w.ttl (opt_in list_of last).options);
         }
 
-    -- the record is written where the call succeeds
+    -- the record is written if the call succeeds
     pub written : (result : Result (List ℕ) AppendError) (more : Known) (new : List ℕ) → more ≡ known
         → IfOk result (λ header. header ≡ last.header) → OnOk result (refusal last.refused answer ≡ None)
         → OnOk result (length (opt_in list_of last).options ≤ 65535)
@@ -123,7 +123,7 @@ module _ {Target : Type 0} (list_of : Target → List ℕ) (known_of : Target �
         (writes header new sets unrefused short w)
     written (Err error) more new same sets unrefused short w = tt
 
--- the data of a record that is built has a length
+-- a record that is built has data of at most 65,535 octets
 pub opt_short : {F Builder : Type 0}
     (closure : Once F (MutBor Builder × Unit {0}) (Result (Unit {0}) AppendError × (MutBor Builder × Unit {0}))) (see : Builder → OptBuilt) (op : F)
     (s : Spelling) (page : Page) (header : List ℕ) (opt : Written) → BuildsOpt closure see op page.octets header opt

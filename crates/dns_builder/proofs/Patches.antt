@@ -1,4 +1,4 @@
--- Octets that are written over others: after a front, or over the whole of it.
+-- Octets that overwrite others: after a front, or all of it.
 use Rattle.std.proofs.Common.{◌≡◌, ◌+◌, ℕ, List, ◌++◌, length, take, drop, ◌∙◌, ap, arith, append_assoc}
 use Rattle.std.proofs.Math.Seq.{take-append-add, drop-append-add}
 use Rattle.dns_name.specs.Remembered.{patched}

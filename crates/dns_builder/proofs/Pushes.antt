@@ -1,4 +1,4 @@
--- An item more in the last section that is begun.
+-- One item more in the last section that was started.
 use Rattle.std.proofs.Common.{◌≡◌, ◌<◌, ◌+◌, ◌*◌, ℕ, suc, List, [], ◌∷◌, ◌++◌, length, refl, sym, ◌∙◌, ap, subst, arith}
 use Rattle.std.specs.Int.{to_be_bytes, w16}
 use Rattle.dns_name.specs.Spelling.{Spelling}
@@ -12,11 +12,11 @@ use Rattle.dns_builder.proofs.Counts.{patched_count}
 use Rattle.dns_builder.proofs.Sections.{AreFew, items_of, write_all-append, items_onto, count_onto, starts_onto, few_onto}
 use Rattle.dns_builder.proofs.DraftPages.{recounted, page_rewritten, starts_headed, length-begun, counted_is, counted_written}
 
--- a page with a count written anew
+-- a page with a count overwritten
 abbrev pub counted_page : Page → ℕ → ℕ → Page
 counted_page page number count = page_of (patched page.octets (4 + 2 * number) (to_be_bytes w16 count)) page.known
 
--- where the first section stands apart from those after it
+-- the first section, apart from those after it
 onto : {s : Spelling} (built : Built) (items : List Parts) (sections : List (List Parts)) (draft : Draft) (item : Parts) (new : Draft)
     → built.sections ≡ items ∷ sections → IsDraftOf s built draft → length sections < 4
     → count_at (length sections) (items ∷ sections) < 65535
@@ -72,7 +72,7 @@ pushed {s} {built} {draft} number count item new is begun few room more page sta
         (page ∙ ap (λ n. counted_page (write s draft.page item) n count) last
         ∙ ap (λ n. counted_page (write s draft.page item) (length sections) n) counts) starts)
 
--- the same where the count is read after the item is written
+-- the same if the count is read after the item is written
 pub pushed_on : {s : Spelling} {built : Built} {draft : Draft} (number : ℕ) (item : Parts) (written new : Draft) → IsDraftOf s built draft
     → written.page ≡ write s draft.page item → written.starts ≡ draft.starts
     → length draft.starts ≡ number + 1 → number < 4 → counted_at number written < 65535

@@ -39,7 +39,7 @@ module _ (s : Spelling) where
       (written_read s page item (grows.tail ++ more) sound readable.0 readable.1))
       (items_spelled next items more (written_sound s page item sound readable.0) readable.2)
 
-  -- items of which the first are those of one section
+  -- items that start with those of one section
   readable_first : (page : Page) (items others : List Parts) → AreReadableAfter s page (items ++ others) → AreReadableAfter s page items
   readable_first page [] others readable = tt
   readable_first page (item ∷ items) others readable =

@@ -1,4 +1,4 @@
--- What is written depends on how many octets stand before it and on what is remembered, and not on the octets.
+-- What is written depends on how many octets are before it and on what is remembered, but not on the octets.
 use Rattle.std.proofs.Common.{◌≡◌, ◌+◌, ◌-◌, ℕ, List, [], ◌∷◌, ◌++◌, length, refl, sym, ◌∙◌, ap, arith, length-append, append_assoc}
 use Rattle.std.proofs.lemmas.List.{append-nil}
 use Rattle.std.specs.Int.{to_be_bytes, w16}
@@ -91,7 +91,7 @@ same_starts s (items ∷ sections) {page = page} {twin = twin} long same =
     ap (λ n. n ∷ starts_behind s (write_all s twin items) sections) (same_length long same)
     ∙ ap (λ (l : List ℕ). length page.octets ∷ l) (same_starts s sections long (same_all s items long same))
 
--- nothing stands after the fronts
+-- nothing follows the fronts
 pub same_none : (front other : List ℕ) → SameBehind front other (page_of front []) (page_of other [])
 same_none front other = record {
   tail = [];

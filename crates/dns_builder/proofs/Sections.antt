@@ -1,4 +1,4 @@
--- The items, the counts and the starts of sections: with an item more, with fewer sections, with more of them.
+-- The items, the counts and the starts of sections: with one item more, with fewer sections, with more of them.
 use Rattle.std.proofs.Common.{◌≡◌, ◌<◌, ◌≤◌, ◌-◌, ℕ, zero, suc, List, [], ◌∷◌, ◌++◌, length, take, drop, refl, sym, ◌∙◌, ap, arith, length-append, append_assoc}
 use Rattle.std.specs.Prelude.{replicate, slice_index}
 use Rattle.std.specs.List.{AllByRecursion, flat_map}
@@ -13,7 +13,7 @@ use Rattle.dns_builder.proofs.Counts.{put, first_of}
 abbrev pub items_of : List (List Parts) → List Parts
 items_of sections = flat_map (λ items. items) sections
 
--- no section has more items than a count can say
+-- no section has more items than a count can hold
 abbrev pub AreFew : List (List Parts) → Type 0
 AreFew sections = AllByRecursion (λ items. length items ≤ 65535) sections
 
@@ -31,7 +31,7 @@ count_few [] number few = omega arith
 count_few (items ∷ sections) zero few = few.0
 count_few (items ∷ sections) (suc number) few = count_few sections number few.1
 
--- an item more in the last section
+-- one item more in the last section
 
 pub items_onto : (items : List Parts) (sections : List (List Parts)) (item : Parts)
     → items_of (onto_last items sections item) ≡ items_of (items ∷ sections) ++ item ∷ []
@@ -58,7 +58,7 @@ pub few_onto : (items : List Parts) (sections : List (List Parts)) (item : Parts
 few_onto items [] item few room = (omega (arith, length-append items (item ∷ [])), tt)
 few_onto items (next ∷ sections) item few room = (few.0, few_onto next sections item few.1 room)
 
--- so many sections
+-- as many sections as asked for
 
 pub count_to : (count : ℕ) (sections : List (List Parts)) (number : ℕ)
     → count_at number (sections_to count sections) ≡ first_of count (λ k. count_at k sections) number

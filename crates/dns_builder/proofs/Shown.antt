@@ -1,4 +1,4 @@
--- What a builder shows of its message.
+-- The header and the counts of a builder's message.
 use Rattle.std.proofs.Common.{◌≡◌, ◌++◌, ◌∙◌, take, drop, refl, ap, append_assoc}
 use Rattle.std.proofs.lemmas.List.{take_at, drop_at}
 use Rattle.dns_name.specs.Spelling.{Spelling}

@@ -10,8 +10,8 @@ use Rattle.dns_builder.specs.Built.{Built, Draft, IsDraftOf}
 use Rattle.dns_builder.specs.Steps.{KeepsLimits}
 use Rattle.dns_sections.specs.declared.error.PushError.{PushError}
 
--- The new header is that of an answer: it says that the message is a response (QR), has the query's id, opcode and RD, and this
--- response code. Its other bits are those of the old one.
+-- The new header is that of an answer: it has QR set, the query's ID, opcode and RD, and this response code. Its other
+-- bits are those of the old one.
 abbrev pub AnswersHeader : List ℕ → ℕ → List ℕ → List ℕ → Type 0
 AnswersHeader query rcode old new =
     fields_of new ≡ record (fields_of old) {
@@ -22,12 +22,12 @@ AnswersHeader query rcode old new =
       rcode = rcode;
     }
 
--- a message of questions, in which the answer section is begun
+-- a message of questions, in which the answer section was started
 abbrev pub answering : List ℕ → List Question → Built
 answering header questions = record { header = header; sections = map question_parts questions ∷ [] ∷ [] }
 
--- A builder holds the beginning of an answer: its header, the questions of the query that read, and no answer yet. If there is a
--- question, the message is shorter than its limit.
+-- A builder holds the beginning of an answer: its header, the questions of the query that parse, and no answer yet. If
+-- there is a question, the message is shorter than its limit.
 pub record BeginsAnswer (s : Spelling) (query : List ℕ) (rcode : ℕ) (built : Built) (new : Draft) : Type 0 where
   pub header : List ℕ
   pub questions : List Question
@@ -36,7 +36,7 @@ pub record BeginsAnswer (s : Spelling) (query : List ℕ) (rcode : ℕ) (built :
   pub holds : IsDraftOf s (answering header questions) new
   pub short : 0 < length questions → length new.page.octets < new.limit
 
--- A question of the query is refused with an error where those before it are pushed, behind the answer's header.
+-- The push of a question of the query fails with an error, after those before it were pushed after the answer's header.
 pub record RefusesQuestion (s : Spelling) (query : List ℕ) (rcode : ℕ) (built : Built) (old : Draft) (questions : List Question)
     (error : PushError) : Type 0 where
   pub header : List ℕ
@@ -46,8 +46,8 @@ pub record RefusesQuestion (s : Spelling) (query : List ℕ) (rcode : ℕ) (buil
   pub limits : KeepsLimits old so_far
   pub refused : RefusesNext s (first_question query) questions so_far error
 
--- A builder holds the beginning of an answer that failed: the questions before the one that was refused, and a header whose response
--- code says that the server failed (SERVFAIL, 2).
+-- A builder holds the beginning of an answer that failed: the questions before the one whose push failed, and a header
+-- with the response code SERVFAIL (2).
 pub record BeginsFailure (s : Spelling) (query : List ℕ) (rcode : ℕ) (built : Built) (old new : Draft) : Type 0 where
   pub header : List ℕ
   pub questions : List Question

@@ -1,4 +1,4 @@
--- A message that is built, and the octets that it is written by (RFC 1035 4.1).
+-- A message that is built, and its octets (RFC 1035 4.1).
 use Rattle.std.specs.Prelude.{◌≡◌, ◌≤◌, ℕ, zero, suc, List, [], ◌∷◌, ◌++◌, length, replicate, Option}
 use Rattle.std.specs.List.{AllByRecursion, flat_map}
 use Rattle.std.specs.Int.{to_be_bytes, w16}
@@ -6,14 +6,14 @@ use Rattle.dns_name.specs.Spelling.{Spelling}
 use Rattle.dns_name.specs.Page.{Page, Parts, write}
 use Rattle.dns_name.specs.RecordData.{page_of}
 
--- what stands in the message
+-- the contents of the message
 pub record Built : Type 0 where
   -- the header's first four octets
   pub header : List ℕ
-  -- the items of each section that is begun, in order: the questions, the answers, the authority, what is additional
+  -- the items of each section that was started, in order: questions, answers, authority and additional records
   pub sections : List (List Parts)
 
--- how many items a section has; a section that is not begun has none
+-- how many items a section has; a section that was not started has none
 abbrev pub count_at : ℕ → List (List Parts) → ℕ
 count_at number [] = 0
 count_at zero (items ∷ sections) = length items
@@ -37,20 +37,20 @@ write_all s page (item ∷ items) = write_all s (write s page item) items
 abbrev pub built_page : Spelling → Built → Page
 built_page s built = write_all s (page_of (header_octets built) []) (flat_map (λ items. items) built.sections)
 
--- where each section begins, if they are written behind a page
+-- where each section begins, if they are written after a page
 abbrev pub starts_behind : Spelling → Page → List (List Parts) → List ℕ
 starts_behind s page [] = []
 starts_behind s page (items ∷ sections) = length page.octets ∷ starts_behind s (write_all s page items) sections
 
--- What a builder holds: what its target holds, and at most; where each section that is begun begins in it; and the limit of its
--- length.
+-- What a builder holds: the octets of its target and what that remembers; how many octets it may hold; the start of
+-- each section that was started; and the push limit.
 pub record Draft : Type 0 where
   pub page : Page
   pub bound : Option ℕ
   pub starts : List ℕ
   pub limit : ℕ
 
--- a header of which every bit is clear, and nothing behind it
+-- a header with all bits clear, and nothing after it
 abbrev pub nothing_built : Built
 nothing_built = record { header = 0 ∷ 0 ∷ 0 ∷ 0 ∷ []; sections = [] }
 

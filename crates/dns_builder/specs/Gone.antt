@@ -1,11 +1,11 @@
--- What a builder holds where sections are dropped, or begun.
+-- What a builder holds after sections are dropped, or started.
 use Rattle.std.specs.Prelude.{◌+◌, ◌-◌, ◌*◌, ℕ, ◌++◌, length, take, slice_index, replicate}
 use Rattle.dns_octets.specs.Builder.{before}
 use Rattle.dns_name.specs.RecordData.{page_of}
 use Rattle.dns_name.specs.Remembered.{patched}
 use Rattle.dns_builder.specs.Built.{Draft}
 
--- So many sections are left: what stands behind them is cut off, and the counts of the others are zero.
+-- `count` sections remain: what follows them is cut off, and the counts of the others are zero.
 abbrev pub gone_back : ℕ → Draft → Draft
 gone_back count draft = record {
   page = page_of
@@ -16,7 +16,7 @@ gone_back count draft = record {
   limit = draft.limit;
 }
 
--- So many sections are begun: those that were not before begin at the end.
+-- `count` sections are started: the new ones begin at the end.
 abbrev pub gone_on : ℕ → Draft → Draft
 gone_on count draft = record {
   page = draft.page;

@@ -16,7 +16,8 @@ use Rattle.dns_builder.specs.OptAsked.{BuildsOpt, RefusesRecord}
 
 module _ {F Builder : Type 0} (closure : Once F (MutBor Builder × Unit {0}) (Result (Unit {0}) AppendError × (MutBor Builder × Unit {0})))
     (see : Builder → OptBuilt) (op : F) (s : Spelling) (old : Draft) where
-  -- the record that the closure builds is the last one of the section that is additional, and the message has the header that goes with it
+  -- the record that the closure builds is the last of the additional section, and the message has the header that goes
+  -- with it
   pub record AddsOpt (new : Draft) : Type 0 where
     pub header : List ℕ
     pub opt : Written
@@ -24,7 +25,8 @@ module _ {F Builder : Type 0} (closure : Once F (MutBor Builder × Unit {0}) (Re
     pub taken : IsTakenBy s 3 old (parts_of opt) (65535 < data_length s old.page opt)
     pub adds : (built : Built) → IsDraftOf s built old → IsDraftOf s (with_header (with_item built (parts_of opt)) header) new
 
-  -- Why no record is added: none is built; or the message would be as long as its limit with it, or has 65,535 such records.
+  -- Why no record is added: none is built; or the message would be as long as its limit, or longer; or the section has
+  -- 65,535 records.
   pub data RefusesOpt : PushError → Type 0 where
     unbuilt : {error : AppendError} {why : PushError} → RefusesRecord closure see op old.page.octets old.bound error → why ≡ as_push_error error
         → RefusesOpt why

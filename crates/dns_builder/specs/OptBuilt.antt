@@ -9,18 +9,18 @@ use Rattle.dns_header.specs.Written.{Written}
 pub record OptBuilt : Type 0 where
   -- the first four octets of the message's header
   pub header : List ℕ
-  -- what the record says beside its options
+  -- the fixed fields of the record
   pub fields : OptFields
   -- the octets of the options
   pub options : List ℕ
-  -- why a call was refused, the first that was
+  -- the error of the first call that failed
   pub refused : Option AppendError
 
 -- a record of zeros without options
 abbrev pub empty_opt : List ℕ → OptBuilt
 empty_opt header = record { header = header; fields = opt_fields 0 0; options = []; refused = None }
 
--- the record that says this, with these options: its owner is the root, and its type OPT (RFC 6891 6.1.2)
+-- the record with these fields and options: its owner is the root, and its type OPT (RFC 6891 6.1.2)
 pub record IsOpt (fields : OptFields) (options : List ℕ) (opt : Written) : Type 0 where
   pub owner : opt.owner ≡ []
   pub rtype : opt.rtype ≡ 41

@@ -1,4 +1,4 @@
--- What an OPT record says beside its options is written where the record stands (RFC 6891 6.1.2).
+-- The fixed fields of an OPT record are written in place (RFC 6891 6.1.2).
 use Rattle.std.specs.Prelude.{◌≡◌, ◌-◌, ℕ, List, ◌++◌, length}
 use Rattle.std.specs.Int.{to_be_bytes, w16, w32}
 use Rattle.dns_name.specs.Remembered.{patched}

@@ -4,7 +4,7 @@ use Rattle.dns_octets.specs.Builder.{IsPast}
 use Rattle.dns_octets.specs.declared.error.AppendError.{AppendError}
 use Rattle.dns_octets.specs.declared.error.AppendError.TheVariants.{ShortBuf, OutOfMemory}
 
--- Why so many octets are not appended behind these: the target is full, or memory was refused.
+-- Why `count` octets are not appended after these: the target is full, or out of memory.
 pub data RefusesOctets (here : List ℕ) (bound : Option ℕ) (count : ℕ) : AppendError → Type 0 where
   no_room : IsPast bound (length here + count) → RefusesOctets here bound count ShortBuf
   no_memory : RefusesOctets here bound count OutOfMemory

@@ -22,7 +22,7 @@ module _ {Target : Type 0} (list_of : Target → List ℕ) where
   abbrev pub options_start : OptBuilder Target → ℕ
   options_start builder = length (list_of builder.target) - builder.rdlen
 
-  -- where the data of the record begins: with the options that others replaced, if there are any
+  -- where the data of the record begins: before the replaced options, if there are any
   abbrev pub start_of : OptBuilder Target → ℕ
   start_of builder = options_start builder - builder.replaced
 
@@ -37,7 +37,7 @@ module _ {Target : Type 0} (list_of : Target → List ℕ) where
 
 module _ {Target : Type 0} (list_of : Target → List ℕ) (known_of : Target → Known) (bound_of : Target → Option ℕ)
     (keeps : Target → Target → Type 0) where
-  -- Of the message nothing changes but the OPT record and the response code: what stands before the record's data, what the target
+  -- Only the OPT record and the response code of the message change: what precedes the record's data, what the target
   -- remembers and may hold, and every other bit of the header stay.
   pub record LeavesMessage (old new : OptBuilder Target) : Type 0 where
     pub front : take (start_of list_of new) (list_of new.target) ≡ take (start_of list_of old) (list_of old.target)
@@ -46,7 +46,7 @@ module _ {Target : Type 0} (list_of : Target → List ℕ) (known_of : Target �
     pub header : fields_of new.header ≡ record (fields_of old.header) { rcode = rcode_of new.header }
     pub stays : keeps old.target new.target
 
-  -- by condition a closure leaves the message so
+  -- each call of a closure leaves the message so
   abbrev pub OnlyBuilds : {F : Type 0}
       → Once F (MutBor (OptBuilder Target) × Unit {0}) (Result (Unit {0}) AppendError × (MutBor (OptBuilder Target) × Unit {0})) → F → Type 0
   OnlyBuilds closure op =

@@ -4,7 +4,7 @@ use Rattle.dns_builder.specs.Built.{Draft}
 use Rattle.dns_builder.specs.declared.draft.Draft as code
 use Rattle.dns_builder.specs.declared.builder.SectionBuilder.{SectionBuilder}
 
--- what a draft holds, by what its target holds, remembers, and may hold
+-- what a draft holds, from what its target holds, remembers, and may hold
 abbrev pub draft_in : {Target : Type 0} {composer bounded octets remembers : _} → code.Draft Target composer bounded octets remembers → Draft
 draft_in {bounded = bounded} {octets = octets} {remembers = remembers} draft = record {
   page = page_of (octets.list draft.opt.target) (remembers.known draft.opt.target);

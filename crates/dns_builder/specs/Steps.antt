@@ -1,4 +1,4 @@
--- What the calls of a builder make of its message.
+-- What the calls of a builder do to its message.
 use Rattle.std.specs.Prelude.{⊤, true, ◌≡◌, ◌≤◌, ◌<◌, ◌+◌, ◌*◌, ℕ, zero, suc, List, [], ◌∷◌, ◌++◌, length}
 use Rattle.dns_octets.specs.Builder.{IsWithin, IsPast}
 use Rattle.dns_name.specs.Spelling.{Spelling}
@@ -9,7 +9,7 @@ use Rattle.dns_builder.specs.Built.{Built, Draft}
 use Rattle.dns_sections.specs.declared.error.PushError.{PushError}
 use Rattle.dns_sections.specs.declared.error.PushError.TheVariants.{ShortBuf, BadLength, LimitExceeded, CountOverflow, OutOfMemory}
 
--- so many sections are begun: later ones are dropped, and missing ones are empty
+-- `count` sections are started: later ones are dropped, and missing ones are empty
 abbrev pub sections_to : ℕ → List (List Parts) → List (List Parts)
 sections_to zero sections = []
 sections_to (suc count) [] = [] ∷ sections_to count []
@@ -18,7 +18,7 @@ sections_to (suc count) (items ∷ sections) = items ∷ sections_to count secti
 abbrev pub going_to : ℕ → Built → Built
 going_to count built = record { header = built.header; sections = sections_to count built.sections }
 
--- an item more in the last section that is begun
+-- one item more in the last section that was started
 abbrev pub onto_last : List Parts → List (List Parts) → Parts → List (List Parts)
 onto_last items [] item = (items ++ item ∷ []) ∷ []
 onto_last items (next ∷ sections) item = items ∷ onto_last next sections item
@@ -33,21 +33,21 @@ with_item built item = record { header = built.header; sections = grown built.se
 abbrev pub with_header : Built → List ℕ → Built
 with_header built header = record { header = header; sections = built.sections }
 
--- the header of the other message says that it was truncated (TC, RFC 1035 4.1.1), and all else is the same
+-- the header of the other message has TC set (RFC 1035 4.1.1), and all else is the same
 pub record IsTruncated (built truncated : Built) : Type 0 where
   pub header : fields_of truncated.header ≡ record (fields_of built.header) { tc = true }
   pub sections : truncated.sections ≡ built.sections
 
--- how long the message is with the item behind it
+-- how long the message is with the item at its end
 abbrev pub length_with : Spelling → Draft → Parts → ℕ
 length_with s draft item = length (write s draft.page item).octets
 
--- how many items a section has by the header
+-- how many items the header counts in a section
 abbrev pub counted_at : ℕ → Draft → ℕ
 counted_at number draft = number_at draft.page.octets (4 + 2 * number)
 
--- An item is taken: its data has at most 65,535 octets, the target may hold the message with it, the message is then shorter than its
--- limit, and the section had fewer than 65,535 items.
+-- An item is taken: its data has at most 65,535 octets, the target may hold the message with it, the message is then
+-- shorter than its limit, and the section had fewer than 65,535 items.
 pub record IsTakenBy (s : Spelling) (number : ℕ) (draft : Draft) (item : Parts) (IsLong : Type 0) : Type 0 where
   pub counted : IsLong → ⊥
   pub fits : IsWithin draft.bound (length_with s draft item)
@@ -68,8 +68,8 @@ pub record OverflowsCount (s : Spelling) (number : ℕ) (draft : Draft) (item : 
   pub short : length_with s draft item < draft.limit
   pub full : counted_at number draft ≡ 65535
 
--- Why an item is refused. It is appended first, and is not if the target is full, its data is longer than 65,535 octets, or memory was
--- refused. Then the limit is judged, and then the count.
+-- Why a push fails. The item is appended first; that fails if the target is full, its data is longer than 65,535
+-- octets, or out of memory. Then the limit is checked, and then the count.
 abbrev pub IsRefusedBy : Spelling → ℕ → Draft → Parts → Type 0 → PushError → Type 0
 IsRefusedBy s number draft item IsLong ShortBuf = IsPast draft.bound (length_with s draft item)
 IsRefusedBy s number draft item IsLong BadLength = IsLong

@@ -1,4 +1,4 @@
-//! What all builders have in common: a target, where each section begins in it, and the limit of its length.
+//! The common part of all builders: a target, the start of each section in it, and the push limit.
 ghost use Rattle.std.specs.Prelude.{◌≡◌, ◌≤◌, ◌<◌, ℕ, true, length, slice_index};
 ghost use Rattle.dns_name.specs.Remembered.{is_free};
 
@@ -14,11 +14,11 @@ use dns_name::{AppendError, Composer};
 /// A message that is being built.
 #[derive(Debug, Drop)]
 pub(crate) struct Draft<Target: Composer> {
-    /// The target, and the OPT record that is built at its end if one is.
+    /// The target, and the OPT record at its end while one is built.
     opt: OptBuilder<Target>,
-    /// Where each section that is begun begins.
+    /// The start of each section that was started.
     starts: ArrayVec<usize, 4>,
-    /// The message stays shorter.
+    /// Items are pushed only if the message stays shorter than this.
     limit: usize,
     ghost header: { 12 ≤ length (Target.list opt.target) },
     ghost free: { is_free 0 12 (Target.known opt.target) ≡ true },
@@ -32,7 +32,7 @@ impl<Target: Composer + Drop> Draft<Target> {
     ghost use Rattle.dns_builder.specs.Seen.{draft_in, held_in};
     ghost use Rattle.dns_builder.specs.Built.{empty_draft};
 
-    /// Empties the target, and writes a header of twelve clear octets.
+    /// Empties the target, and appends a header of twelve octets that are zero.
     pub(crate) fn new(mut target: Target) -> Result<Self, AppendError>
         ensures ok { IfOk result (λ draft. draft_in draft ≡ empty_draft (Target.bound target)) }
         ensures short { result ≡ Err ShortBuf → IsPast (Target.bound target) 12 }

@@ -13,14 +13,14 @@ use dns_name::{AppendError, Composer};
 
 /// An item of a section.
 ///
-/// `IsLong` says that it has data of more than 65,535 octets.
+/// `IsLong` tells that it has data of more than 65,535 octets.
 pub(crate) trait Item {
     ghost parts: { Self → Parts };
 
     ghost IsLong: { Self → Spelling → Page → Type 0 };
 
-    /// Appends the item, all or nothing. Fails with `ShortBuf` only if the target would then hold more octets than it may,
-    /// with `BadLength` only if it has data of more than 65,535 octets, and with `OutOfMemory` if out of memory.
+    /// Appends the item, all or nothing. Fails with `ShortBuf` only if the target is too full, with `BadLength` only if
+    /// it has data of more than 65,535 octets, and with `OutOfMemory` if out of memory.
     fn append_to<Target: Composer>(&self, target: &mut Target) -> Result<(), AppendError>
         ensures ok { OnOk result (page_of (Target.list target.new) (Target.known target.new)
             ≡ write Target.spelling (page_of (Target.list target.old) (Target.known target.old)) (parts self.now)) }

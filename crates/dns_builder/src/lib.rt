@@ -1,6 +1,6 @@
-//! Builders of messages: sections are begun one after another, and items are pushed into the last one (RFC 1035 4.1).
+//! Builders of messages: sections are started one after another, and items are pushed into the last one (RFC 1035 4.1).
 //!
-//! A part of `dns_message`, which hands all of it on.
+//! A part of `dns_message`, which re-exports all of it.
 #![tactic(auto)]
 
 mod builder;

@@ -1,4 +1,4 @@
-//! The sections that a builder is in (RFC 1035 4.1).
+//! The sections of a builder (RFC 1035 4.1).
 ghost use Rattle.std.specs.Prelude.{◌≡◌, ◌≤◌, ◌<◌, ℕ};
 ghost use Rattle.std.proofs.Common.{arith};
 
@@ -6,47 +6,47 @@ mod others;
 
 pub use others::OtherThan;
 
-/// A mark of the section that a builder is in: of the last one that is begun.
+/// The section of a builder: the last one that was started.
 ///
-/// `number` is how many sections are begun.
+/// `number` is how many sections were started.
 pub trait BuilderSection {
     ghost number: { ℕ };
 
-    /// How many sections are begun: 0 to 4.
+    /// Returns how many sections were started: 0 to 4.
     fn number() -> usize
         ensures { result ≡ number };
 
     ghost few: { number ≤ 4 };
 }
 
-/// A mark of a section, where one is begun.
+/// A section that was started, in contrast to `Start`.
 pub trait BegunSection: BuilderSection {
     ghost begun: { 0 < Self.number };
 }
 
-/// A mark of a section of records.
+/// A section of records.
 pub trait RecordsSection: BegunSection {
-    /// The mark of the next section of records. That of the last one is its own.
+    /// The next section of records. The last one is its own next one.
     type Next: BuilderSection;
 }
 
-/// No section is begun.
+/// No section was started.
 #[derive(Debug, Drop)]
 pub struct Start {}
 
-/// The questions.
+/// The question section.
 #[derive(Debug, Drop)]
 pub struct Questions {}
 
-/// The records that answer the question.
+/// The answer section.
 #[derive(Debug, Drop)]
 pub struct Answers {}
 
-/// The records that point to an authority.
+/// The authority section.
 #[derive(Debug, Drop)]
 pub struct Authorities {}
 
-/// The records that go with the others.
+/// The additional section.
 #[derive(Debug, Drop)]
 pub struct Additionals {}
 

@@ -18,7 +18,7 @@ pub added-root : (s : Spelling) (count place stop : ℕ) (name : List (List ℕ)
 added-root s count place stop name is =
     ap (λ n. added s count place stop n) is ∙ ap (λ l. standings s place stop l (drop count [])) (take-nil count)
 
--- a label more
+-- one label more
 pub added-label : (count more place next stop : ℕ) (name : List (List ℕ)) (label : List ℕ) (parent : List (List ℕ)) → name ≡ label ∷ parent
     → more ≡ suc count → next ≡ place + 1 + length label
     → added tree_spelling more place stop name
@@ -50,7 +50,7 @@ module _ (known rest all : Known) (first : Standing) (is : all ≡ first ∷ res
 pub none_added : (known more : Known) → more ≡ [] → known ≡ known ++ more
 none_added known more is = sym (append-nil known) ∙ ap (λ (l : Known). known ++ l) (sym is)
 
--- where case makes no difference, a name's suffixes are those of the name in lower case
+-- if case makes no difference, a name's suffixes are those of the name in lower case
 lowered_suffix : (name : List (List ℕ)) → remembered_form hash_spelling name ≡ remembered_form tree_spelling (low name)
 lowered_suffix name = sym (form-exact tree_spelling (low name) refl)
 

@@ -8,7 +8,7 @@ use Rattle.dns_name.specs.Spelling.{Spelling, compresses, has_room}
 use Rattle.dns_name.specs.Remembered.{IsSound, patched}
 use Rattle.dns_compress.specs.Frame.{frame}
 
--- where none may be remembered, none are
+-- if none may be remembered, none are
 none_within : (most : Option ℕ) (count : ℕ) → has_room most 0 ≡ false → IsWithin most count → count ≤ 0
 none_within None count no_room within = absurd (cc)
 none_within (Some most) count no_room within = grind (arith, common_steps)

@@ -1,4 +1,4 @@
--- Suffixes in order of writing.
+-- Suffixes in the order of writing.
 use Rattle.std.proofs.Common.{◌⊎◌, inl, inr, ◌≡◌, ◌≤◌, ◌<◌, ℕ, Bool, true, false, None, List, [], ◌∷◌, ◌++◌, refl, ◌∙◌, ap, arith}
 use Rattle.std.specs.Prelude.{if◌then◌else◌}
 use Rattle.std.specs.List.{list_all}
@@ -76,7 +76,7 @@ before-whole s len known other order within =
     cases _ (inr first) = within
     cases one (inr (later is)) = elim is [ ]
 
--- those in front of others are in order too
+-- the first ones are in order too
 pub in_order-front : (s : Spelling) (known more : Known) → in_order s (known ++ more) ≡ true → in_order s known ≡ true
 in_order-front s [] more order = refl
 in_order-front s (one ∷ known) more order =

@@ -1,4 +1,4 @@
--- A list of suffixes whose octets stand one after another.
+-- A list of suffixes whose octets are stored one after another.
 use Rattle.std.proofs.Common.{◌≡◌, ◌≤◌, ◌+◌, ◌-◌, ℕ, zero, suc, Some, List, [], ◌∷◌, ◌++◌, length, take, drop, refl, sym, ◌∙◌, ap, arith, length-append}
 use Rattle.std.specs.Prelude.{slice_get}
 use Rattle.std.proofs.lemmas.List.{length-drop, drop-drop, drop-take, take-take, take_all, take_at, drop_at}
@@ -14,7 +14,7 @@ pub length-standings_in : (octets : List ℕ) (written : List Written) → lengt
 length-standings_in octets [] = refl
 length-standings_in octets (one ∷ written) = ap suc (length-standings_in (drop one.len octets) written)
 
--- octets behind those of the suffixes change none of them
+-- octets after those of the suffixes change none of them
 standings_in-take : (octets : List ℕ) (written : List Written) (n : ℕ) → total written ≤ n
     → standings_in (take n octets) written ≡ standings_in octets written
 standings_in-take octets [] n within = refl
@@ -39,7 +39,7 @@ standings_in-last octets (next ∷ written) one whole =
     ∙ ap (λ (l : List ℕ). standings_in (drop next.len octets) written ++ record { suffix = l; place = one.place; stop = one.stop } ∷ [])
     (drop-drop (total written) next.len octets))
 
--- a suffix more
+-- one suffix more
 pub standings_in-push : (octets suffix : List ℕ) (written : List Written) (one : Written) → total written ≡ length octets → one.len ≡ length suffix
     → standings_in (octets ++ suffix) (written ++ one ∷ [])
     ≡ standings_in octets written ++ record { suffix = suffix; place = one.place; stop = one.stop } ∷ []
@@ -83,7 +83,7 @@ module _ (octets : List ℕ) (all front : List Written) (last : Written) (is : a
       ≡ take (length (standings_in octets all) - 1) (standings_in octets all)
   popped = standings_in-take octets front (length octets - last.len) (omega (arith, total_front)) ∙ sym front_is
 
--- what ends in its last
+-- a list that ends in its last element
 pub ends_in : {A : Type 0} (n : ℕ) (all : List A) (last : A) → length all ≡ suc n → slice_get all n ≡ Some last → all ≡ take n all ++ last ∷ []
 ends_in zero [] last long at = absurd (omega (arith, long))
 ends_in zero (one ∷ []) last long at = ap (λ l. l ∷ []) (let e : one ≡ last = cc in e)

@@ -1,4 +1,4 @@
--- A map by octets, and the list of what it keeps.
+-- A map by octets, and the list of its suffixes.
 use Rattle.std.proofs.Common.{◌≡◌, ℕ, Bool, true, false, Option, Some, None, List, [], ◌∷◌, ◌++◌, refl, sym, ◌∙◌, subst}
 use Rattle.std.specs.Prelude.{nat_eq, cond}
 use Rattle.std.specs.Map.{lookup, KeepsOthers}
@@ -82,7 +82,7 @@ place_in-past s (one ∷ known) other suffix differs = by_test (is_same s one.su
     by_test true is on = rw is refl
     by_test false is on = rw is on
 
--- a suffix more, and one less
+-- one suffix more, and one less
 
 pub place_in-push : (known : Known) (other : Standing) (suffix : List ℕ) → goes_last tree_spelling known other ≡ true
     → cond (pointwise nat_eq other.suffix suffix) (Some other.place) (place_in tree_spelling known suffix)

@@ -23,7 +23,7 @@ key_root false key name is none = sym is ∙ none
 key_root true key [] is none = refl
 key_root true key (label ∷ parent) is none = absurd (let e : low (label ∷ parent) ≡ [] = sym is ∙ none in cc)
 
--- the name of a key that has a label first
+-- the name of a key that starts with a label
 pub record Begun (lowers : Bool) (name : List (List ℕ)) (label : List ℕ) (parent : List (List ℕ)) : Type 0 where
   pub first : List ℕ
   pub rest : List (List ℕ)

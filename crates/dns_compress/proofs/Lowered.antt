@@ -1,4 +1,4 @@
--- Suffixes that are kept in lower case, looked up in lower case.
+-- Suffixes that are kept and looked up in lower case.
 use Rattle.std.proofs.Common.{◌≡◌, ℕ, Bool, true, false, List, [], ◌∷◌, map, refl, sym, ◌∙◌, ap}
 use Rattle.std.specs.Prelude.{nat_eq}
 use Rattle.std.specs.Char.{to_ascii_lowercase}
@@ -13,7 +13,7 @@ use Rattle.dns_name.specs.Remembered.{IsKnown, StandsIn, IsSound}
 use Rattle.dns_name.specs.Remembered.IsKnown.{first, later}
 use Rattle.dns_name.proofs.Folding.{folded-form}
 
--- looked up two ways that take the same suffixes for the same
+-- looked up in two ways that take the same suffixes as equal
 place_alike : (s t : Spelling) (known : Known) (one other : List ℕ)
     → ((standing : Standing) → IsKnown standing known → is_same s standing.suffix one ≡ is_same t standing.suffix other)
     → place_in s known one ≡ place_in t known other

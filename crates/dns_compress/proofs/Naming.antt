@@ -1,4 +1,4 @@
--- A name that was walked over is appended: the octets and what is remembered are those of the definitions.
+-- A walked name is appended: the octets and what is remembered are those of the definitions.
 use Rattle.std.proofs.Common.{◌≡◌, ◌≤◌, ◌<◌, ◌+◌, ℕ, Bool, true, false, Option, Some, None, List, [], ◌∷◌, ◌++◌, length, drop, sym, ◌∙◌, ap, arith, length-append, subst}
 use Rattle.std.specs.Prelude.{Result, OnOk}
 use Rattle.std.specs.Option.{ForSome}
@@ -13,7 +13,7 @@ use Rattle.dns_compress.specs.Walk.{pointed_to, walked_text, IsWalked}
 use Rattle.dns_compress.proofs.Sound.{sound_name, sound_of, found_near}
 use Rattle.dns_compress.proofs.Texts.{text_walked, near_walked, far_walked}
 
--- a pointer reaches where it leads
+-- the target of a pointer is near enough
 target_near : {octets : List ℕ} (s : Spelling) (known : Known) (suffix : List (List ℕ)) (target : ℕ) → ∥ IsSound s known octets ∥₁
     → Some target ≡ pointed_to s known suffix → target < 16384
 target_near s known [] target sound is = absurd (let e : Some target ≡ None = is in cc)
@@ -54,7 +54,7 @@ module _ (s : Spelling) (known : Known) (octets : List ℕ) (name : List (List �
           let split = split_from s known (length known) (length octets) name in
           omega (arith, ends stop at, begins, split_some s known split.labels split.suffix)
 
-      -- what the table remembers of the new octets as they are seen, and what it remembers then
+      -- what the table remembers of the new octets as they are seen, and what it then remembers
       module _ (known_of : List ℕ → Known) (seen : List ℕ) (seen_is : seen ≡ new) (kept : known_of new ≡ known) where
         same_known : known_of seen ≡ known
         same_known = ap known_of seen_is ∙ kept
@@ -82,7 +82,7 @@ module _ (s : Spelling) (known : Known) (octets : List ℕ) (name : List (List �
     pub far_known : near ≡ false → known_after s known (length octets) name ≡ known
     far_known some = far_walked s known (length known + 0) (length octets) name labels front near target walked counts some
 
--- it is said of the same name
+-- the same for an equal name
 module _ (s : Spelling) (known : Known) (octets : List ℕ) {name other : List (List ℕ)} (same : name ≡ other) where
   pub text_of : {T E : Type 0} (result : Result T E) (new : List ℕ) → OnOk result (new ≡ octets ++ name_text s known (length octets) name)
       → OnOk result (new ≡ octets ++ name_text s known (length octets) other)

@@ -32,7 +32,7 @@ order_ascends s (one ∷ known) order =
     below (next ∷ known) all other first = leb-true one.stop next.stop (before_parts _ _ (and_parts (goes_before s one next) _ all).0).1
     below (next ∷ known) all other (later is) = below known (and_parts (goes_before s one next) _ all).1 other is
 
--- where the first stops behind the length, all do
+-- if the first stops after the length, all do
 pub before_first : (s : Spelling) (len stop : ℕ) (known : Known) → in_order s known ≡ true
     → ((one : Standing) (rest : Known) → known ≡ one ∷ rest → stop ≡ one.stop) → len < stop → before len known ≡ []
 before_first s len stop [] order at behind = refl
@@ -72,7 +72,7 @@ added_ascends s place stop (label ∷ labels) suffix = (
   added_ascends s (place + 1 + length label) stop labels suffix,
 )
 
--- suffixes that are not the same are not the same octet for octet
+-- suffixes that are not equal are not equal octet for octet
 apart : (s : Spelling) (one other : List ℕ) → is_same s other one ≡ false → is_same tree_spelling one other ≡ false
 apart s one other differ = by_test (is_same tree_spelling one other) refl
   where

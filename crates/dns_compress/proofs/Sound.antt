@@ -40,7 +40,7 @@ pub sound_patch : {s : Spelling} {known : Known} {octets : List ℕ} (begin : �
 sound_patch {s} {known} begin over new within free is sound =
     subst (λ l. ∥ IsSound s known l ∥₁) (sym is) (∥∥₁_map sound (λ sound. IsSound-patch begin over within free sound))
 
--- it is said of other octets and another list
+-- the same for equal octets and an equal list
 pub sound_of : {s : Spelling} {known more : Known} {octets : List ℕ} → more ≡ known → ∥ IsSound s known octets ∥₁ → ∥ IsSound s more octets ∥₁
 sound_of {s} {octets = octets} same sound = subst (λ (l : Known). ∥ IsSound s l octets ∥₁) (sym same) sound
 
@@ -66,7 +66,7 @@ grows_name {s} {octets} {known} name new new_known is_name sound text knows =
 pub sound_empty : (s : Spelling) (known : Known) (octets : List ℕ) → known ≡ [] → ∥ IsSound s known octets ∥₁
 sound_empty s known octets none = sound_of none ∣ sound_none s octets ∣₁
 
--- so do they whether the name is appended or refused
+-- and so whether the append succeeds or fails
 pub grows_either : {s : Spelling} {octets : List ℕ} {known : Known} {T E : Type 0} (result : Result T E) (name : List (List ℕ)) (new : List ℕ) (new_known : Known)
     → IsName name → ∥ IsSound s known octets ∥₁ → OnOk result (new ≡ octets ++ name_text s known (length octets) name)
     → OnOk result (new_known ≡ known_after s known (length octets) name)

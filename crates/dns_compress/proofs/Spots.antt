@@ -1,4 +1,4 @@
--- Suffixes are read where they stand.
+-- Suffixes are read at their places.
 use Rattle.std.proofs.Common.{◌≡◌, ◌≤◌, ◌+◌, ℕ, Bool, true, false, List, [], ◌∷◌, ◌++◌, length, take, map, refl, sym, ◌∙◌, ap, arith, length-append}
 use Rattle.std.specs.Prelude.{filter, nat_le, ◌↔◌, IsTrue}
 use Rattle.std.specs.Char.{to_ascii_lowercase}
@@ -49,7 +49,7 @@ few_spots {octets} spots added sound =
     ∥∥₁_elim sound le_prop (λ sound.
     omega (arith, sound.few, length-append (read_all octets spots) added, length-map spots (read_at octets)))
 
--- a name is compared with the suffix that stands there
+-- a name is compared with the suffix at the place
 pub same_there : (known : Known) (octets : List ℕ) (standing : Standing) (name : List (List ℕ)) (result : Bool) → ∥ IsSound static_spelling known octets ∥₁
     → IsKnown standing known → IsName name
     → ((read : List (List ℕ)) (next : ℕ) → Reads octets standing.place read next → IsTrue result ↔ (low read ≡ low name))

@@ -1,4 +1,4 @@
--- A suffix is looked for among those that are read where they stand.
+-- A suffix is searched for among those that are read at their places.
 use Rattle.std.proofs.Common.{◌≡◌, ◌≤◌, ◌<◌, ◌+◌, ℕ, zero, suc, Bool, true, false, Some, None, List, [], ◌∷◌, length, drop, get_or, refl, sym, ◌∙◌, ap, subst, arith}
 use Rattle.std.proofs.Math.Seq.{drop-cons}
 use Rattle.std.proofs.lemmas.List.{drop_all}
@@ -54,7 +54,7 @@ module _ (octets : List ℕ) (spots : List Spot) (suffix : List ℕ) (i : ℕ) (
   pub found_nowhere : length spots ≤ i → None ≡ place_in static_spelling (read_all octets spots) suffix
   found_nowhere past = ap (λ (l : List Spot). place_in static_spelling (read_all octets l) suffix) (sym (drop_all i spots past)) ∙ so_far
 
--- a label more
+-- one label more
 module _ (count more place next stop : ℕ) (name : List (List ℕ)) (label : List ℕ) (parent : List (List ℕ)) (is : name ≡ label ∷ parent)
     (mores : more ≡ suc count) (nexts : next ≡ place + 1 + length label) where
   pub spots-label : spots_of (added static_spelling more place stop name)

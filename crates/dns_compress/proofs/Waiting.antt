@@ -1,4 +1,4 @@
--- Suffixes that are to be remembered.
+-- Suffixes that will be remembered.
 use Rattle.std.proofs.Common.{◌≡◌, ◌+◌, ◌-◌, ℕ, zero, suc, List, [], ◌∷◌, ◌++◌, length, take, drop, refl, sym, ◌∙◌, ap, arith, length-append}
 use Rattle.std.proofs.lemmas.List.{take_at, drop_at}
 use Rattle.dns_label.specs.Name.{wire}
@@ -28,7 +28,7 @@ pub front_is : (all front : List (List ℕ)) (last : List ℕ) → all ≡ front
 front_is all front last is =
     ap front_of is ∙ take_at front (last ∷ []) (length (front ++ last ∷ []) - 1) (omega (arith, length-append front (last ∷ [])))
 
--- lists that end in one have the same front and the same last
+-- lists that end in one element have equal fronts and equal last elements
 module _ (front other : List (List ℕ)) (last end : List ℕ) (is : front ++ last ∷ [] ≡ other ++ end ∷ []) where
   same_long : length front ≡ length other
   same_long =

@@ -43,7 +43,7 @@ module _ (s : Spelling) (known : Known) (count place : ℕ) where
     leads = on.leads;
   }
 
--- the same of a name of which it is known how it begins
+-- the same for a name whose beginning is known
 module _ (s : Spelling) (known : Known) (count place : ℕ) (name : List (List ℕ)) where
   pub walked_root : name ≡ [] → IsWalked s known count place name 0 0 true None
   walked_root is = subst (λ n. IsWalked s known count place n 0 0 true None) (sym is) (root_walked s known count place)

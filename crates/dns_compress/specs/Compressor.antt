@@ -1,4 +1,4 @@
--- What contracts see of a compressor: the target under it, the octets in this, and the suffixes that it remembers of them.
+-- What contracts see of a compressor: the wrapped target, its octets, and the suffixes of them that are remembered.
 use Rattle.std.specs.Prelude.{ℕ, List}
 use Rattle.dns_octets.specs.Builder.{Known}
 use Rattle.dns_compress.specs.declared.compressor.Compressor.{Compressor}

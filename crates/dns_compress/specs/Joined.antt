@@ -1,4 +1,4 @@
--- A list of suffixes whose octets stand one after another.
+-- A list of suffixes whose octets are stored one after another.
 use Rattle.std.specs.Prelude.{ℕ, ◌+◌, List, [], ◌∷◌, take, drop}
 use Rattle.dns_octets.specs.Builder.{Known}
 use Rattle.dns_compress.specs.declared.written.Written.{Written}
@@ -8,7 +8,7 @@ abbrev pub total : List Written → ℕ
 total [] = 0
 total (one ∷ written) = one.len + total written
 
--- the suffixes, of these octets
+-- the suffixes, with these octets
 abbrev pub standings_in : List ℕ → List Written → Known
 standings_in octets [] = []
 standings_in octets (one ∷ written) =

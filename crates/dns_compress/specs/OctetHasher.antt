@@ -4,7 +4,7 @@ use Rattle.std.specs.Int.{w64, rotate_left, from_le_bytes}
 use Rattle.dns_compress.specs.declared.octet_hasher.OctetHasher.{OctetHasher}
 use Rattle.dns_compress.specs.declared.octet_hasher.OctetHashing.{OctetHashing}
 
--- the hasher of a seed
+-- the hasher made from a seed
 abbrev pub hasher_of : OctetHashing → OctetHasher
 hasher_of hashing = record { next = hashing.seed; other = bit_xor hashing.seed 0x9e37_79b9_7f4a_7c15 }
 

@@ -9,7 +9,7 @@ use Rattle.dns_compress.specs.declared.static_table.StaticTable.{StaticTable}
 use Rattle.dns_compress.specs.declared.tree_table.TreeTable.{TreeTable}
 use Rattle.dns_compress.specs.declared.hash_table.HashTable.{HashTable}
 
--- where suffixes stand by the first kind of table
+-- the places of suffixes in the static table
 abbrev pub spots_in : StaticTable → List Spot
 spots_in table = table.written.items
 

@@ -1,4 +1,4 @@
--- A stream target is seen by the target under it, and by the message that this holds after its length.
+-- Contracts see a stream target as the wrapped target, and as the message after its length.
 use Rattle.std.specs.Prelude.{ℕ, List, drop}
 use Rattle.dns_compress.specs.declared.stream_target.StreamTarget.{StreamTarget}
 

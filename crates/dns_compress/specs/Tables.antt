@@ -5,7 +5,7 @@ use Rattle.dns_octets.specs.Builder.{Standing, Known}
 use Rattle.dns_label.specs.Name.{low}
 use Rattle.dns_name.specs.Spelling.{Spelling, is_same, standings}
 
--- any number of suffixes, the same up to case where it folds; there all new suffixes of a name are remembered or none
+-- any number of suffixes, equal up to case if it folds; if so, all new suffixes of a name are remembered or none
 abbrev pub unbounded : Bool → Spelling
 unbounded folds = record { folds = folds; most = None; far = folds }
 
@@ -17,11 +17,11 @@ looked_up lowers suffix = if lowers then low suffix else suffix
 abbrev pub added : Spelling → ℕ → ℕ → ℕ → List (List ℕ) → Known
 added s count place stop name = standings s place stop (take count name) (drop count name)
 
--- the other suffix may be remembered after this one: it is not the same, and stops no earlier
+-- the other suffix may be remembered after this one: it is not equal, and stops no earlier
 abbrev pub goes_before : Spelling → Standing → Standing → Bool
 goes_before s one other = if is_same s one.suffix other.suffix then false else nat_le one.stop other.stop
 
--- no two are the same, and they stop in order
+-- no two are equal, and they stop in order
 abbrev pub in_order : Spelling → Known → Bool
 in_order s [] = true
 in_order s (one ∷ known) = list_all (goes_before s one) known && in_order s known

@@ -1,4 +1,4 @@
--- Suffixes that are to be remembered.
+-- Suffixes that will be remembered.
 use Rattle.std.specs.Prelude.{ℕ, zero, suc, ◌+◌, List, [], ◌∷◌, ◌++◌, length, map, take, ◌-◌}
 use Rattle.dns_label.specs.Name.{wire}
 use Rattle.dns_compress.specs.declared.suffix_keys.SuffixKeys.{SuffixKeys}

@@ -6,16 +6,16 @@ use Rattle.dns_label.specs.Name.{wire, labels_wire}
 use Rattle.dns_name.specs.Spelling.{Spelling, Split, split_from, is_near, place_in, pointer_to}
 use Rattle.dns_compress.specs.Tables.{added}
 
--- a name in two after so many labels
+-- a name in two after `count` labels
 abbrev pub cut_at : ℕ → List (List ℕ) → Split
 cut_at count name = record { labels = take count name; suffix = drop count name }
 
--- where a pointer to the suffix leads; none leads to the root
+-- the place that a pointer to the suffix has; none leads to the root
 abbrev pub pointed_to : Spelling → Known → List (List ℕ) → Option ℕ
 pointed_to s known [] = None
 pointed_to s known (label ∷ parent) = place_in s known (wire (label ∷ parent))
 
--- a name at a place, where so many suffixes are remembered, splits after `labels` labels of `front` octets
+-- a name at a place, with `count` suffixes remembered, splits after `labels` labels of `front` octets
 pub record IsWalked (s : Spelling) (known : Known) (count place : ℕ) (name : List (List ℕ)) (labels front : ℕ) (near : Bool) (target : Option ℕ) : Type 0 where
   pub splits : split_from s known count place name ≡ cut_at labels name
   pub long : front ≡ length (labels_wire (take labels name))
@@ -23,7 +23,7 @@ pub record IsWalked (s : Spelling) (known : Known) (count place : ℕ) (name : L
   pub reached : (stop : ℕ) → list_all (λ standing. is_near standing.place) (added s labels place stop name) ≡ near
   pub leads : target ≡ pointed_to s known (drop labels name)
 
--- the octets up to the pointer that stands in the place of the others, or all of them
+-- the octets before the pointer and the pointer, or all octets
 abbrev pub walked_text : List ℕ → ℕ → Option ℕ → List ℕ
 walked_text octets front None = octets
 walked_text octets front (Some place) = take front octets ++ pointer_to place

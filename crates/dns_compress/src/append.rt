@@ -1,4 +1,4 @@
-//! Names as they are walked over, appended to a target.
+//! Appends names to a target as a walk splits them.
 ghost use Rattle.std.specs.Prelude.{◌≡◌, ◌≤◌, ◌<◌, ◌++◌, [], Err, Some, length, take, OnOk, OnErr};
 ghost use Rattle.std.specs.Option.{ForSome};
 ghost use Rattle.dns_octets.specs.Builder.{IsWithin, IsPast};
@@ -9,7 +9,7 @@ ghost use Rattle.dns_compress.specs.Walk.{walked_text};
 use crate::walk::Walk;
 use dns_name::{AppendError, Truncate};
 
-/// Appends the octets up to where a pointer stands in their place, and the pointer; or all of them. All or nothing.
+/// Appends the octets before the pointer and the pointer, or all octets if there is no pointer. All or nothing.
 pub(crate) fn append_walked<Target: Truncate>(
     target: &mut Target,
     octets: &[u8],
@@ -34,7 +34,7 @@ pub(crate) fn append_walked<Target: Truncate>(
     }
 }
 
-/// Appends both, or none of them.
+/// Appends both, or neither.
 fn append_both<Target: Truncate>(
     target: &mut Target,
     front: &[u8],

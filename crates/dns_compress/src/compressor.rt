@@ -1,4 +1,4 @@
-//! Targets that write names with pointers to what they remember.
+//! Targets that write names with pointers to remembered suffixes.
 ghost use Rattle.std.specs.Prelude.{◌≡◌, ◌<◌, ◌≤◌, ◌+◌, ◌++◌, [], ℕ, List, Err, length, OnOk, OnErr};
 ghost use Rattle.dns_octets.specs.Builder.{IsWithin, IsPast};
 ghost use Rattle.dns_octets.specs.declared.error.AppendError.TheVariants.{ShortBuf, BadLength};
@@ -23,7 +23,7 @@ use dns_name::{
 };
 use std::alloc::Global;
 
-/// A target that remembers at most 24 suffixes, up to ASCII case, and takes no memory for them.
+/// A target that remembers at most 24 suffixes, up to ASCII case, without an allocation.
 pub type StaticCompressor<Target> = Compressor<Target, StaticTable>;
 
 /// A target that remembers any number of suffixes, octet for octet.
@@ -32,9 +32,9 @@ pub type TreeCompressor<Target> = Compressor<Target, TreeTable>;
 /// A target that remembers any number of suffixes, up to ASCII case.
 pub type HashCompressor<Target> = Compressor<Target, HashTable>;
 
-/// A target that writes names with pointers to suffixes that stand in it (RFC 1035 4.1.4).
+/// A target that writes names with pointers to suffixes already written in it (RFC 1035 4.1.4).
 ///
-/// It stands on a target that remembers nothing.
+/// It wraps a target that remembers nothing itself.
 #[derive(Drop)]
 pub struct Compressor<Target: Truncate, T: Table> {
     target: Target,
@@ -46,7 +46,7 @@ pub struct Compressor<Target: Truncate, T: Table> {
 impl<Target: Truncate> Compressor<Target, StaticTable> {
     ghost use Rattle.dns_compress.specs.Compressor.{target_in, known_in};
 
-    /// Makes a compressor that remembers nothing yet. By condition its target remembers nothing.
+    /// Makes a compressor that remembers nothing yet. The target must remember nothing.
     pub fn new(target: Target) -> Self
         requires { Target.known target ≡ [] }
         ensures target { target_in result ≡ target }
@@ -59,8 +59,8 @@ impl<Target: Truncate> Compressor<Target, StaticTable> {
 impl<Target: Truncate> Compressor<Target, TreeTable> {
     ghost use Rattle.dns_compress.specs.Compressor.{target_in, known_in};
 
-    /// Makes a compressor that remembers nothing yet. What it remembers grows on this allocator. By condition its target
-    /// remembers nothing.
+    /// Makes a compressor that remembers nothing yet. Its table grows on this allocator. The target must remember
+    /// nothing.
     pub fn new(alloc: Global, target: Target) -> Self
         requires { Target.known target ≡ [] }
         ensures target { target_in result ≡ target }
@@ -69,8 +69,7 @@ impl<Target: Truncate> Compressor<Target, TreeTable> {
         Compressor::over(target, TreeTable::new(alloc, DEFAULT_SEED))
     }
 
-    /// Makes a compressor that remembers nothing yet, as `new` does. It hashes with this seed, which changes no octet that it
-    /// writes.
+    /// As `new`, but hashes with this seed. The seed changes no octet that the compressor writes.
     pub fn with_seed(alloc: Global, target: Target, seed: u64) -> Self
         requires { Target.known target ≡ [] }
         ensures target { target_in result ≡ target }
@@ -83,8 +82,8 @@ impl<Target: Truncate> Compressor<Target, TreeTable> {
 impl<Target: Truncate> Compressor<Target, HashTable> {
     ghost use Rattle.dns_compress.specs.Compressor.{target_in, known_in};
 
-    /// Makes a compressor that remembers nothing yet. What it remembers grows on this allocator. By condition its target
-    /// remembers nothing.
+    /// Makes a compressor that remembers nothing yet. Its table grows on this allocator. The target must remember
+    /// nothing.
     pub fn new(alloc: Global, target: Target) -> Self
         requires { Target.known target ≡ [] }
         ensures target { target_in result ≡ target }
@@ -93,8 +92,7 @@ impl<Target: Truncate> Compressor<Target, HashTable> {
         Compressor::over(target, HashTable::new(alloc, DEFAULT_SEED))
     }
 
-    /// Makes a compressor that remembers nothing yet, as `new` does. It hashes with this seed, which changes no octet that it
-    /// writes.
+    /// As `new`, but hashes with this seed. The seed changes no octet that the compressor writes.
     pub fn with_seed(alloc: Global, target: Target, seed: u64) -> Self
         requires { Target.known target ≡ [] }
         ensures target { target_in result ≡ target }
@@ -107,7 +105,7 @@ impl<Target: Truncate> Compressor<Target, HashTable> {
 impl<Target: Truncate, T: Table> Compressor<Target, T> {
     ghost use Rattle.dns_compress.specs.Compressor.{target_in, octets_in, known_in};
 
-    /// Puts an empty table over the target.
+    /// Wraps the target with an empty table.
     fn over(target: Target, table: T) -> Self
         requires plain { Target.known target ≡ [] }
         requires empty { T.known table (Target.list target) ≡ [] }
@@ -117,7 +115,7 @@ impl<Target: Truncate, T: Table> Compressor<Target, T> {
         Compressor { target, table }
     }
 
-    /// Returns the target under this one, which holds the same octets and remembers nothing.
+    /// Returns the wrapped target, which holds the same octets and remembers nothing.
     pub fn as_target(&self) -> &Target
         ensures target { result.now ≡ target_in self.now }
         ensures octets { Target.list result.now ≡ octets_in self.now }
@@ -126,7 +124,7 @@ impl<Target: Truncate, T: Table> Compressor<Target, T> {
         &self.target
     }
 
-    /// Returns the target under this one, which holds the same octets and remembers nothing.
+    /// Returns the wrapped target, which holds the same octets and remembers nothing.
     pub fn into_target(self) -> Target
     where
         T: Drop,
@@ -138,7 +136,7 @@ impl<Target: Truncate, T: Table> Compressor<Target, T> {
         target
     }
 
-    /// Returns the octets.
+    /// Returns the octets of the message.
     pub fn as_slice(&self) -> &[u8]
         ensures { result.now ≡ octets_in self.now }
     {
@@ -147,7 +145,7 @@ impl<Target: Truncate, T: Table> Compressor<Target, T> {
 }
 
 impl<Target: Truncate, T: Table> Compressor<Target, T> {
-    /// Walks over the labels of a name that is to be appended, whose suffixes are looked up by those of the key.
+    /// Walks over the labels of a name to append. Its suffixes are looked up by those of the key.
     fn walk(&self, name: &Name<&[u8]>, key: &Name<&[u8]>) -> Walk
         requires { key.now ≡ looked_up T.lowers name.now }
         ensures walked { IsWalked T.spelling (T.known self.now.table (Target.list self.now.target))
@@ -158,7 +156,7 @@ impl<Target: Truncate, T: Table> Compressor<Target, T> {
         ensures near { ForSome result.target (λ place. place < 16384) }
         ensures name { IsName name.now }
     {
-        // (Their lengths tell that both have at most 255 octets.)
+        // (Calling `len` tells the prover that both have at most 255 octets.)
         let _len = name.len();
         let _key_len = key.len();
         let octets = self.target.octets();
@@ -187,7 +185,7 @@ impl<Target: Truncate, T: Table> Compressor<Target, T> {
         self.append_by(name, &name.for_ref())
     }
 
-    /// Appends the name, whose suffixes are looked up by those of the key, all or nothing.
+    /// Appends the name, all or nothing. Its suffixes are looked up by those of the key.
     fn append_by(&mut self, name: &Name<&[u8]>, key: &Name<&[u8]>) -> Result<(), AppendError>
         requires { key.now ≡ looked_up T.lowers name.now }
         ensures ok { OnOk result (Target.list self.new.target ≡ Target.list self.old.target
@@ -294,7 +292,7 @@ impl<Target: Composer, T: Table> Composer for Compressor<Target, T> {
     ghost sound = { λ all. all.sound };
 }
 
-/// Writes over octets of a target that remembers nothing.
+/// Overwrites octets of a target that remembers nothing.
 fn patch_plain<Target: Composer>(target: &mut Target, place: usize, octets: &[u8])
     requires plain { Target.known target.old ≡ [] }
     requires within { place + length octets.now ≤ length (Target.list target.old) }

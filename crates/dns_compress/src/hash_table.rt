@@ -1,4 +1,4 @@
-//! Tables of suffixes that are the same up to ASCII case.
+//! Tables of suffixes that compare up to ASCII case.
 ghost use Rattle.std.specs.Prelude.{◌≡◌, [], true, refl};
 ghost use Rattle.dns_name.specs.Spelling.{hash_spelling};
 ghost use Rattle.dns_compress.specs.Listed.{listed};
@@ -8,14 +8,14 @@ use crate::table::Table;
 use dns_name::Name;
 use std::alloc::{AllocError, Global};
 
-/// Any number of suffixes, the same up to ASCII case. They are kept in lower case.
+/// Any number of suffixes, compared up to ASCII case. They are kept in lower case.
 #[derive(Drop)]
 pub struct HashTable {
     suffixes: SuffixMap,
 }
 
 impl HashTable {
-    /// Makes a table without suffixes, which grows on this allocator and hashes with this seed.
+    /// Makes an empty table, which grows on this allocator and hashes with this seed.
     pub(crate) fn new(alloc: Global, seed: u64) -> Self
         ensures { listed result.suffixes.list ≡ [] }
     {
@@ -65,7 +65,7 @@ impl Table for HashTable {
         place: usize,
         stop: usize,
     ) {
-        // (Its length tells that a name has at most 255 octets.)
+        // (Calling `len` tells the prover that a name has at most 255 octets.)
         let _len = name.len();
         self.suffixes.remember(key, count, place, stop);
     }

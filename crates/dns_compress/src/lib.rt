@@ -1,7 +1,7 @@
-//! Targets of messages: behind their length, as TCP sends them, and with names that point to suffixes written before
+//! Targets of messages: after their length, as TCP sends them, and with names that point to suffixes written earlier
 //! (RFC 1035 4.1.4, 4.2.2).
 //!
-//! A part of `dns_message`, which hands all of it on.
+//! A part of `dns_message`, which re-exports all of it.
 #![tactic(auto)]
 
 mod append;

@@ -7,17 +7,17 @@ use std::hash::{BuildHasher, Hasher};
 /// 2^64 divided by the golden ratio.
 const MULTIPLIER: u64 = 0x9e37_79b9_7f4a_7c15;
 
-/// The seed of compressors that are given none: the first digits of pi behind the point.
+/// The default seed of compressors: the first digits of pi after the point.
 pub(crate) const DEFAULT_SEED: u64 = 0x243f_6a88_85a3_08d3;
 
-/// Makes hashers of a seed.
+/// Makes hashers from a seed.
 #[derive(Clone, Copy)]
 pub(crate) struct OctetHashing {
     seed: u64,
 }
 
 impl OctetHashing {
-    /// Makes hashers of this seed.
+    /// Makes hashers from this seed.
     pub fn new(seed: u64) -> Self
         ensures { result ≡ record { seed = seed } }
     {
@@ -40,10 +40,11 @@ impl BuildHasher for OctetHashing {
     }
 }
 
-/// A fast hasher of slices of octets, which `Hash` writes one by one: an xor and a multiplication for each, in two states in
-/// turn, so that a step need not wait for the one before.
+/// A fast hasher of slices of octets, which `Hash` writes one by one: an xor and a multiplication for each, in two
+/// states by turns, so that a step need not wait for the one before.
 ///
-/// Whoever knows the seed can pick names that collide, and a look-up then takes as long as there are suffixes in the message.
+/// Anyone who knows the seed can pick names that collide. A look-up then takes time linear in the suffixes of the
+/// message.
 #[derive(Clone, Copy)]
 pub(crate) struct OctetHasher {
     next: u64,
@@ -57,8 +58,8 @@ impl Hasher for OctetHasher {
 
     ghost finish = { finish };
 
-    /// Returns a hash of which each bit depends on all of the states, since a map takes its places from the low bits and its
-    /// tags from high ones.
+    /// Returns a hash whose bits each depend on all of both states, since a map takes its places from the low bits and
+    /// its tags from high ones.
     #[tactic(auto, unfolding(crate::specs::OctetHasher::finish))]
     fn finish(&self) -> u64 {
         let state = self.next ^ self.other.rotate_left(32);
@@ -90,7 +91,7 @@ impl Hasher for OctetHasher {
 impl OctetHasher {
     ghost use Rattle.dns_compress.specs.OctetHasher.{step};
 
-    /// Takes in an octet, or a word of eight.
+    /// Mixes in an octet, or a word of eight.
     fn step(&mut self, word: u64)
         ensures { self.new ≡ step self.old word }
     {

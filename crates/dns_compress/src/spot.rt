@@ -1,6 +1,6 @@
-//! Where suffixes stand.
+//! Places of suffixes.
 
-/// Where a suffix stands, and where its spelling stops.
+/// The place of a suffix, and the place after its spelling.
 #[derive(Clone, Copy, Default)]
 pub(crate) struct Spot {
     pub place: usize,

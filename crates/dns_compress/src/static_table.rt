@@ -1,4 +1,4 @@
-//! Tables of at most 24 suffixes, which take no memory.
+//! Tables of at most 24 suffixes, which need no allocation.
 ghost use Rattle.std.specs.Prelude.{◌≡◌, ⊤, false, ◌≤◌, ◌<◌, ◌+◌, ◌++◌, ◌↔◌, ◌^◌, [], List, ℕ, IsTrue, IfOk, OnErr, length};
 ghost use Rattle.dns_name.specs.ParsedName.{labels_of};
 ghost use Rattle.dns_name.specs.Remembered.{IsSound};
@@ -14,14 +14,15 @@ use arrayvec::ArrayVec;
 use dns_name::{Name, ParseError, ParsedName, Parser, ToName};
 use std::alloc::AllocError;
 
-/// At most 24 suffixes, the same up to ASCII case. They are compared as they stand in the octets.
+/// At most 24 suffixes, compared up to ASCII case. They are compared in the octets of the message; the table keeps
+/// their places.
 #[derive(Drop)]
 pub struct StaticTable {
     written: ArrayVec<Spot, 24>,
 }
 
 impl StaticTable {
-    /// Makes a table without suffixes.
+    /// Makes an empty table.
     pub(crate) fn new() -> Self
         ensures { result.written.items ≡ [] }
     {
@@ -30,7 +31,7 @@ impl StaticTable {
         }
     }
 
-    /// Adds where the suffixes of the name stand that begin with one of its first labels.
+    /// Adds the places of the suffixes of the name that begin with one of its first `count` labels.
     fn push_all(&mut self, name: &Name<&[u8]>, count: usize, place: usize, stop: usize)
         requires few { length self.old.written.items + length (added static_spelling count place stop name.now) ≤ 24 }
         requires room { place + length (wire name.now) < 2 ^ 64 }
@@ -47,12 +48,12 @@ impl StaticTable {
     }
 }
 
-/// Returns the first of these places where a name is read that is the same as the suffix, up to ASCII case.
+/// Returns the first of these places at which a name is read that equals the suffix, up to ASCII case.
 fn find_among(octets: &[u8], written: &[Spot], suffix: &Name<&[u8]>) -> Option<usize>
     requires { ∥ IsSound static_spelling (read_all octets.now written.now) octets.now ∥₁ }
     ensures { result ≡ place_in static_spelling (read_all octets.now written.now) (wire suffix.now) }
 {
-    // (Its length tells that the suffix is a name.)
+    // (Calling `len` tells the prover that the suffix is a name.)
     let _len = suffix.len();
     for spot in written {
         if is_same_at(octets, spot.place, suffix) {
@@ -62,7 +63,7 @@ fn find_among(octets: &[u8], written: &[Spot], suffix: &Name<&[u8]>) -> Option<u
     None
 }
 
-/// Returns whether the name that is read at the place is the same as the suffix, up to ASCII case.
+/// Returns whether the name that is read at the place equals the suffix, up to ASCII case.
 fn is_same_at(octets: &[u8], place: usize, suffix: &Name<&[u8]>) -> bool
     ensures { (name : List (List ℕ)) (next : ℕ) → Reads octets.now place name next → IsTrue result ↔ (low name ≡ low suffix.now) }
 {
@@ -72,7 +73,7 @@ fn is_same_at(octets: &[u8], place: usize, suffix: &Name<&[u8]>) -> bool
     }
 }
 
-/// Reads the name at the place. Fails if no name is spelled there.
+/// Parses the name at the place. Fails if no name is spelled there.
 fn name_at(octets: &[u8], place: usize) -> Result<ParsedName<&[u8]>, ParseError>
     ensures ok { IfOk result (λ read. (name : List (List ℕ)) (next : ℕ) → Reads octets.now place name next → labels_of read ≡ name) }
     ensures err { OnErr result ((name : List (List ℕ)) (next : ℕ) → Reads octets.now place name next → ⊥) }

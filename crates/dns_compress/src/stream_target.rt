@@ -1,4 +1,4 @@
-//! Messages as DNS sends them over TCP (RFC 1035 4.2.2, RFC 7766 8).
+//! Messages as TCP carries them (RFC 1035 4.2.2, RFC 7766 8).
 //!
 //! ```text
 //! +--------+--------+-----------------+
@@ -18,11 +18,11 @@ use dns_name::Composer;
 use dns_octets::{AppendError, Octets, OctetsBuilder, Remembers, Truncate};
 use std::alloc::Global;
 
-/// A target for a message of at most 65,535 octets, which stands after its length in two octets.
+/// A target for a message of at most 65,535 octets, after its length in two octets.
 ///
-/// Its octets are the message without the length. The length is right after each call, and a call that fails leaves both
-/// as they were. By condition the target under it does not compress: its pointers would count from the length's octets.
-/// So names are written in full, and a compressor goes on top.
+/// Its octets are the message without the length. The length is right after each call, and a call that fails leaves
+/// both as they were. The wrapped target must not compress: its pointers would count from the octets of the length. So
+/// names are written in full; to compress, wrap a stream target in a compressor.
 #[derive(Debug, Drop)]
 pub struct StreamTarget<Target: Composer> {
     target: Target,
@@ -50,11 +50,10 @@ impl StreamTarget<Vec<u8>> {
 impl<Target: Composer> StreamTarget<Target> {
     ghost use Rattle.dns_compress.specs.StreamTarget.{target_in, message_in};
 
-    /// Empties the target, and returns a stream target with an empty message in it. By condition the target does not
-    /// compress.
+    /// Empties the target, and returns a stream target with an empty message in it. The target must not compress.
     ///
-    /// Fails with `ShortBuf` only if the target may not hold the two octets of the length, and with `OutOfMemory` if out of
-    /// memory.
+    /// Fails with `ShortBuf` only if the target may not hold the two octets of the length, and with `OutOfMemory` if
+    /// out of memory.
     pub fn new(mut target: Target) -> Result<Self, AppendError>
     where
         Target: Drop,
@@ -71,7 +70,7 @@ impl<Target: Composer> StreamTarget<Target> {
         Ok(StreamTarget { target })
     }
 
-    /// Returns the target under this one, which holds the length and then the message.
+    /// Returns the wrapped target, which holds the length and then the message.
     pub fn as_target(&self) -> &Target
         ensures target { result.now ≡ target_in self.now }
         ensures octets { Target.list result.now ≡ frame (message_in Target.list self.now) }
@@ -80,7 +79,7 @@ impl<Target: Composer> StreamTarget<Target> {
         &self.target
     }
 
-    /// Returns the target under this one, which holds the length and then the message.
+    /// Returns the wrapped target, which holds the length and then the message.
     pub fn into_target(self) -> Target
         ensures target { result ≡ target_in self }
         ensures octets { Target.list result ≡ frame (message_in Target.list self) }
@@ -106,7 +105,7 @@ impl<Target: Composer> StreamTarget<Target> {
     }
 }
 
-/// Writes into the first two octets how many octets follow them.
+/// Writes the number of the octets that follow into the first two octets.
 fn write_length<Target: Composer>(target: &mut Target)
     requires some { 2 ≤ length (Target.list target.old) }
     requires few { length (drop 2 (Target.list target.old)) ≤ 65535 }

@@ -1,9 +1,9 @@
-//! Keys of suffixes that are to be remembered.
+//! Keys of suffixes that will be remembered.
 ghost use Rattle.std.specs.Prelude.{◌≡◌, ◌++◌, ◌∷◌, [], length, IfSome, IfNone, OnOk};
 
 use std::alloc::{AllocError, Global};
 
-/// The octets of suffixes that are to be remembered, each in memory of its own.
+/// The octets of suffixes that will be remembered, each in its own allocation.
 #[derive(Drop)]
 pub(crate) struct SuffixKeys {
     alloc: Global,
@@ -13,7 +13,7 @@ pub(crate) struct SuffixKeys {
 impl SuffixKeys {
     ghost use Rattle.dns_compress.specs.Waiting.{waiting};
 
-    /// Makes no keys yet. They are to be made on this allocator.
+    /// Makes an empty list of keys, which are allocated on this allocator.
     pub fn new(alloc: Global) -> Self
         ensures { waiting result ≡ [] }
     {
@@ -30,14 +30,14 @@ impl SuffixKeys {
         self.keys.len()
     }
 
-    /// Takes out all keys.
+    /// Removes all keys.
     pub fn clear(&mut self)
         ensures { waiting self.new ≡ [] }
     {
         self.keys.clear();
     }
 
-    /// Puts a key with these octets last. Fails if out of memory.
+    /// Appends a key with these octets. Fails if out of memory.
     pub fn push(&mut self, suffix: &[u8]) -> Result<(), AllocError>
         ensures { OnOk result (waiting self.new ≡ waiting self.old ++ suffix.now ∷ []) }
     {
@@ -46,7 +46,7 @@ impl SuffixKeys {
         Ok(())
     }
 
-    /// Takes the last key.
+    /// Removes the last key and returns it.
     pub fn pop(&mut self) -> Option<Vec<u8>>
         ensures some { IfSome result (λ key. waiting self.old ≡ waiting self.new ++ key.items ∷ []) }
         ensures none { IfNone result (waiting self.old ≡ []) }

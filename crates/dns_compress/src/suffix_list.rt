@@ -1,4 +1,4 @@
-//! Suffixes in order of writing.
+//! Suffixes in the order of writing.
 ghost use Rattle.std.specs.Prelude.{◌≡◌, ◌≤◌, ◌+◌, ◌-◌, ◌++◌, ◌∷◌, [], List, ℕ, length, take, IfSome, IfNone, OnOk, OnErr};
 ghost use Rattle.dns_octets.specs.Builder.{Standing, Known};
 ghost use Rattle.dns_compress.specs.Joined.{total};
@@ -6,7 +6,7 @@ ghost use Rattle.dns_compress.specs.Joined.{total};
 use crate::written::Written;
 use std::alloc::{AllocError, Global};
 
-/// Suffixes in order of writing. Their octets stand one after another.
+/// Suffixes in the order of writing. Their octets are stored back to back.
 #[derive(Drop)]
 pub(crate) struct SuffixList {
     octets: Vec<u8>,
@@ -25,7 +25,7 @@ pub(crate) struct Suffix<'a> {
 impl SuffixList {
     ghost use Rattle.dns_compress.specs.Listed.{listed, HasRoom};
 
-    /// Makes a list without suffixes, which grows on this allocator.
+    /// Makes an empty list, which grows on this allocator.
     pub fn new(alloc: Global) -> Self
         ensures { listed result ≡ [] }
     {
@@ -35,7 +35,7 @@ impl SuffixList {
         }
     }
 
-    /// Returns where the first suffix stops, or 0 if there is none.
+    /// Returns the place after the first suffix, or 0 if there is none.
     pub fn first_stop(&self) -> usize
         ensures none { listed self.now ≡ [] → result ≡ 0 }
         ensures some { (first : Standing) (known : Known) → listed self.now ≡ first ∷ known → result ≡ first.stop }
@@ -61,7 +61,7 @@ impl SuffixList {
         })
     }
 
-    /// Takes the last suffix off.
+    /// Removes the last suffix.
     pub fn pop(&mut self)
         ensures { listed self.new ≡ take (length (listed self.old) - 1) (listed self.old) }
     {
@@ -71,7 +71,7 @@ impl SuffixList {
         }
     }
 
-    /// Takes all suffixes off.
+    /// Removes all suffixes.
     pub fn clear(&mut self)
         ensures { listed self.new ≡ [] }
     {
@@ -79,7 +79,7 @@ impl SuffixList {
         self.written.clear();
     }
 
-    /// Makes room for so many suffixes with so many octets. Fails if out of memory.
+    /// Reserves room for `count` suffixes with `octets` octets in all. Fails if out of memory.
     pub fn reserve(&mut self, count: usize, octets: usize) -> Result<(), AllocError>
         ensures same { listed self.new ≡ listed self.old }
         ensures room { OnOk result (HasRoom self.new count octets) }
@@ -89,7 +89,7 @@ impl SuffixList {
         Ok(())
     }
 
-    /// Puts the suffix with these octets last.
+    /// Appends the suffix with these octets. There must be room.
     pub fn push(&mut self, suffix: &[u8], place: usize, stop: usize)
         requires { HasRoom self.old 1 (length suffix.now) }
         ensures last { listed self.new ≡ listed self.old ++ record { suffix = suffix.now; place = place; stop = stop } ∷ [] }

@@ -18,7 +18,7 @@ use dns_name::Name;
 use std::alloc::{AllocError, Global};
 use std::collections::HashMap;
 
-/// Where each suffix stands, by its octets, and the suffixes in order of writing; and keys for those that come next.
+/// The place of each suffix, by its octets; the suffixes in the order of writing; and keys for the next ones.
 #[derive(Drop)]
 pub(crate) struct SuffixMap {
     places: HashMap<Vec<u8>, usize, OctetHashing>,
@@ -31,7 +31,7 @@ pub(crate) struct SuffixMap {
 impl SuffixMap {
     ghost use Rattle.dns_compress.specs.Ready.{IsReady};
 
-    /// Makes a map without suffixes, which grows on this allocator and hashes with this seed.
+    /// Makes an empty map, which grows on this allocator and hashes with this seed.
     pub fn new(alloc: Global, seed: u64) -> Self
         ensures { listed result.list ≡ [] }
     {
@@ -49,7 +49,8 @@ impl SuffixMap {
         self.places.get(suffix).copied()
     }
 
-    /// Makes keys and room for the suffixes of the name that begin with one of its first labels. Fails if out of memory.
+    /// Makes keys and room for the suffixes of the name that begin with one of its first `count` labels. Fails if out
+    /// of memory.
     pub fn reserve(&mut self, name: &Name<&[u8]>, count: usize) -> Result<(), AllocError>
         requires { count ≤ 255 }
         ensures room { OnOk result (IsReady self.new (suffixes_of count name.now)) }
@@ -62,7 +63,7 @@ impl SuffixMap {
         self.list.reserve(count, octets)
     }
 
-    /// Adds the suffixes of the name that begin with one of its first labels. By condition there is room.
+    /// Adds the suffixes of the name that begin with one of its first `count` labels. There must be room.
     pub fn remember(&mut self, name: &Name<&[u8]>, count: usize, place: usize, stop: usize)
         requires ready { IsReady self.old (suffixes_of count name.now) }
         requires order { in_order tree_spelling (listed self.old.list ++ added tree_spelling count place stop name.now) ≡ true }
@@ -79,7 +80,7 @@ impl SuffixMap {
         self.remember(&parent, count - 1, place + 1 + label.len(), stop);
     }
 
-    /// Adds the suffix with these octets, of which the last key is. By condition there is room.
+    /// Adds the suffix with these octets, which must be those of the last key. There must be room.
     fn push(&mut self, suffix: &[u8], place: usize, stop: usize)
         requires ready { IsReady self.old (front_of (waiting self.old.keys) ++ suffix.now ∷ []) }
         requires order { in_order tree_spelling (listed self.old.list ++ record { suffix = suffix.now; place = place; stop = stop } ∷ []) ≡ true }
@@ -93,7 +94,7 @@ impl SuffixMap {
         self.list.push(suffix, place, stop);
     }
 
-    /// Takes out the suffixes that stop behind the length. Takes no memory.
+    /// Removes the suffixes that stop after the length. Needs no allocation.
     pub fn cut(&mut self, len: usize)
         ensures { listed self.new.list ≡ before len (listed self.old.list) }
     {
@@ -104,7 +105,7 @@ impl SuffixMap {
         while self.pop_behind(len) {}
     }
 
-    /// Takes out all suffixes.
+    /// Removes all suffixes.
     fn clear(&mut self)
         ensures { listed self.new.list ≡ [] }
     {
@@ -112,7 +113,7 @@ impl SuffixMap {
         self.list.clear();
     }
 
-    /// Takes out the last suffix if it stops behind the length. Returns whether it does.
+    /// Removes the last suffix if it stops after the length. Returns whether it does.
     fn pop_behind(&mut self, len: usize) -> bool
         ensures same { before len (listed self.new.list) ≡ before len (listed self.old.list) }
         ensures less { result ≡ true → length (listed self.new.list) < length (listed self.old.list) }
@@ -130,8 +131,8 @@ impl SuffixMap {
     }
 }
 
-/// Makes keys for the suffixes of the name that begin with one of its first labels, the first one last. Returns how many octets
-/// they have. Fails if out of memory.
+/// Makes keys for the suffixes of the name that begin with one of its first `count` labels, the first suffix last.
+/// Returns how many octets they have. Fails if out of memory.
 fn push_keys(keys: &mut SuffixKeys, name: &Name<&[u8]>, count: usize) -> Result<usize, AllocError>
     requires { count ≤ 255 }
     ensures keys { OnOk result (waiting keys.new ≡ waiting keys.old ++ suffixes_of count name.now) }
@@ -149,7 +150,7 @@ fn push_keys(keys: &mut SuffixKeys, name: &Name<&[u8]>, count: usize) -> Result<
     Ok(octets + name.len())
 }
 
-/// Makes room for so many suffixes. Fails if out of memory.
+/// Reserves room for `count` suffixes more. Fails if out of memory.
 fn grow(places: &mut HashMap<Vec<u8>, usize, OctetHashing>, count: usize) -> Result<(), AllocError>
     ensures room { OnOk result (count ≤ spare places.new) }
     ensures same { (q : List ℕ) → place_of places.new q ≡ place_of places.old q }
@@ -157,7 +158,7 @@ fn grow(places: &mut HashMap<Vec<u8>, usize, OctetHashing>, count: usize) -> Res
     places.reserve(count)
 }
 
-/// Puts the suffix at the place. By condition there is room.
+/// Sets the place of the suffix. There must be room.
 fn put(places: &mut HashMap<Vec<u8>, usize, OctetHashing>, suffix: Vec<u8>, place: usize)
     requires { 0 < spare places.old }
     ensures place { (q : List ℕ) → place_of places.new q ≡ cond (pointwise nat_eq suffix.items q) (Some place) (place_of places.old q) }
@@ -169,7 +170,7 @@ fn put(places: &mut HashMap<Vec<u8>, usize, OctetHashing>, suffix: Vec<u8>, plac
     }
 }
 
-/// Takes the suffix out.
+/// Removes the suffix.
 fn take(places: &mut HashMap<Vec<u8>, usize, OctetHashing>, suffix: &[u8])
     ensures { (q : List ℕ) → place_of places.new q ≡ cond (pointwise nat_eq suffix.now q) None (place_of places.old q) }
 {

@@ -1,4 +1,4 @@
-//! Tables of the suffixes that are remembered.
+//! Tables of remembered suffixes.
 ghost use Rattle.std.specs.Prelude.{◌≡◌, ◌≤◌, ◌<◌, ◌+◌, ◌++◌, ◌^◌, List, ℕ, Bool, length, take, OnOk};
 ghost use Rattle.dns_octets.specs.Builder.{Known, Standing, before};
 ghost use Rattle.dns_label.specs.Name.{IsName, wire};
@@ -9,10 +9,10 @@ ghost use Rattle.dns_compress.specs.Tables.{added, looked_up};
 use dns_name::Name;
 use std::alloc::AllocError;
 
-/// What suffixes of names are looked up in.
+/// The suffixes of names that a compressor remembers.
 ///
-/// A table may keep no more of a suffix than where it stands. So what it remembers is said of the table and of the octets
-/// that it remembers suffixes of.
+/// A table may keep no more of a suffix than its place. So what it remembers is a function of the table and of the
+/// octets of the message.
 pub trait Table {
     ghost spelling: { Spelling };
 
@@ -23,17 +23,18 @@ pub trait Table {
     /// Whether there is memory for the suffixes of a name that begin with one of its first labels, by the key.
     ghost has_room: { Self → ℕ → List (List ℕ) → Type 0 };
 
-    /// Returns whether suffixes are looked up in lower case, and not as they are.
+    /// Returns whether suffixes are looked up in lower case, rather than as they are.
     fn lowers(&self) -> bool
         ensures { result ≡ lowers };
 
-    /// Returns where the suffix stands that is looked up by this key, if it is remembered.
+    /// Returns the place of the suffix that is looked up by this key, if it is remembered.
     fn find(&self, octets: &[u8], key: &Name<&[u8]>) -> Option<usize>
         requires { ∥ IsSound spelling (known self.now octets.now) octets.now ∥₁ }
         ensures { (suffix : List (List ℕ)) → IsName suffix → key.now ≡ looked_up lowers suffix
             → result ≡ place_in spelling (known self.now octets.now) (wire suffix) };
 
-    /// Returns whether a suffix may be remembered at the place, where so many more are.
+    /// Returns whether a suffix may be remembered at the place, if `more` suffixes are remembered besides those of the
+    /// table.
     fn may_stand(&self, more: usize, place: usize) -> bool
         requires { more ≤ 255 }
         ensures { (octets : List ℕ) → result ≡ may_stand spelling (length (known self.now octets) + more) place };
@@ -42,15 +43,16 @@ pub trait Table {
     fn can_compress(&self) -> bool
         ensures { result ≡ compresses spelling };
 
-    /// Takes what memory it needs to remember the suffixes of a name that begin with one of its first labels, where its suffixes
-    /// are looked up by those of the key. Remembers none of them yet. Fails if out of memory.
+    /// Reserves the memory to remember the suffixes of a name that begin with one of its first `count` labels. The key
+    /// is the form of the name that suffixes are looked up by. Remembers none of them yet. Fails if out of memory.
     fn reserve(&mut self, key: &Name<&[u8]>, count: usize) -> Result<(), AllocError>
         requires { count ≤ 255 }
         ensures room { OnOk result (has_room self.new count key.now) }
         ensures same { (octets : List ℕ) → known self.new octets ≡ known self.old octets };
 
-    /// Remembers the suffixes of a name that begin with one of its first labels, where its suffixes are looked up by those of
-    /// the key. The name is spelled from the place on and stops at `stop`. Takes no memory: by condition there is room.
+    /// Remembers the suffixes of a name that begin with one of its first `count` labels. The key is the form of the
+    /// name that suffixes are looked up by. The name is spelled from `place` up to `stop`. Needs no allocation: there
+    /// must be room.
     fn remember(
         &mut self,
         octets: &[u8],
@@ -68,7 +70,7 @@ pub trait Table {
         requires behind { place < stop }
         ensures { known self.new octets.now ≡ known self.old octets.now ++ added spelling count place stop name.now };
 
-    /// Forgets the suffixes that stop behind the length.
+    /// Forgets the suffixes that stop after the length.
     fn forget(&mut self, len: usize)
         ensures { (octets : List ℕ) → ∥ IsSound spelling (known self.old octets) octets ∥₁
             → known self.new (take len octets) ≡ before len (known self.old octets) };

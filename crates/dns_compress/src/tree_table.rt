@@ -1,4 +1,4 @@
-//! Tables of suffixes that are the same octet for octet.
+//! Tables of suffixes that compare octet for octet.
 ghost use Rattle.std.specs.Prelude.{◌≡◌, [], false, refl};
 ghost use Rattle.dns_name.specs.Spelling.{tree_spelling};
 ghost use Rattle.dns_compress.specs.Listed.{listed};
@@ -8,14 +8,14 @@ use crate::table::Table;
 use dns_name::Name;
 use std::alloc::{AllocError, Global};
 
-/// Any number of suffixes, the same octet for octet.
+/// Any number of suffixes, compared octet for octet.
 #[derive(Drop)]
 pub struct TreeTable {
     suffixes: SuffixMap,
 }
 
 impl TreeTable {
-    /// Makes a table without suffixes, which grows on this allocator and hashes with this seed.
+    /// Makes an empty table, which grows on this allocator and hashes with this seed.
     pub(crate) fn new(alloc: Global, seed: u64) -> Self
         ensures { listed result.suffixes.list ≡ [] }
     {

@@ -1,4 +1,4 @@
-//! How much of a name is written by its labels.
+//! How much of a name is written label by label.
 ghost use Rattle.std.specs.Prelude.{◌≡◌, ◌≤◌, ◌<◌, ◌+◌, ◌^◌, ◌&&◌, List, ℕ, length, true};
 ghost use Rattle.dns_label.specs.Name.{IsName, wire};
 ghost use Rattle.dns_name.specs.Spelling.{is_near};
@@ -12,13 +12,13 @@ use dns_name::Name;
 /// How a name is written: its first labels one by one, and then the rest of it or a pointer.
 #[derive(Clone, Copy)]
 pub(crate) struct Walk {
-    /// How many labels are written one by one, those of a rest in full not counted.
+    /// How many labels are written one by one, not counting those of a rest in full.
     pub labels: usize,
-    /// How many octets these labels have with their lengths.
+    /// How many octets these labels have, with their length octets.
     pub front: usize,
     /// Whether a pointer reaches each of them.
     pub near: bool,
-    /// Where the pointer leads, or None if the rest of the name is written in full.
+    /// The target of the pointer, or None if the rest of the name is written in full.
     pub target: Option<usize>,
 }
 
@@ -35,7 +35,7 @@ impl Walk {
         }
     }
 
-    /// A label of so many octets at the place, and then these.
+    /// A label of `len` octets with its length octet, at the place, and then the labels of this walk.
     fn after(self, len: usize, place: usize) -> Self
         requires labels { self.labels < 2 ^ 63 }
         requires front { len + self.front < 2 ^ 63 }
@@ -50,8 +50,8 @@ impl Walk {
     }
 }
 
-/// Walks over the labels of a name from the place on, up to a suffix that is remembered or cannot be. Its suffixes are looked
-/// up by those of the key.
+/// Walks over the labels of a name from the place on, up to the first suffix that is remembered, or that may not be
+/// remembered. Its suffixes are looked up by those of the key.
 pub(crate) fn walk_labels<T: Table>(
     table: &T,
     octets: &[u8],

@@ -1,4 +1,4 @@
--- What is written in front of a record's data, and then the data.
+-- A record header is written, and then the data.
 use Rattle.std.proofs.Common.{◌≡◌, ℕ, List, ◌++◌, length, refl, ◌∙◌, ap, arith, length-append}
 use Rattle.std.specs.Prelude.{Result, Ok, Err, Option, OnOk, OnErr}
 use Rattle.dns_octets.specs.Builder.{Known, GrowsTo, IsPast}
@@ -14,7 +14,7 @@ pub on_ok : {T E P Q : Type 0} (result : Result T E) → (P → Q) → OnOk resu
 on_ok (Ok value) then fact = then fact
 on_ok (Err error) then fact = _
 
--- a name and octets behind it
+-- a name and octets after it
 pub front-is : (s : Spelling) (octets : List ℕ) (known : Known) (name : List (List ℕ)) (more : List ℕ) {middle new : List ℕ} {known_middle known_new : Known}
     → middle ≡ octets ++ name_text s known (length octets) name → known_middle ≡ known_after s known (length octets) name
     → new ≡ middle ++ more → known_new ≡ known_middle
@@ -31,7 +31,7 @@ unfolding write
 past_name s octets known name more bound =
     IsPast-more bound _ _ (omega (arith, length-append (octets ++ name_text s known (length octets) name) more))
 
--- the data behind that
+-- the data after that
 pub whole-is : (s : Spelling) (page middle new : Page) (name : List (List ℕ)) (more : List ℕ) (data' : Parts)
     → middle ≡ write s page (Named name (Octets more End)) → new ≡ write s middle (Counted data' End)
     → new ≡ write s page (Named name (Octets more (Counted data' End)))

@@ -29,7 +29,7 @@ number set = if set then 1 else 0
 is_number : (n : ℕ) → n % 2 ≡ number (n % 2 == 1)
 is_number n = grind arith
 
--- fields with those that the bits of a third or fourth octet say
+-- fields with those of the bits of a third or fourth octet
 abbrev with_third : HeaderFields → (ℕ → Bool) → HeaderFields
 with_third f s = record f {
   qr = s 7;
@@ -73,11 +73,11 @@ third_by_bits a b x d small = λ i. record (with_third (fields_of (a ∷ b ∷ 0
 fourth_by_bits : (a b x d : ℕ) → fields_of (a ∷ b ∷ x ∷ d ∷ []) ≡ with_fourth (fields_of (a ∷ b ∷ x ∷ 0 ∷ [])) (has d)
 fourth_by_bits a b x d = λ i. record (with_fourth (fields_of (a ∷ b ∷ x ∷ 0 ∷ [])) (has d)) { rcode = low_bits d i }
 
--- an octet of which one bit is set or cleared
+-- an octet with one bit set or cleared
 abbrev with : ℕ → Bool → (ℕ → Bool) → ℕ → Bool
 with bit set s i = if i == bit then set else s i
 
--- eight bits say all of them
+-- eight bits determine all of them
 third_bits : (f : HeaderFields) (s t : ℕ → Bool) → ((i : ℕ) → i < 8 → s i ≡ t i) → with_third f s ≡ with_third f t
 third_bits f s t same =
     simp (
@@ -112,7 +112,7 @@ four_octets (a ∷ (b ∷ [])) four = absurd (omega (arith, four))
 four_octets (a ∷ (b ∷ (c ∷ []))) four = absurd (omega (arith, four))
 four_octets (a ∷ (b ∷ (c ∷ (d ∷ (e ∷ rest))))) four = absurd (omega (arith, four))
 
--- How the fields of a header change where one bit of its third octet does: `is` says it of the bits.
+-- How the fields of a header change if one bit of its third octet does: `is` gives the bits.
 in_third : (change : HeaderFields → HeaderFields) (bit : ℕ) (set : Bool)
     → ((f : HeaderFields) (s : ℕ → Bool) → with_third f (with bit set s) ≡ change (with_third f s))
     → (xs ys : List ℕ) → ChangesBit 2 bit set xs ys → fields_of ys ≡ change (fields_of xs)
@@ -128,7 +128,7 @@ in_third change bit set is xs ys changes =
     (third_by_bits a b y d changes.sets.is_octet ∙ third_bits f (has y) (with bit set (has x)) changes.sets.bits ∙ is f (has x)
     ∙ ap change (sym (third_by_bits a b x d changes.sets.was_octet)))
 
--- the same of its fourth
+-- the same for its fourth
 in_fourth : (change : HeaderFields → HeaderFields) (bit : ℕ) (set : Bool)
     → ((f : HeaderFields) (s : ℕ → Bool) → with_fourth f (with bit set s) ≡ change (with_fourth f s))
     → (xs ys : List ℕ) → ChangesBit 3 bit set xs ys → fields_of ys ≡ change (fields_of xs)

@@ -1,4 +1,4 @@
--- The text of flags, word for word.
+-- The text of flags, word by word.
 use Rattle.std.proofs.Common.{◌≡◌, ℕ, Bool, true, false, List, [], ◌∷◌, ◌++◌, map, filter, refl, sym, ap, subst, append-nil}
 use Rattle.std.specs.Prelude.{◌||◌, flat_map, codes}
 use Rattle.std.specs.Fmt.{HasWritten}
@@ -12,7 +12,7 @@ use Rattle.dns_header.specs.declared.header.flags.Flags.{Flags}
 abbrev chosen : List (List ℕ × Bool) → List (List ℕ)
 chosen rows = map (λ row. row.0) (filter (λ row. row.1) rows)
 
--- the same as text, where `behind` says that a word stands in front
+-- the same as text, where `behind` tells whether a word precedes
 abbrev texts : Bool → List (List ℕ × Bool) → List ℕ
 texts behind [] = []
 texts behind (row ∷ rows) = word_text behind row.1 row.0 ++ texts (behind || row.1) rows
@@ -31,7 +31,7 @@ pub flags_written : (f : Flags) → texts false (words_of f) ≡ flags_text f
 unfolding flags_text
 flags_written f = texts_spaced (words_of f)
 
--- seven words that are written one behind the other
+-- seven words that are written one after another
 pub flags_put : {W : Type 0} (took : W → List ℕ → W → Type 0) (f : Flags) (f0 f1 f2 f3 f4 f5 f6 f7 : Formatter W)
     → HasWritten took f0 (word_text false f.qr (codes "QR")) f1
     → HasWritten took f1 (word_text f.qr f.aa (codes "AA")) f2

@@ -1,9 +1,9 @@
--- The header of an answer says what it was made of.
+-- The header of an answer has the fields that it was made from.
 use Rattle.std.proofs.Common.{◌≡◌, ℕ, ◌<◌, ◌^◌, List, ◌++◌, Bool, true, false, refl}
 use Rattle.std.proofs.lemmas.Nat.{from_be_bytes-to_be_bytes_2}
 use Rattle.dns_header.specs.Header.{answer_header, id_of, is_response, opcode_of, recursion_desired, rcode_of, question_count, answer_count, authority_count, additional_count}
 
--- what the header of a message says, where the message begins as an answer does
+-- the header fields of a message that begins as an answer does
 pub record SaysAnswer (message : List ℕ) (id : ℕ) (recursion : Bool) (answers : ℕ) : Type 0 where
   pub id_is : id_of message ≡ id
   pub response : is_response message ≡ true

@@ -1,4 +1,4 @@
--- What is no record, or no record's head.
+-- When there is no record, or no record header.
 use Rattle.std.proofs.Common.{◌≡◌, ◌+◌, ◌<◌, ℕ, Bool, true, List, length, take, drop, arith, sym, subst, ◌∙◌, ap, inl, inr}
 use Rattle.std.specs.Int.{from_be_bytes, w32}
 use Rattle.std.specs.Prelude.{◌↔◌, Result, Ok, Err, OnErr, IfErr}
@@ -13,21 +13,21 @@ use Rattle.dns_header.specs.Head.WholeIsCut.{in_head, in_data}
 use Rattle.dns_header.specs.Record.{NoData, DataIsRefused}
 use Rattle.dns_header.specs.ParsedRecord.{NoRecord}
 
--- a clause about any error
+-- a clause that holds for any error
 pub on_err : {T E P : Type 0} (result : Result T E) → P → OnErr result P
 on_err (Ok value) is = _
 on_err (Err error) is = is
 
--- fewer than ten octets stand behind the owner
+-- fewer than ten octets follow the owner
 pub no_head : {message : List ℕ} {place behind : ℕ} {name : List (List ℕ)}
     → Reads message place name behind → length message < behind + 10 → NoHead message place
 no_head owner short head next is = omega (arith, short, is.whole, (reads_one owner is.owner).1)
 
--- without a head there is no record
+-- without a record header there is no record
 pub no_whole : {message : List ℕ} {place : ℕ} → NoHead message place → NoWhole message place
 no_whole none head data_place next is = none head data_place is.reads
 
--- fewer octets stand behind the head than the data has
+-- the data has more octets than follow the header
 pub cut_data : {message : List ℕ} {place behind : ℕ} {head : Head (List (List ℕ))} → ReadsHead message place head behind
     → length message < behind + head.data_len → NoWhole message place
 cut_data {message} read short other data_place next is =
@@ -35,7 +35,7 @@ cut_data {message} read short other data_place next is =
     let len = read.data_len ∙ ap (λ p. number_at message (p + 8)) same ∙ sym is.reads.data_len in
     omega (arith, short, is.ends, is.within, read.ends, is.reads.ends, same, len)
 
--- an error that says so of a head says so of the record: without a head there is no data either
+-- an error of the header is one of the record: without a header there is no data either
 pub cut_whole : {message : List ℕ} {place : ℕ} {P : Type 0} → NoHead message place → (P → HeadIsCut message place) × (HeadIsCut message place → P)
     → (P → WholeIsCut message place) × (WholeIsCut message place → P)
 cut_whole {message} {place} {P} none told = (λ is. in_head (told.0 is), back)
@@ -44,13 +44,13 @@ cut_whole {message} {place} {P} none told = (λ is. in_head (told.0 is), back)
     back (in_head cut) = told.1 cut
     back (in_data head data_place reads short) = absurd (none head data_place reads)
 
--- what is said of an error holds of the answer that hands it on
+-- what holds of an error holds of the result that returns it
 pub told_of : {T W : Type 0} (result : Result T ParseError) (error : ParseError) → IsErrAnd result (λ e. e ≡ error)
     → (error ≡ ShortInput → W) × (W → error ≡ ShortInput) → IfErr result (λ e. (e ≡ ShortInput) ↔ W)
 told_of (Ok value) error gives told = _
 told_of (Err e) error gives told = (λ is. told.0 (sym gives ∙ is), λ w. gives ∙ told.1 w)
 
--- a message has one head at a place
+-- a message has at most one record header at a place
 pub heads_one : {message : List ℕ} {place here there : ℕ} {one other : Head (List (List ℕ))} → ReadsHead message place one here
     → ReadsHead message place other there → (one ≡ other) × (here ≡ there)
 heads_one {message} {one = one} {other = other} first second = (heads, first.ends ∙ ap (λ n. n + 10) same ∙ sym second.ends)
@@ -76,7 +76,7 @@ heads_one {message} {one = one} {other = other} first second = (heads, first.end
     heads : one ≡ other
     heads = λ i. record { owner = owners i; rtype = rtypes i; class = classes i; ttl = ttls i; data_len = lens i }
 
--- data behind a head is refused: then the record is
+-- if the data after a header is not parsed, neither is the record
 pub record_refused : {Data : Type 0} (takes : ℕ → Bool) (reads : List ℕ → ℕ → ℕ → Data → Type 0) {message : List ℕ} {place here : ℕ}
     {head : Head (List (List ℕ))} → ReadsHead message place head here → DataIsRefused takes reads message here head.rtype head.data_len
     → NoRecord takes reads message place

@@ -1,4 +1,4 @@
--- Octets that are options, and the options that they are.
+-- Octets that are options, and these options.
 use Rattle.std.proofs.Common.{◌≡◌, ◌≤◌, ◌<◌, ◌+◌, ◌^◌, ℕ, zero, suc, List, [], ◌∷◌, ◌++◌, length, take, drop, refl, sym, ◌∙◌, ap, subst, arith, length-append}
 use Rattle.std.specs.Int.{to_be_bytes, from_be_bytes, w16}
 use Rattle.std.specs.List.{AllByRecursion}
@@ -8,7 +8,7 @@ use Rattle.std.proofs.lemmas.Nat.{from_be_bytes-to_be_bytes_2}
 use Rattle.dns_header.specs.Header.{number_at}
 use Rattle.dns_header.specs.Opt.{EdnsOption, option_octets, options_octets, IsOption, AreOptions, StartsWithOption, first_option, behind_option, first_options, options_of, AreCutOptions}
 
--- the length of an option that stands at the start
+-- the length of an option at the start
 length_is : (option : EdnsOption) (rest : List ℕ) → IsOption option → number_at (option_octets option ++ rest) 2 ≡ length option.octets
 length_is option rest is = from_be_bytes-to_be_bytes_2 (length option.octets) is.1
 
@@ -35,7 +35,7 @@ first_all (suc count) (option ∷ options) each few =
     ap (first_options count) (behind_is option behind each.0) ∙ on in
     λ i. one i ∷ others i
 
--- the octets of options are cut into these
+-- the octets of options are split into these
 pub options_of-written : (options : List EdnsOption) → AllByRecursion IsOption options → options_of (options_octets options) ≡ options
 options_of-written options each = first_all (length (options_octets options)) options each (omega arith)
 
@@ -53,7 +53,7 @@ cut_options octets cut = record { options = options_of octets; each = cut.each; 
 pub nothing_is : AreOptions []
 nothing_is = record { options = []; each = tt; written = refl }
 
--- an option and others behind it
+-- an option and others after it
 pub options_more : (octets : List ℕ) (option : EdnsOption) (behind : List ℕ) → StartsWithOption octets option behind → AreOptions behind
     → AreOptions octets
 options_more octets option behind starts are = record {
@@ -84,7 +84,7 @@ options_less octets option behind starts are =
     let on = less octets option behind starts are.options are.each are.written in
     record { options = on.others; each = on.each; written = on.written }
 
--- the options that octets are cut into, the first of them taken
+-- the options that octets are split into, without the first
 pub cut_first : (octets : List ℕ) (option : EdnsOption) (behind : List ℕ) → StartsWithOption octets option behind → AreCutOptions octets
     → options_of octets ≡ option ∷ options_of behind
 cut_first octets option behind starts cut =
@@ -101,7 +101,7 @@ no_first octets none [] each written = refl
 no_first octets none (first ∷ others) each written =
     absurd (none first (options_octets others) (record { spelled = written; is = each.0 }))
 
--- where no option stands at the start there is none
+-- if no option is at the start there is none
 pub cut_none : (octets : List ℕ) → ((option : EdnsOption) (rest : List ℕ) → StartsWithOption octets option rest → ⊥) → AreCutOptions octets
     → options_of octets ≡ []
 cut_none octets none cut = no_first octets none (options_of octets) cut.each (sym cut.written)
@@ -129,11 +129,11 @@ starts_with octets value rest code len code_is len_is value_is rest_is long code
       is = (code_fits, omega (arith, long, len_fits));
     }
 
--- an option at the start takes so many octets
+-- the number of octets that an option at the start takes
 pub option_fits : (octets : List ℕ) (option : EdnsOption) (rest : List ℕ) → StartsWithOption octets option rest → 4 + length option.octets ≤ length octets
 option_fits octets option rest starts = omega (arith, ap (length {A = ℕ}) starts.spelled, length-append option.octets rest)
 
--- and its length is what stands in the third and fourth of them
+-- and its length is in the third and fourth of them
 pub option_length : (octets : List ℕ) (option : EdnsOption) (rest : List ℕ) (len : ℕ) → StartsWithOption octets option rest
     → to_be_bytes w16 len ≡ take 2 (drop 2 octets) → len < 2 ^ 16 → len ≡ length option.octets
 option_length octets option rest len starts is fits =

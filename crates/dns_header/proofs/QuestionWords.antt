@@ -26,7 +26,7 @@ first_word E old new (Some word) steps = record {
   ends = steps.5.1;
 }
 
--- a first word that is no name, or has no room
+-- a first word that is no name, or whose name has no room
 pub refused_name : (text word rest : List ℕ) (error : name.FromStrError) → StartsWithWord text word rest → IsRefused IsNameText word error
     → SpellsNoQuestion text (name_fault error)
 refused_name text word rest (Presentation error) first none = bad_name first none

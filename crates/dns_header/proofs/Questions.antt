@@ -1,4 +1,4 @@
--- Questions that are written: a name, and four octets behind it.
+-- Questions that are written: a name, and four octets after it.
 use Rattle.std.proofs.Common.{true, false, ◌≡◌, ◌≤◌, ◌+◌, ℕ, List, ◌++◌, length, refl, ◌∙◌, ap, arith, length-append}
 use Rattle.std.specs.Prelude.{Option}
 use Rattle.dns_octets.specs.Builder.{Known, IsPast}
@@ -14,7 +14,7 @@ use Rattle.dns_label.specs.Spelled.{Reads}
 use Rattle.dns_label.proofs.Spelling.{reads_one}
 use Rattle.dns_header.specs.Question.{Question, ReadsQuestion, SkipsQuestion}
 
--- the octets of a name with four behind it
+-- the octets of a name with four after it
 pub written : (s : Spelling) (old : List ℕ) (known : Known) (name : List (List ℕ)) (four octets mid new : List ℕ) (more most : Known)
     → mid ≡ old ++ name_text s known (length old) name → more ≡ known_after s known (length old) name → new ≡ mid ++ octets → octets ≡ four → most ≡ more
     → page_of new most ≡ write s (page_of old known) (Named name (Octets four End))
@@ -22,7 +22,7 @@ unfolding write
 written s old known name four octets mid new more most named remembered added is same =
     page_same (added ∙ ap (λ l. mid ++ l) is ∙ ap (λ l. l ++ four) named) (same ∙ remembered)
 
--- a bound that a part of them is past
+-- a bound that is already past after the name
 pub past_name : (bound : Option ℕ) (s : Spelling) (old : List ℕ) (known : Known) (name : List (List ℕ)) (four : List ℕ)
     → IsPast bound (length (old ++ name_text s known (length old) name))
     → IsPast bound (length (write s (page_of old known) (Named name (Octets four End))).octets)
@@ -37,7 +37,7 @@ unfolding write
 past_four bound other s old known name four octets mid same named is past =
     IsPast-from bound other _ _ same (omega (arith, ap (λ l. length (l ++ four)) named, ap (λ l. length (mid ++ l)) is)) past
 
--- a question is read in no other way than by the name at its place
+-- a question is read only with the name at its place
 pub no_question : (message text : List ℕ) (place here there : ℕ) (name : List (List ℕ)) → Reads message place name here → text ≡ message
     → there ≤ here + 2 → (there + 2 ≤ length text → false ≡ true) → (q : Question) (next : ℕ) → ReadsQuestion message place q next → ⊥
 no_question message text place here there name reads same near short q next asks =

@@ -1,4 +1,4 @@
--- What is passed as no record.
+-- When no record is skipped.
 use Rattle.std.proofs.Common.{◌≡◌, ◌+◌, ◌<◌, ℕ, List, length, refl, ap, arith}
 use Rattle.dns_wire.specs.Skip.{Skips}
 use Rattle.dns_wire.proofs.Skipping.{skips-one}

@@ -1,4 +1,4 @@
--- The definitions tried on octets that are written out.
+-- The definitions on octets that are written out.
 use Rattle.std.specs.Prelude.{◌≡◌, [], ◌∷◌, refl, true, false}
 use Rattle.dns_header.specs.Header.{answer_header, id_of, is_response, opcode_of, rcode_of, recursion_desired, answer_count}
 use Rattle.dns_header.specs.Opt.{options_of, options_octets}
@@ -17,7 +17,7 @@ header_read = (refl, refl, refl, refl, refl, refl)
 pub question_tried : question_octets (record { name = (97 ∷ []) ∷ []; qtype = 252; qclass = 1 }) ≡ 1 ∷ 97 ∷ 0 ∷ 0 ∷ 252 ∷ 0 ∷ 1 ∷ []
 question_tried = refl
 
--- a cookie's code with two octets, and code 3 without any
+-- code 10 with two octets, and code 3 without any
 pub options_tried : options_of (0 ∷ 10 ∷ 0 ∷ 2 ∷ 171 ∷ 205 ∷ 0 ∷ 3 ∷ 0 ∷ 0 ∷ [])
     ≡ record { code = 10; octets = 171 ∷ 205 ∷ [] } ∷ record { code = 3; octets = [] } ∷ []
 options_tried = refl

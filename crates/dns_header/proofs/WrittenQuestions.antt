@@ -15,7 +15,7 @@ reads-written message place name rest at is = record {
   is_name = is;
 }
 
--- what stands at a place ends within the message
+-- what is at a place ends within the message
 pub within_message : (message : List ℕ) (place : ℕ) (front rest : List ℕ) → drop place message ≡ front ++ rest
     → place ≤ length message → place + length front + length rest ≡ length message
 within_message message place front rest at within =

@@ -1,4 +1,4 @@
--- The bits of a header that are on or off, but for Z, and the text of them.
+-- The one-bit flags of a header, except Z, and their text.
 use Rattle.std.specs.Prelude.{◌==◌, ◌||◌, ℕ, Bool, false, List, [], ◌∷◌, ◌++◌, Option, Some, None, map, filter, flat_map, codes, length, if◌then◌else◌}
 use Rattle.std.specs.List.{list_all, list_any, slice_split}
 use Rattle.std.specs.Str.{str_eq_ignore_ascii_case}
@@ -25,23 +25,23 @@ abbrev pub spaced : List (List ℕ) → List ℕ
 spaced [] = []
 spaced (word ∷ words) = word ++ flat_map (λ w. 32 ∷ w) words
 
--- how flags are written: the words of those that are set
+-- the text of flags: the words of those that are set
 unfoldable pub flags_text : Flags → List ℕ
 flags_text f = spaced (map (λ row. row.0) (filter (λ row. row.1) (words_of f)))
 
--- what stands between the spaces of a text
+-- the pieces between the spaces of a text
 abbrev pub pieces : List ℕ → List (List ℕ)
 pieces text = slice_split (λ octet. octet == 32) text
 
--- the word, in any case, is a piece of the text
+-- the word is a piece of the text, up to ASCII case
 abbrev pub has_piece : List ℕ → List ℕ → Bool
 has_piece text word = list_any (λ piece. str_eq_ignore_ascii_case piece word) (pieces text)
 
--- a piece is empty or the word of a flag, in any case
+-- a piece is empty or the word of a flag, up to ASCII case
 abbrev pub is_flag : List ℕ → Bool
 is_flag piece = (length piece == 0) || list_any (λ row. str_eq_ignore_ascii_case piece row.0) (words_of no_flags)
 
--- the flags whose words are in a text, where it has no other pieces
+-- the flags whose words are in a text, if it has no other pieces
 unfoldable pub flags_read : List ℕ → Option Flags
 flags_read text = if list_all is_flag (pieces text) then Some (record {
   qr = has_piece text (codes "QR");

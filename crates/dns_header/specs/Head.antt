@@ -1,4 +1,4 @@
--- What stands in front of a record's data (RFC 1035 3.2.1).
+-- Record headers: owner, type, class, TTL and RDLENGTH (RFC 1035 3.2.1).
 use Rattle.std.specs.Prelude.{◌≡◌, ◌+◌, ◌<◌, ◌≤◌, ℕ, List, ◌++◌, length, take, drop}
 use Rattle.std.specs.Int.{from_be_bytes, to_be_bytes, w16, w32}
 use Rattle.dns_label.specs.Name.{wire, low}
@@ -8,7 +8,7 @@ use Rattle.dns_name.specs.Page.{Parts}
 use Rattle.dns_name.specs.Page.Parts.{End, Octets, Named, Counted}
 use Rattle.dns_header.specs.Header.{number_at}
 
--- an owner, and how many octets the data has
+-- the fields, for any type of owner
 pub record Head (Owner : Type 0) : Type 0 where
   pub owner : Owner
   pub rtype : ℕ
@@ -26,7 +26,7 @@ labelled labels head = record {
   data_len = head.data_len;
 }
 
--- The message has this at the place, and `next` is the place behind it.
+-- The message has this header at the place, and `next` is the place after it.
 pub record ReadsHead (message : List ℕ) (place : ℕ) (head : Head (List (List ℕ))) (next : ℕ) : Type 0 where
   pub behind : ℕ
   pub owner : Reads message place head.owner behind
@@ -37,13 +37,14 @@ pub record ReadsHead (message : List ℕ) (place : ℕ) (head : Head (List (List
   pub data_len : head.data_len ≡ number_at message (behind + 8)
   pub ends : next ≡ behind + 10
 
--- A record stands at the place, whose data begins at `data_place` and is not looked into; `next` is the place behind it.
+-- The message has a record at the place, whose data begins at `data_place` and is not parsed; `next` is the place after
+-- it.
 pub record ReadsWhole (message : List ℕ) (place : ℕ) (head : Head (List (List ℕ))) (data_place next : ℕ) : Type 0 where
   pub reads : ReadsHead message place head data_place
   pub ends : next ≡ data_place + head.data_len
   pub within : next ≤ length message
 
--- The message ends too early for what stands in front of a record's data: in the owner, or behind it.
+-- The message ends too early for a record header: in the owner, or after it.
 pub data HeadIsCut (message : List ℕ) (place : ℕ) : Type 0 where
   in_owner : IsCut message 255 254 place → HeadIsCut message place
   behind_owner : (name : List (List ℕ)) (behind : ℕ) → Reads message place name behind → length message < behind + 10 → HeadIsCut message place
@@ -54,7 +55,7 @@ pub data WholeIsCut (message : List ℕ) (place : ℕ) : Type 0 where
   in_data : (head : Head (List (List ℕ))) (data_place : ℕ) → ReadsHead message place head data_place
       → length message < data_place + head.data_len → WholeIsCut message place
 
--- nothing of the kind stands at the place
+-- no record header, or no record, is at the place
 abbrev pub NoHead : List ℕ → ℕ → Type 0
 NoHead message place = (head : Head (List (List ℕ))) (next : ℕ) → ReadsHead message place head next → ⊥
 
@@ -69,7 +70,7 @@ fixed_octets rtype class ttl = to_be_bytes w16 rtype ++ to_be_bytes w16 class ++
 abbrev pub record_parts : List (List ℕ) → ℕ → ℕ → ℕ → Parts → Parts
 record_parts owner rtype class ttl data' = Named owner (Octets (fixed_octets rtype class ttl) (Counted data' End))
 
--- the parts in front of a record's data
+-- the parts of a record header
 abbrev pub head_parts : Head (List (List ℕ)) → Parts
 head_parts head =
     Named head.owner (Octets (fixed_octets head.rtype head.class head.ttl ++ to_be_bytes w16 head.data_len) End)

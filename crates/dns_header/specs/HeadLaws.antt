@@ -1,5 +1,5 @@
--- Equality of heads is an equivalence, their order is a total one that ties exactly those that are equal, and equal heads hash
--- alike.
+-- Equality of record headers is an equivalence, their order is a total one that ties exactly the equal ones, and equal
+-- ones hash alike.
 use Rattle.std.specs.Prelude.{◌≡◌, ◌&&◌, ℕ, List, IsTrue, ◌∷◌, [], ◌++◌}
 use Rattle.std.specs.Int.{to_be_bytes, w16}
 use Rattle.std.proofs.Common.{ap}

@@ -1,5 +1,4 @@
--- How the heads of records stand to one another: by owner, type, class, TTL and length of the data, owners up to ASCII case
--- (RFC 4343).
+-- How record headers compare: by owner, type, class, TTL and data length, owners up to ASCII case (RFC 4343).
 use Rattle.std.specs.Prelude.{◌&&◌, ℕ, Bool, List, [], ◌∷◌, ◌++◌, nat_eq}
 use Rattle.std.specs.Int.{to_be_bytes, w16}
 use Rattle.std.specs.Cmp.Lexicographic.{pointwise}
@@ -20,6 +19,6 @@ heads_cmp a b =
     (ordering_then (nat_cmp a.rtype b.rtype)
     (ordering_then (nat_cmp a.class b.class) (ordering_then (nat_cmp a.ttl b.ttl) (nat_cmp a.data_len b.data_len))))
 
--- what a hasher takes of a head
+-- what a hasher takes of a record header
 abbrev pub head_keys : Head (List (List ℕ)) → List (List ℕ)
 head_keys h = wire (low h.owner) ∷ (fixed_octets h.rtype h.class h.ttl ++ to_be_bytes w16 h.data_len) ∷ []

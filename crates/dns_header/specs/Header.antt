@@ -3,7 +3,7 @@ use Rattle.std.specs.Prelude.{◌/◌, ◌%◌, ◌==◌, ℕ, Bool, List, ◌�
 use Rattle.std.specs.Prelude.{if◌then◌else◌}
 use Rattle.std.specs.Int.{from_be_bytes, to_be_bytes, w16}
 
--- the number of two octets at a place
+-- the number in two octets at a place
 abbrev pub number_at : List ℕ → ℕ → ℕ
 number_at message place = from_be_bytes w16 (take 2 (drop place message))
 
@@ -17,7 +17,7 @@ is_response message = nat_lt 127 (slice_index message 2)
 abbrev pub opcode_of : List ℕ → ℕ
 opcode_of message = slice_index message 2 / 8 % 16
 
--- the bit by which a query asks for recursion (RD)
+-- the bit with which a query asks for recursion (RD)
 abbrev pub recursion_desired : List ℕ → Bool
 recursion_desired message = slice_index message 2 % 2 == 1
 
@@ -37,8 +37,8 @@ authority_count message = number_at message 8
 abbrev pub additional_count : List ℕ → ℕ
 additional_count message = number_at message 10
 
--- The header of an authoritative answer of opcode 0 and without an error: QR, AA and perhaps RD are set, and every other
--- bit is clear. It has one question, and so many answers.
+-- The header of an authoritative answer of opcode 0 and without an error: QR, AA and perhaps RD are set, and every
+-- other bit is clear. It counts one question and `answers` answers.
 abbrev pub answer_header : ℕ → Bool → ℕ → List ℕ
 answer_header id recursion answers =
     to_be_bytes w16 id ++ (if recursion then 133 else 132) ∷ 0 ∷ to_be_bytes w16 1 ++ to_be_bytes w16 answers

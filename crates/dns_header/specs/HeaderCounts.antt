@@ -1,4 +1,4 @@
--- How many questions and records a message has (RFC 1035 4.1.1), by the eight octets that say so.
+-- The counts of questions and records in a message (RFC 1035 4.1.1), as eight octets.
 use Rattle.std.specs.Prelude.{◌≡◌, ◌+◌, ℕ, List, ◌++◌, length, slice_index, slice_set}
 use Rattle.std.specs.Int.{to_be_bytes, w16}
 use Rattle.dns_header.specs.Header.{number_at, question_count, answer_count, authority_count, additional_count}
@@ -27,11 +27,11 @@ counts_in message = record {
   ar = additional_count message;
 }
 
--- the octets that say so
+-- the octets of the counts
 abbrev pub counts_octets : Counts → List ℕ
 counts_octets c = to_be_bytes w16 c.qd ++ to_be_bytes w16 c.an ++ to_be_bytes w16 c.ns ++ to_be_bytes w16 c.ar
 
--- eight octets are others but for the number at a place
+-- eight octets that differ in at most the number at a place
 pub record ChangesNumber (place number : ℕ) (old new : List ℕ) : Type 0 where
   pub eight : length old ≡ 8
   pub is : new ≡ slice_set (slice_set old place (slice_index (to_be_bytes w16 number) 0)) (place + 1) (slice_index (to_be_bytes w16 number) 1)

@@ -1,9 +1,9 @@
--- What the first four octets of a message say (RFC 1035 4.1.1; AD and CD: RFC 4035 3.1.6, 3.2).
+-- The fields in the first four octets of a message (RFC 1035 4.1.1; AD and CD: RFC 4035 3.1.6, 3.2).
 use Rattle.std.specs.Prelude.{◌+◌, ◌*◌, ◌/◌, ◌%◌, ◌==◌, ℕ, Bool, List, [], ◌∷◌, ◌++◌, slice_index, if◌then◌else◌}
 use Rattle.std.specs.Int.{to_be_bytes, w16}
 use Rattle.dns_header.specs.Header.{id_of, is_response, opcode_of, recursion_desired, rcode_of}
 
--- the bit of an octet that has a weight
+-- the bit of an octet with a weight
 abbrev pub has_bit : ℕ → ℕ → Bool
 has_bit weight octet = octet / weight % 2 == 1
 
@@ -16,7 +16,7 @@ is_truncated header = has_bit 2 (slice_index header 2)
 abbrev pub recursion_available : List ℕ → Bool
 recursion_available header = has_bit 128 (slice_index header 3)
 
--- the bit that is not in use
+-- the reserved bit
 abbrev pub is_reserved : List ℕ → Bool
 is_reserved header = has_bit 64 (slice_index header 3)
 
@@ -26,7 +26,7 @@ is_authentic header = has_bit 32 (slice_index header 3)
 abbrev pub checking_disabled : List ℕ → Bool
 checking_disabled header = has_bit 16 (slice_index header 3)
 
--- all that they say
+-- all fields
 pub record HeaderFields : Type 0 where
   pub id : ℕ
   pub qr : Bool
@@ -58,7 +58,7 @@ fields_of header = record {
 abbrev number : Bool → ℕ
 number set = if set then 1 else 0
 
--- the octets that say so
+-- the octets of the fields
 abbrev pub header_octets : HeaderFields → List ℕ
 header_octets h =
     to_be_bytes w16 h.id

@@ -1,10 +1,10 @@
--- What an OPT record says beside its options (RFC 6891 6.1.2 and 6.1.3).
+-- The fixed fields of an OPT record (RFC 6891 6.1.2 and 6.1.3).
 use Rattle.std.specs.Prelude.{◌+◌, ◌*◌, ◌/◌, ◌%◌, ◌==◌, ◌^◌, ℕ, Bool, List, [], ◌∷◌, ◌++◌}
 use Rattle.std.specs.Int.{to_be_bytes, w16, w32}
 use Rattle.dns_header.specs.Opt.{EdnsOption}
 
--- the UDP payload size is the record's class; the others stand in its TTL: the high eight bits of the response code, the
--- version, DO, and 15 bits that are not in use
+-- the UDP payload size is the record's class; the others are in its TTL: the high eight bits of the response code, the
+-- version, DO, and 15 reserved bits
 pub record OptFields : Type 0 where
   pub payload_size : ℕ
   pub high_rcode : ℕ
@@ -12,7 +12,7 @@ pub record OptFields : Type 0 where
   pub dnssec_ok : Bool
   pub reserved : ℕ
 
--- what a class and a TTL say
+-- the fields in a class and a TTL
 abbrev pub opt_fields : ℕ → ℕ → OptFields
 opt_fields class ttl = record {
   payload_size = class;

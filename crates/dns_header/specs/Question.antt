@@ -17,7 +17,7 @@ pub record Question : Type 0 where
 abbrev pub question_octets : Question → List ℕ
 question_octets q = wire q.name ++ to_be_bytes w16 q.qtype ++ to_be_bytes w16 q.qclass
 
--- The message has the question at a place, and `next` is the place behind it.
+-- The message has the question at a place, and `next` is the place after it.
 pub record ReadsQuestion (message : List ℕ) (place : ℕ) (q : Question) (next : ℕ) : Type 0 where
   pub behind : ℕ
   pub name : Reads message place q.name behind
@@ -26,7 +26,7 @@ pub record ReadsQuestion (message : List ℕ) (place : ℕ) (q : Question) (next
   pub qclass : q.qclass ≡ number_at message (behind + 2)
   pub ends : next ≡ behind + 4
 
--- The same, and the name is written out.
+-- The same, with the name written out.
 pub record ReadsPlainQuestion (message : List ℕ) (place : ℕ) (q : Question) (next : ℕ) : Type 0 where
   pub name : IsName q.name
   pub qtype : q.qtype < 2 ^ 16
@@ -39,15 +39,15 @@ pub record ReadsPlainQuestion (message : List ℕ) (place : ℕ) (q : Question) 
 abbrev pub question_parts : Question → Parts
 question_parts q = Named q.name (Octets (to_be_bytes w16 q.qtype ++ to_be_bytes w16 q.qclass) End)
 
--- What a reader passes that follows no pointer: `next` is the place behind it.
+-- What a reader skips that follows no pointer: `next` is the place after it.
 pub record SkipsQuestion (message : List ℕ) (place : ℕ) (next : ℕ) : Type 0 where
   pub behind : ℕ
   pub name : Skips message 254 place behind
   pub whole : behind + 4 ≤ length message
   pub ends : next ≡ behind + 4
 
--- The message ends behind the name of a question and in front of the question's end, where `Name` says which name stands
--- at the place, or what is passed as one.
+-- The message ends after the name of a question and before the question's end, where `Name` tells which name is at the
+-- place, or what is skipped as one.
 pub record EndsInQuestion (message : List ℕ) (Name : ℕ → Type 0) : Type 0 where
   pub behind : ℕ
   pub name : Name behind

@@ -1,5 +1,5 @@
--- Equality of questions is an equivalence, their order is a total one that ties exactly those that are equal, and equal
--- questions hash alike.
+-- Equality of questions is an equivalence, their order is a total one that ties exactly the equal ones, and equal ones
+-- hash alike.
 use Rattle.std.specs.Prelude.{◌≡◌, ◌&&◌, IsTrue, ◌∷◌, [], ◌++◌}
 use Rattle.std.specs.Int.{to_be_bytes, w16}
 use Rattle.std.proofs.Common.{refl, ap}

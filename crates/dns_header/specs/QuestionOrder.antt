@@ -1,4 +1,4 @@
--- How questions stand to one another: by name, type and class, names up to ASCII case (RFC 4343).
+-- How questions compare: by name, type and class, names up to ASCII case (RFC 4343).
 use Rattle.std.specs.Prelude.{◌&&◌, ℕ, Bool, List, [], ◌∷◌, ◌++◌, nat_eq}
 use Rattle.std.specs.Int.{to_be_bytes, w16}
 use Rattle.std.specs.Cmp.Lexicographic.{pointwise, slice_cmp}
@@ -14,7 +14,7 @@ questions_eq a b = on low (pointwise (pointwise nat_eq)) a.name b.name && (nat_e
 abbrev pub questions_cmp : Question → Question → Ordering
 questions_cmp a b = ordering_then (labels_order a.name b.name) (ordering_then (nat_cmp a.qtype b.qtype) (nat_cmp a.qclass b.qclass))
 
--- the canonical order, in which names stand as their octets in lower case do (RFC 4034 6.2)
+-- the canonical order, in which names compare as their octets in lower case do (RFC 4034 6.2)
 abbrev pub canonical_questions_cmp : Question → Question → Ordering
 canonical_questions_cmp a b =
     ordering_then (slice_cmp nat_cmp (wire (low a.name)) (wire (low b.name)))

@@ -27,8 +27,8 @@ pub record StartsWithWord (text word rest : List ℕ) : Type 0 where
   pub more : List ℕ
   pub ends : EmptyOrStartsWithPassing is_whitespace rest more
 
--- The words ask for a type in a class. A first word that is a class stands before the type; any other is the type, and the class
--- may follow it, or is IN. Further words mean nothing.
+-- The words ask for a type in a class. If the first word is a class, the type follows it; else it is the type, and the
+-- class may follow it, or is IN. Further words are ignored.
 pub data AsksFor (text : List ℕ) : ℕ → ℕ → Type 0 where
   class_first : {word rest next behind : List ℕ} {qtype qclass : ℕ} → StartsWithWord text word rest → class_read word ≡ Some qclass
       → StartsWithWord rest next behind → type_read next ≡ Some qtype → AsksFor text qtype qclass
@@ -48,7 +48,7 @@ pub data AsksForNone (text : List ℕ) : PresentationError → Type 0 where
   type_and_no_class : {word rest next behind : List ℕ} {qtype : ℕ} → StartsWithWord text word rest → class_read word ≡ None
       → type_read word ≡ Some qtype → StartsWithWord rest next behind → class_read next ≡ None → AsksForNone text BadClass
 
--- The text spells the question: its first word the name, with or without its last dot.
+-- The text spells the question: its first word is the name, with or without its final dot.
 pub record SpellsQuestion (text : List ℕ) (q : Question) : Type 0 where
   pub word : List ℕ
   pub rest : List ℕ
@@ -56,7 +56,7 @@ pub record SpellsQuestion (text : List ℕ) (q : Question) : Type 0 where
   pub name : IsNameText word q.name
   pub asks : AsksFor rest q.qtype q.qclass
 
--- why no question is made of the text; the name is read first
+-- why the text is parsed as no question; the name is parsed first
 pub data SpellsNoQuestion (text : List ℕ) : FromStrError → Type 0 where
   no_name : IsBlank text → SpellsNoQuestion text (Presentation MissingQname)
   bad_name : {word rest : List ℕ} {error : _} → StartsWithWord text word rest → IsRefused IsNameText word (name_error.Presentation error)

@@ -1,5 +1,5 @@
--- Equality of records is an equivalence, their order a total one that ties exactly those that are equal, where that holds of
--- their data, and equal records hash alike, where equal data does.
+-- Equality of records is an equivalence, their order a total one that ties exactly the equal ones, if that holds of
+-- their data; and equal records hash alike, if equal data does.
 use Rattle.std.specs.Prelude.{◌≡◌, ◌&&◌, ◌∷◌, [], ◌++◌, ℕ, Bool, List, IsTrue}
 use Rattle.std.specs.Int.{to_be_bytes, w16}
 use Rattle.std.proofs.Common.{ap}

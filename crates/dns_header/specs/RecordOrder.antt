@@ -1,4 +1,4 @@
--- How records stand to one another, whatever holds their owners and data: the TTL doesn't count.
+-- How records compare, for any types of owner and data: the TTL does not count.
 use Rattle.std.specs.Prelude.{ℕ, Bool, List, nat_eq}
 use Rattle.std.specs.Cmp.Lexicographic.{pointwise}
 use Rattle.std.specs.Ordering.{on, nat_cmp, eq_of_both, then_cmp}

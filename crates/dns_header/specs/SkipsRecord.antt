@@ -1,10 +1,11 @@
--- What a reader passes as a record that follows no pointer (RFC 1035 4.1.3).
+-- What is skipped as a record by a reader that follows no pointer (RFC 1035 4.1.3).
 use Rattle.std.specs.Prelude.{◌≡◌, ◌+◌, ◌≤◌, ◌<◌, ℕ, List, length}
 use Rattle.dns_wire.specs.Cut.{IsCut}
 use Rattle.dns_wire.specs.Skip.{Skips}
 use Rattle.dns_header.specs.Header.{number_at}
 
--- An owner, ten octets after it, and as many octets of data as the last two of them count; `next` is the place after these.
+-- An owner, ten octets after it, and as many octets of data as the last two of them tell; `next` is the place after
+-- these.
 pub record SkipsRecord (message : List ℕ) (place next : ℕ) : Type 0 where
   pub behind : ℕ
   pub owner : Skips message 254 place behind

@@ -1,4 +1,4 @@
--- How a record is written behind other octets.
+-- How a record is written after other octets.
 use Rattle.std.specs.Prelude.{ℕ, List}
 use Rattle.dns_name.specs.Spelling.{Spelling}
 use Rattle.dns_name.specs.Page.{Page, Parts, write}
@@ -18,12 +18,12 @@ pub record Written : Type 0 where
 abbrev pub parts_of : Written → Parts
 parts_of w = record_parts w.owner w.rtype w.class w.ttl w.rdata
 
--- how many octets the data has where the record is written behind these
+-- how many octets the data has if the record is written on this page
 abbrev pub data_length : Spelling → Page → Written → ℕ
 data_length s page w =
     counted_length s (write s page (Named w.owner (Octets (fixed_octets w.rtype w.class w.ttl) End))) w.rdata
 
--- a record is written so, given its owner's labels, and the type and parts of its data
+-- how a record is written, given its owner's labels, and the type and parts of its data
 abbrev pub written_of : {Owner Data : Type 0} → (Owner → List (List ℕ)) → (Data → ℕ) → (Data → Parts) → RecordOf Owner Data → Written
 written_of labels rtype parts rr = record {
   owner = labels rr.owner;

@@ -1,4 +1,4 @@
-//! Records as they are written into messages.
+//! Writing records into messages.
 ghost use Rattle.std.specs.Prelude.{◌≡◌, ◌≤◌, ◌<◌, ◌++◌, ℕ, List, Err, length, OnOk, OnErr};
 ghost use Rattle.dns_octets.specs.Builder.{GrowsTo, IsPast};
 ghost use Rattle.dns_octets.specs.declared.error.AppendError.TheVariants.{ShortBuf, BadLength};
@@ -14,14 +14,13 @@ mod records;
 pub(crate) use canonical::{compose_canonical_head, compose_canonical_parts};
 use dns_name::{AppendError, Class, ComposeRecordData, Composer, Rtype, ToName, Ttl};
 
-/// A record that is written into messages.
+/// A record that can be written into a message.
 pub trait ComposeRecord {
     ghost written: { Self → Written };
 
-    /// Appends the record, all or nothing: its owner, which may be written with a pointer, its type, class and TTL, and its
-    /// data behind their length (RFC 1035 3.2.1). Refused with `ShortBuf` only where the target would then hold more octets
-    /// than it may, with `BadLength` only where the data has more than 65,535 octets, and with `OutOfMemory` where a growth
-    /// was refused.
+    /// Appends the record, all or nothing: its owner, which may be written with a pointer, its type, class and TTL, and
+    /// its data after its length (RFC 1035 3.2.1). Fails with `ShortBuf` only if the target is too full, with
+    /// `BadLength` only if the data has more than 65,535 octets, and with `OutOfMemory` only if out of memory.
     fn compose_record<Target: Composer>(&self, target: &mut Target) -> Result<(), AppendError>
         ensures ok { OnOk result (page_of (Target.list target.new) (Target.known target.new)
             ≡ write Target.spelling (page_of (Target.list target.old) (Target.known target.old)) (parts_of (written self.now))) }
@@ -40,7 +39,7 @@ pub trait ComposeRecord {
         ensures stays { Target.stays target.old target.new };
 }
 
-/// Appends the record of these parts, all or nothing.
+/// Appends the record with these fields, all or nothing.
 pub(crate) fn compose_parts<N: ToName, Data: ComposeRecordData, Target: Composer>(
     owner: &N,
     class: Class,
@@ -74,7 +73,7 @@ pub(crate) fn compose_parts<N: ToName, Data: ComposeRecordData, Target: Composer
     }
 }
 
-/// Appends the record of these parts, or as much of it as there is room for.
+/// Appends the record with these fields, or as much of it as there is room for.
 fn append_parts<N: ToName, Data: ComposeRecordData, Target: Composer>(
     owner: &N,
     class: Class,
@@ -100,7 +99,7 @@ fn append_parts<N: ToName, Data: ComposeRecordData, Target: Composer>(
     rdata.compose_len_rdata(target)
 }
 
-/// Appends an owner and the octets behind it, all or nothing.
+/// Appends an owner and then the octets, all or nothing.
 pub(crate) fn compose_head<N: ToName, Target: Composer>(
     owner: &N,
     octets: &[u8],
@@ -129,7 +128,7 @@ pub(crate) fn compose_head<N: ToName, Target: Composer>(
     }
 }
 
-/// Appends an owner and the octets behind it, or as much of them as there is room for.
+/// Appends an owner and then the octets, or as much of them as there is room for.
 fn append_head<N: ToName, Target: Composer>(
     owner: &N,
     octets: &[u8],
@@ -150,7 +149,7 @@ fn append_head<N: ToName, Target: Composer>(
     target.append_slice(octets)
 }
 
-/// The octets of the type, the class and the TTL.
+/// Returns the octets of the type, the class and the TTL.
 pub(crate) fn fixed(rtype: Rtype, class: Class, ttl: Ttl) -> [u8; 8]
     ensures { result ≡ fixed_octets rtype class ttl }
 {

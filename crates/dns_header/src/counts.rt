@@ -1,4 +1,4 @@
-//! How many questions and records a message has (RFC 1035 4.1.1; in updates RFC 2136 2.2).
+//! The counts of questions and records in a message (RFC 1035 4.1.1; in updates RFC 2136 2.2).
 ghost use Rattle.std.specs.Prelude.{◌≡◌, ◌+◌, ◌-◌, ◌<◌, ◌≤◌, ◌↔◌, ℕ, [], ◌∷◌, length, take, drop, slice_index, IsErr, OnOk, OnErr};
 ghost use Rattle.dns_header.specs.Header.{number_at};
 ghost use Rattle.dns_header.specs.HeaderCounts.{counts_of, counts_in, ChangesNumber};
@@ -32,14 +32,14 @@ impl Default for HeaderCounts {
 }
 
 impl HeaderCounts {
-    /// No question and no record.
+    /// Returns counts of zero.
     pub fn new() -> Self
         ensures { result ≡ 0 ∷ 0 ∷ 0 ∷ 0 ∷ 0 ∷ 0 ∷ 0 ∷ 0 ∷ [] }
     {
         HeaderCounts { inner: [0; 8] }
     }
 
-    /// The counts of a message, of which there are at least twelve octets.
+    /// Returns the counts of a message. The slice must have at least twelve octets.
     pub fn for_message_slice(message: &[u8]) -> Self
         requires { 12 ≤ length message.now }
         ensures octets { result ≡ take 8 (drop 4 message.now) }
@@ -50,7 +50,7 @@ impl HeaderCounts {
         HeaderCounts { inner }
     }
 
-    /// The eight octets.
+    /// Returns the eight octets of the counts.
     pub fn as_slice(&self) -> &[u8]
         ensures octets { result.now ≡ self.now }
         ensures eight { length self.now ≡ 8 }
@@ -58,14 +58,14 @@ impl HeaderCounts {
         &self.inner
     }
 
-    /// Takes the counts of another header.
+    /// Replaces all counts.
     pub fn set(&mut self, counts: HeaderCounts)
         ensures { self.new ≡ counts }
     {
         *self = counts;
     }
 
-    /// The eight octets.
+    /// Returns the eight octets of the counts.
     pub(crate) fn octets(self) -> [u8; 8]
         ensures same { result ≡ self }
         ensures eight { length self ≡ 8 }
@@ -74,7 +74,7 @@ impl HeaderCounts {
         self.inner
     }
 
-    /// The number at a place.
+    /// Returns the 16-bit number at a place.
     fn number(self, place: usize) -> u16
         requires { place < 7 }
         ensures { result ≡ number_at self place }
@@ -82,7 +82,7 @@ impl HeaderCounts {
         u16::from_be_bytes([self.inner[place], self.inner[place + 1]])
     }
 
-    /// Sets the number at a place.
+    /// Sets the 16-bit number at a place.
     fn set_number(&mut self, place: usize, number: u16)
         requires { place < 7 }
         ensures { ChangesNumber place number self.old self.new }
@@ -93,58 +93,58 @@ impl HeaderCounts {
     }
 }
 
-/// What the counts are.
+/// Reading the counts.
 impl HeaderCounts {
-    /// How many questions there are.
+    /// Returns how many questions there are.
     pub fn qdcount(self) -> u16
         ensures { result ≡ (counts_of self).qd }
     {
         self.number(0)
     }
 
-    /// How many answers there are.
+    /// Returns how many answers there are.
     pub fn ancount(self) -> u16
         ensures { result ≡ (counts_of self).an }
     {
         self.number(2)
     }
 
-    /// How many authority records there are.
+    /// Returns how many authority records there are.
     pub fn nscount(self) -> u16
         ensures { result ≡ (counts_of self).ns }
     {
         self.number(4)
     }
 
-    /// How many additional records there are.
+    /// Returns how many additional records there are.
     pub fn arcount(self) -> u16
         ensures { result ≡ (counts_of self).ar }
     {
         self.number(6)
     }
 
-    /// How many zones of an update there are.
+    /// Returns how many zones of an update there are.
     pub fn zocount(self) -> u16
         ensures { result ≡ (counts_of self).qd }
     {
         self.qdcount()
     }
 
-    /// How many prerequisites of an update there are.
+    /// Returns how many prerequisites of an update there are.
     pub fn prcount(self) -> u16
         ensures { result ≡ (counts_of self).an }
     {
         self.ancount()
     }
 
-    /// How many changes of an update there are.
+    /// Returns how many changes of an update there are.
     pub fn upcount(self) -> u16
         ensures { result ≡ (counts_of self).ns }
     {
         self.nscount()
     }
 
-    /// How many additional records of an update there are.
+    /// Returns how many additional records of an update there are.
     pub fn adcount(self) -> u16
         ensures { result ≡ (counts_of self).ar }
     {
@@ -154,63 +154,63 @@ impl HeaderCounts {
 
 /// Each call changes the count that it names and no other.
 impl HeaderCounts {
-    /// Says how many questions there are.
+    /// Sets how many questions there are.
     pub fn set_qdcount(&mut self, value: u16)
         ensures { counts_of self.new ≡ record (counts_of self.old) { qd = value } }
     {
         self.set_number(0, value);
     }
 
-    /// Says how many answers there are.
+    /// Sets how many answers there are.
     pub fn set_ancount(&mut self, value: u16)
         ensures { counts_of self.new ≡ record (counts_of self.old) { an = value } }
     {
         self.set_number(2, value);
     }
 
-    /// Says how many authority records there are.
+    /// Sets how many authority records there are.
     pub fn set_nscount(&mut self, value: u16)
         ensures { counts_of self.new ≡ record (counts_of self.old) { ns = value } }
     {
         self.set_number(4, value);
     }
 
-    /// Says how many additional records there are.
+    /// Sets how many additional records there are.
     pub fn set_arcount(&mut self, value: u16)
         ensures { counts_of self.new ≡ record (counts_of self.old) { ar = value } }
     {
         self.set_number(6, value);
     }
 
-    /// Says how many zones of an update there are.
+    /// Sets how many zones of an update there are.
     pub fn set_zocount(&mut self, value: u16)
         ensures { counts_of self.new ≡ record (counts_of self.old) { qd = value } }
     {
         self.set_qdcount(value);
     }
 
-    /// Says how many prerequisites of an update there are.
+    /// Sets how many prerequisites of an update there are.
     pub fn set_prcount(&mut self, value: u16)
         ensures { counts_of self.new ≡ record (counts_of self.old) { an = value } }
     {
         self.set_ancount(value);
     }
 
-    /// Says how many changes of an update there are.
+    /// Sets how many changes of an update there are.
     pub fn set_upcount(&mut self, value: u16)
         ensures { counts_of self.new ≡ record (counts_of self.old) { ns = value } }
     {
         self.set_nscount(value);
     }
 
-    /// Says how many additional records of an update there are.
+    /// Sets how many additional records of an update there are.
     pub fn set_adcount(&mut self, value: u16)
         ensures { counts_of self.new ≡ record (counts_of self.old) { ar = value } }
     {
         self.set_arcount(value);
     }
 
-    /// Counts one more of the questions. Refused exactly where there are 65,535 already.
+    /// Counts one question more. Fails, and changes nothing, exactly if there are 65,535 already.
     pub fn inc_qdcount(&mut self) -> Result<(), CountOverflow>
         ensures more { OnOk result (counts_of self.new ≡ record (counts_of self.old) { qd = (counts_of self.old).qd + 1 }) }
         ensures full { IsErr result ↔ ((counts_of self.old).qd ≡ 65535) }
@@ -221,7 +221,7 @@ impl HeaderCounts {
         Ok(())
     }
 
-    /// Counts one more of the answers. Refused exactly where there are 65,535 already.
+    /// Counts one answer more. Fails, and changes nothing, exactly if there are 65,535 already.
     pub fn inc_ancount(&mut self) -> Result<(), CountOverflow>
         ensures more { OnOk result (counts_of self.new ≡ record (counts_of self.old) { an = (counts_of self.old).an + 1 }) }
         ensures full { IsErr result ↔ ((counts_of self.old).an ≡ 65535) }
@@ -232,7 +232,7 @@ impl HeaderCounts {
         Ok(())
     }
 
-    /// Counts one more of the records in the authority section. Refused exactly where there are 65,535 already.
+    /// Counts one authority record more. Fails, and changes nothing, exactly if there are 65,535 already.
     pub fn inc_nscount(&mut self) -> Result<(), CountOverflow>
         ensures more { OnOk result (counts_of self.new ≡ record (counts_of self.old) { ns = (counts_of self.old).ns + 1 }) }
         ensures full { IsErr result ↔ ((counts_of self.old).ns ≡ 65535) }
@@ -243,7 +243,7 @@ impl HeaderCounts {
         Ok(())
     }
 
-    /// Counts one more of the records in the additional section. Refused exactly where there are 65,535 already.
+    /// Counts one additional record more. Fails, and changes nothing, exactly if there are 65,535 already.
     pub fn inc_arcount(&mut self) -> Result<(), CountOverflow>
         ensures more { OnOk result (counts_of self.new ≡ record (counts_of self.old) { ar = (counts_of self.old).ar + 1 }) }
         ensures full { IsErr result ↔ ((counts_of self.old).ar ≡ 65535) }
@@ -254,7 +254,7 @@ impl HeaderCounts {
         Ok(())
     }
 
-    /// Counts one less of the questions, of which there is one at least.
+    /// Counts one question less. There must be at least one.
     pub fn dec_qdcount(&mut self)
         requires { 0 < (counts_of self.old).qd }
         ensures { counts_of self.new ≡ record (counts_of self.old) { qd = (counts_of self.old).qd - 1 } }
@@ -262,7 +262,7 @@ impl HeaderCounts {
         self.set_qdcount(self.qdcount() - 1);
     }
 
-    /// Counts one less of the answers, of which there is one at least.
+    /// Counts one answer less. There must be at least one.
     pub fn dec_ancount(&mut self)
         requires { 0 < (counts_of self.old).an }
         ensures { counts_of self.new ≡ record (counts_of self.old) { an = (counts_of self.old).an - 1 } }
@@ -270,7 +270,7 @@ impl HeaderCounts {
         self.set_ancount(self.ancount() - 1);
     }
 
-    /// Counts one less of the records in the authority section, of which there is one at least.
+    /// Counts one authority record less. There must be at least one.
     pub fn dec_nscount(&mut self)
         requires { 0 < (counts_of self.old).ns }
         ensures { counts_of self.new ≡ record (counts_of self.old) { ns = (counts_of self.old).ns - 1 } }
@@ -278,7 +278,7 @@ impl HeaderCounts {
         self.set_nscount(self.nscount() - 1);
     }
 
-    /// Counts one less of the records in the additional section, of which there is one at least.
+    /// Counts one additional record less. There must be at least one.
     pub fn dec_arcount(&mut self)
         requires { 0 < (counts_of self.old).ar }
         ensures { counts_of self.new ≡ record (counts_of self.old) { ar = (counts_of self.old).ar - 1 } }
@@ -287,7 +287,7 @@ impl HeaderCounts {
     }
 }
 
-/// There are 65,535 questions or records of a section already.
+/// The section already has 65,535 questions or records.
 #[derive(Clone, Copy, Debug, PartialEq, Eq, Error)]
 #[error("increasing a header count lead to an overflow")]
 pub struct CountOverflow;

@@ -12,7 +12,7 @@ use dns_name::{Opcode, Rcode};
 pub use flags::{Flags, FlagsFromStrError};
 use std::marker::Model;
 
-/// What the first four octets of a message say: all of its header but for the counts.
+/// The first four octets of a message: its header without the counts.
 #[derive(Clone, Copy, Debug, PartialEq, Eq)]
 pub struct Header {
     inner: [u8; 4],
@@ -37,14 +37,14 @@ impl Default for Header {
 }
 
 impl Header {
-    /// The header in which every bit is clear.
+    /// Returns a header with all bits clear.
     pub fn new() -> Self
         ensures { result ≡ 0 ∷ 0 ∷ 0 ∷ 0 ∷ [] }
     {
         Header { inner: [0; 4] }
     }
 
-    /// The header of a message, of which there are at least four octets.
+    /// Returns the header of a message. The slice must have at least four octets.
     pub fn for_message_slice(s: &[u8]) -> Header
         requires { 4 ≤ length s.now }
         ensures octets { result ≡ take 4 s.now }
@@ -55,7 +55,7 @@ impl Header {
         }
     }
 
-    /// The four octets.
+    /// Returns the four octets of the header.
     pub fn as_slice(&self) -> &[u8]
         ensures octets { result.now ≡ self.now }
         ensures four { length self.now ≡ 4 }
@@ -63,7 +63,7 @@ impl Header {
         &self.inner
     }
 
-    /// The four octets.
+    /// Returns the four octets of the header.
     pub(crate) fn octets(self) -> [u8; 4]
         ensures same { result ≡ self }
         ensures four { length self ≡ 4 }
@@ -72,7 +72,7 @@ impl Header {
         self.inner
     }
 
-    /// Whether a bit of an octet is set, counted from the lowest.
+    /// Returns whether a bit of an octet is set. Bits are counted from the lowest.
     fn bit(self, place: usize, bit: u32) -> bool
         requires { (place < 4) × (bit < 8) }
         ensures { result ≡ (bit_at (slice_index self place) bit == 1) }
@@ -80,7 +80,7 @@ impl Header {
         self.inner[place] >> bit & 1 == 1
     }
 
-    /// Sets or clears a bit of an octet, counted from the lowest.
+    /// Sets or clears a bit of an octet. Bits are counted from the lowest.
     fn set_bit(&mut self, place: usize, bit: u32, set: bool)
         requires { (place < 4) × (bit < 8) }
         ensures { ChangesBit place bit set self.old self.new }
@@ -89,7 +89,7 @@ impl Header {
     }
 }
 
-/// The octet with a bit set or cleared, counted from the lowest.
+/// Returns the octet with a bit set or cleared. Bits are counted from the lowest.
 fn with_bit(octet: u8, bit: u32, set: bool) -> u8
     requires { bit < 8 }
     ensures { SetsBit bit set octet result }
@@ -101,14 +101,14 @@ fn with_bit(octet: u8, bit: u32, set: bool) -> u8
     }
 }
 
-/// The octet with the low four bits of an opcode in place of its own.
+/// Returns the octet with its opcode replaced by the low four bits of another.
 fn with_opcode(octet: u8, opcode: u8) -> u8
     ensures { SetsOpcode (opcode % 16) octet result }
 {
     octet / 128 * 128 + opcode % 16 * 8 + octet % 8
 }
 
-/// The octet with a response code in place of its own.
+/// Returns the octet with its response code replaced.
 fn with_rcode(octet: u8, rcode: u8) -> u8
     requires { rcode < 16 }
     ensures { SetsRcode rcode octet result }
@@ -116,86 +116,86 @@ fn with_rcode(octet: u8, rcode: u8) -> u8
     octet / 16 * 16 + rcode
 }
 
-/// What a header says.
+/// Reading the fields.
 impl Header {
-    /// The number that an answer has from its query.
+    /// Returns the identifier, which a response copies from its query.
     pub fn id(self) -> u16
         ensures { result ≡ id_of self }
     {
         u16::from_be_bytes([self.inner[0], self.inner[1]])
     }
 
-    /// Whether the message is a response (QR).
+    /// Returns whether the message is a response (QR).
     pub fn qr(self) -> bool
         ensures { result ≡ is_response self }
     {
         self.bit(2, 7)
     }
 
-    /// The kind of query.
+    /// Returns the opcode, which is the kind of query.
     pub fn opcode(self) -> Opcode
         ensures { result ≡ opcode_of self }
     {
         Opcode::from_int(self.inner[2] / 8 % 16)
     }
 
-    /// Whether the server that answers is one of the zone (AA).
+    /// Returns whether the responding server is an authority for the name (AA).
     pub fn aa(self) -> bool
         ensures { result ≡ is_authoritative self }
     {
         self.bit(2, 2)
     }
 
-    /// Whether the message was cut (TC).
+    /// Returns whether the message was truncated (TC).
     pub fn tc(self) -> bool
         ensures { result ≡ is_truncated self }
     {
         self.bit(2, 1)
     }
 
-    /// Whether recursion is asked for (RD).
+    /// Returns whether the query asks for recursion (RD).
     pub fn rd(self) -> bool
         ensures { result ≡ recursion_desired self }
     {
         self.bit(2, 0)
     }
 
-    /// Whether the server offers recursion (RA).
+    /// Returns whether the server offers recursion (RA).
     pub fn ra(self) -> bool
         ensures { result ≡ recursion_available self }
     {
         self.bit(3, 7)
     }
 
-    /// The bit that has no use yet (Z).
+    /// Returns the reserved bit (Z).
     pub fn z(self) -> bool
         ensures { result ≡ is_reserved self }
     {
         self.bit(3, 6)
     }
 
-    /// Whether the server found all data authentic (AD).
+    /// Returns whether the server vouches that all data is authentic (AD).
     pub fn ad(self) -> bool
         ensures { result ≡ is_authentic self }
     {
         self.bit(3, 5)
     }
 
-    /// Whether data is wanted that was not found authentic (CD).
+    /// Returns whether the query accepts data that is not authenticated (CD).
     pub fn cd(self) -> bool
         ensures { result ≡ checking_disabled self }
     {
         self.bit(3, 4)
     }
 
-    /// How the query was answered.
+    /// Returns the response code.
     pub fn rcode(self) -> Rcode
         ensures { result ≡ rcode_of self }
     {
         Rcode::masked_from_int(self.inner[3])
     }
 
-    /// The bits that are on or off, but for Z.
+    /// Returns the one-bit flags, except Z.
     pub fn flags(self) -> Flags
         ensures { result ≡ flags_in (fields_of self) }
     {
@@ -211,9 +211,9 @@ impl Header {
     }
 }
 
-/// Each call changes what it names and nothing else.
+/// Each call changes the field that it names and nothing else.
 impl Header {
-    /// Sets the number that an answer has from its query.
+    /// Sets the identifier, which a response copies from its query.
     pub fn set_id(&mut self, value: u16)
         ensures { fields_of self.new ≡ record (fields_of self.old) { id = value } }
     {
@@ -222,76 +222,76 @@ impl Header {
         self.inner[1] = low;
     }
 
-    /// Sets the kind of query: the low four bits of its number.
+    /// Sets the opcode, to the low four bits of its number.
     pub fn set_opcode(&mut self, opcode: Opcode)
         ensures { fields_of self.new ≡ record (fields_of self.old) { opcode = opcode % 16 } }
     {
         self.inner[2] = with_opcode(self.inner[2], opcode.to_int());
     }
 
-    /// Sets how the query was answered.
+    /// Sets the response code.
     pub fn set_rcode(&mut self, rcode: Rcode)
         ensures { fields_of self.new ≡ record (fields_of self.old) { rcode = rcode } }
     {
         self.inner[3] = with_rcode(self.inner[3], rcode.to_int());
     }
 
-    /// Says whether the message is a response.
+    /// Sets whether the message is a response (QR).
     pub fn set_qr(&mut self, set: bool)
         ensures { fields_of self.new ≡ record (fields_of self.old) { qr = set } }
     {
         self.set_bit(2, 7, set);
     }
 
-    /// Says whether the server that answers is one of the zone.
+    /// Sets whether the responding server is an authority for the name (AA).
     pub fn set_aa(&mut self, set: bool)
         ensures { fields_of self.new ≡ record (fields_of self.old) { aa = set } }
     {
         self.set_bit(2, 2, set);
     }
 
-    /// Says whether the message was cut.
+    /// Sets whether the message was truncated (TC).
     pub fn set_tc(&mut self, set: bool)
         ensures { fields_of self.new ≡ record (fields_of self.old) { tc = set } }
     {
         self.set_bit(2, 1, set);
     }
 
-    /// Says whether recursion is asked for.
+    /// Sets whether the query asks for recursion (RD).
     pub fn set_rd(&mut self, set: bool)
         ensures { fields_of self.new ≡ record (fields_of self.old) { rd = set } }
     {
         self.set_bit(2, 0, set);
     }
 
-    /// Says whether the server offers recursion.
+    /// Sets whether the server offers recursion (RA).
     pub fn set_ra(&mut self, set: bool)
         ensures { fields_of self.new ≡ record (fields_of self.old) { ra = set } }
     {
         self.set_bit(3, 7, set);
     }
 
-    /// Sets or clears the bit that has no use yet.
+    /// Sets or clears the reserved bit (Z).
     pub fn set_z(&mut self, set: bool)
         ensures { fields_of self.new ≡ record (fields_of self.old) { z = set } }
     {
         self.set_bit(3, 6, set);
     }
 
-    /// Says whether the server found all data authentic.
+    /// Sets whether the server vouches that all data is authentic (AD).
     pub fn set_ad(&mut self, set: bool)
         ensures { fields_of self.new ≡ record (fields_of self.old) { ad = set } }
     {
         self.set_bit(3, 5, set);
     }
 
-    /// Says whether data is wanted that was not found authentic.
+    /// Sets whether the query accepts data that is not authenticated (CD).
     pub fn set_cd(&mut self, set: bool)
         ensures { fields_of self.new ≡ record (fields_of self.old) { cd = set } }
     {
         self.set_bit(3, 4, set);
     }
-    /// Sets the bits that are on or off, but for Z.
+    /// Sets the one-bit flags, except Z.
     pub fn set_flags(&mut self, flags: Flags)
         ensures { fields_of self.new ≡ with_flags flags (fields_of self.old) }
     {

@@ -20,46 +20,46 @@ use crate::{Header, HeaderCounts, Question, Record, RecordHeader};
 use dns_name::{CanonicalOrd, RecordData, ToName};
 use std::hash::Hash;
 
-/// The octets of a header are known by its fields, so headers with the same fields are the same.
+/// The fields of a header determine its octets, so headers with the same fields are equal.
 pub fn header_is_its_fields(header: Header)
     ensures { header ≡ header_octets (fields_of header) }
 {
     let _octets = header.octets();
 }
 
-/// The octets of the counts are known by the four numbers, so counts with the same numbers are the same.
+/// The four numbers determine the octets of the counts, so counts with the same numbers are equal.
 pub fn counts_are_four_numbers(counts: HeaderCounts)
     ensures { counts ≡ counts_octets (counts_of counts) }
 {
     let _octets = counts.octets();
 }
 
-/// Where a question is read, a reader that follows no pointer stops at the same place.
+/// If a question is read at a place, a reader that follows no pointer stops at the same place.
 pub fn question_skip_stops_where_parse_stops()
     ensures { (message : List ℕ) (place next : ℕ) (question : spec.Question)
         → ReadsQuestion message place question next → SkipsQuestion message place next }
 {}
 
-/// The octets of a question with its name in full are read as that question, wherever they stand.
+/// The octets of a question with its name in full are read as that question, wherever they are.
 pub fn questions_in_full_are_read()
     ensures { (message front rest : List ℕ) (question : spec.Question) → IsName question.name → question.qtype < 2 ^ 16
         → question.qclass < 2 ^ 16 → message ≡ front ++ (question_octets question ++ rest)
         → ReadsQuestion message (length front) question (length front + length (question_octets question)) }
 {}
 
-/// Where a record is parsed, a reader that follows no pointer stops at the same place.
+/// If a record is parsed at a place, a reader that follows no pointer stops at the same place.
 pub fn record_skip_stops_where_parse_stops()
     ensures { (message : List ℕ) (place data_place next : ℕ) (head : Head (List (List ℕ)))
         → ReadsWhole message place head data_place next → SkipsRecord message place next }
 {}
 
-/// The octets of options are cut into these options.
+/// The octets of options are split into these options.
 pub fn options_are_cut_from_their_octets()
     ensures { (options : List EdnsOption) → AllByRecursion IsOption options → options_of (options_octets options) ≡ options }
 {}
 
-/// Records are equal exactly where their order ties them, and records that are equal are hashed alike, where equal data is. None of
-/// the three sees the TTL (RFC 2136 1.1.1).
+/// Records are equal exactly if their order ties them, and equal records hash alike. Equality, order and hash ignore
+/// the TTL (RFC 2136 1.1.1).
 pub fn record_equality_order_and_hash_agree<N: ToName, Data: Ord + Hash>(
     record: &Record<N, Data>,
     other: &Record<N, Data>,
@@ -74,7 +74,7 @@ pub fn record_equality_order_and_hash_agree<N: ToName, Data: Ord + Hash>(
         ≡ ⟦<Record<N, Data> as Hash>⟧.hash_input record.now }
 {}
 
-/// The order of records is a total one, by owner, class and data. Their canonical order is by class, owner, type and data
+/// The order of records is total, by owner, class and data. Their canonical order is by class, owner, type and data
 /// (RFC 4034 6).
 pub fn record_orders_by_owner_class_data<N: ToName, Data: Ord + RecordData + CanonicalOrd>(
     record: &Record<N, Data>,
@@ -91,8 +91,8 @@ pub fn record_orders_by_owner_class_data<N: ToName, Data: Ord + RecordData + Can
         (Data.canonical record.now.rdata other.now.rdata))) }
 {}
 
-/// The order of questions is a total one, by name, type and class, which ties exactly those that are equal; and those are hashed
-/// alike. Their canonical order is by the name's octets in lower case, type and class.
+/// The order of questions is total, by name, type and class. It ties exactly the equal ones, and these hash alike.
+/// Their canonical order is by the name's octets in lower case, type and class.
 pub fn question_orders_by_name_type_class<N: ToName>(question: &Question<N>, other: &Question<N>)
     ensures total { IsTotalOrder ⟦<Question<N> as Ord>⟧.cmp }
     ensures order { ⟦<Question<N> as Ord>⟧.cmp question.now other.now
@@ -110,8 +110,8 @@ pub fn question_orders_by_name_type_class<N: ToName>(question: &Question<N>, oth
         (nat_cmp (question_of N.name question.now).qclass (question_of N.name other.now).qclass)) }
 {}
 
-/// The order of record headers is a total one, by owner, type, class, TTL and length of the data, which ties exactly those that are
-/// equal; and those are hashed alike.
+/// The order of record headers is total, by owner, type, class, TTL and data length. It ties exactly the equal ones,
+/// and these hash alike.
 pub fn record_header_orders_by_fields<N: ToName>(header: &RecordHeader<N>, other: &RecordHeader<N>)
     ensures total { IsTotalOrder ⟦<RecordHeader<N> as Ord>⟧.cmp }
     ensures order { ⟦<RecordHeader<N> as Ord>⟧.cmp header.now other.now

@@ -1,6 +1,6 @@
-//! Headers, questions and records of messages, and how each is read and written (RFC 1035 4.1).
+//! Headers, questions and records of messages: parsing and writing them (RFC 1035 4.1).
 //!
-//! A part of `dns_message`, which hands all of it on.
+//! A part of `dns_message`, which re-exports all of it.
 #![tactic(auto)]
 
 mod compose;

@@ -22,9 +22,9 @@ use iter::are_options;
 pub use record::OptRecord;
 use std::marker::Model;
 
-/// Data of an OPT record, held as its octets.
+/// Data of an OPT record, kept as its octets.
 ///
-/// A contract sees the list of the options. They have at most 65,535 octets.
+/// Contracts see the list of the options. They have at most 65,535 octets.
 #[derive(Debug, Drop)]
 pub struct Opt<Octs: Octets> {
     octets: Octs,
@@ -39,9 +39,10 @@ impl<Octs: Octets> Model for Opt<Octs> {
 }
 
 impl<Octs: Octets> Opt<Octs> {
-    /// Returns the data of these octets.
+    /// Returns the data with these octets.
     ///
-    /// Fails if they are not whole options or are more than 65,535, and with `ShortInput` exactly if they are at most so many.
+    /// Fails with `ShortInput` if they are at most 65,535 octets but not whole options, and with another error if they
+    /// are more.
     pub fn from_octets(octets: Octs) -> Result<Self, ParseError>
     where
         Octs: Drop,
@@ -72,7 +73,7 @@ impl<Octs: Octets> Opt<Octs> {
     }
 }
 
-/// Always OPT.
+/// The type is always OPT.
 impl<Octs: Octets> RecordData for Opt<Octs> {
     ghost rtype = { λ _. 41 };
 
@@ -104,7 +105,7 @@ impl<Octs: Octets> ComposeRecordData for Opt<Octs> {
     }
 }
 
-/// Takes OPT alone.
+/// Parses data of type OPT only.
 impl<'a> ParseRecordData<'a> for Opt<&'a [u8]> {
     ghost takes = { λ number. number == 41 };
 

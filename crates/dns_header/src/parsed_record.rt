@@ -16,11 +16,11 @@ use dns_name::{
 };
 use std::marker::Model;
 
-/// A record in a message, whose data is not looked into yet.
+/// A record in a message, with unparsed data.
 #[derive(Debug, Drop)]
 pub struct ParsedRecord<'a> {
     header: RecordHeader<ParsedName<&'a [u8]>>,
-    /// In front of the data, with which it ends.
+    /// At the start of the data, and ends with the data.
     data: Parser<'a>,
 }
 
@@ -31,7 +31,7 @@ impl<'a> Model for ParsedRecord<'a> {
 }
 
 impl<'a> ParsedRecord<'a> {
-    /// The record of these parts; the parser stands in front of the data, and ends with it.
+    /// Returns the record with this header; the parser must be at the start of the data and end with it.
     pub fn new(header: RecordHeader<ParsedName<&'a [u8]>>, parser: Parser<'a>) -> Self
         ensures { result ≡ record { head = labelled labels_of header.entry; rdata = parser.entry } }
     {
@@ -41,44 +41,43 @@ impl<'a> ParsedRecord<'a> {
         }
     }
 
-    /// The name that the record is about.
+    /// Returns the owner.
     pub fn owner(&self) -> ParsedName<&'a [u8]>
         ensures { labels_of result ≡ self.now.head.owner }
     {
         *self.header.owner()
     }
 
-    /// The type of the data.
+    /// Returns the type of the data.
     pub fn rtype(&self) -> Rtype
         ensures { result ≡ self.now.head.rtype }
     {
         self.header.rtype()
     }
 
-    /// The class of the record.
+    /// Returns the class.
     pub fn class(&self) -> Class
         ensures { result ≡ self.now.head.class }
     {
         self.header.class()
     }
 
-    /// For how long the record may be kept.
+    /// Returns how long the record may be cached.
     pub fn ttl(&self) -> Ttl
         ensures { result ≡ self.now.head.ttl }
     {
         self.header.ttl()
     }
 
-    /// How many octets the data has.
+    /// Returns how many octets the data has.
     pub fn rdlen(&self) -> u16
         ensures { result ≡ self.now.head.data_len }
     {
         self.header.rdlen()
     }
 
-    /// Reads the record at the parser's place, and leaves the parser behind it. The data is not looked into. Refused where
-    /// no record stands there, and the parser then stays where it is: with `ShortInput` exactly where the message ends too
-    /// early, and else with an error of the form.
+    /// Parses the record at the parser's place, but not its data, and moves the parser after it. Fails if no record is
+    /// there, and with `ShortInput` exactly if the message ends too early for it. The parser then stays where it is.
     pub fn parse(parser: &mut Parser<'a>) -> Result<Self, ParseError>
         ensures ok { IfOk result (λ found. HoldsRecord (octets_of parser.old) (place_of parser.old) found (place_of parser.new)) }
         ensures err { OnErr result (NoWhole (octets_of parser.old) (place_of parser.old)) }
@@ -93,7 +92,8 @@ impl<'a> ParsedRecord<'a> {
         Ok(ParsedRecord { header, data })
     }
 
-    /// The record with its data, or None where data of its type is not taken. Refused where it is no data of the type.
+    /// Parses the data. Returns the record, or None if `Data` does not take the type. Fails if the data is none of the
+    /// type.
     pub fn to_record<Data: ParseRecordData<'a>>(
         &self,
     ) -> Result<Option<Record<ParsedName<&'a [u8]>, Data>>, ParseError>
@@ -108,7 +108,7 @@ impl<'a> ParsedRecord<'a> {
         }
     }
 
-    /// The same as `to_record`.
+    /// As `to_record`, but consumes the parsed record.
     pub fn into_record<Data: ParseRecordData<'a>>(
         self,
     ) -> Result<Option<Record<ParsedName<&'a [u8]>, Data>>, ParseError>
@@ -119,7 +119,7 @@ impl<'a> ParsedRecord<'a> {
         self.to_record()
     }
 
-    /// The record with its data, whatever its type. Refused where it is no data of the type.
+    /// Parses the data, whatever its type, and returns the record. Fails if the data is none of the type.
     pub fn to_any_record<Data: ParseAnyRecordData<'a>>(
         &self,
     ) -> Result<Record<ParsedName<&'a [u8]>, Data>, ParseError>
@@ -131,7 +131,7 @@ impl<'a> ParsedRecord<'a> {
         Ok(self.with_data(rdata))
     }
 
-    /// The same as `to_any_record`.
+    /// As `to_any_record`, but consumes the parsed record.
     pub fn into_any_record<Data: ParseAnyRecordData<'a>>(
         self,
     ) -> Result<Record<ParsedName<&'a [u8]>, Data>, ParseError>
@@ -141,7 +141,7 @@ impl<'a> ParsedRecord<'a> {
         self.to_any_record()
     }
 
-    /// The record with this data.
+    /// Returns the record with this data.
     fn with_data<Data>(&self, rdata: Data) -> Record<ParsedName<&'a [u8]>, Data>
         ensures { with_labels labels_of result ≡ record {
           owner = self.now.head.owner;

@@ -24,7 +24,7 @@ pub struct Question<N> {
 impl<N> Question<N> {
     ghost use Rattle.dns_header.specs.QuestionParts.{qname_of};
 
-    /// The question for a name, a type and a class.
+    /// Returns the question for a name, a type and a class.
     pub fn new(qname: N, qtype: Rtype, qclass: Class) -> Self
         ensures qname { qname_of result ≡ qname }
         ensures qtype { result.qtype ≡ qtype }
@@ -37,7 +37,7 @@ impl<N> Question<N> {
         }
     }
 
-    /// The question for a name and a type in class IN.
+    /// Returns the question for a name and a type in class IN.
     pub fn new_in(qname: N, qtype: Rtype) -> Self
         ensures qname { qname_of result ≡ qname }
         ensures qtype { result.qtype ≡ qtype }
@@ -46,28 +46,28 @@ impl<N> Question<N> {
         Question::new(qname, qtype, Class::IN)
     }
 
-    /// The name that is asked for.
+    /// Returns the name.
     pub fn qname(&self) -> &N
         ensures { result.now ≡ qname_of self.now }
     {
         &self.qname
     }
 
-    /// The name that is asked for, out of the question.
+    /// Returns the name, and drops the rest.
     pub fn into_qname(self) -> N
         ensures { result ≡ qname_of self }
     {
         self.qname
     }
 
-    /// The type that is asked for.
+    /// Returns the type.
     pub fn qtype(&self) -> Rtype
         ensures { result ≡ self.now.qtype }
     {
         self.qtype
     }
 
-    /// The class that is asked for.
+    /// Returns the class.
     pub fn qclass(&self) -> Class
         ensures { result ≡ self.now.qclass }
     {
@@ -85,7 +85,7 @@ impl<N> From<(N, Rtype, Class)> for Question<N> {
     }
 }
 
-/// In class IN.
+/// Of class IN.
 impl<N> From<(N, Rtype)> for Question<N> {
     ghost use Rattle.dns_header.specs.QuestionParts.{qname_of};
 

@@ -29,7 +29,7 @@ pub use parse_error::RecordParseError;
 use std::alloc::Global;
 use std::marker::Model;
 
-/// A resource record: a name, and data of the type and class that there is about it, for so long (RFC 1035 3.2.1).
+/// A resource record: an owner, class, TTL, and data, which determines the type (RFC 1035 3.2.1).
 #[derive(Clone, Debug, Drop)]
 pub struct Record<N, Data> {
     owner: N,
@@ -49,7 +49,7 @@ impl<N, Data> Model for Record<N, Data> {
 }
 
 impl<N, Data> Record<N, Data> {
-    /// The record of these parts, whose type is that of the data.
+    /// Returns the record with these fields. Its type is that of the data.
     pub fn new(owner: N, class: Class, ttl: Ttl, rdata: Data) -> Self
         ensures { result ≡ record { owner = owner; class = class; ttl = ttl; rdata = rdata } }
     {
@@ -61,35 +61,35 @@ impl<N, Data> Record<N, Data> {
         }
     }
 
-    /// The name that the record is about.
+    /// Returns the owner.
     pub fn owner(&self) -> &N
         ensures { result.now ≡ self.now.owner }
     {
         &self.owner
     }
 
-    /// The class of the record.
+    /// Returns the class.
     pub fn class(&self) -> Class
         ensures { result ≡ self.now.class }
     {
         self.class
     }
 
-    /// For how long the record may be kept.
+    /// Returns how long the record may be cached.
     pub fn ttl(&self) -> Ttl
         ensures { result ≡ self.now.ttl }
     {
         self.ttl
     }
 
-    /// The data.
+    /// Returns the data.
     pub fn data(&self) -> &Data
         ensures { result.now ≡ self.now.rdata }
     {
         &self.data
     }
 
-    /// The data, to be changed. The rest of the record stays.
+    /// Returns the data for changes. The other fields stay.
     pub fn data_mut(&mut self) -> &mut Data
         ensures value { result.now ≡ self.old.rdata }
         ensures* writes_back { sem 𝓛 (follows (the_row N.row Data.row) Data.row self.entry.ghost_name result.ghost_name (with_data self.old)) }
@@ -97,21 +97,21 @@ impl<N, Data> Record<N, Data> {
         &mut self.data
     }
 
-    /// Gives the record another class.
+    /// Sets the class.
     pub fn set_class(&mut self, class: Class)
         ensures { self.new ≡ record { owner = self.old.owner; class = class; ttl = self.old.ttl; rdata = self.old.rdata } }
     {
         self.class = class;
     }
 
-    /// Gives the record another TTL.
+    /// Sets the TTL.
     pub fn set_ttl(&mut self, ttl: Ttl)
         ensures { self.new ≡ record { owner = self.old.owner; class = self.old.class; ttl = ttl; rdata = self.old.rdata } }
     {
         self.ttl = ttl;
     }
 
-    /// The data alone.
+    /// Returns the data, and drops the rest.
     pub fn into_data(self) -> Data
     where
         N: Drop,
@@ -120,7 +120,7 @@ impl<N, Data> Record<N, Data> {
         self.data
     }
 
-    /// The owner and the data.
+    /// Returns the owner and the data.
     pub fn into_owner_and_data(self) -> (N, Data)
         ensures { (result.0 ≡ self.owner) × (result.1 ≡ self.rdata) }
     {
@@ -131,7 +131,7 @@ impl<N, Data> Record<N, Data> {
 impl<N: Drop, Data> Record<N, Data> {
     /// Converts the owner, and then the data, of another record.
     ///
-    /// Fails as the conversion of the owner does, and else as that of the data does.
+    /// Fails if the conversion of the owner fails, or else that of the data, with its error.
     pub fn from_record<Source, SourceData>(
         alloc: Global,
         source: Record<Source, SourceData>,
@@ -149,7 +149,7 @@ impl<N: Drop, Data> Record<N, Data> {
 }
 
 impl<N, Data: RecordData> Record<N, Data> {
-    /// The type of the data.
+    /// Returns the type of the data.
     pub fn rtype(&self) -> Rtype
         ensures { result ≡ Data.rtype self.now.rdata }
     {
@@ -158,7 +158,7 @@ impl<N, Data: RecordData> Record<N, Data> {
 }
 
 impl<N: ToName, Data: ComposeRecordData> Record<N, Data> {
-    /// Appends the record, all or nothing, and refused as `ComposeRecord::compose_record` has it.
+    /// Appends the record, all or nothing. Fails as `ComposeRecord::compose_record` does.
     pub fn compose<Target: Composer>(&self, target: &mut Target) -> Result<(), AppendError>
         ensures ok { OnOk result (page_of (Target.list target.new) (Target.known target.new)
             ≡ write Target.spelling (page_of (Target.list target.old) (Target.known target.old)) (parts_of (written_of N.name Data.rtype Data.parts self.now))) }
@@ -179,9 +179,9 @@ impl<N: ToName, Data: ComposeRecordData> Record<N, Data> {
         compose_parts(&self.owner, self.class, self.ttl, &self.data, target)
     }
 
-    /// Appends the canonical form of the record (RFC 4034 6.2), all or nothing: its owner and the names in its data in full
-    /// and in lower case. Refused with `ShortBuf` only where the target would then hold more octets than it may, with
-    /// `BadLength` only where the data has more than 65,535 octets, and with `OutOfMemory` where a growth was refused.
+    /// Appends the canonical form of the record (RFC 4034 6.2), all or nothing: its owner and the names in its data in
+    /// full and in lower case. Fails with `ShortBuf` only if the target is too full, with `BadLength` only if the data
+    /// has more than 65,535 octets, and with `OutOfMemory` only if out of memory.
     pub fn compose_canonical<Target: Composer>(
         &self,
         target: &mut Target,
@@ -200,9 +200,8 @@ impl<N: ToName, Data: ComposeRecordData> Record<N, Data> {
 }
 
 impl<'a, Data: ParseRecordData<'a>> Record<ParsedName<&'a [u8]>, Data> {
-    /// Reads the record at the parser's place, or answers None where data of its type is not taken; the parser is then behind
-    /// the record. Refused where no record stands there, or its data is no data of the type; the parser then stays where it
-    /// is.
+    /// Parses the record at the parser's place, and moves the parser after it. Returns None if `Data` does not take the
+    /// type. Fails if no record is there, or its data is none of the type. The parser then stays where it is.
     pub fn parse(parser: &mut Parser<'a>) -> Result<Option<Self>, ParseError>
         ensures ok { IfOk result (λ found. (head : Head (List (List ℕ))) × (data_place : ℕ)
             × ReadsWhole (octets_of parser.old) (place_of parser.old) head data_place (place_of parser.new)

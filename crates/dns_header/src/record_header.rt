@@ -1,4 +1,4 @@
-//! What stands in front of a record's data.
+//! Record headers: the fields of a record before its data.
 ghost use Rattle.std.specs.Prelude.{◌≡◌, ◌+◌, ◌≤◌, ◌↔◌, ◌++◌, ℕ, Err, length, take, drop, is_some, IsOk, IfOk, IfErr, IfSome, OnOk, OnErr};
 ghost use Rattle.std.specs.Int.{from_be_bytes, to_be_bytes, w16, w32};
 ghost use Rattle.dns_octets.specs.Builder.{GrowsTo, IsPast};
@@ -22,8 +22,7 @@ use dns_name::{
 };
 use std::marker::Model;
 
-/// What stands in front of a record's data (RFC 1035 3.2.1): whose record it is, of which type and class, for how long it
-/// may be kept, and how many octets the data has.
+/// Owner, type, class, TTL and RDLENGTH of a record (RFC 1035 3.2.1).
 #[derive(Clone, Copy, Debug, Drop)]
 pub struct RecordHeader<N> {
     owner: N,
@@ -54,7 +53,7 @@ impl<N> Model for RecordHeader<N> {
 }
 
 impl<N> RecordHeader<N> {
-    /// What stands in front of so many octets of data.
+    /// Returns the header with these fields.
     pub fn new(owner: N, rtype: Rtype, class: Class, ttl: Ttl, rdlen: u16) -> Self
         ensures { result ≡ record { owner = owner; rtype = rtype; class = class; ttl = ttl; data_len = rdlen } }
     {
@@ -67,35 +66,35 @@ impl<N> RecordHeader<N> {
         }
     }
 
-    /// The name that the record is about.
+    /// Returns the owner.
     pub fn owner(&self) -> &N
         ensures { result.now ≡ self.now.owner }
     {
         &self.owner
     }
 
-    /// The type of the data.
+    /// Returns the type of the data.
     pub fn rtype(&self) -> Rtype
         ensures { result ≡ self.now.rtype }
     {
         self.rtype
     }
 
-    /// The class of the record.
+    /// Returns the class.
     pub fn class(&self) -> Class
         ensures { result ≡ self.now.class }
     {
         self.class
     }
 
-    /// For how long the record may be kept.
+    /// Returns how long the record may be cached.
     pub fn ttl(&self) -> Ttl
         ensures { result ≡ self.now.ttl }
     {
         self.ttl
     }
 
-    /// How many octets the data has.
+    /// Returns how many octets the data has.
     pub fn rdlen(&self) -> u16
         ensures { result ≡ self.now.data_len }
     {
@@ -104,9 +103,8 @@ impl<N> RecordHeader<N> {
 }
 
 impl<'a> RecordHeader<ParsedName<&'a [u8]>> {
-    /// Reads what stands at the parser's place, and leaves the parser in front of the data. Refused where no such thing
-    /// stands there, and the parser then stays where it is: with `ShortInput` exactly where the message ends too early, and
-    /// else with an error of the form.
+    /// Parses the record header at the parser's place, and moves the parser to the data. Fails if no record header is
+    /// there, and with `ShortInput` exactly if the message ends too early for it. The parser then stays where it is.
     pub fn parse(parser: &mut Parser<'a>) -> Result<Self, ParseError>
         ensures ok { IfOk result (λ header. ReadsHead (octets_of parser.old) (place_of parser.old) (labelled labels_of header) (place_of parser.new)) }
         ensures err { OnErr result (NoHead (octets_of parser.old) (place_of parser.old)) }
@@ -138,9 +136,9 @@ impl<'a> RecordHeader<ParsedName<&'a [u8]>> {
         RecordHeader::parse(parser)
     }
 
-    /// Reads what stands at the parser's place, and leaves the parser behind the data, which is not looked into. Refused
-    /// where no such thing stands there with the data behind it, and the parser then stays where it is: with `ShortInput`
-    /// exactly where the message ends too early, and else with an error of the form.
+    /// Parses the record header at the parser's place, and moves the parser after the data, which is not parsed. Fails
+    /// if no record header with its data is there, and with `ShortInput` exactly if the message ends too early for
+    /// them. The parser then stays where it is.
     pub fn parse_and_skip(parser: &mut Parser<'a>) -> Result<Self, ParseError>
         ensures ok { IfOk result (λ header. (data_place : ℕ) × ReadsWhole (octets_of parser.old) (place_of parser.old)
             (labelled labels_of header) data_place (place_of parser.new)) }
@@ -158,7 +156,7 @@ impl<'a> RecordHeader<ParsedName<&'a [u8]>> {
 }
 
 impl<N> RecordHeader<N> {
-    /// The record with this data.
+    /// Returns the record with this data.
     pub fn into_record<Data>(self, rdata: Data) -> Record<N, Data>
         ensures { result ≡ record { owner = self.owner; class = self.class; ttl = self.ttl; rdata = rdata } }
     {
@@ -167,9 +165,9 @@ impl<N> RecordHeader<N> {
 }
 
 impl<'a, N> RecordHeader<N> {
-    /// The record with the data at the parser's place, or None where data of the type is not taken; the parser is then
-    /// behind the data. Refused where fewer octets are left than the data has, or these are not data of the type; the
-    /// parser then stays where it is.
+    /// Parses the data at the parser's place, and moves the parser after it. Returns the record, or None if `Data` does
+    /// not take the type. Fails if the message ends before the data does, or the data is none of the type. The parser
+    /// then stays where it is.
     pub fn parse_into_record<Data: ParseRecordData<'a>>(
         self,
         parser: &mut Parser<'a>,
@@ -192,8 +190,9 @@ impl<'a, N> RecordHeader<N> {
         }
     }
 
-    /// The record with the data at the parser's place, whatever its type; the parser is then behind the data. Refused where
-    /// fewer octets are left than the data has, or these are not data of the type; the parser then stays where it is.
+    /// Parses the data at the parser's place, whatever its type, and moves the parser after it. Returns the record.
+    /// Fails if the message ends before the data does, or the data is none of the type. The parser then stays where it
+    /// is.
     pub fn parse_into_any_record<Data: ParseAnyRecordData<'a>>(
         self,
         parser: &mut Parser<'a>,
@@ -214,9 +213,8 @@ impl<'a, N> RecordHeader<N> {
 }
 
 impl<N: ToName> RecordHeader<N> {
-    /// Appends what stands in front of the data, all or nothing: the owner, which may be written with a pointer, and the
-    /// numbers. Refused with `ShortBuf` only where the target would then hold more octets than it may, and with
-    /// `OutOfMemory` where a growth was refused.
+    /// Appends the record header, all or nothing: the owner, which may be written with a pointer, and the other fields.
+    /// Fails with `ShortBuf` only if the target is too full, and with `OutOfMemory` only if out of memory.
     pub fn compose<Target: Composer>(&self, target: &mut Target) -> Result<(), AppendError>
         ensures ok { OnOk result (page_of (Target.list target.new) (Target.known target.new)
             ≡ write Target.spelling (page_of (Target.list target.old) (Target.known target.old)) (head_parts (labelled N.name self.now))) }
@@ -234,7 +232,8 @@ impl<N: ToName> RecordHeader<N> {
         compose_head(&self.owner, &self.fixed(), target)
     }
 
-    /// Appends the same in canonical form, the owner in full and in lower case (RFC 4034 6.2), refused as `compose` is.
+    /// Appends the record header in canonical form, with the owner in full and in lower case (RFC 4034 6.2). Fails as
+    /// `compose` does.
     pub fn compose_canonical<Target: Composer>(
         &self,
         target: &mut Target,
@@ -250,7 +249,7 @@ impl<N: ToName> RecordHeader<N> {
         compose_canonical_head(&self.owner, &self.fixed(), target)
     }
 
-    /// The octets behind the owner.
+    /// Returns the octets after the owner.
     fn fixed(&self) -> [u8; 10]
         ensures { result ≡ fixed_octets self.now.rtype self.now.class self.now.ttl ++ to_be_bytes w16 self.now.data_len }
     {
@@ -260,8 +259,8 @@ impl<N: ToName> RecordHeader<N> {
     }
 }
 
-/// Reads the type, the class, the TTL and the length of the data. Refused where fewer than ten octets are left; the parser
-/// then stays where it is.
+/// Parses the type, the class, the TTL and the length of the data. Fails exactly if fewer than ten octets are left. The
+/// parser then stays where it is.
 fn parse_fixed(parser: &mut Parser<'_>) -> Result<(Rtype, Class, Ttl, u16), ShortInput>
     ensures enough { IsOk result ↔ (place_of parser.old + 10 ≤ length (octets_of parser.old)) }
     ensures place { OnOk result (GoesOn parser.old parser.new 10) }

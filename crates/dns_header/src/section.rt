@@ -33,14 +33,14 @@ impl Default for HeaderSection {
 }
 
 impl HeaderSection {
-    /// The header in which every bit is clear, and counts of zero.
+    /// Returns a header with all bits clear, and counts of zero.
     pub fn new() -> Self
         ensures { result ≡ replicate 12 0 }
     {
         HeaderSection { inner: [0; 12] }
     }
 
-    /// The header section of a message, of which there are at least twelve octets.
+    /// Returns the header section of a message. The slice must have at least twelve octets.
     pub fn for_message_slice(s: &[u8]) -> Self
         requires { 12 ≤ length s.now }
         ensures { result ≡ take 12 s.now }
@@ -50,7 +50,7 @@ impl HeaderSection {
         HeaderSection { inner }
     }
 
-    /// The twelve octets.
+    /// Returns the twelve octets.
     pub fn as_slice(&self) -> &[u8]
         ensures octets { result.now ≡ self.now }
         ensures twelve { length self.now ≡ 12 }
@@ -58,7 +58,7 @@ impl HeaderSection {
         &self.inner
     }
 
-    /// The header.
+    /// Returns the header.
     pub fn header(&self) -> Header
         ensures octets { result ≡ take 4 self.now }
         ensures said { fields_of result ≡ fields_of self.now }
@@ -66,7 +66,7 @@ impl HeaderSection {
         Header::for_message_slice(&self.inner)
     }
 
-    /// The counts.
+    /// Returns the counts.
     pub fn counts(&self) -> HeaderCounts
         ensures octets { result ≡ drop 4 self.now }
         ensures said { counts_of result ≡ counts_in self.now }
@@ -74,21 +74,22 @@ impl HeaderSection {
         HeaderCounts::for_message_slice(&self.inner)
     }
 
-    /// Puts another header in place of this one; the counts stay.
+    /// Replaces the header; the counts stay.
     pub fn set_header(&mut self, header: Header)
         ensures { self.new ≡ header ++ drop 4 self.old }
     {
         self.inner[..4].copy_from_slice(header.as_slice());
     }
 
-    /// Puts other counts in place of these; the header stays.
+    /// Replaces the counts; the header stays.
     pub fn set_counts(&mut self, counts: HeaderCounts)
         ensures { self.new ≡ take 4 self.old ++ counts }
     {
         self.inner[4..].copy_from_slice(counts.as_slice());
     }
 
-    /// Reads a header section. Refused where fewer than twelve octets are left; the parser then stays where it was.
+    /// Parses a header section. Fails with `ShortInput` exactly if fewer than twelve octets are left. The parser then
+    /// stays where it is.
     pub fn parse(parser: &mut Parser<'_>) -> Result<Self, ParseError>
         ensures ok { IfOk result (λ section. section ≡ take 12 (rest_of parser.old)) }
         ensures place { OnOk result (GoesOn parser.old parser.new 12) }

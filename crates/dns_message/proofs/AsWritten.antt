@@ -16,7 +16,7 @@ use Rattle.dns_message.specs.Record.IsRead.{typed, opaque}
 use Rattle.dns_message.specs.Record.IsWritten.{fields, untold}
 use Rattle.dns_message.proofs.WrittenRecords.{record-written}
 
--- other parts behind the same octets
+-- other parts after the same octets
 behind_octets : {message : List ℕ} {place next : ℕ} {text : List ℕ} {parts other : Parts}
     → ((from : ℕ) → Spells message from parts next → Spells message from other next)
     → Spells message place (Octets text parts) next → Spells message place (Octets text other) next
@@ -85,7 +85,7 @@ least_record r =
       four_lengths (wire r.owner) (fixed_octets r.rtype r.class r.ttl) (to_be_bytes w16 (length r.rdata)) r.rdata,
     )
 
--- what takes some octets stands within the message
+-- what takes some octets is within the message
 pub place_within : (message : List ℕ) (place : ℕ) (front rest : List ℕ) → drop place message ≡ front ++ rest → 1 ≤ length front
     → place ≤ length message
 place_within message place front rest at some =

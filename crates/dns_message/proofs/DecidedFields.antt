@@ -1,4 +1,4 @@
--- Whether fields, and data of a type, stand at a place of a message is decided.
+-- Whether fields, or data of a type, are at a place of a message is decided.
 use Rattle.std.proofs.Common.{◌≡◌, ◌+◌, ◌≤◌, ◌<◌, ◌^◌, ◌⊎◌, ℕ, zero, suc, w16, w32, List, [], ◌∷◌, ◌++◌, length, take, drop, get_or, map, Some, None, refl, sym, ◌∙◌, ap, subst, arith, inl, inr, length-drop, length-append}
 use Rattle.std.specs.Prelude.{Option}
 use Rattle.std.specs.Int.{from_be_bytes}
@@ -53,13 +53,13 @@ record FieldAt (message : List ℕ) (place : ℕ) (its : Kind) : Type 0 where
 abbrev FieldDecided : List ℕ → ℕ → Kind → Type 0
 FieldDecided message place its = FieldAt message place its ⊎ NoField message place its
 
--- fields of a kind that are told by their octets
+-- fields of a kind that are determined by their octets
 record IsMade (its : Kind) (made : List ℕ → Field) : Type 0 where
   kind : (text : List ℕ) → kind_of (made text) ≡ its
   back : (field : Field) → kind_of field ≡ its → IsField field → made (field_octets field) ≡ field
   good : (text : List ℕ) → Decided (IsField (made text))
 
--- the octets of a field that stands at a place
+-- the octets of a field at a place
 front_stands : {its : Kind} {size : ℕ} {message : List ℕ} {place next : ℕ} → IsFixed its size → (field : Field) → kind_of field ≡ its
     → ReadsField message place field next → take size (drop place message) ≡ field_octets field
 front_stands {its} {size} {message} {place} {next} fixed field is reads =
@@ -161,7 +161,7 @@ uncompressed_decided message place (Decision.yes n) = inl (record {
 uncompressed_decided message place (Decision.no none) =
     inr (no_uncompressed (λ name next reads. none (record { name = name; next = next; reads = reads })))
 
--- a string in front of octets
+-- a string at the start of octets
 record StringAt (text : List ℕ) : Type 0 where
   first : List ℕ
   rest : List ℕ
@@ -259,7 +259,7 @@ strings_octets (n ∷ text) = elim (made_decided (length (n ∷ text)) (n ∷ te
   | inr not_made ↦ inr (λ are. not_made (strings_made (n ∷ text) are))
 ]
 
--- fields of the kinds, and nothing behind them
+-- fields of the kinds, and nothing after them
 record FieldsAt (message : List ℕ) (place : ℕ) (kinds : List Kind) : Type 0 where
   row : List Field
   kinds_are : map kind_of row ≡ kinds
@@ -295,7 +295,7 @@ strings_decided message place = elim (cases_lt (length message) place) [
   | inr front ↦ strings_by message place front (strings_octets (drop place message))
 ]
 
--- a rest is all that is left
+-- a rest is all that remains
 rest_decided : (rest : List ℕ → Field) (its : Kind) → ((text : List ℕ) → kind_of (rest text) ≡ its) → ((text : List ℕ) → IsField (rest text))
     → ((text : List ℕ) → read_field (rest text) End ≡ Octets text End) → (message : List ℕ) (place : ℕ)
     → FieldsDecided message place (its ∷ [])
@@ -312,7 +312,7 @@ rest_decided rest its kind good reads message place = elim (cases_lt (length mes
       }))
 ]
 
--- a field in front of others
+-- a field before others
 behind_first : (its : Kind) (kinds : List Kind) (message : List ℕ) (place : ℕ) → ((next : ℕ) → FieldsDecided message next kinds)
     → FieldDecided message place its → FieldsDecided message place (its ∷ kinds)
 behind_first its kinds message place behind (inr none) = inr (no_first kinds none)

@@ -22,7 +22,7 @@ use Rattle.dns_message.proofs.HeldRecords.{taken_read, read_taken}
 pub use Rattle.dns_message.proofs.DecidedFields.{Decided}
 use Rattle.dns_message.proofs.DecidedFields.{RowAt, row_decided}
 
--- what stands in front of a record's data, which is within the message
+-- a record header whose data is within the message
 record WholeAt (message : List ℕ) (place : ℕ) : Type 0 where
   head : Head (List (List ℕ))
   data_place : ℕ
@@ -165,7 +165,7 @@ question_by_name message place (Decision.yes n) = elim (cases_lt (length message
 pub question_decided : (message : List ℕ) (place : ℕ) → Decided (HasSomeQuestion message place)
 question_decided message place = question_by_name message place (decide-named message place)
 
--- the question at a place is one
+-- a place has at most one question
 pub question_one : {message : List ℕ} {place : ℕ} (a b : HasSomeQuestion message place) → (a.q ≡ b.q) × (a.next ≡ b.next)
 question_one {message} a b =
     let one = reads_one a.has.name b.has.name in

@@ -1,4 +1,4 @@
--- A record is spelled exactly where its head and its data are read.
+-- A record is spelled exactly if its header and its data are parsed.
 use Rattle.std.proofs.Common.{◌≡◌, ℕ, ◌+◌, ◌<◌, ◌≤◌, ◌^◌, List, [], ◌∷◌, ◌++◌, length, take, drop, refl, sym, ap, ◌∙◌, subst, arith, append-nil, length-append, length-drop, length-take-le, None}
 use Rattle.std.specs.Int.{to_be_bytes, from_be_bytes, w16, w32}
 use Rattle.std.proofs.lemmas.Nat.{from_be_bytes-to_be_bytes_2, from_be_bytes-to_be_bytes_4}
@@ -28,7 +28,7 @@ use Rattle.dns_message.proofs.Numbers.{AreOctets, number16, number32}
 use Rattle.dns_header.proofs.Heads.{heads_one}
 use Rattle.dns_message.proofs.Opened.{opened}
 
--- what stands in front of the data, and the parts of the data
+-- a record header, and the parts of the data
 abbrev parts_with : Head (List (List ℕ)) → Parts → Parts
 parts_with head parts = head_specs.record_parts head.owner head.rtype head.class head.ttl parts
 
@@ -38,7 +38,7 @@ record SmallNumbers (head : Head (List (List ℕ))) : Type 0 where
   ttl : head.ttl < 2 ^ 32
   data_len : head.data_len < 2 ^ 16
 
--- a head that is read, as octets
+-- a record header that is read, as octets
 record HeadStands (message : List ℕ) (head : Head (List (List ℕ))) (behind : ℕ) : Type 0 where
   small : SmallNumbers head
   fixed : drop behind message ≡ fixed_octets head.rtype head.class head.ttl ++ drop (behind + 8) message
@@ -64,7 +64,7 @@ head_stands {message} {head = head} each reads =
       len = len.1 ∙ (λ i. to_be_bytes w16 (sym reads.data_len i) ++ drop (reads.behind + 10) message);
     }
 
--- where a head is read, and its data is spelled, the record is
+-- if a record header is read, and its data is spelled, the record is
 head_spelled : {message : List ℕ} {place data_place next : ℕ} {head : Head (List (List ℕ))} (parts : Parts) → AreOctets message
     → ReadsWhole message place head data_place next → Spells (take next message) data_place parts next
     → Spells message place (parts_with head parts) next
@@ -82,7 +82,7 @@ head_spelled {message} {place} {data_place} {next} {head} parts each whole held 
     (named reads.behind reads.owner (octets (drop (reads.behind + 8) message) stands.fixed
     (counted head.data_len (drop (reads.behind + 10) message) stands.len stands.small.data_len fits inside (nothing fits))))
 
--- what is read where a record is spelled
+-- what is read if a record is spelled
 record HeadOpened (message : List ℕ) (place : ℕ) (r : Record) (parts : Parts) (next : ℕ) : Type 0 where
   head : Head (List (List ℕ))
   data_place : ℕ
@@ -138,7 +138,7 @@ nothing_left : (text : List ℕ) → length text ≡ 0 → text ≡ []
 nothing_left [] none = refl
 nothing_left (x ∷ text) none = absurd (omega arith)
 
--- opaque data is all that is left
+-- unknown data is all that remains
 opaque_spelled : {message : List ℕ} {place : ℕ} (text : List ℕ) → place ≤ length message → text ≡ drop place message
     → Spells message place (Octets text End) (length message)
 opaque_spelled {message} {place} text within is =
@@ -154,7 +154,7 @@ opaque_opened {message} {place} text spelled =
     let none = nothing_left begins.rest (omega (arith, ap (length {A = ℕ}) begins.at, length-drop place message, length-append text begins.rest)) in
     sym (begins.at ∙ ap (λ l. text ++ l) none ∙ append-nil text)
 
--- the record of a head with these octets
+-- the record of a record header with these octets
 abbrev with_octets : Head (List (List ℕ)) → List ℕ → Record
 with_octets head text = record { owner = head.owner; rtype = head.rtype; class = head.class; ttl = head.ttl; rdata = text }
 
@@ -197,7 +197,7 @@ number_read : (message : List ℕ) (place rtype : ℕ) (rdata : Data) → data_s
 number_read message place rtype (in_fields number row) reads = reads.0
 number_read message place rtype (untyped unknown) reads = reads.1.of_type
 
--- what the code reads is a record of the message
+-- what the code parses is a record of the message
 pub taken_read : {message : List ℕ} {place next : ℕ} (rr : RecordOf (List (List ℕ)) Data) → AreOctets message
     → TakesRecord message place rr next → ReadsRecord message place (record_of rr) next
 taken_read {message} {place} {next} rr each taken =
@@ -216,7 +216,7 @@ taken_read {message} {place} {next} rr each taken =
     let Q : Record → Type 0 = λ r. ReadsRecord message place r next in
     subst Q same (data_read rr.rdata each taken.whole reads)
 
--- the data of a record that is spelled, as the code holds it
+-- the data of a record that is spelled, as the code has it
 record DataOpened (message : List ℕ) (place : ℕ) (r : Record) (next : ℕ) : Type 0 where
   parts : Parts
   front : HeadOpened message place r parts next
@@ -258,7 +258,7 @@ pub record Taken (message : List ℕ) (place : ℕ) (r : Record) (next : ℕ) : 
   pub taken : TakesRecord message place rr next
   pub is : record_of rr ≡ r
 
--- a record of the message is what the code reads
+-- a record of the message is what the code parses
 pub read_taken : {message : List ℕ} {place next : ℕ} (r : Record) → ReadsRecord message place r next → Taken message place r next
 read_taken {message} {place} {next} r reads =
     let it = data_opened r reads.is_record reads.read reads.spelled in
@@ -282,7 +282,7 @@ read_taken {message} {place} {next} r reads =
       is = λ i. record { owner = r.owner; rtype = it.number i; class = r.class; ttl = r.ttl; rdata = it.is i };
     }
 
--- an item of a cursor, with its data read
+-- an item of a cursor, with its data parsed
 pub item_taken : {message : List ℕ} {place next : ℕ} {item : Parsed} {rr : RecordOf (List (List ℕ)) Data}
     → HoldsRecord message place item next → IsRecordOf data_specs.ReadsData item rr → TakesRecord message place rr next
 item_taken {message} {place} {next} {item} {rr} holds is =
@@ -301,7 +301,7 @@ item_taken {message} {place} {next} {item} {rr} holds is =
       };
     }
 
--- where the message has a record, the item of a cursor is that record
+-- if the message has a record, the item of a cursor is that record
 pub record ItemRead (message : List ℕ) (item : Parsed) (r : Record) (next end : ℕ) : Type 0 where
   pub ends : end ≡ next
   pub rr : RecordOf (List (List ℕ)) Data
@@ -332,7 +332,7 @@ item_read {message} {place} {next} {end} {item} r reads holds =
       is = it.is;
     }
 
--- and the code writes it by a record's parts
+-- and the code writes it with a record's parts
 held_written : (message : List ℕ) (place rtype : ℕ) (rr : RecordOf (List (List ℕ)) Data) (rdata : Data) → rr.rdata ≡ rdata
     → data_specs.ReadsData message place rtype rdata → IsWritten (record_of rr) (written_parts_of rr)
 held_written message place rtype rr (in_fields number row) is reads =

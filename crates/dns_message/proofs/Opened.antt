@@ -1,4 +1,4 @@
--- What is spelled, by what its first part is.
+-- What is spelled, by its first part.
 use Rattle.std.proofs.Common.{◌≡◌, ℕ, ◌+◌, ◌<◌, ◌≤◌, ◌^◌, List, ◌++◌, length, take, drop, refl}
 use Rattle.std.specs.Int.{to_be_bytes, w16}
 use Rattle.dns_label.specs.Spelled.{Reads}
@@ -7,7 +7,7 @@ use Rattle.dns_name.specs.Page.{Parts}
 use Rattle.dns_name.specs.Page.Parts.{End, Octets, Named, Counted}
 use Rattle.dns_name.specs.SpelledParts.Spells.{nothing, octets, named, counted}
 
--- octets that stand at a place, with parts behind them
+-- octets at a place, with parts after them
 pub record BeginsWith (message : List ℕ) (place : ℕ) (text : List ℕ) (parts : Parts) (next : ℕ) : Type 0 where
   pub rest : List ℕ
   pub at : drop place message ≡ text ++ rest

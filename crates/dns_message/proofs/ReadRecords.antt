@@ -1,4 +1,4 @@
--- A record that a message spells at a place is one.
+-- A message spells at most one record at a place.
 use Rattle.std.proofs.Common.{◌≡◌, ℕ, ◌+◌, List, ◌++◌, length, take, map, refl, sym, ap, ◌∙◌, subst, arith, Some, None}
 use Rattle.std.specs.Int.{to_be_bytes, w16, w32}
 use Rattle.dns_label.proofs.Spelling.{reads_one}
@@ -17,7 +17,8 @@ use Rattle.dns_message.proofs.Opened.{opened}
 abbrev numbers : Record → List ℕ
 numbers r = to_be_bytes w16 r.rtype ++ to_be_bytes w16 r.class ++ to_be_bytes w32 r.ttl
 
--- what two records agree on that are spelled at one place, their data apart: `message` and the places are those of the data
+-- two records that are spelled at one place agree, except for their data: `message` and the places are those of the
+-- data
 record SameHead (r other : Record) (parts parts' : Parts) (next next' : ℕ) : Type 0 where
   owner : r.owner ≡ other.owner
   rtype : r.rtype ≡ other.rtype
@@ -78,7 +79,7 @@ heads_one {message} {place} {next} {next'} r other parts parts' good good' spell
       whole = sym (length-take-le (named.end + 8 + 2 + counted.count) message counted.within);
     }
 
--- opaque data at one place
+-- unknown data at one place
 opaque_one : {message : List ℕ} {place end : ℕ} (text text' : List ℕ) → Spells message place (Octets text End) end
     → Spells message place (Octets text' End) end → text ≡ text'
 opaque_one {message} {place} {end} text text' spelled spelled' =
@@ -94,7 +95,7 @@ same_record : (r other : Record) → r.owner ≡ other.owner → r.rtype ≡ oth
 same_record r other owner rtype class ttl rdata =
     λ i. record { owner = owner i; rtype = rtype i; class = class i; ttl = ttl i; rdata = rdata i }
 
--- A message spells one record at a place.
+-- A message spells at most one record at a place.
 pub record_one : {message : List ℕ} {place next next' : ℕ} {parts parts' : Parts} (r other : Record) → IsRecord r → IsRecord other
     → IsRead r parts → IsRead other parts' → Spells message place parts next → Spells message place parts' next'
     → (r ≡ other) × (next ≡ next')

@@ -24,7 +24,7 @@ no_tag [] lacks = tt
 no_tag (Tag ∷ kinds) lacks = absurd cc
 no_tag (kind ∷ kinds) lacks = (λ e. cc, no_tag kinds lacks)
 
--- the rows of a table but that of CAA have none
+-- the rows of a table other than that of CAA have none
 abbrev others_lack_tag : List (ℕ × List Kind) → Bool
 others_lack_tag [] = true
 others_lack_tag (row ∷ rows) = ((row.0 == 257) || lacks_tag row.1) && others_lack_tag rows

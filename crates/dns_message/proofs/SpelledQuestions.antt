@@ -1,4 +1,4 @@
--- A question is read exactly where it is spelled.
+-- A question is read exactly if it is spelled.
 use Rattle.std.proofs.Common.{◌≡◌, ℕ, ◌+◌, ◌<◌, ◌^◌, List, ◌++◌, length, take, drop, refl, sym, ap, ◌∙◌, subst, arith, length-drop}
 use Rattle.std.specs.Int.{to_be_bytes, from_be_bytes, w16}
 use Rattle.std.proofs.lemmas.Nat.{from_be_bytes-to_be_bytes_2}

@@ -1,4 +1,4 @@
--- The definitions tried on records that are written out.
+-- The definitions on records that are written out.
 use Rattle.std.specs.Prelude.{◌≡◌, ℕ, List, [], ◌∷◌, refl}
 use Rattle.dns_rdata.specs.Fields.{number16, compressible, uncompressed}
 use Rattle.dns_rdata.specs.Data.{Data, typed}
@@ -30,7 +30,7 @@ pub mx_octets : record_octets (record_of mx)
     ≡ 1 ∷ 97 ∷ 0 ∷ 0 ∷ 15 ∷ 0 ∷ 1 ∷ 0 ∷ 0 ∷ 0 ∷ 60 ∷ 0 ∷ 5 ∷ 0 ∷ 10 ∷ 1 ∷ 98 ∷ 0 ∷ []
 mx_octets = refl
 
--- `a. 60 IN SRV 1 2 3 b.`: the owner alone may be compressed (RFC 2782)
+-- `a. 60 IN SRV 1 2 3 b.`: only the owner may be compressed (RFC 2782)
 abbrev srv : RecordOf (List (List ℕ)) Data
 srv = record {
   owner = (97 ∷ []) ∷ [];

@@ -1,4 +1,4 @@
--- Parts whose names are written out are spelled, whatever stands around them.
+-- Parts whose names are written out are spelled, whatever is around them.
 use Rattle.std.proofs.Common.{◌≡◌, ℕ, ◌+◌, ◌<◌, ◌≤◌, ◌^◌, List, [], ◌++◌, length, take, drop, refl, sym, ap, ◌∙◌, subst, arith, append_assoc, append-nil, length-append, length-take-le}
 use Rattle.std.specs.Prelude.{⊤}
 use Rattle.std.specs.Int.{to_be_bytes, w16}
@@ -12,14 +12,14 @@ use Rattle.dns_name.specs.Page.{Parts}
 use Rattle.dns_name.specs.Page.Parts.{End, Octets, Named, Counted}
 use Rattle.dns_name.specs.SpelledParts.Spells.{nothing, octets, named, counted}
 
--- parts that can be written: their names are names, and two octets can say each of their counts
+-- parts that can be written: their names are names, and each of their counts fits two octets
 abbrev pub AreWritable : Parts → Type 0
 AreWritable End = ⊤
 AreWritable (Octets text parts) = AreWritable parts
 AreWritable (Named name parts) = IsName name × AreWritable parts
 AreWritable (Counted inner parts) = (length (plain inner) < 2 ^ 16) × AreWritable inner × AreWritable parts
 
--- the octets that a length mark counts are the end of the message up to there
+-- the octets that a length counts are the end of the message up to there
 counted_octets : (message : List ℕ) (place count : ℕ) (inner rest : List ℕ) → drop place message ≡ inner ++ rest → count ≡ length inner
     → drop place (take (place + count) message) ≡ inner ++ []
 counted_octets message place count inner rest at counts =

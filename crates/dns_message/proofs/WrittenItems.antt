@@ -1,4 +1,4 @@
--- A record whose data is that of its type has parts by which a writer gives it, and only these.
+-- A record whose data is that of its type has parts as a writer writes it, and only these.
 use Rattle.std.proofs.Common.{◌≡◌, ℕ, List, [], map, Some, None, sym, ap, ◌∙◌, subst, inl, inr, refl}
 use Rattle.dns_name.specs.Page.{Parts}
 use Rattle.dns_name.specs.Page.Parts.{End, Octets}
@@ -15,7 +15,7 @@ abbrev written_by : (r : Record) → Decided (RowAt r.rtype r.rdata 0) → Parts
 written_by r (inl at) = record_parts r (written_parts at.row)
 written_by r (inr none) = record_parts r (Octets r.rdata End)
 
--- the parts by which a writer gives the record
+-- the parts as a writer writes the record
 pub written_item : Record → Parts
 written_item r = written_by r (row_decided r.rtype r.rdata 0)
 

@@ -46,7 +46,7 @@ writable_first (rest_text text) row is can = can
 writable_first (rest16 text) row is can = can
 writable_first (rest64 text) row is can = can
 
--- a row as a reader takes it, with its names written out
+-- a row as a reader reads it, with its names written out
 pub plain-read : (row : List Field) → plain (read_parts row) ≡ octets row
 plain-read [] = refl
 plain-read (field ∷ row) = plain_first field row ∙ ap (λ l. field_octets field ++ l) (plain-read row)

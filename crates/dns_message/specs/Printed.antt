@@ -7,7 +7,7 @@ use Rattle.dns_rdata.specs.Data.{document_of, untyped}
 use Rattle.dns_rdata.specs.DataOctets.{IsDataDocument}
 use Rattle.dns_message.specs.Record.{Record}
 
--- The document of a record's data: its fields where the type has some, and else opaque octets (RFC 3597 5).
+-- The document of a record's data: its fields if the type has some, and else unknown data (RFC 3597 5).
 pub data ShowsData (rtype : ℕ) (data' : List ℕ) (document : List Piece) : Type 0 where
   fields : IsDataDocument rtype data' document → ShowsData rtype data' document
   untold : kinds_of rtype ≡ None → document ≡ document_of (untyped (record { number = rtype; octets = data' }))

@@ -17,7 +17,7 @@ pub record Record : Type 0 where
   pub ttl : ℕ
   pub rdata : List ℕ
 
--- what the numbers of a record may be
+-- the ranges of a record's fields
 pub record IsRecord (r : Record) : Type 0 where
   pub owner : IsName r.owner
   pub rtype : r.rtype < 2 ^ 16
@@ -29,13 +29,13 @@ pub record IsRecord (r : Record) : Type 0 where
 abbrev pub record_parts : Record → Parts → Parts
 record_parts r data' = head.record_parts r.owner r.rtype r.class r.ttl data'
 
--- The parts of the record as a reader takes them. Opaque data is its octets.
+-- The parts of the record as a reader reads them. Unknown data is its octets.
 pub data IsRead (r : Record) : Parts → Type 0 where
   typed : (row : List Field) → IsRow r.rtype row → r.rdata ≡ octets row → IsRead r (record_parts r (read_parts row))
   opaque : kinds_of r.rtype ≡ None → IsRead r (record_parts r (Octets r.rdata End))
 
--- The parts of the record as a writer gives them (RFC 3597 4): a name that may be compressed is a name, and all else is octets,
--- any other name written out. Opaque data is its octets.
+-- The parts of the record as a writer writes them (RFC 3597 4): a name that may be compressed is a name, and all else
+-- is octets, any other name written out. Unknown data is its octets.
 pub data IsWritten (r : Record) : Parts → Type 0 where
   fields : (row : List Field) → IsRow r.rtype row → r.rdata ≡ octets row → IsWritten r (record_parts r (written_parts row))
   untold : kinds_of r.rtype ≡ None → IsWritten r (record_parts r (Octets r.rdata End))
@@ -44,14 +44,14 @@ pub data IsWritten (r : Record) : Parts → Type 0 where
 abbrev pub record_octets : Record → List ℕ
 record_octets r = head.record_octets r.owner r.rtype r.class r.ttl r.rdata
 
--- The message has the record at a place, and `next` is the place behind it.
+-- The message has the record at a place, and `next` is the place after it.
 pub record ReadsRecord (message : List ℕ) (place : ℕ) (r : Record) (next : ℕ) : Type 0 where
   pub is_record : IsRecord r
   pub parts : Parts
   pub read : IsRead r parts
   pub spelled : Spells message place parts next
 
--- The same, and every name in the record is written out.
+-- The same, with every name in the record written out.
 pub record ReadsPlainRecord (message : List ℕ) (place : ℕ) (r : Record) (next : ℕ) : Type 0 where
   pub is_record : IsRecord r
   pub data_is : IsData r.rtype r.rdata

@@ -1,5 +1,5 @@
-//! Laws of messages: what the code reads and writes, and what the definitions of a transfer say of a message, is the same. Each
-//! function does nothing; what it ensures is the law.
+//! Laws of messages: what the code parses and writes agrees with the definitions that a zone transfer is judged by.
+//! Each function does nothing; what it ensures is the law.
 ghost use Rattle.std.specs.Prelude.{◌≡◌, ◌≢◌, ◌<◌, ◌+◌, ◌^◌, ◌++◌, ℕ, Bool, List, length, slice_index};
 ghost use Rattle.dns_label.specs.Octets.{AreOctets};
 ghost use Rattle.dns_name.specs.Page.{Parts};
@@ -33,9 +33,9 @@ pub use dns_sections::laws::{
     question_and_record_cursors_end, question_and_record_errors_come_once,
 };
 
-/// A message has a record at a place exactly where the code reads its head and its data there: a row of the fields of its type, or
-/// opaque octets (RFC 1035 3.2.1, RFC 3597). An item of a cursor, with its data read, is such a record; and where the message has
-/// a record, an item there is that one.
+/// A message has a record at a place exactly if the code parses its header and its data there: a row of the fields of
+/// its type, or unknown data (RFC 1035 3.2.1, RFC 3597). An item of a cursor, with its data parsed, is such a record.
+/// If the message has a record at a place, an item there is that record.
 pub fn records_have_one_meaning()
     ensures there { (message : List ℕ) (place next : ℕ) (r : Record) → ReadsRecord message place r next
         → (rr : RecordOf (List (List ℕ)) Data) × TakesRecord message place rr next × (record_of rr ≡ r) }
@@ -49,8 +49,8 @@ pub fn records_have_one_meaning()
         × (rr : RecordOf (List (List ℕ)) Data) × IsRecordOf data_specs.ReadsData parsed rr × (record_of rr ≡ r) }
 {}
 
-/// A message has a question at a place exactly where it spells the question's parts there, and the type and class are numbers of
-/// two octets (RFC 1035 4.1.2).
+/// A message has a question at a place exactly if it spells the question's parts there, and the type and the class each
+/// fit two octets (RFC 1035 4.1.2).
 pub fn questions_have_one_meaning()
     ensures there { (message : List ℕ) (place next : ℕ) (q : Question) → AreOctets message
         → ReadsQuestion message place q next
@@ -59,8 +59,8 @@ pub fn questions_have_one_meaning()
         → q.qtype < 2 ^ 16 → q.qclass < 2 ^ 16 → ReadsQuestion message place q next }
 {}
 
-/// The header of an answer is the twelve octets that have this id, QR, AA and this RD, no other bit, and the counts 1, so many
-/// answers, 0 and 0 (RFC 1035 4.1.1).
+/// The header of an answer is exactly the twelve octets with this ID, QR, AA and this RD, no other bit, and the counts
+/// 1, `answers`, 0 and 0 (RFC 1035 4.1.1).
 pub fn answer_header_is_its_fields()
     ensures there { (id : ℕ) (recursion : Bool) (answers : ℕ) → id < 2 ^ 16 → answers < 2 ^ 16
         → (length (answer_header id recursion answers) ≡ 12)
@@ -71,8 +71,8 @@ pub fn answer_header_is_its_fields()
         → header ≡ answer_header id recursion answers }
 {}
 
-/// What is written of a record is read as that record, names with pointers and names in full. `parts`: what the code writes of a
-/// record that it has read is so written.
+/// A written record is read as that record, with pointers and with names in full. `parts`: the code writes a record
+/// that it has parsed in this way.
 pub fn written_records_are_read()
     ensures parts { (message : List ℕ) (place next : ℕ) (rr : RecordOf (List (List ℕ)) Data) → TakesRecord message place rr next
         → IsWritten (record_of rr) (written_parts_of rr) }
@@ -85,8 +85,8 @@ pub fn written_records_are_read()
         → ReadsRecord message place r next }
 {}
 
-/// Text can spell data of a type exactly if it is not that of CAA, or its second octet, which is the length of the tag, is not 0
-/// (RFC 8659 4.1).
+/// Text can spell data of a type exactly if it is not that of CAA, or its second octet, which is the length of the tag,
+/// is not 0 (RFC 8659 4.1).
 pub fn text_spells_data_whose_tag_is_not_empty()
     ensures there { (rtype : ℕ) (data' : List ℕ) → IsData rtype data' → IsSpellable rtype data' → rtype ≡ 257
         → slice_index data' 1 ≢ 0 }

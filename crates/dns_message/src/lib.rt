@@ -1,7 +1,8 @@
-//! Messages: headers, questions, records, how they are read and built (RFC 1035 4.1).
+//! Messages: parsing and building headers, questions, records and sections (RFC 1035 4.1).
 //!
-//! It hands on its parts: `dns_header` has headers, questions and records, `dns_sections` messages and the cursors over their
-//! sections, `dns_builder` the builders of messages, and `dns_compress` targets that compress or stand behind a length.
+//! It re-exports its parts: `dns_header` has headers, questions and records, `dns_sections` messages and the cursors
+//! over their sections, `dns_builder` the builders of messages, and `dns_compress` targets that compress, or send a
+//! message after its length.
 #![tactic(auto)]
 
 pub mod laws;

@@ -1,4 +1,4 @@
--- CNAME records one after another, as a cursor over them gives them.
+-- CNAME records one after another, as a cursor over them returns them.
 use Rattle.std.proofs.Common.{◌≡◌, ◌∙◌, ◌⊎◌, ℕ, Bool, true, false, List, [], ◌∷◌, map, Some, None, Ok, Err, IfOk, refl, ap, subst, sym, inl, inr}
 use Rattle.std.proofs.lemmas.Bool.{eqb-true}
 use Rattle.std.specs.Cmp.Lexicographic.{pointwise}
@@ -36,11 +36,11 @@ GivesCname = GivesAsked (IsTaken is_cname false) (λ message place number rdata.
 abbrev pub named : RecordOf (List (List ℕ)) (List Field) → List (List ℕ) → Alias
 named rr name = record { owner = rr.owner; class = rr.class; ttl = rr.ttl; rdata = name }
 
--- the same where class IN may be asked for alone
+-- the same if only class IN may be asked for
 abbrev pub GivesRows : Bool → Cursor → Option (Result (RecordOf (List (List ℕ)) (List Field)) ParseError) → Cursor → Type 0
 GivesRows only = GivesAsked (IsTaken is_cname only) (λ message place number rdata. ReadsRow number message place rdata)
 
--- where any class is asked for
+-- if any class is asked for
 pub any-class : {only : Bool} {old new : Cursor} {result : Option (Result (RecordOf (List (List ℕ)) (List Field)) ParseError)} → only ≡ false
     → GivesAsked (IsTaken is_cname only) (λ message place number rdata. ReadsRow number message place rdata) old result new
     → GivesCname old result new
@@ -104,7 +104,7 @@ alias-one : {old new behind : Cursor} {result found : Option (Result Alias Parse
     → GivesAlias old found behind → Agree result new found behind
 alias-one gives others = asked-one (IsTaken is_cname false) ReadsCname taken-too cname-one gives others
 
--- behind an error nothing is given
+-- after an error nothing is returned
 over-ends : {cursor : Cursor} → IsBroken cursor → GivesAlias cursor None cursor
 over-ends {cursor} broken =
     let spent : IsSpent cursor = subst (λ l. IfOk l (λ left. left ≡ 0)) (sym broken.1) tt in
@@ -143,7 +143,7 @@ passed-error {new = new} bad (HasAliases.unread {new = behind} {others = aliases
     by (inr broken) =
         subst (λ l. HasAliases new l) (sym (none-left (over-ends broken.1) rest)) (HasAliases.none (over-ends broken.0))
 
--- The names of a cursor's aliases are looked up as those are that another cursor has.
+-- Looking up a name in the aliases of one cursor gives what it gives in those of another.
 pub record LooksOn (name : List (List ℕ)) (here there : Cursor) : Type 0 where
   pub back : (rest : List Alias) → HasAliases here rest → (aliases : List Alias) × HasAliases there aliases
       × (aliased aliases name ≡ aliased rest name)
@@ -151,7 +151,7 @@ pub record LooksOn (name : List (List ℕ)) (here there : Cursor) : Type 0 where
       × (aliased aliases name ≡ aliased rest name)
 
 module _ {name : List (List ℕ)} {here there new : Cursor} (looks : LooksOn name here there) where
-  -- an alias of another name is passed
+  -- an alias of another name is skipped
   pub other-passed : {alias : Alias} → GivesAlias here (Some (Ok alias)) new → is_of name alias ≡ false → LooksOn name new there
   other-passed {alias} gives other = record {
     back = λ rest left. let before = looks.back (alias ∷ rest) (HasAliases.more gives left) in
@@ -163,7 +163,7 @@ module _ {name : List (List ℕ)} {here there new : Cursor} (looks : LooksOn nam
       passes : (rest : List Alias) → aliased (alias ∷ rest) name ≡ aliased rest name
       passes rest = rw other refl
 
-  -- so is one that does not read
+  -- so is one that does not parse
   pub unread-passed : {error : ParseError} → GivesAlias here (Some (Err error)) new → LooksOn name new there
   unread-passed bad = record {
     back = λ rest left. looks.back rest (HasAliases.unread bad left);
@@ -191,7 +191,8 @@ module _ {name : List (List ℕ)} {here there new : Cursor} (looks : LooksOn nam
 pub looks-there : (name : List (List ℕ)) (there : Cursor) → LooksOn name there there
 looks-there name there = record { back = λ rest left. (rest, left, refl); forth = λ aliases all. (aliases, all, refl) }
 
--- A name is an alias by all that one cursor gives where it is by what another one has left, or was found to be before.
+-- All that one cursor returns makes a name an alias if what another one has left does, or if it was found to be one
+-- before.
 pub record FindsOn (name : List (List ℕ)) (here there : Cursor) (found : Bool) : Type 0 where
   pub back : (rest : List Alias) → HasAliases here rest → (aliases : List Alias) × HasAliases there aliases
       × (is_some (aliased aliases name) ≡ (found || is_some (aliased rest name)))

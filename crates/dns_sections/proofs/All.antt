@@ -1,4 +1,4 @@
--- How many records are left where a cursor goes on into the sections that follow.
+-- How many records are left if a cursor goes on into the next sections.
 use Rattle.std.proofs.Common.{◌≡◌, ◌∙◌, subst, sym, ◌<◌, Some, Ok, Err, arith}
 use Rattle.std.specs.Prelude.{Option}
 use Rattle.std.specs.Iterator.{size}
@@ -10,7 +10,7 @@ use Rattle.dns_sections.specs.Sections.{SectionCursor, LeadsOn, all_left}
 use Rattle.dns_sections.specs.declared.section.Section.{Section}
 use Rattle.dns_sections.specs.declared.section.Section.TheVariants.{Answer, Authority, Additional}
 
--- fewer where a section follows
+-- fewer if a section follows
 pub less-on : {cursor : Cursor} {section : Section} {behind : Option SectionCursor}
     → LeadsOn (record { cursor = cursor; section = section }) (Ok behind)
     → size (all_left behind) < size (all_left (Some (record { cursor = cursor; section = section })))
@@ -25,7 +25,7 @@ less-on {section = Authority} (LeadsOn.on {section = Authority} leads passes) = 
 less-on {section = Authority} (LeadsOn.on {section = Additional} leads passes) = omega arith
 less-on {section = Additional} (LeadsOn.on leads passes) = let no : ⊥ = cc in absurd no
 
--- at least one, an error, where no section can be reached
+-- at least one, an error, if no section can be reached
 pub one-stuck : (cursor : Cursor) (section : Section) → 0 < size (all_left (Some (record { cursor = cursor; section = section })))
 one-stuck cursor Answer = omega arith
 one-stuck cursor Authority = omega arith

@@ -1,4 +1,4 @@
--- Records that are not asked for are gone over.
+-- Skipping records that are not asked for.
 use Rattle.std.proofs.Common.{◌≡◌, ◌∙◌, ℕ, Bool, true, false, nat_eq, List, [], Some, None, Ok, Err, IfOk, OnErr, refl, ap, subst, sym, eq-eqb}
 use Rattle.std.proofs.lemmas.Bool.{eqb-true, false≢true}
 use Rattle.std.specs.Prelude.{Option, Result, not}
@@ -21,7 +21,7 @@ pub passed-on : {Data : Type 0} (IsAsked : Parsed → Type 0) (reads : List ℕ 
 passed-on IsAsked reads old mid new parsed result gives never rest =
     onward {old = old} {mid = mid} {new = new} {parsed = parsed} {result = result} gives never rest
 
--- what is given from a cursor on is given from another one on
+-- what one cursor returns another one returns
 abbrev pub GivesThere : {Data : Type 0} → (Parsed → Type 0) → (List ℕ → ℕ → ℕ → Data → Type 0) → Cursor → Cursor → Type 0
 GivesThere {Data} IsAsked reads here there = (result : Option (Result (RecordOf (List (List ℕ)) Data) ParseError)) (new : Cursor)
     → GivesAsked IsAsked reads here result new → GivesAsked IsAsked reads there result new
@@ -39,7 +39,7 @@ module _ {Data : Type 0} (IsAsked : Parsed → Type 0) (reads : List ℕ → ℕ
   found-here view parsed (Ok rr) gives asked is none = given-here parsed (Ok (view rr)) gives asked is
   found-here view parsed (Err error) gives asked is none = given-here parsed (Err error) gives asked none
 
-  -- a record that does not read
+  -- a record that does not parse
   pub broken-here : (error : ParseError) → GivesRecord old (Some (Err error)) new → GivesAsked IsAsked reads old (Some (Err error)) new
   broken-here error gives = GivesAsked.broken {old = old} {mid = old} {new = new} {passed = []} {error = error} GoesOver.here tt gives
 
@@ -49,7 +49,7 @@ module _ {Data : Type 0} (IsAsked : Parsed → Type 0) (reads : List ℕ → ℕ
       subst (λ (c : Cursor). GivesAsked IsAsked reads old None c) (sym gives.1)
       (GivesAsked.ended {old = old} {new = old} {passed = []} GoesOver.here tt (gives.0, refl))
 
--- what a test of the class says
+-- what a test of the class tells
 pub class-one : (class : ℕ) → false ≡ not (nat_eq class 1) → class ≡ 1
 class-one class test = by (nat_eq class 1) refl
   where

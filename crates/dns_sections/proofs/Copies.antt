@@ -1,4 +1,4 @@
--- Records that are gone over and copied, one after another.
+-- Records that are read and copied, one after another.
 use Rattle.std.proofs.lemmas.Fn.{FoldsTo-push}
 use Rattle.std.proofs.Common.{◌≡◌, ◌∙◌, ◌-◌, ℕ, List, [], ◌∷◌, ◌++◌, Some, Ok, Err, IfErr, refl, ap, subst, sym}
 use Rattle.std.specs.List.{FoldsTo}
@@ -16,7 +16,7 @@ use Rattle.dns_sections.specs.declared.error.CopyRecordsError.TheVariants as cop
 use Rattle.dns_sections.specs.declared.error.PushError.{PushError}
 use Rattle.dns_sections.specs.declared.section.Section.{Section}
 
--- one more is gone over behind them
+-- one more is read after them
 pub goes-behind : {old mid new : Cursor} {records : List Parsed} {parsed : Parsed} → GoesOver old records mid
     → GivesRecord mid (Some (Ok parsed)) new → GoesOver old (records ++ parsed ∷ []) new
 goes-behind GoesOver.here gives = GoesOver.on gives GoesOver.here
@@ -44,7 +44,7 @@ module _ {Op Item Target : Type 0} {asks : Op → Parsed → Option Item → Op 
   pub none-copied : (from : Cursor) (state : Op × Target) → CopiesFirst asks written pushes from state state from
   none-copied from state = record { records = []; goes = GoesOver.here; copies = refl }
 
-  -- one more is copied behind those that are
+  -- one more is copied after those
   pub one-copied : {from behind new : Cursor} {old mid next : Op × Target} {parsed : Parsed} → CopiesFirst asks written pushes from old mid behind
       → GivesRecord behind (Some (Ok parsed)) new → CopiesOne asks written pushes mid parsed next
       → CopiesFirst asks written pushes from old next new
@@ -54,7 +54,7 @@ module _ {Op Item Target : Type 0} {asks : Op → Parsed → Option Item → Op 
     copies = FoldsTo-push (CopiesOne asks written pushes) old first.records mid parsed next first.copies copies;
   }
 
-  -- the records of a section that was reached, all of them copied
+  -- all records of a section that was reached are copied
   pub section-copied : {message : List ℕ} {section : Section} {at : SectionCursor} {old new : Op × Target} → IsSectionOf message section at
       → (behind : Cursor) × IsSpent behind × CopiesFirst asks written pushes at.cursor old new behind
       → CopiesSection asks written pushes message section old new
@@ -66,7 +66,7 @@ module _ {Op Item Target : Type 0} {asks : Op → Parsed → Option Item → Op 
     all = all-gone copies.goes _ (ap (λ (s : SectionCursor). s.cursor.left) is.is) spent;
   }
 
--- an error that is handed on
+-- an error that is returned
 pub handed-on : {A E : Type 0} (result : Result A E) (error : E) (Holds : E → Type 0) → IsErrAnd result (λ e. e ≡ error) → Holds error
     → IfErr result Holds
 handed-on (Ok value) error Holds is holds = absurd is

@@ -1,4 +1,4 @@
--- Cursors end: each item leaves fewer, and an error is given once in a section.
+-- Cursors end: each item leaves fewer, and an error is returned once in a section.
 use Rattle.std.proofs.Common.{◌≡◌, ◌∙◌, ◌<◌, ◌≤◌, ◌⊎◌, ℕ, List, Some, None, Ok, Err, IfOk, ap, sym, refl, subst, inl, inr, arith}
 use Rattle.std.specs.Prelude.{Option, Result}
 use Rattle.std.specs.Iterator.{size}
@@ -18,7 +18,7 @@ not-both : (left : Result ℕ ParseError) (number : ℕ) (error : ParseError) �
 not-both left number error is are = let no : ⊥ = cc in no
 
 module _ {Item : Type 0} (Reads : List ℕ → ℕ → Item → ℕ → Type 0) (IsNone IsCut : List ℕ → ℕ → Type 0) where
-  -- a cursor that has met an error gives nothing
+  -- a cursor that has met an error returns nothing
   pub spent-by-error : (old mid new : Cursor) (error : ParseError) (result : Option (Result Item ParseError))
       → Gives Reads IsNone IsCut old (Some (Err error)) mid → Gives Reads IsNone IsCut mid result new → result ≡ None
   spent-by-error old mid new error None bad gives = refl
@@ -32,7 +32,7 @@ module _ {Item : Type 0} (Reads : List ℕ → ℕ → Item → ℕ → Type 0) 
       let zero : left ≡ 0 = subst (λ l. IfOk l (λ left. left ≡ 0)) is spent in
       omega (arith, zero, some)
 
-  -- one that gives nothing goes on so
+  -- one that returns nothing goes on so
   pub spent-for-good : (old mid new : Cursor) (result : Option (Result Item ParseError))
       → Gives Reads IsNone IsCut old None mid → Gives Reads IsNone IsCut mid result new → result ≡ None
   spent-for-good old mid new None none gives = refl
@@ -45,7 +45,7 @@ record-falls : (old new : Cursor) (result : Result Parsed ParseError) → GivesR
     → size (items_left new) < size (items_left old)
 record-falls old new result = falls HoldsRecord NoWhole WholeIsCut old new (Some result)
 
--- no more are left behind those that are gone over
+-- no more are left after those that were read
 over-fewer : {old new : Cursor} {passed : List Parsed} → GoesOver old passed new → size (items_left new) ≤ size (items_left old)
 over-fewer GoesOver.here = omega arith
 over-fewer {old} {new} (GoesOver.on {mid = mid} {parsed = parsed} gives over) =

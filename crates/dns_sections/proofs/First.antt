@@ -32,13 +32,13 @@ module _ (message : List ℕ) (at new : Cursor) (is : at ≡ first_question mess
       let refused = subst (λ (c : Cursor). GivesQuestion c (Some (Err error)) new) is gives in
       refused.2.none question first.next first.reads
 
-  -- the one that is counted does not read
+  -- the one that is counted does not parse
   pub sole-bad : {X : Type 0} (view : X → Question) (result : Result X ParseError) → question_count message ≡ 1
       → GivesQuestion at (seen view (Some result)) new → IfErr result (HasNoSoleQuestion message)
   sole-bad view (Ok question) one gives = _
   sole-bad view (Err error) one gives =
       let refused = subst (λ (c : Cursor). GivesQuestion c (Some (Err error)) new) is gives in HasNoSoleQuestion.unread one refused.2
 
--- a message has one first question
+-- a message has at most one first question
 pub first-one : (message : List ℕ) (question other : Question) → IsFirstQuestion message question → IsFirstQuestion message other → question ≡ other
 first-one message question other first second = (question-one first.reads second.reads).0

@@ -1,4 +1,4 @@
--- What the first record of a section is, as a cursor at its first record gives it.
+-- The first record of a section is what a cursor at its first record returns.
 use Rattle.std.proofs.Common.{◌≡◌, ℕ, Bool, true, false, List, Some, None, Ok, Err, subst, sym}
 use Rattle.std.proofs.lemmas.Bool.{false≢true}
 use Rattle.std.specs.Prelude.{Option, Result, is_some}

@@ -1,4 +1,4 @@
--- What a cursor over records with their data gives is one, but for which error it gives.
+-- A cursor over records with their data returns one thing only, but for which error it returns.
 use Rattle.std.proofs.Common.{◌≡◌, ◌∙◌, ◌+◌, ◌⊎◌, ℕ, List, Some, None, Ok, Err, take, refl, ap, subst, sym, inl, inr}
 use Rattle.std.specs.Prelude.{Option, Result, ⊤}
 use Rattle.std.specs.List.{AllByRecursion}
@@ -12,7 +12,7 @@ use Rattle.dns_sections.specs.Cursor.{Cursor}
 use Rattle.dns_sections.specs.Given.{GivesRecord, GoesOver, IsGivenAs, GivesAsked}
 use Rattle.dns_sections.specs.OneStep.{given-one, given-some, given-bad, given-read}
 
--- records with the same head, whose data stand at the same place of the same octets
+-- records with the same header, whose data is at the same place of the same octets
 pub record SayTheSame (parsed other : Parsed) : Type 0 where
   pub head : parsed.head ≡ other.head
   pub octets : octets_of parsed.rdata ≡ octets_of other.rdata
@@ -52,7 +52,7 @@ record-read = given-read HoldsRecord NoWhole WholeIsCut (λ message place next p
 abbrev pub IsBroken : Cursor → Type 0
 IsBroken cursor = (error : ParseError) × (cursor.left ≡ Err error)
 
--- the same is given, and the cursors go on as one; where an error is, it may be another
+-- the same is returned, and the cursors go on alike; an error may be another one
 abbrev pub Agree : {Data : Type 0} → Option (Result (RecordOf (List (List ℕ)) Data) ParseError) → Cursor
     → Option (Result (RecordOf (List (List ℕ)) Data) ParseError) → Cursor → Type 0
 Agree None new None behind = ⊤
@@ -67,7 +67,7 @@ module _ {Data : Type 0} (IsAsked : Parsed → Type 0) (reads : List ℕ → ℕ
     (alike : (parsed other : Parsed) → SayTheSame parsed other → IsAsked parsed → IsAsked other)
     (one : (message : List ℕ) (place number : ℕ) (rdata other : Data) → reads message place number rdata → reads message place number other
     → rdata ≡ other) where
-  -- the next record is asked for, if one is given
+  -- the next record is asked for, if one is returned
   abbrev Stops : Cursor → Type 0
   Stops cursor = (parsed : Parsed) (new : Cursor) → GivesRecord cursor (Some (Ok parsed)) new → IsAsked parsed
 

@@ -1,4 +1,4 @@
--- The last of the records that a cursor gives.
+-- The last of the records that a cursor returns.
 use Rattle.std.proofs.Common.{◌≡◌, ◌⊎◌, inl, inr, ℕ, Bool, true, false, List, [], ◌∷◌, Some, None, Ok, Err, IfOk, ap, subst, sym}
 use Rattle.std.specs.Prelude.{Option, Result, IfSome, IfNone, is_some}
 use Rattle.std.specs.Result.{result_ok}
@@ -10,12 +10,12 @@ use Rattle.dns_sections.specs.Given.{GivesRecord, GoesOver}
 use Rattle.dns_sections.specs.Sections.{SectionCursor, IsSectionOf}
 use Rattle.dns_sections.specs.declared.section.Section.TheVariants.{Additional}
 
--- the last of the records that are gone over, if there is one, behind which a cursor stands now
+-- the last of the records that were read, if there is one; a cursor is now after it
 abbrev pub IsLastBefore : Cursor → Option Parsed → Cursor → Type 0
 IsLastBefore old None now = now ≡ old
 IsLastBefore old (Some parsed) now = (others : List Parsed) × (mid : Cursor) × GoesOver old others mid × GivesRecord mid (Some (Ok parsed)) now
 
--- one record more is gone over
+-- one record more is read
 goes-on : {old mid new : Cursor} {others : List Parsed} {parsed : Parsed} → GoesOver old others mid → GivesRecord mid (Some (Ok parsed)) new
     → (all : List Parsed) × GoesOver old all new
 goes-on {parsed = parsed} GoesOver.here gives = (parsed ∷ [], GoesOver.on gives GoesOver.here)
@@ -23,12 +23,12 @@ goes-on (GoesOver.on {parsed = first} given over) gives =
     let rest = goes-on over gives in
     (first ∷ rest.0, GoesOver.on given rest.1)
 
--- all records before the cursor are gone over
+-- all records before the cursor were read
 pub gone-over : (old now : Cursor) (last : Option Parsed) → IsLastBefore old last now → (others : List Parsed) × GoesOver old others now
 gone-over old now None is = ([], subst (λ (c : Cursor). GoesOver old [] c) (sym is) (GoesOver.here {cursor = old}))
 gone-over old now (Some parsed) is = goes-on {old = old} {mid = is.1} {new = now} {others = is.0} {parsed = parsed} is.2 is.3
 
--- one record more, which reads
+-- one record more, which parses
 pub last-more : (old now new : Cursor) (last : Option Parsed) (item : Result Parsed ParseError) (parsed : Parsed) → IsLastBefore old last now
     → GivesRecord now (Some item) new → result_ok item ≡ Some parsed → IsLastBefore old (Some parsed) new
 last-more old now new last (Err error) parsed is gives reads = let no : ⊥ = cc in absurd no
@@ -37,7 +37,7 @@ last-more old now new last (Ok found) parsed is gives reads =
     let same : found ≡ parsed = cc in
     (before.0, now, before.1, subst (λ (p : Parsed). GivesRecord now (Some (Ok p)) new) same gives)
 
--- a record that does not read stands behind those that are gone over
+-- a record that does not parse follows those that were read
 abbrev pub IsBroken : Cursor → Type 0
 IsBroken old = (others : List Parsed) × (mid : Cursor) × (new : Cursor) × (error : ParseError) × GoesOver old others mid
     × GivesRecord mid (Some (Err error)) new
@@ -50,7 +50,7 @@ last-broken None old now new last (Err error) is gives none =
     let before = gone-over old now last is in
     inr (before.0, now, new, error, before.1, gives)
 
--- the last of all records that a cursor gives
+-- the last of all records that a cursor returns
 abbrev pub IsLastOf : Cursor → Parsed → Type 0
 IsLastOf old parsed = (others : List Parsed) × (mid : Cursor) × (new : Cursor) × GoesOver old others mid
     × GivesRecord mid (Some (Ok parsed)) new × IsSpent new
@@ -64,7 +64,7 @@ none-left : (left : Result ℕ ParseError) (count : ℕ) → left ≡ Ok count �
 none-left (Ok n) count is zero = ap (λ n. Ok n) zero
 none-left (Err error) count is spent = let no : ⊥ = cc in absurd no
 
--- what the walk over the additional section says of the message
+-- what the walk over the additional section tells of the message
 module _ (message : List ℕ) (at : SectionCursor) (is : IsSectionOf message Additional at) where
   last-none : IsSpent at.cursor ⊎ IsBroken at.cursor → LastAdditional message None
   last-none ended = elim ended [
@@ -82,7 +82,7 @@ module _ (message : List ℕ) (at : SectionCursor) (is : IsSectionOf message Add
   last-is None some none = last-none none
   last-is (Some parsed) some none = last-some parsed some
 
--- what the last record is read as
+-- what the last record is parsed as
 module _ {A : Type 0} (takes : ℕ → Bool) (IsReadAs : Parsed → A → Type 0) (message : List ℕ) (parsed : Parsed)
     (last : LastAdditional message (Some parsed)) (found : Option A) (taken : is_some found ≡ takes parsed.head.rtype) where
   pub last-read : IfSome found (IsReadAs parsed)

@@ -10,7 +10,7 @@ use Rattle.dns_sections.specs.Sections.{following, Begins, IsOutOfReach, Section
 use Rattle.dns_sections.specs.declared.section.Section.{Section}
 use Rattle.dns_sections.specs.declared.section.Section.TheVariants.{Answer}
 
--- so many items at a place, all of which are left
+-- `count` items at a place, and all are left
 module _ {Skips : List ℕ → ℕ → ℕ → Type 0} {IsCut : List ℕ → ℕ → Type 0} {message : List ℕ} {place count : ℕ} where
   pub from-all : {next : ℕ} → PassesAll Skips IsCut (record { message = message; place = place; left = Ok count }) (Ok next)
       → Passes Skips message place count next
@@ -23,7 +23,7 @@ module _ {Skips : List ℕ → ℕ → ℕ → Type 0} {IsCut : List ℕ → ℕ
   from-stuck {error} (PassesAll.stuck {left = left} is at) =
       let same : left ≡ count = cc in subst (λ n. IsStuck Skips IsCut message place n error) same at
 
--- the section that follows one that was reached
+-- the section after one that was reached
 module _ {message : List ℕ} {before section : Section} where
   start-on : {place : ℕ} {found : SectionCursor} → following before ≡ Some section → Begins message before place
       → LeadsOn (at_start message before place) (Ok (Some found)) → IsSectionOf message section found
@@ -46,7 +46,7 @@ module _ {message : List ℕ} {before section : Section} where
       → LeadsOn at (Err error) → IsOutOfReach message section error
   section-stuck {at} {error} follows is leads = start-stuck follows is.begins (subst (λ c. LeadsOn c (Err error)) is.is leads)
 
--- what comes of going on to the answer section, behind all questions
+-- the result of going on to the answer section, after all questions
 pub answers : {A : Type 0} (at : A → SectionCursor) {message : List ℕ} {cursor : Cursor} (result : Result A ParseError)
     → cursor ≡ record { message = message; place = 12; left = Ok (question_count message) }
     → MatchResult result
@@ -61,7 +61,7 @@ answers at {message} (Ok found) is passed = record {
 answers at (Err error) is passed =
     IsOutOfReach.question (from-stuck (subst (λ c. PassesAll SkipsQuestion QuestionSkipIsCut c (Err error)) is passed))
 
--- what comes of going on from a section that was reached to the one that follows
+-- the result of going on from a section that was reached to the next one
 pub goes-on : {A : Type 0} (at : A → SectionCursor) {message : List ℕ} {before section : Section} {from : SectionCursor} (result : Result A ParseError)
     → following before ≡ Some section → IsSectionOf message before from
     → MatchResult result (λ found. LeadsOn from (Ok (Some (at found)))) (λ error. LeadsOn from (Err error))
@@ -69,6 +69,6 @@ pub goes-on : {A : Type 0} (at : A → SectionCursor) {message : List ℕ} {befo
 goes-on at (Ok found) follows is leads = section-on follows is leads
 goes-on at (Err error) follows is leads = section-stuck follows is leads
 
--- a section that another one follows leads on
+-- a section that is not the last leads on
 pub leads-somewhere : {at : SectionCursor} {section : Section} → following at.section ≡ Some section → LeadsOn at (Ok None) → ⊥
 leads-somewhere follows (LeadsOn.last none) = cc

@@ -15,17 +15,17 @@ use Rattle.dns_sections.specs.Questions.{NoQuestion, QuestionIsCut}
 use Rattle.dns_sections.specs.QuestionsLeft.{begin}
 use Rattle.dns_sections.specs.OneStep.{given-some, given-read}
 
--- no question is given where the cursor gives none
+-- no question is returned if the cursor returns none
 pub none-given : (old new behind : Cursor) (question : Question) → GivesQuestion old None new → GivesQuestion old (Some (Ok question)) behind → ⊥
 none-given old new behind question none gives = given-some ReadsQuestion NoQuestion QuestionIsCut old behind new question gives none
 
--- nor where it gives an error
+-- nor if it returns an error
 pub bad-given : (old new behind : Cursor) (question : Question) (error : ParseError) → GivesQuestion old (Some (Err error)) new
     → GivesQuestion old (Some (Ok question)) behind → ⊥
 bad-given old new behind question error bad gives =
     given-read ReadsQuestion NoQuestion QuestionIsCut (λ message place next q none reads. none q next reads) old behind new question error gives bad
 
--- so many questions are left as there are
+-- as many questions are left as the list has
 left-length : {cursor : Cursor} {questions : List Question} → HasQuestions cursor questions → cursor.left ≡ Ok (length questions)
 left-length (HasQuestions.none left) = left
 left-length (HasQuestions.more {new = new} {others = others} gives rest) =
@@ -35,7 +35,7 @@ left-length (HasQuestions.more {new = new} {others = others} gives rest) =
     let all : gives.0 ≡ suc (length others) = omega (arith, less, gives.1.1) in
     gives.1.0 ∙ ap (λ n. Ok n) all
 
--- a question is given where one is left
+-- a question is returned if one is left
 some-given : {cursor : Cursor} {left : ℕ} {questions : List Question} → cursor.left ≡ Ok left → 0 < left → HasQuestions cursor questions
     → ((question : Question) (new : Cursor) → GivesQuestion cursor (Some (Ok question)) new → ⊥) → ⊥
 some-given {cursor} {left} is some (HasQuestions.none zero) never =
@@ -43,7 +43,7 @@ some-given {cursor} {left} is some (HasQuestions.none zero) never =
 some-given is some (HasQuestions.more {new = new} {question = question} gives rest) never = never question new gives
 
 module _ {one other : Cursor} where
-  -- nothing is left of both
+  -- nothing is left in either
   pub same-ends : one.left ≡ Ok 0 → other.left ≡ Ok 0 → AskTheSame one other
   same-ends left others =
       record { questions = []; others = []; of_one = HasQuestions.none left; of_other = HasQuestions.none others; same = refl }
@@ -53,7 +53,7 @@ module _ {one other : Cursor} where
   same-left same =
       left-length same.of_one ∙ ap (λ n. Ok n) (as_long questions_eq same.questions same.others same.same) ∙ sym (left-length same.of_other)
 
-  -- every one of them is given
+  -- every one of them is returned
   pub one-unread : {left : ℕ} → one.left ≡ Ok left → 0 < left
       → ((question : Question) (new : Cursor) → GivesQuestion one (Some (Ok question)) new → ⊥) → AskTheSame one other → ⊥
   one-unread is some never same = some-given is some same.of_one never
@@ -98,7 +98,7 @@ one-less left counter old new question gives is =
     let has : gives.0 - 1 ≡ left - (counter + 1) = omega (arith, had) in
     ap (λ (c : Cursor). c.left) gives.3 ∙ ap (λ n. Ok n) has
 
--- what a test says of the comparison that it turns
+-- what a test tells of the comparison that it negates
 pub not-false : (same : Bool) → false ≡ not same → same ≡ true
 not-false true is = refl
 not-false false is = absurd (false≢true is)

@@ -1,4 +1,4 @@
--- Octets of a header that others are written over.
+-- Octets of a header that are overwritten.
 use Rattle.std.proofs.Common.{◌≡◌, ◌∙◌, ◌+◌, ◌<◌, ◌≤◌, ◌^◌, ℕ, suc, List, [], ◌∷◌, ◌++◌, length, get_or, set, take, drop, ap, sym, arith, append_assoc, add-one, drop-cons}
 use Rattle.std.proofs.Math.Seq.{take-suc, drop-append_seam, drop-append-add}
 use Rattle.std.proofs.lemmas.List.{set-append_right, take-append-le, drop-take, take-take, length-take-le, take_all}
@@ -37,7 +37,7 @@ written-all old over place i all =
     ap (λ l. take place old ++ (l ++ drop (place + i) old)) (take_all i over (omega arith))
     ∙ ap (λ n. take place old ++ (over ++ drop (place + n) old)) all
 
--- octets that are written at place 10, behind the first of the counts
+-- octets that are written at place 10, after the first three counts
 module _ (old over : List ℕ) (enough : 10 ≤ length old) where
   number-before : (place : ℕ) → place + 2 ≤ 10 → number_at (take 10 old ++ over) place ≡ number_at old place
   number-before place before =

@@ -1,4 +1,4 @@
--- Aliases: a CNAME record says that its owner is another name of the name in its data (RFC 1034 3.6.2).
+-- Aliases: a CNAME record tells that its owner is an alias of the name in its data (RFC 1034 3.6.2).
 use Rattle.std.specs.Prelude.{◌≡◌, ◌==◌, ℕ, zero, suc, Bool, false, List, [], ◌∷◌, Option, Some, None, Ok, Err, find, option_map, nat_eq}
 use Rattle.std.specs.Cmp.Lexicographic.{pointwise}
 use Rattle.std.specs.Ordering.{on}
@@ -25,7 +25,7 @@ is_cname number = number == 5
 abbrev pub ReadsCname : List ℕ → ℕ → ℕ → List (List ℕ) → Type 0
 ReadsCname message place number name = ReadsRow number message place (compressible name ∷ [])
 
--- The CNAME records that a cursor has left, of any class, whose data reads.
+-- The CNAME records that a cursor has left, of any class, whose data parses.
 pub data HasAliases : Cursor → List Alias → Type 0 where
   none : {old new : Cursor} → GivesAsked (IsTaken is_cname false) ReadsCname old None new → HasAliases old []
   more : {old new : Cursor} {alias : Alias} {others : List Alias}
@@ -38,18 +38,18 @@ abbrev pub aliased : List Alias → List (List ℕ) → Option (List (List ℕ))
 aliased aliases name =
     option_map (λ alias. alias.rdata) (find (λ alias. on low (pointwise (pointwise nat_eq)) alias.owner name) aliases)
 
--- the name itself where it is no alias, and else what comes of the next one
+-- the name itself if it is no alias, and else the result for the next one
 abbrev follow : (List (List ℕ) → Option (List (List ℕ))) → List (List ℕ) → Option (List (List ℕ)) → Option (List (List ℕ))
 follow behind name None = Some name
 follow behind name (Some next) = behind next
 
--- the name behind so many aliases at most; None where further ones follow
+-- the name after at most `most` aliases; None if more follow
 unfoldable pub resolved : List Alias → ℕ → List (List ℕ) → Option (List (List ℕ))
 resolved aliases zero name = follow (λ next. None) name (aliased aliases name)
 resolved aliases (suc most) name = follow (resolved aliases most) name (aliased aliases name)
 
--- The canonical name of what the first question asks for: that behind at most 20 aliases of the answer section. None where more
--- follow, where no question reads, or where the section is out of reach.
+-- The canonical name of the first question's name: that after at most 20 aliases of the answer section. None if more
+-- follow, if no question parses, or if the section cannot be reached.
 pub data HasCanonicalName (message : List ℕ) : Option (List (List ℕ)) → Type 0 where
   resolves : {question : Question} {at : SectionCursor} {aliases : List Alias} → IsFirstQuestion message question
       → IsSectionOf message Answer at → HasAliases at.cursor aliases → HasCanonicalName message (resolved aliases 20 question.name)

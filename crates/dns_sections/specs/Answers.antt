@@ -8,7 +8,7 @@ use Rattle.dns_sections.specs.Cursor.{Cursor}
 use Rattle.dns_sections.specs.Given.{GivesQuestion}
 use Rattle.dns_sections.specs.Questions.{first_question}
 
--- The questions that a cursor has left are these: every one of them reads.
+-- The questions that a cursor has left are these: each of them parses.
 pub data HasQuestions : Cursor → List Question → Type 0 where
   none : {cursor : Cursor} → cursor.left ≡ Ok 0 → HasQuestions cursor []
   more : {old new : Cursor} {question : Question} {others : List Question} → GivesQuestion old (Some (Ok question)) new
@@ -22,7 +22,7 @@ pub record AskTheSame (one other : Cursor) : Type 0 where
   pub of_other : HasQuestions other others
   pub same : pointwise questions_eq questions others ≡ true
 
--- The message is a response, has the query's id, and asks as many questions, which are the same.
+-- The message is a response, has the query's ID, and asks as many questions, which are the same.
 pub record IsAnswerTo (message query : List ℕ) : Type 0 where
   pub response : is_response message ≡ true
   pub id : id_of message ≡ id_of query

@@ -1,24 +1,24 @@
--- Cursors: places in the questions or records of a message, which stand one after another (RFC 1035 4.1).
+-- Cursors: places in the questions or records of a message, which follow one another (RFC 1035 4.1).
 use Rattle.std.specs.Prelude.{◌≡◌, ◌↔◌, ◌<◌, ◌-◌, ℕ, suc, List, Option, Some, None, Result, Ok, Err, IfOk}
 use Rattle.std.specs.Iterator.{Count, at_most}
 use Rattle.dns_octets.specs.declared.error.ParseError.{ParseError}
 use Rattle.dns_octets.specs.declared.error.ParseError.TheVariants.{ShortInput}
 
--- A cursor stands at a place of a message with so many items left, or has met one that does not read, with this error.
+-- A cursor is at a place of a message with `left` items left, or has met one that does not parse, with this error.
 pub record Cursor : Type 0 where
   pub message : List ℕ
   pub place : ℕ
   pub left : Result ℕ ParseError
 
--- nothing is left to read: every item was given, or one did not read
+-- nothing is left to parse: every item was returned, or one did not parse
 abbrev pub IsSpent : Cursor → Type 0
 IsSpent cursor = IfOk cursor.left (λ left. left ≡ 0)
 
--- items are left, so many
+-- items are left, as many as this
 abbrev pub HasLeft : Cursor → ℕ → Type 0
 HasLeft cursor left = (cursor.left ≡ Ok left) × (0 < left)
 
--- no more items than this are given
+-- no more items than this are returned
 abbrev left_of : Result ℕ ParseError → ℕ
 left_of (Ok left) = left
 left_of (Err error) = 0
@@ -26,15 +26,16 @@ left_of (Err error) = 0
 abbrev pub items_left : Cursor → Count
 items_left cursor = at_most (left_of cursor.left)
 
--- Nothing is there, and the error is `ShortInput` exactly where the message ends too early.
+-- Nothing is there, and the error is `ShortInput` exactly if the message ends too early.
 pub record IsRefusal (IsNone IsCut : Type 0) (error : ParseError) : Type 0 where
   pub none : IsNone
   pub short : (error ≡ ShortInput) ↔ IsCut
 
--- What items are, one after another: the message has one at a place, up to the next; it has none there; it ends too early for one.
+-- Items, one after another: the message has one at a place, up to the next; it has none there; it ends too early for
+-- one.
 module _ {Item : Type 0} (Reads : List ℕ → ℕ → Item → ℕ → Type 0) (IsNone IsCut : List ℕ → ℕ → Type 0) where
-  -- What a cursor gives: the item at its place, if there is one left; an item that does not read is an error, once, behind which
-  -- nothing is given.
+  -- What a cursor returns: the item at its place, if one is left; an item that does not parse is an error, once, and
+  -- nothing is returned after it.
   abbrev pub Gives : Cursor → Option (Result Item ParseError) → Cursor → Type 0
   Gives old None new = IsSpent old × (new ≡ old)
   Gives old (Some (Ok item)) new = (left : ℕ) × HasLeft old left × Reads old.message old.place item new.place
@@ -43,14 +44,14 @@ module _ {Item : Type 0} (Reads : List ℕ → ℕ → Item → ℕ → Type 0) 
       × IsRefusal (IsNone old.message old.place) (IsCut old.message old.place) error
       × (new ≡ record { message = old.message; place = old.place; left = Err error })
 
--- So many items are passed without being read, one after another: `Skips` leads behind an item at a place.
+-- `count` items are skipped, one after another: `Skips` leads from a place to the place after its item.
 pub data Passes (Skips : List ℕ → ℕ → ℕ → Type 0) (message : List ℕ) : ℕ → ℕ → ℕ → Type 0 where
   none : {place : ℕ} → Passes Skips message place 0 place
   more : {place behind next count : ℕ} → Skips message place behind → Passes Skips message behind count next
       → Passes Skips message place (suc count) next
 
 module _ (Skips : List ℕ → ℕ → ℕ → Type 0) (IsCut : List ℕ → ℕ → Type 0) where
-  -- one of so many cannot be passed, with this error
+  -- one of the `count` items cannot be skipped, with this error
   pub record IsStuck (message : List ℕ) (place count : ℕ) (error : ParseError) : Type 0 where
     pub passed : ℕ
     pub few : passed < count
@@ -58,7 +59,8 @@ module _ (Skips : List ℕ → ℕ → ℕ → Type 0) (IsCut : List ℕ → ℕ
     pub passes : Passes Skips message place passed at
     pub refused : IsRefusal ((next : ℕ) → Skips message at next → ⊥) (IsCut message at) error
 
-  -- what comes of passing all that a cursor has left: the place behind it, or an error, which is that of an item that did not read before
+  -- skipping all that a cursor has left: the place after it, or an error, which may be that of an item that did not
+  -- parse before
   pub data PassesAll : Cursor → Result ℕ ParseError → Type 0 where
     again : {cursor : Cursor} {error : ParseError} → cursor.left ≡ Err error → PassesAll cursor (Err error)
     whole : {cursor : Cursor} {left next : ℕ} → cursor.left ≡ Ok left → Passes Skips cursor.message cursor.place left next

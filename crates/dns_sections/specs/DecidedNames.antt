@@ -1,4 +1,4 @@
--- Whether a name stands at a place of a message is decided (RFC 1035 4.1.4).
+-- Whether a name is at a place of a message is decided (RFC 1035 4.1.4).
 use Rattle.std.specs.Prelude.{◌≡◌, ◌+◌, ◌-◌, ◌*◌, ◌<◌, ◌≤◌, ◌⊎◌, ℕ, zero, suc, List, [], ◌∷◌, ◌++◌, length, take, drop}
 use Rattle.std.specs.List.{AllByRecursion}
 use Rattle.std.proofs.Common.{inl, inr, refl, sym, ap, subst, arith, ◌∙◌, length-append}
@@ -9,24 +9,24 @@ use Rattle.dns_label.specs.Spelled.Spells.{root, label, pointer}
 use Rattle.dns_label.proofs.Spelling.{labels_from-spelled}
 use Rattle.dns_sections.specs.Decision.{Decision, both, below, decide-below}
 
--- a name that is spelled at a place, and the place behind it
+-- a name that is spelled at a place, and the place after it
 pub record Spelled (message : List ℕ) (pointers place : ℕ) : Type 0 where
   pub name : List (List ℕ)
   pub next : ℕ
   pub spells : Spells message pointers place name next
 
--- a name that is read at a place, and the place behind it
+-- a name that is read at a place, and the place after it
 pub record Named (message : List ℕ) (place : ℕ) : Type 0 where
   pub name : List (List ℕ)
   pub next : ℕ
   pub reads : Reads message place name next
 
--- a label of so many octets is whole, and a name stands behind it
+-- a label of `first` octets is whole, and a name follows it
 record GoesOn (message : List ℕ) (pointers place first : ℕ) (rest : List ℕ) : Type 0 where
   whole : first ≤ length rest
   parent : Spelled message pointers (place + 1 + first)
 
--- a pointer is left that leads back, and a name stands where it leads
+-- a pointer may still be followed, it leads back, and a name is at its target
 abbrev LeadsBack : List ℕ → ℕ → ℕ → ℕ → Type 0
 LeadsBack message zero place target = ⊥
 LeadsBack message (suc pointers) place target = (target < place) × Spelled message pointers target
@@ -78,7 +78,7 @@ pointer-back message first second others {place = place} (pointer {pointers = po
     let target : 256 * (octet - 192) + low ≡ 256 * (first - 192) + second = λ i. 256 * (same i - 192) + same_low i in
     subst (λ t. (t < place) × Spelled message pointers t) target (back, record { name = name; next = after; spells = spells })
 
--- Whether a name is spelled at a place, by the octets there. `leads` decides it where a pointer leads.
+-- Whether a name is spelled at a place, by the octets there. `leads` decides it for the target of a pointer.
 module _ (message : List ℕ) (pointers : ℕ) (leads : (place target : ℕ) → Decision (LeadsBack message pointers place target))
     (leads-on : (first second place : ℕ) (rest : List ℕ) → drop place message ≡ first ∷ second ∷ rest → 192 ≤ first
     → LeadsBack message pointers place (256 * (first - 192) + second) → Spelled message pointers place) where

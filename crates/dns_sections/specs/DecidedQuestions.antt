@@ -18,7 +18,7 @@ use Rattle.dns_sections.specs.DecidedNames.{Named, decide-named}
 use Rattle.dns_sections.specs.Decision.{Decision, holds, holds-true, true-holds, below}
 use Rattle.dns_sections.specs.QuestionsLeft.{begin, questions-one}
 
--- a question that is read at a place, and the place behind it
+-- a question that is read at a place, and the place after it
 record Asked (message : List ℕ) (place : ℕ) : Type 0 where
   question : Question
   next : ℕ
@@ -40,7 +40,7 @@ decide-asked message place = by_named (decide-named message place)
     by_named (Decision.yes n) = by_length n (below (length message) (n.next + 4))
     by_named (Decision.no none) = Decision.no (λ a. none (record { name = a.question.name; next = a.reads.behind; reads = a.reads.name }))
 
--- the questions that a cursor has left, if they all read
+-- the questions that a cursor has left, if they all parse
 record Left (cursor : Cursor) : Type 0 where
   questions : List Question
   has : HasQuestions cursor questions
@@ -93,7 +93,7 @@ decide-left : (message : List ℕ) (place : ℕ) (left : Result ℕ ParseError)
 decide-left message place (Ok count) = decide-count message count place
 decide-left message place (Err error) = Decision.no (λ l. never-left l.has refl)
 
--- Whether two cursors have the same questions left: a question of either that does not read is the same as none.
+-- Whether two cursors have the same questions left: a question that does not parse equals none.
 pub decide-same : (one other : Cursor) → Decision (AskTheSame one other)
 decide-same one other = by_left (decide-left one.message one.place one.left) (decide-left other.message other.place other.left)
   where

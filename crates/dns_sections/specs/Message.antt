@@ -1,4 +1,4 @@
--- What contracts see of a message: the octets of it, of which the first twelve are its header (RFC 1035 4.1).
+-- What contracts see of a message: its octets, the first twelve of them its header (RFC 1035 4.1).
 use Rattle.std.specs.Prelude.{ℕ, List}
 use denote.Ref.{Bor}
 use Rattle.dns_sections.specs.declared.message.Message.{Message}
@@ -7,7 +7,7 @@ use Rattle.dns_sections.specs.declared.message.Message.{Message}
 abbrev pub held_by : {Octs : Type 0} {ghosts : _} → Message Octs ghosts → Octs
 held_by message = message.octets
 
--- the octets, where `list` says what their holder lists
+-- the octets, where `list` gives those of their holder
 abbrev pub octets_in : {Octs : Type 0} {ghosts : _} → (Octs → List ℕ) → Message Octs ghosts → List ℕ
 octets_in list message = list message.octets
 

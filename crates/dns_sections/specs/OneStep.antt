@@ -1,10 +1,10 @@
--- What a cursor gives is one: where it gives an item, it gives no other, and nothing else.
+-- A cursor returns one thing only: if it returns an item, it returns no other, and nothing else.
 use Rattle.std.proofs.Common.{◌≡◌, ◌∙◌, ◌-◌, ℕ, List, Some, None, Ok, Err, IfOk, subst, sym, arith}
 use Rattle.dns_octets.specs.declared.error.ParseError.{ParseError}
 use Rattle.dns_sections.specs.Cursor.{Cursor, Gives}
 
 module _ {Item : Type 0} (Reads : List ℕ → ℕ → Item → ℕ → Type 0) (IsNone IsCut : List ℕ → ℕ → Type 0) where
-  -- the same item, and the same place behind it
+  -- the same item, and the same place after it
   pub given-one : (Same : Item → Item → Type 0) → ((message : List ℕ) (place next end : ℕ) (item other : Item) → Reads message place item next
       → Reads message place other end → Same item other × (next ≡ end)) → (old new behind : Cursor) (item other : Item)
       → Gives Reads IsNone IsCut old (Some (Ok item)) new → Gives Reads IsNone IsCut old (Some (Ok other)) behind

@@ -10,7 +10,7 @@ use Rattle.dns_sections.specs.Given.{GivesQuestion}
 use Rattle.dns_sections.specs.OneStep.{given-one}
 use Rattle.dns_sections.specs.Questions.{NoQuestion, QuestionIsCut}
 
--- one question stands at a place
+-- at most one question is at a place
 pub question-one : {message : List ℕ} {place next end : ℕ} {question other : Question} → ReadsQuestion message place question next
     → ReadsQuestion message place other end → (question ≡ other) × (next ≡ end)
 question-one {message} {question = question} {other = other} reads others =

@@ -4,7 +4,7 @@ use Rattle.dns_octets.specs.declared.error.AppendError.TheVariants as append
 use Rattle.dns_sections.specs.declared.error.PushError.{PushError}
 use Rattle.dns_sections.specs.declared.error.PushError.TheVariants as push
 
--- a refused append refuses the push
+-- the error of a push for that of its append
 abbrev pub as_push_error : AppendError → PushError
 as_push_error append.ShortBuf = push.ShortBuf
 as_push_error append.OutOfMemory = push.OutOfMemory

@@ -1,4 +1,4 @@
--- The sections of a message, which stand one behind the other, and where each of them begins (RFC 1035 4.1).
+-- The sections of a message, which follow one another, and where each of them begins (RFC 1035 4.1).
 use Rattle.std.specs.Prelude.{◌≡◌, ◌+◌, ℕ, List, Option, Some, None, Result, Ok, Err}
 use Rattle.std.specs.Iterator.{Count, at_most, size}
 use Rattle.dns_octets.specs.declared.error.ParseError.{ParseError}
@@ -21,20 +21,20 @@ counted counts Additional = counts.ar
 abbrev pub count_in : List ℕ → Section → ℕ
 count_in message section = counted (counts_in message) section
 
--- the section behind another one
+-- the section after another one
 abbrev pub following : Section → Option Section
 following Answer = Some Authority
 following Authority = Some Additional
 following Additional = None
 
--- The section begins at the place: the answer section behind the header's twelve octets and the questions, every other one behind
--- the records of the section before it. Names on the way are passed, and no pointer is followed.
+-- The section begins at the place: the answer section after the header's twelve octets and the questions, every other
+-- one after the records of the section before it. What comes before it is skipped, and no pointer is followed.
 pub data Begins (message : List ℕ) : Section → ℕ → Type 0 where
   first : {place : ℕ} → Passes SkipsQuestion message 12 (question_count message) place → Begins message Answer place
   next : {before section : Section} {place behind : ℕ} → following before ≡ Some section → Begins message before place
       → Passes SkipsRecord message place (count_in message before) behind → Begins message section behind
 
--- The section cannot be reached: a question or a record before it cannot be passed, with this error.
+-- The section cannot be reached: a question or a record before it cannot be skipped, with this error.
 pub data IsOutOfReach (message : List ℕ) : Section → ParseError → Type 0 where
   question : {error : ParseError} → IsStuck SkipsQuestion QuestionSkipIsCut message 12 (question_count message) error
       → IsOutOfReach message Answer error
@@ -49,7 +49,7 @@ pub record SectionCursor : Type 0 where
   pub cursor : Cursor
   pub section : Section
 
--- the cursor at the section's first record, whose place this is
+-- the cursor at the section's first record, at the place
 abbrev pub at_start : List ℕ → Section → ℕ → SectionCursor
 at_start message section place = record {
   cursor = record { message = message; place = place; left = Ok (count_in message section) };
@@ -62,13 +62,13 @@ pub record IsSectionOf (message : List ℕ) (section : Section) (at : SectionCur
   pub begins : Begins message section place
   pub is : at ≡ at_start message section place
 
--- the cursor with which the records of all sections are given: at the first answer, or nowhere where that is out of reach
+-- the cursor over the records of all sections: at the first answer, or nowhere if that cannot be reached
 abbrev pub IsAllOf : List ℕ → Option SectionCursor → Type 0
 IsAllOf message (Some at) = IsSectionOf message Answer at
 IsAllOf message None = (error : ParseError) × IsOutOfReach message Answer error
 
--- Where a cursor over a section leads: behind the records that are left, without following a pointer, to the section that follows;
--- nowhere from the last section.
+-- Where a cursor over a section leads: after the records that are left, without following a pointer, to the next
+-- section; nowhere from the last section.
 pub data LeadsOn : SectionCursor → Result (Option SectionCursor) ParseError → Type 0 where
   last : {at : SectionCursor} → following at.section ≡ None → LeadsOn at (Ok None)
   on : {at : SectionCursor} {section : Section} {next : ℕ} → following at.section ≡ Some section
@@ -76,7 +76,8 @@ pub data LeadsOn : SectionCursor → Result (Option SectionCursor) ParseError �
   stuck : {at : SectionCursor} {section : Section} {error : ParseError} → following at.section ≡ Some section
       → PassesAll SkipsRecord SkipIsCut at.cursor (Err error) → LeadsOn at (Err error)
 
--- No more items than this are given where a cursor goes on into the sections that follow: what is left, and an error once more.
+-- No more items than this are returned if a cursor goes on into the next sections: what is left, and an error once
+-- more.
 abbrev pub after : Counts → Section → ℕ
 after counts Answer = counts.ns + (counts.ar + 3)
 after counts Authority = counts.ar + 2

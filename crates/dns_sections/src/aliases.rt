@@ -1,4 +1,4 @@
-//! Aliases: CNAME records, each of which says that its owner is another name of the name in its data (RFC 1034 3.6.2).
+//! Aliases: a CNAME record tells that its owner is an alias of the name in its data (RFC 1034 3.6.2).
 ghost use Rattle.std.specs.Prelude.{◌≡◌, ℕ, List, is_some, option_map, IfNone};
 ghost use Rattle.dns_name.specs.ParsedName.{labels_of};
 ghost use Rattle.dns_sections.specs.Aliases as spec;
@@ -9,10 +9,10 @@ use crate::RecordSection;
 use dns_name::ParsedName;
 use dns_rr_names::Cname;
 
-/// How many aliases are followed.
+/// How many aliases are followed at most.
 const MAX_ALIASES: usize = 20;
 
-/// The name that is no alias, after at most 20 aliases. Returns None if more follow.
+/// Follows at most 20 aliases, and returns the name that is no alias. Returns None if more follow.
 pub(crate) fn resolved<'a>(
     records: RecordSection<'a>,
     mut name: ParsedName<&'a [u8]>,
@@ -32,7 +32,7 @@ pub(crate) fn resolved<'a>(
     Some(name)
 }
 
-/// What a name is an alias of by these records, or None if it is no alias.
+/// Returns the name that these records make `name` an alias of, or None if it is no alias.
 fn aliased<'a>(
     records: RecordSection<'a>,
     name: &ParsedName<&'a [u8]>,
@@ -54,7 +54,7 @@ fn aliased<'a>(
     None
 }
 
-/// Whether a name is an alias by these records, all of which are read.
+/// Returns whether these records make the name an alias. Parses all of them.
 fn is_alias<'a>(records: RecordSection<'a>, name: &ParsedName<&'a [u8]>) -> bool
     ensures { (aliases : List Alias) × HasAliases (records_at records.entry).cursor aliases
         × (result ≡ is_some (spec.aliased aliases (labels_of name.now))) }

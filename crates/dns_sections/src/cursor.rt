@@ -1,4 +1,4 @@
-//! A place in a section, with so many items left. What all sections have in common is here.
+//! A place in a section, and how many items are left: the common part of the cursors over sections.
 ghost use Rattle.std.specs.Prelude.{◌≡◌, Ok, Err, IfOk, MatchResult};
 ghost use Rattle.dns_octets.specs.Parser.{octets_of, place_of};
 ghost use Rattle.dns_sections.specs.Cursor.{Gives, PassesAll};
@@ -10,14 +10,14 @@ use dns_name::{ParseError, Parser};
 /// A place in a section.
 #[derive(Clone, Copy, Debug)]
 pub(crate) struct ItemCursor<'a> {
-    /// Stands in front of the next item, if one is left.
+    /// At the start of the next item, if one is left.
     parser: Parser<'a>,
-    /// How many items are left, or the error of one that does not read.
+    /// How many items are left, or the error of the item that did not parse.
     left: Result<u16, ParseError>,
 }
 
 impl<'a> ItemCursor<'a> {
-    /// A cursor at the parser's place, with so many items left.
+    /// Returns a cursor at the parser's place with `left` items.
     pub(crate) fn new(parser: Parser<'a>, left: u16) -> Self
         ensures { cursor_of result ≡ record { message = octets_of parser.entry; place = place_of parser.entry; left = Ok left } }
     {
@@ -27,28 +27,28 @@ impl<'a> ItemCursor<'a> {
         }
     }
 
-    /// The octets that come before the place, counted from the message's first.
+    /// Returns the place: how many octets of the message come before it.
     pub(crate) fn pos(&self) -> usize
         ensures { result ≡ (cursor_of self.now).place }
     {
         self.parser.pos()
     }
 
-    /// The octets of the message.
+    /// Returns the octets of the message.
     pub(crate) fn message(&self) -> &'a [u8]
         ensures { result.now ≡ (cursor_of self.now).message }
     {
         self.parser.as_slice()
     }
 
-    /// The error of an item that did not read.
+    /// Returns how many items are left, or the error of the item that did not parse.
     pub(crate) fn left(&self) -> Result<u16, ParseError>
         ensures { result ≡ (cursor_of self.now).left }
     {
         self.left
     }
 
-    /// Reads the next item. One that does not read is an error, once.
+    /// Parses the next item. If it does not parse, returns the error once, and nothing after that.
     pub(crate) fn next_item<I: Item<'a>>(&mut self) -> Option<Result<I, ParseError>>
         ensures { Gives I.reads I.is_none I.is_cut (cursor_of self.old) result (cursor_of self.new) }
     {
@@ -64,8 +64,8 @@ impl<'a> ItemCursor<'a> {
         Some(item)
     }
 
-    /// Passes the items that are left, and leaves a parser behind them. Fails with the error of the first that cannot be passed, or of
-    /// the one that did not read before.
+    /// Skips the items that are left, and returns a parser after them. Fails with the error of the first that cannot be
+    /// skipped, or of the one that did not parse before.
     pub(crate) fn pass_all<I: Item<'a>>(self) -> Result<Parser<'a>, ParseError>
         ensures passes { MatchResult result (λ parser. PassesAll I.skips I.skip_is_cut (cursor_of self.entry) (Ok (place_of parser)))
             (λ error. PassesAll I.skips I.skip_is_cut (cursor_of self.entry) (Err error)) }

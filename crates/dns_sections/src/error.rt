@@ -7,12 +7,12 @@ ghost use Rattle.dns_sections.specs.Refused.{as_push_error};
 use dns_name::{AppendError, ParseError};
 use thiserror::Error;
 
-/// The octets are fewer than the twelve of a header.
+/// There are fewer octets than the twelve of a header.
 #[derive(Clone, Copy, Debug, PartialEq, Eq, Error)]
 #[error("short message")]
 pub struct ShortMessage;
 
-/// Why an item is not added to a message that is built.
+/// Why an item is not added to a message.
 #[derive(Clone, Copy, Debug, PartialEq, Eq, Error)]
 pub enum PushError {
     /// The section has 65,535 items already.
@@ -24,7 +24,7 @@ pub enum PushError {
     /// The target is full.
     #[error("buffer size exceeded")]
     ShortBuf,
-    /// A growth of the target was refused.
+    /// Out of memory.
     #[error("out of memory")]
     OutOfMemory,
     /// The data has more than 65,535 octets, or another length than stated.
@@ -47,10 +47,10 @@ impl From<AppendError> for PushError {
 /// Why records are not copied from one message to another.
 #[derive(Clone, Copy, Debug, PartialEq, Eq, Error)]
 pub enum CopyRecordsError {
-    /// A question or a record of the source does not read.
+    /// A question or a record of the source does not parse.
     #[error("{0}")]
     Parse(ParseError),
-    /// A record is refused by the target.
+    /// The target does not take a record.
     #[error("{0}")]
     Push(PushError),
 }

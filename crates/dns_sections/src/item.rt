@@ -1,4 +1,4 @@
-//! What stands in a section one after another: questions or records.
+//! The items of a section: questions or records.
 ghost use Rattle.std.specs.Prelude.{◌≡◌, ◌↔◌, ℕ, List, IfOk, IfErr, OnOk, OnErr};
 ghost use Rattle.dns_octets.specs.Parser.{octets_of, place_of};
 ghost use Rattle.dns_sections.specs.Cursor.{IsRefusal};
@@ -6,24 +6,25 @@ ghost use Rattle.dns_sections.specs.Cursor.{IsRefusal};
 use dns_header::{ParsedRecord, Question};
 use dns_name::{ParseError, ParsedName, Parser};
 
-/// An item of a section, which is read, or passed without following a pointer.
+/// An item of a section, which can be parsed, or skipped without following a pointer.
 pub(crate) trait Item<'a>: Sized {
-    /// The message has this item at a place, up to the next.
+    /// The message has this item at a place, and the last argument is the place after it.
     ghost reads: { List ℕ → ℕ → Self → ℕ → Type 0 };
 
     /// The message has no item at the place.
     ghost is_none: { List ℕ → ℕ → Type 0 };
 
-    /// It ends too early for one.
+    /// The message ends too early for an item.
     ghost is_cut: { List ℕ → ℕ → Type 0 };
 
-    /// An item at a place is passed, up to the next.
+    /// An item at a place is skipped, up to the place after it.
     ghost skips: { List ℕ → ℕ → ℕ → Type 0 };
 
-    /// The message ends too early for one that is passed.
+    /// The message ends too early for an item that is skipped.
     ghost skip_is_cut: { List ℕ → ℕ → Type 0 };
 
-    /// Reads the item at the parser's place, and leaves the parser behind it. A refused call leaves the parser.
+    /// Parses the item at the parser's place, and moves the parser after it. A call that fails leaves the parser where
+    /// it is.
     fn parse(parser: &mut Parser<'a>) -> Result<Self, ParseError>
         ensures ok { IfOk result (λ item. reads (octets_of parser.old) (place_of parser.old) item (place_of parser.new)) }
         ensures err { IfErr result (IsRefusal (is_none (octets_of parser.old) (place_of parser.old))
@@ -31,7 +32,7 @@ pub(crate) trait Item<'a>: Sized {
         ensures same { octets_of parser.new ≡ octets_of parser.old }
         ensures stays { OnErr result (parser.new ≡ parser.old) };
 
-    /// Leaves the parser behind the item at its place, and follows no pointer. A refused call leaves the parser.
+    /// Skips the item at the parser's place, and follows no pointer. A call that fails leaves the parser where it is.
     fn skip(parser: &mut Parser<'a>) -> Result<(), ParseError>
         ensures ok { OnOk result (skips (octets_of parser.old) (place_of parser.old) (place_of parser.new)) }
         ensures err { IfErr result (IsRefusal ((next : ℕ) → skips (octets_of parser.old) (place_of parser.old) next → ⊥)

@@ -11,7 +11,7 @@ ghost use Rattle.dns_sections.specs.Sections.{SectionCursor, all_left};
 
 use dns_name::{ParseAnyRecordData, ParseRecordData};
 
-/// Every cursor ends: each item that it gives, an error too, leaves fewer of them.
+/// Every cursor ends: each item that it returns, an error included, leaves fewer of them.
 pub fn question_and_record_cursors_end<'a, Data: ParseRecordData<'a> + ParseAnyRecordData<'a>>()
     ensures questions { (old new : Cursor) (result : Result Question ParseError) → GivesQuestion old (Some result) new
         → size (items_left new) < size (items_left old) }
@@ -25,8 +25,9 @@ pub fn question_and_record_cursors_end<'a, Data: ParseRecordData<'a> + ParseAnyR
         → size (all_left new) < size (all_left old) }
 {}
 
-/// The error of a question or of a record that does not read comes once, and a cursor that has ended stays so: behind both nothing
-/// is given. A cursor over all records gives the error a second time where another section follows, and ends then.
+/// A cursor returns the error of a question or a record once, and a cursor that has ended stays so: after both it
+/// returns nothing. A cursor over all records returns the error a second time if another section follows, and then
+/// ends.
 pub fn question_and_record_errors_come_once()
     ensures question_error { (old mid new : Cursor) (error : ParseError) (result : Option (Result Question ParseError))
         → GivesQuestion old (Some (Err error)) mid → GivesQuestion mid result new → result ≡ None }

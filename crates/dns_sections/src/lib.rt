@@ -1,9 +1,9 @@
 //! Messages and their sections: cursors over questions and records (RFC 1035 4.1).
 //!
-//! A message is twelve octets of header, then questions, then records in three sections. A section is read one item at a time; a
-//! cursor is a place in it, and is copied to read on from there twice.
+//! A message is twelve octets of header, then questions, then records in three sections. A section is parsed one item
+//! at a time. A cursor is a place in it; copy a cursor to read on from that place again.
 //!
-//! A part of `dns_message`, which hands all of it on.
+//! A part of `dns_message`, which re-exports all of it.
 #![tactic(auto)]
 
 mod aliases;

@@ -17,7 +17,7 @@ use std::alloc::AllocError;
 
 /// A message: the twelve octets of its header and whatever follows them (RFC 1035 4.1).
 ///
-/// What follows is read when it is asked for, so a message may have items that do not read.
+/// Sections are parsed on demand, so a message may have items that do not parse.
 #[derive(Debug, Drop)]
 pub struct Message<Octs: Octets> {
     octets: Octs,

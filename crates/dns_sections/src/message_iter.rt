@@ -1,17 +1,17 @@
-//! A cursor over all records of a message.
+//! An iterator over all records of a message.
 ghost use Rattle.std.specs.Prelude.{◌≡◌};
 
 use crate::{RecordSection, Section};
 use dns_header::ParsedRecord;
 use dns_name::ParseError;
 
-/// A cursor over the records of all sections, each with its section.
+/// An iterator over the records of all sections, each with its section.
 ///
-/// A record that does not read ends it with an error, which is given twice before the additional section: the section that follows
-/// cannot be reached.
+/// A record that does not parse ends it with an error. Before the additional section the error is returned twice, since
+/// the next section cannot be reached either.
 #[derive(Debug, Drop)]
 pub struct MessageIter<'a> {
-    /// None where nothing is left to read.
+    /// None if nothing is left to parse.
     section: Option<RecordSection<'a>>,
 }
 
@@ -19,7 +19,7 @@ impl<'a> MessageIter<'a> {
     ghost use Rattle.std.specs.Prelude.{option_map};
     ghost use Rattle.dns_sections.specs.Seen.{all_at, records_at};
 
-    /// The records from this place on, if there is one.
+    /// Returns an iterator over the records from this place on, if there is one.
     pub(crate) fn from_section(section: Option<RecordSection<'a>>) -> Self
         ensures { all_at result ≡ option_map (λ at. records_at at) section.entry }
     {

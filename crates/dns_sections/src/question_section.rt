@@ -11,7 +11,7 @@ use dns_name::{ParseError, ParsedName, Parser, ShortInput};
 
 /// A cursor over the questions of a message (RFC 1035 4.1.2).
 ///
-/// A question that does not read is an error, once, and nothing is given behind it.
+/// A question that does not parse is returned as an error once, and nothing after it.
 #[derive(Clone, Copy, Debug)]
 pub struct QuestionSection<'a> {
     cursor: ItemCursor<'a>,
@@ -31,7 +31,7 @@ impl<'a> QuestionSection<'a> {
     ghost use Rattle.dns_sections.specs.Seen.{questions_at, records_at};
     ghost use Rattle.dns_sections.specs.declared.section.Section.TheVariants.{Answer};
 
-    /// The questions of a message, whose octets these are.
+    /// Returns a cursor over the questions of the message with these octets. There must be at least twelve.
     pub(crate) fn of_message(octets: &'a [u8]) -> Self
         requires { 12 ≤ length octets.now }
         ensures { questions_at result ≡ first_question octets.now }
@@ -44,15 +44,15 @@ impl<'a> QuestionSection<'a> {
         }
     }
 
-    /// How many octets of the message come before the next question.
+    /// Returns how many octets of the message come before the next question.
     pub fn pos(&self) -> usize
         ensures { result ≡ (questions_at self.now).place }
     {
         self.cursor.pos()
     }
 
-    /// The answer section, which follows the questions that are left. No pointer of theirs is followed. Fails with the error of the
-    /// first question that cannot be passed, or of the one that did not read before.
+    /// Returns the answer section, which follows the remaining questions. Follows none of their pointers. Fails with
+    /// the error of the first question that cannot be skipped, or of the one that did not parse before.
     pub fn answer(self) -> Result<RecordSection<'a>, ParseError>
         ensures { MatchResult result
             (λ section. (next : ℕ) × PassesAll SkipsQuestion QuestionSkipIsCut (questions_at self.entry) (Ok next)
@@ -73,7 +73,7 @@ impl<'a> QuestionSection<'a> {
         self.answer()
     }
 
-    /// The next question, or None where none is left or it does not parse.
+    /// Returns the next question, or None if none is left or it does not parse.
     fn next_read(&mut self) -> Option<Question<ParsedName<&'a [u8]>>>
         ensures some { IfSome result (λ question. GivesQuestion (questions_at self.old) (Some (Ok (question_of labels_of question)))
             (questions_at self.new)) }
@@ -87,8 +87,8 @@ impl<'a> QuestionSection<'a> {
         }
     }
 
-    /// Whether both have the same questions left, in order, names up to ASCII case (RFC 4343). None is the same as one that does not
-    /// parse.
+    /// Returns whether both have the same remaining questions, in order, names up to ASCII case (RFC 4343). A question
+    /// that does not parse equals none.
     pub(crate) fn asks_the_same(mut self, mut other: QuestionSection<'a>) -> bool
         ensures yes { result ≡ true → AskTheSame (questions_at self.entry) (questions_at other.entry) }
         ensures no { result ≡ false → AskTheSame (questions_at self.entry) (questions_at other.entry) → ⊥ }

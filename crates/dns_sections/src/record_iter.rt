@@ -8,9 +8,9 @@ use dns_header::Record;
 use dns_name::{Class, ParseAnyRecordData, ParseError, ParseRecordData, ParsedName};
 use std::marker::PhantomData;
 
-/// A cursor over the records of a section whose types `Data` takes, with their data.
+/// An iterator over the records of a section whose types `Data` takes, with their data.
 ///
-/// Data that does not read is an error of its record alone: the next record follows.
+/// If the data of a record does not parse, the error is that record's only: the next record follows.
 #[derive(Debug, Drop)]
 pub struct RecordIter<'a, Data> {
     section: RecordSection<'a>,
@@ -18,9 +18,9 @@ pub struct RecordIter<'a, Data> {
     data: PhantomData<Data>,
 }
 
-/// A cursor over all records of a section, with their data.
+/// An iterator over all records of a section, with their data.
 ///
-/// Data that does not read is an error of its record alone: the next record follows.
+/// If the data of a record does not parse, the error is that record's only: the next record follows.
 #[derive(Debug, Drop)]
 pub struct AnyRecordIter<'a, Data> {
     section: RecordSection<'a>,
@@ -28,7 +28,7 @@ pub struct AnyRecordIter<'a, Data> {
 }
 
 impl<'a> RecordSection<'a> {
-    /// The records whose types `Data` takes; the others are skipped.
+    /// Returns an iterator over the records whose types `Data` takes; it skips the others.
     pub fn limit_to<Data: ParseRecordData<'a>>(self) -> RecordIter<'a, Data>
         ensures at { asked_at result ≡ records_at self.entry }
         ensures any_class { only_in result ≡ false }
@@ -40,7 +40,7 @@ impl<'a> RecordSection<'a> {
         }
     }
 
-    /// The records of class IN whose types `Data` takes; the others are skipped.
+    /// Returns an iterator over the records of class IN whose types `Data` takes; it skips the others.
     pub fn limit_to_in<Data: ParseRecordData<'a>>(self) -> RecordIter<'a, Data>
         ensures at { asked_at result ≡ records_at self.entry }
         ensures in_class { only_in result ≡ true }
@@ -52,7 +52,7 @@ impl<'a> RecordSection<'a> {
         }
     }
 
-    /// All records, with their data.
+    /// Returns an iterator over all records, with their data.
     pub fn into_records<Data: ParseAnyRecordData<'a>>(self) -> AnyRecordIter<'a, Data>
         ensures { any_at result ≡ records_at self.entry }
     {
@@ -64,14 +64,14 @@ impl<'a> RecordSection<'a> {
 }
 
 impl<'a, Data> RecordIter<'a, Data> {
-    /// The section from the next record on, whatever its type.
+    /// Returns the section from the next record on, whatever its type.
     pub fn unwrap(self) -> RecordSection<'a>
         ensures { records_at result ≡ asked_at self.entry }
     {
         self.section
     }
 
-    /// The section that follows, as `RecordSection::next_section` gives it. Data that did not read is no error here.
+    /// Returns the next section, as `RecordSection::next_section` does. Data that did not parse is no error here.
     pub fn next_section(self) -> Result<Option<RecordSection<'a>>, ParseError>
         ensures { MatchResult result
             (λ found. LeadsOn (asked_at self.entry) (Ok (option_map (λ section. records_at section) found)))
@@ -82,14 +82,14 @@ impl<'a, Data> RecordIter<'a, Data> {
 }
 
 impl<'a, Data> AnyRecordIter<'a, Data> {
-    /// The section from the next record on.
+    /// Returns the section from the next record on.
     pub fn unwrap(self) -> RecordSection<'a>
         ensures { records_at result ≡ any_at self.entry }
     {
         self.section
     }
 
-    /// The section that follows, as `RecordSection::next_section` gives it. Data that did not read is no error here.
+    /// Returns the next section, as `RecordSection::next_section` does. Data that did not parse is no error here.
     pub fn next_section(self) -> Result<Option<RecordSection<'a>>, ParseError>
         ensures { MatchResult result
             (λ found. LeadsOn (any_at self.entry) (Ok (option_map (λ section. records_at section) found)))

@@ -7,9 +7,9 @@ use crate::cursor::ItemCursor;
 use dns_header::{HeaderCounts, ParsedRecord};
 use dns_name::{ParseError, Parser};
 
-/// A cursor over the records of a section (RFC 1035 4.1.3), whose data is read when it is asked for.
+/// A cursor over the records of a section (RFC 1035 4.1.3). Their data is parsed on demand.
 ///
-/// A record whose head or length does not read is an error, once, and nothing is given behind it.
+/// A record whose header or length does not parse is returned as an error once, and nothing after it.
 #[derive(Clone, Copy, Debug)]
 pub struct RecordSection<'a> {
     cursor: ItemCursor<'a>,
@@ -22,7 +22,7 @@ impl<'a> RecordSection<'a> {
     ghost use Rattle.dns_sections.specs.Seen.{records_at};
     ghost use Rattle.dns_sections.specs.declared.section.Section.{Section};
 
-    /// A cursor at the first record of the section, before which the parser stands.
+    /// Returns a cursor at the first record of the section; the parser must be there.
     pub(crate) fn at_start(parser: Parser<'a>, section: Section) -> Self
         requires { 12 ≤ length (octets_of parser) }
         ensures { records_at result ≡ at_start (octets_of parser.entry) section (place_of parser.entry) }
@@ -34,22 +34,23 @@ impl<'a> RecordSection<'a> {
         }
     }
 
-    /// How many octets of the message come before the next record.
+    /// Returns how many octets of the message come before the next record.
     pub fn pos(&self) -> usize
         ensures { result ≡ (records_at self.now).cursor.place }
     {
         self.cursor.pos()
     }
 
-    /// The section whose records these are.
+    /// Returns the section of these records.
     pub(crate) fn section(&self) -> Section
         ensures { result ≡ (records_at self.now).section }
     {
         self.section
     }
 
-    /// The section that follows the records that are left, or None behind the additional section. No pointer of theirs is followed.
-    /// Fails with the error of the first record that cannot be passed, or of the one that did not read before.
+    /// Returns the section after the remaining records, or None after the additional section. Follows none of their
+    /// pointers. Fails with the error of the first record that cannot be skipped, or of the one that did not parse
+    /// before.
     pub fn next_section(self) -> Result<Option<Self>, ParseError>
         ensures { MatchResult result
             (λ found. LeadsOn (records_at self.entry) (Ok (option_map (λ section. records_at section) found)))
@@ -62,7 +63,7 @@ impl<'a> RecordSection<'a> {
         Ok(Some(RecordSection::at_start(parser, section)))
     }
 
-    /// The section that follows where one does; the caller's is not the last.
+    /// Returns the next section. This section must not be the last.
     pub(crate) fn following(self) -> Result<Self, ParseError>
         requires { (section : Section) × (following (records_at self).section ≡ Some section) }
         ensures { MatchResult result (λ found. LeadsOn (records_at self.entry) (Ok (Some (records_at found))))

@@ -1,12 +1,12 @@
-//! What records are copied into, section by section (RFC 1035 4.1).
+//! Targets of copied records, section by section (RFC 1035 4.1).
 ghost use Rattle.dns_sections.specs.Copied.{Pushes};
 
 use crate::PushError;
 use dns_header::ComposeRecord;
 
-/// A target for the records of a section, behind which the target for those of the next section stands.
+/// A target for the records of a section, which leads to the target for those of the next section.
 ///
-/// `pushes` says what becomes of it when a record is pushed, and `leads_to` what the next target is.
+/// `pushes` relates the target before and after a push, and `leads_to` the target and the next one.
 pub trait RecordTarget: Sized + Drop {
     /// The target for the records of the next section.
     type Next;
@@ -15,7 +15,7 @@ pub trait RecordTarget: Sized + Drop {
 
     ghost leads_to: { Self → Self.Next → Type 0 };
 
-    /// Adds a record behind those of the section. The error says why the target refuses it.
+    /// Appends a record to the section. Fails with the reason why the target does not take it.
     fn push_record<R: ComposeRecord>(&mut self, item: &R) -> Result<(), PushError>
         ensures { pushes self.old (R.written item.now) result self.new };
 

@@ -6,7 +6,7 @@ ghost use Rattle.dns_sections.specs.Sections.{following, counted};
 
 use dns_header::HeaderCounts;
 
-/// A section of a message that has records, in the order of the message (RFC 1035 4.1).
+/// A record section of a message. Sections are ordered as in the message (RFC 1035 4.1).
 #[derive(Clone, Copy, Debug, PartialEq, Eq, PartialOrd, Ord)]
 pub enum Section {
     /// The records that answer the question.
@@ -18,14 +18,14 @@ pub enum Section {
 }
 
 impl Section {
-    /// The answer section, which comes first.
+    /// Returns the answer section, which comes first.
     pub fn first() -> Self
         ensures { result ≡ Answer }
     {
         Section::Answer
     }
 
-    /// How many records the header counts in this section.
+    /// Returns how many records the header counts in this section.
     pub(crate) fn count(self, counts: HeaderCounts) -> u16
         ensures { result ≡ counted (counts_of counts) self }
     {
@@ -36,7 +36,7 @@ impl Section {
         }
     }
 
-    /// The section behind this one, or None behind the last.
+    /// Returns the section after this one, or None after the last.
     pub(crate) fn next_section(self) -> Option<Self>
         ensures { result ≡ following self }
     {

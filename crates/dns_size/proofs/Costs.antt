@@ -1,4 +1,4 @@
--- What names take as more suffixes stand before them.
+-- What names take as more suffixes are written before them.
 use Rattle.std.proofs.Common.{◌≡◌, ℕ, ◌≤◌, ◌+◌, ◌⊎◌, inl, inr, Bool, true, false, ◌||◌, List, [], ◌∷◌, ◌++◌, length, refl, sym, ap, ◌∙◌, arith}
 use Rattle.std.specs.Prelude.{if◌then◌else◌}
 use Rattle.std.proofs.lemmas.Bool.{or_cases, or_left, or_right, or_parts, true≢false, false≢true, cases_Bool, both_ways}
@@ -6,7 +6,7 @@ use mathlib.Core.Path.{fun_ext}
 use Rattle.dns_size.specs.Cost.{Sameness, is_suffix_of, has_stood, name_cost, cost}
 use Rattle.dns_size.proofs.Sameness.{IsSameness}
 
--- which suffixes stood
+-- which suffixes are written before
 abbrev pub Test : Type 0
 Test = List (List ℕ) → Bool
 
@@ -26,11 +26,11 @@ pub cost_is : (same : Sameness) (seen names : List (List (List ℕ))) → cost s
 cost_is same seen [] = refl
 cost_is same seen (name ∷ names) = ap (λ (k : ℕ). name_cost (has_stood same seen) name + k) (cost_is same (name ∷ seen) names)
 
--- the same suffixes stood or stood not
+-- it takes equal suffixes alike
 abbrev pub Respects : Sameness → Test → Type 0
 Respects same f = (a b : List (List ℕ)) → same a b ≡ true → f a ≡ f b
 
--- with a suffix its parents stood
+-- if a suffix is written, so are its parents
 abbrev pub IsClosed : Test → Type 0
 IsClosed f = (l m : List ℕ) (p : List (List ℕ)) → f (l ∷ m ∷ p) ≡ true → f (m ∷ p) ≡ true
 
@@ -52,7 +52,7 @@ or_absorb false false c h = refl
 abbrev pub new_cost : Bool → ℕ → ℕ
 new_cost known long = if known then 0 else 1 + long
 
--- a name, if one more suffix stood
+-- a name, with one more suffix written before it
 one_step : (a b c : Bool) (j k x y : ℕ) → (b ≡ true → c ≡ a) → (b ≡ true → j ≡ k) → (b ≡ true → x ≤ 2) → x ≤ new_cost c j + y
     → (if a then 2 else 1 + k + x) ≤ new_cost c j + (if (b || a) then 2 else 1 + k + y)
 one_step true true c j k x y e long short less = omega arith
@@ -106,7 +106,7 @@ module _ (same : Sameness) (h : IsSameness same) where
         | inr there ↦ or_right (is_suffix_of same (m ∷ p) name) _ (c l m p there)
       ]
 
-  -- a name that stood, and what is the same as one of its suffixes
+  -- a name that is written before, and what is the same as one of its suffixes
   pub covered : (f : Test) → Respects same f → IsClosed f → (x : List (List ℕ)) (l : List ℕ) (p : List (List ℕ)) → f (l ∷ p) ≡ true → is_suffix_of same x (l ∷ p) ≡ true → f x ≡ true
   covered f r c x l [] there e =
       elim (or_cases (same (l ∷ []) x) false e) [
@@ -119,7 +119,7 @@ module _ (same : Sameness) (h : IsSameness same) where
         | inr after ↦ covered f r c x m p (c l m p there) after
       ]
 
-  -- what is left of a name after its first label takes two octets at most
+  -- what remains of a name after its first label takes at most two octets
   short_parent : (f : Test) → Respects same f → (p q : List (List ℕ)) → (p ≡ []) ⊎ (f p ≡ true) → same p q ≡ true → name_cost f q ≤ 2
   short_parent f r p [] known e = omega arith
   short_parent f r p (m ∷ q) (inl none) e = absurd (both_ways (same [] (m ∷ q)) (h.root m q) (rw none at e))
@@ -147,7 +147,7 @@ module _ (same : Sameness) (h : IsSameness same) where
   absorbed : (f : Test) → Respects same f → (s name : List (List ℕ)) → (is_suffix_of same s name || f s) ≡ true → with_name same (with_one same f s) name ≡ with_name same f name
   absorbed f r s name e = fun_ext (λ x. or_absorb (is_suffix_of same x name) (same s x) (f x) (λ here. sym (respects-with_name f name r s x here) ∙ e))
 
-  -- one more suffix that stood saves no more than its first label
+  -- one more suffix written before saves no more than its first label
   pub one_before : (f : Test) → Respects same f → (l : List ℕ) (p : List (List ℕ)) → (p ≡ []) ⊎ (f p ≡ true) → (names : List (List (List ℕ)))
       → cost_by same f names ≤ new_cost (f (l ∷ p)) (length l) + cost_by same (with_one same f (l ∷ p)) names
   one_before f r l p known [] = omega arith

@@ -12,21 +12,21 @@ use Rattle.dns_size.specs.CostSum.{own_suffixes, has_same, AreDistinctNames, Are
 use Rattle.dns_size.proofs.Sameness.{IsSameness, sameness}
 use Rattle.dns_size.proofs.Costs.{Test, Respects, IsClosed, with_name, with_one, cost_by, cost_is, respects-with_one, closed-with_name}
 
--- a suffix's first label, if it did not stand
+-- a suffix's first label, if it is new
 abbrev pub new_octets : Bool → ℕ → ℕ
 new_octets stood long = if stood then 0 else long
 
--- the first labels of a name's suffixes that did not stand
+-- the first labels of a name's suffixes that are new
 abbrev pub new_labels : Test → List (List ℕ) → ℕ
 new_labels f [] = 0
 new_labels f (label ∷ parent) = new_octets (f (label ∷ parent)) (1 + length label) + new_labels f parent
 
--- the first labels of suffixes, each as it stands for the first time
+-- the first labels of suffixes, each at its first occurrence
 abbrev pub fresh_labels : Sameness → Test → List (List (List ℕ)) → ℕ
 fresh_labels same f [] = 0
 fresh_labels same f (x ∷ xs) = new_octets (f x) (first_label x) + fresh_labels same (with_one same f x) xs
 
--- which suffixes stood after these
+-- which suffixes are written after these
 abbrev pub with_all : Sameness → Test → List (List (List ℕ)) → Test
 with_all same f [] = f
 with_all same f (x ∷ xs) = with_all same (with_one same f x) xs

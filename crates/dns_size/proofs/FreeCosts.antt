@@ -13,7 +13,7 @@ use Rattle.dns_size.proofs.Sameness.{IsSameness, sameness}
 use Rattle.dns_size.proofs.Costs.{Test, with_name, cost_by, cost_is, suffix_self}
 use Rattle.dns_size.proofs.Sizes.{AllProper, with_names, with_names-append, cost_by-append, written_size}
 
--- each suffix that stands in the message is one that is known to have stood
+-- each suffix in the message is one that is known to be written before
 abbrev pub Covers : Test → List Stand → Type 0
 Covers f before = (one : Stand) → IsOneOf one before → f (one.label ∷ one.parent) ≡ true
 
@@ -42,7 +42,7 @@ label_step : (test : Bool) (place k x next : ℕ) → place + 1 + k + x ≤ next
 label_step true place k x next within some = omega arith
 label_step false place k x next within some = omega arith
 
--- a name takes its cost at least
+-- a name takes at least its cost
 pub name_lower : {message : List ℕ} {before : List Stand} {place : ℕ} {name : List (List ℕ)} {own : List Stand} {next : ℕ} (f : Test) → Covers f before
     → SpellsNameFreely message before place name own next → place + name_cost f name ≤ next
 name_lower f covers (root rest at) = omega arith
@@ -51,7 +51,7 @@ name_lower f covers (label {place} {next} {parent} text rest at behind) =
 name_lower f covers (pointer high second rest target at both goes is) = rw (covers target is) (omega arith)
 
 module _ (same : Sameness) (h : IsSameness same) where
-  -- what stands of a name is its suffixes
+  -- the suffixes that a name adds are its own
   own_suffixes : {message : List ℕ} {before : List Stand} {place : ℕ} {name : List (List ℕ)} {own : List Stand} {next : ℕ}
       → SpellsNameFreely message before place name own next → (one : Stand) → IsOneOf one own → is_suffix_of same (one.label ∷ one.parent) name ≡ true
   own_suffixes (root rest at) one is = elim is [ ]
@@ -74,7 +74,7 @@ module _ (same : Sameness) (h : IsSameness same) where
     pub long : place + octets_in parts + cost_by same f (names_in parts) ≤ next
     pub covers : Covers (with_names same f (names_in parts)) after
 
-  -- parts take their cost at least
+  -- parts take at least their cost
   pub parts_lower : {message : List ℕ} {before : List Stand} {place : ℕ} {parts : Parts} {after : List Stand} {next : ℕ} (f : Test) → Covers f before
       → SpellsFreely message before place parts after next → IsLower f place parts after next
   parts_lower f covers (nothing within) = record { long = omega arith; covers = covers }
@@ -99,7 +99,7 @@ free_lower s message parts free =
     let is = parts_lower (same_name s) (sameness s) (λ x. false) (λ one is. elim is [ ]) free.spelled in
     omega (arith, is.long, cost_is (same_name s) [] (names_in parts))
 
--- so what is written is no longer, where pointers reach all suffixes
+-- so what is written is no longer, if pointers reach all suffixes
 pub free_no_shorter : (s : Spelling) (message : List ℕ) (parts : Parts) → s.most ≡ None → AllProper s.folds (names_in parts) → IsFree message parts
     → length message ≤ 16384 → length (written s parts) ≤ length message
 free_no_shorter s message parts any proper free few =

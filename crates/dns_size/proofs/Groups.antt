@@ -48,7 +48,7 @@ module _ {X : Type 0} (item : X → Parts) where
       ∙ sym (join-join head (items item xs) (items item more))
       ∙ ap (join_parts (join_parts head (items item xs))) (sym (join-end (items item more)))
 
--- with pointers, where each element is as it may be
+-- with pointers, if each element is as it may be
 module _ {X : Type 0} (P : X → Type 0) (s : Spelling) (head : List X → Parts) (item : X → Parts) (one : HasOneHead head)
     (proper_head : (group : List X) → AllProper s.folds (names_in (head group)))
     (proper_item : (x : X) → P x → AllProper s.folds (names_in (item x))) where
@@ -103,7 +103,7 @@ module _ {X : Type 0} (head : List X → Parts) (item : X → Parts) (one : HasO
       let left = less_without (head (more ++ xs)) (head xs) (items item more) (items item xs) (one (more ++ xs) xs) in
       omega (arith, whole, left)
 
--- nothing is asked of the elements
+-- no condition on the elements
 pub all_any : {X : Type 0} (xs : List X) → AllByRecursion (λ (x : X). Unit {0}) xs
 all_any [] = tt
 all_any (x ∷ xs) = (tt, all_any xs)

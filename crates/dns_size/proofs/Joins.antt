@@ -1,4 +1,4 @@
--- Parts that fit in a message, and what is left of them if a run is taken out.
+-- Parts that fit in a message, and what remains of them if a run is taken out.
 use Rattle.std.proofs.Common.{◌≡◌, ℕ, ◌≤◌, ◌+◌, false, List, [], ◌∷◌, ◌++◌, length, refl, sym, ap, ◌∙◌, subst, arith, append_assoc}
 use Rattle.std.specs.Prelude.{None}
 use Rattle.dns_name.specs.Spelling.{Spelling}
@@ -32,7 +32,7 @@ module _ (same : Sameness) (h : IsSameness same) where
   closed-with_names f [] c = c
   closed-with_names f (name ∷ names) c = closed-with_names (with_name same f name) names (closed-with_name same h f name c)
 
--- which suffixes stood after parts
+-- which suffixes are written after parts
 after_parts : Spelling → Parts → Test
 after_parts s parts = with_names (same_name s) (λ x. false) (names_in parts)
 
@@ -55,7 +55,7 @@ fewer_names s before run after =
     let is = ap (cost_by (same_name s) (with_names (same_name s) (λ x. false) (names_in before))) (names-join run after) in
     omega (arith, less, is)
 
--- what is left takes no more
+-- what remains takes no more
 pub cost_without : (s : Spelling) (before other run after : Parts) → AreAsLong before other
     → parts_cost s (join_parts other after) ≤ parts_cost s (join_parts before (join_parts run after))
 unfolding after_parts

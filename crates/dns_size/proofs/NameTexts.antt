@@ -1,4 +1,4 @@
--- The octets of one name are as many as its cost, and what is remembered then is what stood.
+-- The octets of one name are as many as its cost, and what is then remembered is what is written.
 use Rattle.std.proofs.Common.{◌≡◌, ℕ, ◌≤◌, ◌<◌, ◌+◌, Bool, true, false, ◌||◌, List, [], ◌∷◌, ◌++◌, length, refl, sym, ap, ◌∙◌, subst, arith, length-append}
 use Rattle.std.specs.Prelude.{if◌then◌else◌, Option, Some, None, is_some, min}
 use Rattle.std.specs.List.{list_all}
@@ -11,17 +11,17 @@ use Rattle.dns_size.proofs.Sameness.{sameness, is_same-form, Proper, proper_pare
 use Rattle.dns_size.proofs.Texts.{text_by, text_from, added_by, added_from, text_is, known_is}
 use Rattle.dns_size.proofs.Costs.{Test, Respects, IsClosed, with_name, covered, respects-with_name, closed-with_name}
 
--- what is remembered is what stood
+-- what is remembered is what is written before
 pub record Tells (s : Spelling) (known : Known) (f : Test) : Type 0 where
   pub agrees : (l : List ℕ) (p : List (List ℕ)) → Proper s.folds (l ∷ p) → is_some (place_in s known (wire (l ∷ p))) ≡ f (l ∷ p)
   pub respects : Respects (same_name s) f
   pub closed : IsClosed f
 
--- nothing is remembered, and nothing stood
+-- nothing is remembered, and nothing is written before
 pub tells_none : (s : Spelling) → Tells s [] (λ x. false)
 tells_none s = record { agrees = λ l p labels. refl; respects = λ a b e. refl; closed = λ l m p e. e }
 
--- where any number is remembered, a label stands at each place that a pointer reaches
+-- if any number is remembered, a label may be remembered at each place that a pointer reaches
 may_stand_near : (s : Spelling) (count place : ℕ) → s.most ≡ None → place < 16384 → may_stand s count place ≡ true
 may_stand_near s count place any near = rw any (by_far s.far)
   where
@@ -43,7 +43,7 @@ text_step place None true false first full label behind x e near fits on =
     let more = on (omega arith) in
     omega arith
 
--- A name's octets, where they or the cost end by place 16,384.
+-- A name's octets, if they or the cost end by place 16,384.
 pub text_cost : (s : Spelling) (known : Known) (f : Test) (count place : ℕ) (name : List (List ℕ)) → s.most ≡ None → Tells s known f → Proper s.folds name
     → place + min (name_cost f name) (length (text_from s known count place name)) ≤ 16384
     → length (text_from s known count place name) ≡ name_cost f name
@@ -92,7 +92,7 @@ added_step s None false false first behind x place k n own more fx e near fits c
 added_step s None true false first behind x place k n true more fx e near fits cover is on = rw is refl
 added_step s None true false first behind x place k n false more fx e near fits cover is on = rw is (on (omega arith))
 
--- what is added with a name is its suffixes that did not stand
+-- what a name adds is its new suffixes
 added_agrees : (s : Spelling) (known : Known) (f : Test) (count place stop : ℕ) (name : List (List ℕ)) → s.most ≡ None → Tells s known f → Proper s.folds name
     → place + name_cost f name ≤ 16384 → (l : List ℕ) (p : List (List ℕ)) → Proper s.folds (l ∷ p)
     → (is_some (place_in s (added_from s known count place stop name) (wire (l ∷ p))) || f (l ∷ p)) ≡ with_name (same_name s) f name (l ∷ p)
@@ -142,7 +142,7 @@ tells-added s known f place stop name any tells labels fits = record {
   closed = closed-with_name (same_name s) (sameness s) f name tells.closed;
 }
 
--- After a name, what is remembered is what stood and the name's suffixes.
+-- After a name, what is remembered is what was written before and the name's suffixes.
 pub tells-known_after : (s : Spelling) (known : Known) (f : Test) (place : ℕ) (name : List (List ℕ)) → s.most ≡ None → Tells s known f → Proper s.folds name
     → place + name_cost f name ≤ 16384 → Tells s (known_after s known place name) (with_name (same_name s) f name)
 tells-known_after s known f place name any tells labels fits =

@@ -1,4 +1,4 @@
--- What is written by a spelling that does not fold is itself free: so the cost is attained.
+-- What a spelling writes that does not fold is itself free: so the cost is attained.
 use Rattle.std.proofs.Common.{◌≡◌, ℕ, ◌≤◌, ◌+◌, ◌/◌, ◌%◌, ◌⊎◌, inl, inr, Bool, true, false, Option, Some, None, List, [], ◌∷◌, ◌++◌, length, take, drop, refl, sym, ap, ◌∙◌, subst, arith, append_assoc, append-nil, length-append, length-take}
 use Rattle.std.specs.Prelude.{if◌then◌else◌}
 use Rattle.std.specs.List.{list_all}
@@ -29,7 +29,7 @@ one-append_right : {one : Stand} (a : List Stand) {b : List Stand} → IsOneOf o
 one-append_right [] is = is
 one-append_right (other ∷ a) is = later (one-append_right a is)
 
--- what is remembered stands in the message
+-- what is remembered is in the message
 abbrev pub Stood : Spelling → Known → List Stand → Type 0
 Stood s known before = (l : List ℕ) (p : List (List ℕ)) (place : ℕ) → place_in s known (wire (l ∷ p)) ≡ Some place
     → IsOneOf (record { label = l; parent = p; place = place }) before
@@ -55,14 +55,14 @@ wire_free s whole before place (text ∷ name) rest at =
       stood = λ l p there e. absurd (let n : None ≡ Some there = e in cc);
     }
 
--- parts are free where their octets stand
+-- parts are free at the place of their octets
 pub record AreFreeParts (s : Spelling) (whole : List ℕ) (before : List Stand) (place : ℕ) (parts : Parts) (text : Page) : Type 0 where
   pub after : List Stand
   pub spelled : SpellsFreely whole before place parts after (place + length text.octets)
   pub stood : Stood s text.known after
 
 module _ (s : Spelling) (exact : s.folds ≡ false) where
-  -- the first that is added, and those after it
+  -- the first suffix added, and those after it
   stood_more : (text : List ℕ) (name : List (List ℕ)) (place stop : ℕ) (added : Known) (own : List Stand) → Stood s added own
       → Stood s (record { suffix = remembered_form s (text ∷ name); place = place; stop = stop } ∷ added) (record { label = text; parent = name; place = place } ∷ own)
   stood_more text name place stop added own on l p there e = by_test (is_same s (remembered_form s (text ∷ name)) (wire (l ∷ p))) refl

@@ -11,7 +11,7 @@ use Rattle.dns_name.proofs.Folding.{length-folded, folded-form, form-exact, same
 use Rattle.dns_spelling.proofs.SameNames.{folded-wire}
 use Rattle.dns_size.specs.Cost.{Sameness, same_name}
 
--- what the laws ask of a sameness
+-- what the laws require of a sameness
 pub record IsSameness (same : Sameness) : Type 0 where
   pub self : (a : List (List ℕ)) → same a a ≡ true
   pub turns : (a b : List (List ℕ)) → same a b ≡ same b a
@@ -49,7 +49,7 @@ module _ (s : Spelling) where
     root = λ m q. refl;
   }
 
--- Where case is folded, a name has labels as they may be: the octet that counts 65 octets or more could be taken for a letter.
+-- If case is folded, each label of a name is a label: a length octet of 65 or more could be taken for a letter.
 abbrev pub Proper : Bool → List (List ℕ) → Type 0
 Proper true name = AllByRecursion IsLabel name
 Proper false name = Unit {0}
@@ -72,7 +72,7 @@ proper-wire s name = by_case s.folds refl
         let here : folded s (wire name) ≡ wire name = rw is refl in
         here ∙ sym (form-exact s name is)
 
--- what a suffix is remembered by is the same as a name's octets if the names are the same
+-- the remembered form of a suffix equals a name's octets if the names are the same
 pub is_same-form : (s : Spelling) (a b : List (List ℕ)) → Proper s.folds a → Proper s.folds b
     → is_same s (remembered_form s a) (wire b) ≡ same_name s a b
 is_same-form s a b pa pb =
@@ -82,7 +82,7 @@ is_same-form s a b pa pb =
     (λ e. name_from s a b (wire_one (map (folded s) a) (map (folded s) b) (sym left ∙ same_is s (remembered_form s a) (wire b) e ∙ right)))
     (λ e. same_from s (remembered_form s a) (wire b) (left ∙ ap wire (name_is s a b e) ∙ sym right))
 
--- where nothing is folded, the names are one
+-- if nothing is folded, the names are equal
 pub exact_form : (s : Spelling) → s.folds ≡ false → (a b : List (List ℕ)) → is_same s (remembered_form s a) (wire b) ≡ true → a ≡ b
 exact_form s exact a b same =
     let left : folded s (remembered_form s a) ≡ remembered_form s a = rw exact refl in

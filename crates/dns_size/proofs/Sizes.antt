@@ -1,4 +1,4 @@
--- How many octets parts take that are written.
+-- How many octets written parts take.
 use Rattle.std.proofs.Common.{◌≡◌, ℕ, ◌≤◌, ◌+◌, ◌-◌, Bool, false, List, [], ◌∷◌, ◌++◌, length, refl, arith, length-append}
 use Rattle.std.specs.Prelude.{None, min}
 use Rattle.std.specs.Int.{to_be_bytes, w16}
@@ -14,7 +14,7 @@ use Rattle.dns_size.proofs.Sameness.{Proper, proper_from}
 use Rattle.dns_size.proofs.Costs.{Test, with_name, cost_by, cost_is}
 use Rattle.dns_size.proofs.NameTexts.{Tells, tells_none, name_text_cost, tells-known_after}
 
--- which suffixes stood after names
+-- which suffixes are written after names
 abbrev pub with_names : Sameness → Test → List (List (List ℕ)) → Test
 with_names same f [] = f
 with_names same f (name ∷ names) = with_names same (with_name same f name) names
@@ -27,7 +27,7 @@ pub cost_by-append : (same : Sameness) (f : Test) (a b : List (List (List ℕ)))
 cost_by-append same f [] b = omega arith
 cost_by-append same f (name ∷ a) b = omega (arith, cost_by-append same (with_name same f name) a b)
 
--- each name has labels as they may be
+-- each name is proper
 abbrev pub AllProper : Bool → List (List (List ℕ)) → Type 0
 AllProper folds names = AllByRecursion (λ name. Proper folds name) names
 
@@ -44,7 +44,7 @@ pub record IsWritten (s : Spelling) (page : Page) (f : Test) (parts : Parts) : T
   pub long : length (write s page parts).octets ≡ length page.octets + octets_in parts + cost_by (same_name s) f (names_in parts)
   pub tells : Tells s (write s page parts).known (with_names (same_name s) f (names_in parts))
 
--- Parts take their cost, where they or the cost end by place 16,384.
+-- Parts take their cost, if they or the cost end by place 16,384.
 pub write_cost : (s : Spelling) (page : Page) (f : Test) (parts : Parts) → s.most ≡ None → Tells s page.known f → AllProper s.folds (names_in parts)
     → min (length page.octets + octets_in parts + cost_by (same_name s) f (names_in parts)) (length (write s page parts).octets) ≤ 16384
     → IsWritten s page f parts
@@ -81,7 +81,7 @@ write_cost s page f (Counted inner parts) any tells labels fits =
       tells = rw with_names-append on.tells;
     }
 
--- The octets that are written are as many as the cost, where the one or the other are at most 16,384.
+-- The octets that are written are as many as the cost, if either is at most 16,384.
 pub written_size : (s : Spelling) (parts : Parts) → s.most ≡ None → AllProper s.folds (names_in parts)
     → min (parts_cost s parts) (length (written s parts)) ≤ 16384
     → length (written s parts) ≡ parts_cost s parts
@@ -90,7 +90,7 @@ written_size s parts any proper fits =
     let is = write_cost s (page_of [] []) (λ x. false) parts any (tells_none s) proper (omega arith) in
     omega (arith, is.long)
 
--- names that are names are proper, and any are where nothing is folded
+-- names that are names are proper, and any are if nothing is folded
 pub names_proper : (folds : Bool) (parts : Parts) → HaveNames parts → AllProper folds (names_in parts)
 names_proper folds End all = tt
 names_proper folds (Octets more parts) all = names_proper folds parts all

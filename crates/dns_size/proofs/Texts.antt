@@ -11,7 +11,7 @@ text_by (Some place) here full label_first = pointer_to place
 text_by None true full label_first = label_first
 text_by None false full label_first = full
 
--- the octets of a name at a place, where so many suffixes are remembered, with those of the labels before
+-- the octets of a name at a place, if `count` suffixes are remembered, with those of the labels before
 unfoldable pub text_from : Spelling → Known → ℕ → ℕ → List (List ℕ) → List ℕ
 text_from s known count place [] = 0 ∷ []
 text_from s known count place (label ∷ parent) =
@@ -23,7 +23,7 @@ added_by (Some place) here first more = []
 added_by None true first more = first ∷ more
 added_by None false first more = []
 
--- the suffixes of which the first label is written, where the name's octets stop before `stop`
+-- the suffixes whose first label is written, if the name's octets stop before `stop`
 unfoldable pub added_from : Spelling → Known → ℕ → ℕ → ℕ → List (List ℕ) → Known
 added_from s known count place stop [] = []
 added_from s known count place stop (label ∷ parent) =

@@ -1,4 +1,4 @@
--- What names and parts take where each suffix that stood before is a pointer (RFC 1035 4.1.4).
+-- What names and parts take if each suffix written before is a pointer (RFC 1035 4.1.4).
 use Rattle.std.specs.Prelude.{ℕ, ◌+◌, Bool, false, ◌||◌, List, [], ◌∷◌, ◌++◌, length, map, if◌then◌else◌, nat_eq}
 use Rattle.std.specs.Cmp.Lexicographic.{pointwise}
 use Rattle.dns_name.specs.Spelling.{Spelling, folded}
@@ -14,7 +14,7 @@ Sameness = List (List ℕ) → List (List ℕ) → Bool
 abbrev pub same_name : Spelling → Sameness
 same_name s one other = pointwise (pointwise nat_eq) (map (folded s) one) (map (folded s) other)
 
--- whether the suffix is one of the name's, the root left out
+-- whether the suffix is one of the name's, other than the root
 abbrev pub is_suffix_of : Sameness → List (List ℕ) → List (List ℕ) → Bool
 is_suffix_of same suffix [] = false
 is_suffix_of same suffix (label ∷ parent) = same (label ∷ parent) suffix || is_suffix_of same suffix parent
@@ -24,13 +24,13 @@ abbrev pub has_stood : Sameness → List (List (List ℕ)) → List (List ℕ) �
 has_stood same [] suffix = false
 has_stood same (name ∷ names) suffix = is_suffix_of same suffix name || has_stood same names suffix
 
--- The root takes one octet, a suffix that stood before the two of a pointer, and any other its first label, the octet that
--- counts it, and what its parent takes.
+-- The root takes one octet, a suffix written before the two of a pointer, and any other its first label, the label's
+-- length octet, and what its parent takes.
 abbrev pub name_cost : (List (List ℕ) → Bool) → List (List ℕ) → ℕ
 name_cost stood [] = 1
 name_cost stood (label ∷ parent) = if stood (label ∷ parent) then 2 else 1 + length label + name_cost stood parent
 
--- what names take one after another, after those that were seen, the last seen first
+-- what names take one after another, after those already seen, the last seen first
 abbrev pub cost : Sameness → List (List (List ℕ)) → List (List (List ℕ)) → ℕ
 cost same seen [] = 0
 cost same seen (name ∷ names) = name_cost (has_stood same seen) name + cost same (name ∷ seen) names

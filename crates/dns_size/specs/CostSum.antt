@@ -4,7 +4,7 @@ use Rattle.dns_name.specs.Spelling.{Spelling}
 use Rattle.dns_name.specs.Page.{Parts}
 use Rattle.dns_size.specs.Cost.{Sameness, same_name, has_stood, names_in, octets_in}
 
--- the suffixes of a name, the root left out
+-- the suffixes of a name, other than the root
 abbrev pub own_suffixes : List (List ℕ) → List (List (List ℕ))
 own_suffixes [] = []
 own_suffixes (label ∷ parent) = (label ∷ parent) ∷ own_suffixes parent
@@ -24,7 +24,7 @@ pub record AreTheSuffixes (same : Sameness) (names suffixes : List (List (List �
   pub distinct : AreDistinctNames same suffixes
   pub each : (name : List (List ℕ)) → has_same same suffixes name ≡ has_same same (flat_map own_suffixes names) name
 
--- the octets of a name's first label, and the one that counts them
+-- the octets of a name's first label, and its length octet
 abbrev pub first_label : List (List ℕ) → ℕ
 first_label [] = 0
 first_label (label ∷ parent) = 1 + length label
@@ -35,7 +35,7 @@ end_octets stood [] = 1
 end_octets stood (label ∷ []) = if stood (label ∷ []) then 2 else 1
 end_octets stood (label ∷ next ∷ parent) = end_octets stood (next ∷ parent)
 
--- the octets at the ends of names, after those that were seen, the last seen first
+-- the octets at the ends of names, after those already seen, the last seen first
 abbrev pub ends_cost : Sameness → List (List (List ℕ)) → List (List (List ℕ)) → ℕ
 ends_cost same seen [] = 0
 ends_cost same seen (name ∷ names) = end_octets (has_stood same seen) name + ends_cost same (name ∷ seen) names

@@ -1,11 +1,11 @@
--- Messages that spell parts freely: each name by labels and then by the root's 0 or by a pointer to any place where a suffix
--- of an earlier name stands that is what is left, octet for octet (RFC 1035 4.1.4).
+-- Messages that spell parts freely: each name by labels and then by the root's 0 or by a pointer to any place of a
+-- suffix of an earlier name that equals the rest, octet for octet (RFC 1035 4.1.4).
 use Rattle.std.specs.Prelude.{◌≡◌, ◌+◌, ◌-◌, ◌*◌, ◌≤◌, ℕ, List, [], ◌∷◌, ◌++◌, length, take, drop}
 use Rattle.std.specs.Int.{to_be_bytes, w16}
 use Rattle.dns_name.specs.Page.{Parts}
 use Rattle.dns_name.specs.Page.Parts.{End, Octets, Named, Counted}
 
--- a suffix other than the root, and a place where it stands: that of its first label, or of a pointer that is read as it
+-- a suffix other than the root, and its place: that of its first label, or of a pointer that is read as it
 pub record Stand : Type 0 where
   pub label : List ℕ
   pub parent : List (List ℕ)
@@ -16,8 +16,8 @@ pub data IsOneOf (one : Stand) : List Stand → Type 0 where
   first : {all : List Stand} → IsOneOf one (one ∷ all)
   later : {other : Stand} {all : List Stand} → IsOneOf one all → IsOneOf one (other ∷ all)
 
--- From the place on the message spells the name, with a pointer only to one of those that stood before; `own` are the name's
--- suffixes that then stand, and `next` is the place after it.
+-- From the place on the message spells the name, with pointers only to suffixes written before; `own` are the suffixes
+-- that the name adds, and `next` is the place after it.
 pub data SpellsNameFreely (message : List ℕ) (before : List Stand) : ℕ → List (List ℕ) → List Stand → ℕ → Type 0 where
   root : {place : ℕ} (rest : List ℕ)
       → drop place message ≡ 0 ∷ rest
@@ -33,8 +33,8 @@ pub data SpellsNameFreely (message : List ℕ) (before : List Stand) : ℕ → L
       → IsOneOf target before
       → SpellsNameFreely message before place (target.label ∷ target.parent) (record { label = target.label; parent = target.parent; place = place } ∷ []) (place + 2)
 
--- From the place on the message spells the parts, after those that stood; `after` are those that then stand, and `next` is the
--- place after the parts.
+-- From the place on the message spells the parts, after the suffixes of `before`; `after` are the suffixes written
+-- then, and `next` is the place after the parts.
 pub data SpellsFreely : List ℕ → List Stand → ℕ → Parts → List Stand → ℕ → Type 0 where
   nothing : {message : List ℕ} {before : List Stand} {place : ℕ} → place ≤ length message
       → SpellsFreely message before place End before place

@@ -1,4 +1,4 @@
--- Messages for groups of elements, as records: a head, and then the parts of each element.
+-- Messages for groups of elements, such as records: a head, and then the parts of each element.
 use Rattle.std.specs.Prelude.{ℕ, List, [], ◌∷◌, length}
 use Rattle.dns_name.specs.Spelling.{Spelling}
 use Rattle.dns_name.specs.Page.{Parts}

@@ -1,4 +1,4 @@
--- A reader takes the parts that are written, names as the spelling compares them.
+-- A reader returns the parts that were written, names as the spelling compares them.
 use Rattle.std.proofs.Common.{◌≡◌, ℕ, ◌≤◌, ◌<◌, ◌+◌, ◌^◌, false, List, [], ◌∷◌, ◌++◌, length, take, drop, map, refl, sym, ap, ◌∙◌, subst, arith, append_assoc, append-nil, length-append}
 use Rattle.std.specs.Prelude.{⊤}
 use Rattle.std.specs.Int.{to_be_bytes, w16}
@@ -19,7 +19,7 @@ use Rattle.dns_spelling.specs.Alike.AreAlike.{end, octets as alike_octets, named
 use Rattle.dns_spelling.proofs.Standings.{name_read}
 use Rattle.dns_spelling.proofs.Tails.{behind, tail, write_is}
 
--- the lengths that are written have room, said of what the parts add
+-- each written length fits its two octets, stated for what the parts add
 abbrev pub TailsFit : Spelling → Known → ℕ → Parts → Type 0
 TailsFit s known place End = ⊤
 TailsFit s known place (Octets text parts) = TailsFit s known (place + length text) parts
@@ -28,7 +28,7 @@ TailsFit s known place (Counted inner parts) =
     (length (tail s known (place + 2) inner).octets < 2 ^ 16) × TailsFit s known (place + 2) inner
     × TailsFit s (tail s known (place + 2) inner).known (place + 2 + length (tail s known (place + 2) inner).octets) parts
 
--- the page behind some octets has a known length and known suffixes
+-- the page after some octets has a known length and known suffixes
 module _ (s : Spelling) where
   at_page : (page : Page) (known : Known) (place : ℕ) (parts : Parts) → page.known ≡ known → length page.octets ≡ place
       → TailsFit s page.known (length page.octets) parts → TailsFit s known place parts
@@ -62,7 +62,7 @@ module _ (s : Spelling) where
             (tails_fit (write s page (Counted inner End)) parts fits.2),
       )
 
--- a name at a place that the octets end at
+-- a name at the end of the octets
 name_at : (s : Spelling) (known : Known) (octets : List ℕ) (place : ℕ) → place ≡ length octets → (name : List (List ℕ)) → IsSound s known octets → IsName name
     → IsSound s (known_after s known place name) (octets ++ name_text s known place name)
     × ((more : List ℕ) → (read : List (List ℕ)) × (map (folded s) name ≡ map (folded s) read)
@@ -73,7 +73,7 @@ name_at s known octets place is name sound is_name =
     × Reads (octets ++ (name_text s known n name ++ more)) n read (n + length (name_text s known n name))) in
     subst P (sym is) (IsSound-name name is_name sound, λ more. name_read s known octets more name sound is_name)
 
--- octets, one part after another
+-- octets joined one after another
 joined : (front text more rest : List ℕ) → (front ++ text) ++ (more ++ rest) ≡ front ++ ((text ++ more) ++ rest)
 joined front text more rest = append_assoc front text (more ++ rest) ∙ ap (λ l. front ++ l) (sym (append_assoc text more rest))
 
@@ -83,7 +83,7 @@ ends front text place is = omega (arith, length-append front text)
 found_at : (front text rest : List ℕ) (place : ℕ) → place ≡ length front → drop place (front ++ (text ++ rest)) ≡ text ++ rest
 found_at front text rest place is = ap (λ n. drop n (front ++ (text ++ rest))) is ∙ drop-append_seam front (text ++ rest)
 
--- what is remembered after the parts stands in the octets
+-- each suffix remembered after the parts is in the octets
 parts_sound : (s : Spelling) (known : Known) (octets : List ℕ) (place : ℕ) → place ≡ length octets → (parts : Parts) → IsSound s known octets
     → HaveNames parts → IsSound s (tail s known place parts).known (octets ++ (tail s known place parts).octets)
 parts_sound s known octets place is End sound names = IsSound-append [] sound
@@ -202,7 +202,7 @@ module _ (s : Spelling) (page : Page) (parts : Parts) where
       let kept : IsSound s t.known (page.octets ++ t.octets) = parts_sound s page.known page.octets (length page.octets) refl parts sound names in
       subst (λ (p : Page). IsSound s p.known p.octets) (sym is) kept
 
--- parts that are alike where nothing is folded
+-- parts that are alike if nothing is folded
 
 exact_names : (s : Spelling) (name other : List (List ℕ)) → s.folds ≡ false → map (folded s) name ≡ map (folded s) other → name ≡ other
 exact_names s name other exact same = sym (unfolded name) ∙ same ∙ unfolded other

@@ -1,4 +1,4 @@
--- A remembered suffix is read again where it stands.
+-- A remembered suffix is read again at its place.
 use Rattle.std.proofs.Common.{◌≡◌, ◌<◌, ℕ, suc, List, [], ◌∷◌, ◌++◌, length, map, refl, sym, ◌∙◌, ap, subst, arith, length-append, append-nil}
 use Rattle.std.specs.Coded.{Coded-set, coded_ℕ, coded_list}
 use mathlib.Core.Logic.{∥∥₁_elim}
@@ -13,7 +13,7 @@ use Rattle.dns_name.specs.Remembered.{IsKnown, IsSound}
 use Rattle.dns_spelling.proofs.Standings.{standings_read}
 use Rattle.dns_spelling.proofs.SameNames.{same_name, length-same}
 
--- the name that is read where a suffix stands
+-- the name that is read at the place of a suffix
 pub record IsThere (s : Spelling) (octets : List ℕ) (standing : Standing) : Type 0 where
   pub name : List (List ℕ)
   pub reads : Reads octets standing.place name standing.stop

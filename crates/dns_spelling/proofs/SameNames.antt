@@ -1,4 +1,4 @@
--- Names that a spelling takes for the same.
+-- Names that a spelling takes as equal.
 use Rattle.std.proofs.Common.{◌≡◌, ◌≤◌, ℕ, Bool, true, false, List, [], ◌∷◌, ◌++◌, length, map, refl, sym, ◌∙◌, ap, arith}
 use Rattle.std.specs.Prelude.{if◌then◌else◌}
 use Rattle.std.specs.List.{AllByRecursion}
@@ -25,7 +25,7 @@ folded-wire s (label ∷ parent) labels =
     ∙ ap (λ (l : List ℕ). length label ∷ l) (folded-append s label (wire parent) ∙ ap (λ (l : List ℕ). folded s label ++ l) (folded-wire s parent labels.1))
     ∙ ap (λ n. n ∷ folded s label ++ remembered_form s parent) (sym (length-folded s label))
 
--- a remembered suffix that is the same as a name is that name, as the spelling compares them
+-- a remembered suffix that equals a name is that name, as the spelling compares them
 pub same_names : (s : Spelling) (suffix : List ℕ) (remembered name : List (List ℕ)) → suffix ≡ remembered_form s remembered
     → AllByRecursion IsLabel remembered → AllByRecursion IsLabel name → is_same s suffix (wire name) ≡ true
     → map (folded s) name ≡ map (folded s) remembered
@@ -41,7 +41,7 @@ pub length-same : (s : Spelling) (name other : List (List ℕ)) → map (folded 
 length-same s name other same =
     sym (length-map name (folded s)) ∙ ap (length {A = List ℕ}) same ∙ length-map other (folded s)
 
--- what is the same as a label is one
+-- what equals a label is one
 pub same_label : (s : Spelling) (text label : List ℕ) → is_same s text label ≡ true → IsLabel label → IsLabel text
 same_label s text label same is =
     let long = ap (length {A = ℕ}) (same_is s text label same) in
@@ -50,7 +50,7 @@ same_label s text label same is =
       short = omega (arith, long, length-folded s text, length-folded s label, is.short);
     }
 
--- and what is the same as a name
+-- and what equals a name is one
 same_labels : (s : Spelling) (name other : List (List ℕ)) → map (folded s) name ≡ map (folded s) other → AllByRecursion IsLabel name
     → AllByRecursion IsLabel other
 same_labels s name [] same labels = tt

@@ -1,4 +1,4 @@
--- A reader takes each remembered suffix where it stands, and a name where it is written.
+-- A reader finds each remembered suffix at its place, and a name where it is written.
 use Rattle.std.proofs.Common.{◌≡◌, ℕ, zero, suc, ◌≤◌, ◌<◌, ◌+◌, ◌-◌, ◌*◌, ◌/◌, ◌%◌, List, [], ◌∷◌, ◌++◌, length, drop, map, refl, sym, ap, ◌∙◌, subst, arith, append_assoc, length-append}
 use Rattle.std.specs.List.{AllByRecursion}
 use Rattle.std.proofs.Math.Seq.{drop-append_seam}
@@ -16,13 +16,13 @@ use Rattle.dns_name.proofs.Soundness.{sound-within}
 use Rattle.dns_name.proofs.Spelled.{split_of, spelled_split, split_whole}
 use Rattle.dns_spelling.proofs.SameNames.{same_names, length-same, same_label, same_name}
 
--- by so many pointers a name is read at the place that is the same, up to the place after it
+-- with `pointers` pointers an equal name is read at the place, up to the place after it
 pub record ReadsAlike (s : Spelling) (message : List ℕ) (pointers place : ℕ) (name : List (List ℕ)) (next : ℕ) : Type 0 where
   pub read : List (List ℕ)
   pub same : map (folded s) name ≡ map (folded s) read
   pub spelled : SpellsAt message pointers place read next
 
--- a remembered suffix is read where it stands, by as many pointers as its parent has labels
+-- a remembered suffix is read at its place, with as many pointers as its parent has labels
 pub record IsStanding (s : Spelling) (message : List ℕ) (standing : Standing) : Type 0 where
   pub name : List (List ℕ)
   pub labels : AllByRecursion IsLabel name
@@ -32,7 +32,7 @@ pub record IsStanding (s : Spelling) (message : List ℕ) (standing : Standing) 
   pub before : standing.place < standing.stop
   pub reads : (k : ℕ) → length name ≤ suc k → ReadsAlike s message k standing.place name standing.stop
 
--- what stands after a label
+-- what follows a label
 after_label : (message : List ℕ) (place : ℕ) (text rest : List ℕ) → drop place message ≡ length text ∷ text ++ rest
     → drop (place + 1 + length text) message ≡ rest
 after_label message place text rest at =
@@ -67,7 +67,7 @@ point_read s message target place name rest (suc k) end on at before ends _ stan
           (pointed s message place rest target.place k target.stop found.read at (omega (arith, standing.before)) standing.near found.spelled);
     }
 
--- a text that spells a name is read as that name, where the targets of its pointers are
+-- a text that spells a name is read as that name, if the targets of its pointers are
 pub spelled_read : (s : Spelling) (known : Known) (message : List ℕ) (end : ℕ)
     → ((target : Standing) → IsKnown target known → target.stop + 2 ≤ end → IsStanding s message target)
     → {place : ℕ} {text : List ℕ} {name : List (List ℕ)} → SpellsName s known place text name
@@ -92,7 +92,7 @@ spelled_read s known message end targets {place} {name = name} (pointer target i
     point_read s message target place name rest k end standing at before ends refl standing
     (same_names s target.suffix standing.name name standing.suffix_is standing.labels labels same) few
 
--- each remembered suffix is read where it stands, whatever follows the octets
+-- each remembered suffix is read at its place, whatever follows the octets
 standing_read : (s : Spelling) (known : Known) (octets more : List ℕ) (standing : Standing) → StandsIn s known octets standing
     → ((target : Standing) → IsKnown target known → target.stop < standing.stop → IsStanding s (octets ++ more) target)
     → IsStanding s (octets ++ more) standing
@@ -145,7 +145,7 @@ standings_read s known octets more sound (suc n) standing is before =
     standing_read s known octets more standing (sound.each standing is)
     (λ target there less. standings_read s known octets more sound n target there (omega arith))
 
--- a name that is written is read
+-- a written name is read
 pub name_read : (s : Spelling) (known : Known) (octets more : List ℕ) (name : List (List ℕ)) → IsSound s known octets → IsName name
     → let text = name_text s known (length octets) name in
     (read : List (List ℕ)) × (map (folded s) name ≡ map (folded s) read)

@@ -25,7 +25,7 @@ tail s known place (Counted inner parts) =
 behind_both : (a b : List ℕ) (page : Page) → behind (a ++ b) page ≡ behind a (behind b page)
 behind_both a b page = λ i. record { octets = append_assoc a b page.octets i; known = page.known }
 
--- two octets of zero are written over
+-- two octets of zero are overwritten
 over_mark : (o t : List ℕ) (a b : ℕ) → patched ((o ++ 0 ∷ 0 ∷ []) ++ t) (length o) (a ∷ b ∷ []) ≡ o ++ (a ∷ b ∷ t)
 over_mark o t a b =
     let front : take (length o) ((o ++ 0 ∷ 0 ∷ []) ++ t) ≡ o = ap (take (length o)) (append_assoc o (0 ∷ 0 ∷ []) t) ∙ take-append_seam o (0 ∷ 0 ∷ t) in

@@ -1,4 +1,4 @@
--- What a reader takes of the parts that are written: the same parts, but for the case of names where the spelling folds.
+-- What a reader returns of written parts: the same parts, up to the case of names if the spelling folds.
 use Rattle.std.specs.Prelude.{◌≡◌, ◌<◌, ◌^◌, ℕ, List, [], ◌∷◌, map, ⊤}
 use Rattle.dns_label.specs.Name.{IsName}
 use Rattle.dns_name.specs.Spelling.{Spelling, folded}
@@ -23,7 +23,7 @@ HaveNames (Octets text parts) = HaveNames parts
 HaveNames (Named name parts) = IsName name × HaveNames parts
 HaveNames (Counted inner parts) = HaveNames inner × HaveNames parts
 
--- each length that is written has room in its two octets
+-- each written length fits its two octets
 abbrev pub LengthsFit : Spelling → Page → Parts → Type 0
 LengthsFit s page End = ⊤
 LengthsFit s page (Octets text parts) = LengthsFit s (with_octets page text) parts
@@ -31,7 +31,7 @@ LengthsFit s page (Named name parts) = LengthsFit s (with_name s page name) part
 LengthsFit s page (Counted inner parts) =
     (counted_length s page inner < 2 ^ 16) × LengthsFit s (with_octets page (0 ∷ 0 ∷ [])) inner × LengthsFit s (write s page (Counted inner End)) parts
 
--- The message spells the parts from the place on, up to case where the spelling folds; `next` is the place after them.
+-- The message spells the parts from the place on, up to case if the spelling folds; `next` is the place after them.
 pub record SpellsAlike (s : Spelling) (message : List ℕ) (place : ℕ) (parts : Parts) (next : ℕ) : Type 0 where
   pub read : Parts
   pub alike : AreAlike s parts read

@@ -1,4 +1,4 @@
-//! Beginning an answer to a query.
+//! Starting an answer to a query.
 ghost use Rattle.dns_builder.specs.Answering.{AnswersHeader};
 
 use super::{AnswerBuilder, QuestionBuilder, SectionBuilder};
@@ -17,11 +17,11 @@ impl<Target: Composer + Drop> SectionBuilder<Target, Start> {
     ghost use Rattle.dns_builder.specs.Steps.{KeepsLimits};
     ghost use Rattle.dns_builder.specs.Seen.{draft_of, target_in};
 
-    /// Begins an answer to a query, with a response code (RFC 1035 4.1.1).
+    /// Starts an answer to a query, with a response code (RFC 1035 4.1.1).
     ///
-    /// Sets QR, and the id, the opcode and RD to those of the query. Pushes the questions of the query, up to the first that
-    /// does not parse, and begins the answer section. Fails with the error of the first push that fails. The builder is then
-    /// dropped.
+    /// Sets QR, and copies the ID, the opcode and RD of the query. Pushes the questions of the query, up to the first
+    /// that does not parse, and goes to the answer section. Fails with the error of the first push that fails; the
+    /// builder is then dropped.
     pub fn start_answer<Octs: Octets>(
         self,
         query: &Message<Octs>,
@@ -40,9 +40,9 @@ impl<Target: Composer + Drop> SectionBuilder<Target, Start> {
         Ok(builder.answer())
     }
 
-    /// Begins an answer to a query, as `start_answer` does.
+    /// Starts an answer to a query, as `start_answer` does.
     ///
-    /// If a push fails, returns as the error a builder with the questions before, whose response code is SERVFAIL.
+    /// If a push fails, returns as the error a builder with the questions before it, whose response code is SERVFAIL.
     pub fn try_start_answer<Octs: Octets>(
         self,
         query: &Message<Octs>,
@@ -70,9 +70,9 @@ impl<Target: Composer + Drop> SectionBuilder<Target, Start> {
         }
     }
 
-    /// Begins an answer to a query, as `start_answer` does.
+    /// Starts an answer to a query, as `start_answer` does.
     ///
-    /// If a push fails, returns a builder with the questions before, whose response code is SERVFAIL.
+    /// If a push fails, returns a builder with the questions before it, whose response code is SERVFAIL.
     pub fn start_error<Octs: Octets>(
         self,
         query: &Message<Octs>,
@@ -90,7 +90,7 @@ impl<Target: Composer + Drop> SectionBuilder<Target, Start> {
         }
     }
 
-    /// Makes the header that of an answer to a query, and begins the questions.
+    /// Sets the header of an answer to a query, and goes to the questions.
     fn begin_questions(self, query: Header, rcode: Rcode) -> QuestionBuilder<Target>
         ensures built { (built : Built) → IsDraftOf Target.spelling built (draft_of self)
             → (header : List ℕ) × AnswersHeader query rcode built.header header
@@ -116,8 +116,8 @@ impl<Target: Composer> SectionBuilder<Target, Questions> {
     ghost use Rattle.dns_builder.specs.Steps.{with_item, IsTakenBy, IsRefusedBy, KeepsLimits};
     ghost use Rattle.dns_builder.specs.Seen.{draft_of, target_in};
 
-    /// Pushes the questions that are left of a query, up to the first that does not parse. Fails with the error of the first
-    /// push that fails. The questions before it stay.
+    /// Pushes the remaining questions of a query, up to the first that does not parse. Fails with the error of the
+    /// first push that fails. The questions before it stay.
     fn push_questions(&mut self, questions: QuestionSection<'_>) -> Result<(), PushError>
         ensures ok { OnOk result ((pushed : List spec.Question) × AreReadable (questions_at questions.entry) pushed
             × AddsQuestions Target.spelling (draft_of self.old) pushed (draft_of self.new)) }
@@ -136,7 +136,7 @@ impl<Target: Composer> SectionBuilder<Target, Questions> {
         Ok(())
     }
 
-    /// Pushes a question that was parsed, as `push` does.
+    /// Pushes a parsed question, as `push` does.
     fn push_parsed(&mut self, question: &Question<ParsedName<&[u8]>>) -> Result<(), PushError>
         ensures ok { (built : Built) → IsDraftOf Target.spelling built (draft_of self.old)
             → OnOk result (IsDraftOf Target.spelling (with_item built (question_parts (question_of labels_of question.now))) (draft_of self.new)) }
@@ -152,7 +152,7 @@ impl<Target: Composer> SectionBuilder<Target, Questions> {
     }
 }
 
-/// Returns the header of an answer to a query. The bits that are not set here are those of `header`.
+/// Returns the header of an answer to a query. Fields that are not set here are those of `header`.
 fn answer_header(mut header: Header, query: Header, rcode: Rcode) -> Header
     ensures { AnswersHeader query rcode header result }
 {

@@ -12,14 +12,14 @@ impl<Target: Composer> SectionBuilder<Target, Additionals> {
     ghost use Rattle.dns_builder.specs.Steps.{KeepsLimits};
     ghost use Rattle.dns_builder.specs.Seen.{draft_of, target_in};
 
-    /// Appends an OPT record and counts it. The closure builds the record, from zeros and no options; by condition it
-    /// changes nothing but the record and the response code, as the calls of the builder do. On failure everything stays as
-    /// it was, the response code too.
+    /// Appends an OPT record and counts it. The closure builds the record, starting from zeros and no options. It must
+    /// change only the record and the response code, as the calls of the builder do. If the call fails, nothing
+    /// changes, not even the response code.
     ///
-    /// Fails with `ShortBuf` only if the target would hold more octets than it may, with the error of the first call inside
-    /// that was refused, whatever the closure returns, with the closure's error, with `LimitExceeded` if the message would
-    /// be as long as the push limit or longer, with `CountOverflow` if the section has 65,535 records, and with
-    /// `OutOfMemory` if out of memory.
+    /// Fails with `ShortBuf` only if the target is too full, with the error of the first call in the closure that
+    /// failed, whatever the closure returns, with the closure's error, with `LimitExceeded` if the message would be as
+    /// long as the push limit or longer, with `CountOverflow` if the section has 65,535 records, and with `OutOfMemory`
+    /// if out of memory.
     pub fn opt<F>(&mut self, op: F) -> Result<(), PushError>
     where
         F: FnOnce(&mut OptBuilder<Target>) -> Result<(), AppendError>,

@@ -6,10 +6,10 @@ use dns_header::{ComposeQuestion, ComposeRecord};
 use dns_name::Composer;
 use dns_sections::PushError;
 
-/// A builder of a section of records, over a target.
+/// A builder of a record section, over a target.
 ///
-/// `number` is which section that is: 1 for the answers, 2 for the authority section, 3 for the additional one. `draft` is
-/// what the builder holds, and `target` its target.
+/// `number` is the number of that section: 1 for the answers, 2 for the authority section, 3 for the additional one.
+/// `draft` is what contracts see of the builder, and `target` its target.
 pub trait RecordSectionBuilder<Target: Composer> {
     ghost use Rattle.std.specs.Prelude.{◌≡◌, ◌<◌, ℕ, OnOk, OnErr, IfErr};
     ghost use Rattle.dns_header.specs.Written.{parts_of, data_length};
@@ -22,11 +22,11 @@ pub trait RecordSectionBuilder<Target: Composer> {
 
     ghost target: { Self → Target };
 
-    /// Appends a record and counts it. On failure everything stays as it was.
+    /// Appends a record and counts it. If the call fails, nothing changes.
     ///
-    /// Fails with `ShortBuf` only if the target would hold more octets than it may, with `BadLength` only if the data has
-    /// more than 65,535 octets, with `LimitExceeded` if the message would be as long as the push limit or longer, with
-    /// `CountOverflow` if the section has 65,535 records, and with `OutOfMemory` if out of memory.
+    /// Fails with `ShortBuf` only if the target is too full, with `BadLength` only if the data has more than 65,535
+    /// octets, with `LimitExceeded` if the message would be as long as the push limit or longer, with `CountOverflow`
+    /// if the section has 65,535 records, and with `OutOfMemory` if out of memory.
     fn push<R: ComposeRecord + Drop>(&mut self, record: R) -> Result<(), PushError>
         ensures ok { (built : Built) → IsDraftOf Target.spelling built (draft self.old)
             → OnOk result (IsDraftOf Target.spelling (with_item built (parts_of (R.written «record»))) (draft self.new)) }
@@ -62,11 +62,11 @@ impl<Target: Composer> SectionBuilder<Target, Questions> {
     ghost use Rattle.dns_builder.specs.Steps.{with_item, IsTakenBy, IsRefusedBy, KeepsLimits};
     ghost use Rattle.dns_builder.specs.Seen.{draft_of, target_in};
 
-    /// Appends a question and counts it. On failure everything stays as it was.
+    /// Appends a question and counts it. If the call fails, nothing changes.
     ///
-    /// Fails with `ShortBuf` only if the target would hold more octets than it may, with `LimitExceeded` if the message would
-    /// be as long as the push limit or longer, with `CountOverflow` if there are 65,535 questions, and with `OutOfMemory` if
-    /// out of memory.
+    /// Fails with `ShortBuf` only if the target is too full, with `LimitExceeded` if the message would be as long as
+    /// the push limit or longer, with `CountOverflow` if there are 65,535 questions, and with `OutOfMemory` if out of
+    /// memory.
     pub fn push<Q: ComposeQuestion + Drop>(&mut self, question: Q) -> Result<(), PushError>
         ensures ok { (built : Built) → IsDraftOf Target.spelling built (draft_of self.old)
             → OnOk result (IsDraftOf Target.spelling (with_item built (question_parts (Q.question question))) (draft_of self.new)) }
@@ -89,7 +89,7 @@ impl<Target: Composer, S: RecordsSection> SectionBuilder<Target, S> {
     ghost use Rattle.dns_builder.specs.Steps.{with_item, IsTakenBy, IsRefusedBy, KeepsLimits};
     ghost use Rattle.dns_builder.specs.Seen.{draft_of, target_in};
 
-    /// Appends a record and counts it, or leaves everything as it is.
+    /// Appends a record and counts it. If the call fails, nothing changes.
     pub(super) fn push_record<R: ComposeRecord>(&mut self, record: &R) -> Result<(), PushError>
         ensures ok { (built : Built) → IsDraftOf Target.spelling built (draft_of self.old)
             → OnOk result (IsDraftOf Target.spelling (with_item built (parts_of (R.written «record».now))) (draft_of self.new)) }
@@ -105,11 +105,11 @@ impl<Target: Composer, S: RecordsSection> SectionBuilder<Target, S> {
             .push_item(S::number() - 1, &RecordItem { inner: record })
     }
 
-    /// Appends a record and counts it. On failure everything stays as it was.
+    /// Appends a record and counts it. If the call fails, nothing changes.
     ///
-    /// Fails with `ShortBuf` only if the target would hold more octets than it may, with `BadLength` only if the data has
-    /// more than 65,535 octets, with `LimitExceeded` if the message would be as long as the push limit or longer, with
-    /// `CountOverflow` if the section has 65,535 records, and with `OutOfMemory` if out of memory.
+    /// Fails with `ShortBuf` only if the target is too full, with `BadLength` only if the data has more than 65,535
+    /// octets, with `LimitExceeded` if the message would be as long as the push limit or longer, with `CountOverflow`
+    /// if the section has 65,535 records, and with `OutOfMemory` if out of memory.
     pub fn push<R: ComposeRecord + Drop>(&mut self, record: R) -> Result<(), PushError>
         ensures ok { (built : Built) → IsDraftOf Target.spelling built (draft_of self.old)
             → OnOk result (IsDraftOf Target.spelling (with_item built (parts_of (R.written «record»))) (draft_of self.new)) }
@@ -132,7 +132,7 @@ impl<Target: Composer> SectionBuilder<Target, Answers> {
     ghost use Rattle.dns_builder.specs.Steps.{with_item, IsTakenBy, IsRefusedBy, KeepsLimits};
     ghost use Rattle.dns_builder.specs.Seen.{draft_of, target_in};
 
-    /// Appends a record that is lent and counts it, as `push` does.
+    /// Appends a record by reference and counts it, as `push` does.
     pub fn push_ref<R: ComposeRecord>(&mut self, record: &R) -> Result<(), PushError>
         ensures ok { (built : Built) → IsDraftOf Target.spelling built (draft_of self.old)
             → OnOk result (IsDraftOf Target.spelling (with_item built (parts_of (R.written «record».now))) (draft_of self.new)) }

@@ -1,11 +1,11 @@
-//! Builders as what the records of a message are copied into.
+//! Builders as targets of copied records.
 use super::SectionBuilder;
 use crate::section::RecordsSection;
 use dns_header::ComposeRecord;
 use dns_name::Composer;
 use dns_sections::{PushError, RecordTarget};
 
-/// The target of the next section is the builder of that section. That of the additional section is this builder.
+/// The target of the next section is the builder of that section. The additional section is its own next one.
 impl<Target: Composer + Drop, S: RecordsSection> RecordTarget for SectionBuilder<Target, S> {
     ghost use Rattle.std.specs.Prelude.{◌-◌};
     ghost use Rattle.dns_builder.specs.Moved.{MovesTo};

@@ -1,4 +1,4 @@
-//! Beginning a message.
+//! Starting a message.
 use super::SectionBuilder;
 use crate::draft::Draft;
 use crate::section::Start;
@@ -13,10 +13,10 @@ impl<Target: Composer + Drop> SectionBuilder<Target, Start> {
     ghost use Rattle.dns_builder.specs.Built.{IsDraftOf, nothing_built};
     ghost use Rattle.dns_builder.specs.Seen.{draft_of, target_in};
 
-    /// Returns a builder of a message whose header is clear. The target is emptied first.
+    /// Empties the target, and returns a builder of a message in it, with all header bits clear.
     ///
-    /// Fails with `ShortBuf` only if the target may not hold the twelve octets of a header, and with `OutOfMemory` if out
-    /// of memory.
+    /// Fails with `ShortBuf` only if the target may not hold the twelve octets of a header, and with `OutOfMemory` if
+    /// out of memory.
     pub fn from_target(target: Target) -> Result<Self, AppendError>
         ensures ok { IfOk result (λ builder. IsDraftOf Target.spelling nothing_built (draft_of builder)) }
         ensures limit { IfOk result (λ builder. (draft_of builder).limit ≡ usize.MAX) }
@@ -40,7 +40,7 @@ impl SectionBuilder<Vec<u8>, Start> {
     ghost use Rattle.dns_builder.specs.Built.{IsDraftOf, nothing_built};
     ghost use Rattle.dns_builder.specs.Seen.{draft_of};
 
-    /// Returns a builder of a message over a vector, whose header is clear. Fails with `OutOfMemory` alone.
+    /// Returns a builder of a message over a vector, with all header bits clear. Fails only with `OutOfMemory`.
     pub fn new_vec(alloc: Global) -> Result<Self, AppendError>
         ensures ok { IfOk result (λ builder. IsDraftOf plain nothing_built (draft_of builder)) }
         ensures limit { IfOk result (λ builder. (draft_of builder).limit ≡ usize.MAX) }

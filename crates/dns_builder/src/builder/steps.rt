@@ -1,4 +1,4 @@
-//! Going from section to section.
+//! Going from one section to another.
 use super::{
     AdditionalBuilder, AnswerBuilder, AuthorityBuilder, MessageBuilder, QuestionBuilder,
     SectionBuilder,
@@ -13,7 +13,7 @@ impl<Target: Composer, S: BuilderSection> SectionBuilder<Target, S> {
     ghost use Rattle.dns_builder.specs.Steps.{going_to, KeepsLimits};
     ghost use Rattle.dns_builder.specs.Seen.{draft_of, target_in};
 
-    /// Goes to another section: drops later ones, and begins missing ones, which are empty.
+    /// Goes to another section: drops later ones, and starts missing ones, which are empty.
     pub(super) fn go_to<To: BuilderSection>(self) -> SectionBuilder<Target, To>
         ensures built { (built : Built) → IsDraftOf Target.spelling built (draft_of self)
             → IsDraftOf Target.spelling (going_to To.number built) (draft_of result) }
@@ -38,7 +38,7 @@ impl<Target: Composer, S: BuilderSection> SectionBuilder<Target, S> {
         self.go_to()
     }
 
-    /// Goes to the questions: drops the sections after them, or begins them.
+    /// Goes to the questions: drops the sections after them, or starts them.
     pub fn question(self) -> QuestionBuilder<Target>
         ensures built { (built : Built) → IsDraftOf Target.spelling built (draft_of self)
             → IsDraftOf Target.spelling (going_to 1 built) (draft_of result) }
@@ -48,7 +48,8 @@ impl<Target: Composer, S: BuilderSection> SectionBuilder<Target, S> {
         self.go_to()
     }
 
-    /// Goes to the answer section: drops the sections after it, or begins it and those before it, which are empty.
+    /// Goes to the answer section: drops the sections after it, or starts it and the missing ones before it, which are
+    /// empty.
     pub fn answer(self) -> AnswerBuilder<Target>
         ensures built { (built : Built) → IsDraftOf Target.spelling built (draft_of self)
             → IsDraftOf Target.spelling (going_to 2 built) (draft_of result) }
@@ -58,7 +59,8 @@ impl<Target: Composer, S: BuilderSection> SectionBuilder<Target, S> {
         self.go_to()
     }
 
-    /// Goes to the authority section: drops the section after it, or begins it and those before it, which are empty.
+    /// Goes to the authority section: drops the section after it, or starts it and the missing ones before it, which
+    /// are empty.
     pub fn authority(self) -> AuthorityBuilder<Target>
         ensures built { (built : Built) → IsDraftOf Target.spelling built (draft_of self)
             → IsDraftOf Target.spelling (going_to 3 built) (draft_of result) }
@@ -68,7 +70,7 @@ impl<Target: Composer, S: BuilderSection> SectionBuilder<Target, S> {
         self.go_to()
     }
 
-    /// Goes to the additional section: begins it and those before it, which are empty.
+    /// Goes to the additional section: starts it and the missing ones before it, which are empty.
     pub fn additional(self) -> AdditionalBuilder<Target>
         ensures built { (built : Built) → IsDraftOf Target.spelling built (draft_of self)
             → IsDraftOf Target.spelling (going_to 4 built) (draft_of result) }
@@ -92,7 +94,7 @@ impl<Target: Composer, S: BegunSection> SectionBuilder<Target, S> {
     ghost use Rattle.dns_builder.specs.Steps.{going_to, KeepsLimits};
     ghost use Rattle.dns_builder.specs.Seen.{draft_of, target_in};
 
-    /// Empties the section.
+    /// Removes all items of the section.
     pub fn rewind(&mut self)
         ensures built { (built : Built) → IsDraftOf Target.spelling built (draft_of self.old)
             → IsDraftOf Target.spelling (going_to S.number (going_to (S.number - 1) built)) (draft_of self.new) }
@@ -109,7 +111,7 @@ impl<Target: Composer, S: RecordsSection> SectionBuilder<Target, S> {
     ghost use Rattle.dns_builder.specs.Steps.{going_to, IsTruncated, KeepsLimits};
     ghost use Rattle.dns_builder.specs.Seen.{draft_of, target_in};
 
-    /// Empties the section, and returns the builder.
+    /// Removes all items of the section, and returns the builder.
     pub fn rewind_into(mut self) -> Self
         ensures built { (built : Built) → IsDraftOf Target.spelling built (draft_of self)
             → IsDraftOf Target.spelling (going_to S.number (going_to (S.number - 1) built)) (draft_of result) }
@@ -120,7 +122,7 @@ impl<Target: Composer, S: RecordsSection> SectionBuilder<Target, S> {
         self
     }
 
-    /// Empties the section, says in the header that the message was truncated, and returns the builder.
+    /// Removes all items of the section, sets TC in the header, and returns the builder.
     pub fn tc_rewind_into(mut self) -> Self
         ensures built { (built : Built) → IsDraftOf Target.spelling built (draft_of self)
             → (truncated : Built) × IsTruncated (going_to S.number (going_to (S.number - 1) built)) truncated

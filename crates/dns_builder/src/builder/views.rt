@@ -1,4 +1,4 @@
-//! What a builder shows, its header and its push limit.
+//! The octets, the header and the push limit of a builder.
 use super::SectionBuilder;
 use crate::section::BuilderSection;
 use dns_header::{Header, HeaderCounts};
@@ -22,7 +22,7 @@ impl<Target: Composer, S: BuilderSection> SectionBuilder<Target, S> {
         self.draft.header()
     }
 
-    /// Puts another header in place of this one. The counts stay.
+    /// Replaces the header. The counts stay.
     pub fn set_header(&mut self, header: Header)
         ensures built { (built : Built) → IsDraftOf Target.spelling built (draft_of self.old)
             → IsDraftOf Target.spelling (with_header built header) (draft_of self.new) }
@@ -32,7 +32,7 @@ impl<Target: Composer, S: BuilderSection> SectionBuilder<Target, S> {
         self.draft.set_header(header);
     }
 
-    /// Returns how many questions and records there are.
+    /// Returns how many questions and records the message has.
     pub fn counts(&self) -> HeaderCounts
         ensures built { (built : Built) → IsDraftOf Target.spelling built (draft_of self.now)
             → result ≡ counts_octets built.sections }
@@ -41,7 +41,7 @@ impl<Target: Composer, S: BuilderSection> SectionBuilder<Target, S> {
         self.draft.counts()
     }
 
-    /// Sets the push limit, in octets. A push fails where the message would be as long or longer.
+    /// Sets the push limit, in octets. A push fails if the message would be as long or longer.
     pub fn set_push_limit(&mut self, limit: usize)
         ensures draft { draft_of self.new ≡ record (draft_of self.old) { limit = limit } }
         ensures target { target_in self.new ≡ target_in self.old }
@@ -84,7 +84,7 @@ impl<Target: Composer, S: BuilderSection> SectionBuilder<Target, S> {
         self.draft.as_slice()
     }
 
-    /// Returns the message.
+    /// Returns the message built so far.
     pub fn as_message(&self) -> Message<&[u8]>
         ensures { message.octets_of result ≡ (draft_of self.now).page.octets }
     {
@@ -100,7 +100,7 @@ impl<Target: Composer + FreezeBuilder, S: BuilderSection> SectionBuilder<Target,
     ghost use Rattle.dns_sections.specs.Message as message;
     ghost use Rattle.dns_builder.specs.Seen.{draft_of, target_in};
 
-    /// Returns the message.
+    /// Returns the finished message.
     pub fn into_message(self) -> Message<Target::Octets>
         ensures { message.octets_in ⟦<Target::Octets as Octets>⟧.list result ≡ (draft_of self).page.octets }
     {

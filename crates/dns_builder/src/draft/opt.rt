@@ -11,8 +11,8 @@ use dns_name::{AppendError, Composer};
 use dns_sections::PushError;
 
 impl<Target: Composer> Draft<Target> {
-    /// Appends the OPT record that the closure builds, counts it in the additional section, which is begun, and sets the
-    /// response code in the header, or leaves everything as it is.
+    /// Appends the OPT record that the closure builds, counts it in the additional section, which must be the last, and
+    /// sets the response code in the header. If the call fails, nothing changes.
     pub(crate) fn push_opt<F>(&mut self, op: F) -> Result<(), PushError>
     where
         F: FnOnce(&mut OptBuilder<Target>) -> Result<(), AppendError>,

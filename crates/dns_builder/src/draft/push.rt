@@ -15,7 +15,8 @@ use dns_name::Composer;
 use dns_sections::PushError;
 
 impl<Target: Composer> Draft<Target> {
-    /// Appends the item and counts it in the section of this number, the last one that is begun, or leaves everything as it is.
+    /// Appends the item and counts it in the section `number`, which must be the last. If the call fails, nothing
+    /// changes.
     pub(crate) fn push_item<I: Item>(&mut self, number: usize, item: &I) -> Result<(), PushError>
         requires last { length (draft_in self.old).starts ≡ number + 1 }
         requires few { number < 4 }
@@ -35,7 +36,7 @@ impl<Target: Composer> Draft<Target> {
         self.count_or_cut(number, len)
     }
 
-    /// Counts an item that was appended behind so many octets, in the section of this number, or cuts it off.
+    /// Counts an item that was appended at `len`, in the section `number`. If the call fails, cuts the item off.
     pub(super) fn count_or_cut(&mut self, number: usize, len: usize) -> Result<(), PushError>
         requires few { number < 4 }
         requires header { 12 ≤ len }
@@ -52,7 +53,7 @@ impl<Target: Composer> Draft<Target> {
         counted
     }
 
-    /// Counts an item that was appended, in the section of this number.
+    /// Counts an item that was appended, in the section `number`. If the call fails, nothing changes.
     fn count_item(&mut self, number: usize) -> Result<(), PushError>
         requires { number < 4 }
         ensures ok { OnOk result ((draft_in self.new) ≡ record (draft_in self.old) { page = page_of (patched (draft_in self.old).page.octets (4 + 2 * number) (to_be_bytes w16 (counted_at number (draft_in self.old) + 1))) (draft_in self.old).page.known }) }
@@ -71,7 +72,7 @@ impl<Target: Composer> Draft<Target> {
         Ok(())
     }
 
-    /// How many items the section of this number has.
+    /// Returns how many items the section `number` has.
     fn count(&self, number: usize) -> u16
         requires { number < 4 }
         ensures { result ≡ counted_at number (draft_in self.now) }

@@ -9,7 +9,7 @@ use super::Draft;
 use dns_name::Composer;
 
 impl<Target: Composer> Draft<Target> {
-    /// Makes so many sections begun: drops later ones, and begins missing ones, which are empty.
+    /// Makes `count` sections started: drops later ones, and starts missing ones, which are empty.
     pub(crate) fn go_to(&mut self, count: usize)
         requires { count ≤ 4 }
         ensures built { (built : Built) → IsDraftOf Target.spelling built (draft_in self.old)
@@ -25,7 +25,7 @@ impl<Target: Composer> Draft<Target> {
         }
     }
 
-    /// Empties the last of so many sections.
+    /// Removes all items of the last of `count` sections.
     pub(crate) fn rewind(&mut self, count: usize)
         requires some { 0 < count }
         requires few { count ≤ 4 }
@@ -39,7 +39,7 @@ impl<Target: Composer> Draft<Target> {
         self.go_to(count);
     }
 
-    /// Drops the sections from this one on, and their counts.
+    /// Drops the sections from number `count` on, and their counts.
     fn go_back(&mut self, count: usize)
         requires begun { count < length (draft_in self.old).starts }
         requires few { count < 4 }
@@ -51,7 +51,7 @@ impl<Target: Composer> Draft<Target> {
         self.starts.truncate(count);
     }
 
-    /// Begins empty sections until there are so many.
+    /// Starts empty sections until there are `count`.
     fn go_on(&mut self, count: usize)
         requires begun { length (draft_in self.old).starts ≤ count }
         requires few { count ≤ 4 }

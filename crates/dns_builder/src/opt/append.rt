@@ -17,7 +17,7 @@ use dns_header::{Header, OptHeader};
 use dns_name::{AppendError, Class, Composer, Ttl};
 
 impl<Target: Composer> OptBuilder<Target> {
-    /// Appends an OPT record that the closure builds, all or nothing. Returns the header that the message has with the
+    /// Appends an OPT record that the closure builds, all or nothing. Returns the header of the message with the
     /// record.
     pub(crate) fn append_opt<F>(&mut self, op: F) -> Result<Header, AppendError>
     where
@@ -46,7 +46,7 @@ impl<Target: Composer> OptBuilder<Target> {
         }
     }
 
-    /// Appends an OPT record that the closure builds. On failure the target may have more octets.
+    /// Appends an OPT record that the closure builds. If the call fails, the target may have more octets.
     fn build_opt<F>(&mut self, op: F) -> Result<Header, AppendError>
     where
         F: FnOnce(&mut OptBuilder<Target>) -> Result<(), AppendError>,
@@ -67,7 +67,7 @@ impl<Target: Composer> OptBuilder<Target> {
         self.close(answered)
     }
 
-    /// Appends an OPT record of zeros without options.
+    /// Appends an OPT record with all fields zero and no options.
     fn begin(&mut self) -> Result<(), AppendError>
         requires header { 12 ≤ length (Target.list (target_of self.old)) }
         ensures ok { OnOk result (opt_in Target.list self.new ≡ empty_opt (take 4 (Target.list (target_of self.old)))) }
@@ -93,7 +93,7 @@ impl<Target: Composer> OptBuilder<Target> {
         Ok(())
     }
 
-    /// Writes what the record says beside its options, unless the record is refused. Returns the header.
+    /// Writes the fixed fields of the record, unless a call failed. Returns the header.
     fn close(&mut self, answered: Result<(), AppendError>) -> Result<Header, AppendError>
         requires behind { 8 ≤ start_of Target.list self.old }
         requires stops { (standing : Standing) → IsKnown standing (Target.known (target_of self.old)) → standing.stop ≤ start_of Target.list self.old - 8 }
@@ -118,7 +118,7 @@ impl<Target: Composer> OptBuilder<Target> {
         Ok(self.header)
     }
 
-    /// Moves the options to where those that they replaced begin.
+    /// Moves the options down over those that they replaced.
     fn drop_replaced(&mut self)
         requires stops { (standing : Standing) → IsKnown standing (Target.known (target_of self.old)) → standing.stop ≤ start_of Target.list self.old - 8 }
         ensures octets { Target.list (target_of self.new)
@@ -145,7 +145,7 @@ impl<Target: Composer> OptBuilder<Target> {
         len.saturating_sub(usize::from(self.rdlen))
     }
 
-    /// Writes the class, the TTL and the length of the data, which are the options alone.
+    /// Writes the class, the TTL and the length of the data, which is only the options.
     fn write_fields(&mut self)
         requires behind { 8 ≤ start_of Target.list self.old }
         requires alone { start_of Target.list self.old ≡ options_start Target.list self.old }
@@ -163,7 +163,7 @@ impl<Target: Composer> OptBuilder<Target> {
     }
 }
 
-/// The octets between the type and the data: the class, the TTL, and how many the data has.
+/// Returns the octets between the type and the data: the class, the TTL, and the length of the data.
 fn head_octets(class: Class, ttl: Ttl, rdlen: u16) -> [u8; 8]
     ensures { result ≡ to_be_bytes w16 class ++ (to_be_bytes w32 ttl ++ to_be_bytes w16 rdlen) }
 {

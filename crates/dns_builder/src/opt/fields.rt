@@ -1,4 +1,4 @@
-//! What an OPT record says beside its options (RFC 6891 6.1.2 and 6.1.3).
+//! The fixed fields of an OPT record (RFC 6891 6.1.2 and 6.1.3).
 ghost use Rattle.std.specs.Prelude.{◌≡◌, ◌%◌, ◌/◌};
 
 use super::OptBuilder;
@@ -10,14 +10,14 @@ impl<Target: Composer> OptBuilder<Target> {
     ghost use Rattle.dns_header.specs.OptFields.{extended_rcode};
     ghost use Rattle.dns_builder.specs.OptSeen.{opt_in, LeavesMessage};
 
-    /// Returns how many octets of a UDP message the sender takes (RFC 6891 6.2.3).
+    /// Returns how many octets of a UDP message the sender accepts (RFC 6891 6.2.3).
     pub fn udp_payload_size(&self) -> u16
         ensures { result ≡ (opt_in Target.list self.now).fields.payload_size }
     {
         self.fields.udp_payload_size()
     }
 
-    /// Sets how many octets of a UDP message the sender takes.
+    /// Sets how many octets of a UDP message the sender accepts.
     pub fn set_udp_payload_size(&mut self, value: u16)
         ensures opt { opt_in Target.list self.new ≡ record (opt_in Target.list self.old) { fields = record (opt_in Target.list self.old).fields { payload_size = value } } }
         ensures leaves { LeavesMessage Target.list Target.known Target.bound Target.stays self.old self.new }
@@ -61,7 +61,7 @@ impl<Target: Composer> OptBuilder<Target> {
         self.fields.set_version(version);
     }
 
-    /// Returns whether the sender takes records of DNSSEC (DO; RFC 3225 3).
+    /// Returns whether the sender accepts DNSSEC records (DO; RFC 3225 3).
     pub fn dnssec_ok(&self) -> bool
         ensures { result ≡ (opt_in Target.list self.now).fields.dnssec_ok }
     {

@@ -1,4 +1,4 @@
-//! Octets at the end of a target that are moved down.
+//! Moving octets down in a target.
 ghost use Rattle.std.specs.Prelude.{◌≡◌, ◌≤◌, ◌++◌, length, take, drop};
 ghost use Rattle.dns_octets.specs.Builder.{Standing};
 ghost use Rattle.dns_name.specs.Remembered.{IsKnown};
@@ -7,7 +7,8 @@ use arrayvec::ArrayVec;
 use dns_name::Composer;
 use std::cmp::min;
 
-/// Moves the octets from one place on down to another, over those that stand there. By condition no suffix is remembered of these.
+/// Moves the octets from one place on down to another, over those between. No remembered suffix may stop after that
+/// place.
 pub(crate) fn move_down<Target: Composer>(target: &mut Target, from: usize, to: usize)
     requires down { to ≤ from }
     requires within { from ≤ length (Target.list target.old) }
@@ -28,7 +29,7 @@ pub(crate) fn move_down<Target: Composer>(target: &mut Target, from: usize, to: 
     target.truncate(write);
 }
 
-/// Returns the next octets from the place on, 64 if there are so many.
+/// Returns the next octets from the place on, at most 64.
 fn chunk_at(octets: &[u8], place: usize) -> ArrayVec<u8, 64>
     requires { place ≤ length octets.now }
     ensures { result.items ≡ take 64 (drop place octets.now) }

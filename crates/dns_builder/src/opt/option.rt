@@ -1,4 +1,4 @@
-//! Options of an OPT record, whose octets a closure writes (RFC 6891 6.1.2).
+//! Options of an OPT record, whose octets a closure appends (RFC 6891 6.1.2).
 ghost use Rattle.std.specs.Prelude.{◌≡◌, ◌⊎◌, ◌+◌, ◌++◌, Some, Err, OnOk, IfOk, IfErr, IfSome};
 ghost use Rattle.std.specs.Int.{to_be_bytes, w16};
 ghost use Rattle.dns_builder.specs.OptOption.{OnlyGrows, OnlyAppends, AddsOption, RefusesOption};
@@ -9,13 +9,13 @@ use dns_name::{AppendError, Composer, OptionCode};
 impl<Target: Composer> OptBuilder<Target> {
     ghost use Rattle.dns_builder.specs.OptSeen.{opt_in, target_of, rdlen_of, LeavesMessage};
 
-    /// Appends an option with this code, whose octets the closure appends to the target: as many as stated. By condition
-    /// the closure does nothing else.
+    /// Appends an option with this code. The closure appends its octets to the target: as many as `option_len`. It must
+    /// do nothing else.
     ///
-    /// A refused call leaves the options as they are, and every such call behind it is refused with the same error. Fails
+    /// A call that fails leaves the options as they are, and every later such call fails with the same error. Fails
     /// with `BadLength` if the options would be more than 65,535 octets or the closure appends another number of octets
-    /// than stated, with `ShortBuf` only if the target would hold more octets than it may, with `OutOfMemory` if out of
-    /// memory, and with the closure's error.
+    /// than stated, with `ShortBuf` only if the target is too full, with `OutOfMemory` if out of memory, and with the
+    /// closure's error.
     pub fn push_raw_option<F>(
         &mut self,
         code: OptionCode,
@@ -54,8 +54,8 @@ impl<Target: Composer> OptBuilder<Target> {
     }
 }
 
-/// Appends an option behind so many octets of options. Returns how many there are then. On failure the target may have
-/// more octets.
+/// Appends an option after `rdlen` octets of options. Returns how many there are then. If the call fails, the target
+/// may have more octets.
 fn append_option<Target, F>(
     target: &mut Target,
     rdlen: u16,
@@ -87,7 +87,7 @@ where
     Ok(behind as u16)
 }
 
-/// The octets before those of an option: its code, and how many they are.
+/// Returns the octets before those of an option: its code and its length.
 fn head_octets(code: OptionCode, option_len: u16) -> [u8; 4]
     ensures { result ≡ to_be_bytes w16 code ++ to_be_bytes w16 option_len }
 {

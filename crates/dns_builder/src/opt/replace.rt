@@ -1,4 +1,4 @@
-//! An OPT record that replaces the one that is built (RFC 6891 6.1).
+//! Replacing the OPT record that is built with another one (RFC 6891 6.1).
 ghost use Rattle.std.specs.Prelude.{◌≡◌, ◌⊎◌, Some, Err, length, OnOk, IfErr, IfSome};
 ghost use Rattle.dns_header.specs.Opt.{options_octets};
 ghost use Rattle.dns_builder.specs.OptReplaced.{RefusesOctets};
@@ -10,12 +10,12 @@ use dns_name::{AppendError, Composer, Octets};
 impl<Target: Composer> OptBuilder<Target> {
     ghost use Rattle.dns_builder.specs.OptSeen.{opt_in, target_of, LeavesMessage};
 
-    /// Replaces what the record says, and its options, with those of another OPT record. The response code of the message then has
-    /// the high eight bits of that record, and keeps its low four.
+    /// Replaces the fixed fields and the options with those of another OPT record. The response code of the message
+    /// then has the high eight bits of that record, and keeps its low four.
     ///
-    /// A refused call leaves the record as it is, and every call behind it that adds options is refused with the same error. The
-    /// options that go make room only when the record is finished: fails with `ShortBuf` only if the target would hold more octets
-    /// than it may with these and the new options, and with `OutOfMemory` if out of memory.
+    /// A call that fails leaves the record as it is, and every later call that adds options fails with the same error.
+    /// The replaced options take room until the record is finished: fails with `ShortBuf` only if the target is too
+    /// full for them and the new ones, and with `OutOfMemory` if out of memory.
     pub fn clone_from<Octs: Octets>(&mut self, source: &OptRecord<Octs>) -> Result<(), AppendError>
         ensures ok { OnOk result (opt_in Target.list self.new ≡ record (opt_in Target.list self.old) {
           fields = source.now.fields;

@@ -1,7 +1,7 @@
-//! Which marks differ, so that builders of one section are made from those of another.
+//! Which sections differ, so that a builder of one is made from that of another.
 use super::{Additionals, Answers, Authorities, Questions, Start};
 
-/// A mark of a section other than this one.
+/// A section other than this one.
 pub trait OtherThan<Section> {}
 
 impl OtherThan<Start> for Questions {}

@@ -1,4 +1,4 @@
-//! Records in their canonical form (RFC 4034 6.2).
+//! Records in canonical form (RFC 4034 6.2).
 ghost use Rattle.std.specs.Prelude.{◌≡◌, ◌≤◌, ◌<◌, ◌++◌, ℕ, List, Err, length, OnOk, OnErr};
 ghost use Rattle.dns_label.specs.Name.{wire, low};
 ghost use Rattle.dns_octets.specs.Builder.{GrowsTo, IsPast};
@@ -8,7 +8,7 @@ ghost use Rattle.dns_header.specs.Head.{canonical_record};
 use super::fixed;
 use dns_name::{AppendError, Class, ComposeRecordData, Composer, ToName, Ttl};
 
-/// Appends the canonical form of the record of these parts, all or nothing.
+/// Appends the canonical form of the record with these fields, all or nothing.
 pub(crate) fn compose_canonical_parts<N: ToName, Data: ComposeRecordData, Target: Composer>(
     owner: &N,
     class: Class,
@@ -37,7 +37,7 @@ pub(crate) fn compose_canonical_parts<N: ToName, Data: ComposeRecordData, Target
     }
 }
 
-/// Appends the canonical form of the record of these parts, or as much of it as there is room for.
+/// Appends the canonical form of the record with these fields, or as much of it as there is room for.
 fn append_canonical_parts<N: ToName, Data: ComposeRecordData, Target: Composer>(
     owner: &N,
     class: Class,
@@ -61,7 +61,7 @@ fn append_canonical_parts<N: ToName, Data: ComposeRecordData, Target: Composer>(
     rdata.compose_canonical_len_rdata(target)
 }
 
-/// Appends an owner in lower case and the octets behind it, or as much of them as there is room for.
+/// Appends an owner in lower case and then the octets, or as much of them as there is room for.
 fn append_canonical_head<N: ToName, Target: Composer>(
     owner: &N,
     octets: &[u8],
@@ -81,7 +81,7 @@ fn append_canonical_head<N: ToName, Target: Composer>(
     target.append_slice(octets)
 }
 
-/// Appends an owner in lower case and the octets behind it, all or nothing.
+/// Appends an owner in lower case and then the octets, all or nothing.
 pub(crate) fn compose_canonical_head<N: ToName, Target: Composer>(
     owner: &N,
     octets: &[u8],

@@ -1,4 +1,4 @@
-//! What is written as a record.
+//! What can be written as a record.
 ghost use Rattle.dns_header.specs.Written.{written_of};
 
 use super::{ComposeRecord, compose_parts};
@@ -39,7 +39,7 @@ impl<N: ToName, Data: ComposeRecordData> ComposeRecord for (N, Class, Ttl, Data)
     }
 }
 
-/// Owner, TTL in seconds, data; of the class IN.
+/// Owner, TTL in seconds, data; of class IN.
 impl<N: ToName, Data: ComposeRecordData> ComposeRecord for (N, u32, Data) {
     ghost written = { λ rr. record { owner = N.name rr.0; rtype = Data.rtype rr.2; class = 1; ttl = rr.1; rdata = Data.parts rr.2 } };
 
@@ -48,7 +48,7 @@ impl<N: ToName, Data: ComposeRecordData> ComposeRecord for (N, u32, Data) {
     }
 }
 
-/// Owner, TTL, data; of the class IN.
+/// Owner, TTL, data; of class IN.
 impl<N: ToName, Data: ComposeRecordData> ComposeRecord for (N, Ttl, Data) {
     ghost written = { λ rr. record { owner = N.name rr.0; rtype = Data.rtype rr.2; class = 1; ttl = rr.1; rdata = Data.parts rr.2 } };
 

@@ -1,4 +1,4 @@
-//! The bits of a header that are on or off (RFC 1035 4.1.1, RFC 4035 3.1.6, 3.2).
+//! The one-bit flags of a header (RFC 1035 4.1.1, RFC 4035 3.1.6, 3.2).
 ghost use Rattle.std.specs.Prelude.{◌≡◌, Some};
 ghost use Rattle.std.specs.List.{list_all};
 ghost use Rattle.std.specs.Result.{result_ok};
@@ -9,29 +9,29 @@ use std::fmt;
 use std::str::FromStr;
 use thiserror::Error;
 
-/// The bits of a header that are on or off, but for Z.
+/// The one-bit flags of a header, except Z.
 #[derive(Clone, Copy, Debug, Default, PartialEq, Eq, Hash)]
 pub struct Flags {
     /// The message is a response.
     pub qr: bool,
-    /// The server that answers is one of the zone.
+    /// The responding server is an authority for the name.
     pub aa: bool,
-    /// The message was cut.
+    /// The message was truncated.
     pub tc: bool,
-    /// Recursion is asked for.
+    /// The query asks for recursion.
     pub rd: bool,
     /// The server offers recursion.
     pub ra: bool,
-    /// The server found all data authentic.
+    /// The server vouches that all data is authentic.
     pub ad: bool,
-    /// Data is wanted that was not found authentic.
+    /// The query accepts data that is not authenticated.
     pub cd: bool,
 }
 
 impl Flags {
     ghost use Rattle.dns_header.specs.Flags.{no_flags};
 
-    /// No flag.
+    /// Returns flags that are all clear.
     pub fn new() -> Self
         ensures { result ≡ no_flags }
     {
@@ -39,7 +39,7 @@ impl Flags {
     }
 }
 
-/// Writes the words of the flags that are set, in upper case and with one space between each two.
+/// Writes the names of the flags that are set, in upper case, with one space between each two.
 impl fmt::Display for Flags {
     ghost use Rattle.dns_header.specs.Flags.{flags_text};
 
@@ -62,7 +62,7 @@ impl fmt::Display for Flags {
     }
 }
 
-/// Writes the word if its flag is set, with a space in front if another word stands there.
+/// Writes the word if its flag is set, after a space if another word precedes it.
 fn write_word<W: fmt::Write>(
     f: &mut fmt::Formatter<W>,
     behind: bool,
@@ -80,7 +80,7 @@ fn write_word<W: fmt::Write>(
     f.write_str(word)
 }
 
-/// Reads words with spaces between them, each that of a flag in any case.
+/// Parses flag names, up to ASCII case, with spaces between them. Fails if a word names no flag.
 impl FromStr for Flags {
     type Err = FlagsFromStrError;
 
@@ -107,14 +107,14 @@ impl FromStr for Flags {
 
 ghost use Rattle.dns_header.specs.Flags as text_of;
 
-/// Whether each piece of the text is empty or the word of a flag.
+/// Returns whether each piece of the text is empty or names a flag.
 fn are_flags(text: &str) -> bool
     ensures { result ≡ list_all text_of.is_flag (text_of.pieces text.now) }
 {
     text.split(' ').all(is_flag)
 }
 
-/// Whether the piece is empty or the word of a flag.
+/// Returns whether the piece is empty or names a flag.
 fn is_flag(piece: &str) -> bool
     ensures { result ≡ text_of.is_flag piece.now }
 {
@@ -128,7 +128,7 @@ fn is_flag(piece: &str) -> bool
         || piece.eq_ignore_ascii_case("CD")
 }
 
-/// Whether a piece of the text is the word, in any case.
+/// Returns whether a piece of the text is the word, up to ASCII case.
 fn has_piece(text: &str, word: &str) -> bool
     ensures { result ≡ text_of.has_piece text.now word.now }
 {
@@ -136,7 +136,7 @@ fn has_piece(text: &str, word: &str) -> bool
         .any(|piece| piece.eq_ignore_ascii_case(word))
 }
 
-/// A piece of the text is no flag.
+/// A piece of the text names no flag.
 #[derive(Clone, Copy, Debug, PartialEq, Eq, Error)]
 #[error("illegal flags token")]
 pub struct FlagsFromStrError;

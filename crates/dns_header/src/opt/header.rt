@@ -1,4 +1,4 @@
-//! What an OPT record says beside its options (RFC 6891 6.1.2 and 6.1.3).
+//! The fixed fields of an OPT record (RFC 6891 6.1.2 and 6.1.3).
 //!
 //! ```text
 //! owner: the root | type: OPT | class: UDP payload size | TTL: response code (8 bits), version (8), DO (1), not in use (15)
@@ -11,7 +11,7 @@ use crate::Header;
 use dns_name::{Class, OptRcode, Ttl};
 use std::marker::Model;
 
-/// What the class and the TTL of an OPT record say. Its owner is the root.
+/// The fields in the class and the TTL of an OPT record, whose owner is the root.
 #[derive(Clone, Copy, Debug, PartialEq, Eq)]
 pub struct OptHeader {
     udp_payload_size: u16,
@@ -52,7 +52,7 @@ impl Default for OptHeader {
 }
 
 impl OptHeader {
-    /// The header in which every field is zero.
+    /// Returns a header with all fields zero.
     pub fn new() -> Self
         ensures { result ≡ opt_fields 0 0 }
     {
@@ -65,7 +65,7 @@ impl OptHeader {
         }
     }
 
-    /// The header that a class and a TTL are.
+    /// Returns the header in a class and a TTL.
     pub fn from_class_and_ttl(class: Class, ttl: Ttl) -> Self
         ensures { result ≡ opt_fields class ttl }
     {
@@ -79,14 +79,14 @@ impl OptHeader {
         }
     }
 
-    /// The class of the record: the UDP payload size.
+    /// Returns the class of the record, which is the UDP payload size.
     pub fn class(self) -> Class
         ensures { result ≡ self.payload_size }
     {
         Class::from_int(self.udp_payload_size)
     }
 
-    /// The TTL of the record: all fields but for the UDP payload size.
+    /// Returns the TTL of the record, which has all fields except the UDP payload size.
     pub fn ttl(self) -> Ttl
         ensures { opt_fields self.payload_size result ≡ self }
     {
@@ -95,15 +95,15 @@ impl OptHeader {
         Ttl::from_secs(high + low)
     }
 
-    /// How many octets of a UDP message the sender takes (RFC 6891 6.2.3).
+    /// Returns how many octets of a UDP message the sender accepts (RFC 6891 6.2.3).
     pub fn udp_payload_size(self) -> u16
         ensures { result ≡ self.payload_size }
     {
         self.udp_payload_size
     }
 
-    /// The response code of a message with this record: its high eight bits from here, the low four from the message's header
-    /// (RFC 6891 6.1.3).
+    /// Returns the response code of a message with this record: its high eight bits from here, the low four from the
+    /// message's header (RFC 6891 6.1.3).
     pub fn rcode(self, header: Header) -> OptRcode
         ensures { result ≡ extended_rcode self (rcode_of header) }
     {
@@ -111,14 +111,14 @@ impl OptHeader {
         OptRcode::masked_from_int(u16::from(self.high_rcode) * 16 + low)
     }
 
-    /// The version of EDNS.
+    /// Returns the version of EDNS.
     pub fn version(self) -> u8
         ensures { result ≡ self.version }
     {
         self.version
     }
 
-    /// Whether the sender takes records of DNSSEC (DO; RFC 3225 3).
+    /// Returns whether the sender accepts DNSSEC records (DO; RFC 3225 3).
     pub fn dnssec_ok(self) -> bool
         ensures { result ≡ self.dnssec_ok }
     {
@@ -132,14 +132,14 @@ impl OptHeader {
         self.udp_payload_size = value;
     }
 
-    /// Sets the high eight bits of the response code. The low four stand in the message's header.
+    /// Sets the high eight bits of the response code. The low four are in the message's header.
     pub fn set_rcode(&mut self, rcode: OptRcode)
         ensures { self.new ≡ record self.old { high_rcode = rcode / 16 } }
     {
         self.high_rcode = (rcode.to_int() / 16) as u8;
     }
 
-    /// Sets the version.
+    /// Sets the version of EDNS.
     pub fn set_version(&mut self, version: u8)
         ensures { self.new ≡ record self.old { version = version } }
     {

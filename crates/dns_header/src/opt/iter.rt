@@ -5,7 +5,7 @@ ghost use Rattle.dns_header.specs.Opt.{EdnsOption, AreOptions, AreCutOptions, St
 use dns_name::{OptionCode, Parser, ShortInput};
 use std::marker::Model;
 
-/// An iterator over the code and the octets of each option. A contract sees the list of the options that are left.
+/// An iterator over the code and the octets of each option. Contracts see the list of the remaining options.
 #[derive(Debug, Drop)]
 pub struct OptIter<'a> {
     octets: &'a [u8],
@@ -20,7 +20,7 @@ impl<'a> Model for OptIter<'a> {
 }
 
 impl<'a> OptIter<'a> {
-    /// Iterates over the options that the octets are.
+    /// Returns an iterator over the options in the octets, which must be whole options.
     pub(super) fn over(octets: &'a [u8]) -> Self
         requires { AreCutOptions octets.now }
         ensures { result ≡ options_of octets.now }
@@ -49,7 +49,7 @@ impl<'a> Iterator for OptIter<'a> {
     }
 }
 
-/// Whether the octets are whole options.
+/// Returns whether the octets are whole options.
 pub(super) fn are_options(octets: &[u8]) -> bool
     ensures { IsTrue result ↔ AreOptions octets.now }
 {
@@ -63,7 +63,7 @@ pub(super) fn are_options(octets: &[u8]) -> bool
     true
 }
 
-/// The code and the octets of the option at the start, and what follows it. Fails if no whole option stands there.
+/// Returns the code and the octets of the option at the start, and what follows it. Fails if no whole option is there.
 fn split_option(octets: &[u8]) -> Result<(OptionCode, &[u8], &[u8]), ShortInput>
     ensures ok { IfOk result (λ found. StartsWithOption octets.now (record { code = found.0; octets = found.1.now }) found.2.now) }
     ensures err { OnErr result ((option : EdnsOption) (rest : List ℕ) → StartsWithOption octets.now option rest → ⊥) }

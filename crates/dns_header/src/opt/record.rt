@@ -22,7 +22,7 @@ impl<Octs: Octets> Model for OptRecord<Octs> {
 }
 
 impl<Octs: Octets> OptRecord<Octs> {
-    /// The OPT record that a record is, whatever its owner.
+    /// Returns the OPT record with the fields of the record. Its owner is ignored.
     pub fn from_record<N: Drop>(rr: Record<N, Opt<Octs>>) -> Self
         ensures { result ≡ record { fields = opt_fields rr.class rr.ttl; options = rr.rdata } }
     {
@@ -33,43 +33,43 @@ impl<Octs: Octets> OptRecord<Octs> {
         }
     }
 
-    /// What the record says beside its options.
+    /// Returns the fixed fields.
     pub fn header(&self) -> OptHeader
         ensures { result ≡ self.now.fields }
     {
         self.header
     }
 
-    /// How many octets of a UDP message the sender takes (RFC 6891 6.2.3).
+    /// Returns how many octets of a UDP message the sender accepts (RFC 6891 6.2.3).
     pub fn udp_payload_size(&self) -> u16
         ensures { result ≡ self.now.fields.payload_size }
     {
         self.header.udp_payload_size()
     }
 
-    /// The response code of a message with this record: its high eight bits from here, the low four from the message's header
-    /// (RFC 6891 6.1.3).
+    /// Returns the response code of a message with this record: its high eight bits from here, the low four from the
+    /// message's header (RFC 6891 6.1.3).
     pub fn rcode(&self, header: Header) -> OptRcode
         ensures { result ≡ extended_rcode self.now.fields (rcode_of header) }
     {
         self.header.rcode(header)
     }
 
-    /// The version of EDNS.
+    /// Returns the version of EDNS.
     pub fn version(&self) -> u8
         ensures { result ≡ self.now.fields.version }
     {
         self.header.version()
     }
 
-    /// Whether the sender takes records of DNSSEC (DO; RFC 3225 3).
+    /// Returns whether the sender accepts DNSSEC records (DO; RFC 3225 3).
     pub fn dnssec_ok(&self) -> bool
         ensures { result ≡ self.now.fields.dnssec_ok }
     {
         self.header.dnssec_ok()
     }
 
-    /// The options.
+    /// Returns the options.
     pub fn opt(&self) -> &Opt<Octs>
         ensures { result.now ≡ self.now.options }
     {

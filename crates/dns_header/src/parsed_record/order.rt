@@ -1,11 +1,11 @@
-//! Equality of records whose data is not parsed yet.
+//! Equality of records with unparsed data.
 ghost use Rattle.std.specs.Cmp.{partial_equiv_from_equiv};
 ghost use Rattle.dns_header.specs.ParsedRecord.{parsed_eq, parsed_equivalence};
 
 use super::ParsedRecord;
 
-/// The same header, the owners up to ASCII case (RFC 4343), and the same octets of data: a name in the data equals another
-/// only if it is spelled as that is.
+/// Equal headers, owners compared up to ASCII case (RFC 4343), and the same octets of data. So names in the data are
+/// equal only if they are spelled alike.
 impl PartialEq for ParsedRecord<'_> {
     ghost eq = { parsed_eq };
 

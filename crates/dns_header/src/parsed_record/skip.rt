@@ -8,10 +8,11 @@ use super::ParsedRecord;
 use dns_name::{ParseError, ParsedName, Parser};
 
 impl<'a> ParsedRecord<'a> {
-    /// Skips the record at the parser's place, and follows no pointer. It stops where `parse` does if a record is parsed there.
+    /// Skips the record at the parser's place, and follows no pointer. It stops where `parse` does if a record is
+    /// parsed there.
     ///
-    /// Fails if there is nothing of this form, and with `ShortInput` exactly if the message ends too early for it. The parser
-    /// then stays where it is (RFC 1035 4.1.3).
+    /// Fails if there is nothing of this form, and with `ShortInput` exactly if the message ends too early for it. The
+    /// parser then stays where it is (RFC 1035 4.1.3).
     pub fn skip(parser: &mut Parser<'a>) -> Result<(), ParseError>
         ensures ok { OnOk result (SkipsRecord (octets_of parser.old) (place_of parser.old) (place_of parser.new)) }
         ensures err { OnErr result ((next : ℕ) → SkipsRecord (octets_of parser.old) (place_of parser.old) next → ⊥) }

@@ -12,12 +12,12 @@ ghost use Rattle.dns_header.specs.QuestionParts.{question_of};
 use super::Question;
 use dns_name::{AppendError, Class, Composer, Rtype, ToName};
 
-/// What is written as a question; `question` says which.
+/// What can be written as a question; `question` is that question.
 pub trait ComposeQuestion {
     ghost question: { Self → spec.Question };
 
-    /// Appends the question, all or nothing. Refused with `ShortBuf` only where the target would then hold more octets
-    /// than it may, and with `OutOfMemory` where a growth was refused.
+    /// Appends the question, all or nothing. Fails with `ShortBuf` only if the target is too full, and with
+    /// `OutOfMemory` only if out of memory.
     fn compose_question<Target: Composer>(&self, target: &mut Target) -> Result<(), AppendError>
         ensures ok { OnOk result (page_of (Target.list target.new) (Target.known target.new)
             ≡ write Target.spelling (page_of (Target.list target.old) (Target.known target.old)) (question_parts (question self.now))) }
@@ -57,7 +57,7 @@ impl<N: ToName> ComposeQuestion for (N, Rtype, Class) {
     }
 }
 
-/// In class IN.
+/// Of class IN.
 impl<N: ToName> ComposeQuestion for (N, Rtype) {
     ghost question = { λ asked. record { name = N.name asked.0; qtype = asked.1; qclass = 1 } };
 
@@ -67,8 +67,8 @@ impl<N: ToName> ComposeQuestion for (N, Rtype) {
 }
 
 impl<N: ToName> Question<N> {
-    /// Appends the question, all or nothing. Refused with `ShortBuf` only where the target would then hold more octets
-    /// than it may, and with `OutOfMemory` where a growth was refused.
+    /// Appends the question, all or nothing. Fails with `ShortBuf` only if the target is too full, and with
+    /// `OutOfMemory` only if out of memory.
     pub fn compose<Target: Composer>(&self, target: &mut Target) -> Result<(), AppendError>
         ensures ok { OnOk result (page_of (Target.list target.new) (Target.known target.new)
             ≡ write Target.spelling (page_of (Target.list target.old) (Target.known target.old))
@@ -143,7 +143,7 @@ fn append_parts<N: ToName, Target: Composer>(
     Ok(())
 }
 
-/// The octets of a type and a class.
+/// Returns the octets of a type and a class.
 pub(super) fn four_octets(qtype: Rtype, qclass: Class) -> [u8; 4]
     ensures { result ≡ to_be_bytes w16 qtype ++ to_be_bytes w16 qclass }
 {

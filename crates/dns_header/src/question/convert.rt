@@ -1,4 +1,4 @@
-//! Questions as text, and over other octets.
+//! Questions as text, and conversions to other octets.
 ghost use Rattle.std.specs.Prelude.{◌∷◌, ◌++◌, Some};
 ghost use Rattle.dns_label.specs.Printed.{printed_name};
 ghost use Rattle.dns_values.specs.Mnemonic.{class_written, type_written};
@@ -9,7 +9,7 @@ use dns_name::{AppendError, OctetsFrom, ToName};
 use std::alloc::Global;
 use std::fmt;
 
-/// Writes the name with its last dot, the type and the class, with a tab between them.
+/// Writes the name with its final dot, the type and the class, with a tab between them.
 impl<N: ToName> fmt::Display for Question<N> {
     ghost output = { λ question. Some (printed_name (N.name (qname_of question))
         ++ 9 ∷ type_written question.qtype ++ 9 ∷ class_written question.qclass) };
@@ -20,7 +20,7 @@ impl<N: ToName> fmt::Display for Question<N> {
     }
 }
 
-/// The same question, its name over other octets.
+/// Converts the name to other octets; the type and the class stay.
 impl<Source, N: OctetsFrom<Source>> OctetsFrom<Question<Source>> for Question<N> {
     ghost octets_from_gives = { IsConverted N.octets_from_gives };
 

@@ -1,17 +1,17 @@
-//! Why no question is made of a text.
+//! Why a text is parsed as no question.
 ghost use Rattle.std.specs.Prelude.{◌≡◌};
 ghost use Rattle.dns_header.specs.declared.question.error.FromStrError.TheVariants.{Presentation};
 ghost use Rattle.dns_header.specs.QuestionText.{name_fault};
 
 use thiserror::Error;
 
-/// Why no question is made of a text.
+/// Why a text is parsed as no question.
 #[derive(Clone, Copy, Debug, PartialEq, Eq, Error)]
 pub enum FromStrError {
     /// The text spells no question.
     #[error("{0}")]
     Presentation(PresentationError),
-    /// There is no memory or no room for the name.
+    /// Out of memory, or the name has no room.
     #[error("short buffer")]
     ShortBuf,
 }
@@ -22,7 +22,7 @@ pub enum PresentationError {
     /// The first word spells no name.
     #[error("{0}")]
     BadName(dns_name::PresentationError),
-    /// There is no word.
+    /// The text has no word.
     #[error("missing qname")]
     MissingQname,
     /// Nothing follows the name.

@@ -1,4 +1,4 @@
-//! Text to questions.
+//! Parsing questions from text.
 //!
 //! ```text
 //! name type | name type class | name class type
@@ -17,12 +17,12 @@ impl<Octs: FromBuilder + Drop> Question<Name<Octs>>
 where
     Octs::Builder: EmptyBuilder + Drop,
 {
-    /// Parses the question that a text spells: a name, with or without its last dot, and then a type and a class in either order,
-    /// with white space between them. A word that is a class is not taken for a type, a missing class is IN, and further words
-    /// are ignored.
+    /// Parses a question: a name, with or without its final dot, and then a type and a class in either order, with
+    /// white space between them. A word that is a class is not taken as a type. A missing class is IN, and further
+    /// words are ignored.
     ///
-    /// Parses the name first. Fails with `Presentation` if the text spells no question, and with `ShortBuf` if the first word
-    /// spells a name, and there is no memory or no room for it.
+    /// The name is parsed first. Fails with `Presentation` if the text spells no question, and with `ShortBuf` if the
+    /// first word spells a name and there is no memory or no room for it.
     pub fn from_str(alloc: Global, text: &str) -> Result<Self, FromStrError>
         ensures ok { IfOk result (λ question. SpellsQuestion text.now (question_of (λ name. name) question)) }
         ensures err { IfErr result (SpellsNoQuestion text.now) }
@@ -37,7 +37,7 @@ where
     }
 }
 
-/// The type and the class that the next words ask for.
+/// Parses the type and the class from the next words.
 fn asked(words: &mut SplitWhitespace<'_>) -> Result<(Rtype, Class), PresentationError>
     ensures ok { IfOk result (λ asked. AsksFor (split_whitespace_rest words.old) asked.0 asked.1) }
     ensures err { IfErr result (AsksForNone (split_whitespace_rest words.old)) }
@@ -66,7 +66,7 @@ fn asked(words: &mut SplitWhitespace<'_>) -> Result<(Rtype, Class), Presentation
     }
 }
 
-/// The next word.
+/// Returns the next word.
 fn next_word<'a>(words: &mut SplitWhitespace<'a>) -> Option<&'a str>
     ensures some { IfSome result (λ word. StartsWithWord (split_whitespace_rest words.old) word.now (split_whitespace_rest words.new)) }
     ensures none { IfNone result (IsBlank (split_whitespace_rest words.old)) }

@@ -15,7 +15,7 @@ use dns_name::{CanonicalOrd, ToName};
 use std::cmp::Ordering;
 use std::hash::{Hash, Hasher};
 
-/// Names up to ASCII case (RFC 4343).
+/// Names are compared up to ASCII case (RFC 4343).
 impl<N: ToName> PartialEq for Question<N> {
     ghost eq = { on (question_of N.name) questions_eq };
 
@@ -27,7 +27,7 @@ impl<N: ToName> PartialEq for Question<N> {
     }
 }
 
-/// Whether two names are the same up to ASCII case.
+/// Returns whether two names are equal up to ASCII case.
 pub(crate) fn same_names<N: ToName>(name: &N, other: &N) -> bool
     ensures { result ≡ on low (pointwise (pointwise nat_eq)) (N.name name.now) (N.name other.now) }
 {

@@ -1,4 +1,4 @@
-//! Reading questions.
+//! Parsing and skipping questions.
 ghost use Rattle.std.specs.Prelude.{◌≡◌, ◌↔◌, ◌⊎◌, ℕ, List, IfOk, IfErr, OnOk, OnErr};
 ghost use Rattle.dns_label.specs.Spelled.{Reads};
 ghost use Rattle.dns_wire.specs.Cut.{IsCut};
@@ -15,9 +15,8 @@ impl<'a> Question<ParsedName<&'a [u8]>> {
     ghost use Rattle.dns_name.specs.ParsedName.{labels_of};
     ghost use Rattle.dns_header.specs.QuestionParts.{question_of};
 
-    /// Reads the question at the parser's place, and leaves the parser behind it. Refused where there is none, and the
-    /// parser then stays where it was: with `ShortInput` exactly where the message ends too early, and else with an error
-    /// of the form.
+    /// Parses the question at the parser's place, and moves the parser after it. Fails if no question is there, and
+    /// with `ShortInput` exactly if the message ends too early for it. The parser then stays where it is.
     pub fn parse(parser: &mut Parser<'a>) -> Result<Self, ParseError>
         ensures ok { IfOk result (λ question. ReadsQuestion (octets_of parser.old) (place_of parser.old)
             (question_of labels_of question) (place_of parser.new)) }
@@ -39,9 +38,9 @@ impl<'a> Question<ParsedName<&'a [u8]>> {
 }
 
 impl Question<()> {
-    /// Leaves the parser behind the question at its place, and follows no pointer. It stops where `parse` does if a
-    /// question is read there. Refused, as `parse` is, where there is nothing of this form; the parser then stays where it
-    /// was.
+    /// Skips the question at the parser's place, and follows no pointer. It stops where `parse` does if a question is
+    /// parsed there. Fails if there is nothing of this form, and with `ShortInput` exactly if the message ends too
+    /// early for it. The parser then stays where it is.
     pub fn skip(parser: &mut Parser<'_>) -> Result<(), ParseError>
         ensures ok { OnOk result (SkipsQuestion (octets_of parser.old) (place_of parser.old) (place_of parser.new)) }
         ensures no_question { OnErr result ((next : ℕ) → SkipsQuestion (octets_of parser.old) (place_of parser.old) next → ⊥) }

@@ -1,4 +1,4 @@
-//! Records of other parts, and over other octets.
+//! Records made from tuples, and conversions to other octets.
 ghost use Rattle.std.specs.Prelude.{◌≡◌, ◌⊎◌};
 ghost use Rattle.dns_header.specs.RecordParts.{IsConvertedRecord, IsFlatRecord};
 
@@ -24,7 +24,7 @@ impl<N, Data> From<(N, Class, Ttl, Data)> for Record<N, Data> {
     }
 }
 
-/// Owner, TTL in seconds, data; of the class IN.
+/// Owner, TTL in seconds, data; of class IN.
 impl<N, Data> From<(N, u32, Data)> for Record<N, Data> {
     ghost from_gives = { λ parts rr. rr ≡ record { owner = parts.0; class = 1; ttl = parts.1; rdata = parts.2 } };
 
@@ -33,7 +33,7 @@ impl<N, Data> From<(N, u32, Data)> for Record<N, Data> {
     }
 }
 
-/// Returns the same record over other octets, as `Record::from_record` does.
+/// Converts the owner and the data to other octets, as `Record::from_record` does.
 impl<Source, SourceData, N, Data> OctetsFrom<Record<Source, SourceData>> for Record<N, Data>
 where
     SourceData: Drop,
@@ -50,7 +50,7 @@ where
     }
 }
 
-/// Returns the same record, with flat names.
+/// Returns the same record with flat names.
 impl<N, Data, Flat, FlatData> FlattenInto<Record<Flat, FlatData>> for Record<N, Data>
 where
     N: FlattenInto<Flat>,

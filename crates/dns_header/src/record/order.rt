@@ -12,7 +12,7 @@ use dns_name::{CanonicalOrd, RecordData, ToName};
 use std::cmp::Ordering;
 use std::hash::{Hash, Hasher};
 
-/// The same owner up to ASCII case (RFC 4343), class and data. The TTL doesn't count (RFC 2136 1.1.1).
+/// Equal owners up to ASCII case (RFC 4343), class and data. The TTL does not count (RFC 2136 1.1.1).
 impl<N: ToName, Data: PartialEq> PartialEq for Record<N, Data> {
     ghost eq = { records_eq N.name Data.eq };
 
@@ -74,7 +74,7 @@ impl<N: ToName, Data: RecordData + CanonicalOrd> CanonicalOrd for Record<N, Data
     }
 }
 
-/// Hashes the owner in lower case, the class and the data. The TTL doesn't count.
+/// Hashes the owner in lower case, the class and the data. The TTL does not count.
 impl<N: ToName, Data: Hash> Hash for Record<N, Data> {
     ghost hash_input = { record_keys N.name Data.hash_input };
 

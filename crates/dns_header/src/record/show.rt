@@ -12,7 +12,7 @@ use dns_name::{RecordData, ToName};
 use dns_text::{DisplayKind, Formatter, ZonefileFmt};
 use std::fmt;
 
-/// Owner, TTL, class and type, and then the data (RFC 1035 5.1).
+/// Writes owner, TTL, class and type, and then the data (RFC 1035 5.1).
 impl<N: ToName, Data: RecordData + ZonefileFmt> ZonefileFmt for Record<N, Data> {
     ghost document = { λ rr. record_document (N.name rr.owner) rr.ttl rr.class (Data.rtype rr.rdata) (Data.document rr.rdata) };
 
@@ -25,7 +25,7 @@ impl<N: ToName, Data: RecordData + ZonefileFmt> ZonefileFmt for Record<N, Data> 
     }
 }
 
-/// With one space between two tokens.
+/// Writes one space between two tokens.
 impl<N: ToName, Data: RecordData + ZonefileFmt> fmt::Display for Record<N, Data> {
     ghost output = { λ rr. Some (document_text Simple
         (record_document (N.name rr.owner) rr.ttl rr.class (Data.rtype rr.rdata) (Data.document rr.rdata))) };

@@ -1,4 +1,4 @@
-//! Equality, order and the hash of what stands before a record's data.
+//! Equality, order and the hash of record headers.
 ghost use Rattle.std.proofs.Common.{refl};
 ghost use Rattle.std.specs.Cmp.{on_equiv, on_total, partial_equiv_from_equiv, partial_order_from_total, partial_order_from_own_ties};
 ghost use Rattle.std.specs.Ordering.{as_partial_cmp, on};
@@ -12,7 +12,7 @@ use dns_name::ToName;
 use std::cmp::Ordering;
 use std::hash::{Hash, Hasher};
 
-/// All fields, the owners up to ASCII case (RFC 4343).
+/// All fields, owners compared up to ASCII case (RFC 4343).
 impl<N: ToName> PartialEq for RecordHeader<N> {
     ghost eq = { on (labelled N.name) heads_eq };
 
@@ -40,7 +40,7 @@ impl<N: ToName> PartialOrd for RecordHeader<N> {
     }
 }
 
-/// By owner, type, class, TTL and length of the data.
+/// By owner, type, class, TTL and data length.
 impl<N: ToName> Ord for RecordHeader<N> {
     ghost cmp = { on (labelled N.name) heads_cmp };
 

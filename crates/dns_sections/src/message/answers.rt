@@ -1,4 +1,4 @@
-//! What a message answers.
+//! Whether and what a message answers.
 ghost use Rattle.std.specs.Prelude.{◌≡◌, true, false, Some, None, option_map};
 ghost use Rattle.dns_name.specs.ParsedName.{labels_of};
 ghost use Rattle.dns_sections.specs.Aliases.{HasCanonicalName};
@@ -12,10 +12,10 @@ use crate::aliases::resolved;
 use dns_name::{Octets, ParseRecordData, ParsedName};
 
 impl<Octs: Octets> Message<Octs> {
-    /// Whether this message answers a query (RFC 1035 4.1.1).
+    /// Returns whether this message answers a query (RFC 1035 4.1.1).
     ///
-    /// Returns true if it is a response, has the query's ID, and counts and asks the same questions, names up to ASCII case. A
-    /// question of either message that does not parse makes it false.
+    /// It does if it is a response, has the query's ID, and counts and asks the same questions, names up to ASCII case.
+    /// If a question of either message does not parse, it does not.
     pub fn is_answer<Other: Octets>(&self, query: &Message<Other>) -> bool
         ensures yes { result ≡ true → IsAnswerTo (octets_in Octs.list self.now) (octets_in Other.list query.now) }
         ensures no { result ≡ false → IsAnswerTo (octets_in Octs.list self.now) (octets_in Other.list query.now) → ⊥ }
@@ -33,10 +33,10 @@ impl<Octs: Octets> Message<Octs> {
         self.question().asks_the_same(query.question())
     }
 
-    /// Whether the answer section has a record whose type `Data` takes.
+    /// Returns whether the answer section has a record whose type `Data` takes.
     ///
-    /// Returns true also if the data of the first such record, or the head or length of a record before it, does not parse. Returns
-    /// false if the section is out of reach.
+    /// Returns true also if the data of the first such record does not parse, or the header or length of a record
+    /// before it. Returns false if the section cannot be reached.
     pub fn contains_answer<'s, Data: ParseRecordData<'s>>(&'s self) -> bool
     where
         Data: Drop,
@@ -49,11 +49,11 @@ impl<Octs: Octets> Message<Octs> {
         }
     }
 
-    /// Returns the canonical name of what the first question asks for (RFC 1034 3.6.2).
+    /// Returns the canonical name of the first question's name (RFC 1034 3.6.2).
     ///
-    /// The name is an alias if the answer section has a CNAME record with this owner, up to ASCII case. The first such record counts,
-    /// of any class; one whose data does not parse is passed over. Follows at most 20 aliases. Returns None if more follow, if there is
-    /// no first question or it does not parse, or if the section is out of reach.
+    /// The name is an alias if the answer section has a CNAME record with this owner, up to ASCII case. The first such
+    /// record counts, of any class; one whose data does not parse is skipped. Follows at most 20 aliases. Returns None
+    /// if more follow, if there is no first question or it does not parse, or if the section cannot be reached.
     pub fn canonical_name(&self) -> Option<ParsedName<&[u8]>>
         ensures { HasCanonicalName (octets_in Octs.list self.now) (option_map labels_of result) }
     {

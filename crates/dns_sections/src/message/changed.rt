@@ -1,4 +1,4 @@
-//! Changes of a message where its octets stand.
+//! Changes of a message in place.
 ghost use Rattle.std.specs.Prelude.{◌≡◌, ◌+◌, ◌-◌, ◌<◌, ◌≤◌, ◌++◌, length, take, drop};
 ghost use Rattle.dns_name.specs.Remembered.{patched};
 ghost use Rattle.dns_header.specs.HeaderCounts.{counts_in};
@@ -16,8 +16,8 @@ impl<Octs: WriteOctets> Message<Octs> {
         write_in_header(&mut self.octets, 0, header.as_slice());
     }
 
-    /// Removes the last record of the additional section, of which there is one at least: ARCOUNT counts one less, and the octets of
-    /// the record stay (RFC 1035 4.1.1).
+    /// Removes the last record of the additional section. There must be at least one. ARCOUNT counts one less, and the
+    /// octets of the record stay (RFC 1035 4.1.1).
     pub fn remove_last_additional(&mut self)
         requires { 0 < (counts_in (octets_in Octs.list self.old)).ar }
         ensures counts { counts_in (octets_in Octs.list self.new)
@@ -30,7 +30,7 @@ impl<Octs: WriteOctets> Message<Octs> {
     }
 }
 
-/// Writes octets over some of the header's twelve, from a place on.
+/// Overwrites some of the header's twelve octets, from a place on.
 fn write_in_header<Octs: WriteOctets>(target: &mut Octs, place: usize, octets: &[u8])
     requires within { place + length octets.now ≤ 12 }
     requires header { 12 ≤ length (Octs.list target.old) }

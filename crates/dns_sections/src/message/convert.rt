@@ -1,4 +1,4 @@
-//! Messages over other octets.
+//! Conversions of messages to other octets.
 ghost use Rattle.std.specs.Prelude.{◌≡◌, length, Err, IfOk};
 ghost use Rattle.dns_octets.specs.Builder.{IsPast};
 ghost use Rattle.dns_octets.specs.declared.error.AppendError.TheVariants.{ShortBuf, BadLength};
@@ -8,8 +8,8 @@ use crate::Message;
 use dns_name::{AppendError, EmptyBuilder, FromBuilder, Octets, OctetsBuilder, OctetsFrom};
 use std::alloc::Global;
 
-/// Returns the same message over other octets. Fails with `ShortBuf` only if these can't hold as many, and with `OutOfMemory` only
-/// if out of memory.
+/// Returns the same message over other octets. Fails with `ShortBuf` only if these cannot hold as many, and with
+/// `OutOfMemory` only if out of memory.
 impl<Source: Octets + Drop, Octs: FromBuilder> OctetsFrom<Message<Source>> for Message<Octs>
 where
     Octs::Builder: EmptyBuilder + Drop,

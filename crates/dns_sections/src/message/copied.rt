@@ -10,18 +10,18 @@ use crate::{CopyRecordsError, Message, RecordSection, RecordTarget};
 use dns_header::{ComposeRecord, ParsedRecord};
 use dns_name::Octets;
 
-/// The target of the section behind that of `T`.
+/// The target of the section after that of `T`.
 type Second<T> = <T as RecordTarget>::Next;
 
-/// The target of the section behind that.
+/// The target of the section after that.
 type Third<T> = <Second<T> as RecordTarget>::Next;
 
 impl<Octs: Octets> Message<Octs> {
     /// Copies the records of the three sections into a target, section by section and in their order (RFC 1035 4.1).
     ///
-    /// For each record `op` answers what is pushed to the target, or None for nothing. Returns the target of the last section. Fails
-    /// with `Parse` if a section cannot be reached or a record does not parse, and with `Push` if the target refuses what is pushed:
-    /// with whichever comes first, after everything before it is copied.
+    /// For each record `op` returns what is pushed to the target, or None to leave it out. Returns the target of the
+    /// last section. Fails with `Parse` if a section cannot be reached or a record does not parse, and with `Push` if
+    /// the target does not take what is pushed: with whichever comes first, after everything before it is copied.
     pub fn copy_records<'s, T, R, F>(
         &'s self,
         target: T,
@@ -56,7 +56,7 @@ impl<Octs: Octets> Message<Octs> {
     }
 }
 
-/// Copies the records of a section that are left, and fails as `copy_records` does.
+/// Copies the remaining records of a section, and fails as `copy_records` does.
 fn copy_section<'a, T, R, F>(
     mut section: RecordSection<'a>,
     target: &mut T,

@@ -17,8 +17,8 @@ use dns_name::{Octets, ParseRecordData, ParsedName};
 impl<Octs: Octets> Message<Octs> {
     /// Returns the last record of the additional section, with its data (RFC 1035 4.1).
     ///
-    /// Returns None if the section has no record or cannot be reached, if the head or length of one of its records does not parse, if
-    /// `Data` does not take the type of the last, or if the data of the last does not parse.
+    /// Returns None if the section has no record or cannot be reached, if the header or length of one of its records
+    /// does not parse, if `Data` does not take the type of the last, or if the data of the last does not parse.
     pub fn get_last_additional<'s, Data: ParseRecordData<'s>>(
         &'s self,
     ) -> Option<Record<ParsedName<&'s [u8]>, Data>>
@@ -48,7 +48,7 @@ impl<Octs: Octets> Message<Octs> {
     }
 }
 
-/// Returns the last of the records that are left, or None if there is none or the head or length of one does not parse.
+/// Returns the last of the remaining records, or None if there is none or the header or length of one does not parse.
 fn last_record(section: RecordSection<'_>) -> Option<ParsedRecord<'_>>
     ensures some { IfSome result (λ parsed. (others : List Parsed) × (mid : Cursor) × (new : Cursor)
         × GoesOver (records_at section.entry).cursor others mid × GivesRecord mid (Some (Ok parsed)) new × IsSpent new) }

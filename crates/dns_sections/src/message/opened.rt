@@ -6,7 +6,7 @@ use crate::{Message, ShortMessage};
 use dns_name::Octets;
 
 impl<Octs: Octets> Message<Octs> {
-    /// The message of these octets. Fails with `ShortMessage` if there are fewer than twelve.
+    /// Returns the message with these octets. Fails with `ShortMessage` exactly if there are fewer than twelve.
     pub fn from_octets(octets: Octs) -> Result<Self, ShortMessage>
     where
         Octs: Drop,
@@ -19,7 +19,8 @@ impl<Octs: Octets> Message<Octs> {
         Ok(Message { octets })
     }
 
-    /// The message of these octets, which are handed back if there are fewer than twelve.
+    /// Returns the message with these octets. Fails exactly if there are fewer than twelve, and then returns them as
+    /// the error.
     pub fn try_from_octets(octets: Octs) -> Result<Self, Octs>
         ensures ok { IfOk result (λ message. held_by message ≡ octets) }
         ensures enough { IsOk result ↔ (12 ≤ length (Octs.list octets)) }
@@ -31,21 +32,21 @@ impl<Octs: Octets> Message<Octs> {
         Ok(Message { octets })
     }
 
-    /// What holds the octets.
+    /// Returns what holds the octets.
     pub fn as_octets(&self) -> &Octs
         ensures { result.now ≡ held_by self.now }
     {
         &self.octets
     }
 
-    /// What holds the octets.
+    /// Returns what holds the octets.
     pub fn into_octets(self) -> Octs
         ensures { result ≡ held_by self }
     {
         self.octets
     }
 
-    /// The octets.
+    /// Returns the octets of the message.
     pub fn as_slice(&self) -> &[u8]
         ensures octets { result.now ≡ octets_in Octs.list self.now }
         ensures header { 12 ≤ length (octets_in Octs.list self.now) }
@@ -53,7 +54,7 @@ impl<Octs: Octets> Message<Octs> {
         self.octets.octets()
     }
 
-    /// The same message over a slice.
+    /// Returns the same message over a slice.
     pub fn for_slice(&self) -> Message<&[u8]>
         ensures { octets_of result ≡ octets_in Octs.list self.now }
     {
@@ -71,7 +72,7 @@ impl<Octs: Octets> Message<Octs> {
 }
 
 impl<'a> Message<&'a [u8]> {
-    /// The message of these octets. Fails with `ShortMessage` if there are fewer than twelve.
+    /// Returns the message with these octets. Fails with `ShortMessage` exactly if there are fewer than twelve.
     pub fn from_slice(slice: &'a [u8]) -> Result<Self, ShortMessage>
         ensures ok { IfOk result (λ message. octets_of message ≡ slice.now) }
         ensures enough { IsOk result ↔ (12 ≤ length slice.now) }

@@ -1,4 +1,4 @@
-//! What a message says of EDNS (RFC 6891 6.1).
+//! The EDNS fields of a message (RFC 6891 6.1).
 ghost use Rattle.std.specs.Prelude.{◌≡◌, ◌==◌, ◌⊎◌, ℕ, List, Some, None, Ok, Err, IfSome, IfNone};
 ghost use Rattle.dns_octets.specs.declared.error.ParseError.{ParseError};
 ghost use Rattle.dns_header.specs.Opt.{EdnsOption, ReadsOptions};
@@ -16,8 +16,8 @@ use dns_name::{Octets, OptRcode};
 impl<Octs: Octets> Message<Octs> {
     /// Returns the OPT record: the first of the additional section, of any class.
     ///
-    /// Returns None if there is none, if its data or the head or length of a record before it does not parse, or if the section is out
-    /// of reach.
+    /// Returns None if there is none, if its data does not parse, if the header or length of a record before it does
+    /// not parse, or if the section cannot be reached.
     pub fn opt(&self) -> Option<OptRecord<&[u8]>>
         ensures some { IfSome result (λ opt. (rr : RecordOf (List (List ℕ)) (List EdnsOption))
             × GivesFirst (λ number. number == 41) ReadsOptions (octets_in Octs.list self.now) Additional (Some (Ok rr))
@@ -38,7 +38,7 @@ impl<Octs: Octets> Message<Octs> {
         }
     }
 
-    /// Returns the response code, whose high eight bits stand in the OPT record, and are zero where `opt` returns None.
+    /// Returns the response code. Its high eight bits are in the OPT record, and are zero if `opt` returns None.
     pub fn opt_rcode(&self) -> OptRcode
         ensures { HasResponseCode (octets_in Octs.list self.now) result }
     {

@@ -12,7 +12,7 @@ use dns_header::Question;
 use dns_name::{Octets, ParseError, ParsedName, Rtype};
 
 impl<Octs: Octets> Message<Octs> {
-    /// The first question, or None where there is none or it does not read.
+    /// Returns the first question, or None if there is none or it does not parse.
     pub fn first_question(&self) -> Option<Question<ParsedName<&[u8]>>>
         ensures some { IfSome result (λ question. IsFirstQuestion (octets_in Octs.list self.now) (question_of labels_of question)) }
         ensures none { IfNone result ((question : spec.Question) → IsFirstQuestion (octets_in Octs.list self.now) question → ⊥) }
@@ -24,9 +24,9 @@ impl<Octs: Octets> Message<Octs> {
         }
     }
 
-    /// Returns the question, if the message counts one alone.
+    /// Returns the question, if the message counts exactly one.
     ///
-    /// Fails with an error of the form if it counts none or several, and with the question's error if that does not parse.
+    /// Fails with a form error if it counts none or several, and with the question's error if that does not parse.
     pub fn sole_question(&self) -> Result<Question<ParsedName<&[u8]>>, ParseError>
         ensures ok { IfOk result (λ question. (question_count (octets_in Octs.list self.now) ≡ 1)
             × IsFirstQuestion (octets_in Octs.list self.now) (question_of labels_of question)) }
@@ -43,7 +43,7 @@ impl<Octs: Octets> Message<Octs> {
         }
     }
 
-    /// The type that the first question asks for, or None where there is none or it does not read.
+    /// Returns the type of the first question, or None if there is none or it does not parse.
     pub fn qtype(&self) -> Option<Rtype>
         ensures some { IfSome result (λ rtype. (question : spec.Question)
             × IsFirstQuestion (octets_in Octs.list self.now) question × (rtype ≡ question.qtype)) }
@@ -55,7 +55,7 @@ impl<Octs: Octets> Message<Octs> {
         }
     }
 
-    /// Whether the first question asks for a zone transfer: its type is IXFR (251) or AXFR (252).
+    /// Returns whether the first question asks for a zone transfer: its type is IXFR (251) or AXFR (252).
     pub fn is_xfr(&self) -> bool
         ensures yes { result ≡ true → (question : spec.Question) × IsFirstQuestion (octets_in Octs.list self.now) question
             × ((question.qtype ≡ 251) ⊎ (question.qtype ≡ 252)) }

@@ -10,21 +10,21 @@ use crate::{Message, MessageIter, QuestionSection, RecordSection};
 use dns_name::{Octets, ParseError};
 
 impl<Octs: Octets> Message<Octs> {
-    /// The question section.
+    /// Returns the question section.
     pub fn question(&self) -> QuestionSection<'_>
         ensures { questions_at result ≡ first_question (octets_in Octs.list self.now) }
     {
         QuestionSection::of_message(self.as_slice())
     }
 
-    /// The zone section of an update, which is its question section (RFC 2136 2.3).
+    /// Returns the zone section of an update, which is its question section (RFC 2136 2.3).
     pub fn zone(&self) -> QuestionSection<'_>
         ensures { questions_at result ≡ first_question (octets_in Octs.list self.now) }
     {
         self.question()
     }
 
-    /// The answer section. Fails with the error of the first question that cannot be passed.
+    /// Returns the answer section. Fails with the error of the first question that cannot be skipped.
     pub fn answer(&self) -> Result<RecordSection<'_>, ParseError>
         ensures { MatchResult result (λ found. IsSectionOf (octets_in Octs.list self.now) Answer (records_at found))
             (IsOutOfReach (octets_in Octs.list self.now) Answer) }
@@ -32,7 +32,8 @@ impl<Octs: Octets> Message<Octs> {
         self.question().next_section()
     }
 
-    /// The prerequisite section of an update, which is its answer section (RFC 2136 2.4).
+    /// Returns the prerequisite section of an update, which is its answer section (RFC 2136 2.4). Fails as `answer`
+    /// does.
     pub fn prerequisite(&self) -> Result<RecordSection<'_>, ParseError>
         ensures { MatchResult result (λ found. IsSectionOf (octets_in Octs.list self.now) Answer (records_at found))
             (IsOutOfReach (octets_in Octs.list self.now) Answer) }
@@ -40,7 +41,8 @@ impl<Octs: Octets> Message<Octs> {
         self.answer()
     }
 
-    /// The authority section. Fails with the error of the first question or record before it that cannot be passed.
+    /// Returns the authority section. Fails with the error of the first question or record before it that cannot be
+    /// skipped.
     pub fn authority(&self) -> Result<RecordSection<'_>, ParseError>
         ensures { MatchResult result (λ found. IsSectionOf (octets_in Octs.list self.now) Authority (records_at found))
             (IsOutOfReach (octets_in Octs.list self.now) Authority) }
@@ -48,7 +50,8 @@ impl<Octs: Octets> Message<Octs> {
         self.answer()?.following()
     }
 
-    /// The update section of an update, which is its authority section (RFC 2136 2.5).
+    /// Returns the update section of an update, which is its authority section (RFC 2136 2.5). Fails as `authority`
+    /// does.
     pub fn update(&self) -> Result<RecordSection<'_>, ParseError>
         ensures { MatchResult result (λ found. IsSectionOf (octets_in Octs.list self.now) Authority (records_at found))
             (IsOutOfReach (octets_in Octs.list self.now) Authority) }
@@ -56,7 +59,8 @@ impl<Octs: Octets> Message<Octs> {
         self.authority()
     }
 
-    /// The additional section. Fails with the error of the first question or record before it that cannot be passed.
+    /// Returns the additional section. Fails with the error of the first question or record before it that cannot be
+    /// skipped.
     pub fn additional(&self) -> Result<RecordSection<'_>, ParseError>
         ensures { MatchResult result (λ found. IsSectionOf (octets_in Octs.list self.now) Additional (records_at found))
             (IsOutOfReach (octets_in Octs.list self.now) Additional) }
@@ -64,7 +68,8 @@ impl<Octs: Octets> Message<Octs> {
         self.authority()?.following()
     }
 
-    /// All four sections. Fails with the error of the first question or record before the last section that cannot be passed.
+    /// Returns all four sections. Fails with the error of the first question or record before the last section that
+    /// cannot be skipped.
     pub fn sections(
         &self,
     ) -> Result<
@@ -90,7 +95,8 @@ impl<Octs: Octets> Message<Octs> {
         Ok((question, answer, authority, additional))
     }
 
-    /// The records of all sections, each with its section. There are none where a question cannot be passed.
+    /// Returns an iterator over the records of all sections, each with its section. It is empty if a question cannot be
+    /// skipped.
     pub fn iter(&self) -> MessageIter<'_>
         ensures { IsAllOf (octets_in Octs.list self.now) (all_at result) }
     {

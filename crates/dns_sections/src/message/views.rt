@@ -11,7 +11,7 @@ use dns_header::{Header, HeaderCounts, HeaderSection};
 use dns_name::{Octets, Rcode};
 
 impl<Octs: Octets> Message<Octs> {
-    /// The header without its counts.
+    /// Returns the header without its counts.
     pub fn header(&self) -> Header
         ensures octets { result ≡ take 4 (octets_in Octs.list self.now) }
         ensures said { fields_of result ≡ fields_of (octets_in Octs.list self.now) }
@@ -19,7 +19,7 @@ impl<Octs: Octets> Message<Octs> {
         Header::for_message_slice(self.as_slice())
     }
 
-    /// How many questions and records there are by the header.
+    /// Returns how many questions and records the header counts.
     pub fn header_counts(&self) -> HeaderCounts
         ensures octets { result ≡ take 8 (drop 4 (octets_in Octs.list self.now)) }
         ensures said { counts_of result ≡ counts_in (octets_in Octs.list self.now) }
@@ -27,21 +27,21 @@ impl<Octs: Octets> Message<Octs> {
         HeaderCounts::for_message_slice(self.as_slice())
     }
 
-    /// The header with its counts.
+    /// Returns the header with its counts.
     pub fn header_section(&self) -> HeaderSection
         ensures { result ≡ take 12 (octets_in Octs.list self.now) }
     {
         HeaderSection::for_message_slice(self.as_slice())
     }
 
-    /// Whether the response code is NOERROR.
+    /// Returns whether the response code is NOERROR.
     pub fn no_error(&self) -> bool
         ensures { IsTrue result ↔ (rcode_of (octets_in Octs.list self.now) ≡ 0) }
     {
         self.header().rcode() == Rcode::NOERROR
     }
 
-    /// Whether the response code is another than NOERROR.
+    /// Returns whether the response code is other than NOERROR.
     pub fn is_error(&self) -> bool
         ensures { IsTrue result ↔ (rcode_of (octets_in Octs.list self.now) ≡ 0 → ⊥) }
     {

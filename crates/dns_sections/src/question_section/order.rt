@@ -6,7 +6,7 @@ ghost use Rattle.dns_sections.specs.Seen.{questions_at};
 
 use super::QuestionSection;
 
-/// The same questions left, in order, names up to ASCII case (RFC 4343).
+/// The same remaining questions, in order, names up to ASCII case (RFC 4343).
 ///
 /// A cursor with a question left that does not parse, or that met one before, equals none, not even itself.
 impl PartialEq for QuestionSection<'_> {
