@@ -92,7 +92,7 @@ pub record HasNoRecord (text : List ℕ) (origin : Option (List (List ℕ))) (cl
   pub none : records_in entries ≡ []
 
 -- The first rule that the text breaks: the class; then, of the first entry that breaks one, the first in the order of
--- the variants; then that there is a record. (This leaves out memory.)
+-- the variants; then that there is a record. `OutOfMemory` holds of any text.
 abbrev pub IsZoneFault : List ℕ → Option (List (List ℕ)) → ℕ → ZoneError → Type 0
 IsZoneFault text origin class zone_error.ClassAny = class ≡ any_class
 IsZoneFault text origin class (zone_error.Text n) = StopsAt text origin class n

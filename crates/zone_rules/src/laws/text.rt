@@ -11,13 +11,13 @@ pub fn text_has_one_reading()
         IsZoneText text origin class a → IsZoneText text origin class b → a ≡ b }
 {}
 
-/// A zone's text has no fault. (This leaves out memory.)
+/// A zone's text has no fault other than `OutOfMemory`.
 pub fn zone_text_breaks_no_rule()
     ensures { (text : List ℕ) (origin : Option (List (List ℕ))) (class : ℕ) (records : List Record) (e : ZoneError) →
         IsZoneText text origin class records → IsZoneFault text origin class e → e ≡ zone_error.OutOfMemory }
 {}
 
-/// A text has at most one fault. (This leaves out memory.)
+/// A text has at most one fault other than `OutOfMemory`.
 pub fn one_zone_fault()
     ensures { (text : List ℕ) (origin : Option (List (List ℕ))) (class : ℕ) (e d : ZoneError) →
         e ≢ zone_error.OutOfMemory → d ≢ zone_error.OutOfMemory →
