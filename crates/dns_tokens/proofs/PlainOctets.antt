@@ -33,7 +33,7 @@ plain_sound : (quoted : Bool) (octet : ℕ) → is_plain_in quoted octet ≡ tru
 plain_sound true octet is = quotes_sound octet is
 plain_sound false octet is = word_sound octet is
 
--- none is refused
+-- an octet that passes is not refused
 not_refused : (refused : Bool) → (if refused then false else true) ≡ true → refused ≡ false
 not_refused true is = sym is
 not_refused false is = refl
