@@ -6,7 +6,7 @@ use thiserror::Error;
 /// Why the tokens of a row are no entry of a zone file.
 #[derive(Clone, Copy, Debug, PartialEq, Eq, Error)]
 pub enum EntryError {
-    /// A token is not allowed there, or is malformed. The text says why.
+    /// The row is no entry. The text says why.
     #[error("{0}")]
     Custom(&'static str),
     /// The row ends where a token is required.

@@ -18,13 +18,13 @@ use dns_tokens::TokenSpan;
 use std::alloc::Global;
 use std::marker::PhantomData;
 
-/// A scanner over the tokens of a zone file's row (RFC 1035 5.1). It returns names of the type `N`, relative to an
-/// origin, if one is known.
+/// A scanner over the tokens of a zone file's row (RFC 1035 5.1). It returns names of the type `N`. Relative names are
+/// completed with an origin, if one is known.
 #[derive(Debug, Drop)]
 pub struct RowScanner<'t, N = ScannedName> {
     alloc: Global,
     text: &'t [u8],
-    /// The place after the last token that was taken, and after its closing quote.
+    /// The place after the last token that was taken and its closing quote, or the start of the row.
     place: usize,
     /// The places of the remaining tokens.
     left: &'t [TokenSpan],
@@ -137,7 +137,7 @@ impl<'t, N> RowScanner<'t, N> {
         Ok(token)
     }
 
-    /// Returns the octets between the last token that was taken and the next one.
+    /// Returns the octets between what was taken so far and the next token.
     fn gap(&self) -> &'t [u8]
         ensures { result.now ≡ gap_of self.now }
     {
