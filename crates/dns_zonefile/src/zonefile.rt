@@ -9,7 +9,7 @@ use dns_name::{Class, Name};
 use dns_tokens::TokenSpan;
 use std::alloc::{AllocError, Global};
 
-/// A reader of a zone file. Its text is given to it.
+/// A reader of a zone file. The caller supplies its text, at once or in pieces.
 ///
 /// ```text
 /// let mut zonefile = Zonefile::new(alloc);
