@@ -1,4 +1,4 @@
--- The labels that were read from a text, and an origin behind them.
+-- The labels that were read from a text, followed by an origin.
 use Rattle.std.proofs.Common.{◌≡◌, ℕ, ◌+◌, ◌<◌, ◌≤◌, List, [], ◌∷◌, ◌++◌, length, take, refl, sym, ◌∙◌, ap, subst, arith, append_assoc}
 use Rattle.std.proofs.lemmas.List.{take-take}
 use Rattle.std.proofs.Math.Seq.{take-append_seam}
@@ -12,13 +12,13 @@ use Rattle.dns_wire.proofs.Drafts.{draft-name}
 use Rattle.dns_wire.proofs.Wire.{labels_wire-append, length-wire_is, length-wire-append, wire_is}
 use Rattle.dns_flat.proofs.Chains.{joined_name}
 
--- the labels in front of the root's
+-- the labels before the root's
 before_rooted : (name : List (List ℕ)) → AllByRecursion IsLabel name → before_root (with_root name) ≡ name
 before_rooted [] each = refl
 before_rooted ([] ∷ name) each = absurd (omega (arith, each.0.some))
 before_rooted ((octet ∷ text) ∷ name) each = ap (λ l. (octet ∷ text) ∷ l) (before_rooted name each.1)
 
--- a chain of so few octets is not refused
+-- a chain with this few octets is accepted
 pub chain_fits : (front name : List (List ℕ)) → IsName name → length (labels_wire front) + length (wire name) ≤ 255
     → 254 < length (labels_wire front) + length (labels_wire (before_root (with_root name))) → ⊥
 chain_fits front name is_name few long =
@@ -41,7 +41,7 @@ front_octets spelling done holds =
     ∙ ap (λ (n : ℕ). take n (labels_wire done ++ 0 ∷ [])) holds.place
     ∙ take-append_seam (labels_wire done) (0 ∷ [])
 
--- and no other name has these octets
+-- only this name has these octets
 pub front_held : (spelling : Spelling) (done name : List (List ℕ)) → Holds spelling done []
     → take spelling.start spelling.octets ≡ labels_wire name → Holds spelling name []
 front_held spelling done name holds made =
@@ -66,7 +66,7 @@ held_one spelling done other holds also =
     wire_one done other
     (wire_is done ∙ ap (λ l. l ++ 0 ∷ []) (sym (front_octets spelling done holds) ∙ front_octets spelling other also) ∙ sym (wire_is other))
 
--- of a name they have few octets with the origin
+-- if they are a name with the origin, they have few octets with it
 pub few_octets : (spelling : Spelling) (front done origin : List (List ℕ)) → Holds spelling front [] → Holds spelling done []
     → IsName (done ++ origin) → length (labels_wire front) + length (wire origin) ≤ 255
 few_octets spelling front done origin held holds is_name =
@@ -77,7 +77,7 @@ few_octets spelling front done origin held holds is_name =
       ap (length {A = ℕ}) (sym (front_octets spelling front held) ∙ front_octets spelling done holds),
     )
 
--- their octets, and behind them those of the origin, are the octets of both
+-- their octets, followed by those of the origin, are the octets of both
 pub wire-append : (front more : List (List ℕ)) {octets : List ℕ} → octets ≡ wire more → labels_wire front ++ octets ≡ wire (front ++ more)
 wire-append front more is =
     ap (λ l. labels_wire front ++ l) (is ∙ wire_is more) ∙ sym (append_assoc (labels_wire front) (labels_wire more) (0 ∷ []))

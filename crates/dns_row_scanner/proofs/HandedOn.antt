@@ -1,4 +1,4 @@
--- An error that `?` hands on.
+-- An error that `?` returns.
 use Rattle.std.proofs.Common.{◌≡◌, Ok, Err, sym, subst}
 use Rattle.std.specs.Prelude.{IfErr, IsErrAnd, Result}
 

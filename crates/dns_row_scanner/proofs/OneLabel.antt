@@ -22,7 +22,7 @@ each_unescaped (octet ∷ text) all =
     let both = and_parts (is_unescaped octet) (list_all is_unescaped text) all in
     (unescaped_sound octet both.0, each_unescaped text both.1)
 
--- the octets of a run's front
+-- the octets at the start of a run
 front_next : (test : ℕ → Bool) (n octet : ℕ) (text : List ℕ) (is : Bool) → test octet ≡ is → suc n ≤ cond is (1 + prefix_len test text) 0
     → (n ≤ prefix_len test text → list_all test (take n text) ≡ true) → list_all test (take (suc n) (octet ∷ text)) ≡ true
 front_next test n octet text true is long on = and_from _ _ is (on (omega (arith, long)))

@@ -1,4 +1,4 @@
--- Under an origin, a text spells one name at most.
+-- Under an origin, a text spells at most one name.
 use Rattle.std.proofs.Common.{◌≡◌, ℕ, List, [], ◌∷◌, ◌++◌, Option, get_or, length, refl, sym, ◌∙◌, ap, subst, arith}
 use Rattle.dns_label.specs.declared.symbol.Symbol.TheVariants.{Char}
 use Rattle.dns_label.specs.NameText.{HasParts, IsAbsoluteText}
@@ -14,7 +14,7 @@ same_parts {parts = parts} {others = others} has other =
     let P : List ℕ → Type 0 = λ t. HasParts t others in
     sym (parts_one has.symbols has.each others (subst P has.written other) ∙ has.between)
 
--- `@` has no last dot
+-- `@` has no dot at its end
 at_parts : {text : List ℕ} → text ≡ 64 ∷ [] → HasParts text ((64 ∷ []) ∷ [])
 at_parts is = record { symbols = Char 64 ∷ []; each = (((omega arith, omega arith), λ same. omega arith), tt); written = is; between = refl }
 

@@ -1,4 +1,4 @@
--- What a text that has been read spells under an origin.
+-- The name of a text under an origin, once its labels are read.
 use Rattle.std.proofs.Common.{◌≡◌, ℕ, ◌<◌, List, [], ◌∷◌, ◌++◌, length, inr, refl, sym, ◌∙◌, ap, subst, arith}
 use Rattle.std.specs.Prelude.{Option, Some, None}
 use Rattle.std.specs.List.{AllByRecursion}
@@ -16,7 +16,7 @@ use Rattle.dns_row_scanner.specs.NameInText.{SpellsUnder}
 use Rattle.dns_row_scanner.specs.NameInText.SpellsUnder.{at, absolute, relative}
 use Rattle.dns_row_scanner.proofs.ChainedNames.{held_name}
 
--- the labels in front of an origin
+-- the labels before an origin
 front_name : (labels origin : List (List ℕ)) → AllByRecursion IsLabel labels → IsName (labels ++ origin) → IsName labels
 front_name labels origin each is_name = record {
   labels = each;
@@ -31,7 +31,7 @@ readable {name = name} differs (absolute is) = inr (name, absolute_text is)
 readable differs (relative {origin = origin} {labels = labels} other is is_name) =
     inr (labels, relative_text is (front_name labels origin is.each is_name))
 
--- `@` where no origin is known, and where one is
+-- `@` if no origin is known, and if one is
 pub at_none : {origin : Option (List (List ℕ))} {text : List ℕ} {name : List (List ℕ)} → origin ≡ None → text ≡ 64 ∷ []
     → ((name : List (List ℕ)) → IsAbsoluteText text name → ⊥) → SpellsUnder origin text name → ⊥
 at_none none is dotless at = cc
@@ -49,7 +49,7 @@ at_some {known = known} origin is same =
 pub root_spelled : {origin : Option (List (List ℕ))} {text : List ℕ} → text ≡ 46 ∷ [] → SpellsUnder origin text []
 root_spelled is = absolute (root is)
 
--- where the last label is not open, the text is that of no relative name
+-- if the last label is not open, the text is that of no relative name
 never_relative : {text : List ℕ} (spelling : Spelling) (read : IsReadAs text spelling) (labels : List (List ℕ)) → read.begun ≡ []
     → IsRelativeText text labels → ⊥
 never_relative spelling read labels none is =
@@ -85,7 +85,7 @@ dotted_none {text = text} {name = name} spelling differs no_dot read none one (a
 dotted_none spelling differs no_dot read none one (relative {labels = labels} other is is_name) =
     never_relative spelling read labels none is
 
--- where it is open, the name is relative
+-- if it is open, the name is relative
 pub open_none : {origin : Option (List (List ℕ))} {text : List ℕ} {name : List (List ℕ)} (spelling : Spelling) → origin ≡ None
     → (text ≡ 46 ∷ [] → ⊥) → (read : IsReadAs text spelling) → 0 < length read.begun → SpellsUnder origin text name → ⊥
 open_none spelling none no_dot read some at = cc
@@ -115,7 +115,7 @@ open_long spelling origin is differs no_dot read some long (relative {origin = o
     ap (λ l. l ++ other) (read.only labels spelled.parts) ∙ ap (λ o. (read.done ++ read.begun ∷ []) ++ o) same in
     let P : List (List ℕ) → Type 0 = λ l. IsName l in long (subst P whole is_name)
 
--- a name with its last dot
+-- a name with a dot at its end
 pub absolute_name : {text : List ℕ} {name : List (List ℕ)} → IsAbsoluteText text name → IsName name
 absolute_name (IsAbsoluteText.root is) = record { labels = tt; short = omega arith }
 absolute_name (IsAbsoluteText.labels some parts is_name) = is_name

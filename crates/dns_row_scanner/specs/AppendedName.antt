@@ -4,7 +4,7 @@ use Rattle.dns_label.specs.Name.{IsName, wire}
 use Rattle.dns_scan.specs.Token.{Token, unquoted}
 use Rattle.dns_row_scanner.specs.NameInText.{SpellsUnder}
 
--- The first of the tokens spells a name, and the others are left. The name's octets stand after the old ones (RFC 1035 3.1).
+-- The first of the tokens spells a name, and the others are left. The name's octets follow the old ones (RFC 1035 3.1).
 pub record AppendsName (names : List ℕ → List (List ℕ) → Type 0) (tokens left : List Token) (old new : List ℕ) : Type 0 where
   pub text : List ℕ
   pub name : List (List ℕ)
@@ -21,7 +21,7 @@ SpellsNoName names tokens = (text : List ℕ) (left : List Token) (name : List (
 abbrev pub is_no_dot : ℕ → Bool
 is_no_dot octet = not (octet == 46)
 
--- a text of one label spells that label and the origin behind it, and the octets of this name stand after the old ones
+-- a text of one label spells that label followed by the origin, and the octets of this name follow the old ones
 pub record OneLabelUnder (text : List ℕ) (origin : List (List ℕ)) (old new : List ℕ) : Type 0 where
   pub spells : SpellsUnder (Some origin) text (text ∷ origin)
   pub is_name : IsName (text ∷ origin)

@@ -3,8 +3,8 @@ use Rattle.std.specs.Prelude.{◌≡◌, ℕ, List, [], ◌++◌}
 use Rattle.dns_scan.specs.CharStr.{string_wire}
 use Rattle.dns_scan.specs.Token.{IsEntry, IsStringOnWire, SpellsOctets, SpellsString, Takes, Token}
 
--- The first of the tokens spells a character string, and the others are left. It stands after the old octets, its length first
--- (RFC 1035 3.3).
+-- The first of the tokens spells a character string, and the others are left. The string follows the old octets, its
+-- length first (RFC 1035 3.3).
 pub record AppendsString (tokens left : List Token) (old new : List ℕ) : Type 0 where
   pub string : List ℕ
   pub takes : Takes (SpellsString string) tokens left
@@ -14,7 +14,7 @@ pub record AppendsString (tokens left : List Token) (old new : List ℕ) : Type 
 abbrev pub SpellsNoString : List Token → Type 0
 SpellsNoString tokens = (string : List ℕ) (left : List Token) → Takes (SpellsString string) tokens left → ⊥
 
--- the first of the tokens spells octets, which stand after the old ones, and the others are left
+-- the first of the tokens spells octets, which follow the old ones, and the others are left
 pub record AppendsText (tokens left : List Token) (old new : List ℕ) : Type 0 where
   pub octets : List ℕ
   pub takes : Takes (SpellsOctets octets) tokens left
@@ -24,7 +24,7 @@ pub record AppendsText (tokens left : List Token) (old new : List ℕ) : Type 0 
 abbrev pub SpellsNoOctets : List Token → Type 0
 SpellsNoOctets tokens = (octets : List ℕ) (left : List Token) → Takes (SpellsOctets octets) tokens left → ⊥
 
--- All tokens spell character strings, which stand after the old octets, each with its length first. None is left.
+-- All tokens spell character strings, which follow the old octets, each with its length first. None is left.
 pub record AppendsStrings (tokens left : List Token) (old new : List ℕ) : Type 0 where
   pub octets : List ℕ
   pub entry : IsEntry IsStringOnWire tokens octets

@@ -1,9 +1,9 @@
--- What the errors of a row tell.
+-- What the errors of a row say.
 use Rattle.std.specs.Prelude.{Bool, true, false}
 use Rattle.dns_row_scanner.specs.declared.entry_error.EntryError.{EntryError}
 use Rattle.dns_row_scanner.specs.declared.entry_error.EntryError.TheVariants.{Custom, EndOfEntry, OutOfMemory, TrailingTokens}
 
--- a growth was refused
+-- out of memory
 abbrev pub is_memory : EntryError → Bool
 is_memory (Custom message) = false
 is_memory EndOfEntry = false

@@ -3,7 +3,8 @@ use Rattle.std.specs.Prelude.{◌≢◌, ℕ, List, [], ◌∷◌, ◌++◌, Opt
 use Rattle.dns_label.specs.Name.{IsName}
 use Rattle.dns_label.specs.NameText.{IsAbsoluteText, IsRelativeText}
 
--- Under an origin, if one is known: `@` is the origin; a name with its last dot is itself; behind one without it the origin follows.
+-- With an origin, if one is known: `@` is the origin; a name with a dot at its end is itself; any other is followed by
+-- the origin.
 pub data SpellsUnder : Option (List (List ℕ)) → List ℕ → List (List ℕ) → Type 0 where
   at : {origin : List (List ℕ)} → SpellsUnder (Some origin) (64 ∷ []) origin
   absolute : {origin : Option (List (List ℕ))} {text : List ℕ} {name : List (List ℕ)} → IsAbsoluteText text name

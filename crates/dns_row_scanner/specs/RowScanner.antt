@@ -1,4 +1,4 @@
--- What a scanner over a row is seen as: the tokens that are left, the origin, and the octets in front of the next token.
+-- The view of a scanner over a row: the remaining tokens, the origin, and the octets before the next token.
 use Rattle.std.specs.Prelude.{ℕ, List, Option, map, option_copied}
 use Rattle.dns_scan.specs.Token.{Token}
 use Rattle.dns_tokens.specs.TokenSpan.{token_in}

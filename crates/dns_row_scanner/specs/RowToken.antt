@@ -1,4 +1,4 @@
--- The token that a scanner over a row hands on.
+-- The token that a scanner over a row returns.
 use Rattle.dns_scan.specs.Token.{Token}
 use Rattle.dns_row_scanner.specs.declared.row_token.RowToken.{RowToken}
 

@@ -1,4 +1,4 @@
-//! Names of tokens, appended as octets with no value between.
+//! Names of tokens, appended as octets without a value for them.
 ghost use Rattle.std.specs.List.{list_all};
 ghost use Rattle.std.specs.Prelude.{◌≡◌, ◌≢◌, ◌↔◌, ◌+◌, ◌<◌, ◌≤◌, ◌++◌, ◌∷◌, [], List, ℕ, true, false, length, take, option_copied, IsTrue, IfErr, OnOk, OnErr};
 ghost use Rattle.dns_label.specs.Name.{IsName, wire};
@@ -14,9 +14,10 @@ use dns_name::{Name, OctetKind, run_end};
 use std::alloc::{AllocError, Global};
 use std::simd::prelude::*;
 
-/// Appends the octets of the name that a token's text spells under the origin, if one is known, as `TextName::scan_name` has it.
+/// Appends the octets of the name that a token's text spells under the origin, if one is known. `TextName::scan_name`
+/// says which name this is.
 ///
-/// Fails as that does, and then appends nothing.
+/// Fails as that call does, and then appends nothing.
 pub(crate) fn append_name(
     alloc: Global,
     token: RowToken<'_>,
@@ -37,7 +38,8 @@ pub(crate) fn append_name(
     append_spelled(alloc, token.text, origin, octets)
 }
 
-/// The same of any text. It spells the name into an array first, which is cleared, so other names do without this call.
+/// The same for any text. It spells the name into an array first. Clearing that array takes time, so the fast cases
+/// avoid this call.
 #[inline(never)]
 fn append_spelled(
     alloc: Global,
@@ -54,8 +56,8 @@ fn append_spelled(
     Ok(octets.extend_from_slice(name.as_slice())?)
 }
 
-/// Appends the octets of the name that a text spells with its last dot, and returns whether it did. It appends nothing if the text
-/// spells no such name, or if out of memory.
+/// Appends the octets of the name if the text spells an absolute name, and returns whether it did. Appends nothing if
+/// the text spells no such name, or if out of memory.
 fn append_dotted(text: &[u8], octets: &mut Vec<u8>) -> bool
     ensures yes { IsTrue result → (name : List (List ℕ)) × IsAbsoluteText text.now name × (octets.new.items ≡ octets.old.items ++ wire name) }
     ensures no { result ≡ false → octets.new.items ≡ octets.old.items }
@@ -69,15 +71,16 @@ fn append_dotted(text: &[u8], octets: &mut Vec<u8>) -> bool
     }
 }
 
-/// Returns whether the text spells the root, by its dot alone.
+/// Returns whether the text spells the root, as a dot alone.
 fn is_root(text: &[u8]) -> bool
     ensures { IsTrue result ↔ (text.now ≡ 46 ∷ []) }
 {
     matches!(text, [b'.'])
 }
 
-/// Appends the octets of the name that a text of one label without an escape spells under the origin, and returns whether it did. It
-/// appends nothing if there is no origin, if the text is another or the name too long, or if out of memory.
+/// Appends the octets of the name if the text is one label without an escape, completed with the origin, and returns
+/// whether it did. Appends nothing if there is no origin, if the text is another or the name too long, or if out of
+/// memory.
 fn append_label(token: RowToken<'_>, origin: Option<&Name<Vec<u8>>>, octets: &mut Vec<u8>) -> bool
     ensures yes { IsTrue result → (name : List (List ℕ)) × SpellsUnder (option_copied origin.entry) token.entry.text.now name × IsName name
         × (octets.new.items ≡ octets.old.items ++ wire name) }
@@ -97,7 +100,7 @@ fn append_label(token: RowToken<'_>, origin: Option<&Name<Vec<u8>>>, octets: &mu
     is_whole
 }
 
-/// Returns whether the token's text is one label of octets that stand for themselves, and not the origin's `@`.
+/// Returns whether the token's text is one label of octets that stand for themselves, and not the `@` of the origin.
 #[tactic(auto, using(crate::proofs::OneLabel::unescaped_all))]
 fn is_one_label(token: RowToken<'_>) -> bool
     ensures { IsTrue result → (list_all is_unescaped token.entry.text.now ≡ true) × (0 < length token.entry.text.now) × (length token.entry.text.now ≤ 63)
@@ -107,8 +110,8 @@ fn is_one_label(token: RowToken<'_>) -> bool
     is_short && !matches!(token.text, [b'@']) && token.is_plain() && has_no_dot(token)
 }
 
-/// Returns whether no dot stands in the token's text. Sixteen octets are looked at together, so those behind a shorter token too, but
-/// no more: the next dot may be far.
+/// Returns whether the token's text has no dot. Sixteen octets are tested at once, so also those after a shorter token,
+/// but no more: the next dot may be far.
 fn has_no_dot(token: RowToken<'_>) -> bool
     ensures { IsTrue result → list_all is_no_dot token.entry.text.now ≡ true }
 {
@@ -117,7 +120,7 @@ fn has_no_dot(token: RowToken<'_>) -> bool
     len <= run_end::<OtherThanDot>(near, 0)
 }
 
-/// How many octets are looked at together.
+/// The number of octets that are tested at once.
 const LANES: usize = 16;
 
 /// Octets other than the dot.
@@ -135,7 +138,8 @@ impl OctetKind for OtherThanDot {
     }
 }
 
-/// Appends the label, behind its length, and the octets of the origin, or a part of them if out of memory.
+/// Appends the length of the label, the label and the octets of the origin. If out of memory, fails and may have
+/// appended a part of them.
 fn append_before(
     label: &[u8],
     origin: &Name<Vec<u8>>,

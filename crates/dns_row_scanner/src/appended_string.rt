@@ -1,4 +1,4 @@
-//! The octets that texts spell, appended to others with no value between.
+//! The octets that texts spell, appended to others without a value for them.
 ghost use Rattle.std.specs.Prelude.{◌≡◌, ◌≤◌, ◌++◌, List, ℕ, false, true, length, take, IfErr, OnErr, OnOk};
 ghost use Rattle.dns_row_scanner.specs.EntryError.{is_end, is_memory};
 ghost use Rattle.dns_scan.specs.CharStr.{string_wire};
@@ -9,10 +9,10 @@ use crate::octets::append_symbols;
 use crate::row_token::RowToken;
 use std::alloc::AllocError;
 
-/// The most octets of a character string (RFC 1035 3.3).
+/// The greatest length of a character string in octets (RFC 1035 3.3).
 const STRING_MOST: usize = 255;
 
-/// Appends the octets that a token's text spells. A text without a backslash is appended as it stands.
+/// Appends the octets that a token's text spells. A text without a backslash is appended unchanged.
 ///
 /// Fails as `octets_of` does, and then appends nothing.
 pub(crate) fn append_text(token: RowToken<'_>, octets: &mut Vec<u8>) -> Result<(), EntryError>
@@ -52,7 +52,7 @@ pub(crate) fn append_string(token: RowToken<'_>, octets: &mut Vec<u8>) -> Result
     appended
 }
 
-/// The same symbol by symbol, but that a part may be left behind where it fails. The length is written when it is known.
+/// The same symbol by symbol. If it fails, it may have appended a part. The length is written once it is known.
 fn append_spelled(text: &[u8], octets: &mut Vec<u8>) -> Result<(), EntryError>
     ensures ok { OnOk result ((string : List ℕ) × IsStringText text.now string × (octets.new.items ≡ octets.old.items ++ string_wire string)) }
     ensures err { IfErr result (λ error. is_memory error ≡ false → (string : List ℕ) → IsStringText text.now string → ⊥) }
@@ -73,7 +73,8 @@ fn append_spelled(text: &[u8], octets: &mut Vec<u8>) -> Result<(), EntryError>
     Ok(())
 }
 
-/// Appends the octets of a string behind their number. Fails with `OutOfMemory`, and then appends nothing.
+/// Appends the octets of a string after their number. Fails with `OutOfMemory` if out of memory, and then appends
+/// nothing.
 fn append_counted(string: &[u8], octets: &mut Vec<u8>) -> Result<(), EntryError>
     requires { length string.now ≤ 255 }
     ensures ok { OnOk result (octets.new.items ≡ octets.old.items ++ string_wire string.now) }
@@ -88,7 +89,7 @@ fn append_counted(string: &[u8], octets: &mut Vec<u8>) -> Result<(), EntryError>
     Ok(())
 }
 
-/// The same, but that a part may be left behind if out of memory.
+/// The same, but if out of memory it may have appended a part.
 fn append_parts(string: &[u8], octets: &mut Vec<u8>) -> Result<(), AllocError>
     requires { length string.now ≤ 255 }
     ensures ok { OnOk result (octets.new.items ≡ octets.old.items ++ string_wire string.now) }

@@ -1,4 +1,4 @@
-//! Why a row of a zone file is no entry.
+//! The error of a row that is no entry of a zone file.
 use dns_scan::ScannerError;
 use std::alloc::AllocError;
 use thiserror::Error;
@@ -6,13 +6,13 @@ use thiserror::Error;
 /// Why the tokens of a row are no entry of a zone file.
 #[derive(Clone, Copy, Debug, PartialEq, Eq, Error)]
 pub enum EntryError {
-    /// A token is none of those that may stand there.
+    /// The row is no entry. The text says why.
     #[error("{0}")]
     Custom(&'static str),
-    /// A token is missing at the row's end.
+    /// The row ends where a token is required.
     #[error("unexpected end of entry")]
     EndOfEntry,
-    /// Tokens are left behind the entry.
+    /// There are tokens after the end of the entry.
     #[error("trailing tokens")]
     TrailingTokens,
     /// Out of memory.

@@ -1,10 +1,10 @@
-//! Scanners that tell quoted tokens from others.
+//! Scanners that say whether a token is quoted.
 ghost use Rattle.std.specs.Prelude.{◌≡◌, ◌∷◌, List, true, IsTrue, ◌↔◌};
 ghost use Rattle.dns_scan.specs.Token.{Token, Takes};
 
 use dns_scan::Scanner;
 
-/// A scanner over the tokens of a row that tells whether a token is quoted.
+/// A scanner over the tokens of a row that says whether a token is quoted.
 pub trait EntryScanner: Scanner {
     /// Returns whether there is a next token and it is quoted.
     fn next_is_quoted(&self) -> bool

@@ -1,4 +1,4 @@
-//! What stands between tokens.
+//! The octets between tokens.
 ghost use Rattle.std.specs.Prelude.{◌≡◌};
 ghost use Rattle.dns_scan.specs.Token.{ends_white, is_white};
 
@@ -12,7 +12,7 @@ pub(crate) fn ends_white(octets: &[u8]) -> bool
     is_white(last)
 }
 
-/// Returns whether this is white space.
+/// Returns whether the octet is white space.
 fn is_white(octet: u8) -> bool
     ensures { result ≡ is_white octet }
 {

@@ -1,4 +1,4 @@
-//! Names in arrays, which take no memory.
+//! Names in arrays, without allocations.
 ghost use Rattle.std.specs.Prelude.{◌≡◌, ◌+◌, ◌<◌, ◌≤◌, ◌++◌, List, ℕ, [], IsOk, IfOk, length};
 ghost use Rattle.dns_label.specs.Name.{IsName};
 ghost use Rattle.dns_wire.specs.Draft.{Holds, IsNew};
@@ -11,7 +11,7 @@ use dns_name::{Name, Octets, ToName};
 use dns_wire::text::Spelling;
 use std::alloc::{AllocError, Global};
 
-/// No memory is taken, so none of these calls fails.
+/// Nothing is allocated, so none of these calls fails.
 impl TextName for InlineName {
     fn of_name<Octs: Octets>(_alloc: Global, name: &Name<Octs>) -> Result<Self, AllocError>
         ensures made { IfOk result (λ made. made ≡ name.now) }
@@ -48,7 +48,7 @@ impl TextName for InlineName {
     }
 }
 
-/// Returns the same name in an array of its own.
+/// Returns a copy of the name in an array.
 pub fn to_inline_name<N: ToName>(name: &N) -> InlineName
     ensures { result ≡ N.name name.now }
 {
@@ -58,7 +58,7 @@ pub fn to_inline_name<N: ToName>(name: &N) -> InlineName
     Name::from_octets_unchecked(octets)
 }
 
-/// Appends the octets. By condition they fit.
+/// Appends the octets. The caller guarantees that they fit.
 fn append(octets: &mut ArrayVec<u8, 255>, more: &[u8])
     requires { length octets.old.items + length more.now ≤ 255 }
     ensures { octets.new.items ≡ octets.old.items ++ more.now }

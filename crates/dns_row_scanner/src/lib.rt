@@ -1,4 +1,4 @@
-//! A scanner over the tokens of a zone file's row, whose names are spelled under an origin (RFC 1035 5.1).
+//! A scanner over the tokens of a zone file's row. It completes relative names with an origin (RFC 1035 5.1).
 //!
 //! A part of `dns_zonefile`.
 #![tactic(auto)]
@@ -26,11 +26,11 @@ pub use row_scanner::RowScanner;
 pub use scanned_name::{absolute, scan_name};
 pub use text_name::TextName;
 
-/// A name that is scanned: its labels in the text, and behind them the root or the origin.
+/// A scanned name: its labels in the text, followed by the root or the origin.
 pub type ScannedName = Chain<RelativeName<Vec<u8>>, Name<Vec<u8>>>;
 
-/// A name that is scanned, in an array, which takes no memory: a name has at most 255 octets (RFC 1035 2.3.4).
+/// A scanned name in an array, without an allocation: a name has at most 255 octets (RFC 1035 2.3.4).
 pub type InlineName = Name<ArrayVec<u8, 255>>;
 
-/// A text that is scanned.
+/// A scanned text.
 pub type ScannedString = String;

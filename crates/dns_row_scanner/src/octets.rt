@@ -11,7 +11,8 @@ use dns_name::Symbol;
 use dns_scan::CharStr;
 use std::alloc::Global;
 
-/// Returns whether these are printable characters other than the backslash. Each of them is a symbol that stands for itself.
+/// Returns whether these are printable characters other than the backslash. Each of them is a symbol that stands for
+/// itself.
 pub(crate) fn are_plain(text: &[u8]) -> bool
     ensures { result ≡ list_all is_plain text.now }
 {
@@ -34,7 +35,7 @@ pub(crate) fn plain_word(text: &[u8]) -> &str
     unsafe { std::str::from_utf8_unchecked(text) }
 }
 
-/// Returns the octets that a token's text spells, each by a symbol. A text without a backslash is copied whole.
+/// Returns the octets that a token's text spells, one per symbol. A text without a backslash is copied whole.
 ///
 /// Fails with `Custom` if a part of the text is no symbol, and with `OutOfMemory` if out of memory.
 pub(crate) fn octets_of(alloc: Global, token: RowToken<'_>) -> Result<Vec<u8>, EntryError>
@@ -52,8 +53,8 @@ pub(crate) fn octets_of(alloc: Global, token: RowToken<'_>) -> Result<Vec<u8>, E
 
 /// Appends the octets that a text spells, read symbol by symbol.
 ///
-/// Fails with `Custom` if a part of the text is no symbol, and with `OutOfMemory` if out of memory. The octets of the symbols before
-/// may have been appended then.
+/// Fails with `Custom` if a part of the text is no symbol, and with `OutOfMemory` if out of memory. It may then have
+/// appended the octets of the symbols before.
 pub(crate) fn append_symbols(text: &[u8], octets: &mut Vec<u8>) -> Result<(), EntryError>
     ensures ok { OnOk result ((spelled : List ℕ) × Spells text.now spelled × (octets.new.items ≡ octets.old.items ++ spelled)) }
     ensures err { IfErr result (λ error. is_memory error ≡ false → (spelled : List ℕ) → Spells text.now spelled → ⊥) }
@@ -86,8 +87,8 @@ fn octet_of(symbol: Symbol) -> u8
 
 /// Returns the character string that a token's text spells.
 ///
-/// Fails with `Custom` if a part of the text is no symbol or it spells more than 255 octets, and with `OutOfMemory` if out of
-/// memory.
+/// Fails with `Custom` if a part of the text is no symbol or it spells more than 255 octets, and with `OutOfMemory` if
+/// out of memory.
 pub(crate) fn string_of(alloc: Global, token: RowToken<'_>) -> Result<CharStr<Vec<u8>>, EntryError>
     ensures ok { IfOk result (λ string. IsStringText token.entry.text.now string) }
     ensures err { IfErr result (λ error. is_memory error ≡ false → (string : List ℕ) → IsStringText token.entry.text.now string → ⊥) }

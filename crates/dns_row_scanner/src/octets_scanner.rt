@@ -6,7 +6,7 @@ ghost use Rattle.dns_row_scanner.specs.AppendedString.{AppendsString, AppendsStr
 
 use dns_scan::Scanner;
 
-/// A scanner that appends what the next token spells to octets, with no value between.
+/// A scanner that appends the octets of the next token directly, without a value for them.
 pub trait OctetsScanner: Scanner {
     /// Takes the next token, and appends the octets of the name that it spells (RFC 1035 3.1).
     ///
@@ -35,7 +35,7 @@ pub trait OctetsScanner: Scanner {
         ensures names { SameNames (Self.names self.old) (Self.names self.new) }
         ensures same { OnErr result (octets.new.items ≡ octets.old.items) };
 
-    /// Takes all tokens that are left, and appends the character strings that they spell, each after its length octet.
+    /// Takes all remaining tokens, and appends the character strings that they spell, each after its length octet.
     ///
     /// Fails as `scan_charstr_entry` does, and then appends nothing.
     fn scan_charstr_entry_into(&mut self, octets: &mut Vec<u8>) -> Result<(), Self::Error>

@@ -18,18 +18,18 @@ use dns_tokens::TokenSpan;
 use std::alloc::Global;
 use std::marker::PhantomData;
 
-/// A scanner over the tokens of a zone file's row (RFC 1035 5.1), which gives names of the type `N`. They are spelled under an
-/// origin, if one is known.
+/// A scanner over the tokens of a zone file's row (RFC 1035 5.1). It returns names of the type `N`. Relative names are
+/// completed with an origin, if one is known.
 #[derive(Debug, Drop)]
 pub struct RowScanner<'t, N = ScannedName> {
     alloc: Global,
     text: &'t [u8],
-    /// The place behind what was taken of the text, the quote that closes a token too.
+    /// The place after the last token that was taken and its closing quote, or the start of the row.
     place: usize,
-    /// Where the tokens stand that are left.
+    /// The places of the remaining tokens.
     left: &'t [TokenSpan],
     origin: Option<&'t Name<Vec<u8>>>,
-    /// Whether the spans are of a row that was found in the text, so that they tell in which tokens a backslash stands.
+    /// Whether the spans are of a row that was found in the text, so that they say which tokens have a backslash.
     is_row: bool,
     names: PhantomData<N>,
     ghost marked: { is_row ≡ true → All (IsPlainUnmarked text.now) left.now },
@@ -38,10 +38,10 @@ pub struct RowScanner<'t, N = ScannedName> {
 impl<'t, N> RowScanner<'t, N> {
     ghost use Rattle.dns_row_scanner.specs.RowScanner.{gap_of, names_of, origin_of, tokens_of};
 
-    /// Returns a scanner over the tokens of the spans in the text. The row begins at the place. What is scanned grows on this
-    /// allocator.
+    /// Returns a scanner over the tokens of the spans in the text. The row begins at the place. Scanned values are
+    /// allocated with `alloc`.
     ///
-    /// `read_row` finds the spans of a row. Of spans past the text's end the tokens end where the text ends.
+    /// `read_row` finds the spans of a row. If a span goes beyond the end of the text, its token ends there.
     pub fn new(
         alloc: Global,
         text: &'t [u8],
@@ -56,8 +56,8 @@ impl<'t, N> RowScanner<'t, N> {
         RowScanner::over(alloc, text, place, spans, origin, false)
     }
 
-    /// Returns a scanner over the tokens of the row that `read_row` found in the text at the place. It does not search tokens for a
-    /// backslash once more.
+    /// Returns a scanner over the tokens of the row that `read_row` found in the text at the place. It does not search
+    /// the tokens for backslashes again.
     pub fn of_row(
         alloc: Global,
         text: &'t [u8],
@@ -73,7 +73,7 @@ impl<'t, N> RowScanner<'t, N> {
         RowScanner::over(alloc, text, place, spans, origin, true)
     }
 
-    /// Returns a scanner over the tokens of the spans, which are those of a row in the text or may be any.
+    /// Returns a scanner over the tokens of the spans. They are those of a row in the text, or any.
     fn over(
         alloc: Global,
         text: &'t [u8],
@@ -98,7 +98,7 @@ impl<'t, N> RowScanner<'t, N> {
         }
     }
 
-    /// Returns the next token, which stays.
+    /// Returns the next token without taking it.
     fn peek(&self) -> Option<RowToken<'t>>
         ensures some { IfSome result (λ token. tokens_of self.now ≡ token_of token ∷ drop 1 (tokens_of self.now)) }
         ensures none { IfNone result (tokens_of self.now ≡ []) }
@@ -137,7 +137,7 @@ impl<'t, N> RowScanner<'t, N> {
         Ok(token)
     }
 
-    /// Returns the octets between what was taken and the next token.
+    /// Returns the octets between what was taken so far and the next token.
     fn gap(&self) -> &'t [u8]
         ensures { result.now ≡ gap_of self.now }
     {

@@ -9,13 +9,13 @@ use crate::octets::{are_plain, plain_word};
 /// A token of a row.
 #[derive(Clone, Copy, Debug)]
 pub(crate) struct RowToken<'t> {
-    /// The text as it is written, without quotes.
+    /// The token as it is written, without quotes.
     pub(crate) text: &'t [u8],
-    /// The text that it stands in, from it on.
+    /// The whole text from the token's start on.
     pub(crate) from: &'t [u8],
     /// Whether it is quoted.
     pub(crate) quoted: bool,
-    /// Whether it is known that no backslash stands in it.
+    /// Whether it is known to have no backslash.
     pub(crate) bare: bool,
     ghost begins: { text.now ≡ take (length text.now) from.now },
     ghost plain: { bare ≡ true → list_all is_plain text.now ≡ true },
@@ -35,15 +35,15 @@ impl<'t> RowToken<'t> {
         Some(plain_word(self.text))
     }
 
-    /// Returns whether the text has only printable characters other than the backslash. Each of them is a symbol that stands for
-    /// itself.
+    /// Returns whether the text has only printable characters other than the backslash. Each of them is a symbol that
+    /// stands for itself.
     pub(crate) fn is_plain(self) -> bool
         ensures { result ≡ list_all is_plain self.entry.text.now }
     {
         self.bare || are_plain(self.text)
     }
 
-    /// Returns whether the token is the marker of data of an unknown type (RFC 3597 5).
+    /// Returns whether the token is `\#`, the marker of unknown data (RFC 3597 5).
     pub(crate) fn is_marker(self) -> bool
         ensures { IsTrue result ↔ (token_of self.entry ≡ marker) }
     {

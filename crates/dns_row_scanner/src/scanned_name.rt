@@ -1,4 +1,4 @@
-//! Names that tokens spell, held by vectors.
+//! Names that tokens spell, stored in vectors.
 ghost use Rattle.std.specs.Prelude.{◌≡◌, List, ℕ, [], true, false, option_copied, IfOk, IfErr};
 ghost use Rattle.dns_wire.specs.Draft.{Holds};
 ghost use Rattle.dns_row_scanner.specs.EntryError.{is_memory, is_end};
@@ -33,7 +33,8 @@ impl TextName for ScannedName {
     }
 }
 
-/// Returns the name that a token's text spells under the origin, if one is known, as `TextName::scan_name` has it.
+/// Returns the name that a token's text spells under the origin, if one is known. `TextName::scan_name` says which name
+/// this is, and when the call fails.
 pub fn scan_name(
     alloc: Global,
     text: &[u8],
@@ -47,7 +48,7 @@ pub fn scan_name(
     TextName::scan_name(alloc, text, origin)
 }
 
-/// Returns the name as one that is scanned, with no labels in front. Fails if out of memory.
+/// Returns the name as a scanned one, without labels before it. Fails if out of memory.
 pub fn absolute(alloc: Global, name: Name<Vec<u8>>) -> Result<ScannedName, AllocError>
     ensures { IfOk result (λ scanned. ⟦<ScannedName as ToName>⟧.name scanned ≡ name) }
 {
@@ -58,7 +59,7 @@ pub fn absolute(alloc: Global, name: Name<Vec<u8>>) -> Result<ScannedName, Alloc
     }
 }
 
-/// Returns the finished labels as a relative name.
+/// Returns the finished labels as a relative name. Fails if out of memory.
 fn finished_labels(alloc: Global, spelling: &Spelling) -> Result<RelativeName<Vec<u8>>, AllocError>
     requires { (labels : List (List ℕ)) × Holds spelling.now labels [] }
     ensures { IfOk result (λ labels. Holds spelling.now labels []) }

@@ -1,4 +1,4 @@
-//! Names that the texts of tokens spell (RFC 1035 5.1), whatever holds them.
+//! Names that the texts of tokens spell (RFC 1035 5.1), in any storage.
 ghost use Rattle.std.specs.Prelude.{◌≡◌, ◌<◌, ◌↔◌, ◌∷◌, ◌++◌, List, ℕ, [], true, false, length, option_copied, IfOk, IfErr, IsTrue};
 ghost use Rattle.dns_label.specs.Name.{IsName, wire};
 ghost use Rattle.dns_wire.specs.Draft.{Holds, IsNew};
@@ -10,19 +10,21 @@ use dns_name::{Name, Octets, ToName};
 use dns_wire::text::Spelling;
 use std::alloc::{AllocError, Global};
 
-/// A name that the text of a token spells. What holds it grows on the allocator that is handed in, if it grows at all.
+/// A name that the text of a token spells. Its storage is allocated with the given allocator, if it allocates at all.
 pub trait TextName: ToName + Drop + Sized {
-    /// Returns the same name. Fails if out of memory.
+    /// Returns a copy of the name. Fails if out of memory.
     fn of_name<Octs: Octets>(alloc: Global, name: &Name<Octs>) -> Result<Self, AllocError>
         ensures { IfOk result (λ made. Self.name made ≡ name.now) };
 
-    /// Returns the name of the finished labels and the root. By condition there is a label. Fails if out of memory.
+    /// Returns the name of the finished labels and the root. The caller guarantees that there is a label. Fails if out
+    /// of memory.
     fn of_labels(alloc: Global, spelling: &Spelling) -> Result<Self, AllocError>
         requires labels { (labels : List (List ℕ)) × Holds spelling.now labels [] }
         requires some { IsNew spelling.now → ⊥ }
         ensures { IfOk result (λ made. Holds spelling.now (Self.name made) [] × IsName (Self.name made) × (0 < length (Self.name made))) };
 
-    /// Returns the name of the finished labels and the origin behind them. By condition they are a name. Fails if out of memory.
+    /// Returns the name of the finished labels followed by the origin. The caller guarantees that they are a name.
+    /// Fails if out of memory.
     fn of_labels_under(
         alloc: Global,
         spelling: &Spelling,
@@ -34,11 +36,12 @@ pub trait TextName: ToName + Drop + Sized {
 
     /// Returns the name that a token's text spells under the origin, if one is known (RFC 1035 5.1).
     ///
-    /// `@` alone is the origin. A name with its last dot is absolute. Behind one without it the origin follows.
+    /// `@` alone is the origin. A name with a dot at its end is absolute. A name without one is relative: the origin
+    /// follows its labels.
     ///
-    /// Fails with `Custom` if the text spells no name: if a part of it is no symbol, a label is empty or has more than 63
-    /// octets, the name has more than 255, or the origin is wanted and there is none. Fails with `OutOfMemory` if it spells a
-    /// name, and there is no memory for it.
+    /// Fails with `Custom` if the text spells no name: if a part of it is no symbol, a label is empty or has more than
+    /// 63 octets, the name has more than 255 octets, or it needs an origin and there is none. Fails with `OutOfMemory`
+    /// if it spells a name and there is no memory for it.
     final fn scan_name(
         alloc: Global,
         text: &[u8],
@@ -81,7 +84,8 @@ fn is_at_sign(text: &[u8]) -> bool
     matches!(text, [b'@'])
 }
 
-/// Returns the name of the finished labels and the root. Fails with `Custom` exactly if there is no label.
+/// Returns the name of the finished labels and the root. Fails with `Custom` exactly if there is no label, and with
+/// `OutOfMemory` if out of memory.
 fn dotted<N: TextName>(alloc: Global, spelling: &Spelling) -> Result<N, EntryError>
     requires { (labels : List (List ℕ)) × Holds spelling.now labels [] }
     ensures ok { IfOk result (λ made. Holds spelling.now (N.name made) [] × IsName (N.name made) × (0 < length (N.name made))) }
@@ -95,7 +99,8 @@ fn dotted<N: TextName>(alloc: Global, spelling: &Spelling) -> Result<N, EntryErr
     Ok(N::of_labels(alloc, spelling)?)
 }
 
-/// Returns the name of the finished labels and the origin behind them. Fails with `Custom` exactly if it is too long.
+/// Returns the name of the finished labels followed by the origin. Fails with `Custom` exactly if it is too long, and
+/// with `OutOfMemory` if out of memory.
 fn relative<N: TextName>(
     alloc: Global,
     spelling: &Spelling,
@@ -114,7 +119,7 @@ fn relative<N: TextName>(
     Ok(N::of_labels_under(alloc, spelling, origin)?)
 }
 
-/// Returns the octets of the finished labels and the root's. By condition there is a label.
+/// Returns the octets of the finished labels and the root. The caller guarantees that there is a label.
 pub(crate) fn finished_octets(spelling: &Spelling) -> &[u8]
     requires labels { (labels : List (List ℕ)) × Holds spelling.now labels [] }
     requires some { IsNew spelling.now → ⊥ }

@@ -30,7 +30,7 @@ gone_on {old} first next = record {
   is = next.is ∙ ap (λ (l : List ℕ). l ++ next.more) first.is ∙ append_assoc old first.more next.more;
 }
 
--- what was appended is cut off
+-- what was appended is cut off again
 pub cut_back : (old new : List ℕ) → GoesOn old new → take (length old) new ≡ old
 cut_back old new goes = ap (take (length old)) goes.is ∙ take-append_seam old goes.more
 
@@ -50,7 +50,7 @@ pub whole_row_appended : {names : Names} {kinds : List Kind} {tokens left : List
 whole_row_appended {old = old} {new} row are scans written =
     record { row = row; are = are; scans = scans; behind = row_behind old new row written }
 
--- a field, and the row behind it
+-- a field, and the row after it
 module _ {names later : Names} {its : Kind} {kinds : List Kind} {tokens behind : List Token} {old mid : List ℕ} (same : SameNames names later)
     (first : AppendsField names its tokens behind old mid) where
   pub row_appended : {left : List Token} {new : List ℕ} → AppendsRow later kinds behind left mid new
@@ -104,7 +104,7 @@ typed_long {rtype = rtype} {left = left} of_type appends over fits =
       long = omega (arith, over, more);
     })
 
--- data of a type, whether it is opaque or not
+-- data of a type, unknown data or not
 pub data_typed : {names : Names} {rtype : ℕ} {tokens left : List Token} {old new : List ℕ} → IsUnmarked tokens
     → AppendsTyped names rtype tokens left old new → AppendsData names rtype tokens left old new false
 data_typed {rtype = rtype} unmarked appends = record {
@@ -125,7 +125,7 @@ data_opaque names rtype tokens left old new more is ends short behind = record {
   opaque = refl;
 }
 
--- the same data, where the tokens and what names are spelled are the same
+-- the same data, if the tokens and the spelling of names are the same
 pub data_moved : {E : Type 0} (result : Result Bool E) (names later : Names) → SameNames names later → (rtype : ℕ)
     (before after left : List Token) → before ≡ after → (old new : List ℕ)
     → IfOk result (λ untyped. AppendsData later rtype before left old new untyped)
@@ -139,7 +139,7 @@ data_moved (Ok opaque) names later same rtype before after left is old new appen
 }
 data_moved (Err error) names later same rtype before after left is old new appends = tt
 
--- what the octets begin with
+-- what the new octets begin with
 pub gone_same : {old new : List ℕ} → new ≡ old → GoesOn old new
 gone_same {old} same = record { more = []; is = same ∙ sym (append-nil old) }
 

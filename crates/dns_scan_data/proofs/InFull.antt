@@ -1,4 +1,4 @@
--- Fields that are written where every name is written out.
+-- Fields that are written with every name in full.
 use Rattle.std.proofs.Common.{◌≡◌, ℕ, List, [], ◌∷◌, ◌++◌, length, refl, sym, ◌∙◌, ap, append_assoc, append-nil}
 use Rattle.dns_label.specs.Name.{wire}
 use Rattle.dns_name.specs.Page.{Page, write}
@@ -39,7 +39,7 @@ row_written old (field ∷ row) =
     ∙ row_written (old ++ field_octets field) row
     ∙ ap (λ (l : List ℕ). page_of l []) (append_assoc old (field_octets field) (octets row))
 
--- what stands behind the octets then
+-- what then follows the octets
 pub field_behind : (old new : List ℕ) (field : Field) → page_of new [] ≡ write plain (page_of old []) (written_field field End)
     → new ≡ old ++ field_octets field
 field_behind old new field is = ap (λ (p : Page). p.octets) (is ∙ field_written old field)

@@ -45,7 +45,7 @@ text_gone appends = record { more = appends.octets; is = appends.behind }
 pub no_text : (names : Names) {tokens : List Token} → SpellsNoOctets tokens → NoRowScans names (RestText ∷ []) tokens
 no_text names {tokens} none = no_rest_text names tokens none
 
--- all strings that are left
+-- all remaining strings
 pub strings_appended : {names : Names} {tokens left : List Token} {old new : List ℕ} → (tokens ≡ [] → ⊥) → AppendsStrings tokens left old new
     → AppendsRow names (Strings ∷ []) tokens left old new
 strings_appended {names} {tokens} {old = old} some appends =

@@ -11,7 +11,7 @@ pub record GoesOn (old new : List ℕ) : Type 0 where
   pub more : List ℕ
   pub is : new ≡ old ++ more
 
--- The tokens begin with a field of the kind, and these are left; the field's octets stand behind the old ones.
+-- The tokens begin with a field of the kind, and these are left; the field's octets follow the old ones.
 pub record AppendsField (names : List ℕ → List (List ℕ) → Type 0) (its : Kind) (tokens left : List Token) (old new : List ℕ) : Type 0 where
   pub field : Field
   pub kind : kind_of field ≡ its
@@ -31,7 +31,7 @@ pub record AppendsTyped (names : List ℕ → List (List ℕ) → Type 0) (rtype
   pub scans : ScansData names rtype row tokens left
   pub behind : new ≡ old ++ octets row
 
--- the same of data of the type, opaque or not, of at most 65,535 octets (RFC 1035 3.2.1)
+-- the same of data of the type, unknown data or not, of at most 65,535 octets (RFC 1035 3.2.1)
 pub record AppendsData (names : List ℕ → List (List ℕ) → Type 0) (rtype : ℕ) (tokens left : List Token) (old new : List ℕ) (untyped : Bool) : Type 0 where
   pub rdata : Data
   pub scans : ScansAnyData names rtype rdata tokens left

@@ -1,4 +1,4 @@
-//! Data of any type that is scanned into octets.
+//! Scanning data of any type into octets.
 ghost use Rattle.std.specs.Prelude.{◌≡◌, ◌∷◌, [], ℕ, Some, None, false, true, IfErr, IfOk, IsTrue, OnErr, OnOk};
 ghost use Rattle.dns_fields.specs.Fields.{Compressible as one_name, kinds_of};
 ghost use Rattle.dns_fields.specs.Scanned.{NoDataScans};
@@ -15,14 +15,14 @@ use dns_rdata::rows::{
 use dns_row_scanner::OctetsScanner;
 use dns_text::{Scanner, ScannerError, scan_unknown_octets};
 
-/// Scans data of the type from the first tokens, takes these, and appends the data's octets with every name written out
-/// (RFC 1035 5.1). Returns whether the data is opaque.
+/// Scans data of the type from the first tokens, takes these, and appends the octets of the data, every name in full
+/// (RFC 1035 5.1). Returns whether it is unknown data.
 ///
-/// If the first token is the unquoted `\#`, this is opaque data of any type (RFC 3597 5), which takes all tokens and need not
-/// have the fields of the type; a type without fields has this form alone. Tokens after the last field stay.
+/// If the first token is the unquoted `\#`, this is unknown data (RFC 3597 5). It takes all tokens, and need not have
+/// the fields of the type. A type without fields has this form alone. Tokens after the last field stay.
 ///
-/// Fails with an error other than `short_buf` only if the tokens do not begin with data of the type of at most 65,535 octets.
-/// Nothing is appended then.
+/// Fails with an error other than `short_buf` only if the tokens do not begin with data of the type of at most 65,535
+/// octets. Nothing is then appended.
 pub fn scan_data_into<S: OctetsScanner>(
     rtype: Rtype,
     scanner: &mut S,
@@ -45,7 +45,7 @@ where
     }
 }
 
-/// Scans opaque data of the type after its marker.
+/// Scans unknown data of the type after its marker.
 fn scan_opaque_into<S: Scanner>(
     rtype: Rtype,
     scanner: &mut S,
@@ -91,7 +91,7 @@ where
     }
 }
 
-/// Scans the row of the type, if it has one.
+/// Scans the row of the type. Fails if the type has none.
 fn scan_row_of_type<S: OctetsScanner>(
     rtype: Rtype,
     scanner: &mut S,
@@ -145,7 +145,7 @@ fn is_one_name(rtype: Rtype) -> bool
     )
 }
 
-/// Scans a row of the type whose fields have at most 65,535 octets.
+/// Scans a row of the type. Fails if its fields have more than 65,535 octets.
 fn scan_row_into<S: Scanner, R: ScanRowInto<S>>(
     rtype: Rtype,
     scanner: &mut S,

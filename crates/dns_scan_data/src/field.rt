@@ -1,4 +1,4 @@
-//! Fields that are scanned into octets.
+//! Scanning fields into octets.
 ghost use Rattle.std.specs.Prelude.{◌≡◌, false, IfErr, OnOk};
 ghost use Rattle.dns_fields.specs.Scanned.{NoFieldScans};
 ghost use Rattle.dns_scan.specs.Token.{SameNames};
@@ -12,10 +12,10 @@ use std::net::{Ipv4Addr, Ipv6Addr};
 
 /// A field that is scanned into octets.
 pub trait ScanFieldInto<S: Scanner>: FieldValue {
-    /// Scans the field, takes its tokens, and appends its octets with every name written out.
+    /// Scans the field, takes its tokens, and appends its octets, every name in full.
     ///
-    /// Fails with an error other than `short_buf` only if the tokens do not begin with such a field. A part of the field may
-    /// have been appended then.
+    /// Fails with an error other than `short_buf` only if the tokens do not begin with such a field. It may then have
+    /// appended a part of the field.
     fn scan_field_into(scanner: &mut S, octets: &mut Vec<u8>) -> Result<(), S::Error>
         ensures ok { OnOk result (AppendsField (S.names scanner.old) Self.kind (S.tokens scanner.old) (S.tokens scanner.new)
             octets.old.items octets.new.items) }

@@ -1,6 +1,7 @@
-//! Data of a record, scanned from the tokens of an entry straight into octets (RFC 1035 5.1 and 3.2.1).
+//! Data of a record, scanned from the tokens of an entry directly into octets (RFC 1035 5.1 and 3.2.1).
 //!
-//! A part of `dns_zonefile`. A field is scanned and its octets are appended at once, so nothing holds the data as a value.
+//! A part of `dns_zonefile`. Each field is scanned and its octets are appended at once, so the data is never built as a
+//! value.
 #![tactic(auto)]
 
 mod data;

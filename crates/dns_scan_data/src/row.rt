@@ -1,4 +1,4 @@
-//! Rows of fields that are scanned into octets.
+//! Scanning rows of fields into octets.
 ghost use Rattle.std.specs.Prelude.{◌≡◌, false, IfErr, OnOk};
 ghost use Rattle.dns_fields.specs.Scanned.{NoRowScans};
 ghost use Rattle.dns_scan.specs.Token.{SameNames};
@@ -12,10 +12,10 @@ use dns_text::{Scanner, ScannerError};
 
 /// A row that is scanned into octets.
 pub trait ScanRowInto<S: Scanner>: Row {
-    /// Scans the fields one after another, takes their tokens, and appends their octets with every name written out.
+    /// Scans the fields one after another, takes their tokens, and appends their octets, every name in full.
     ///
-    /// Fails with an error other than `short_buf` only if the tokens do not begin with such fields. Some of them may have been
-    /// appended then.
+    /// Fails with an error other than `short_buf` only if the tokens do not begin with such fields. It may then have
+    /// appended some of them.
     fn scan_fields_into(scanner: &mut S, octets: &mut Vec<u8>) -> Result<(), S::Error>
         ensures ok { OnOk result (AppendsRow (S.names scanner.old) Self.kinds (S.tokens scanner.old) (S.tokens scanner.new)
             octets.old.items octets.new.items) }
@@ -66,7 +66,7 @@ impl<Octs: FromBuilder + Drop, S: Scanner<Octets = Octs>> ScanRowInto<S> for Las
     }
 }
 
-/// Each token is a string. One is needed at least.
+/// Each token is a string. There must be at least one.
 impl<Octs: FromBuilder + Drop, S: OctetsScanner<Octets = Octs>> ScanRowInto<S>
     for Last<Strings<Octs>> {
     fn scan_fields_into(scanner: &mut S, octets: &mut Vec<u8>) -> Result<(), S::Error> {

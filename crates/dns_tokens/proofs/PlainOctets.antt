@@ -1,4 +1,4 @@
--- Octets that stand in a token for themselves: each is a symbol of it, and no other character is.
+-- Octets that stand for themselves in a token: each is a symbol of it, and no other character is.
 use Rattle.std.proofs.Common.{◌≡◌, ◌==◌, ◌||◌, ℕ, ◌+◌, ◌≤◌, Bool, true, false, not, nat_lt, cond, if◌then◌else◌, suc, List, [], ◌∷◌, take, drop, refl, sym, ◌∙◌, ap, subst, arith}
 use Rattle.std.proofs.lemmas.Bool.{or_parts, or_from, not-true, le-ltb, ltb-false, eqb-false, ne_eqb, cond-false}
 use Rattle.std.proofs.lemmas.List.{drop-drop}
@@ -33,7 +33,7 @@ plain_sound : (quoted : Bool) (octet : ℕ) → is_plain_in quoted octet ≡ tru
 plain_sound true octet is = quotes_sound octet is
 plain_sound false octet is = word_sound octet is
 
--- what is refused is none
+-- an octet that passes is not refused
 not_refused : (refused : Bool) → (if refused then false else true) ≡ true → refused ≡ false
 not_refused true is = sym is
 not_refused false is = refl

@@ -14,7 +14,7 @@ use Rattle.dns_tokens.specs.TokenSpan.{IsMarked, NoNext, token_in}
 use Rattle.dns_tokens.specs.declared.token_span.TokenSpan.{TokenSpan}
 use Rattle.dns_tokens.proofs.Steps.{one_next}
 
--- less is left
+-- the rest is shorter
 feed_shorter : (octet : ℕ) (text : List ℕ) (feed : Bool) → length (from_feed text) ≤ length text
     → length (if feed then octet ∷ text else from_feed text) ≤ length (octet ∷ text)
 feed_shorter octet text true behind = omega arith
@@ -38,7 +38,7 @@ pub row_shorter : {inside : Bool} {text rest : List ℕ} {tokens : List Token} �
 row_shorter (end next) = next_shorter next
 row_shorter (token out left next others) = omega (arith, next_shorter next, row_shorter others)
 
--- the row behind its first token
+-- the row after its first token
 row_behind : {inside out : Bool} {text left rest : List ℕ} {found : Token} {tokens : List Token} → Next inside text (Some found) out left
     → Row inside text tokens rest → (others : List Token) × Row out left others rest
 row_behind {found = found} first (end {rest = rest} next) =
@@ -47,7 +47,7 @@ row_behind {out = out} {left = left} {rest = rest} first (token {found = found'}
     let same = one_next first (Some found') out' left' next in
     (others, subst (λ (b : Bool). Row b left others rest) (sym same.outs) (subst (λ (l : List ℕ). Row out' l others rest) (sym same.rests) row))
 
--- The tokens so far: the row goes on with those of what is left, and with no others.
+-- The tokens so far: the row goes on with those of the rest, and with no others.
 pub record Held (text : List ℕ) (place : ℕ) (spans : List TokenSpan) (inside : Bool) (left : List ℕ) : Type 0 where
   pub on : (others : List Token) (rest : List ℕ) → Row inside left others rest
       → Row false (drop place text) (map (λ span. token_in text span) spans ++ others) rest
@@ -115,7 +115,7 @@ pub held_broken : {text left : List ℕ} {place : ℕ} {spans : List TokenSpan} 
     → NoNext inside left → NoRow (drop place text)
 held_broken held none tokens rest row = let left_row = held.back tokens rest row in none_of_row none left_row.1
 
--- white space in front
+-- white space at the start
 pub led_at : (text : List ℕ) (place : ℕ) → place < length text → is_led (drop place text) ≡ is_gap (get_or text place 0)
 led_at text place within = ap is_led (drop_more text place 0 within)
 

@@ -1,4 +1,5 @@
--- One token follows at a place: what the octet in front says of it, and how white space, comments and parentheses are passed.
+-- At most one token follows at a place: what the first octet decides, and how white space, comments and parentheses are
+-- passed.
 use Rattle.std.proofs.Common.{◌≡◌, ℕ, ◌+◌, ◌-◌, ◌<◌, ◌≤◌, Bool, true, false, List, [], ◌∷◌, ◌++◌, length, drop, get_or, Option, Some, None, refl, sym, ◌∙◌, ap, subst, arith}
 use Rattle.std.proofs.lemmas.List.{drop_all, drop_more, length-drop, length-take-le}
 use Rattle.std.proofs.lemmas.Bool.{false≢true}
@@ -22,7 +23,7 @@ record Reads (is_quoted : Bool) (text : List ℕ) (behind : List ℕ → List �
   pub found_is : found ≡ Some (record { quoted = is_quoted; text = front })
   pub out_is : out ≡ inside
 
--- what the octet in front says of what follows
+-- what the first octet says of what follows
 abbrev After : Bool → ℕ → Head → List ℕ → Option Token → Bool → List ℕ → Type 0
 After inside octet (Go behind) text found out rest = Next behind text found out rest
 After inside octet Comment text found out rest = Next inside (from_feed text) found out rest
@@ -54,7 +55,7 @@ after_at inside octet text rest found out head is next = along inside octet text
 nothing_next : {inside : Bool} {found : Option Token} {out : Bool} {rest : List ℕ} → Next inside [] found out rest → ⊥
 nothing_next next = elim next [ ]
 
--- a run of symbols is one
+-- there is at most one longest run of symbols
 same_run : (is_quoted : Bool) (text front front' rest rest' : List ℕ) → IsRun is_quoted text front rest → IsRun is_quoted text front' rest'
     → (front ≡ front') × (rest ≡ rest')
 same_run is_quoted text front front' rest rest' run run' =
@@ -62,7 +63,7 @@ same_run is_quoted text front front' rest rest' run run' =
     (sym (ap (λ l. l ++ rest) run.written) ∙ sym run.whole ∙ run'.whole ∙ ap (λ l. l ++ rest') run'.written) in
     (run.written ∙ ap (flat_map spelled) found.0 ∙ sym run'.written, found.1)
 
--- one token follows at a place
+-- at most one token follows at a place
 pub record Same (found found' : Option Token) (out out' : Bool) (rest rest' : List ℕ) : Type 0 where
   pub founds : found ≡ found'
   pub outs : out ≡ out'
@@ -134,7 +135,7 @@ module _ {start : Bool} {first : List ℕ} (text : List ℕ) (place : ℕ) (with
   pub next_feed : head_of inside (get_or text place 0) ≡ Feed → Next start first None false (drop (place + 1) text)
   next_feed head = on_to None false (drop (place + 1) text) (ended _ head)
 
-  -- a parenthesis that must not stand there
+  -- a parenthesis that is not allowed there
   pub none_refused : head_of inside (get_or text place 0) ≡ Refused → NoNext start first
   none_refused head = λ found out rest next. after_at inside _ _ rest found out Refused head (back_to found out rest next)
 
@@ -200,6 +201,6 @@ none_word inside text place end within head to none found out rest next =
     length-take-le (end.place - place) (drop place text) (omega (arith, none)) in
     omega (arith, len, none, ap (length {A = ℕ}) fronts, after.some refl)
 
--- on a failed `?` what is said of None holds
+-- if `?` returns early, what holds of None holds
 pub none_given : {X : Type 0} {r : Option X} {P : Type 0} → r ≡ None → P → IfNone r P
 none_given {X} {r} {P} is p = subst (λ (o : Option X). IfNone o P) (sym is) p

@@ -1,4 +1,4 @@
--- Symbols of a token, taken off the front of a text.
+-- Symbols of a token, taken from the start of a text.
 use Rattle.std.proofs.Common.{◌≡◌, ◌==◌, ◌||◌, ℕ, ◌+◌, ◌-◌, ◌<◌, ◌≤◌, Bool, true, false, cond, List, [], ◌∷◌, ◌++◌, length, map, take, drop, refl, sym, ◌∙◌, ap, subst, arith, append_assoc, length-append}
 use Rattle.std.proofs.Math.Seq.{take-append_seam, drop-append_seam}
 use Rattle.std.proofs.lemmas.List.{append-nil, drop-drop, length-drop, take-append-drop}
@@ -15,7 +15,7 @@ use Rattle.dns_tokens.specs.TokenSpan.{has_backslash}
 use Rattle.dns_tokens.specs.declared.token_end.TokenEnd.{TokenEnd}
 use Rattle.dns_tokens.proofs.PlainOctets.{ArePlain, plain_complete, plain_unmarked, run_over, run_plain}
 
--- symbols of a token before the rest, and whether a backslash stands in them
+-- symbols of a token before the rest, and whether they have a backslash
 pub record Taken (quoted : Bool) (text rest : List ℕ) (marked : Bool) : Type 0 where
   pub symbols : List Symbol
   pub each : AllByRecursion (IsIn quoted) symbols
@@ -82,7 +82,7 @@ taken_more {quoted} {text} {rest} {behind} {marked} {marked'} taken more =
           ∙ ap (λ b. b || has_backslash (flat_map spelled more.symbols)) taken.is_marked ∙ ap (λ b. marked || b) more.is_marked;
     }
 
--- so is an escape with the plain octets behind it
+-- so is an escape with the plain octets after it
 marked_then : (marked : Bool) → ((marked || true) || false) ≡ true
 marked_then true = refl
 marked_then false = refl
@@ -94,12 +94,12 @@ taken_on {quoted} {text} {rest} {behind} {marked} taken has =
     subst (λ (b : Bool). Taken quoted text end b) (marked_then marked)
     (taken_more (taken_more taken (taken_escape quoted rest behind has)) (taken_plain quoted behind))
 
--- so that less is left
+-- so the rest is shorter
 pub escape_shorter : {text rest : List ℕ} → HasEscape text rest → length rest < length text
 escape_shorter {rest = rest} has =
     omega (arith, ap (length {A = ℕ}) has.whole, length-append (spelled has.symbol) rest, ap (length {A = ℕ}) has.escape)
 
--- the run ends where neither a plain octet follows nor an escape
+-- the run ends if neither a plain octet follows nor an escape
 pub ends_run : (quoted : Bool) (text : List ℕ) → prefix_len (is_plain_in quoted) text ≡ 0 → NoEscape text → EndsToken quoted text
 ends_run quoted text none no_escape (Char c) rest is at =
     let plain : cond (is_plain_in quoted c) (1 + prefix_len (is_plain_in quoted) rest) 0 ≡ 0 = sym (ap (prefix_len (is_plain_in quoted)) at) ∙ none in
@@ -111,7 +111,7 @@ ends_run quoted text none no_escape (SimpleEscape c) rest is at =
 ends_run quoted text none no_escape (DecimalEscape n) rest is at =
     no_escape rest (record { symbol = DecimalEscape n; octets = three_digits n; is_symbol = is.0; escape = refl; whole = at })
 
--- where a run ends in a text
+-- the end of a run in a text
 pub runs_to : (quoted : Bool) (text : List ℕ) (place : ℕ) (end : TokenEnd) → place ≤ end.place → end.place ≤ length text
     → Taken quoted (drop place text) (drop end.place text) end.has_escape → prefix_len (is_plain_in quoted) (drop end.place text) ≡ 0
     → NoEscape (drop end.place text) → RunsTo quoted text place end

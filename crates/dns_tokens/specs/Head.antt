@@ -1,4 +1,4 @@
--- What an octet means between two tokens, as the code has it.
+-- The code's value for the meaning of an octet between two tokens.
 use Rattle.dns_text.specs.Tokens.{Head as SpecHead}
 use Rattle.dns_text.specs.Tokens.Head.{Go as goes, Comment as comment, Feed as feed, Quote as quote, Word as word, Refused as refused}
 use Rattle.dns_tokens.specs.declared.head.Head.{Head}

@@ -1,4 +1,4 @@
--- The octets that stand in tokens and comments for themselves (RFC 1035 5.1), as tests.
+-- The octets that stand for themselves in tokens and comments (RFC 1035 5.1), as tests.
 use Rattle.std.specs.Prelude.{◌==◌, ◌||◌, ℕ, Bool, true, false, nat_lt, not}
 
 -- in an unquoted token: a printable character other than a space, `"`, `(`, `)`, `;` and the backslash

@@ -1,4 +1,4 @@
--- What stands at a place of a text (RFC 1035 5.1).
+-- What is at a place of a text (RFC 1035 5.1).
 use Rattle.std.specs.Prelude.{◌≡◌, ◌<◌, ◌≤◌, ℕ, Bool, true, false, List, All, drop, length, map}
 use Rattle.dns_scan.specs.Token.{Token}
 use Rattle.dns_text.specs.Rows.{is_led}
@@ -16,7 +16,7 @@ pub record IsRowAt (text : List ℕ) (place : ℕ) (spans : List TokenSpan) (nex
   pub behind : place < next
   pub within : next ≤ length text
 
--- no row stands there
+-- there is no row
 abbrev pub NoRow : List ℕ → Type 0
 NoRow text = (tokens : List Token) (rest : List ℕ) → Row false text tokens rest → ⊥
 

@@ -1,4 +1,4 @@
--- What a reader of rows is seen as: a text, what is left of it, and whether that stands inside parentheses.
+-- The view of a reader of rows: a text, the rest of it, and whether that is inside parentheses.
 use Rattle.std.specs.Prelude.{ℕ, Bool, List, drop}
 use Rattle.dns_tokens.specs.declared.row_reader.RowReader.{RowReader}
 

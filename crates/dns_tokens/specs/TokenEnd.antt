@@ -1,4 +1,4 @@
--- Where tokens end. Only contracts inside the crate speak of it.
+-- The ends of tokens. Only contracts inside the crate name them.
 use Rattle.std.specs.Prelude.{◌≡◌, ◌-◌, ℕ, Bool, List, ◌∷◌, ◌++◌, take, drop}
 use Rattle.dns_label.specs.declared.symbol.Symbol.{Symbol}
 use Rattle.dns_label.specs.Symbol.{IsSymbol, spelled}
@@ -23,6 +23,6 @@ pub record HasEscape (text rest : List ℕ) : Type 0 where
   pub escape : spelled symbol ≡ 92 ∷ octets
   pub whole : text ≡ spelled symbol ++ rest
 
--- there is none
+-- there is no escape
 abbrev pub NoEscape : List ℕ → Type 0
 NoEscape text = (rest : List ℕ) → HasEscape text rest → ⊥

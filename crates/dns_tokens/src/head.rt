@@ -6,13 +6,13 @@ ghost use Rattle.dns_tokens.specs.Head.{head_in};
 /// What an octet means between two tokens, outside or inside parentheses.
 #[derive(Clone, Copy)]
 pub(crate) enum Head {
-    /// Nothing. Whether what follows stands inside parentheses.
+    /// Nothing. Says whether what follows is inside parentheses.
     Go(bool),
     Comment,
     Feed,
     Quote,
     Word,
-    /// It must not stand there.
+    /// The octet is not allowed there.
     Refused,
 }
 
@@ -20,7 +20,7 @@ pub(crate) enum Head {
 pub(crate) fn head_of(inside: bool, octet: u8) -> Head
     ensures { spec_head_of inside octet ≡ head_in result }
 {
-    // Most octets that are asked for are a space, a letter or a digit.
+    // Most octets here are a space, a letter or a digit.
     if octet == b' ' {
         return Head::Go(inside);
     }

@@ -1,13 +1,13 @@
 //! The tokens and rows of a zone file's text (RFC 1035 5.1).
 //!
-//! A part of `dns_zonefile`. A row is read in one pass, and its tokens are places in the text:
+//! A part of `dns_zonefile`. A row is read in one pass. Its tokens are places in the text:
 //!
 //! ```text
 //! name.example. 3600 IN TXT "a string" ( more ; a comment
 //!     words )
 //! ```
 //!
-//! A line feed ends the row outside parentheses. Inside it is white space, as a space, a tab and a carriage return are.
+//! Outside parentheses a line feed ends the row. Inside, it is white space, like a space, a tab and a carriage return.
 #![tactic(auto)]
 
 mod head;

@@ -1,4 +1,4 @@
-//! The octets that stand in tokens and comments for themselves.
+//! Plain octets: those that stand for themselves, in tokens and comments.
 ghost use Rattle.std.specs.Prelude.{◌≡◌, ◌≤◌, ◌+◌, drop, length};
 ghost use Rattle.std.specs.List.{prefix_len};
 ghost use Rattle.dns_text.specs.Tokens.{from_feed};
@@ -7,7 +7,7 @@ ghost use Rattle.dns_tokens.specs.Octets.{is_in_comment, is_in_quotes, is_in_wor
 use dns_name::{OctetKind, run_end};
 use std::simd::prelude::*;
 
-/// Returns where the octets end that stand in a token for themselves, one after another from the place on.
+/// Returns the end of the run of plain octets of a token that starts at `place`.
 #[inline(always)]
 pub(crate) fn plain_end(text: &[u8], place: usize, quoted: bool) -> usize
     requires { place ≤ length text.now }
@@ -21,7 +21,7 @@ pub(crate) fn plain_end(text: &[u8], place: usize, quoted: bool) -> usize
     }
 }
 
-/// Returns the place of the first line feed from the place on, or the end of the text if there is none.
+/// Returns the place of the first line feed at or after `place`, or the end of the text if there is none.
 pub(crate) fn comment_end(text: &[u8], place: usize) -> usize
     requires { place ≤ length text.now }
     ensures feed { drop result text.now ≡ from_feed (drop place text.now) }
@@ -31,7 +31,7 @@ pub(crate) fn comment_end(text: &[u8], place: usize) -> usize
     run_end::<CommentOctets>(text, place)
 }
 
-/// Octets that stand in an unquoted token for themselves.
+/// Octets that stand for themselves in an unquoted token.
 struct WordOctets;
 
 impl OctetKind for WordOctets {
@@ -50,7 +50,7 @@ impl OctetKind for WordOctets {
     }
 }
 
-/// Octets that stand in a quoted token for themselves.
+/// Octets that stand for themselves in a quoted token.
 struct QuotedOctets;
 
 impl OctetKind for QuotedOctets {

@@ -9,25 +9,25 @@ use crate::octets::comment_end;
 use crate::{RowReader, TokenSpan};
 use std::alloc::AllocError;
 
-/// What stands at a place of a text.
+/// What is at a place of a text.
 #[derive(Clone, Copy, Debug)]
 pub enum RowFound {
     /// A row.
     Row {
-        /// The place behind its line feed.
+        /// The place after its line feed.
         next: usize,
-        /// Whether white space leads it. Such a row has the owner of the record before it.
+        /// Whether it begins with white space. Such a row has the owner of the record before it.
         led: bool,
     },
-    /// The end of the text, perhaps behind white space and a comment.
+    /// The end of the text, perhaps after white space and a comment.
     End,
-    /// Neither. Nothing behind the place is read.
+    /// Neither. Nothing after the place is read.
     Broken,
 }
 
-/// Reads the row at the place (RFC 1035 5.1). Its tokens, perhaps none, take the place of those in the vector.
+/// Reads the row at the place (RFC 1035 5.1). Its tokens, perhaps none, replace those in `tokens`.
 ///
-/// Without a row at the place the vector holds no tokens of use. Fails only if the vector cannot grow.
+/// If there is no row at the place, the contents of `tokens` are unspecified. Fails if out of memory.
 pub fn read_row(
     text: &[u8],
     place: usize,
@@ -51,7 +51,7 @@ pub fn read_row(
     }
 }
 
-/// Returns what stands at a place where no row stands.
+/// Returns what is at a place without a row.
 fn end_or_broken(text: &[u8], place: usize) -> RowFound
     requires { NoRow (drop place text.now) }
     ensures { (spans : List TokenSpan) → StandsAt text.now place spans result }
@@ -63,14 +63,14 @@ fn end_or_broken(text: &[u8], place: usize) -> RowFound
     }
 }
 
-/// Returns whether white space stands at the place.
+/// Returns whether there is white space at the place.
 fn is_led_at(text: &[u8], place: usize) -> bool
     ensures { result ≡ is_led (drop place text.now) }
 {
     place < text.len() && matches!(text[place], b' ' | b'\t' | b'\r')
 }
 
-/// Returns whether the text ends at the place, perhaps behind white space and a comment.
+/// Returns whether the text ends at the place, perhaps after white space and a comment.
 fn is_end_at(text: &[u8], place: usize) -> bool
     ensures { result ≡ is_end (drop place text.now) }
 {

@@ -10,18 +10,19 @@ use crate::head::{Head, head_of};
 use crate::octets::comment_end;
 use crate::token_end::token_end;
 
-/// What stands next in a row, and where the text goes on.
+/// What comes next in a row, and where the text goes on.
 #[derive(Clone, Copy)]
 pub(crate) struct Step {
     /// The token. None if the row ends.
     pub(crate) found: Option<TokenSpan>,
-    /// The place behind it, or behind the line feed.
+    /// The place after it, or after the line feed.
     pub(crate) place: usize,
-    /// Whether that place stands inside parentheses.
+    /// Whether that place is inside parentheses.
     pub(crate) inside: bool,
 }
 
-/// Returns the next step of a row from a place inside parentheses or outside. None if there is none.
+/// Returns the next step of a row from a place inside or outside parentheses. Returns None if neither a token nor the
+/// end of the row follows.
 pub(crate) fn next_step(text: &[u8], place: usize, inside: bool) -> Option<Step>
     requires { place ≤ length text.now }
     ensures found { IfSome result (λ step. StepsTo inside text.now place step) }
@@ -51,7 +52,7 @@ pub(crate) fn next_step(text: &[u8], place: usize, inside: bool) -> Option<Step>
     None
 }
 
-/// Returns the step over the quoted token at the place. None if no quote closes it.
+/// Returns the step over the quoted token at the place, or None if no quote closes it.
 fn step_over_quoted(text: &[u8], place: usize, inside: bool) -> Option<Step>
     requires within { place < length text.now }
     requires quote { spec_head_of inside (slice_index text.now place) ≡ Quote }
@@ -76,7 +77,7 @@ fn step_over_quoted(text: &[u8], place: usize, inside: bool) -> Option<Step>
     })
 }
 
-/// Returns the step over the unquoted token at the place. None if no symbol stands there.
+/// Returns the step over the unquoted token at the place, or None if there is no symbol.
 fn step_over_word(text: &[u8], place: usize, inside: bool) -> Option<Step>
     requires within { place < length text.now }
     requires word { spec_head_of inside (slice_index text.now place) ≡ Word }

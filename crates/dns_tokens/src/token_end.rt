@@ -1,4 +1,4 @@
-//! Where tokens end: behind their longest run of symbols.
+//! The ends of tokens: after their longest run of symbols.
 ghost use Rattle.std.specs.Prelude.{◌≤◌, length, drop, IfSome, IfNone};
 ghost use Rattle.dns_tokens.specs.TokenEnd.{HasEscape, NoEscape, RunsTo};
 
@@ -8,13 +8,14 @@ use dns_name::Symbol;
 /// The end of a token's text.
 #[derive(Clone, Copy)]
 pub(crate) struct TokenEnd {
-    /// The place behind its last octet.
+    /// The place after its last octet.
     pub(crate) place: usize,
-    /// Whether a backslash stands in it.
+    /// Whether it has a backslash.
     pub(crate) has_escape: bool,
 }
 
-/// Returns where the longest run of a token's symbols ends that begins at the place. Each token takes one call, so it is inlined.
+/// Returns the end of the longest run of a token's symbols that starts at `place`. It is called once per token, so it
+/// is inlined.
 #[inline(always)]
 pub(crate) fn token_end(text: &[u8], place: usize, quoted: bool) -> TokenEnd
     requires { place ≤ length text.now }
@@ -34,7 +35,7 @@ pub(crate) fn token_end(text: &[u8], place: usize, quoted: bool) -> TokenEnd
     }
 }
 
-/// Returns the place behind the escape that begins at the place. None if no escape begins there.
+/// Returns the place after the escape at `place`, or None if there is no escape.
 fn escape_end(text: &[u8], place: usize) -> Option<usize>
     requires { place ≤ length text.now }
     ensures found { IfSome result (λ end. HasEscape (drop place text.now) (drop end text.now)) }

@@ -1,7 +1,7 @@
-//! Places of tokens in a text.
+//! The places of tokens in a text.
 ghost use Rattle.std.specs.Prelude.{◌≡◌};
 
-/// The place of a token in a text. The quotes of a quoted token are outside it.
+/// The place of a token in a text. The quotes of a quoted token are not part of it.
 #[derive(Clone, Copy, Debug)]
 pub struct TokenSpan {
     pub(crate) start: usize,
@@ -13,14 +13,14 @@ pub struct TokenSpan {
 impl TokenSpan {
     ghost use Rattle.dns_tokens.specs.TokenSpan.{is_marked, is_quoted, len_of, start_of, token_in};
 
-    /// Returns the place in the text of the token's first octet.
+    /// Returns the place of the token's first octet in the text.
     pub fn start(&self) -> usize
         ensures { result ≡ start_of self.now }
     {
         self.start
     }
 
-    /// Returns the length of the token in octets. A quoted token may have none.
+    /// Returns the length of the token in octets. A quoted token may be empty.
     pub fn len(&self) -> usize
         ensures { result ≡ len_of self.now }
     {
@@ -34,15 +34,15 @@ impl TokenSpan {
         self.quoted
     }
 
-    /// Returns whether a backslash stands in the token.
+    /// Returns whether the token has a backslash.
     pub fn has_escape(&self) -> bool
         ensures { result ≡ is_marked self.now }
     {
         self.has_escape
     }
 
-    /// Returns the same, built of its fields. What is pushed then is the fields alone, where a copy of the whole takes the octets
-    /// between them along.
+    /// Returns the same, built from its fields. A push then writes the fields alone; a copy of the whole would include
+    /// the padding between them.
     #[inline(always)]
     pub(crate) fn by_fields(self) -> TokenSpan
         ensures { result ≡ self }
@@ -57,7 +57,7 @@ impl TokenSpan {
 
     /// Returns the token as it is written in the text that it was read from, without quotes.
     ///
-    /// In a shorter text the token ends where that text ends.
+    /// In a shorter text, the token ends where that text ends.
     pub fn text<'t>(&self, of: &'t [u8]) -> &'t [u8]
         ensures { result.now ≡ (token_in of.now self.now).text }
     {

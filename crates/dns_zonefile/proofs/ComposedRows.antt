@@ -31,7 +31,7 @@ use Rattle.dns_zonefile.specs.Seen.{row_of}
 use Rattle.dns_zonefile.proofs.OneStatement.{one_head}
 use Rattle.dns_zonefile.proofs.Records.{number_is, one_rest, says_record}
 
--- two octets in front of the data, written over
+-- two octets before the data, written over
 pub counted : (old more over : List ℕ) → length over ≡ 2 → patched ((old ++ 0 ∷ 0 ∷ []) ++ more) (length old) over ≡ old ++ (over ++ more)
 counted old more over two =
     let place : length old + length over ≡ length (old ++ 0 ∷ 0 ∷ []) = omega (arith, two, length-append old (0 ∷ 0 ∷ [])) in
@@ -41,7 +41,7 @@ counted old more over two =
     ap (λ (n : ℕ). drop n ((old ++ 0 ∷ 0 ∷ []) ++ more)) place ∙ drop-append_seam (old ++ 0 ∷ 0 ∷ []) more in
     λ i. front i ++ (over ++ behind i)
 
--- data up to the row's end, behind its length
+-- data up to the row's end, after its length
 module _ {names : Names} {rtype : ℕ} {tokens left : List Token} {zeros mid : List ℕ} {opaque : Bool} (old : List ℕ) (room : zeros ≡ old ++ 0 ∷ 0 ∷ [])
     (appends : AppendsData names rtype tokens left zeros mid opaque) where
   wide : length zeros ≡ length old + 2
@@ -75,7 +75,7 @@ module _ {names : Names} {rtype : ℕ} {tokens left : List Token} {zeros mid : L
   pub has_room : (place : ℕ) → place ≡ length zeros → (place - 2) + 2 ≤ length mid
   has_room place at = omega (arith, at, wide, longer)
 
--- what a statement states that is a record's
+-- what a statement of a record states
 named' : {context : Context} {statement : Statement} {entry : Entry} {after : Context} {stated : Stated} → Enters context statement entry after
     → statement ≡ StateRecord stated → (owner : List (List ℕ)) × (option_or stated.owner context.owner ≡ Some owner)
 named' Enters.origin same = absurd cc
@@ -103,7 +103,7 @@ said : {names : Names} {row : TokenRow} {statement : Statement} → (IsDirective
 said bare (Says.directive is told) = absurd (bare is)
 said bare (Says.resource {stated = stated} is) = (stated, refl, is)
 
--- a record that the context makes none
+-- a record that makes no entry in the context
 module _ {names : Names} {row : TokenRow} {context : Context} {statement : Statement} {entry : Entry} {after : Context}
     (bare : IsDirective row → ⊥) (says : Says names row statement) (enters : Enters context statement entry after) where
   pub unowned : HasNoOwner names context row → ⊥
@@ -236,7 +236,7 @@ module _ {names later last : Names} {row : TokenRow} {ttl class : Option ℕ} {r
         opaque = composes.opaque;
       }
 
--- its owner stands first
+-- its owner comes first
 pub record_begins : {names : Names} {context : Context} {row : TokenRow} {it : ComposedRecord} {old new : List ℕ} (front : List ℕ) (place : ℕ)
     → place ≡ length old → front ≡ drop place new → (composes : ComposesRecord names context row it old new)
     → BeginsWithName front it.owner_len composes.rr.owner
@@ -250,7 +250,7 @@ record_begins {old = old} {new} front place at is composes =
       long = composes.owner_len;
     }
 
--- the record is handed on
+-- the record in the form of octets
 pub record_handed : {origin : Option (List (List ℕ))} {row row' : TokenRow} {context after : Context} {it : ComposedRecord} {old new : List ℕ}
     {owner : List (List ℕ)} → origin ≡ context.origin → row ≡ row' → (composes : ComposesRecord (SpellsUnder origin) context row it old new)
     → owner ≡ composes.rr.owner → after ≡ record context { owner = Some owner; last_ttl = it.last_ttl; class = Some it.class }
@@ -272,7 +272,7 @@ record_handed {context = context} {after} {it} {old} {new} origins rows composes
       ),
     )
 
--- the name that octets begin with
+-- the name at the start of octets
 begins_whole : {octets : List ℕ} {len : ℕ} {name : List (List ℕ)} → BeginsWithName octets len name → take len octets ≡ wire name
 begins_whole {name = name} begins = (λ i. take (begins.long i) (begins.is i)) ∙ take-append_seam (wire name) begins.rest
 

@@ -22,7 +22,7 @@ use Rattle.dns_zonefile.specs.declared.statement.directive.DirectiveWord.TheVari
 abbrev pub IsUnquoted : Token → Type 0
 IsUnquoted token = (text : List ℕ) × (token ≡ unquoted text)
 
--- a word and what stands behind it are a directive
+-- a word and what follows it are a directive
 pub to_directs : {names : Names} {word : DirectiveWord} {token : Token} {tokens left : List Token} {statement : Statement}
     → IsUnquoted token → IsWordOf word token → Argues names word tokens statement left → left ≡ [] → Directs names (token ∷ tokens) statement
 to_directs {names} {word} {token} bare is (origin {text = text} {name = name} {left = left} spells) none =
@@ -35,7 +35,7 @@ to_directs {names} {word} {token} bare is (include_at {token = second} {path = p
     subst (λ (l : List Token). Directs names (token ∷ second ∷ unquoted text ∷ l) (NameFile path (Some name))) (sym none)
     (directs_include_at (bare.0, bare.1, ap (λ (t : Token). map to_ascii_lowercase t.text) (sym bare.1) ∙ is) unquoted' spells ascii under)
 
--- A directive is a word and what stands behind it.
+-- A directive is a word and what follows it.
 pub record Behind (names : Names) (tokens : List Token) (statement : Statement) : Type 0 where
   pub word : DirectiveWord
   pub takes : Takes (IsWordOf word) tokens (drop 1 tokens)
@@ -76,7 +76,7 @@ word_one {word} {other} {left = left} {rest = rest} takes also =
     let first : takes.token ≡ also.token = cc in
     words_differ word other (sym takes.fits ∙ ap (λ (t : Token). map to_ascii_lowercase t.text) first ∙ also.fits)
 
--- no directive where there is no such word, nothing that is stated behind it, or more behind that
+-- no directive, if there is no such word, nothing is stated after it, or more comes after that
 pub no_word : {names : Names} {tokens : List Token} {statement : Statement}
     → ((word : DirectiveWord) (left : List Token) → Takes (IsWordOf word) tokens left → ⊥) → Directs names tokens statement → ⊥
 no_word {tokens = tokens} none directs = let is = of_directs directs in none is.word (drop 1 tokens) is.takes
@@ -151,7 +151,7 @@ quoted_not_bare {left = left} {rest = rest} {text = text} takes is =
     let first : takes.token ≡ unquoted text = cc in
     let bad : true ≡ false = sym takes.fits ∙ ap (λ (t : Token). t.quoted) first in cc
 
--- what stands behind `$include`
+-- what follows `$include`
 pub path_alone : {names : Names} {tokens mid behind left : List Token} {text path : List ℕ} → tokens ≡ unquoted text ∷ mid
     → Takes (SpellsOctets path) tokens behind → IsAscii path → behind ≡ [] → left ≡ behind → Argues names Include tokens (NameFile path None) left
 path_alone {names} {tokens} {mid} {behind} {left} {text} {path} is takes ascii none at =
@@ -172,7 +172,7 @@ path_and_origin {names} {tokens} {mid} {behind} {left} {text} {path} {origin_tex
     subst (λ (l : List Token). Argues names Include l (NameFile path (Some name)) left)
     (sym (takes.is ∙ ap (λ (l : List Token). takes.token ∷ l) more)) (include_at first takes.fits ascii spells)
 
--- The path, and what stands behind it.
+-- The path, and what follows it.
 record Path (names : Names) (tokens left : List Token) : Type 0 where
   text : List ℕ
   octets : List ℕ
@@ -231,7 +231,7 @@ module _ {names : Names} {tokens left : List Token} {statement : Statement} (arg
       let more = path.more (λ same. some (at ∙ same)) in
       none more.0 left more.1 (at ∙ more.2) more.3
 
--- names that are spelled alike at two places
+-- names with the same spelling at two places
 argues_same : {names later : Names} {word : DirectiveWord} {tokens left : List Token} {statement : Statement} → SameNames names later
     → Argues names word tokens statement left → Argues later word tokens statement left
 argues_same same (origin {text = text} {name = name} spells) = origin ((same text name).0 spells)
@@ -266,7 +266,7 @@ pub more_argued : {names later : Names} {word : DirectiveWord} {tokens mid more 
     → Directs names tokens statement → ⊥
 more_argued same takes at argues some directs = nothing_left takes at (argues_same (turned same) argues) some directs
 
--- what stands behind the words `$origin` and `$ttl`
+-- what follows the words `$origin` and `$ttl`
 pub origin_argued : {names : Names} {tokens left : List Token} {name : List (List ℕ)}
     → (text : List ℕ) × (tokens ≡ unquoted text ∷ left) × names text name → Argues names Origin tokens (SetOrigin name) left
 origin_argued {names} {left = left} {name = name} scanned =
@@ -305,7 +305,7 @@ pub same_on : {names later last : Names} → SameNames names later → SameNames
 same_on first second text name =
     ((λ spells. (second text name).0 ((first text name).0 spells)), (λ spells. (first text name).1 ((second text name).1 spells)))
 
--- no origin behind the path, and one
+-- no origin after the path, and one
 pub no_origin_later : {names later last : Names} {tokens behind after left : List Token} {octets : List ℕ} {statement : Statement}
     → SameNames names later → SameNames later last → after ≡ behind → Takes (SpellsOctets octets) tokens behind → behind ≢ []
     → ((text : List ℕ) (rest : List Token) (name : List (List ℕ)) → after ≡ unquoted text ∷ rest → last text name → ⊥)

@@ -1,4 +1,4 @@
--- What a statement makes of its context, as the code has both.
+-- The entry of a statement in its context, with the code's values for both.
 use Rattle.std.proofs.Common.{◌≡◌, ℕ, List, Global, String, Option, Some, None, subst, sym, ◌∙◌}
 use Rattle.std.specs.Prelude.{option_map, string_bytes, unwrap_or}
 use Rattle.std.specs.Option.{option_or}
@@ -29,7 +29,7 @@ pub file_enters : {Octs N : Type 0} (name : N → List (List ℕ)) (old : kept.C
 file_enters name old statement path origin is =
     subst (λ s. Enters (context_of old) (statement_of name s) (Include (string_bytes path) (option_map name origin)) (context_of old)) (sym is) Enters.file
 
--- a statement is another one
+-- a statement equal to another
 pub statement_enters : {Octs N : Type 0} (name : N → List (List ℕ)) (context : Context) (statement other : code.Statement Octs N) (entry : Entry)
     (after : Context) → statement ≡ other → Enters context (statement_of name other) entry after
     → Enters context (statement_of name statement) entry after
@@ -51,7 +51,7 @@ record_enters old new owner ttl class rdata name number seconds is_owner is_clas
     (record (context_of old) { owner = Some name; last_ttl = unwrap_or ttl old.last_ttl; class = Some number })) (sym is_ttl)
     (Enters.resource is_owner is_class.0 is_class.1))
 
--- no entry is made where the class is not known, or the owner is not
+-- there is no entry if the class is not known, or the owner is not
 pub no_class_enters : (old : Context) (stated : Stated) (entry : Entry) (after : Context)
     → ((number : ℕ) → option_or stated.class old.class ≡ Some number → option_or old.class stated.class ≡ Some number → ⊥)
     → Enters old (StateRecord stated) entry after → ⊥
@@ -62,7 +62,7 @@ pub no_owner_enters : (old : Context) (stated : Stated) (entry : Entry) (after :
 no_owner_enters old stated entry after none (Enters.resource {owner = owner} is_owner is_class known) =
     let bad : None ≡ Some owner = sym none ∙ is_owner in absurd cc
 
--- the same, as the code takes it over
+-- the same, as the code applies it
 pub record_taken_over : (old new : kept.Context) (owner : Option (List (List ℕ))) (ttl class : Option ℕ) (rdata : Data)
     (name last : List (List ℕ)) (number seconds last_ttl : ℕ) → option_or owner old.owner ≡ Some name
     → (option_or class old.class ≡ Some number) × (option_or old.class class ≡ Some number)

@@ -1,4 +1,4 @@
--- What a reader gives, handed on as values or as octets.
+-- The result of a reader, as values or as octets.
 use Rattle.std.proofs.Common.{◌≡◌, ℕ, List, Option, Some, None, Ok, Err, String, Global, Box, box_value, refl, sym, subst, ◌∙◌, ap}
 use Rattle.std.specs.Prelude.{Result, IfErr, IfOk, OnErr, option_map, string_bytes}
 use Rattle.dns_row_scanner.specs.NameInText.{SpellsUnder}
@@ -31,7 +31,7 @@ says_under {origin' = origin'} {row} {statement = statement} origins rows says =
     subst (λ (r : TokenRow). Says (SpellsUnder origin') r statement) rows
     (subst (λ (o : Option (List (List ℕ))). Says (SpellsUnder o) row statement) origins says)
 
--- a row that says a statement is no entry where the statement makes none
+-- a row that says a statement is no entry if the statement has none
 pub unentered : {context : Context} {row : TokenRow} {statement : Statement} → Says (SpellsUnder context.origin) row statement
     → ((entry : Entry) (after : Context) → Enters context statement entry after → ⊥) → (entry : Entry) (after : Context)
     → IsEntry context row entry after → ⊥

@@ -1,4 +1,4 @@
--- The mnemonics of the types that most records are of.
+-- The mnemonics of the types of most records.
 use Rattle.std.proofs.Common.{◌≡◌, Some, refl}
 use Rattle.std.specs.Prelude.{codes}
 use Rattle.dns_values.specs.Mnemonic.{number_behind, number_named, number_read, number_spelled, type_read, types}

@@ -1,4 +1,4 @@
--- What a reader gives, asked again and again, are the entries of its text.
+-- The results of a reader, called repeatedly, are the entries of its text.
 use Rattle.std.proofs.Common.{◌≡◌, ◌+◌, ◌++◌, ◌∙◌, suc, true, false, List, [], ◌∷◌, None, Ok, Err, length, refl, ap, sym, arith}
 use Rattle.dns_row_scanner.specs.EntryError.{is_memory}
 use Rattle.dns_row_scanner.specs.declared.entry_error.EntryError.{EntryError}
@@ -24,7 +24,7 @@ one-left (Resource rr) other = refl
 one-left (Include path origin) other = refl
 one-left Directive other = absurd (other refl)
 
--- what was gone over while these were given
+-- the rows that were read for these results
 record Went (old : Reader) (entries : List Entry) (new : Reader) : Type 0 where
   pub all : List Entry
   pub goes : GoesOver old all new

@@ -51,7 +51,7 @@ pub directives-on : (entries more : List Entry) → AreDirectives entries → Ar
 directives-on [] more are others = others
 directives-on (entry ∷ entries) more are others = (are.0, directives-on entries more are.1 others)
 
--- rows that give nothing were gone over before
+-- rows without a result were read before
 abbrev pub HasPassed : Reader → Reader → Type 0
 HasPassed old now = (directives : List Entry) × AreDirectives directives × GoesOver old directives now
 
@@ -68,7 +68,7 @@ pub no-directive : {N : Type 0} (name : N → List (List ℕ)) (entry : found.En
 no-directive name (entries.Record rr) is = let no : ⊥ = cc in no
 no-directive name (entries.Include path origin) is = let no : ⊥ = cc in no
 
--- what is given behind them
+-- the result after them
 pub given-behind : {old mid new : Reader} {entry : Entry} → HasPassed old mid → (entry ≡ Directive → ⊥) → GoesOver mid (entry ∷ []) new
     → Gives old (Ok (Some entry)) new
 given-behind passed other goes = Gives.given passed.0 passed.1 other (goes-on passed.2 goes)

@@ -1,4 +1,4 @@
--- What stands before a record's data, read word by word.
+-- The words before a record's data, read one by one.
 use Rattle.std.proofs.Common.{◌≡◌, ◌^◌, ℕ, true, false, List, ◌∷◌, ◌++◌, Option, Some, None, refl, sym, ◌∙◌, ap, subst}
 use Rattle.std.specs.List.{list_all}
 use Rattle.std.specs.Char.{is_ascii_digit}
@@ -12,7 +12,7 @@ use Rattle.dns_zonefile.specs.declared.statement.head.HeadWord.{HeadWord}
 use Rattle.dns_zonefile.specs.declared.statement.head.HeadWord.TheVariants.{Ttl, Class, Rtype}
 use Rattle.dns_zonefile.proofs.OneStatement.{ttl_ttl, ttl_type, class_ttl', class_class, class_type, type_type}
 
--- a token says one thing
+-- a token says at most one thing
 word_one : (word other : HeadWord) (token : Token) → IsHeadWord word token → IsHeadWord other token → word ≡ other
 word_one (Ttl n) (Ttl m) token is also =
     let both : Some n ≡ Some m = sym (ttl_ttl is) ∙ ttl_ttl also in let same : n ≡ m = cc in ap Ttl same
@@ -34,7 +34,7 @@ taken_one {word} {other} {tokens} {mid} {left} takes also =
     let first : also.token ≡ takes.token = cc in
     (word_one word other takes.token takes.fits (subst (IsHeadWord other) first also.fits), cc)
 
--- The first word, and what stands behind it.
+-- The first word, and what follows it.
 data Pops (tokens : List Token) : Option ℕ → Option ℕ → ℕ → List Token → Type 0 where
   at_type : {rtype : ℕ} {left : List Token} → Takes (IsHeadWord (Rtype rtype)) tokens left → Pops tokens None None rtype left
   at_ttl : {seconds rtype : ℕ} {class : Option ℕ} {mid left : List Token} → Takes (IsHeadWord (Ttl seconds)) tokens mid
@@ -92,7 +92,7 @@ pub with_class : {tokens mid left : List Token} {number rtype : ℕ} {ttl' : Opt
 with_class takes head =
     head_of {before = takes.token ∷ head.before} (takes.is ∙ ap (λ l. takes.token ∷ l) head.is) (add_class takes.fits head.states refl) head.type_is
 
--- what is refused
+-- what fails
 no_word' : {tokens left : List Token} {ttl' class' : Option ℕ} {rtype : ℕ}
     → ((word : HeadWord) (mid : List Token) → Takes (IsHeadWord word) tokens mid → ⊥) → Pops tokens ttl' class' rtype left → ⊥
 no_word' none (at_type {rtype = n} {left = left} takes) = none (Rtype n) left takes
@@ -160,7 +160,7 @@ as_text (Class n) takes =
     (takes.fits.0, record { token = takes.token; is = takes.is; fits = takes.fits.1 }, (takes.fits.2, takes.fits.3, takes.fits.4))
 as_text (Rtype n) takes = (takes.fits.0, record { token = takes.token; is = takes.is; fits = takes.fits.1 }, (takes.fits.2, takes.fits.3))
 
--- the same behind a word that is known to be one of these
+-- the same after a word that is known to be one of these
 pub ttl_behind : {word : HeadWord} {tokens mid left : List Token} {seconds rtype : ℕ} {ttl' class' : Option ℕ} → word ≡ Ttl seconds
     → Takes (IsHeadWord word) tokens mid → HasHead tokens ttl' class' rtype left → HasHead mid None class' rtype left
 ttl_behind {tokens = tokens} {mid = mid} {seconds = seconds} is takes head =

@@ -13,13 +13,13 @@ pub name_kept : (octets : List ℕ) (name : List (List ℕ)) → IsName name →
 name_kept [] name is_name is = absurd (wire_some name is)
 name_kept (octet ∷ octets) name is_name is = ap Some (flat-labels (octet ∷ octets) name is_name is)
 
--- what was copied stands first
+-- what was copied comes first
 pub kept_first : (front behind copied : List ℕ) {written : List ℕ} → front ≡ copied → copied ≡ written
     → take (length copied) (front ++ behind) ≡ written
 kept_first front behind copied same is =
     ap (λ (l : List ℕ). take (length l) (front ++ behind)) (sym same) ∙ take-append_seam front behind ∙ same ∙ is
 
--- and the array is as long as before
+-- and the array has the same length as before
 pub kept_size : (front copied old : List ℕ) → front ≡ copied → length copied ≤ 255 → length old ≡ 255
     → length (front ++ drop (length copied) old) ≡ 255
 kept_size front copied old same fits whole =

@@ -1,4 +1,4 @@
--- Rows of a text, and its entries, are those of a text that is longer behind them.
+-- The rows and entries of a text are also those of a longer text that begins with it.
 use Rattle.std.proofs.Common.{◌≡◌, ◌<◌, ◌++◌, ◌∙◌, ℕ, ◌==◌, Bool, true, false, List, [], ◌∷◌, Option, if◌then◌else◌, IfSome, length, append_assoc, refl, ap, subst, sym, arith}
 use Rattle.std.specs.List.{AllByRecursion, flat_map}
 use Rattle.dns_label.specs.declared.symbol.Symbol.{Symbol}
@@ -14,7 +14,7 @@ use Rattle.dns_zonefile.specs.Entry.{Context, Entry}
 use Rattle.dns_zonefile.proofs.OneList.{one_list}
 use Rattle.dns_zonefile.proofs.RowFronts.{all_rows}
 
--- what stands next begins with an octet
+-- what comes next begins with an octet
 record Begins (text : List ℕ) : Type 0 where
   pub octet : ℕ
   pub rest : List ℕ
@@ -56,7 +56,7 @@ run-begins {text} {front} {rest} run some ends = by run.symbols run.each run.wri
         ends symbol (flat_map spelled symbols ++ rest) each.0
         (run.whole ∙ ap (λ (l : List ℕ). l ++ rest) written ∙ append_assoc (spelled symbol) (flat_map spelled symbols) rest)
 
--- no token that has ended is followed by a backslash: a symbol would begin there, or nothing stands next
+-- no token that has ended is followed by a backslash: a symbol would begin there, or nothing comes next
 no-backslash : {inside out : Bool} {text rest : List ℕ} {found : Option Token} → Next inside (92 ∷ text) found out rest
     → EndsToken false (92 ∷ text) → ⊥
 no-backslash (Next.ended octet is) ends = absurd cc
@@ -65,7 +65,7 @@ no-backslash (Next.comment octet is next) ends = absurd cc
 no-backslash (Next.quoted octet is run) ends = absurd cc
 no-backslash (Next.unquoted octet is run some) ends = run-begins run some ends
 
--- where a token ends, it ends in a longer text
+-- a token ends at the same place in a longer text
 ends-on : {inside out : Bool} {text rest : List ℕ} {found : Option Token} (more : List ℕ) → Next inside text found out rest
     → EndsToken false text → EndsToken false (text ++ more)
 ends-on {inside} {out} {text} {rest} {found} more next ends = by (next-begins next)
@@ -86,7 +86,7 @@ ends-on {inside} {out} {text} {rest} {found} more next ends = by (next-begins ne
         let same : text ≡ 92 ∷ begins.rest = begins.is ∙ ap (λ (n : ℕ). n ∷ begins.rest) first in
         no-backslash (subst (λ (l : List ℕ). Next inside l found out rest) same next) (subst (λ (l : List ℕ). EndsToken false l) same ends)
 
--- the same stands next, where a token that stands next has ended
+-- the same comes next, if a token that comes next has ended
 next-on : {inside out : Bool} {text rest : List ℕ} {found : Option Token} (more : List ℕ)
     → IfSome found (λ token. EndsToken false rest → EndsToken false (rest ++ more)) → Next inside text found out rest
     → Next inside (text ++ more) found out (rest ++ more)

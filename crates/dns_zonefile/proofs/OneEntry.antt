@@ -1,4 +1,4 @@
--- A row of a zone file says one entry at most in a context.
+-- A row of a zone file is at most one entry in a context.
 use Rattle.std.proofs.Common.{◌≡◌, ℕ, List, [], Option, Some, refl, sym, ◌∙◌, ap}
 use Rattle.std.specs.Prelude.{unwrap_or}
 use Rattle.std.specs.Option.{option_or}
@@ -12,11 +12,11 @@ use Rattle.dns_zonefile.specs.Entry.Entry.{Include, Resource}
 use Rattle.dns_zonefile.specs.Entry.Enters.{origin, ttl, file, resource}
 use Rattle.dns_zonefile.proofs.OneStatement.{one_statement, statement_has_tokens}
 
--- under an origin a text spells one name at most
+-- under an origin a text spells at most one name
 pub under_once : (known : Option (List (List ℕ))) → SpellOne (SpellsUnder known)
 under_once known text name other is also = one_under refl refl is also
 
--- a statement makes one entry at most in a context
+-- a statement makes at most one entry in a context
 pub one_entered : {context : Context} {statement statement' : Statement} {entry entry' : Entry} {after after' : Context}
     → statement ≡ statement' → Enters context statement entry after → Enters context statement' entry' after'
     → (entry ≡ entry') × (after ≡ after')

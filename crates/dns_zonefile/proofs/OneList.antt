@@ -15,7 +15,7 @@ use Rattle.dns_zonefile.proofs.RowFronts.Compared.{longer, shorter}
 abbrev bare_row : Bool → TokenRow
 bare_row led = record { led = led; tokens = [] }
 
--- rows are one list of entries
+-- rows are at most one list of entries
 bare_entry : {context : Context} {row : TokenRow} {found : Entry} {next : Context} → row.tokens ≡ [] → IsEntry context row found next → ⊥
 bare_entry none' is = entry_has_tokens is none'
 
@@ -116,7 +116,7 @@ within rows front more {row = row} same all begins some nothing =
     let there = (one_list refl refl at.begins begins).1 in
     says_something refl at.goes_on some (λ found next is. nothing found next (subst (λ (c : Context). IsEntry c row found next) there is))
 
--- rows with such a row behind them, and more
+-- rows followed by such a row, and more
 pub behind_one : (front : List TokenRow) (row : TokenRow) (more : List TokenRow) → (front ++ row ∷ []) ++ more ≡ front ++ row ∷ more
 behind_one front row more = append_assoc front (row ∷ []) more
 
@@ -140,7 +140,7 @@ last_or_inside (first ∷ rows) (first' ∷ front) row row' more same =
     let behind : rows ++ row ∷ [] ≡ front ++ row' ∷ more = cc in
     one_more row' rows front at (last_or_inside rows front row row' more behind)
 
--- two rows that are refused
+-- two rows that fail
 refused_same : {start between between' : Context} (rows rows' : List TokenRow) (row row' : TokenRow) (more : List TokenRow) {entries entries' : List Entry}
     → rows ++ row ∷ [] ≡ (rows' ++ row' ∷ []) ++ more → AreEntries start rows entries between → AreEntries start rows' entries' between'
     → row'.tokens ≢ [] → SaysNothing between' row' → entries ≡ entries'

@@ -1,4 +1,4 @@
--- A row of a zone file says one thing at most, where a text spells one name at most.
+-- A row of a zone file says at most one thing, if a text spells at most one name.
 use Rattle.std.proofs.Common.{◌≡◌, ◌^◌, ℕ, Bool, List, [], ◌∷◌, ◌++◌, length, map, Option, Some, None, if◌then◌else◌, refl, sym, ◌∙◌, ap, subst}
 use Rattle.std.specs.Option.{option_or}
 use Rattle.std.specs.List.{AllByRecursion, list_all}
@@ -188,7 +188,7 @@ one_owner {names} once same (own {text = text} {name = name} {tokens = tokens} i
     let behind : tokens ≡ tokens' = cc in
     (ap (λ (n : List (List ℕ)). Some n) (same_name once first is also), behind)
 
--- what stands before the data
+-- the words before the data
 pub record OneHead (ttl ttl' class class' : Option ℕ) (rtype rtype' : ℕ) (left left' : List Token) : Type 0 where
   pub ttls : ttl ≡ ttl'
   pub classes : class ≡ class'

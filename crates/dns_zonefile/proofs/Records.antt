@@ -34,7 +34,7 @@ pub number_is : (names : Names) (rtype : ℕ) (rdata : Data) (tokens left : List
 number_is names rtype (typed number row) tokens left scans = scans.1
 number_is names rtype (untyped unknown) tokens left scans = scans.0
 
--- a record of its parts
+-- a record from its parts
 pub states : {names later : Names} {row : TokenRow} {owner : Option (List (List ℕ))} {ttl class : Option ℕ} {rtype : ℕ} {rdata : Data}
     {tokens behind left : List Token} → (IsDirective row → ⊥) → HasOwner names row owner tokens → HasHead tokens ttl class rtype behind
     → SameNames names later → ScansAnyData later rtype rdata behind left → left ≡ []
@@ -80,7 +80,7 @@ no_head {stated = stated} owner none is =
     (subst (λ (l : List Token). HasHead l stated.ttl stated.class (number_of stated.rdata) is.data_tokens) (sym (one_rest refl owner is.owner))
     is.head)
 
--- A text of a type's fields has at most 65,535 octets, or more.
+-- A text of a type's fields has at most 65,535 octets of data, or more, but not both.
 not_long : {names : Names} {rtype : ℕ} {row : List Field} {tokens left : List Token} → SpellOne names → ScansData names rtype row tokens left
     → ScansLong names rtype tokens → ⊥
 not_long {names} {rtype} {row} {tokens} {left} once scans long =
@@ -95,13 +95,13 @@ pub no_any : {names : Names} {rtype : ℕ} {tokens : List Token} → SpellOne na
 no_any {names} {rtype} once none (typed number row) left scans = none (λ unmarked long. not_long once scans.2 long) (typed number row) left scans
 no_any once none (untyped unknown) left scans = none (λ unmarked long. unmarked scans.1 scans.2) (untyped unknown) left scans
 
--- data that tokens stand behind ends no row
+-- data followed by tokens ends no row
 pub none_whole : {names : Names} (rtype : ℕ) (tokens : List Token) {left : List Token} (rdata : Data) → SpellOne names
     → ScansAnyData names rtype rdata tokens left → left ≢ [] → (other : Data) → ScansAnyData names rtype other tokens [] → ⊥
 none_whole {names} rtype tokens {left} rdata once scans some other whole =
     some (any_one names (data_scanned_once names) rtype rdata other tokens left [] once scans whole).1
 
--- the data tokens of a record, behind an owner and a head that were read
+-- the data tokens of a record, after an owner and a head that were read
 module _ {names later : Names} {row : TokenRow} {owner : Option (List (List ℕ))} {ttl class : Option ℕ} {rtype : ℕ}
     {tokens behind : List Token} {stated : Stated} (once : SpellOne names) (has : HasOwner names row owner tokens)
     (head : HasHead tokens ttl class rtype behind) (same : SameNames names later) (is : StatesRecord names row stated) where
@@ -146,7 +146,7 @@ pub no_direction : {names : Names} {led : Bool} {tokens : List Token} {statement
 no_direction {statement = statement} unled begins none (directive is says) = none statement says
 no_direction unled begins none (resource is) = is.no_directive (is_directive unled begins)
 
--- what a row says that is none
+-- what any other row says
 module _ {names : Names} {row : TokenRow} (bare : IsDirective row → ⊥) where
   pub not_owned : {statement : Statement} → ((owner : Option (List (List ℕ))) (tokens : List Token) → HasOwner names row owner tokens → ⊥)
       → Says names row statement → ⊥

@@ -1,4 +1,4 @@
--- Of two lists of rows that a text begins with, the one begins with the other.
+-- Of two lists of rows at the start of a text, one begins with the other.
 use Rattle.std.proofs.Common.{◌≡◌, ℕ, false, List, [], ◌∷◌, ◌++◌, append-nil, refl, sym, ◌∙◌, ap, subst}
 use Rattle.dns_scan.specs.Token.{Token}
 use Rattle.dns_text.specs.Tokens.{Row}
@@ -28,7 +28,7 @@ compare {text} {text'} same (more {tokens = tokens} first behind) (more {behind 
     let one = one_row first tokens' after (subst (λ (t : List ℕ). Row false t tokens' after) (sym same) first') in
     push {row = row_of text tokens} {row' = row_of text' tokens'} (λ i. row_of (same i) (one.0 i)) (compare one.1 behind behind')
 
--- no row stands here
+-- there is no row here
 abbrev pub Stops : List ℕ → Type 0
 Stops rest = (tokens : List Token) (behind : List ℕ) → Row false rest tokens behind → ⊥
 

@@ -1,4 +1,4 @@
--- The entries of zone files, tried on texts that are written out.
+-- Examples of the entries of zone files, with texts in full.
 use Rattle.std.proofs.Common.{◌≡◌, ℕ, true, false, List, [], ◌∷◌, ◌++◌, Option, Some, None, refl, sym, ◌∙◌, ap, subst, arith, ◌≤◌}
 use Rattle.std.specs.Prelude.{codes}
 use Rattle.std.specs.Option.{option_or}
@@ -22,7 +22,7 @@ use Rattle.dns_zonefile.specs.Entries.{HasEntries, IsRefusedAfter, refused_numbe
 use Rattle.dns_zonefile.specs.Entries.AreEntries.{none as no_entries, entry}
 use Rattle.dns_zonefile.specs.Entries.IsRefusedAfter.{no_entry}
 
--- where a token ends
+-- the end of a token
 ends_token : (octet : ℕ) (text : List ℕ) → (octet ≡ 92 → ⊥) → (IsIn false (Char octet) → ⊥) → EndsToken false (octet ∷ text)
 ends_token octet text escape plain (Char c) rest is same = let at : c ≡ octet = cc in plain (subst (λ (n : ℕ). IsIn false (Char n)) at is)
 ends_token octet text escape plain (SimpleEscape c) rest is same = escape cc
@@ -110,7 +110,7 @@ ttl_is_five : (context : Context) → (ttl_is_set context).after.default_ttl ≡
 unfolding ttl_is_set
 ttl_is_five context = refl
 
--- a row that white space leads is no record where no owner is known
+-- a row that begins with white space is no record if no owner is known
 unowned : {names : List ℕ → List (List ℕ) → Type 0} {row : TokenRow} {owner : Option (List (List ℕ))} {tokens : List Token}
     → HasOwner names row owner tokens → row.led ≡ true → owner ≡ None
 unowned last led = refl
@@ -145,7 +145,7 @@ no_owner_yet origin class =
 first_is_refused : refused_number [] ≡ 1
 first_is_refused = refl
 
--- behind a directive, which counts
+-- after a directive, which counts
 no_owner_after_ttl : (origin : Option (List (List ℕ))) (class : Option ℕ)
     → IsRefusedAfter (at_start origin class) (codes "$TTL 5" ++ 10 ∷ 32 ∷ 97 ∷ 10 ∷ []) (Directive ∷ [])
 no_owner_after_ttl origin class =

@@ -1,4 +1,4 @@
--- What a call gives that writes records behind octets.
+-- The result of a call that appends records to octets.
 use Rattle.std.specs.Prelude.{◌≡◌, ◌<◌, ◌^◌, ℕ, List, ◌++◌, length, Option, Some, None, Result, Ok, Err, string_bytes, Box, box_value}
 use Rattle.std.specs.Global.{Global}
 use Rattle.dns_label.specs.Name.{IsName}
@@ -15,11 +15,12 @@ use Rattle.dns_zonefile.specs.declared.entry.ComposedEntry.TheVariants as compos
 use Rattle.dns_zonefile.specs.declared.entry.IncludedFile.{IncludedFile}
 use Rattle.dns_zonefile.specs.declared.error.Error.{Error}
 
--- the octets of a record with every name written out (RFC 1035 3.2.1)
+-- the octets of a record, every name in full (RFC 1035 3.2.1)
 abbrev pub octets_of : RecordOf (List (List ℕ)) Data → List ℕ
 octets_of rr = record_octets rr.owner (number_of rr.rdata) rr.class rr.ttl (data_octets rr.rdata)
 
--- Octets hold the parts of a record: its owner is a name, and each number and the length of its data fit (RFC 1035 3.2.1).
+-- The parts of a record fit in octets: its owner is a name, and each number and the length of its data fit (RFC 1035
+-- 3.2.1).
 pub record IsHeld (rr : RecordOf (List (List ℕ)) Data) : Type 0 where
   pub owner : IsName rr.owner
   pub rtype : number_of rr.rdata < 2 ^ 16
@@ -31,8 +32,8 @@ pub record IsHeld (rr : RecordOf (List (List ℕ)) Data) : Type 0 where
 abbrev pub included : IncludedFile → Entry
 included file = Include (string_bytes file.path) file.origin
 
--- What is given is handed on so, by the octets before it and behind it: the octets of a record, which hold its parts, stand behind
--- those before. Nothing else changes them.
+-- A result in the form of octets, by those before and after it: the octets of a record, whose parts fit, follow those
+-- before. Nothing else changes the octets.
 pub data HandsOn (old : List ℕ) : Result (Option Entry) EntryError → Result (Option ComposedEntry) EntryError → List ℕ → Type 0 where
   resource : {rr : RecordOf (List (List ℕ)) Data} {new : List ℕ} → IsHeld rr → new ≡ old ++ octets_of rr
       → HandsOn old (Ok (Some (Resource rr))) (Ok (Some (composed.Record (is_untyped rr.rdata)))) new
@@ -40,7 +41,7 @@ pub data HandsOn (old : List ℕ) : Result (Option Entry) EntryError → Result 
   ended : HandsOn old (Ok None) (Ok None) old
   refused : {error : EntryError} → HandsOn old (Err error) (Err error) old
 
--- a result, with the reason of its error alone
+-- a result, with only the reason of its error
 abbrev pub with_reason : {T : Type 0} → Result T Error → Result T EntryError
 with_reason (Ok value) = Ok value
 with_reason (Err error) = Err (reason_of error)

@@ -1,4 +1,4 @@
--- A record whose octets are appended while its row is read. Only contracts inside the crate speak of it.
+-- A record whose octets are appended while its row is read. Only contracts inside the crate name it.
 use Rattle.std.specs.Prelude.{◌≡◌, ◌≤◌, ℕ, Bool, List, [], ◌++◌, Option, Some, Ok, length}
 use Rattle.std.specs.Option.{option_or}
 use Rattle.dns_header.specs.Head.{after_length}
@@ -17,7 +17,7 @@ use Rattle.dns_zonefile.specs.Statement.Statement.{StateRecord}
 use Rattle.dns_zonefile.specs.declared.entry.ComposedEntry.{ComposedEntry}
 use Rattle.dns_zonefile.specs.declared.entry_form.octets.ComposedRecord.{ComposedRecord}
 
--- The tokens up to the row's end are data of the type. Its octets stand behind their length, and these behind the old ones.
+-- The tokens up to the row's end are data of the type. Its octets follow their length, and both follow the old ones.
 pub record ComposesData (names : Names) (rtype : ℕ) (tokens : List Token) (old new : List ℕ) (untyped : Bool) : Type 0 where
   pub rdata : Data
   pub scans : ScansAnyData names rtype rdata tokens []
@@ -25,7 +25,7 @@ pub record ComposesData (names : Names) (rtype : ℕ) (tokens : List Token) (old
   pub behind : new ≡ old ++ after_length (data_octets rdata)
   pub opaque : untyped ≡ is_untyped rdata
 
--- The row's owner in the context, stated or the last one, and these tokens are left. Its octets stand after the old ones.
+-- The row's owner in the context, stated or the last one, and the tokens that are left. Its octets follow the old ones.
 pub record OwnerStands (names : Names) (context : Context) (row : TokenRow) (left : List Token) (old new : List ℕ) : Type 0 where
   pub stated : Option (List (List ℕ))
   pub name : List (List ℕ)
@@ -39,14 +39,14 @@ pub record HasNoOwner (names : Names) (context : Context) (row : TokenRow) : Typ
   pub none : (stated : Option (List (List ℕ))) (left : List Token) (name : List (List ℕ)) → HasOwner names row stated left
       → option_or stated context.owner ≡ Some name → ⊥
 
--- the first of the octets, so many, are the name
+-- the first `len` octets are the name
 pub record BeginsWithName (octets : List ℕ) (len : ℕ) (name : List (List ℕ)) : Type 0 where
   pub rest : List ℕ
   pub is_name : IsName name
   pub is : octets ≡ wire name ++ rest
   pub long : len ≡ length (wire name)
 
--- The row is a record in the context, and sets what is composed. Its octets stand behind the old ones.
+-- The row is a record in the context, and sets what is composed. Its octets follow the old ones.
 pub record ComposesRecord (names : Names) (context : Context) (row : TokenRow) (composed : ComposedRecord) (old new : List ℕ) : Type 0 where
   pub stated : Stated
   pub rr : RecordOf (List (List ℕ)) Data
@@ -58,6 +58,6 @@ pub record ComposesRecord (names : Names) (context : Context) (row : TokenRow) (
   pub behind : new ≡ old ++ octets_of rr
   pub opaque : composed.untyped ≡ is_untyped rr.rdata
 
--- an entry is handed on so, by the octets before and after it
+-- an entry in the form of octets, by those before and after it
 abbrev pub IsHandedOn : List ℕ → Entry → Option ComposedEntry → List ℕ → Type 0
 IsHandedOn old entry given new = IsGiven (λ old it given new. HandsOn old (Ok (Some it)) (Ok (Some given)) new) old entry given new

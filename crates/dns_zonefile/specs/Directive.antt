@@ -1,4 +1,4 @@
--- The words of directives, and what stands behind them. Only contracts inside the crate speak of it.
+-- The words of directives, and what follows them. Only contracts inside the crate name it.
 use Rattle.std.specs.Prelude.{◌≡◌, ◌^◌, ℕ, List, [], ◌∷◌, Some, None, codes, map}
 use Rattle.std.specs.Char.{to_ascii_lowercase}
 use Rattle.std.specs.Str.{IsAscii}
@@ -15,7 +15,7 @@ word_of Origin = codes "$origin"
 word_of Ttl = codes "$ttl"
 word_of Include = codes "$include"
 
--- the token's text is the word, in any case
+-- the token's text is the word, up to ASCII case
 abbrev pub IsWordOf : DirectiveWord → Token → Type 0
 IsWordOf word token = map to_ascii_lowercase token.text ≡ word_of word
 
@@ -25,7 +25,7 @@ pub record BeginsDirective (tokens : List Token) : Type 0 where
   pub others : List Token
   pub is : tokens ≡ unquoted (36 ∷ text) ∷ others
 
--- the tokens behind the word are what it says, and these are left
+-- the tokens after the word are what it says, and these are left
 pub data Argues (names : Names) : DirectiveWord → List Token → Statement → List Token → Type 0 where
   origin : {text : List ℕ} {name : List (List ℕ)} {left : List Token} → names text name
       → Argues names Origin (unquoted text ∷ left) (SetOrigin name) left

@@ -18,7 +18,7 @@ pub record HasEntries (start : Context) (text : List ℕ) (entries : List Entry)
   pub after : Context
   pub are : AreEntries start rows entries after
 
--- Behind these entries the text goes on with what is refused: what is no row, or a row with tokens that says nothing.
+-- After these entries the text fails: what follows is no row, or a row with tokens that says nothing.
 pub data IsRefusedAfter (start : Context) (text : List ℕ) (entries : List Entry) : Type 0 where
   broken : {rows : List TokenRow} {after : Context} → BreaksAfter text rows → AreEntries start rows entries after
       → IsRefusedAfter start text entries
@@ -26,6 +26,6 @@ pub data IsRefusedAfter (start : Context) (text : List ℕ) (entries : List Entr
       → AreEntries start rows entries after → row.tokens ≢ []
       → ((entry : Entry) (next : Context) → IsEntry after row entry next → ⊥) → IsRefusedAfter start text entries
 
--- The number of the entry that is refused. Records, includes and directives count.
+-- The number of the entry that fails. Records, includes and directives count.
 abbrev pub refused_number : List Entry → ℕ
 refused_number entries = suc (length entries)

@@ -8,7 +8,7 @@ use Rattle.dns_row_scanner.specs.NameInText.{SpellsUnder}
 use Rattle.dns_zonefile.specs.Statement.{Stated, Statement, Says}
 use Rattle.dns_zonefile.specs.Statement.Statement.{SetOrigin, SetTtl, NameFile, StateRecord}
 
--- What the rows before have set: the origin, the last owner, the value of `$TTL`, the last TTL that was stated, and the class.
+-- What the rows so far have set: the origin, the last owner, the value of `$TTL`, the last stated TTL, and the class.
 pub record Context : Type 0 where
   pub origin : Option (List (List ℕ))
   pub owner : Option (List (List ℕ))
@@ -16,7 +16,7 @@ pub record Context : Type 0 where
   pub last_ttl : ℕ
   pub class : Option ℕ
 
--- where a file begins: no owner, and a TTL of an hour
+-- the context at the start of a file: no owner, and a TTL of one hour
 abbrev pub at_start : Option (List (List ℕ)) → Option ℕ → Context
 at_start origin class = record { origin = origin; owner = None; default_ttl = None; last_ttl = 3600; class = class }
 
@@ -24,11 +24,11 @@ pub data Entry : Type 0 where
   Resource : RecordOf (List (List ℕ)) Data → Entry
   -- the path of another file, and the origin for it, if one is stated
   Include : List ℕ → Option (List (List ℕ)) → Entry
-  -- `$ORIGIN` or `$TTL`, which change the context alone
+  -- `$ORIGIN` or `$TTL`, which change only the context
   Directive : Entry
 
--- What a statement makes of its context. A class that is stated is the one that is known. A record without a TTL has that of `$TTL`,
--- and else the last one that was stated.
+-- The entry of a statement in a context, and the context after it. A stated class is the known one. A record without a
+-- TTL has that of `$TTL`, and else the last one that was stated.
 pub data Enters (context : Context) : Statement → Entry → Context → Type 0 where
   origin : {name : List (List ℕ)} → Enters context (SetOrigin name) Directive (record context { origin = Some name })
   ttl : {seconds : ℕ} → Enters context (SetTtl seconds) Directive (record context { default_ttl = Some seconds })

@@ -1,4 +1,4 @@
--- A word before a record's data. Only contracts inside the crate speak of it.
+-- A word before a record's data. Only contracts inside the crate name it.
 use Rattle.std.specs.Prelude.{◌≡◌, ◌^◌, ℕ, List, Some, None, true, false}
 use Rattle.std.specs.List.{list_all}
 use Rattle.std.specs.Char.{is_ascii_digit}

@@ -1,4 +1,4 @@
--- The owner of the last record, in octets of its own. Only contracts inside the crate speak of it.
+-- The owner of the last record, in octets of its own. Only contracts inside the crate name it.
 use Rattle.std.specs.Prelude.{◌≢◌, ℕ, List, [], ◌∷◌, Option, Some, None}
 use Rattle.dns_label.specs.Labels.{labels_at}
 use Rattle.dns_wire.specs.Flat.{IsWritten}

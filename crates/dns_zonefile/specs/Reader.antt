@@ -1,4 +1,4 @@
--- Readers of zone files, and what they give (RFC 1035 5.1).
+-- Readers of zone files, and their results (RFC 1035 5.1).
 use Rattle.std.specs.Prelude.{◌≡◌, ◌≢◌, ◌+◌, ◌==◌, ℕ, suc, true, false, if◌then◌else◌, List, [], ◌∷◌, ◌++◌, Option, Some, None, Result, Ok, Err, take, drop, length}
 use Rattle.std.specs.List.{AllByRecursion}
 use Rattle.dns_text.specs.Rows.{BeginsWithRows, TokenRow}
@@ -10,8 +10,8 @@ use Rattle.dns_zonefile.specs.Entries.{AreEntries}
 use Rattle.dns_zonefile.specs.Entry.{Context, Entry, IsEntry, at_start}
 use Rattle.dns_zonefile.specs.Entry.Entry.{Directive, Include, Resource}
 
--- The text that a reader was handed, where the rows begin that are not yet read, what those before them have set, and how many entries
--- they are.
+-- The text of a reader, the place of the first row that is not yet read, what the rows before it have set, and how many
+-- entries they are.
 pub record Reader : Type 0 where
   pub text : List ℕ
   pub place : ℕ
@@ -30,18 +30,19 @@ pub record GoesOver (old : Reader) (entries : List Entry) (new : Reader) : Type 
   pub count : new.count ≡ old.count + length entries
   pub text : new.text ≡ old.text
 
--- What stands at its place is refused: no row, though the text goes on; or a row with tokens that is no entry.
+-- The text fails at the reader's place: there is no row, though the text goes on; or there is a row with tokens that is
+-- no entry.
 pub data IsRefusedAt (reader : Reader) : Type 0 where
   broken : is_end (left_of reader) ≡ false → NoRow (left_of reader) → IsRefusedAt reader
   no_entry : {row : TokenRow} {rest : List ℕ} → BeginsWithRows (left_of reader) (row ∷ []) rest → row.tokens ≢ []
       → ((entry : Entry) (after : Context) → IsEntry reader.context row entry after → ⊥) → IsRefusedAt reader
 
--- directives, which change the rows behind them alone
+-- directives, which only change the rows after them
 abbrev pub AreDirectives : List Entry → Type 0
 AreDirectives entries = AllByRecursion (λ entry. entry ≡ Directive) entries
 
--- What a reader gives: it goes over directives to the next record or include, to the end of the text, or to what is refused. Where
--- memory is refused, it says nothing of the row.
+-- The result of a reader: it goes over directives to the next record or include, to the end of the text, or to where
+-- the text fails. If out of memory, it says nothing of the row.
 pub data Gives (old : Reader) : Result (Option Entry) EntryError → Reader → Type 0 where
   given : (directives : List Entry) {entry : Entry} {new : Reader} → AreDirectives directives → entry ≢ Directive
       → GoesOver old (directives ++ entry ∷ []) new → Gives old (Ok (Some entry)) new
@@ -52,20 +53,20 @@ pub data Gives (old : Reader) : Result (Option Entry) EntryError → Reader → 
   out_of_memory : {directives : List Entry} {new : Reader} {error : EntryError} → AreDirectives directives → GoesOver old directives new
       → is_memory error ≡ true → Gives old (Err error) new
 
--- the reader of a text that was not yet begun, without an origin and a class
+-- a reader at the start of a text, without an origin and a class
 abbrev pub start_of_text : List ℕ → Reader
 start_of_text text = record { text = text; place = 0; context = at_start None None; count = 0 }
 
--- the number of the line behind these octets, from 1: each line feed (10) ends a line
+-- the number of the line after these octets, from 1: each line feed (10) ends a line
 abbrev pub line_behind : List ℕ → ℕ
 line_behind [] = 1
 line_behind (octet ∷ before) = if octet == 10 then suc (line_behind before) else line_behind before
 
--- the line in which a place of a text stands
+-- the number of the line of a place in a text
 abbrev pub line_at : List ℕ → ℕ → ℕ
 line_at text place = line_behind (take place text)
 
--- A reader that is asked again and again gives these entries, and stands there then.
+-- A reader that is called repeatedly returns these entries, and is then the other reader.
 pub data GivesEach : Reader → List Entry → Reader → Type 0 where
   none : {reader : Reader} → GivesEach reader [] reader
   more : {old mid new : Reader} {entry : Entry} {entries : List Entry} → Gives old (Ok (Some entry)) mid → GivesEach mid entries new

@@ -1,4 +1,4 @@
--- What contracts see of readers of zone files.
+-- The views of readers of zone files.
 use Rattle.std.specs.Prelude.{ℕ, List, ◌+◌, if◌then◌else◌, Option, Some, None, Result, Ok, Err, is_some, vec_capacity}
 use Rattle.dns_row_scanner.specs.declared.entry_error.EntryError.{EntryError}
 use Rattle.dns_zonefile.specs.Entry.{Entry}
@@ -18,25 +18,25 @@ reader_of zonefile = record {
   count = zonefile.count;
 }
 
--- to how many octets its text may grow without asking for memory
+-- the number of octets to which its text may grow without another allocation
 abbrev pub text_capacity : Zonefile → ℕ
 text_capacity zonefile = vec_capacity zonefile.text
 
--- why it reads nothing more
+-- the error after which it reads nothing more
 abbrev pub refused_in : Zonefile → Option Error
 refused_in zonefile = zonefile.refused
 
--- how many entries it has met, the refused one too
+-- the number of entries that it has met, one that failed included
 abbrev pub entries_met : Zonefile → ℕ
 entries_met zonefile = zonefile.count + (if is_some zonefile.refused then 1 else 0)
 
--- what a call answers, its names by what they spell
+-- the result of a call, with names by what they spell
 abbrev pub given_in : {N : Type 0} → (N → List (List ℕ)) → Result (Option (found.Entry N)) EntryError → Result (Option Entry) EntryError
 given_in name (Ok None) = Ok None
 given_in name (Ok (Some entry)) = Ok (Some (entry_of name (Some entry)))
 given_in name (Err error) = Err error
 
--- the same, with the reason of an error alone
+-- the same, with only the reason of an error
 abbrev pub given_of : {N : Type 0} → (N → List (List ℕ)) → Result (Option (found.Entry N)) Error → Result (Option Entry) EntryError
 given_of name (Ok None) = Ok None
 given_of name (Ok (Some entry)) = Ok (Some (entry_of name (Some entry)))

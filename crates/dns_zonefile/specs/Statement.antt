@@ -1,4 +1,5 @@
--- What a row of a zone file says in itself (RFC 1035 5.1, RFC 2308 4): of the rows before it, only the origin of names counts.
+-- What a row of a zone file says by itself (RFC 1035 5.1, RFC 2308 4). Of the rows before it, only the origin of names
+-- counts.
 use Rattle.std.specs.Prelude.{◌≡◌, ◌^◌, ℕ, List, [], ◌∷◌, Option, Some, None, true, false, map, codes, ◌++◌}
 use Rattle.std.specs.List.{list_all}
 use Rattle.std.specs.Char.{is_ascii_digit, to_ascii_lowercase}
@@ -28,11 +29,11 @@ pub data Statement : Type 0 where
 abbrev pub Names : Type 1
 Names = List ℕ → List (List ℕ) → Type 0
 
--- the token is this word in any case, its letters and the dollar sign before them plain
+-- the token is this word up to ASCII case, its letters and the dollar sign before them plain
 abbrev pub IsDirectiveWord : List ℕ → Token → Type 0
 IsDirectiveWord word token = (text : List ℕ) × (token ≡ unquoted text) × (map to_ascii_lowercase text ≡ word)
 
--- the row is a directive: white space does not lead it, and its first token begins with a plain dollar sign
+-- the row is a directive: it does not begin with white space, and its first token begins with a plain dollar sign
 pub record IsDirective (row : TokenRow) : Type 0 where
   pub unled : row.led ≡ false
   pub text : List ℕ
@@ -51,7 +52,7 @@ pub data Directs (names : Names) : List Token → Statement → Type 0 where
       → IsDirectiveWord (codes "$include") word → token ≡ unquoted text → SpellsOctets path token → IsAscii path
       → names origin_text name → Directs names (word ∷ token ∷ unquoted origin_text ∷ []) (NameFile path (Some name))
 
--- a token of digits is a TTL; another word is a type, and only if it is none a class
+-- a token of digits is a TTL; any other word is a type, and only if it is none, a class
 abbrev pub IsTtl : ℕ → Token → Type 0
 IsTtl seconds token = (text : List ℕ) × IsWord text token × (list_all is_ascii_digit text ≡ true)
     × (number_spelled (2 ^ 32) text ≡ Some seconds)
@@ -73,7 +74,8 @@ pub data States : List Token → Option ℕ → Option ℕ → Type 0 where
   class_ttl : {first second : Token} {seconds number : ℕ} → IsClass number first → IsTtl seconds second
       → States (first ∷ second ∷ []) (Some seconds) (Some number)
 
--- The owner that a row states, and the tokens after it. A row that white space leads states none: it has the last one.
+-- The owner that a row states, and the tokens after it. A row that begins with white space states none: it has the last
+-- one.
 pub data HasOwner (names : Names) : TokenRow → Option (List (List ℕ)) → List Token → Type 0 where
   last : {tokens : List Token} → HasOwner names (record { led = true; tokens = tokens }) None tokens
   own : {text : List ℕ} {name : List (List ℕ)} {tokens : List Token} → names text name

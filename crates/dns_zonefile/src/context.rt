@@ -1,4 +1,4 @@
-//! What the rows of a zone file set for the rows behind them (RFC 1035 5.1, RFC 2308 4).
+//! What the rows of a zone file set for the rows after them (RFC 1035 5.1, RFC 2308 4).
 ghost use Rattle.std.specs.Prelude.{◌≡◌, ◌<◌, ◌^◌, ◌++◌, List, ℕ, Some, None, true, false, IfOk, IfErr, OnOk, OnErr, option_map, unwrap_or};
 ghost use Rattle.std.specs.Option.{option_or};
 ghost use Rattle.dns_label.specs.Name.{IsName, wire};
@@ -15,7 +15,7 @@ use dns_name::{Class, Name, Octets, ToName, Ttl};
 use dns_row_scanner::{EntryError, TextName, to_inline_name};
 use std::alloc::Global;
 
-/// What the rows before have set.
+/// What the rows so far have set.
 #[derive(Debug, Drop)]
 pub(crate) struct Context {
     pub(crate) origin: Option<Name<Vec<u8>>>,
@@ -27,17 +27,17 @@ pub(crate) struct Context {
     pub(crate) class: Option<Class>,
 }
 
-/// What the context makes of a TTL and a class that a record's row states.
+/// The class and the TTL of a record, once those that its row states are completed from the context.
 #[derive(Clone, Copy)]
 pub(crate) struct KnownHead {
     pub(crate) class: Class,
     pub(crate) ttl: Ttl,
-    /// The last TTL that a record stated, this one counted.
+    /// The last TTL that a record stated, including this one.
     pub(crate) last_ttl: Ttl,
 }
 
 impl Context {
-    /// Returns what is set where a file begins: a TTL of an hour.
+    /// Returns the context at the start of a file, with a TTL of one hour.
     pub(crate) fn new() -> Self
         ensures { context_of result ≡ at_start None None }
     {
@@ -50,9 +50,9 @@ impl Context {
         }
     }
 
-    /// Returns the entry that a statement makes, and takes over what it sets. A directive is None.
+    /// Returns the entry of a statement, and applies what it sets. Returns None for a directive.
     ///
-    /// Fails with an error other than `OutOfMemory` only if it makes none. Nothing is taken over then.
+    /// Fails with an error other than `OutOfMemory` only if the statement has no entry. The context is then unchanged.
     #[tactic(auto, using(crate::proofs::Entering::statement_enters, crate::proofs::Entering::ttl_enters, crate::proofs::Entering::file_enters))]
     pub(crate) fn enter<N: TextName>(
         &mut self,
@@ -76,7 +76,7 @@ impl Context {
         }
     }
 
-    /// Takes over an origin.
+    /// Sets the origin. Fails with `OutOfMemory` if out of memory, and then changes nothing.
     #[tactic(auto, using(crate::proofs::Entering::origin_enters))]
     fn enter_origin<N: TextName>(
         &mut self,
@@ -92,7 +92,10 @@ impl Context {
         Ok(None)
     }
 
-    /// Returns the record that a row states, which the sink takes, and takes over what it sets.
+    /// Returns the record that a row states, and applies what it sets.
+    ///
+    /// Fails with an error other than `OutOfMemory` only if the record has no owner or no class in the context, or
+    /// states a class other than the known one. The context is then unchanged.
     #[tactic(auto, using(crate::proofs::Entering::record_taken_over, crate::proofs::Entering::no_class_enters, crate::proofs::Entering::no_owner_enters))]
     fn enter_record<N: TextName>(
         &mut self,
@@ -125,7 +128,7 @@ impl Context {
         Ok(Some(Entry::Record(resource)))
     }
 
-    /// Takes over what a record sets.
+    /// Applies what a record sets.
     pub(crate) fn take_over<Octs: Octets>(
         &mut self,
         owner: &Name<Octs>,
@@ -143,7 +146,9 @@ impl Context {
         self.class = Some(class);
     }
 
-    /// Returns the class and TTL of the record whose row states these, each if it has it.
+    /// Returns the class and the TTL of a record. `ttl` and `class` are those that its row states.
+    ///
+    /// Fails with `Custom` if no class is stated or known, or if the stated one is not the known one.
     pub(crate) fn head_of(
         &self,
         ttl: Option<Ttl>,
@@ -173,6 +178,8 @@ impl Context {
     }
 
     /// Appends the octets of the owner of the last record.
+    ///
+    /// Fails with an error other than `OutOfMemory` only if there is none. Nothing is then appended.
     pub(crate) fn append_last_owner(&self, octets: &mut Vec<u8>) -> Result<(), EntryError>
         ensures ok { OnOk result ((name : List (List ℕ)) × (self.now.owner ≡ Some name) × IsName name
             × (octets.new.items ≡ octets.old.items ++ wire name)) }
@@ -185,7 +192,9 @@ impl Context {
         }
     }
 
-    /// Returns the owner of a record whose row states this one, or none and has the last one.
+    /// Returns the owner of a record: the one that its row states, or the last one.
+    ///
+    /// Fails with an error other than `OutOfMemory` only if there is neither.
     fn owner_of<N: TextName>(&self, alloc: Global, stated: Option<N>) -> Result<N, EntryError>
         ensures ok { IfOk result (λ owner. option_or (option_map N.name stated) self.now.owner ≡ Some (N.name owner)) }
         ensures err { IfErr result (λ error. is_memory error ≡ false → option_or (option_map N.name stated) self.now.owner ≡ None) }
@@ -196,7 +205,7 @@ impl Context {
         }
     }
 
-    /// Returns the owner of the last record.
+    /// Returns the owner of the last record. Fails with an error other than `OutOfMemory` only if there is none.
     fn last_owner<N: TextName>(&self, alloc: Global) -> Result<N, EntryError>
         ensures ok { IfOk result (λ owner. self.now.owner ≡ Some (N.name owner)) }
         ensures err { IfErr result (λ error. is_memory error ≡ false → self.now.owner ≡ None) }
@@ -208,7 +217,7 @@ impl Context {
     }
 }
 
-/// Appends the octets of a name. Fails with `OutOfMemory`, and changes nothing then.
+/// Appends the octets of a name. Fails with `OutOfMemory` if out of memory, and then changes nothing.
 fn append_name(name: &Name<&[u8]>, octets: &mut Vec<u8>) -> Result<(), EntryError>
     ensures ok { OnOk result (IsName name.now × (octets.new.items ≡ octets.old.items ++ wire name.now)) }
     ensures err { IfErr result (λ error. is_memory error ≡ true) }
@@ -217,8 +226,8 @@ fn append_name(name: &Name<&[u8]>, octets: &mut Vec<u8>) -> Result<(), EntryErro
     Ok(octets.extend_from_slice(name.as_slice())?)
 }
 
-/// Returns the class of a record that states this one, or none, where this one is known, or none. Fails with `Custom` if they differ, or
-/// neither is known.
+/// Returns the class of a record, given the known class and the one that its row states. Fails with `Custom` if they
+/// differ, or if there is neither.
 fn agreed_class(known: Option<Class>, stated: Option<Class>) -> Result<Class, EntryError>
     ensures ok { IfOk result (λ class. (option_or stated known ≡ Some class) × (option_or known stated ≡ Some class)) }
     ensures err { IfErr result (λ error. (is_memory error ≡ false)

@@ -4,13 +4,13 @@ use dns_name::ToName;
 use dns_rdata::ZoneRecordData;
 use dns_row_scanner::{InlineName, ScannedName, ScannedString};
 
-/// The data of a record that is scanned.
+/// The data of a scanned record.
 pub type ScannedRecordData = ZoneRecordData<Vec<u8>, ScannedName>;
 
-/// A record that is scanned.
+/// A scanned record.
 pub type ScannedRecord = Record<ScannedName, ScannedRecordData>;
 
-/// What a row of a zone file is, unless it is a directive that changes the rows behind it alone (RFC 1035 5.1).
+/// The entry of a row of a zone file, unless it is a directive, which only changes the rows after it (RFC 1035 5.1).
 #[derive(Debug, Drop)]
 pub enum Entry<N: ToName = ScannedName> {
     /// A record.
@@ -24,15 +24,15 @@ pub enum Entry<N: ToName = ScannedName> {
     },
 }
 
-/// What a row of a zone file is, as `Entry`, where the octets of a record stand in a vector.
+/// The entry of a row, like `Entry`, but with the octets of a record in a vector.
 #[derive(Debug, Drop)]
 pub enum ComposedEntry {
-    /// A record, whose octets are the last of the vector.
+    /// A record. Its octets are the last ones of the vector.
     Record {
-        /// Whether its data is opaque: the text has it as `\#`, or the type has no fields (RFC 3597).
+        /// Whether its data is unknown data: the text has it as `\#`, or the type has no fields (RFC 3597).
         untyped: bool,
     },
-    /// `$INCLUDE`, which names another file. It stands in a box, so that what is given of a record is small.
+    /// `$INCLUDE`, which names another file. It is boxed so that the enum stays small.
     Include(Box<IncludedFile>),
 }
 

@@ -1,4 +1,4 @@
-//! The forms in which the entries of rows are given.
+//! The forms in which entries are returned.
 ghost use Rattle.std.specs.Prelude.{◌≡◌, List, ℕ, false, map, IfErr, IfOk, OnErr};
 ghost use Rattle.dns_row_scanner.specs.EntryError.{is_memory};
 ghost use Rattle.dns_tokens.specs.RowFound.{IsRowAt};
@@ -17,9 +17,10 @@ use dns_tokens::TokenSpan;
 use std::alloc::Global;
 pub(crate) use values::AsValues;
 
-/// A form in which entries are given.
+/// A form in which entries are returned.
 ///
-/// `octets` are what it holds. `gives` relates an entry to what is given, and to these before and after.
+/// `octets` are the contents of the form. `gives` relates an entry to the value returned for it, and to the contents
+/// before and after.
 pub(crate) trait EntryForm {
     type Given;
 
@@ -27,10 +28,10 @@ pub(crate) trait EntryForm {
 
     ghost gives: { List ℕ → spec.Entry → Self.Given → List ℕ → Type 0 };
 
-    /// Returns the entry of the row whose tokens stand in the text from the place on, as `read_row` found them, which white space
-    /// leads or not, and takes over what it sets. A directive is None.
+    /// Returns the entry of a row, and applies what it sets to the context. Returns None for a directive. The row is at
+    /// `place` in the text, and `read_row` found its tokens, `spans`. `led` is whether it begins with white space.
     ///
-    /// Fails with an error other than `OutOfMemory` only if the row is no entry. Nothing changes then.
+    /// Fails with an error other than `OutOfMemory` only if the row is no entry. Nothing is then changed.
     fn take_row(
         &mut self,
         alloc: Global,

@@ -1,4 +1,4 @@
-//! Why a zone file is read no further.
+//! The error of a zone file.
 ghost use Rattle.std.specs.Prelude.{◌≡◌};
 ghost use Rattle.dns_row_scanner.specs.EntryError.{is_memory};
 ghost use Rattle.dns_zonefile.specs.Error.{line_of, reason_of};
@@ -15,7 +15,7 @@ pub struct Error {
 }
 
 impl Error {
-    /// The error of the row that begins in this line.
+    /// Returns the error of the row that begins in this line.
     pub(crate) fn new(line: usize, reason: EntryError) -> Self
         ensures line { line_of result ≡ line }
         ensures reason { reason_of result ≡ reason }
@@ -30,14 +30,14 @@ impl Error {
         self.line
     }
 
-    /// Returns why the row is refused.
+    /// Returns why the row cannot be read.
     pub fn reason(&self) -> EntryError
         ensures { result ≡ reason_of self.now }
     {
         self.reason
     }
 
-    /// Returns whether memory was refused. The row may then well be an entry.
+    /// Returns whether this is out of memory. The row may then still be an entry.
     pub fn is_memory(&self) -> bool
         ensures { result ≡ is_memory (reason_of self.now) }
     {

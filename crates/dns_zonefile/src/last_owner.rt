@@ -1,15 +1,15 @@
-//! The owner of the last record, which a row that white space leads has too (RFC 1035 5.1).
+//! The owner of the last record. A row that begins with white space has the same owner (RFC 1035 5.1).
 ghost use Rattle.std.specs.Prelude.{◌≡◌, Some, None};
 
 use dns_name::{Name, Octets};
 use std::marker::Model;
 
-/// The owner of the last record, if there was one. Only as many octets are copied as it has.
+/// The owner of the last record, if there was one. Setting it copies only as many octets as the name has.
 #[derive(Debug, Drop)]
 pub(crate) struct LastOwner {
-    /// The octets of the name, and behind them octets without a meaning.
+    /// The octets of the name, followed by octets without a meaning.
     octets: [u8; 255],
-    /// How many octets the name has. 0 if there was no record.
+    /// The length of the name in octets. 0 if there was no record.
     len: usize,
 }
 
@@ -25,7 +25,7 @@ impl Model for LastOwner {
 }
 
 impl LastOwner {
-    /// Returns what is kept before the first record.
+    /// Returns the value before the first record.
     pub(crate) fn none() -> Self
         ensures { result ≡ None }
     {
@@ -35,7 +35,7 @@ impl LastOwner {
         }
     }
 
-    /// Keeps this name.
+    /// Sets the name.
     pub(crate) fn set<Octs: Octets>(&mut self, name: &Name<Octs>)
         ensures { self.new ≡ Some name.now }
     {
@@ -44,7 +44,7 @@ impl LastOwner {
         self.len = octets.len();
     }
 
-    /// Returns the name that is kept.
+    /// Returns the name, if there is one.
     pub(crate) fn get(&self) -> Option<Name<&[u8]>>
         ensures { result ≡ self.now }
     {

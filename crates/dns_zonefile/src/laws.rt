@@ -1,4 +1,4 @@
-//! Laws of zone files. Each function does nothing; what it ensures is the law.
+//! Laws of zone files. Each function does nothing; its contract is the law.
 ghost use Rattle.std.specs.Prelude.{◌≡◌, ◌+◌, ◌++◌, ℕ, suc, [], false, List, None, Ok, Err, length};
 ghost use Rattle.dns_row_scanner.specs.EntryError.{is_memory};
 ghost use Rattle.dns_row_scanner.specs.declared.entry_error.EntryError.{EntryError};
@@ -7,8 +7,8 @@ ghost use Rattle.dns_text.specs.Rows.{BeginsWithRows, TokenRow};
 ghost use Rattle.dns_zonefile.specs.Entries.{AreEntries, HasEntries, IsRefusedAfter, refused_number};
 ghost use Rattle.dns_zonefile.specs.Reader.{Gives, GivesEach, Reader, left_of, without_directives};
 
-/// A text has its entries in one way: it is at most one list of entries to its end, is refused after at most one, and not both.
-/// So the number of the entry that is refused is one (RFC 1035 5.1).
+/// A text has its entries in one way: it is at most one list of entries up to its end, or fails after at most one, but
+/// not both. So the number of the entry that fails is determined (RFC 1035 5.1).
 pub fn texts_have_one_list_of_entries()
     ensures whole { (start : Context) (text : List ℕ) (entries others : List Entry) → HasEntries start text entries
         → HasEntries start text others → entries ≡ others }
@@ -18,19 +18,19 @@ pub fn texts_have_one_list_of_entries()
         → IsRefusedAfter start text others → ⊥ }
 {}
 
-/// A text that goes on behind its last whole row has the entries of that text, and more: those of what follows, in the context
-/// that the rows have left.
+/// A text that goes on after its last whole row has the entries of those rows, and then those of what follows, in the
+/// context after the rows.
 pub fn longer_texts_have_more_entries()
     ensures { (start after : Context) (text more : List ℕ) (rows : List TokenRow) (entries all : List Entry) → BeginsWithRows text rows []
         → AreEntries start rows entries after → HasEntries start (text ++ more) all
         → (behind : List Entry) × (all ≡ entries ++ behind) × HasEntries after more behind }
 {}
 
-/// What a reader gives, asked again and again, are the records and includes of its text, in order (RFC 1035 5.1).
+/// The results of a reader, called repeatedly, are the records and includes of its text, in order (RFC 1035 5.1).
 ///
-/// `whole`: where it gives None at last, the text that it had not yet read has these entries, and directives between them, and all
-/// of them are counted. `refused`: where it fails, and not for want of memory, the text is refused behind these entries, and the
-/// number of the refused one is known.
+/// `whole`: if it returns None at last, the unread text had these entries, with directives between them, and all of
+/// them are counted. `refused`: if it fails, and not because it is out of memory, the text fails after these entries,
+/// and the number of the failing entry is known.
 pub fn readers_give_the_entries_of_their_text()
     ensures whole { (old mid new : Reader) (entries : List Entry) → GivesEach old entries mid → Gives mid (Ok None) new
         → (all : List Entry) × HasEntries old.context (left_of old) all × (entries ≡ without_directives all)

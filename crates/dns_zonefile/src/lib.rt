@@ -1,9 +1,10 @@
 //! Zone files: the entries of a text, one after another (RFC 1035 5.1).
 //!
-//! A `Zonefile` is handed a text and gives its records, and the files that it includes; directives change what the rows behind them
-//! say. `scan_statement` reads what one row says in itself.
+//! A `Zonefile` takes a text and returns its records and the files that it includes. Directives change what the rows
+//! after them mean. `scan_statement` reads what a single row says.
 //!
-//! It hands on its parts: `dns_tokens` has the tokens and rows of a text, and `dns_row_scanner` the scanner over a row.
+//! The crate re-exports its parts: `dns_tokens`, the tokens and rows of a text, and `dns_row_scanner`, the scanner over
+//! a row.
 #![tactic(auto)]
 
 mod context;

@@ -1,4 +1,4 @@
-//! What a row says in itself, before the rows before it count (RFC 1035 5.1).
+//! What a row says by itself, without the rows before it (RFC 1035 5.1).
 ghost use Rattle.std.specs.Prelude.{◌≡◌, Bool, false, IfOk, IfErr, IsTrue};
 ghost use Rattle.dns_fields.specs.SpelledNames.{SpellOne};
 ghost use Rattle.dns_zonefile.specs.Directive.{BeginsDirective};
@@ -23,13 +23,13 @@ pub(crate) use owner::scan_owner;
 /// A record as a row states it (RFC 1035 5.1).
 #[derive(Drop)]
 pub struct Stated<Octs: Octets, N: ToName> {
-    /// The owner. None if white space leads the row, which then has the last owner.
+    /// The owner. None if the row begins with white space: then it has the last owner.
     pub owner: Option<N>,
     /// The TTL, if the row states one.
     pub ttl: Option<Ttl>,
     /// The class, if the row states one.
     pub class: Option<Class>,
-    /// The data, whose type is that of the record.
+    /// The data. Its type is that of the record.
     pub rdata: ZoneRecordData<Octs, N>,
 }
 
@@ -46,9 +46,10 @@ pub enum Statement<Octs: Octets, N: ToName> {
     StateRecord(Stated<Octs, N>),
 }
 
-/// Reads what a row says, which white space leads or not and whose tokens these are.
+/// Reads what a row says. `led` is whether it begins with white space; `scanner` is over its tokens.
 ///
-/// Fails with an error other than `short_buf` only if it says nothing. By condition a text spells one name at most.
+/// Fails with an error other than `short_buf` only if it says nothing. The caller guarantees that a text spells at most
+/// one name.
 #[tactic(auto, using(crate::proofs::Records::says_direction, crate::proofs::Records::no_direction))]
 pub fn scan_statement<S: EntryScanner>(
     led: bool,
@@ -68,7 +69,7 @@ where
     scan_record(led, scanner)
 }
 
-/// Returns whether the row is a directive. One that white space leads is none.
+/// Returns whether the row is a directive. A row that begins with white space is none.
 #[tactic(auto, using(crate::proofs::Records::led_no_directive, crate::proofs::Records::begins_no_directive))]
 pub(crate) fn begins_directive<S: EntryScanner>(led: bool, scanner: &S) -> bool
 where
@@ -82,7 +83,7 @@ where
     is_directive(scanner)
 }
 
-/// Reads the record that a row states, which is no directive.
+/// Reads the record that a row states. The caller guarantees that it is no directive.
 fn scan_record<S: EntryScanner>(
     led: bool,
     scanner: &mut S,

@@ -9,7 +9,7 @@ use dns_name::{Class, Name};
 use dns_tokens::TokenSpan;
 use std::alloc::{AllocError, Global};
 
-/// A reader of a zone file, whose text is handed to it.
+/// A reader of a zone file. The caller supplies its text, at once or in pieces.
 ///
 /// ```text
 /// let mut zonefile = Zonefile::new(alloc);
@@ -20,14 +20,14 @@ use std::alloc::{AllocError, Global};
 pub struct Zonefile {
     alloc: Global,
     text: Vec<u8>,
-    /// Where the rows begin that are not yet read.
+    /// The place of the first row that is not yet read.
     place: usize,
-    /// Where the tokens of a row stand, kept from row to row for its memory alone.
+    /// The tokens of a row. Kept from row to row only to reuse the memory.
     spans: Vec<TokenSpan>,
     context: Context,
-    /// How many entries were read.
+    /// The number of entries that were read.
     count: usize,
-    /// Why nothing more is read.
+    /// The error after which nothing more is read.
     refused: Option<Error>,
     ghost within: { place ≤ length text.items },
     ghost few: { count ≤ place },
@@ -37,7 +37,7 @@ impl Zonefile {
     ghost use Rattle.dns_zonefile.specs.Reader.{start_of_text};
     ghost use Rattle.dns_zonefile.specs.ReaderSeen.{entries_met, reader_of, refused_in, text_capacity};
 
-    /// Makes a reader without a text, an origin and a class. It grows on this allocator.
+    /// Returns a reader without a text, an origin or a class. It allocates with `alloc`.
     pub fn new(alloc: Global) -> Self
         ensures at { reader_of result ≡ start_of_text [] }
         ensures unrefused { refused_in result ≡ None }
@@ -45,7 +45,8 @@ impl Zonefile {
         Zonefile::from_vec(alloc, Vec::new(alloc))
     }
 
-    /// Makes a reader without a text that may grow to so many octets without asking for memory. Fails if there is no memory for it.
+    /// Returns a reader without a text, which may grow to `capacity` octets without another allocation. Fails if out of
+    /// memory.
     pub fn with_capacity(alloc: Global, capacity: usize) -> Result<Self, AllocError>
         ensures at { IfOk result (λ zonefile. reader_of zonefile ≡ start_of_text []) }
         ensures unrefused { IfOk result (λ zonefile. refused_in zonefile ≡ None) }
@@ -54,7 +55,7 @@ impl Zonefile {
         Ok(Zonefile::from_vec(alloc, Vec::with_capacity(alloc, capacity)?))
     }
 
-    /// Makes a reader of this text, which is not copied. What is read of it grows on this allocator.
+    /// Returns a reader of the text, without copying it. What is read of it is allocated with `alloc`.
     pub fn from_vec(alloc: Global, text: Vec<u8>) -> Self
         ensures at { reader_of result ≡ start_of_text text.items }
         ensures unrefused { refused_in result ≡ None }
@@ -71,9 +72,10 @@ impl Zonefile {
         }
     }
 
-    /// Puts more text behind the text, also when its end was met. Fails if there is no memory for it, and changes nothing then.
+    /// Appends to the text, also after its end was reached. Fails if out of memory, and then changes nothing.
     ///
-    /// White space and a comment behind the last line feed are not yet read when the end is met. The new text goes on with them.
+    /// White space and a comment after the last line feed are not yet read when the end is reached. The new text
+    /// continues them.
     pub fn extend_from_slice(&mut self, slice: &[u8]) -> Result<(), AllocError>
         ensures ok { OnOk result (reader_of self.new ≡ record (reader_of self.old) { text = (reader_of self.old).text ++ slice.now }) }
         ensures err { OnErr result (reader_of self.new ≡ reader_of self.old) }
@@ -93,7 +95,7 @@ impl Zonefile {
         self.context.origin = Some(origin);
     }
 
-    /// Sets the class of the records in the rows that are not yet read. One that states another is refused.
+    /// Sets the class of the records in the rows that are not yet read. A record that states another class is an error.
     pub fn set_default_class(&mut self, class: Class)
         ensures at { reader_of self.new ≡ record (reader_of self.old) {
           context = record (reader_of self.old).context { class = Some class };
@@ -103,7 +105,7 @@ impl Zonefile {
         self.context.class = Some(class);
     }
 
-    /// Returns how many entries were read, records, includes and directives, and the one that was refused.
+    /// Returns the number of entries that were read: records, includes and directives. An entry that failed counts too.
     pub fn entry_number(&self) -> usize
         ensures { result ≡ entries_met self.now }
     {

@@ -1,4 +1,4 @@
--- Lists of records that are alike have the same canonical octets, and no others have.
+-- Lists of records that are alike have the same canonical octets, and no others do.
 use Rattle.std.proofs.Common.{◌≡◌, ℕ, List, [], ◌∷◌, sym, ap, ◌∙◌, subst}
 use Rattle.std.specs.List.{AllByRecursion, AllZip, Contains, flat_map}
 use Rattle.dns_message.specs.Record.{IsRecord, record_octets}
@@ -39,7 +39,7 @@ pub among_same : (records others : List Record) (octets other_octets : List ℕ)
 among_same records others octets other_octets among among' is is' =
     is.written ∙ ap (flat_map record_octets) (forms_one records others octets other_octets among among' is is') ∙ sym is'.written
 
--- records that have forms are among themselves
+-- each record of a list with forms is in that list
 like_itself : (whole records forms : List Record) → AllByRecursion (Contains whole) records → AllByRecursion (HaveFormOf forms) records
     → AllByRecursion (LikeOne whole) records
 like_itself whole [] forms within all = tt

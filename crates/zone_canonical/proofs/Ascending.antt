@@ -1,4 +1,4 @@
--- Lists in strictly ascending order are one where they have the same elements.
+-- Lists in strictly ascending order are equal if they have the same elements.
 use Rattle.std.proofs.Common.{◌≡◌, ◌<◌, ◌⊎◌, ℕ, zero, suc, List, [], ◌∷◌, length, refl, sym, ap, ◌∙◌, subst, arith, inl, inr, ⊎_elim}
 use Rattle.std.specs.Prelude.{slice_index_or}
 use Rattle.std.specs.List.{AllByRecursion, Contains}
@@ -55,7 +55,7 @@ module _ {X : Type 0} {R : X → X → Ordering} (o : IsTotalOrder R) where
       (contains_cases x y xs has'))
       (contains_cases y x ys has)
 
-  -- an element behind the first of one list is behind the first of the other
+  -- an element after the first of one list is after the first of the other
   behind : (x y z : X) (xs ys : List X) → AllByRecursion (λ w. R x w ≡ Less) xs → x ≡ y → Contains xs z → Contains (y ∷ ys) z → Contains ys z
   behind x y z xs ys up heads has has' =
       ⊎_elim

@@ -102,7 +102,7 @@ each_rest (field ∷ row) others each = each_rest row others each.1
 canonical-append : (row others : List Field) → canonical_octets (row ++ others) ≡ canonical_octets row ++ canonical_octets others
 canonical-append row others = ap octets (map-append lowered row others) ∙ flat_map-append field_octets (map lowered row) (map lowered others)
 
--- the names of a row in lower case, and the numbers before and after them as they are
+-- the names of a row in lower case, and the numbers before and after them unchanged
 named_row : (row : List Field) (before names after : List Kind) → AllByRecursion IsNumber before → AllByRecursion IsOfNames names
     → AllByRecursion IsNumber after → map kind_of row ≡ before ++ (names ++ after) → AllByRecursion IsField row
     → canonical_octets row ≡ lower_names (record { before = octets_in before; after = octets_in after }) (octets row)
@@ -130,7 +130,7 @@ named_row row before names after are_before are_names are_after is each =
     (octets one.front) (octets two.front) (octets two.rest) (sym front_long)
     (omega (arith, rest_long, length-append (octets one.front) (octets two.front ++ octets two.rest), length-append (octets two.front) (octets two.rest)))))
 
--- a kind of row: without names, or with names that nothing but numbers stands beside
+-- a kind of row: without names, or with names beside which there are only numbers
 data Shape (kinds : List Kind) : Type 0 where
   plain : AllByRecursion IsPlain kinds → places_in 0 kinds ≡ None → Shape kinds
   named : (before names after : List Kind) → AllByRecursion IsNumber before → AllByRecursion IsOfNames names → AllByRecursion IsNumber after
@@ -226,7 +226,7 @@ shape_form rtype row (named before names after are_before are_names are_after ki
 pub row_form : (rtype : ℕ) (row : List Field) → IsRow rtype row → canonical_octets row ≡ data_form rtype (octets row)
 row_form rtype row is = shape_form rtype row (in_table table table_shapes rtype (map kind_of row) is.kinds) is.kinds is.each
 
--- opaque data is as it stands
+-- unknown data is unchanged
 pub opaque_form : (rtype : ℕ) (data' : List ℕ) → kinds_of rtype ≡ None → data_form rtype data' ≡ data'
 unfolding places_of
 opaque_form rtype data' unknown = ap (λ k. form_with (option_and_then (places_in 0) k) data') unknown

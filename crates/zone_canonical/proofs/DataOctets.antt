@@ -35,7 +35,7 @@ end_second : (start end index m n : ℕ) (rest : List ℕ) → n + length rest �
 end_second start end index m n [] is = nat_cmp_is m n Equal (omega arith)
 end_second start end index m n (octet ∷ rest) is = nat_cmp_is m n Greater (omega arith)
 
--- behind as many octets as one of them has
+-- at the end of the shorter one
 pub order_end : (start end other_end index : ℕ) (data' other : List ℕ) → index ≤ length data' → index ≤ length other
     → (index ≡ length data') ⊎ (index ≡ length other)
     → slice_cmp nat_cmp (lower_between start end index (drop index data')) (lower_between start other_end index (drop index other))

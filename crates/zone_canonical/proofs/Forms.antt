@@ -1,4 +1,4 @@
--- A record has one canonical form, and records in canonical form that tie are one.
+-- A record has one canonical form, and records in canonical form that compare as equal are one.
 use Rattle.std.proofs.Common.{◌≡◌, ℕ, true, false, List, [], ◌∷◌, map, refl, sym, ap, ◌∙◌, nat_eq}
 use Rattle.std.specs.Prelude.{Some, None}
 use Rattle.std.specs.Char.{to_ascii_lowercase}
@@ -68,7 +68,7 @@ text_tie a b tie = (bytes_decides a b).0 (texts_ties a b ∙ tie)
 owner_tie : (a b : List (List ℕ)) → is_eq (labels_order a b) ≡ true → low a ≡ low b
 owner_tie a b tie = (pointwise_decides {E = pointwise nat_eq} bytes_decides (low a) (low b)).0 (labels_ties a b ∙ tie)
 
--- forms that tie are one
+-- forms that compare as equal are one
 pub tied_forms : (one other : Record) → low one.owner ≡ one.owner → low other.owner ≡ other.owner
     → eq_by_cmp canonical_cmp one other ≡ true → one ≡ other
 unfolding canonical_cmp

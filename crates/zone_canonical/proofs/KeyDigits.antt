@@ -13,7 +13,7 @@ lowered label = map to_ascii_lowercase label
 abbrev pub from_right : List (List ℕ) → List (List ℕ)
 from_right labels = reverse (low labels)
 
--- the labels behind others come first from the right
+-- labels after others come first from the right
 pub right_front : (front rest : List (List ℕ)) → from_right (front ++ rest) ≡ from_right rest ++ from_right front
 right_front front rest = ap reverse (map-append lowered front rest) ∙ reverse-append (low front) (low rest)
 

@@ -1,4 +1,4 @@
--- A lesser key is that of an owner that comes first.
+-- An owner with a lesser key comes first.
 use Rattle.std.proofs.Common.{◌≡◌, ℕ, zero, suc, ◌+◌, ◌-◌, ◌*◌, ◌^◌, ◌<◌, ◌≤◌, List, [], ◌∷◌, ◌++◌, true, false, ltb, refl, sym, ap, ◌∙◌, arith, ⊎_elim}
 use Rattle.std.specs.Ordering.{nat_cmp, ordering_then, ordering_reverse, is_eq}
 use Rattle.std.specs.Cmp.{nat_cmp_is}
@@ -17,7 +17,7 @@ then_assoc Less b c = refl
 then_assoc Equal b c = refl
 then_assoc Greater b c = refl
 
--- what an octet and the digits after it come to
+-- the value of an octet and the digits after it
 data Coded (octet digits more all : ℕ) : Type 0 where
   inside : octet < 256 → all ≡ suc octet * 512 ^ digits + more → Coded octet digits more all
   past : 256 ≤ octet → all ≡ 512 ^ suc digits - 1 → Coded octet digits more all
@@ -38,7 +38,7 @@ pow_some : (digits : ℕ) → 0 < 512 ^ digits
 pow_some zero = omega arith
 pow_some (suc digits) = omega (arith, pow_more digits, pow_some digits)
 
--- a digit that is less decides
+-- a lesser digit decides
 less_digit : (digit other unit more : ℕ) → digit < other → more < unit → digit * unit + more < other * unit
 less_digit digit other unit more less few = omega (arith, mul-le-mul_right unit (let h : digit + 1 ≤ other = omega arith in h))
 
@@ -67,7 +67,7 @@ code_digit octet digits label labels few =
       | past many is ↦ absurd (omega arith)
     ]
 
--- an octet comes to more than what may stand in its place
+-- an octet is worth more than anything that may be in its place
 some_octet : (octet digits : ℕ) (label : List ℕ) (labels : List (List ℕ)) → 512 ^ digits ≤ code (suc digits) (octet ∷ label) labels
 some_octet octet digits label labels =
     elim (coded octet digits label labels) as (λ _. 512 ^ digits ≤ code (suc digits) (octet ∷ label) labels) [
@@ -75,7 +75,7 @@ some_octet octet digits label labels =
       | past many is ↦ omega (arith, is, pow_more digits, pow_some digits)
     ]
 
--- an octet that is less decides
+-- a lesser octet decides
 less_octet : (octet other digits : ℕ) (label others : List ℕ) (labels more : List (List ℕ)) → other < octet
     → code (suc digits) (octet ∷ label) labels < code (suc digits) (other ∷ others) more → ⊥
 less_octet octet other digits label others labels more less below =
@@ -88,7 +88,7 @@ less_octet octet other digits label others labels more less below =
       | past many is ↦ omega (arith, is, code_bound (suc digits) (other ∷ others) more)
     ]
 
--- the same octet leaves it to those after it
+-- equal octets leave the decision to those after them
 same_octet : (octet other digits : ℕ) (label others : List ℕ) (labels more : List (List ℕ)) → octet ≡ other
     → code (suc digits) (octet ∷ label) labels < code (suc digits) (other ∷ others) more → code digits label labels < code digits others more
 same_octet octet other digits label others labels more same below =
@@ -108,7 +108,7 @@ order_octets octet other tied within same =
     ap (λ o. ordering_then o tied) (sym (nat_cmp_is octet other Equal tie)) ∙ same tie)
     (cases_lt octet other)
 
--- a lesser code is that of labels that come first
+-- labels with a lesser code come first
 code_order : (digits : ℕ) (label other : List ℕ) (labels others : List (List ℕ)) → code digits label labels < code digits other others
     → slice_cmp (slice_cmp nat_cmp) (label ∷ labels) (other ∷ others) ≡ Less
 unfolding code
@@ -138,7 +138,7 @@ front_order [] (label ∷ other) less = refl
 front_order (label ∷ name) [] less = absurd (omega arith)
 front_order (label ∷ name) (label' ∷ other) less = code_order 14 label label' name other less
 
--- how a label stands to that of the apex, and what the key then is
+-- how a label compares with that of the apex, and what the key then is
 data Beside (label of_apex : List ℕ) (rest key : ℕ) : Type 0 where
   before : slice_cmp nat_cmp label of_apex ≡ Less → key ≡ 0 → Beside label of_apex rest key
   at : slice_cmp nat_cmp label of_apex ≡ Equal → key ≡ rest → Beside label of_apex rest key
@@ -174,7 +174,7 @@ above label of_apex more = nat_list_cmp_total.antisymm of_apex label ∙ ap orde
 same_label : (label other : List ℕ) → text_cmp label other ≡ Equal → label ≡ other
 same_label label other tie = (bytes_decides label other).0 (texts_ties label other ∙ ap is_eq tie)
 
--- a lesser key is that of a name that comes first
+-- a name with a lesser key comes first
 pub key_order : (apex name other : List (List ℕ)) → key_from apex name < key_from apex other → slice_cmp (slice_cmp nat_cmp) name other ≡ Less
 unfolding key_from
 key_order [] name other less = front_order name other less

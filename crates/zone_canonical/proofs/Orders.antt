@@ -28,7 +28,7 @@ first_apart Less rest apart = refl
 first_apart Equal rest apart = absurd (apart refl)
 first_apart Greater rest apart = refl
 
--- what decides where owners and types tie
+-- what decides if owners and types are equal
 abbrev rest_cmp : Record → Record → Ordering
 rest_cmp one other =
     ordering_then (slice_cmp nat_cmp one.rdata other.rdata) (ordering_then (nat_cmp one.ttl other.ttl) (nat_cmp one.class other.class))
@@ -41,14 +41,14 @@ in_two one other =
     then_assoc (labels_order one.owner other.owner) (nat_cmp one.rtype other.rtype) (rest_cmp (form_of one) (form_of other))
     ∙ ap (λ o. ordering_then o (ordering_then (nat_cmp one.rtype other.rtype) (rest_cmp (form_of one) (form_of other)))) (order_low one.owner other.owner)
 
--- by owners and types, where these don't tie
+-- by owners and types, if these differ
 pub by_front : (one other : Record) (first : Ordering) → (first ≡ Equal → ⊥)
     → first ≡ ordering_then (labels_order one.owner other.owner) (nat_cmp one.rtype other.rtype) → first ≡ canonical_cmp (form_of one) (form_of other)
 by_front one other first apart is =
     first_apart first (rest_cmp (form_of one) (form_of other)) apart
     ∙ ap (λ o. ordering_then o (rest_cmp (form_of one) (form_of other))) is ∙ in_two one other
 
--- and else by what stands behind them
+-- and else by what follows them
 pub by_rest : (one other : Record) (first rdata ttl class fixed whole : Ordering) → first ≡ Equal
     → first ≡ ordering_then (labels_order one.owner other.owner) (nat_cmp one.rtype other.rtype)
     → rdata ≡ slice_cmp nat_cmp (data_form one.rtype one.rdata) (data_form one.rtype other.rdata) → ttl ≡ nat_cmp one.ttl other.ttl
@@ -65,7 +65,7 @@ by_rest one other first rdata ttl class fixed whole tied is rdata_is ttl_is clas
     ∙ (λ i. ordering_then (slice_cmp nat_cmp (data_form one.rtype one.rdata) (data_form (same i) other.rdata)) (ordering_then (ttl_is i) (class_is i))) in
     rest ∙ ap (λ o. ordering_then o (rest_cmp (form_of one) (form_of other))) both ∙ in_two one other
 
--- by keys, where these don't tie
+-- by keys, if these differ
 pub by_key : (one other : Keyed) (first : Ordering) → (first ≡ Equal → ⊥) → first ≡ nat_cmp one.key other.key → first ≡ keyed_cmp one other
 unfolding keyed_cmp
 by_key one other first apart is =
@@ -78,7 +78,7 @@ unfolding keyed_cmp
 by_form one other first whole tied is whole_is =
     whole_is ∙ ap (λ o. ordering_then o (canonical_cmp one.form other.form)) (sym tied ∙ is)
 
--- a form with the key of its owner beside an apex
+-- a form with the key of its owner relative to an apex
 abbrev pub tagged : List (List ℕ) → Record → Keyed
 tagged apex form = with_key (key_of apex form.owner) form
 

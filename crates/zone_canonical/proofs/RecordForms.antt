@@ -44,14 +44,14 @@ length-form_with : (places : Option NamePlaces) (data' : List ℕ) → length (f
 length-form_with None data' = refl
 length-form_with (Some places) data' = length-lower places.before (length data' - places.after) 0 data'
 
--- names of the same octets are one
+-- names with the same octets are one
 pub same_owner : (name other : List (List ℕ)) (octets others : List ℕ) → octets ≡ wire name → others ≡ wire other
     → pointwise nat_eq octets others ≡ true → Equal ≡ labels_order name other
 same_owner name other octets others is are same =
     let one : name ≡ other = wire_one name other (sym is ∙ (bytes_decides octets others).0 same ∙ are) in
     sym (tied_itself labels_total name) ∙ ap (labels_order name) one
 
--- what stands in a record between its owner and its data
+-- what is in a record between its owner and its data
 abbrev middle_of : Record → List ℕ
 middle_of r = fixed_octets r.rtype r.class r.ttl ++ to_be_bytes w16 (length r.rdata)
 
@@ -75,7 +75,7 @@ middle_found r whole start end is from to =
     ∙ ap (take (length (middle_of r))) (drop-append_seam (wire r.owner) (middle_of r ++ r.rdata))
     ∙ take-append_seam (middle_of r) r.rdata
 
--- the owner in lower case, what stands behind it, and the data in canonical form
+-- the owner in lower case, what follows it, and the data in canonical form
 form_written : (r : Record) (old : List ℕ) → IsName r.owner
     → ((old ++ map to_ascii_lowercase (wire r.owner)) ++ middle_of r) ++ data_form r.rtype r.rdata ≡ old ++ record_octets (form_of r)
 form_written r old is =
@@ -89,7 +89,7 @@ form_written r old is =
     ∙ ap (λ l. old ++ (wire (low r.owner) ++ (l ++ form))) long
     ∙ ap (λ l. old ++ l) (sym (in_parts (form_of r)))
 
--- the same of octets that were appended one after another
+-- the same, appended one after another
 pub form_appended : (r : Record) (name : List (List ℕ)) (old whole octets data' lowered extended new : List ℕ) (rtype start : ℕ) → IsName r.owner
     → whole ≡ record_octets r → name ≡ r.owner → octets ≡ wire name → start ≡ length (wire name) → data' ≡ r.rdata → rtype ≡ r.rtype
     → lowered ≡ old ++ map to_ascii_lowercase octets

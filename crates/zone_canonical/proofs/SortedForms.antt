@@ -1,4 +1,4 @@
--- The canonical forms of records, sorted and with repeats left out, are those that are written.
+-- The canonical forms of records, sorted and without repeats, are those that are written.
 use Rattle.std.proofs.Common.{◌≡◌, ℕ, List, [], ◌∷◌, refl, sym, subst}
 use Rattle.std.specs.List.{AllByRecursion, AllZip, All, Contains, dedup, flat_map}
 use Rattle.std.specs.List.Sorted.{IsPermutation, IsSorted}
@@ -45,7 +45,7 @@ IsLow form = low form.owner ≡ form.owner
 only_low : (records : List Record) (form : Record) → IsFormOfOne records form → IsLow form
 only_low records form only = form_low only.0 form only.2
 
--- one of the forms is left where repeats are left out
+-- a form is in the list also without repeats
 kept : (sorted : List Record) (form : Record) → AllByRecursion IsLow sorted → Contains sorted form
     → Contains (dedup (eq_by_cmp canonical_cmp) sorted) form
 kept sorted form lows has =

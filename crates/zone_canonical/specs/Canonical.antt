@@ -11,8 +11,8 @@ use Rattle.dns_rdata.specs.Fields.{Field, IsRow, IsData, kinds_of, octets, canon
 use Rattle.dns_message.specs.Record.{IsRecord, record_octets}
 use Rattle.zone_octets.specs.Record.{Record}
 
--- Data of a type in canonical form: its fields with the letters of their names in lower case; opaque data is its octets
--- (RFC 4034 6.2, RFC 3597 7).
+-- Data of a type in canonical form: its fields with their names in lower case. Unknown data is its octets (RFC 4034
+-- 6.2, RFC 3597 7).
 pub data IsCanonicalData (rtype : ℕ) (data' canonical : List ℕ) : Type 0 where
   typed : (row : List Field) → IsRow rtype row → data' ≡ octets row → canonical ≡ canonical_octets row → IsCanonicalData rtype data' canonical
   opaque : kinds_of rtype ≡ None → canonical ≡ data' → IsCanonicalData rtype data' canonical
@@ -54,7 +54,7 @@ pub record IsCanonical (records : List Record) (octets : List ℕ) : Type 0 wher
   pub all : AllByRecursion (HaveFormOf forms) records
   pub written : octets ≡ flat_map record_octets forms
 
--- two records that have one canonical form: they differ in the case of names at most (RFC 4034 6.2)
+-- two records with the same canonical form: they differ at most in the case of names (RFC 4034 6.2)
 abbrev pub AreAlike : Record → Record → Type 0
 AreAlike r other = (form : Record) × IsCanonicalOf r form × IsCanonicalOf other form
 

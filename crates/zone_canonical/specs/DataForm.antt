@@ -1,4 +1,4 @@
--- The canonical form of data as octets: those of its names are in lower case (RFC 4034 6.2). Only contracts inside the crate speak of it.
+-- The canonical form of data as octets: names in lower case (RFC 4034 6.2). Only contracts inside the crate name it.
 use Rattle.std.specs.Prelude.{◌+◌, ◌-◌, ◌&&◌, ℕ, suc, List, [], ◌∷◌, length, Option, Some, None, nat_le, nat_lt}
 use Rattle.std.specs.Prelude.{if◌then◌else◌}
 use Rattle.std.specs.Char.{to_ascii_lowercase}
@@ -6,30 +6,31 @@ use Rattle.std.specs.Option.{option_and_then}
 use Rattle.dns_rdata.specs.Fields.{Kind, Number8, Number16, Number32, Compressible, Uncompressed, kinds_of}
 use Rattle.zone_canonical.specs.declared.data.NamePlaces.{NamePlaces}
 
--- how many octets a number has
+-- the length of a number in octets
 abbrev pub octets_of : Kind → ℕ
 octets_of Number8 = 1
 octets_of Number16 = 2
 octets_of Number32 = 4
 octets_of kind = 0
 
--- how many octets the numbers have
+-- the length of the numbers in octets
 abbrev pub octets_in : List Kind → ℕ
 octets_in [] = 0
 octets_in (kind ∷ kinds) = octets_of kind + octets_in kinds
 
--- where the names of a row stand, which has so many octets before these kinds: all of them one after another, and beside them only numbers
+-- the place of the names in a row with this number of octets before these kinds, if the names follow each other and all
+-- other fields are numbers
 abbrev pub places_in : ℕ → List Kind → Option NamePlaces
 places_in before [] = None
 places_in before (Compressible ∷ kinds) = Some (record { before = before; after = octets_in kinds })
 places_in before (Uncompressed ∷ kinds) = Some (record { before = before; after = octets_in kinds })
 places_in before (kind ∷ kinds) = places_in (before + octets_of kind) kinds
 
--- where the names of the data of a type stand, None where it has none
+-- the place of the names in data of a type, or None if it has none
 unfoldable pub places_of : ℕ → Option NamePlaces
 places_of rtype = option_and_then (places_in 0) (kinds_of rtype)
 
--- an octet of data in canonical form, of which the names stand between two places
+-- an octet of data in canonical form, if its names are between two places
 abbrev pub form_octet : ℕ → ℕ → ℕ → ℕ → ℕ
 form_octet start end index octet = if nat_le start index && nat_lt index end then to_ascii_lowercase octet else octet
 
@@ -42,7 +43,7 @@ lower_between start end index (octet ∷ octets) = form_octet start end index oc
 abbrev pub lower_names : NamePlaces → List ℕ → List ℕ
 lower_names places data' = lower_between places.before (length data' - places.after) 0 data'
 
--- data of which the names stand there, in canonical form
+-- data in canonical form, if its names are there
 abbrev pub form_with : Option NamePlaces → List ℕ → List ℕ
 form_with None data' = data'
 form_with (Some places) data' = lower_names places data'

@@ -1,4 +1,4 @@
--- The canonical form of a record, as a function. Only contracts inside the crate speak of it.
+-- The canonical form of a record, as a function. Only contracts inside the crate name it.
 use Rattle.dns_label.specs.Name.{low}
 use Rattle.zone_octets.specs.Record.{Record}
 use Rattle.zone_canonical.specs.DataForm.{data_form}

@@ -1,4 +1,4 @@
--- Records in canonical form that are sorted by keys. Only contracts inside the crate speak of them.
+-- Records in canonical form, sorted by keys. Only contracts inside the crate name them.
 use Rattle.std.specs.Prelude.{ℕ, List}
 use Rattle.std.specs.Cmp.{IsTotalOrder, on_total, nat_cmp_total}
 use Rattle.std.specs.Ordering.{on, then_cmp, nat_cmp}
@@ -23,11 +23,11 @@ with_key key form = record { key = key; form = form }
 abbrev pub form_octets : Keyed → List ℕ
 form_octets entry = record_octets entry.form
 
--- the canonical form of a record with the key of its owner beside an apex
+-- the canonical form of a record with the key of its owner relative to an apex
 abbrev pub keyed : List (List ℕ) → Record → Keyed
 keyed apex r = with_key (key_of apex r.owner) (form_of r)
 
--- by key, and then by canonical form
+-- by key, then by canonical form
 unfoldable pub keyed_cmp : Keyed → Keyed → Ordering
 keyed_cmp = then_cmp (on (λ (entry : Keyed). entry.key) nat_cmp) (on (λ (entry : Keyed). entry.form) canonical_cmp)
 

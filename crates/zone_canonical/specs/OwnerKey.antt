@@ -1,4 +1,4 @@
--- The keys that owners are sorted by. Only contracts inside the crate speak of them.
+-- The keys by which owners are sorted. Only contracts inside the crate name them.
 use Rattle.std.specs.Prelude.{◌≡◌, ◌++◌, ◌+◌, ◌-◌, ◌*◌, ◌^◌, ℕ, zero, suc, List, [], ◌∷◌, reverse, nat_lt}
 use Rattle.std.specs.Prelude.{if◌then◌else◌}
 use Rattle.std.specs.Ordering.{nat_cmp}
@@ -7,8 +7,8 @@ use Rattle.std.specs.declared.cmp.Ordering.TheVariants.{Less, Equal, Greater}
 use Rattle.std.specs.Cmp.Lexicographic.{slice_cmp}
 use Rattle.dns_label.specs.Name.{low}
 
--- So many digits of base 512 as one number: those of the rest of a label, and of the labels after it. An octet's digit is one more
--- than the octet, so that 0 is left for the end of a label. No octet is past 255.
+-- This number of digits in base 512, as one number: those of the rest of a label, and of the labels after it. An
+-- octet's digit is the octet plus one, so 0 is left for the end of a label. No octet is greater than 255.
 unfoldable pub code : ℕ → List ℕ → List (List ℕ) → ℕ
 code zero label labels = 0
 code (suc digits) [] [] = 0
@@ -21,23 +21,24 @@ unfoldable pub front_key : List (List ℕ) → ℕ
 front_key [] = 0
 front_key (label ∷ labels) = code 14 label labels
 
--- the key of a name that differs from an apex at a label by this order: 0 before the names under it, and the most after them
+-- the key of a name that differs from an apex at a label in this order: 0 before the names under it, and the greatest
+-- key after them
 abbrev pub key_beside : Ordering → ℕ → ℕ
 key_beside Less key = 0
 key_beside Equal key = key
 key_beside Greater key = 2 ^ 128 - 1
 
--- the key of a name beside an apex, by the labels of both from the right
+-- the key of a name relative to an apex, by the labels of both from the right
 unfoldable pub key_from : List (List ℕ) → List (List ℕ) → ℕ
 key_from [] name = front_key name
 key_from (label ∷ apex) [] = 0
 key_from (label ∷ apex) (other ∷ name) = key_beside (slice_cmp nat_cmp other label) (key_from apex name)
 
--- the key of an owner beside an apex, whatever the case of their letters
+-- the key of an owner relative to an apex, up to ASCII case
 abbrev pub key_of : List (List ℕ) → List (List ℕ) → ℕ
 key_of apex owner = key_from (reverse (low apex)) (reverse (low owner))
 
--- the label is the last one, which is taken off; or there is none, and it is empty
+-- the label is the last one, which is removed; or there is none, and it is empty
 pub data TakesLast (labels : List (List ℕ)) (label : List ℕ) (left : List (List ℕ)) : Type 0 where
   some : labels ≡ left ++ label ∷ [] → TakesLast labels label left
   none : labels ≡ [] → label ≡ [] → left ≡ [] → TakesLast labels label left

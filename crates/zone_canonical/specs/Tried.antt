@@ -1,4 +1,4 @@
--- The definitions tried on a zone that is written out.
+-- Examples of the definitions, with a zone in full.
 use Rattle.std.specs.Prelude.{◌≡◌, ℕ, List, [], ◌∷◌, refl}
 use Rattle.std.specs.List.Sorted.{IsStrictlySortedBy}
 use Rattle.std.specs.declared.cmp.Ordering.TheVariants.{Less}

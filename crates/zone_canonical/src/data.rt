@@ -1,4 +1,4 @@
-//! Data in canonical form, in which the letters of names are in lower case (RFC 4034 6.2).
+//! Data in canonical form: with its names in lower case (RFC 4034 6.2).
 ghost use Rattle.std.specs.Prelude.{◌≡◌, ◌<◌, ◌++◌, ◌-◌, length, OnOk, slice_index};
 ghost use Rattle.std.specs.Cmp.Lexicographic.{slice_cmp};
 ghost use Rattle.std.specs.Ordering.{nat_cmp};
@@ -8,14 +8,14 @@ use dns_name::Rtype;
 use std::alloc::AllocError;
 use std::cmp::Ordering;
 
-/// Where the names of data stand: between so many octets before them, and so many after them.
+/// The place of the names in data: how many octets precede them, and how many follow.
 #[derive(Clone, Copy, Debug)]
 pub(crate) struct NamePlaces {
     before: usize,
     after: usize,
 }
 
-/// Returns where the names stand in data of the type, or None if it has none.
+/// Returns the place of the names in data of the type, or None if it has none.
 #[tactic(auto, unfolding(crate::specs::DataForm::places_of))]
 fn places_of(rtype: Rtype) -> Option<NamePlaces>
     ensures { result ≡ places_of rtype }
@@ -53,7 +53,7 @@ fn places_of(rtype: Rtype) -> Option<NamePlaces>
     }
 }
 
-/// Appends data of the type in canonical form. Fails only if out of memory.
+/// Appends data of the type in canonical form. Fails if out of memory.
 pub(crate) fn append_data(rtype: Rtype, data: &[u8], octets: &mut Vec<u8>) -> Result<(), AllocError>
     ensures { OnOk result (octets.new.items ≡ octets.old.items ++ data_form rtype «data».now) }
 {
@@ -63,7 +63,7 @@ pub(crate) fn append_data(rtype: Rtype, data: &[u8], octets: &mut Vec<u8>) -> Re
     }
 }
 
-/// Appends data with its names in lower case. Fails only if out of memory.
+/// Appends data with its names in lower case. Fails if out of memory.
 fn append_lowered(data: &[u8], places: NamePlaces, octets: &mut Vec<u8>) -> Result<(), AllocError>
     ensures { OnOk result (octets.new.items ≡ octets.old.items ++ lower_names places «data».now) }
 {
@@ -73,7 +73,7 @@ fn append_lowered(data: &[u8], places: NamePlaces, octets: &mut Vec<u8>) -> Resu
     Ok(())
 }
 
-/// Returns an octet of data, in lower case if it is of a name.
+/// Returns the octet of the data at `index`, in lower case if it is part of a name.
 fn form_octet(data: &[u8], places: NamePlaces, index: usize) -> u8
     requires { index < length «data».now }
     ensures { result ≡ form_octet places.before (length «data».now - places.after) index (slice_index «data».now index) }
@@ -100,7 +100,7 @@ pub(crate) fn cmp_data(rtype: Rtype, data: &[u8], other: &[u8]) -> Ordering
     }
 }
 
-/// Compares data with its names in lower case.
+/// Compares data by its octets, names in lower case.
 fn cmp_lowered(data: &[u8], other: &[u8], places: NamePlaces) -> Ordering
     ensures { result ≡ slice_cmp nat_cmp (lower_names places «data».now) (lower_names places other.now) }
 {

@@ -1,4 +1,4 @@
-//! What is sorted in place of records.
+//! Entries to sort in place of records.
 ghost use Rattle.std.specs.Prelude.{◌≡◌, ◌++◌, OnOk};
 ghost use Rattle.std.proofs.Common.{refl};
 ghost use Rattle.std.specs.Cmp.{partial_equiv_from_equiv, partial_order_from_total, partial_order_from_own_ties, eq_by_cmp_equiv};
@@ -12,8 +12,8 @@ use std::cmp::Ordering;
 use std::marker::Model;
 use zone_octets::record::Record;
 
-/// A stored record, seen in its canonical form (RFC 4034 6.2), with a key. It is compared by its key first, so that most comparisons
-/// don't look at the record.
+/// A stored record, viewed in canonical form (RFC 4034 6.2), with a key. Entries are compared by key first, so most
+/// comparisons do not read the records.
 #[derive(Drop)]
 pub(crate) struct Entry<'a> {
     key: u128,
@@ -35,7 +35,7 @@ impl<'a> Model for Entry<'a> {
 }
 
 impl<'a> Entry<'a> {
-    /// Returns the record with the key.
+    /// Returns the entry of a record with a key.
     pub(crate) fn new(key: u128, source: &Record<'a>) -> Entry<'a>
         ensures { result ≡ with_key key (form_of source.now) }
     {
@@ -52,12 +52,12 @@ impl<'a> Entry<'a> {
         Record::from_octets(self.octets)
     }
 
-    /// Returns how many octets the record has.
+    /// Returns the length of the record in octets.
     pub(crate) fn len(&self) -> usize {
         self.octets.len()
     }
 
-    /// Appends the octets of the record in canonical form. Fails only if out of memory.
+    /// Appends the octets of the record in canonical form. Fails if out of memory.
     pub(crate) fn append_to(&self, octets: &mut Vec<u8>) -> Result<(), AllocError>
         ensures { OnOk result (octets.new.items ≡ octets.old.items ++ form_octets self.now) }
     {
@@ -89,7 +89,7 @@ impl<'a> PartialOrd for Entry<'a> {
     }
 }
 
-/// By key, and then by canonical form.
+/// By key, then by canonical form.
 impl<'a> Ord for Entry<'a> {
     ghost cmp = { keyed_cmp };
 

@@ -1,5 +1,5 @@
-//! Records in canonical form (RFC 4034 6.2): compared, and appended as octets. They are looked at where they are stored, and nothing is
-//! parsed.
+//! Records in canonical form (RFC 4034 6.2): compared, and appended as octets. They are read where they are stored,
+//! without parsing.
 ghost use Rattle.std.specs.Prelude.{◌≡◌, ◌++◌, OnOk, map};
 ghost use Rattle.std.specs.Char.{to_ascii_lowercase};
 ghost use Rattle.dns_message.specs.Record.{record_octets};
@@ -13,7 +13,7 @@ use std::alloc::AllocError;
 use std::cmp::Ordering;
 use zone_octets::record::Record;
 
-/// Compares two records in canonical form: by owner, type and data (RFC 4034 6.1, 6.3), then by TTL, and by class.
+/// Compares two records in canonical form: by owner, type and data (RFC 4034 6.1, 6.3), then by TTL, then by class.
 pub(crate) fn cmp_forms(record: &Record<'_>, other: &Record<'_>) -> Ordering
     ensures { result ≡ canonical_cmp (form_of «record».now) (form_of other.now) }
 {
@@ -30,8 +30,8 @@ pub(crate) fn cmp_forms(record: &Record<'_>, other: &Record<'_>) -> Ordering
     }
 }
 
-/// Compares owners, label by label from the right (RFC 4034 6.1). Most of those that are equal are equal in case too, which is seen
-/// sooner.
+/// Compares owners label by label from the right, up to ASCII case (RFC 4034 6.1). Most equal owners are equal in case
+/// too, and that test is faster.
 fn cmp_owners(owner: &Name<&[u8]>, other: &Name<&[u8]>) -> Ordering
     ensures { result ≡ labels_order owner.now other.now }
 {
@@ -42,7 +42,7 @@ fn cmp_owners(owner: &Name<&[u8]>, other: &Name<&[u8]>) -> Ordering
     }
 }
 
-/// Appends the octets of a record in canonical form. Fails only if out of memory.
+/// Appends the octets of a record in canonical form. Fails if out of memory.
 pub(crate) fn append_form(record: &Record<'_>, octets: &mut Vec<u8>) -> Result<(), AllocError>
     ensures { OnOk result (octets.new.items ≡ octets.old.items ++ record_octets (form_of «record».now)) }
 {
@@ -50,12 +50,12 @@ pub(crate) fn append_form(record: &Record<'_>, octets: &mut Vec<u8>) -> Result<(
     let owner = record.owner();
     let data = record.data();
     append_lowered(owner.as_slice(), octets)?;
-    // Data in canonical form is as long, so its length stays too.
+    // Data in canonical form has the same length, so RDLENGTH stays too.
     octets.extend_from_slice(&whole[owner.len()..whole.len() - data.len()])?;
     append_data(record.rtype(), data, octets)
 }
 
-/// Appends octets with ASCII letters in lower case. Fails only if out of memory.
+/// Appends octets with ASCII letters in lower case. Fails if out of memory.
 fn append_lowered(name: &[u8], octets: &mut Vec<u8>) -> Result<(), AllocError>
     ensures { OnOk result (octets.new.items ≡ octets.old.items ++ map to_ascii_lowercase name.now) }
 {

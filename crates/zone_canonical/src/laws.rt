@@ -1,25 +1,25 @@
-//! Laws of canonical octets. Each function does nothing; what it ensures is the law.
+//! Laws of canonical octets. Each function does nothing; its contract is the law.
 ghost use Rattle.std.specs.Prelude.{◌≡◌, ◌↔◌, ℕ, List};
 ghost use Rattle.std.specs.List.{AllByRecursion, AllZip};
 ghost use Rattle.zone_octets.specs.Record.{Record};
 ghost use Rattle.zone_canonical.specs.Canonical.{HasCanonicalForm, IsCanonical, AreAlike, AreAmong};
 
-/// The canonical octets of records are determined by the records (RFC 4034 6).
+/// Records have at most one list of canonical octets (RFC 4034 6).
 pub fn canonical_octets_are_one()
     ensures { (records : List Record) (octets other_octets : List ℕ) → IsCanonical records octets → IsCanonical records other_octets →
         octets ≡ other_octets }
 {}
 
-/// Two lists of records have the same canonical octets exactly if each record of one has the canonical form of a record of the
-/// other.
+/// Two lists of records have the same canonical octets exactly if each record of either list has the canonical form of
+/// a record of the other.
 pub fn canonical_octets_tell_records_apart()
     ensures { (records others : List Record) (octets other_octets : List ℕ) → AllByRecursion HasCanonicalForm records →
         AllByRecursion HasCanonicalForm others → IsCanonical records octets → IsCanonical others other_octets →
         (octets ≡ other_octets) ↔ (AreAmong records others × AreAmong others records) }
 {}
 
-/// Lists whose records have the same canonical forms, one by one, have the same canonical octets: the case of owners and of names
-/// in data does not count (RFC 4034 6.2).
+/// Lists whose records have the same canonical forms, one by one, have the same canonical octets: the case of owners
+/// and of names in data is ignored (RFC 4034 6.2).
 pub fn case_is_not_in_canonical_octets()
     ensures { (records others : List Record) (octets : List ℕ) → AllZip AreAlike records others →
         IsCanonical records octets ↔ IsCanonical others octets }

@@ -1,4 +1,4 @@
-//! The canonical octets of a zone's records, by which zones are compared (RFC 4034 6).
+//! The canonical octets of a zone's records, for the comparison of zones (RFC 4034 6).
 #![tactic(auto)]
 
 mod data;

@@ -11,10 +11,11 @@ use dns_name::Name;
 use std::alloc::{AllocError, Global};
 use zone_octets::record_list::RecordList;
 
-/// Returns the canonical octets of the records (RFC 4034 6): the distinct ones in canonical form, in canonical order. Two lists
-/// of records have the same canonical octets exactly if they have the same records, up to ASCII case in names.
+/// Returns the canonical octets of the records (RFC 4034 6): the distinct ones in canonical form, in canonical order.
+/// Two lists of records have the same canonical octets exactly if they have the same records, up to ASCII case in
+/// names.
 ///
-/// Fails only if out of memory.
+/// Fails if out of memory.
 pub fn canonical(alloc: Global, records: &RecordList) -> Result<Vec<u8>, AllocError>
     requires { AllByRecursion HasCanonicalForm records.now }
     ensures { IfOk result (λ octets. IsCanonical records.now octets.items) }
@@ -25,8 +26,8 @@ pub fn canonical(alloc: Global, records: &RecordList) -> Result<Vec<u8>, AllocEr
     octets_of(alloc, entries.as_slice())
 }
 
-/// Returns the entries of the records, with keys beside the first record's owner, in the order of the list. A zone's first record is its
-/// SOA, which stands at the apex.
+/// Returns the entries of the records, in the order of the list, with keys relative to the first record's owner. A
+/// zone's first record is its SOA, at the apex. Fails if out of memory.
 fn entries_of<'a>(alloc: Global, records: &'a RecordList) -> Result<Vec<Entry<'a>>, AllocError>
     ensures { IfOk result (λ entries. (apex : List (List ℕ)) × (entries.items ≡ map (keyed apex) records.now)) }
 {
@@ -42,7 +43,7 @@ fn entries_of<'a>(alloc: Global, records: &'a RecordList) -> Result<Vec<Entry<'a
     Ok(entries)
 }
 
-/// Returns the entry of the record at an index.
+/// Returns the entry of the record at `index`.
 fn entry_at<'a>(records: &'a RecordList, index: usize, apex: &Name<&[u8]>) -> Entry<'a>
     requires { index < length records.now }
     ensures { (r : spec.Record) → slice_get records.now index ≡ Some r → result ≡ keyed apex.now r }
@@ -51,7 +52,7 @@ fn entry_at<'a>(records: &'a RecordList, index: usize, apex: &Name<&[u8]>) -> En
     Entry::new(owner_key(&record.owner(), apex), &record)
 }
 
-/// Returns the octets of the entries in canonical form, one after another.
+/// Returns the octets of the entries in canonical form, one after another. Fails if out of memory.
 fn octets_of(alloc: Global, entries: &[Entry<'_>]) -> Result<Vec<u8>, AllocError>
     ensures { IfOk result (λ octets. octets.items ≡ flat_map form_octets entries.now) }
 {
@@ -62,7 +63,7 @@ fn octets_of(alloc: Global, entries: &[Entry<'_>]) -> Result<Vec<u8>, AllocError
     Ok(octets)
 }
 
-/// Returns how many octets the entries have. This is no more than what is reserved for them.
+/// Returns the length of the entries in octets. It only decides how much memory is reserved.
 fn octets_in(entries: &[Entry<'_>]) -> usize {
     let mut count: usize = 0;
     for entry in entries {

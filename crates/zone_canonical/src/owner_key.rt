@@ -1,10 +1,10 @@
-//! Keys of owners: numbers that have the order of most owners of a zone (RFC 4034 6.1).
+//! Keys of owners: numbers in the order of most owners of a zone (RFC 4034 6.1).
 //!
-//! A key is the labels under the apex, from the right and in lower case, as fourteen digits of base 512. An octet's digit is one more
-//! than the octet, and 0 ends a label:
+//! A key is the labels under the apex, from the right and in lower case, as fourteen digits in base 512. An octet's
+//! digit is the octet plus one, and 0 ends a label:
 //!
 //! ```text
-//! www.Example.    beside the apex    example.    has the digits    120 120 120 0 0 ..
+//! www.Example.    with the apex      example.    has the digits    120 120 120 0 0 ..
 //! ```
 ghost use Rattle.std.specs.Prelude.{◌≡◌, ◌≤◌, ◌+◌, ◌*◌, ◌^◌, ℕ, suc, map, reverse};
 ghost use Rattle.std.specs.Char.{to_ascii_lowercase};
@@ -13,11 +13,11 @@ ghost use Rattle.zone_canonical.specs.OwnerKey.{TakesLast, code, front_key, key_
 
 use dns_name::{Name, NameIter, RelativeName, ToName};
 
-/// How many digits a key has.
+/// The number of digits in a key.
 const DIGITS: usize = 14;
 
-/// Returns the key of an owner beside an apex. Owners that are not under it have keys too. Of two owners with different keys, that
-/// with the lesser one comes first.
+/// Returns the key of an owner relative to an apex. Owners that are not under it have keys too. Of two owners with
+/// different keys, the one with the lesser key comes first.
 pub(crate) fn owner_key(owner: &Name<&[u8]>, apex: &Name<&[u8]>) -> u128
     ensures { result ≡ key_of apex.now owner.now }
 {
@@ -30,7 +30,7 @@ pub(crate) fn owner_key(owner: &Name<&[u8]>, apex: &Name<&[u8]>) -> u128
     }
 }
 
-/// Returns the key of a name under the apex, of which these are the labels before those of the apex.
+/// Returns the key of a name under the apex. `front` is its labels before those of the apex.
 fn key_under(front: &RelativeName<&[u8]>) -> u128
     ensures { result ≡ front_key (reverse (low front.now)) }
 {
@@ -45,14 +45,14 @@ fn key_under(front: &RelativeName<&[u8]>) -> u128
 /// The digits of a key, from the left.
 #[derive(Drop)]
 struct Digits<'a> {
-    /// What is left of a label.
+    /// The rest of a label.
     label: &'a [u8],
     /// The labels before it, which come after it in the key.
     labels: NameIter<'a>,
 }
 
 impl<'a> Digits<'a> {
-    /// The digits of the labels, from the right.
+    /// Returns the digits of the labels, from the right.
     fn of_front(front: &'a RelativeName<&[u8]>) -> Digits<'a>
         ensures { code 14 (map to_ascii_lowercase result.label.now) (reverse (low result.labels)) ≡ front_key (reverse (low front.now)) }
     {
@@ -61,7 +61,7 @@ impl<'a> Digits<'a> {
         Digits { label, labels }
     }
 
-    /// Takes the next digit. Behind the labels all of them are 0.
+    /// Takes the next digit. After the labels, every digit is 0.
     fn next_digit(&mut self) -> u16
         ensures digit { (left : ℕ) → code (suc left) (map to_ascii_lowercase self.old.label.now) (reverse (low self.old.labels))
             ≡ result * 512 ^ left + code left (map to_ascii_lowercase self.new.label.now) (reverse (low self.new.labels)) }
@@ -80,7 +80,7 @@ impl<'a> Digits<'a> {
     }
 }
 
-/// Takes the last of the labels, or no octets if there is none.
+/// Takes the last of the labels. Returns no octets if there is none.
 fn last_label<'a>(labels: &mut NameIter<'a>) -> &'a [u8]
     ensures { TakesLast labels.old result.now labels.new }
 {

@@ -14,7 +14,7 @@ use Rattle.dns_message.proofs.Spellable.{spellable_tag, spellable_unless_caa, ta
 use Rattle.zone_octets.proofs.ReadData.{data_typed_at}
 use Rattle.zone_octets.proofs.WrittenData.{data_written}
 
--- what is read and written as it stands is data of the type
+-- what is parsed, and composed unchanged, is data of the type
 data_found : (rtype : ℕ) (message : List ℕ) (place : ℕ) (found : Data) → ReadsData message place rtype found → IsData rtype (data_octets found)
 data_found rtype message place (typed number row) reads = fields.typed row reads.1.is_row refl
 data_found rtype message place (untyped unknown) reads = fields.opaque reads.0 (omega (arith, reads.1.short))
@@ -29,7 +29,7 @@ data_tested rtype data' message written place found told reads same at whole tes
       (λ given. test ∙ decides.1 (is ∙ (data_typed_at rtype data' message place found given same at reads).octets_are)),
     )
 
--- opaque data is read where the type has no fields, and then any octets are data of the type
+-- unknown data is read if the type has no fields, and then any octets are data of the type
 pub opaque_tested : (rtype : ℕ) (data' message : List ℕ) (place : ℕ) (found : Data) (unknown : UnknownData) → ReadsData message place rtype found
     → found ≡ untyped unknown → message ≡ data' → place ≡ 0 → IsTrue true ↔ IsData rtype data'
 opaque_tested rtype data' message place found unknown reads opaque same at =
@@ -59,7 +59,7 @@ pub missing_tag : (rtype : ℕ) (data' : List ℕ) → IsData rtype data' → rt
 missing_tag rtype data' is caa short =
     ((λ holds. absurd cc), (λ spelled. absurd (spellable_tag rtype data' is spelled caa (no_tag data' short))))
 
--- the second octet that is found
+-- the second octet
 pub second_found : (data' : List ℕ) (octet default : ℕ) → true ≡ nat_lt 1 (length data') → octet ≡ get_or data' 1 default
     → octet ≡ slice_index data' 1
 second_found [] octet default long found = absurd cc

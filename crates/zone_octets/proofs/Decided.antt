@@ -50,6 +50,6 @@ pub decided_end : (xs ys : List (List ℕ)) → Decided (EndsWith xs ys)
 decided_end [] ys = end_of_none ys (decided_names [] ys)
 decided_end (x ∷ xs) ys = end_of_more x xs ys (decided_names (x ∷ xs) ys) (decided_end xs ys)
 
--- a test for enough octets that comes out false
+-- a test for enough octets that returns false
 pub too_few : (wanted there : ℕ) → (wanted ≤ there → false ≡ true) → there < wanted
 too_few wanted there fails = elim (cases_lt there wanted) [ inl few ↦ few | inr enough ↦ let e = fails enough in absurd cc ]

@@ -1,10 +1,10 @@
--- What holds of each element of two lists, one behind the other.
+-- What holds of each element of two joined lists.
 use Rattle.std.proofs.Common.{◌<◌, ◌^◌, ℕ, List, [], ◌∷◌, ◌++◌}
 use Rattle.std.specs.List.{AllByRecursion}
 use Rattle.dns_label.specs.Name.{wire}
 use Rattle.dns_label.specs.Octets.{AreOctets}
 
--- what holds of each element of two lists, one behind the other
+-- what holds of each element of two joined lists
 pub all_fronts : {X : Type 0} (P : X → Type 0) (front back : List X) → AllByRecursion P (front ++ back)
     → AllByRecursion P front × AllByRecursion P back
 all_fronts P [] back all = (tt, all)

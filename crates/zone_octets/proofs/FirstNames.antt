@@ -1,4 +1,4 @@
--- The lengths of a name's labels, walked over one by one.
+-- A walk over the lengths of a name's labels.
 use Rattle.std.proofs.Common.{◌≡◌, ◌≢◌, ◌+◌, ◌<◌, ℕ, List, [], ◌∷◌, ◌++◌, length, take, drop, get_or, suc, sym, ◌∙◌, ap, subst, arith, append_assoc, length-append, drop-cons, drop-drop}
 use Rattle.std.specs.List.{AllByRecursion}
 use Rattle.std.proofs.Math.Seq.{take-append_seam, drop-append_seam}
@@ -9,7 +9,7 @@ use Rattle.dns_wire.proofs.Case.{wire_one}
 use Rattle.dns_wire.proofs.Flat.{flat-written}
 use Rattle.zone_octets.proofs.NameFronts.{wire_fronts}
 
--- from the place on the octets are the labels that are left of a name that they begin with
+-- from the place on, the octets are the remaining labels of the name that they begin with
 pub record Walked (octets : List ℕ) (place : ℕ) : Type 0 where
   pub name : List (List ℕ)
   pub left : List (List ℕ)

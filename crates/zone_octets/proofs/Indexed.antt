@@ -1,4 +1,4 @@
--- What stands at an index of a list.
+-- The element at an index of a list.
 use Rattle.std.proofs.Common.{◌≡◌, ℕ, ◌+◌, ◌<◌, zero, suc, Some, List, [], ◌∷◌, ◌++◌, length, take, refl, ap, ◌∙◌, subst, arith}
 use Rattle.std.specs.Prelude.{slice_get}
 use Rattle.std.specs.List.{AllByRecursion}
@@ -21,7 +21,7 @@ pub take-next : {X : Type 0} (xs : List X) (i : ℕ) (x : X) → slice_get xs i 
 take-next xs i x at =
     take_more xs i x (slice_get_within xs i x at) ∙ ap (λ y. take i xs ++ y ∷ []) (get_or_from_slice_get xs i x x at)
 
--- what stands in a list stands in a longer one
+-- an element of a list is in a longer list, at the same index
 pub slice_get-front : {X : Type 0} (xs more : List X) (i : ℕ) (x : X) → slice_get xs i ≡ Some x → slice_get (xs ++ more) i ≡ Some x
 slice_get-front [] more i x at = absurd cc
 slice_get-front (y ∷ xs) more zero x at = at

@@ -1,4 +1,4 @@
--- Octets at the front of others, and a name that is written out there.
+-- Octets at the start of others, and a name in full there.
 use Rattle.std.proofs.Common.{◌≡◌, ℕ, ◌<◌, ◌≤◌, ◌^◌, suc, List, [], ◌∷◌, ◌++◌, length, get_or, take, drop, refl, sym, ◌∙◌, subst, arith, append_assoc, length-take-le}
 use Rattle.std.specs.List.{AllByRecursion}
 use Rattle.std.proofs.lemmas.List.{take-append-drop}
@@ -17,7 +17,7 @@ octets_front text front rest is each =
     let P : List ℕ → Type 0 = λ text. AreOctets text in
     let both = all_fronts (λ octet. octet < 2 ^ 8) front rest (subst P is each) in both.0
 
--- so many octets at the front
+-- the first `n` octets
 pub record Front (text : List ℕ) (n : ℕ) : Type 0 where
   pub front : List ℕ
   pub rest : List ℕ
@@ -32,7 +32,7 @@ front_of text n enough = record {
   long = length-take-le n text enough;
 }
 
--- a name at the front is one
+-- only one name is at the start
 pub wire_fronts : (name other : List (List ℕ)) (more rest : List ℕ) → AllByRecursion IsLabel name → AllByRecursion IsLabel other
     → wire name ++ more ≡ wire other ++ rest → (name ≡ other) × (more ≡ rest)
 wire_fronts [] [] more rest each each' e = (refl, cc)

@@ -7,7 +7,7 @@ set_two : (front : List ℕ) (a b high low : ℕ) (behind : List ℕ)
 set_two [] a b high low behind = refl
 set_two (x ∷ front) a b high low behind = ap (λ l. x ∷ l) (set_two front a b high low behind)
 
--- two octets, one behind the other, over the two that stand at a place
+-- two octets, one after the other, over the two at a place
 pub set_both : (items front octets behind : List ℕ) (place high low : ℕ) → items ≡ front ++ (octets ++ behind) → length front ≡ place
     → length octets ≡ 2 → set (set items place high) (place + 1) low ≡ front ++ high ∷ low ∷ behind
 set_both items front [] behind place high low is at long = absurd cc
@@ -16,7 +16,7 @@ set_both items front (a ∷ (b ∷ (x ∷ octets))) behind place high low is at 
 set_both items front (a ∷ (b ∷ [])) behind place high low is at long =
     rw (is, ← at, add-one) (set_two front a b high low behind)
 
--- A message whose length and whose count of answers are written over what stood there, behind octets put at its end.
+-- A message whose length and whose count of answers are overwritten, after octets were appended to it.
 pub written_over : (front mark head count tail records added length_octets count_octets : List ℕ) (old longer once twice : List ℕ) (start : ℕ)
     → start ≡ length front + 2 → length head ≡ 6 → length mark ≡ 2 → length count ≡ 2 → length length_octets ≡ 2
     → old ≡ front ++ (mark ++ (head ++ (count ++ (tail ++ records)))) → longer ≡ old ++ added

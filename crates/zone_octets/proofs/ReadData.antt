@@ -1,4 +1,4 @@
--- Data of a type is parsed, in its fields where the type has some.
+-- Data of a type is parsed, in the fields of the type if it has some.
 use Rattle.std.proofs.Common.{◌≡◌, ◌⊎◌, ◌==◌, ℕ, Bool, true, false, List, [], ◌∷◌, map, refl, sym, ap, ◌∙◌, subst, arith, inl, inr}
 use Rattle.std.specs.Prelude.{Some, None, if◌then◌else◌}
 use Rattle.std.specs.List.{AllZip}
@@ -52,7 +52,7 @@ module _ (Octs N : Type 0) where
   all_made : AllZip Makes table makers
   all_made = (λ _. refl, (λ _. refl, (λ _. refl, (λ _. refl, (λ _. refl, (λ _. refl, (λ _. refl, (λ _. refl, (λ _. refl, (λ _. refl, (λ _. refl, (λ _. refl, (λ _. refl, (λ _. refl, (λ _. refl, (λ _. refl, (λ _. refl, (λ _. refl, (λ _. refl, (λ _. refl, tt))))))))))))))))))))
 
-  -- so each data that a message has is what some value is seen as
+  -- so all data in a message is the view of some value
   pub value_of_read : (message : List ℕ) (place rtype : ℕ) (found : Data) → ReadsData message place rtype found
       → (value : ZoneRecordData Octs N) × (data_of value ≡ found)
   value_of_read message place rtype (rdata.typed number row) reads =
@@ -69,7 +69,7 @@ module _ (Octs N : Type 0) where
   data_read rtype data' (fields.opaque none short) =
       (Unknown (record { number = rtype; octets = data' }), (none, record { of_type = refl; octets = refl; short = omega (arith, short) }))
 
-  -- so it is not refused where a parser stands in front of it
+  -- so parsing it does not fail, if the parser is at its start
   pub none_read : (rtype : ℕ) (data' message : List ℕ) (place : ℕ) → IsData rtype data' → message ≡ data' → place ≡ 0
       → ((value : ZoneRecordData Octs N) → ReadsData message place rtype (data_of value) → ⊥) → ⊥
   none_read rtype data' message place is same at none =
@@ -99,7 +99,7 @@ data_typed rtype data' (rdata.untyped unknown) is reads = record {
   has = ap kinds_of reads.1.of_type ∙ reads.0;
 }
 
--- the same at the place where a parser stands
+-- the same at the place of a parser
 pub data_typed_at : (rtype : ℕ) (data' message : List ℕ) (place : ℕ) (found : Data) → IsData rtype data' → message ≡ data' → place ≡ 0
     → ReadsData message place rtype found → IsDataRead rtype data' found
 data_typed_at rtype data' message place found is same at reads =

@@ -1,11 +1,11 @@
--- What stands behind a record's owner.
+-- What follows a record's owner.
 use Rattle.std.proofs.Common.{◌≡◌, ℕ, List, ◌++◌, length, append_assoc}
 use Rattle.std.specs.Int.{to_be_bytes, w16, w32}
 use Rattle.dns_label.specs.Name.{wire}
 use Rattle.dns_message.specs.Record.{record_octets}
 use Rattle.zone_octets.specs.Record.{Record}
 
--- what stands behind a record's owner
+-- what follows a record's owner
 abbrev pub behind_owner : Record → List ℕ → List ℕ
 behind_owner r rest =
     to_be_bytes w16 r.rtype ++ (to_be_bytes w16 r.class ++ (to_be_bytes w32 r.ttl ++ (to_be_bytes w16 (length r.rdata) ++ (r.rdata ++ rest))))

@@ -1,4 +1,5 @@
--- Rows of names, numbers of four octets and addresses: octets are one row of such kinds, and such rows are equal up to case or not.
+-- Rows of names, numbers of four octets and addresses: octets are at most one row of such kinds, and such rows are
+-- equal or not, up to case.
 use Rattle.std.proofs.Common.{◌≡◌, ℕ, List, [], ◌∷◌, ◌++◌, map, refl, sym, ap, ◌∙◌, subst, inl, inr}
 use Rattle.std.specs.Prelude.{⊤}
 use Rattle.std.specs.Int.{to_be_bytes, w32}
@@ -12,7 +13,7 @@ use Rattle.dns_rdata.proofs.Fronts.{same_fronts, same_number32}
 use Rattle.zone_octets.proofs.Decided.{Decided, decided_names, decided_octets}
 use Rattle.zone_octets.proofs.NameFronts.{wire_fronts}
 
--- the kinds that are spoken of
+-- the kinds of this file
 abbrev pub IsPlainKind : Kind → Type 0
 IsPlainKind Compressible = ⊤
 IsPlainKind Number32 = ⊤
@@ -31,7 +32,7 @@ view (number32 n) plain = number_view n
 view (ipv4 text) plain = address_view text
 view field plain = absurd plain
 
--- two fields of one kind at the front of octets
+-- two fields of one kind at the start of octets
 views_one : {f g : Field} (more rest : List ℕ) → FieldView f → FieldView g → kind_of f ≡ kind_of g → IsField f → IsField g
     → field_octets f ++ more ≡ field_octets g ++ rest → (f ≡ g) × (more ≡ rest)
 views_one more rest (name_view name) (name_view other) kinds is is' e =

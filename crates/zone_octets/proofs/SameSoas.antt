@@ -1,4 +1,4 @@
--- Two SOA records are equal exactly where their owners and times to live are, and what counts of their data is.
+-- Two SOA records are equal exactly if their owners, their TTLs and the comparison keys of their data are.
 use Rattle.std.proofs.Common.{◌≡◌, ℕ, true, List, [], ◌∷◌, map, None, refl, sym, ap, ◌∙◌, subst}
 use Rattle.std.proofs.Common.{nat_eq}
 use Rattle.std.specs.Cmp.Lexicographic.{pointwise}
@@ -20,7 +20,7 @@ use Rattle.zone_octets.specs.Typed.{HasFieldsOfType}
 use Rattle.zone_octets.specs.Zone.{soa_type}
 use Rattle.zone_octets.proofs.SoaRows.{AreSmall, IsSoaRow, soa_row, soa_row_of}
 
--- numbers that count alike are the same
+-- numbers with equal keys are the same
 same_numbers : (numbers others : List ℕ) → AreSmall numbers → AreSmall others → keys (map number32 numbers) ≡ keys (map number32 others)
     → numbers ≡ others
 same_numbers [] [] small small' same = refl
@@ -43,7 +43,7 @@ lowered_row row fields =
     ap (map lowered) fields.row_is
     ∙ ap (λ (l : List Field). compressible (low fields.mname) ∷ compressible (low fields.rname) ∷ l) (lowered_numbers fields.numbers)
 
--- what counts of it: the octets of its fields then
+-- its keys: the octets of its fields
 counted_numbers : (numbers : List ℕ) → keys (map number32 numbers) ≡ map field_octets (map number32 numbers)
 counted_numbers [] = refl
 counted_numbers (n ∷ numbers) = ap (λ (l : List (List ℕ)). to_be_bytes w32 n ∷ l) (counted_numbers numbers)
@@ -87,7 +87,7 @@ soa_read data' (typed number row) number_is are has = record {
 }
 soa_read data' (untyped unknown) number_is are none = absurd (let bad : kinds_of soa_type ≡ None = ap kinds_of (sym number_is) ∙ none in cc)
 
--- rows are compared by what counts of them
+-- rows are compared by their keys
 rows_told : (row row' : List Field) → (data_eq (typed soa_type row) (typed soa_type row') ≡ true → keys row ≡ keys row')
     × (keys row ≡ keys row' → data_eq (typed soa_type row) (typed soa_type row') ≡ true)
 unfolding data_eq
@@ -95,7 +95,7 @@ rows_told row row' =
     let decides = pointwise_decides {E = pointwise nat_eq} bytes_decides (keys row) (keys row') in
     (λ told. decides.0 told, λ same. decides.1 same)
 
--- what a comparison of the data of two records says
+-- the result of a comparison of the data of two records
 module _ (soa other : Record) (read other_read : Data) (number_is : number_of read ≡ soa_type) (are : data_octets read ≡ soa.rdata)
     (has : HasFieldsOfType read) (other_number : number_of other_read ≡ soa_type) (other_are : data_octets other_read ≡ other.rdata)
     (other_has : HasFieldsOfType other_read) where

@@ -52,7 +52,7 @@ number_field (rest64 text) kind is = absurd cc
 abbrev pub soa_row : List (List ℕ) → List (List ℕ) → List ℕ → List Field
 soa_row mname rname numbers = compressible mname ∷ compressible rname ∷ map number32 numbers
 
--- numbers that four octets can say
+-- numbers that fit in four octets
 abbrev pub AreSmall : List ℕ → Type 0
 AreSmall numbers = AllByRecursion (λ n. n < 2 ^ 32) numbers
 
@@ -66,7 +66,7 @@ pub record IsSoaRow (row : List Field) : Type 0 where
   pub small : AreSmall numbers
   pub row_is : row ≡ soa_row mname rname numbers
 
--- fields that are numbers all
+-- fields that are all numbers
 number_fields : (row : List Field) (kinds : List Kind) → map kind_of row ≡ kinds → AllByRecursion (λ kind. kind ≡ Number32) kinds
     → AllByRecursion IsField row → (numbers : List ℕ) × AreSmall numbers × (row ≡ map number32 numbers) × (length numbers ≡ length kinds)
 number_fields [] [] same all each = ([], tt, refl, refl)

@@ -1,4 +1,4 @@
--- Records as octets: what is found in them is what was written.
+-- Records in wire format: what is read from them is what was written.
 use Rattle.std.proofs.Common.{◌≡◌, ℕ, ◌+◌, ◌-◌, ◌<◌, ◌≤◌, zero, suc, Option, Some, List, [], ◌∷◌, ◌++◌, length, take, drop, get_or, refl, sym, ap, ◌∙◌, subst, arith, append_assoc, append-nil, length-append, add-one}
 use Rattle.std.specs.Prelude.{slice_get}
 use Rattle.std.specs.Int.{to_be_bytes, from_be_bytes, w16, w32}
@@ -24,7 +24,7 @@ use Rattle.zone_octets.proofs.RecordFronts.{behind_owner, record_regrouped}
 abbrev fields_of : List (List ℕ) → ℕ → ℕ → ℕ → List ℕ → Record
 fields_of owner rtype class ttl rdata = record { owner = owner; rtype = rtype; class = class; ttl = ttl; rdata = rdata }
 
--- the fields behind an owner are those that were written
+-- the fields after an owner are those that were written
 fields_back : (r : Record) (rest : List ℕ) → IsRecord r → record_with r.owner (behind_owner r rest) ≡ r
 fields_back r rest is =
     let rtype = from_be_bytes-to_be_bytes_2 r.rtype is.rtype in
@@ -37,7 +37,7 @@ fields_back r rest is =
     ∙ ap (λ n. fields_of r.owner r.rtype r.class n (take (from_be_bytes w16 (to_be_bytes w16 (length r.rdata))) (r.rdata ++ rest))) ttl
     ∙ ap (λ l. fields_of r.owner r.rtype r.class r.ttl l) data'
 
--- what begins with a record is found to begin with it
+-- octets that begin with a record are read as that record
 pub record_in_written : (octets rest : List ℕ) (r : Record) → IsRecord r → octets ≡ record_octets r ++ rest → record_in octets ≡ r
 unfolding record_in
 record_in_written octets rest r is whole =
@@ -48,11 +48,11 @@ record_in_written octets rest r is whole =
     ap (λ n. drop (length (wire n)) octets) found ∙ ap (λ l. drop (length (wire r.owner)) l) at ∙ drop-append_seam (wire r.owner) (behind_owner r rest) in
     ap (λ n. record_with n (drop (length (wire (labels_at octets 0))) octets)) found ∙ ap (λ l. record_with r.owner l) behind ∙ fields_back r rest is
 
--- one that the octets are
+-- octets that are one record
 pub record_in_whole : (octets : List ℕ) (r : Record) → IsRecord r → octets ≡ record_octets r → record_in octets ≡ r
 record_in_whole octets r is whole = record_in_written octets [] r is (whole ∙ sym (append-nil (record_octets r)))
 
--- the class of a stored record stands two octets after its owner
+-- the class of a stored record is two octets after its owner
 pub class_at : (octets : List ℕ) (len : ℕ) → IsStored octets len → number_at octets (len + 2) ≡ (record_in octets).class
 unfolding record_in
 class_at octets len stored =
@@ -70,7 +70,7 @@ stored_of octets len r is whole long =
       owner = long ∙ ap (λ (x : Record). length (wire x.owner)) found;
     }
 
--- records one behind the other are found at the places where they begin
+-- records that follow each other are read at the places where they begin
 found_from : (octets front : List ℕ) (place : ℕ) (records : List Record) → AllByRecursion IsRecord records
     → octets ≡ front ++ flat_map record_octets records → place ≡ length front → records_at octets (starts place records) ≡ records
 found_from octets front place [] each whole at = refl
@@ -87,7 +87,7 @@ pub stored_view : (octets places : List ℕ) (records : List Record) → AreStor
 stored_view octets places records are =
     ap (λ l. records_at octets l) are.begin ∙ found_from octets [] 0 records are.each are.whole refl
 
--- so the records that are found are stored
+-- so the records that are read are stored
 pub stored_found : (octets places : List ℕ) (records : List Record) → AreStored octets places records
     → AreStored octets places (records_at octets places)
 stored_found octets places records are =
@@ -178,7 +178,7 @@ starts_length place (r ∷ records) = ap suc (starts_length (place + length (rec
 pub stored_length : (octets places : List ℕ) (records : List Record) → AreStored octets places records → length places ≡ length records
 stored_length octets places records are = ap length are.begin ∙ starts_length 0 records
 
--- A record of the list: the octets in front of it and behind it, its place, and that of the next one.
+-- A record of the list: the octets before it and after it, its place, and that of the next one.
 pub record StandsIn (octets places : List ℕ) (index : ℕ) (r : Record) : Type 0 where
   pub front : List ℕ
   pub behind : List ℕ
@@ -290,7 +290,7 @@ owner_front octets len stored =
 pub owner_written : (octets : List ℕ) (len : ℕ) → IsStored octets len → IsWritten (take len octets)
 owner_written octets len stored = flat-written (take len octets) (record_in octets).owner stored.lawful.owner (owner_front octets len stored)
 
--- a record that is written part by part: its owner, its numbers, and its data behind their length
+-- a record that is written part by part: its owner, its numbers, and its data after RDLENGTH
 pub written_record : (first second third : List ℕ) (r : Record) → first ≡ wire r.owner
     → second ≡ first ++ fixed_octets r.rtype r.class r.ttl → third ≡ second ++ after_length r.rdata → third ≡ record_octets r
 written_record first second third r owner numbers data' =

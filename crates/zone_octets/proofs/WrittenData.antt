@@ -1,4 +1,4 @@
--- Data that is written with every name written out is its octets.
+-- Data that is written with every name in full is its octets.
 use Rattle.std.proofs.Common.{◌≡◌, ℕ, List, [], ◌∷◌, ◌++◌, length, refl, sym, ◌∙◌, ap, append_assoc, append-nil}
 use Rattle.dns_label.specs.Name.{wire}
 use Rattle.dns_name.specs.Page.{Page, write}

@@ -1,4 +1,4 @@
--- A record that is written with every name written out is its octets.
+-- A record that is written with every name in full is its octets.
 use Rattle.std.proofs.Common.{◌≡◌, ◌<◌, ℕ, ◌+◌, ◌-◌, List, [], ◌∷◌, ◌++◌, length, take, drop, ◌∙◌, ap, arith, append_assoc, length-append}
 use Rattle.std.specs.Int.{to_be_bytes, w16}
 use Rattle.std.proofs.Math.Seq.{take-append_seam, drop-append_seam}
@@ -17,7 +17,7 @@ use Rattle.dns_message.specs.Held.{record_of, written_parts_of}
 use Rattle.dns_message.specs.Record.{IsRecord, record_octets}
 use Rattle.zone_octets.proofs.WrittenData.{data_written}
 
--- two octets count the data behind them
+-- two octets that count the data after them
 marked : (front data' : List ℕ) → with_count (length front) (page_of ((front ++ 0 ∷ 0 ∷ []) ++ data') [])
     ≡ page_of (front ++ after_length data') []
 marked front data' =
@@ -31,14 +31,14 @@ marked front data' =
     let behind : drop (length front + 2) whole ≡ data' = ap (λ n. drop n whole) long ∙ drop-append_seam (front ++ mark) data' in
     λ i. page_of (before i ++ (to_be_bytes w16 (count i) ++ behind i)) []
 
--- what stands in front of the data
+-- what precedes the data
 head_written : (old : List ℕ) (owner : List (List ℕ)) (fixed : List ℕ) (parts : Parts)
     → write plain (page_of old []) (Named owner (Octets fixed parts)) ≡ write plain (page_of ((old ++ wire owner) ++ fixed) []) parts
 unfolding write
 head_written old owner fixed parts = λ i.
     write plain (page_of ((old ++ plain_text (length old) owner i) ++ fixed) (plain_known (length old) owner i)) parts
 
--- data behind the two octets that count it
+-- data after the two octets that count it
 counted_written : (front : List ℕ) (rdata : Data)
     → write plain (page_of front []) (Counted (parts_of rdata) End) ≡ page_of (front ++ after_length (data_octets rdata)) []
 unfolding write
@@ -75,7 +75,7 @@ data_long old rr =
     ap (λ (p : Page). length (write plain (with_octets p mark) (parts_of rr.rdata)).octets - (length p.octets + 2)) head
     ∙ omega (arith, long, length-append (front ++ mark) (data_octets rr.rdata), length-append front mark)
 
--- so that of a lawful record is not too long
+-- so the data of a lawful record is not too long
 pub data_fits : (old : List ℕ) (rr : RecordOf (List (List ℕ)) Data) → IsRecord (record_of rr)
     → 65535 < data_length plain (page_of old []) (written_of (λ labels. labels) number_of parts_of rr) → ⊥
 data_fits old rr lawful long = absurd (omega (arith, lawful.rdata, data_long old rr, long))

@@ -1,4 +1,4 @@
--- What is known of the records of a zone.
+-- What holds of the records of a zone.
 use Rattle.std.specs.Prelude.{◌≡◌, ℕ, List, map}
 use Rattle.dns_label.specs.Name.{low}
 use Rattle.dns_rdata.specs.Fields.{Field, IsRow, octets, lowered, IsData}

@@ -1,5 +1,5 @@
--- Records as the program keeps them: as octets, with every name written out, one behind the other (RFC 1035 3.2.1).
--- Of what stands here, contracts of other crates speak of `AreStored` alone, by which a list of records is made of its octets.
+-- Records as the program keeps them: in wire format, every name in full, one after another (RFC 1035 3.2.1). Of this
+-- file, the contracts of other crates name only `AreStored`: the condition for making a list of records from octets.
 use Rattle.std.specs.Prelude.{◌≡◌, ◌+◌, ℕ, List, [], ◌∷◌, map, length, take, drop, flat_map}
 use Rattle.std.specs.List.{AllByRecursion}
 use Rattle.std.specs.Int.{from_be_bytes, w32}
@@ -9,7 +9,7 @@ use Rattle.dns_header.specs.Header.{number_at}
 use Rattle.dns_message.specs.Record.{IsRecord, record_octets}
 use Rattle.zone_octets.specs.Record.{Record}
 
--- the record of this owner with these fields behind it: type, class, TTL, length and data
+-- the record with this owner, and with these fields after it: type, class, TTL, length and data
 abbrev pub record_with : List (List ℕ) → List ℕ → Record
 record_with owner fields = record {
   owner = owner;
@@ -19,11 +19,11 @@ record_with owner fields = record {
   rdata = take (number_at fields 8) (drop 10 fields);
 }
 
--- The record that the octets begin with. Where they begin with none it stands for nothing.
+-- The record that the octets begin with. If they begin with none, the value means nothing.
 unfoldable pub record_in : List ℕ → Record
 record_in octets = record_with (labels_at octets 0) (drop (length (wire (labels_at octets 0))) octets)
 
--- the octets are one record, and so many of them are its owner
+-- the octets are one record, and this number of them are its owner
 pub record IsStored (octets : List ℕ) (owner_len : ℕ) : Type 0 where
   pub lawful : IsRecord (record_in octets)
   pub whole : octets ≡ record_octets (record_in octets)
@@ -33,7 +33,7 @@ pub record IsStored (octets : List ℕ) (owner_len : ℕ) : Type 0 where
 abbrev pub records_at : List ℕ → List ℕ → List Record
 records_at octets places = map (λ place. record_in (drop place octets)) places
 
--- where each of the records begins, the first of them here
+-- the place at which each record begins, the first of them here
 abbrev pub starts : ℕ → List Record → List ℕ
 starts place [] = []
 starts place (r ∷ records) = place ∷ starts (place + length (record_octets r)) records

@@ -11,11 +11,11 @@ use Rattle.zone_octets.specs.Record.{Record}
 abbrev pub HasLawfulData : Record → Type 0
 HasLawfulData r = IsData r.rtype r.rdata
 
--- data is in fields exactly where its type has some, and else opaque (RFC 3597 4)
+-- data is in fields exactly if its type has some, and is else unknown data (RFC 3597 4)
 abbrev pub HasFieldsOfType : Data → Type 0
 HasFieldsOfType (typed number row) = IsRow number row
 HasFieldsOfType (untyped unknown) = kinds_of unknown.number ≡ None
 
--- a record, its data as what the value is seen as
+-- the record that a value's view shows
 abbrev pub seen_of : {Octs N : Type 0} → RecordOf (List (List ℕ)) (ZoneRecordData Octs N) → RecordOf (List (List ℕ)) Data
 seen_of rr = record { owner = rr.owner; class = rr.class; ttl = rr.ttl; rdata = data_of rr.rdata }

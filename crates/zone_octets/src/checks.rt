@@ -1,4 +1,4 @@
-//! What a zone asks of a record's data.
+//! Checks of a record's data.
 ghost use Rattle.std.specs.Prelude.{◌↔◌, IsTrue, IfOk};
 ghost use Rattle.dns_rdata.specs.Fields.{IsData};
 ghost use Rattle.dns_rdata.specs.DataOctets.{IsSpellable};
@@ -8,7 +8,7 @@ use dns_name::{AppendError, ComposeRecordData, ParseAnyRecordData, ParsedName, P
 use dns_rdata::ZoneRecordData;
 use std::alloc::{AllocError, Global};
 
-/// Returns whether the octets are data of the type: its fields, with every name written out, or any octets where the type has no
+/// Returns whether the octets are data of the type: its fields, every name in full, or any octets if the type has no
 /// fields. Fails if out of memory.
 pub fn is_data_of_type(alloc: Global, rtype: Rtype, data: &[u8]) -> Result<bool, AllocError>
     ensures { IfOk result (λ is. IsTrue is ↔ IsData rtype «data».now) }
@@ -23,7 +23,7 @@ pub fn is_data_of_type(alloc: Global, rtype: Rtype, data: &[u8]) -> Result<bool,
         // The type has no fields, so any octets are its data.
         return Ok(true);
     }
-    // A name with pointers is read too: only data without them is written as it stands.
+    // The parser follows compression pointers. Only data without them is composed as the same octets.
     let mut written = Vec::new(alloc);
     match rdata.compose_rdata(&mut written) {
         Ok(()) => Ok(written.as_slice() == data),
@@ -32,7 +32,8 @@ pub fn is_data_of_type(alloc: Global, rtype: Rtype, data: &[u8]) -> Result<bool,
     }
 }
 
-/// Returns whether text can spell the record's data. It can spell all but a CAA record's with an empty tag (RFC 8659 4.1).
+/// Returns whether text can spell the record's data: any data but that of a CAA record with an empty tag (RFC 8659
+/// 4.1).
 pub fn is_spellable(record: &Record<'_>) -> bool
     requires { IsData «record».now.rtype «record».now.rdata }
     ensures { IsTrue result ↔ IsSpellable «record».now.rtype «record».now.rdata }
@@ -40,7 +41,7 @@ pub fn is_spellable(record: &Record<'_>) -> bool
     if record.rtype() != Rtype::CAA {
         return true;
     }
-    // The tag's length stands behind one octet of flags.
+    // The tag's length follows one octet of flags.
     match record.data().get(1) {
         Some(&tag_len) => tag_len != 0,
         None => false,

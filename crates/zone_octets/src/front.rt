@@ -1,11 +1,11 @@
-//! The name that octets begin with.
+//! The name at the start of octets.
 ghost use Rattle.std.specs.Prelude.{◌≡◌, ◌++◌, List, ℕ};
 ghost use Rattle.dns_label.specs.Name.{IsName, wire};
 
 use dns_name::Name;
 
-/// Returns the name that the octets begin with, which has no pointer in it. By condition they begin with one, so that only the lengths of
-/// its labels are looked at.
+/// Returns the name at the start of the octets, without compression pointers. The caller guarantees that there is one,
+/// so only the lengths of its labels are read.
 pub fn first_name(octets: &[u8]) -> Name<&[u8]>
     requires { (name : List (List ℕ)) × (rest : List ℕ) × IsName name × (octets.now ≡ wire name ++ rest) }
     ensures { (name : List (List ℕ)) (rest : List ℕ) → IsName name → octets.now ≡ wire name ++ rest → result ≡ name }

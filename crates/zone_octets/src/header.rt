@@ -1,9 +1,9 @@
-//! Numbers of two octets, as a message's header and its records have them (RFC 1035 2.3.2, 4.1.1).
+//! Numbers of two octets, most significant first, in the header and the records of a message (RFC 1035 2.3.2, 4.1.1).
 ghost use Rattle.std.specs.Prelude.{◌≡◌, ◌+◌, ◌++◌, ◌≤◌, List, ℕ, length};
 ghost use Rattle.std.specs.Int.{to_be_bytes, w16};
 ghost use Rattle.dns_header.specs.Header as header;
 
-/// The number of two octets at a place.
+/// Returns the number in the two octets at `place`.
 pub fn number_at(octets: &[u8], place: usize) -> u16
     requires { place + 2 ≤ length octets.now }
     ensures { result ≡ header.number_at octets.now place }
@@ -12,7 +12,7 @@ pub fn number_at(octets: &[u8], place: usize) -> u16
     u16::from_be_bytes([number[0], number[1]])
 }
 
-/// Writes a number over the two octets at a place.
+/// Writes a number over the two octets at `place`.
 pub fn put_number(octets: &mut Vec<u8>, place: usize, number: u16)
     requires { place + 2 ≤ length octets.old.items }
     ensures { (front there behind : List ℕ) → octets.old.items ≡ front ++ (there ++ behind) → length front ≡ place →

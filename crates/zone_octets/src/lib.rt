@@ -1,7 +1,7 @@
-//! The records of a zone as octets, with every name written out, one after another (RFC 1035 3.2.1).
+//! The records of a zone in wire format, every name in full, one after another (RFC 1035 3.2.1).
 //!
-//! A part of `zonewire`. Its `specs/` say which records are a zone. The functions of its modules are for the crates of the same
-//! face, which read, print, compare, send and receive the records.
+//! A part of `zonewire`. Its `specs/` say which records are a zone. Its functions are for the crates of `zonewire` that
+//! read, print, compare, send and receive records.
 #![tactic(auto)]
 
 pub mod checks;

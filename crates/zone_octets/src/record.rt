@@ -1,4 +1,4 @@
-//! Resource records as octets.
+//! Resource records in wire format.
 ghost use Rattle.std.specs.Prelude.{◌≡◌, ◌==◌, ◌↔◌, IsTrue};
 ghost use Rattle.dns_label.specs.Name.{IsName, low};
 ghost use Rattle.dns_message.specs.Record.{IsRecord, record_octets};
@@ -11,15 +11,15 @@ use crate::header::number_at;
 use dns_name::{Class, Name, Rtype, ToName, Ttl};
 use std::marker::Model;
 
-/// The octets of a record besides its owner and its data: type, class, TTL and length (RFC 1035 3.2.1).
+/// The length of a record without its owner and its data: type, class, TTL and RDLENGTH (RFC 1035 3.2.1).
 const FIXED_OCTETS: usize = 10;
 
-/// A record (RFC 1035 3.2.1), lent from where its octets are.
+/// A record that borrows its octets (RFC 1035 3.2.1).
 #[derive(Debug, Drop)]
 pub struct Record<'a> {
-    /// The whole record, with every name written out.
+    /// The whole record, every name in full.
     octets: &'a [u8],
-    /// How many of the octets are the owner's.
+    /// The length of the owner in octets.
     owner_len: usize,
 }
 
@@ -35,7 +35,7 @@ impl<'a> Model for Record<'a> {
 }
 
 impl<'a> Record<'a> {
-    /// The record that the octets are.
+    /// Returns the record whose octets these are.
     pub fn from_octets(octets: &'a [u8]) -> Record<'a>
         requires { (r : spec.Record) × IsRecord r × (octets.now ≡ record_octets r) }
         ensures { (r : spec.Record) → IsRecord r → octets.now ≡ record_octets r → result ≡ r }
@@ -46,7 +46,7 @@ impl<'a> Record<'a> {
         }
     }
 
-    /// The whole record, with every name written out.
+    /// Returns the octets of the whole record, every name in full.
     pub fn as_octets(&self) -> &'a [u8]
         ensures octets { result.now ≡ record_octets self.now }
         ensures known { IsRecord self.now }
@@ -54,7 +54,7 @@ impl<'a> Record<'a> {
         self.octets
     }
 
-    /// The name that the record is about.
+    /// Returns the owner.
     pub fn owner(&self) -> Name<&'a [u8]>
         ensures owner { result ≡ self.now.owner }
         ensures name { IsName self.now.owner }
@@ -62,21 +62,21 @@ impl<'a> Record<'a> {
         Name::from_octets_unchecked(&self.octets[..self.owner_len])
     }
 
-    /// The type of the data.
+    /// Returns the type.
     pub fn rtype(&self) -> Rtype
         ensures { result ≡ self.now.rtype }
     {
         Rtype::from_int(number_at(self.octets, self.owner_len))
     }
 
-    /// The class.
+    /// Returns the class.
     pub fn class(&self) -> Class
         ensures { result ≡ self.now.class }
     {
         Class::from_int(number_at(self.octets, self.owner_len + 2))
     }
 
-    /// For how many seconds the record may be kept.
+    /// Returns the TTL, in seconds.
     pub fn ttl(&self) -> Ttl
         ensures { result ≡ self.now.ttl }
     {
@@ -85,28 +85,28 @@ impl<'a> Record<'a> {
         Ttl::from_secs(u32::from_be_bytes([ttl[0], ttl[1], ttl[2], ttl[3]]))
     }
 
-    /// The data as octets, with every name written out.
+    /// Returns the octets of the data, every name in full.
     pub fn data(&self) -> &'a [u8]
         ensures { result.now ≡ self.now.rdata }
     {
         &self.octets[self.owner_len + FIXED_OCTETS..]
     }
 
-    /// Whether the data is an SOA's.
+    /// Returns whether the type is SOA.
     pub fn is_soa(&self) -> bool
         ensures { result ≡ (self.now.rtype == soa_type) }
     {
         self.rtype() == Rtype::SOA
     }
 
-    /// Whether the owner is the name or stands under it, up to ASCII case.
+    /// Returns whether the owner is the name or a name under it, up to ASCII case.
     pub fn is_under<N: ToName>(&self, apex: &N) -> bool
         ensures { IsTrue result ↔ EndsWith (low self.now.owner) (low (N.name apex.now)) }
     {
         self.owner().ends_with(apex)
     }
 
-    /// Whether the owner is the name, up to ASCII case.
+    /// Returns whether the owner is the name, up to ASCII case.
     pub fn is_at<N: ToName>(&self, name: &N) -> bool
         ensures { IsTrue result ↔ (low self.now.owner ≡ low (N.name name.now)) }
     {

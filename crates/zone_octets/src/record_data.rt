@@ -1,4 +1,4 @@
-//! SOA records that are compared.
+//! Comparison of SOA records.
 ghost use Rattle.std.specs.Prelude.{◌≡◌, ◌↔◌, ℕ, IsTrue};
 ghost use Rattle.zone_octets.specs.Records.{IsRecordOf, SameSoa};
 ghost use Rattle.zone_octets.specs.Zone.{soa_type};
@@ -6,7 +6,7 @@ ghost use Rattle.zone_octets.specs.Zone.{soa_type};
 use crate::record::Record;
 use crate::typed::parse_data;
 
-/// Returns whether two SOA records of one class are equal, names up to ASCII case.
+/// Returns whether two SOA records of one class have the same owner, TTL and data, names up to ASCII case.
 pub fn is_same_soa(soa: &Record<'_>, other: &Record<'_>) -> bool
     requires first { (class : ℕ) × IsRecordOf class soa.now × (soa.now.rtype ≡ soa_type) }
     requires second { (class : ℕ) × IsRecordOf class other.now × (other.now.rtype ≡ soa_type) }

@@ -1,4 +1,4 @@
-//! Records one behind the other in memory.
+//! Records in one vector, one after another.
 ghost use Rattle.std.specs.Prelude.{◌≡◌, ◌==◌, ◌<◌, ◌-◌, ◌^◌, ◌++◌, ◌∷◌, [], List, length, take, slice_get, Some, OnOk, OnErr};
 ghost use Rattle.dns_header.specs.Record.{with_labels};
 ghost use Rattle.dns_message.specs.Held.{record_of};
@@ -14,18 +14,19 @@ use dns_rdata::ZoneRecordData;
 use std::alloc::{AllocError, Global};
 use std::marker::Model;
 
-/// A record as a message has it. Its names may have pointers, and its data is in the fields of its type, or opaque.
+/// A record of a message. Its names may have compression pointers. Its data is in the fields of its type, or unknown
+/// data.
 pub type MessageRecord<'a> = dns_message::Record<
     ParsedName<&'a [u8]>,
     ZoneRecordData<&'a [u8], ParsedName<&'a [u8]>>,
 >;
 
-/// Records in order, one behind the other in one vector, so that many of them need not a piece of memory each.
+/// Records in order. Stored back to back in one vector; no allocation per record.
 #[derive(Debug, Drop)]
 pub struct RecordList {
-    /// The records, with every name written out (RFC 1035 3.2.1).
+    /// The records, every name in full (RFC 1035 3.2.1).
     octets: Vec<u8>,
-    /// Where in the octets each of them begins.
+    /// The offset in the octets at which each record begins.
     places: Vec<usize>,
 }
 
@@ -42,7 +43,7 @@ impl Model for RecordList {
 }
 
 impl RecordList {
-    /// No records.
+    /// Returns an empty list.
     pub fn new(alloc: Global) -> RecordList
         ensures { result ≡ [] }
     {
@@ -52,7 +53,7 @@ impl RecordList {
         }
     }
 
-    /// Returns the records that the octets are, one after another, of which each begins at one of the places.
+    /// Returns the list of the records in `octets`. They follow each other, and each begins at one of the places.
     pub fn from_octets(octets: Vec<u8>, places: Vec<usize>) -> RecordList
         requires { (records : List spec.Record) × AreStored octets.items places.items records }
         ensures { (records : List spec.Record) → AreStored octets.items places.items records → result ≡ records }
@@ -60,8 +61,7 @@ impl RecordList {
         RecordList { octets, places }
     }
 
-    /// Adds a record of a message behind the others, with every name written out. Refused where a growth is, and then nothing is
-    /// changed.
+    /// Appends a record of a message, every name in full. Fails if out of memory, and then changes nothing.
     pub fn push_from_message(&mut self, next: &MessageRecord<'_>) -> Result<(), AllocError>
         requires { IsRecord (record_of (seen_of (with_labels labels_of next.now))) }
         ensures ok { OnOk result (self.new ≡ self.old ++ record_of (seen_of (with_labels labels_of next.now)) ∷ []) }
@@ -80,7 +80,7 @@ impl RecordList {
         Ok(())
     }
 
-    /// Takes the last record off. Where there is none, nothing is changed.
+    /// Removes the last record. Does nothing if the list is empty.
     pub fn pop(&mut self)
         ensures { self.new ≡ take (length self.old - 1) self.old }
     {
@@ -89,7 +89,7 @@ impl RecordList {
         }
     }
 
-    /// How many records there are.
+    /// Returns the number of records.
     pub fn len(&self) -> usize
         ensures count { result ≡ length self.now }
         ensures few { result < 2 ^ 63 }
@@ -97,14 +97,14 @@ impl RecordList {
         self.places.len()
     }
 
-    /// Whether there is no record.
+    /// Returns whether the list is empty.
     pub fn is_empty(&self) -> bool
         ensures { result ≡ (length self.now == 0) }
     {
         self.places.is_empty()
     }
 
-    /// The octets of the record at an index.
+    /// Returns the octets of the record at `index`.
     pub fn octets_at(&self, index: usize) -> &[u8]
         requires { index < length self.now }
         ensures octets { (r : spec.Record) → slice_get self.now index ≡ Some r → result.now ≡ record_octets r }
@@ -119,7 +119,7 @@ impl RecordList {
         }
     }
 
-    /// The record at an index.
+    /// Returns the record at `index`.
     pub fn record_at(&self, index: usize) -> Record<'_>
         requires { index < length self.now }
         ensures { slice_get self.now index ≡ Some result }

@@ -12,7 +12,7 @@ use dns_message::Record;
 use dns_name::{Name, ParseAnyRecordData, ParsedName, Parser, Rtype};
 use dns_rdata::ZoneRecordData;
 
-/// Returns the record with its data in the fields of its type, or opaque if the type has none. Nothing is copied.
+/// Returns the record with its data in the fields of its type, or as unknown data if the type has none. Copies nothing.
 pub fn typed_record<'a>(
     record: &stored::Record<'a>,
 ) -> Record<Name<&'a [u8]>, ZoneRecordData<&'a [u8], ParsedName<&'a [u8]>>>
@@ -24,7 +24,8 @@ pub fn typed_record<'a>(
     Record::new(record.owner(), record.class(), record.ttl(), rdata)
 }
 
-/// Parses octets that are data of the type: its fields, or opaque data if the type has none. Nothing is copied.
+/// Parses octets that are data of the type: its fields, or unknown data if the type has none (RFC 3597 4). Copies
+/// nothing.
 pub fn parse_data<'a>(
     rtype: Rtype,
     octets: &'a [u8],

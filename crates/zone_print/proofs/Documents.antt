@@ -1,4 +1,4 @@
--- The document of a typed record, and the line end behind it.
+-- The document of a typed record, and the line end after it.
 use Rattle.std.proofs.Common.{◌≡◌, ◌-◌, ℕ, suc, false, List, [], ◌∷◌, ◌++◌, Option, Some, None, map, refl, sym, ap, ◌∙◌, subst}
 use Rattle.std.specs.Prelude.{⊤, nat_lt}
 use Rattle.std.specs.List.{AllByRecursion}
@@ -22,12 +22,12 @@ use Rattle.zone_octets.specs.Typed.{HasFieldsOfType}
 use Rattle.zone_octets.proofs.Each.{all_append}
 use Rattle.zone_print.specs.Printing.{AddsRecord}
 
--- data in its fields shows them, and opaque data its octets
+-- data in fields shows them, and unknown data its octets
 data_shown : (rdata : Data) → HasFieldsOfType rdata → ShowsData (number_of rdata) (data_octets rdata) (document_of rdata)
 data_shown (typed number row) has = fields (record { row = row; is_row = has; octets_are = refl; is = refl })
 data_shown (untyped unknown) has = untold has refl
 
--- what a held record is printed as
+-- the document of a held record
 abbrev pub held_document : RecordOf (List (List ℕ)) Data → List Piece
 held_document rr = record_document rr.owner rr.ttl rr.class (number_of rr.rdata) (document_of rr.rdata)
 
@@ -67,7 +67,7 @@ fields_inner (Some comment ∷ comments) (field ∷ row) =
     all_append IsInner (map Token (field_tokens field)) (Comment comment ∷ commented comments row) (tokens_inner (field_tokens field))
     (tt, fields_inner comments row)
 
--- a block behind words ends outside
+-- a block after words ends outside
 block_ends : (line pieces : List Piece) → depth line ≡ 0 → AllByRecursion IsInner pieces
     → is_inside (place_after line (Open ∷ pieces ++ Close ∷ [])) ≡ false
 block_ends line pieces at each =
@@ -78,12 +78,12 @@ data_ends : (line : List Piece) (rdata : Data) → depth line ≡ 0 → is_insid
 data_ends line (typed number row) at = block_ends line (commented (comments_of number) row) at (fields_inner (comments_of number) row)
 data_ends line (untyped unknown) at = block_ends line (map Token (unknown_words unknown.octets)) at (tokens_inner (unknown_words unknown.octets))
 
--- the line end behind the document
+-- the line end after the document
 pub line_ends : (layout : Layout) (rr : RecordOf (List (List ℕ)) Data)
     → document_text layout (held_document rr ++ Newline ∷ []) ≡ document_text layout (held_document rr) ++ 10 ∷ []
 line_ends layout rr = end layout (held_document rr) [] (data_ends _ rr.rdata refl)
 
--- so the text goes on with the record where it goes on with the document's text and a line feed
+-- so the record's text is appended if the document's text and a line feed are
 pub record_added : (layout : Layout) (rr : RecordOf (List (List ℕ)) Data) (r : Record) (old new : List ℕ) → record_of rr ≡ r
     → HasFieldsOfType rr.rdata → new ≡ old ++ (document_text layout (held_document rr) ++ 10 ∷ []) → AddsRecord layout r old new
 record_added layout rr r old new same has added = record {

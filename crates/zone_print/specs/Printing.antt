@@ -1,11 +1,11 @@
--- Records that are printed one after another. Only contracts inside the crate speak of it.
+-- Records that are printed one after another. Only contracts inside the crate name it.
 use Rattle.std.specs.Prelude.{◌≡◌, ℕ, List, [], ◌∷◌, ◌++◌}
 use Rattle.dns_text.specs.Document.{Layout, Piece, document_text}
 use Rattle.dns_text.specs.Document.Piece.{Newline}
 use Rattle.dns_message.specs.Printed.{IsDocument}
 use Rattle.zone_octets.specs.Record.{Record}
 
--- the text goes on with that of the record's document and a line end
+-- the new text is the old one, the record's document and a line end
 pub record AddsRecord (layout : Layout) (r : Record) (old new : List ℕ) : Type 0 where
   pub document : List Piece
   pub is : IsDocument r document

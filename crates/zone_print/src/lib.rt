@@ -1,4 +1,4 @@
-//! The text of a zone's records, under each layout (RFC 1035 5.1).
+//! The text of a zone's records, in each layout (RFC 1035 5.1).
 //!
 //! A part of `zonewire`.
 #![tactic(auto)]

@@ -12,9 +12,9 @@ use zone_octets::record::Record;
 use zone_octets::record_list::RecordList;
 use zone_octets::typed::typed_record;
 
-/// Returns the text of the records under the layout, one after another, each with a line feed behind it.
+/// Returns the text of the records in the layout, one after another, each followed by a line feed.
 ///
-/// Fails only if out of memory.
+/// Fails if out of memory.
 pub fn print_records(
     alloc: Global,
     records: &RecordList,
@@ -31,13 +31,13 @@ pub fn print_records(
     Ok(text.into_bytes())
 }
 
-/// Appends the text of a record, with a line feed behind it.
+/// Appends the text of a record, followed by a line feed. Fails if out of memory.
 fn print_record(text: &mut String, record: &Record<'_>, kind: DisplayKind) -> Result<(), AllocError>
     requires { HasLawfulData «record».now }
     ensures { OnOk result (AddsRecord (layout_of kind) «record».now (string_bytes text.old) (string_bytes text.new)) }
 {
     let typed = typed_record(record);
-    // An error of the formatter would be an `AllocError` too. No contract rules one out, but the writer of documents has
-    // one only where it opens more blocks than a `usize` counts, and a record has one block.
+    // An error of the formatter would be an `AllocError` too. No contract excludes one, but the writer of documents
+    // fails only if it opens more blocks than a `usize` counts, and a record has one block.
     writeln!(text, "{}", typed.display_zonefile(kind))
 }

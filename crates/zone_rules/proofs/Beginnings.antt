@@ -1,4 +1,4 @@
--- Of two lists of entries that a text begins with, the one begins with the other.
+-- Of two lists of entries at the start of a text, one begins with the other.
 use Rattle.std.proofs.Common.{◌≡◌, ◌⊎◌, ℕ, List, [], ◌∷◌, ◌++◌, append-nil, inl, inr, refl, sym, ◌∙◌, ap}
 use Rattle.dns_text.specs.Rows.{BeginsWithRows, TokenRow}
 use Rattle.dns_text.proofs.OneRow.{no_row_at_end}
@@ -56,7 +56,7 @@ within_whole has is =
     let rows = all_rows has.is_text.begins (λ tokens behind row. no_row_at_end has.is_text.ends row) is.begins in
     first_entries rows.behind rows.is has.are is.are
 
--- what is refused is among no entries
+-- an entry that fails is in no list of entries
 pub within_refused : {start : Context} {text : List ℕ} {all entries : List Entry} → IsRefusedAfter start text all
     → BeginsWith start text entries → IsFront entries all
 within_refused (broken breaks are) is =

@@ -1,4 +1,4 @@
--- The words that stand before the data of a printed record: its owner, TTL, class and type.
+-- The words before the data of a printed record: owner, TTL, class and type.
 use Rattle.std.proofs.Common.{◌≡◌, ◌≢◌, ◌<◌, ◌^◌, ◌==◌, ◌&&◌, ◌||◌, ℕ, Bool, true, false, List, [], ◌∷◌, ◌++◌, length, find, Option, Some, None, option_map, codes, decimal, nat_lt, refl, sym, ◌∙◌, ap, subst, arith, append_assoc, append-nil}
 use Rattle.std.specs.Prelude.{if◌then◌else◌, is_none}
 use Rattle.std.specs.Char.{is_ascii_digit}
@@ -65,7 +65,7 @@ digits_in_word (c ∷ text) each =
     let both = both_hold (is_ascii_digit c) (list_all is_ascii_digit text) each in
     rw (digit_in_word c both.0, digits_in_word text both.1) refl
 
--- a mnemonic, and a prefix with words behind it
+-- a mnemonic, and a prefix with words after it
 word_behind : (front behind : List ℕ) → is_mnemonic front ≡ true → list_all is_in_word behind ≡ true → IsHeadText (front ++ behind)
 word_behind [] behind front_is behind_is = absurd cc
 word_behind (c ∷ front) behind front_is behind_is =
@@ -75,7 +75,7 @@ word_behind (c ∷ front) behind front_is behind_is =
       no_number = ap (λ (b : Bool). b && list_all is_ascii_digit (front ++ behind)) (capital_no_digit c both.0);
     }
 
--- what holds of each text of a table holds of one that a number has
+-- what holds of each text of a table holds of the text of a number
 at_row : (test : List ℕ → Bool) (here : Bool) (row : ℕ × List ℕ) (others : Option (ℕ × List ℕ)) (text : List ℕ) → test row.1 ≡ true
     → (option_map {T = ℕ × List ℕ} (λ row. row.1) others ≡ Some text → test text ≡ true)
     → option_map {T = ℕ × List ℕ} (λ row. row.1) (if here then Some row else others) ≡ Some text → test text ≡ true
@@ -140,7 +140,7 @@ class_is_no_type class =
     (λ text is. none_of (type_read text) (in_table (λ text. is_none (type_read text)) classes class text no_type_named is))
     (no_type_behind class)
 
--- A printed name begins with no octet that it has behind a backslash, other than the dot and the backslash.
+-- The first octet of a printed name is no octet that it escapes with a backslash, other than the dot and the backslash.
 label_first : (special visible : Bool) (c first : ℕ) (rest behind : List ℕ) → first ≢ 92 → (special ≡ false → c ≢ first)
     → spelled (if special then SimpleEscape c else (if visible then Char c else DecimalEscape c)) ++ rest ≡ first ∷ behind → ⊥
 label_first true visible c first rest behind backslash other is = let e : 92 ≡ first = cc in backslash (sym e)

@@ -1,4 +1,4 @@
--- Documents of whole rows, one behind the other: their rows, and their text.
+-- Joined documents of whole rows: their rows, and their text.
 use Rattle.std.proofs.Common.{◌≡◌, ℕ, suc, Bool, if◌then◌else◌, List, [], ◌∷◌, ◌++◌, refl, sym, ◌∙◌, ap, subst, arith, append_assoc}
 use Rattle.dns_scan.specs.Token.{Token}
 use Rattle.dns_text.specs.Document.{Layout, Piece, depth, document_text, piece_text, place_behind}
@@ -29,7 +29,7 @@ step layout line piece pieces others is =
     ap (λ (l : List ℕ). front ++ l) is
     ∙ sym (append_assoc front (text_behind layout (place_behind line piece) pieces) (text_behind layout [] others))
 
--- The text of both: behind whole rows a line begins. So it does where there are none.
+-- The text of both: a line begins after whole rows, and also if there are none.
 text_joined : {marks : ℕ} {pieces : List Piece} {rows : List (List Token)} → HasRows marks pieces rows → (layout : Layout) (line others : List Piece)
     → depth line ≡ marks → (rows ≡ [] → line ≡ [])
     → text_behind layout line (pieces ++ others) ≡ text_behind layout line pieces ++ text_behind layout [] others

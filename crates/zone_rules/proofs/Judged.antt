@@ -54,7 +54,7 @@ module _ (given : List ℕ) (origin : Option (List (List ℕ))) (class : ℕ) (k
   abbrev Stands : List Entry → Context → List ℕ → Type 0
   Stands before after rest = StandsBehind (start_of origin class) given before after rest
 
-  -- it is so behind entries with fewer octets behind them
+  -- it holds after entries with fewer octets after them
   abbrev Judges : ℕ → Type 0
   Judges fuel = (before : List Entry) (after : Context) (rest : List ℕ) → length rest < fuel → Stands before after rest → KeepRules before → ⊥
 
@@ -141,7 +141,7 @@ module _ (given : List ℕ) (origin : Option (List (List ℕ))) (class : ℕ) (k
   one_entry fuel judges before Directive next behind few at keep =
       judges (push before Directive) next behind few at (keeps_directive keep)
 
-  -- what is refused
+  -- an entry that fails
   refused_there : (before : List Entry) → IsRefusedAfter (start_of origin class) given before → KeepRules before → ⊥
   refused_there before refused keep =
       no_fault (zone_error.Text (refused_number before)) (λ is. cc)

@@ -1,4 +1,5 @@
--- The origin of the context in which a row of a zone's text is read is a name. So the data of a record in fields is a row of its type.
+-- The origin of the context in which a row of a zone's text is read is a name. So the data of a record in fields is a
+-- row of its type.
 use Rattle.std.proofs.Common.{◌≡◌, ℕ, List, [], ◌∷◌, Option, Some, None, refl, sym, subst, arith}
 use Rattle.std.specs.Prelude.{⊤, IfSome}
 use Rattle.std.specs.List.{AllByRecursion}

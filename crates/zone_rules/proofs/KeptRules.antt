@@ -1,4 +1,4 @@
--- Which entries keep the rules with more entries behind them.
+-- Which entries keep the rules if more entries follow them.
 use Rattle.std.proofs.Common.{◌≡◌, ℕ, List, [], ◌∷◌, ◌++◌, Option, append-nil, refl, sym, ◌∙◌, ap, subst}
 use Rattle.std.specs.List.{AllByRecursion, push}
 use Rattle.dns_header.specs.Record.{RecordOf}
@@ -53,7 +53,7 @@ pub front_of_zone : (records : List Record) → IsZone records → IsZoneFront r
 front_of_zone [] zone = tt
 front_of_zone (soa ∷ others) zone = zone
 
--- no entries, and more behind those that keep the rules
+-- no entries, and more after those that keep the rules
 pub keeps_none : KeepRules []
 keeps_none = record { one_file = tt; each = tt; front = tt }
 

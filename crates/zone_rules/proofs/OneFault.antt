@@ -1,4 +1,4 @@
--- A text has one fault at most, and a zone's text has none.
+-- A text has at most one fault, and a zone's text has none.
 use Rattle.std.proofs.Common.{◌≡◌, ◌≢◌, ℕ, List, [], ◌∷◌, Option, inl, inr, refl, sym, ◌∙◌, ap, subst}
 use Rattle.std.specs.List.{AllByRecursion, push}
 use Rattle.dns_header.specs.Record.{RecordOf}
@@ -19,7 +19,7 @@ use Rattle.zone_rules.specs.declared.zone_error.ZoneError.TheVariants as zone_er
 use Rattle.zone_rules.proofs.Beginnings.{BeginsWith, IsFront, comparable, front_or_whole, within_refused, within_whole}
 use Rattle.zone_rules.proofs.KeptRules.{keeps_front, last_follows, last_no_file, last_typed}
 
--- what the text does behind entries: it is refused, it ends, or it goes on with an entry
+-- what the text does after entries: it fails, it ends, or it goes on with an entry
 data Event : Type 0 where
   Stops : Event
   Ends : Event
@@ -76,7 +76,7 @@ place {before = before} {others = others} (goes {entry = entry} is) (goes {entry
   | inr front ↦ turned (place_push others before other entry front)
 ]
 
--- which rule a record breaks behind these
+-- which rule a record breaks after these
 data BreaksFront (n : ℕ) (r : Record) : List Record → ZoneError → Type 0 where
   first : r.rtype ≢ soa_type → BreaksFront n r [] (zone_error.FirstNotSoa n)
   second : {soa : Record} {others : List Record} → r.rtype ≡ soa_type → BreaksFront n r (soa ∷ others) (zone_error.SecondSoa n)
@@ -122,7 +122,7 @@ breaks_one (untyped lacks) typed follows = lacks typed.data_is
 breaks_one (placed is breaks) typed follows = no_follower breaks follows
 breaks_one (unspellable is may unspelled) typed follows = unspelled typed.spellable
 
--- which rule is broken by what the text does behind entries
+-- which rule is broken by what the text does after entries
 data Breaks (before : List Entry) : Event → ZoneError → Type 0 where
   text : Breaks before Stops (zone_error.Text (refused_number before))
   file : {path : List ℕ} {origin : Option (List (List ℕ))}
@@ -150,7 +150,7 @@ record FaultAt (start : Context) (given : List ℕ) (e : ZoneError) : Type 0 whe
   pub keep : KeepRules before
   pub breaks : Breaks before event e
 
--- entries that keep the rules do not go on behind it
+-- entries that keep the rules do not go on after it
 not_earlier : {start : Context} {given : List ℕ} {e : ZoneError} {others : List Entry} (at : FaultAt start given e) (entry : Entry)
     → at.event ≡ Goes entry → IsFront (push at.before entry) others → KeepRules others → ⊥
 not_earlier {e = e} at entry event front keep =

@@ -1,4 +1,4 @@
--- Each row that states a record has an opaque form.
+-- Each row that states a record has a form with unknown data.
 use Rattle.std.proofs.Common.{◌≡◌, ◌<◌, ◌≤◌, ◌^◌, ℕ, List, [], ◌∷◌, ◌++◌, length, Option, decimal, refl, sym, ◌∙◌, arith, append_assoc, append-nil}
 use Rattle.dns_label.specs.Octets.{AreOctets}
 use Rattle.dns_scan.specs.Encodings.{encoded_16}

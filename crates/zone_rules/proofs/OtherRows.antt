@@ -1,4 +1,4 @@
--- A zone's text in which one row stands for another.
+-- A zone's text in which one row is replaced by another.
 use Rattle.std.proofs.Common.{◌≡◌, ℕ, List, [], ◌∷◌, ◌++◌, Option, append_assoc, sym, ◌∙◌, ap, subst}
 use Rattle.std.specs.List.{AllByRecursion}
 use Rattle.dns_text.specs.Rows.{BeginsWithRows, TokenRow}
@@ -75,13 +75,13 @@ kept row other more some makes (entry {row = row'} {rows = rows} has begins) is 
     let behind : rows' ≡ rows ++ row ∷ more = cc in
     same_row first has has' are (λ there. kept row other more some makes begins behind there)
 
--- rows behind others
+-- rows after others
 rows_append : {text rest left : List ℕ} {rows others : List TokenRow} → BeginsWithRows text rows rest → BeginsWithRows rest others left
     → BeginsWithRows text (rows ++ others) left
 rows_append no_rows behind = behind
 rows_append (more_rows first rows) behind = more_rows first (rows_append rows behind)
 
--- A row that makes what the other one makes may stand for it.
+-- A row may replace another that makes the same.
 pub row_replaced : {text other rest : List ℕ} {origin : Option (List (List ℕ))} {class : ℕ} {records : List Record} {rows : List TokenRow}
     {entries : List Entry} {context : Context} (row other_row : TokenRow) → (row.tokens ≡ [] → ⊥) → MakesAs context row other_row
     → AreEntries (start_of origin class) rows entries context → BeginsWithRows text (rows ++ row ∷ []) rest

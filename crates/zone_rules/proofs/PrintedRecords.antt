@@ -1,4 +1,4 @@
--- What is printed of a record is one row, which states the record.
+-- A record is printed as one row, which states the record.
 use Rattle.std.proofs.Common.{◌≡◌, ◌<◌, ◌^◌, ℕ, List, [], ◌∷◌, ◌++◌, Option, Some, decimal, refl, sym, ◌∙◌, ap, subst, arith}
 use Rattle.std.specs.Option.{option_or}
 use Rattle.std.specs.List.{AllByRecursion, AllZip}
@@ -71,7 +71,7 @@ data_shown class r document is (untold none shown) = record {
   is = shown;
 }
 
--- the context behind a record
+-- the context after a record
 abbrev pub behind : Context → Record → Context
 behind context r = record context { owner = Some r.owner; last_ttl = r.ttl; class = Some r.class }
 

@@ -1,4 +1,4 @@
--- What is printed of a zone is a zone's text.
+-- The printed text of a zone is a zone's text.
 use Rattle.std.proofs.Common.{◌≡◌, ◌≢◌, ℕ, List, [], ◌∷◌, ◌++◌, Option, Some, map, refl, sym, ◌∙◌, ap, subst}
 use Rattle.std.specs.List.{AllByRecursion}
 use Rattle.dns_label.specs.Octets.{AreOctets}

@@ -29,7 +29,7 @@ use Rattle.zone_rules.specs.ZoneText.{IsWellTyped, IsZoneFault, IsZoneText, Keep
 use Rattle.zone_rules.specs.declared.zone_error.ZoneError.TheVariants as zone_error
 use Rattle.zone_rules.proofs.KeptRules.{keeps_directives, keeps_none, keeps_record, records_behind, records_push}
 
--- a reader that stands at the beginning of a text
+-- a reader at the start of a text
 abbrev pub reader_at : Context → List ℕ → Reader
 reader_at start given = record { text = given; place = 0; context = start; count = 0 }
 
@@ -48,7 +48,7 @@ pub count_read : {start : Context} {given : List ℕ} {entries : List Entry} {re
     → reader.count ≡ length entries
 count_read read = let count = read.goes.count in omega (arith, count)
 
--- what it gives behind them
+-- the next entry
 pub next_read : {start : Context} {given : List ℕ} {entries : List Entry} {entry : Entry} {reader new : Reader}
     → HasRead start given entries reader → Gives reader (Ok (Some entry)) new
     → (directives : List Entry) × AreDirectives directives × HasRead start given (push (entries ++ directives) entry) new
@@ -99,7 +99,7 @@ kept_at_start given origin class known = record {
   are = refl;
 }
 
--- the text ends behind them
+-- the text ends after them
 pub zone_text : {given : List ℕ} {origin : Option (List (List ℕ))} {class : ℕ} {records : List Record} {reader new : Reader}
     → HasKept given origin class records reader → Gives reader (Ok None) new → IsZone records → IsZoneText given origin class records
 zone_text kept gives zone =
@@ -124,7 +124,7 @@ no_soa_fault kept gives empty =
       none = records_behind kept.entries all.0 all.1 ∙ sym kept.are ∙ empty;
     }
 
--- the text is refused behind them
+-- the text fails after them
 pub text_fault : {given : List ℕ} {origin : Option (List (List ℕ))} {class n : ℕ} {records : List Record} {reader new : Reader}
     {error : EntryError} → HasKept given origin class records reader → Gives reader (Err error) new → is_memory error ≡ false
     → n ≡ new.count + 1 → IsZoneFault given origin class (zone_error.Text n)
@@ -138,7 +138,7 @@ text_fault kept gives is number =
       counted = omega (arith, number, count);
     }
 
--- The text goes on behind them with this entry.
+-- The text goes on after them with this entry.
 pub record Meets (given : List ℕ) (origin : Option (List (List ℕ))) (class n : ℕ) (records : List Record) (entry : Entry) (new : Reader) : Type 0 where
   pub before : List Entry
   pub reaches : Reaches given origin class n before entry
@@ -225,7 +225,7 @@ pub unspellable_fault : {given : List ℕ} {origin : Option (List (List ℕ))} {
 unspellable_fault {records = records} {r = r} is data_is follows unspelled =
     (records, r, reaches_record is refl, data_is, follows, unspelled)
 
--- What a reader gives that writes records behind octets, where it hands this on.
+-- The result of a reader that appends records to octets.
 abbrev pub HandsOver : Reader → List ℕ → Result (Option ComposedEntry) EntryError → Reader → List ℕ → Type 0
 HandsOver reader old handed new octets =
     (found : Result (Option Entry) EntryError) × Gives reader found new × HandsOn old found handed octets
@@ -257,7 +257,7 @@ pub gives_error : {reader new : Reader} {old octets : List ℕ} {error : EntryEr
 gives_error {reader} {new} hands =
     subst (λ (f : Result (Option Entry) EntryError). Gives reader f new) (handed_error hands.2) hands.1
 
--- the number of an entry that is given, and of one that is refused
+-- the number of an entry that is read, and of one that fails
 pub number_given : (zonefile : Zonefile) → refused_in zonefile ≡ None → entries_met zonefile ≡ (reader_of zonefile).count
 number_given zonefile unrefused =
     let nothing : zonefile.count + 0 ≡ zonefile.count = omega arith in

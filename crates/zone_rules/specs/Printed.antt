@@ -5,7 +5,7 @@ use Rattle.dns_text.specs.Document.Piece.{Newline}
 use Rattle.dns_message.specs.Printed.{IsDocument}
 use Rattle.zone_octets.specs.Record.{Record}
 
--- The text is that of the records' documents, in order, each with a line end behind it.
+-- The text is that of the records' documents, in order, each followed by a line end.
 pub data IsPrinted (layout : Layout) : List Record → List ℕ → Type 0 where
   none : IsPrinted layout [] []
   more : {r : Record} {records : List Record} {text rest : List ℕ} (document : List Piece) → IsDocument r document

@@ -1,4 +1,4 @@
--- Data of a type with fields, written as opaque octets all the same (RFC 3597 5).
+-- Data of a type with fields, written in the form of unknown data (RFC 3597 5).
 use Rattle.std.specs.Prelude.{◌≡◌, ℕ, List, [], ◌∷◌, ◌++◌}
 use Rattle.dns_scan.specs.Token.{Token, marker}
 use Rattle.dns_scan.specs.UnknownData.{IsUnknownData}
@@ -9,8 +9,8 @@ use Rattle.dns_zonefile.specs.Entries.{AreEntries}
 use Rattle.dns_zonefile.specs.Entry.{Context, Entry}
 use Rattle.dns_zonefile.specs.Statement.{Names, Stated, StatesRecord}
 
--- The row states a record. In place of its data's tokens, the other one has the marker, and the number and the words of the data's octets,
--- each name in it uncompressed.
+-- The row states a record. In place of its data's tokens, the other one has the marker, and the number and the words of
+-- the data's octets, each name uncompressed.
 pub record IsOpaqueForm (names : Names) (row other : TokenRow) : Type 0 where
   pub stated : Stated
   pub says : StatesRecord names row stated
@@ -20,7 +20,7 @@ pub record IsOpaqueForm (names : Names) (row other : TokenRow) : Type 0 where
   pub words_are : IsUnknownData words (data_octets stated.rdata)
   pub other_is : other ≡ record { led = row.led; tokens = head ++ marker ∷ words }
 
--- The texts are the same but for one row, which the other has in its opaque form.
+-- The texts are the same but for one row, which the other has in the form of unknown data.
 pub record HasOpaqueRow (start : Context) (text other : List ℕ) : Type 0 where
   pub rows : List TokenRow
   pub row : TokenRow

@@ -1,4 +1,4 @@
--- Which text is a zone's (RFC 1035 5), and else the first rule that it breaks.
+-- Which text is a zone's (RFC 1035 5), and which rule another text breaks first.
 use Rattle.std.specs.Prelude.{◌≡◌, ◌≢◌, ℕ, Option, Some, List, [], ◌∷◌, ⊤}
 use Rattle.std.specs.List.{AllByRecursion, push}
 use Rattle.dns_text.specs.Rows.{BeginsWithRows, TokenRow}
@@ -28,19 +28,20 @@ NamesNoFile (Resource rr) = ⊤
 NamesNoFile (Include path origin) = ⊥
 NamesNoFile Directive = ⊤
 
--- Its data is that of its type, also where the text has it as opaque octets (RFC 3597 5), and text can spell its fields.
+-- Its data is that of its type, also if the text has it in the form of unknown data (RFC 3597 5), and text can spell
+-- its fields.
 pub record IsWellTyped (r : Record) : Type 0 where
   pub data_is : IsData r.rtype r.rdata
   pub spellable : IsSpellable r.rtype r.rdata
 
--- The entries keep the rules: none names another file, the data of each record is of its type, and the records are a zone's first
--- ones.
+-- The entries keep the rules: none names another file, the data of each record is of its type, and the records are a
+-- zone's first ones.
 pub record KeepRules (entries : List Entry) : Type 0 where
   pub one_file : AllByRecursion NamesNoFile entries
   pub each : AllByRecursion IsWellTyped (records_in entries)
   pub front : IsZoneFront (records_in entries)
 
--- how the text of a zone of the class begins: names stand under this origin, if one is known
+-- the context before the text of a zone of the class: names are relative to this origin, if one is known
 abbrev pub start_of : Option (List (List ℕ)) → ℕ → Context
 start_of origin class = at_start origin (Some class)
 
@@ -53,7 +54,7 @@ pub record IsZoneText (text : List ℕ) (origin : Option (List (List ℕ))) (cla
   pub are : records ≡ records_in entries
   pub zone : IsZone records
 
--- Behind entries that keep the rules the text has this one, which is the n-th.
+-- After entries that keep the rules the text has this one, the n-th.
 pub record Reaches (text : List ℕ) (origin : Option (List (List ℕ))) (class n : ℕ) (before : List Entry) (entry : Entry) : Type 0 where
   pub class_known : class ≢ any_class
   pub rows : List TokenRow
@@ -70,11 +71,11 @@ ReachesRecord text origin class n records r =
     (before : List Entry) × (rr : RecordOf (List (List ℕ)) Data) × Reaches text origin class n before (Resource rr)
     × (records ≡ records_in before) × (r ≡ record_of rr)
 
--- a record that may stand behind these
+-- a record that may follow these
 abbrev pub MayFollow : List Record → Record → Type 0
 MayFollow records r = IsZoneFront (push records r)
 
--- The entry that is refused, which is the n-th, stands behind entries that keep the rules.
+-- The entry that fails, the n-th, follows entries that keep the rules.
 pub record StopsAt (text : List ℕ) (origin : Option (List (List ℕ))) (class n : ℕ) : Type 0 where
   pub class_known : class ≢ any_class
   pub before : List Entry
@@ -90,8 +91,8 @@ pub record HasNoRecord (text : List ℕ) (origin : Option (List (List ℕ))) (cl
   pub keep : KeepRules entries
   pub none : records_in entries ≡ []
 
--- The first rule that the text breaks: the class; then of the first entry that breaks one, the first in the order of the variants;
--- then that there is a record. (Nothing is said of memory.)
+-- The first rule that the text breaks: the class; then, of the first entry that breaks one, the first in the order of
+-- the variants; then that there is a record. `OutOfMemory` holds of any text.
 abbrev pub IsZoneFault : List ℕ → Option (List (List ℕ)) → ℕ → ZoneError → Type 0
 IsZoneFault text origin class zone_error.ClassAny = class ≡ any_class
 IsZoneFault text origin class (zone_error.Text n) = StopsAt text origin class n

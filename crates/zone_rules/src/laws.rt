@@ -1,5 +1,4 @@
-//! What holds of the definitions that the crate's contracts stand on. A law is a function that does nothing, whose
-//! contract is the law.
+//! Laws of the definitions in the crate's contracts. A law is a function that does nothing. Its contract is the law.
 
 mod printed;
 mod text;

@@ -1,6 +1,6 @@
-//! Which text is a zone's, why another is not, and what holds of them (RFC 1035 5).
+//! Which text is a zone's, which rule another text breaks, and the laws of both (RFC 1035 5).
 //!
-//! A part of `zonewire`. Its `specs/` are the definitions; the code is the error that names the first rule that is broken.
+//! A part of `zonewire`. Its `specs/` are the definitions. Its code is the error that names the first broken rule.
 #![tactic(auto)]
 
 pub mod laws;

@@ -1,4 +1,4 @@
--- The records of a zone's text are counted, and the first is kept.
+-- Counting the records of a zone's text, and keeping the first.
 use Rattle.std.proofs.Common.{◌≡◌, ◌≢◌, ◌+◌, ◌<◌, ◌++◌, ◌∙◌, ℕ, List, [], ◌∷◌, Option, None, Ok, length, take, refl, sym, ap, subst, arith, append-nil, length-append}
 use Rattle.std.proofs.Math.Seq.{take-append_seam}
 use Rattle.std.specs.Prelude.{IfSome}
@@ -93,7 +93,7 @@ nothing_counted {text} {origin} {class} named at none = record {
   counted = refl;
 }
 
--- the text ends behind what was counted
+-- the text ends after what was counted
 pub all_counted : {text : List ℕ} {origin : Option (List (List ℕ))} {class count : ℕ} {reader new : Reader} {octets : List ℕ}
     → HasCounted text origin class reader octets count → Gives reader (Ok None) new → HasCountedAll text origin class count
 all_counted counted gives =

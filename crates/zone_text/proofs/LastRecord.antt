@@ -1,4 +1,4 @@
--- The record that stands last in octets, and the owner of the first.
+-- The last record in octets, and the owner of the first.
 use Rattle.std.proofs.Common.{◌≡◌, ◌≢◌, ◌≤◌, ◌++◌, ◌∙◌, ℕ, List, [], Option, Some, None, length, take, drop, sym, ap, arith, length-append}
 use Rattle.std.proofs.Math.Seq.{take-append_seam, drop-append_seam}
 use Rattle.dns_message.specs.Record.{IsRecord, record_octets}
@@ -27,7 +27,7 @@ pub begin_some : (apex : Option (List (List ℕ))) (octets : List ℕ) → Begin
 begin_some None octets begin some = absurd (some begin)
 begin_some (Some apex) octets begin some = (begin.0, begin.1, begin.2, begin.3)
 
--- the owner that is found there
+-- the owner at their start
 pub apex_found : (apex found : Option (List (List ℕ))) (octets : List ℕ) → BeginWith apex octets → (octets ≡ [] → found ≡ None)
     → ((r : Record) (rest : List ℕ) → IsRecord r → octets ≡ record_octets r ++ rest → found ≡ Some r.owner) → found ≡ apex
 apex_found None found octets begin none some = none begin

@@ -1,4 +1,4 @@
--- A zone's text that is read record by record.
+-- Reading a zone's text record by record.
 use Rattle.std.proofs.Common.{◌≡◌, ◌≢◌, ◌<◌, ◌^◌, ◌++◌, ◌∙◌, ℕ, Bool, false, List, [], ◌∷◌, Option, Some, None, Ok, length, refl, sym, subst, arith, append_assoc}
 use Rattle.std.specs.Prelude.{Result, IfSome}
 use Rattle.std.specs.Int.{to_be_bytes, w16}
@@ -87,7 +87,7 @@ record_met {reader = reader} {new = new} {rr = rr} known read gives is counted =
   is = refl;
 }
 
--- its data, where the text does not have it as opaque octets
+-- its data, if the text does not write it in the form of unknown data
 pub data_met : {text : List ℕ} {origin : Option (List (List ℕ))} {class : ℕ} {reader new : Reader} {octets places old after : List ℕ} {told : Bool}
     {given : Result (Option Entry) EntryError} → HasRead text origin class reader octets places → Gives reader given new
     → (handed : IsHanded old told given after) → told ≡ false → IsData (record_of handed.rr).rtype (record_of handed.rr).rdata
@@ -96,7 +96,7 @@ data_met {reader = reader} {new = new} read gives handed bare =
     let fit = fitting_last (read.entries ++ next.0) (Resource handed.rr) (entries_fit read.named next.2.goes.are) in
     rowed_data handed.rr.rdata (sym handed.opaque ∙ bare) fit
 
--- a record that may stand there may follow the others
+-- a record that may be there may follow the others
 pub follows : (records : List Record) (apex : Option (List (List ℕ))) (r : Record) → apex ≡ apex_in records → IsZoneFront records
     → MayStandUnder apex r → MayFollow records r
 follows [] None r same front may = (may, tt)
@@ -155,7 +155,7 @@ pub begin_stored : {octets places : List ℕ} (records : List Record) → AreSto
 begin_stored [] stored = stored.whole
 begin_stored (r ∷ records) stored = (r, flat_map record_octets records, stored.each.0, stored.whole, refl)
 
--- the record that is read, behind those octets
+-- the record that is read, after those octets
 pub stands_last : {old new : List ℕ} {told : Bool} {given : Result (Option Entry) EntryError} (apex : Option (List (List ℕ))) (place : ℕ) (seen : List ℕ)
     → BeginWith apex old → (handed : IsHanded old told given new) → place ≡ length old → seen ≡ new
     → StandsLast seen place apex (record_of handed.rr)
@@ -167,7 +167,7 @@ stands_last {old} apex place seen begin handed at same = record {
   is = record_is handed.rr handed.held;
 }
 
--- the text ends behind what was read
+-- the text ends after what was read
 pub all_read : {text : List ℕ} {origin : Option (List (List ℕ))} {class : ℕ} {reader new : Reader} {octets places : List ℕ}
     → HasRead text origin class reader octets places → Gives reader (Ok None) new → HasReadAll text origin class octets places
 all_read {octets = octets} {places = places} read gives =
@@ -179,7 +179,7 @@ all_read {octets = octets} {places = places} read gives =
       stored = subst (λ rs. AreStored octets places rs) (sym same) read.stored;
     }
 
--- rows with tokens are gone over
+-- rows with tokens make the text shorter
 rows_shorter : {text rest : List ℕ} {row : TokenRow} {rows : List TokenRow} → BeginsWithRows text (row ∷ rows) rest → length rest < length text
 rows_shorter (BeginsWithRows.more row BeginsWithRows.none) = row_shorter row
 rows_shorter (BeginsWithRows.more row (BeginsWithRows.more next others)) =
@@ -204,7 +204,7 @@ shorter_read same (Gives.ended are goes ends) = absurd cc
 shorter_read same (Gives.refused are goes at real) = absurd cc
 shorter_read same (Gives.out_of_memory are goes memory) = absurd cc
 
--- the records that were read, where octets are such
+-- the records that were read, if they consist of octets
 each_known : (class : ℕ) (records : List Record) → AllByRecursion IsRecord records → AllByRecursion IsWellTyped records
     → AllByRecursion (λ (r : Record). r.class ≡ class) records → AreOctets (flat_map record_octets records)
     → AllByRecursion (IsRecordOf class) records

@@ -1,4 +1,4 @@
--- The data of a zone's record is parsed, in the fields of its type.
+-- The data of a zone's record is parsed in the fields of its type.
 use Rattle.std.proofs.Common.{◌≡◌, ℕ, zero, suc, ◌<◌, List, [], ◌∷◌, get_or, length, ap, ◌∙◌, subst, sym, arith, inl, inr}
 use Rattle.std.proofs.Math.Logic.{∥∥₁_elim}
 use Rattle.std.specs.List.{AllByRecursion}

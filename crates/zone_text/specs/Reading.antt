@@ -1,4 +1,4 @@
--- How far the reading of a zone's text has come. Only contracts inside the crate speak of it.
+-- How far a zone's text has been read. Only contracts inside the crate name it.
 use Rattle.std.specs.Prelude.{◌≡◌, ◌≢◌, ◌++◌, ℕ, Bool, Option, Some, None, Result, Ok, List, [], ◌∷◌, length, ⊤, IfSome}
 use Rattle.dns_label.specs.Name.{IsName}
 use Rattle.dns_header.specs.Record.{RecordOf}
@@ -24,8 +24,8 @@ use Rattle.zone_rules.specs.declared.zone_error.ZoneError.TheVariants as zone_er
 abbrev pub reader_at : List ℕ → Option (List (List ℕ)) → ℕ → Reader
 reader_at text origin class = record { text = text; place = 0; context = start_of origin class; count = 0 }
 
--- The entries up to where the reader stands keep a zone's rules, and the octets are their records, which begin at these places. The
--- origin, if there is one, is a name.
+-- The entries before the place of the reader keep a zone's rules, and the octets are their records, which begin at
+-- these places. The origin, if there is one, is a name.
 pub record HasRead (text : List ℕ) (origin : Option (List (List ℕ))) (class : ℕ) (reader : Reader) (octets places : List ℕ) : Type 0 where
   pub named : IfSome origin IsName
   pub entries : List Entry
@@ -45,7 +45,7 @@ abbrev pub first_octets : List Record → List ℕ
 first_octets [] = []
 first_octets (r ∷ records) = record_octets r
 
--- The same where the octets are those of the first record alone, and the records are counted.
+-- The same if the octets are those of the first record alone, and the records are counted.
 pub record HasCounted (text : List ℕ) (origin : Option (List (List ℕ))) (class : ℕ) (reader : Reader) (octets : List ℕ) (count : ℕ) : Type 0 where
   pub all : List ℕ
   pub places : List ℕ
@@ -53,14 +53,15 @@ pub record HasCounted (text : List ℕ) (origin : Option (List (List ℕ))) (cla
   pub first : octets ≡ first_octets (records_in read.entries)
   pub counted : count ≡ length places
 
--- All entries of the text do, and these are so many records.
+-- All entries of the text do, and they have this number of records.
 pub record HasCountedAll (text : List ℕ) (origin : Option (List (List ℕ))) (class count : ℕ) : Type 0 where
   pub octets : List ℕ
   pub places : List ℕ
   pub all : HasReadAll text origin class octets places
   pub counted : count ≡ length places
 
--- The reader gives a record, whose octets stand behind the old ones. The text has its data as opaque octets or not.
+-- The reader returns a record, whose octets follow the old ones. The text writes its data in the form of unknown data
+-- or not.
 pub record IsHanded (old : List ℕ) (told : Bool) (given : Result (Option Entry) EntryError) (new : List ℕ) : Type 0 where
   pub rr : RecordOf (List (List ℕ)) Data
   pub is : given ≡ Ok (Some (Resource rr))
@@ -68,7 +69,7 @@ pub record IsHanded (old : List ℕ) (told : Bool) (given : Result (Option Entry
   pub octets : new ≡ old ++ record_octets (record_of rr)
   pub opaque : told ≡ is_untyped rr.rdata
 
--- The reader goes on to a record, or to the end of the text, where nothing is added to the octets.
+-- The reader goes on to a record, or to the end of the text, and then appends nothing to the octets.
 abbrev pub HasMet : Reader → List ℕ → Option Bool → Reader → List ℕ → Type 0
 HasMet reader old None new octets = Gives reader (Ok None) new × (octets ≡ old)
 HasMet reader old (Some told) new octets =
@@ -88,12 +89,12 @@ pub record StandsLast (octets : List ℕ) (place : ℕ) (apex : Option (List (Li
   pub begin : BeginWith apex before
   pub is : IsRecord r
 
--- a record that may stand in the zone of this name, or be the first of a zone
+-- a record that may be in the zone of this name, or be the first of a zone
 abbrev pub MayStandUnder : Option (List (List ℕ)) → Record → Type 0
 MayStandUnder None r = r.rtype ≡ soa_type
 MayStandUnder (Some apex) r = (r.rtype ≢ soa_type) × IsUnder apex r.owner
 
--- the first rule that a record breaks there, which is of the entry of this number
+-- the first rule that a record breaks there, with the number of its entry
 abbrev pub BreaksRule : ℕ → Option (List (List ℕ)) → Record → ZoneError → Type 0
 BreaksRule number apex r (zone_error.Untyped n) = (n ≡ number) × (IsData r.rtype r.rdata → ⊥)
 BreaksRule number None r (zone_error.FirstNotSoa n) = (n ≡ number) × IsData r.rtype r.rdata × (r.rtype ≢ soa_type)

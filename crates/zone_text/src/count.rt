@@ -1,4 +1,4 @@
-//! How many records a zone's text has (RFC 1035 5). Of the records only the first is kept.
+//! The number of records in a zone's text (RFC 1035 5). Only the first record is kept.
 ghost use Rattle.std.specs.Prelude.{◌≡◌, ◌≢◌, ◌+◌, ◌<◌, ℕ, List, Option, None, Ok, true, false, length, option_copied, IfOk, IfErr, OnOk};
 ghost use Rattle.dns_zonefile.specs.Reader.{left_of};
 ghost use Rattle.dns_zonefile.specs.ReaderSeen.{reader_of, refused_in};
@@ -13,7 +13,9 @@ use dns_zonefile::Zonefile;
 use std::alloc::Global;
 use zone_rules::ZoneError;
 
-/// Returns how many records the text of a zone of the class has, if the zone's rules hold. Names stand under the origin, if there is one.
+/// Returns the number of records in the text of a zone of the class. Names are relative to the origin, if there is one.
+///
+/// Fails with the first rule that is broken, or with `OutOfMemory` if out of memory.
 pub(crate) fn count_records(
     alloc: Global,
     text: Vec<u8>,
@@ -37,7 +39,9 @@ pub(crate) fn count_records(
     Ok(count)
 }
 
-/// Reads the next record, and returns whether there was one. The octets are those of the first record, once there is one.
+/// Reads the next record, and returns whether there was one. `octets` holds the first record, once there is one.
+///
+/// Fails with the first rule that is broken, or with `OutOfMemory` if out of memory.
 fn count_next(
     alloc: Global,
     zonefile: &mut Zonefile,
@@ -61,7 +65,7 @@ fn count_next(
         return Ok(false);
     };
     check_last(alloc, octets, place, untyped, zonefile.entry_number())?;
-    // Only the first record is kept: its owner is the zone's name.
+    // Only the first record is kept: its owner is the zone's apex.
     if place > 0 {
         octets.truncate(place);
     }

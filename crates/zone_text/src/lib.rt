@@ -1,8 +1,8 @@
-//! Zones: their records, read from the text of a zone file and printed as text (RFC 1035 5), and compared by canonical octets
+//! Zones: records read from the text of a zone file and printed as text (RFC 1035 5), and compared by canonical octets
 //! (RFC 4034 6).
 //!
-//! A part of `zonewire`, which hands its types on. The functions of its modules are for `zone_core`, which sends and receives the
-//! records as octets.
+//! A part of `zonewire`, which re-exports its types. The functions of `zone` are for `zone_send`, which sends the
+//! records of a zone, and for `zone_receive`, which makes a zone of those that it received.
 #![tactic(auto)]
 
 mod count;

@@ -1,4 +1,4 @@
-//! The records of a zone's text, read in place (RFC 1035 5).
+//! The records of a zone's text, parsed in place (RFC 1035 5).
 ghost use Rattle.std.specs.Prelude.{◌≡◌, ◌≢◌, ◌<◌, ◌++◌, [], ℕ, List, Option, Some, None, Ok, true, false, length, option_copied, IfOk, IfErr, IfSome, OnOk};
 ghost use Rattle.dns_label.specs.Name.{IsName};
 ghost use Rattle.dns_label.specs.Octets.{AreOctets};
@@ -21,7 +21,9 @@ use zone_octets::record::Record;
 use zone_octets::record_list::RecordList;
 use zone_rules::ZoneError;
 
-/// Reads the records of the text of a zone of the class, as far as a zone's rules hold. Names stand under the origin, if there is one.
+/// Reads the records of the text of a zone of the class. Names are relative to the origin, if there is one.
+///
+/// Fails with the first rule that is broken, or with `OutOfMemory` if out of memory.
 pub(crate) fn read_records(
     alloc: Global,
     text: Vec<u8>,
@@ -44,12 +46,13 @@ pub(crate) fn read_records(
     Ok(RecordList::from_octets(octets, places))
 }
 
-/// Does nothing. It says to the proof what the type does: that each of these is an octet.
+/// Does nothing. It tells the proof what the type guarantees: that each of these is an octet.
 fn are_octets(_octets: &[u8])
     ensures { AreOctets _octets.now }
 {}
 
-/// Returns the reader of a zone's text of the class. Names stand under the origin, if there is one. Fails if out of memory.
+/// Returns a reader of the text of a zone of the class. Names are relative to the origin, if there is one. Fails if out
+/// of memory.
 pub(crate) fn zonefile_of(
     alloc: Global,
     text: Vec<u8>,
@@ -65,13 +68,15 @@ pub(crate) fn zonefile_of(
     let Some(origin) = origin else {
         return Ok(zonefile);
     };
-    // This keeps in sight of the proof that it is a name.
+    // This shows the proof that it is a name.
     let _octets = origin.as_slice();
     zonefile.set_origin(origin.to_vec(alloc)?);
     Ok(zonefile)
 }
 
-/// Reads the next record behind the others, and returns whether there was one.
+/// Appends the next record, and returns whether there was one.
+///
+/// Fails with the first rule that is broken, or with `OutOfMemory` if out of memory.
 fn read_next(
     alloc: Global,
     zonefile: &mut Zonefile,
@@ -104,7 +109,11 @@ fn read_next(
     }
 }
 
-/// Appends the octets of the next record, and returns whether the text has its data as opaque octets, or None at the end of the text.
+/// Appends the octets of the next record. Returns whether the text writes its data in the form of unknown data, or None
+/// at the end of the text.
+///
+/// Fails with `Include` if the next entry includes a file, with `Text` if it cannot be parsed, and with `OutOfMemory`
+/// if out of memory.
 pub(crate) fn meet_record(
     zonefile: &mut Zonefile,
     octets: &mut Vec<u8>,
@@ -124,7 +133,8 @@ pub(crate) fn meet_record(
     }
 }
 
-/// Refuses the record that stands at the place, by its entry's number, if it breaks a rule of the zone whose records stand before it.
+/// Checks the record at the place, with the number of its entry. Fails if it breaks a rule of the zone whose records
+/// come before it.
 pub(crate) fn check_last(
     alloc: Global,
     octets: &[u8],
@@ -144,8 +154,9 @@ pub(crate) fn check_last(
     check_record(alloc, apex_of(before), &record, untyped, number)
 }
 
-/// Refuses a record, by its entry's number, that breaks a rule of the zone of this name, or is no zone's first record if there is no
-/// name yet. The text may have its data as opaque octets though its type has fields.
+/// Checks a record, with the number of its entry. Fails if it breaks a rule of the zone with this apex, or cannot be a
+/// zone's first record if there is no apex yet. The text may write its data in the form of unknown data although its
+/// type has fields.
 fn check_record(
     alloc: Global,
     apex: Option<Name<&[u8]>>,
@@ -165,7 +176,8 @@ fn check_record(
     Ok(())
 }
 
-/// Refuses a record, by its entry's number, if the text has its data as opaque octets and it is no data of its type.
+/// Checks the data of a record. Fails with `Untyped` if the text writes it in the form of unknown data and it is not
+/// data of its type.
 fn check_data(
     alloc: Global,
     record: &Record<'_>,
@@ -186,7 +198,8 @@ fn check_data(
     }
 }
 
-/// Refuses a record, by its entry's number, that may not stand in the zone of this name, or first in a zone if there is no name yet.
+/// Checks the owner and the type of a record. Fails if it may not be in the zone with this apex, or first in a zone if
+/// there is no apex yet.
 fn check_place(
     apex: Option<Name<&[u8]>>,
     record: &Record<'_>,
@@ -212,7 +225,7 @@ fn check_place(
     Ok(())
 }
 
-/// Returns the owner of the first of the records that these octets are, one after another, if there is one.
+/// Returns the owner of the first of the records that these octets are, if there is one.
 fn apex_of(octets: &[u8]) -> Option<Name<&[u8]>>
     requires { octets.now ≢ [] → (r : spec.Record) × (rest : List ℕ) × IsRecord r × (octets.now ≡ record_octets r ++ rest) }
     ensures none { octets.now ≡ [] → result ≡ None }

@@ -19,7 +19,7 @@ use std::marker::Model;
 use zone_octets::record_list::RecordList;
 use zone_rules::ZoneError;
 
-/// A zone: one SOA record, and then the others of its class, all at or under the SOA's owner (RFC 1035 5.2).
+/// A zone: one SOA record, then the others of its class, all at or under the SOA's owner (RFC 1035 5.2).
 #[derive(Debug, Drop)]
 pub struct Zone {
     records: RecordList,
@@ -37,9 +37,10 @@ impl Model for Zone {
 }
 
 impl Zone {
-    /// Reads the zone of this class from the text of its zone file (RFC 1035 5). Names stand under the origin, if there is one.
+    /// Reads the zone of this class from the text of its zone file (RFC 1035 5). Names are relative to the origin, if
+    /// there is one.
     ///
-    /// Fails with the first rule that is broken, as `ZoneError` orders them.
+    /// Fails with the first rule that is broken, as `ZoneError` orders them, or with `OutOfMemory` if out of memory.
     pub fn read(
         alloc: Global,
         text: &[u8],
@@ -56,7 +57,7 @@ impl Zone {
         Zone::from_text(alloc, Vec::from_slice(alloc, text)?, origin, class)
     }
 
-    /// Reads the zone as `read` does, from a text that is handed over and not copied.
+    /// Reads the zone as `read` does, from an owned text. Nothing of it is copied.
     pub fn from_text(
         alloc: Global,
         text: Vec<u8>,
@@ -74,7 +75,8 @@ impl Zone {
         Ok(Zone { records, class })
     }
 
-    /// Returns how many records the zone has that `from_text` reads from this text. It keeps only the first of them, the SOA.
+    /// Returns the number of records in the zone that `from_text` reads from this text. Keeps only the first of them,
+    /// the SOA.
     ///
     /// Fails as `from_text` does.
     pub fn count_records(
@@ -93,7 +95,7 @@ impl Zone {
         count_records(alloc, text, origin, class)
     }
 
-    /// Returns the records in order. The SOA is the first of them.
+    /// Returns the records in order. The SOA is the first.
     #[tactic(auto, using(crate::proofs::ZoneForms::zone_data))]
     pub fn records(&self) -> ZoneRecords<'_>
         ensures records { result ≡ self.now.records }
@@ -102,14 +104,14 @@ impl Zone {
         ZoneRecords::of_list(&self.records)
     }
 
-    /// Returns the zone's name: the owner of its SOA.
+    /// Returns the zone's apex: the owner of its SOA.
     pub fn apex(&self) -> Name<&[u8]>
         ensures { result ≡ apex_of self.now.records }
     {
         self.records.record_at(0).owner()
     }
 
-    /// Returns the class of all the records, which is not ANY.
+    /// Returns the class of all records. It is not ANY.
     pub fn class(&self) -> Class
         ensures class { result ≡ self.now.class }
         ensures known { self.now.class ≢ any_class }
@@ -117,8 +119,9 @@ impl Zone {
         self.class
     }
 
-    /// Returns the canonical octets of the records (RFC 4034 6): the distinct ones in canonical form, in canonical order. Two zones
-    /// have the same canonical octets exactly if they have the same records, up to ASCII case in names.
+    /// Returns the canonical octets of the records (RFC 4034 6): the distinct ones in canonical form, in canonical
+    /// order. Two zones have the same canonical octets exactly if they have the same records, up to ASCII case in
+    /// names.
     ///
     /// Fails if out of memory.
     #[tactic(auto, using(crate::proofs::ZoneForms::zone_forms))]
@@ -128,8 +131,8 @@ impl Zone {
         zone_canonical::canonical(alloc, &self.records)
     }
 
-    /// Returns the text of the records, in their order and each on lines of its own, with their TTL and their class
-    /// (RFC 1035 5.1). Fails if out of memory.
+    /// Returns the text of the records, in order, each on its own lines with its TTL and class (RFC 1035 5.1). Fails if
+    /// out of memory.
     #[tactic(auto, using(crate::proofs::ZoneForms::zone_data))]
     pub fn print(&self, alloc: Global, kind: DisplayKind) -> Result<Vec<u8>, AllocError>
         ensures { IfOk result (λ text. IsPrinted (layout_of kind) self.now.records text.items) }
@@ -141,7 +144,7 @@ impl Zone {
 /// The class ANY (RFC 1035 3.2.5), which no zone has.
 const ANY: u16 = 255;
 
-/// Returns the zone with these records, of which it is known that they are one.
+/// Returns the zone with these records. The caller guarantees that they are a zone of the class.
 pub fn zone_of(records: RecordList, class: Class) -> Zone
     requires { IsZoneOf class records }
     ensures { result ≡ record { records = records; class = class } }
@@ -149,7 +152,7 @@ pub fn zone_of(records: RecordList, class: Class) -> Zone
     Zone { records, class }
 }
 
-/// Returns the records as the zone keeps them.
+/// Returns the list of the zone's records.
 pub fn records_of(zone: &Zone) -> &RecordList
     ensures records { result.now ≡ zone.now.records }
     ensures known { AreRecordsOf zone.now.class zone.now.records }

@@ -1,4 +1,4 @@
-//! The records of a zone as its user sees them.
+//! The records of a zone, for its users.
 ghost use Rattle.std.specs.Prelude.{◌<◌, length};
 ghost use Rattle.std.specs.List.{AllByRecursion};
 ghost use Rattle.zone_octets.specs.Typed.{HasLawfulData};
@@ -8,7 +8,7 @@ use dns_rdata::ZoneRecordData;
 use std::marker::Model;
 use zone_octets::record_list::RecordList;
 
-/// The records of a zone, one after another.
+/// An iterator over the records of a zone, in order.
 #[derive(Debug, Drop)]
 pub struct ZoneRecords<'a> {
     list: &'a RecordList,
@@ -30,7 +30,7 @@ impl<'a> Model for ZoneRecords<'a> {
 impl<'a> ZoneRecords<'a> {
     ghost use Rattle.std.specs.Prelude.{◌≡◌};
 
-    /// All records of the list.
+    /// Returns an iterator over all records of the list.
     pub(crate) fn of_list(list: &'a RecordList) -> ZoneRecords<'a>
         requires { AllByRecursion HasLawfulData list.now }
         ensures { result ≡ list.now }
@@ -79,42 +79,42 @@ impl<'a> ZoneRecord<'a> {
     ghost use Rattle.zone_octets.specs.Typed.{HasFieldsOfType};
     ghost use Rattle.zone_text.specs.Seen.{seen_record};
 
-    /// The name that the record is about.
+    /// Returns the owner.
     pub fn owner(&self) -> Name<&'a [u8]>
         ensures { result ≡ (seen_record self.now).owner }
     {
         self.list.record_at(self.index).owner()
     }
 
-    /// The type of the data.
+    /// Returns the type.
     pub fn rtype(&self) -> Rtype
         ensures { result ≡ (seen_record self.now).rtype }
     {
         self.list.record_at(self.index).rtype()
     }
 
-    /// The class, which is the zone's.
+    /// Returns the class, which is the zone's.
     pub fn class(&self) -> Class
         ensures { result ≡ (seen_record self.now).class }
     {
         self.list.record_at(self.index).class()
     }
 
-    /// For how many seconds the record may be kept.
+    /// Returns the TTL, in seconds.
     pub fn ttl(&self) -> Ttl
         ensures { result ≡ (seen_record self.now).ttl }
     {
         self.list.record_at(self.index).ttl()
     }
 
-    /// The data as octets, with every name written out.
+    /// Returns the octets of the data, every name in full.
     pub fn data(&self) -> &'a [u8]
         ensures { result.now ≡ (seen_record self.now).rdata }
     {
         self.list.record_at(self.index).data()
     }
 
-    /// Parses the data: in the fields of its type, or as opaque octets if the type has none. Nothing is copied.
+    /// Parses the data: into the fields of its type, or as unknown data if the type has none. Copies nothing.
     pub fn parse_data(&self) -> ZoneRecordData<&'a [u8], ParsedName<&'a [u8]>>
         ensures rtype { number_of (data_of result) ≡ (seen_record self.now).rtype }
         ensures octets { data_octets (data_of result) ≡ (seen_record self.now).rdata }

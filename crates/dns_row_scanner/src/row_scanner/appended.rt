@@ -1,4 +1,4 @@
-//! What is scanned of a row's tokens and appended to octets.
+//! Scanning a row's tokens into octets.
 ghost use Rattle.std.specs.Prelude.{◌≡◌, ◌++◌, List, ℕ, [], false, length, take, IfErr, OnErr, OnOk};
 ghost use Rattle.dns_row_scanner.specs.EntryError.{is_end, is_memory};
 ghost use Rattle.dns_scan.specs.Token.{IsEnding, IsEntry, IsStringOnWire, SameNames};
@@ -40,7 +40,8 @@ impl<'t, N: TextName> OctetsScanner for RowScanner<'t, N> {
 impl<'t, N> RowScanner<'t, N> {
     ghost use Rattle.dns_row_scanner.specs.RowScanner.{names_of, tokens_of};
 
-    /// Appends the strings of all tokens that are left, each after its length octet. If one is no string, those before it stay.
+    /// Appends the strings of all remaining tokens, each after its length octet. If one is no string, those before it
+    /// stay.
     pub(super) fn append_strings(&mut self, octets: &mut Vec<u8>) -> Result<(), EntryError>
         ensures ok { OnOk result ((wire : List ℕ) × IsEntry IsStringOnWire (tokens_of self.old) wire
             × (octets.new.items ≡ octets.old.items ++ wire)) }

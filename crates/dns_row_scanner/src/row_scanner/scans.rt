@@ -1,4 +1,4 @@
-//! What is scanned of a row's tokens.
+//! Scanning a row's tokens into values.
 
 use super::RowScanner;
 use crate::gap::ends_white;

@@ -1,4 +1,4 @@
-//! Records as octets behind a vector, composed where they are scanned.
+//! Records as octets at the end of a vector, composed while they are scanned.
 ghost use Rattle.std.specs.Prelude.{◌≡◌, ◌∷◌, ◌++◌, Bool, List, ℕ, [], Option, Some, Ok, true, false, map, IfErr, IfOk, OnErr, OnOk};
 ghost use Rattle.dns_header.specs.Head.{fixed_octets};
 ghost use Rattle.dns_header.specs.Record.{RecordOf};
@@ -28,18 +28,18 @@ use dns_text::Scanner;
 use dns_tokens::TokenSpan;
 use std::alloc::Global;
 
-/// A record whose octets were appended: what its row sets, and whether its data is opaque.
+/// A record whose octets were appended: what its row sets, and whether its data is unknown data.
 #[derive(Clone, Copy)]
 pub(crate) struct ComposedRecord {
-    /// How many of the octets are the owner's.
+    /// The length of the owner in octets.
     pub(crate) owner_len: usize,
     pub(crate) class: Class,
-    /// The last TTL that a record stated, this one counted.
+    /// The last TTL that a record stated, including this one.
     pub(crate) last_ttl: Ttl,
     pub(crate) untyped: bool,
 }
 
-/// Appends the octets of each record with every name written out (RFC 1035 3.2.1).
+/// Appends the octets of each record, every name in full (RFC 1035 3.2.1).
 impl EntryForm for Vec<u8> {
     ghost use Rattle.dns_zonefile.specs.Composed.{HandsOn};
 
@@ -82,8 +82,8 @@ impl EntryForm for Vec<u8> {
     }
 }
 
-/// Returns what is given of a row that is a directive, and takes over what it sets. Fails with an error other than `OutOfMemory` only if
-/// the row is no entry. Nothing changes then.
+/// Returns the entry of a row that is a directive, and applies what it sets. Fails with an error other than
+/// `OutOfMemory` only if the row is no entry. The context is then unchanged.
 fn take_directive(
     alloc: Global,
     context: &mut Context,
@@ -109,7 +109,8 @@ fn take_directive(
     composed_of(alloc, entry)
 }
 
-/// Returns what is given of an entry that is no record. Fails with `OutOfMemory`, and only for an include.
+/// Returns an entry that is no record in the form of a `ComposedEntry`. Fails with `OutOfMemory` if out of memory, and
+/// only for an include.
 fn composed_of(
     alloc: Global,
     entry: Option<Entry<InlineName>>,
@@ -132,7 +133,10 @@ fn composed_of(
     }
 }
 
-/// Appends the octets of the record that a row states, which is no directive, or a part of them where it fails.
+/// Appends the octets of the record that a row states. The caller guarantees that the row is no directive.
+///
+/// Fails with an error other than `OutOfMemory` only if the row is no record in the context. It may then have appended
+/// a part of the octets.
 fn append_record(
     led: bool,
     context: &Context,
@@ -168,8 +172,9 @@ fn append_record(
     })
 }
 
-/// Appends the octets of the owner of a record: the one that its row states, or the last one if white space leads the row. Fails with
-/// an error other than `OutOfMemory` only if the row states none and there is no last one, or its first token spells no name.
+/// Appends the octets of the owner of a record: the one that its row states, or the last one if the row begins with
+/// white space. Fails with an error other than `OutOfMemory` only if the row states none and there is no last one, or
+/// its first token spells no name. Nothing is then appended.
 #[tactic(auto, using(crate::proofs::ComposedRows::stated_stands, crate::proofs::ComposedRows::last_stands, crate::proofs::ComposedRows::no_stated, crate::proofs::ComposedRows::no_last))]
 fn append_owner(
     led: bool,
@@ -190,7 +195,7 @@ fn append_owner(
     scanner.scan_name_into(octets)
 }
 
-/// Returns the name that the first of the octets are, so many of them.
+/// Returns the name in the first `len` octets.
 fn owner_in(octets: &[u8], len: usize) -> Name<&[u8]>
     requires { (name : List (List ℕ)) × BeginsWithName octets.now len name }
     ensures { (name : List (List ℕ)) → BeginsWithName octets.now len name → result ≡ name }
@@ -198,8 +203,8 @@ fn owner_in(octets: &[u8], len: usize) -> Name<&[u8]>
     Name::from_octets_unchecked(&octets[..len])
 }
 
-/// Appends the octets of a type, a class and a TTL, and two zeros for the length of the data. Fails with `OutOfMemory`, and changes
-/// nothing then.
+/// Appends the octets of a type, a class and a TTL, and two zeros for RDLENGTH. Fails with `OutOfMemory` if out of
+/// memory, and then changes nothing.
 fn append_fixed(
     rtype: Rtype,
     class: Class,
@@ -216,8 +221,11 @@ fn append_fixed(
     Ok(octets.extend_from_slice(&[a, b, c, d, e, f, g, h, 0, 0])?)
 }
 
-/// Appends the octets of data of the type, whose tokens end the row, and writes their length over the two zeros before them. Returns
-/// whether the data is opaque.
+/// Appends the octets of data of the type, whose tokens end the row, and writes their number over the two zeros before
+/// them. Returns whether it is unknown data.
+///
+/// Fails with an error other than `OutOfMemory` only if the tokens up to the row's end are no data of the type. It may
+/// then have appended a part of the octets.
 fn append_data(
     rtype: Rtype,
     scanner: &mut RowScanner<'_, InlineName>,

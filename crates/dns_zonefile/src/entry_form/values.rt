@@ -16,7 +16,7 @@ use dns_row_scanner::{EntryError, RowScanner, ScannedName, TextName};
 use dns_tokens::TokenSpan;
 use std::alloc::Global;
 
-/// Gives entries as values.
+/// Returns entries as values.
 #[derive(Drop)]
 pub(crate) struct AsValues;
 
@@ -47,7 +47,7 @@ impl EntryForm for AsValues {
     }
 }
 
-/// Reads what the row says that was found at the place, which white space leads or not.
+/// Reads what the row at `place` says. `led` is whether it begins with white space.
 #[tactic(auto, using(crate::proofs::OneEntry::under_once))]
 fn scan_row<N: TextName>(
     alloc: Global,

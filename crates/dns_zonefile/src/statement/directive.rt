@@ -20,7 +20,7 @@ pub(crate) enum DirectiveWord {
     Include,
 }
 
-/// Returns whether the next token begins a directive: with a plain dollar sign, outside quotes.
+/// Returns whether the next token begins a directive: unquoted, with a plain dollar sign.
 #[tactic(auto, using(crate::proofs::Directions::begins, crate::proofs::Directions::begins_not, crate::proofs::Directions::begins_nothing))]
 pub(crate) fn is_directive<S: EntryScanner>(scanner: &S) -> bool
 where
@@ -59,7 +59,7 @@ where
     scanner.peek_text().ok()
 }
 
-/// Reads what a directive says.
+/// Reads what a directive says. Fails with an error other than `short_buf` only if it says nothing.
 #[tactic(auto, using(crate::proofs::Directions::no_word, crate::proofs::Directions::more_argued))]
 pub(crate) fn scan_directive<S: EntryScanner>(
     scanner: &mut S,
@@ -83,7 +83,7 @@ where
     Ok(statement)
 }
 
-/// Returns the word that the next token is, in any case.
+/// Returns the directive word in the next token, up to ASCII case.
 fn directive_word<S: EntryScanner>(scanner: &S) -> Option<DirectiveWord>
 where
     S::Error: Drop,
@@ -96,7 +96,7 @@ where
     }
 }
 
-/// Reads what stands behind a directive's word.
+/// Reads what follows the word of a directive.
 #[tactic(auto, using(crate::proofs::Directions::origin_argued, crate::proofs::Directions::ttl_argued))]
 fn scan_argument<S: EntryScanner>(
     word: DirectiveWord,
@@ -143,7 +143,7 @@ where
     Ok(Statement::NameFile(path, Some(origin)))
 }
 
-/// Returns the directive whose word this is, in any case.
+/// Returns the directive with this word, up to ASCII case.
 fn word_of(text: &[u8]) -> Option<DirectiveWord>
     ensures some { IfSome result (λ word. map to_ascii_lowercase text.now ≡ spec_word_of word) }
     ensures none { IfNone result ((word : DirectiveWord) → map to_ascii_lowercase text.now ≡ spec_word_of word → ⊥) }

@@ -1,11 +1,11 @@
-//! The types that most records are of.
+//! The types of most records.
 ghost use Rattle.std.specs.Prelude.{◌≡◌, Some, IfSome};
 ghost use Rattle.dns_values.specs.Mnemonic.{type_read};
 
 use dns_name::Rtype;
 
-/// Returns the type whose mnemonic the text is, in upper case, if it is one that most records are of. So the mnemonics of all types are
-/// searched only for others.
+/// Returns the type with this mnemonic in upper case, if it is the type of many records. So only other mnemonics need a
+/// search of the table.
 #[inline(always)]
 pub(crate) fn frequent_type(text: &str) -> Option<Rtype>
     ensures { IfSome result (λ rtype. type_read text.now ≡ Some rtype) }

@@ -1,4 +1,4 @@
-//! What stands in a record's row between its owner and its data: a TTL and a class, if they are stated, and a type.
+//! The part of a record's row between its owner and its data: a TTL and a class, if they are stated, and a type.
 ghost use Rattle.std.specs.Prelude.{◌≡◌, ◌<◌, ◌^◌, List, ℕ, Option, Some, None, false, true, IfOk, IfErr, IfSome, IfNone, option_copied};
 ghost use Rattle.std.specs.List.{list_all};
 ghost use Rattle.std.specs.Char.{is_ascii_digit};
@@ -12,7 +12,7 @@ use dns_name::{Class, Rtype, Serial, Ttl};
 use dns_row_scanner::EntryScanner;
 use dns_text::{Scanner, ScannerError};
 
-/// What stands before a record's data.
+/// TTL, class and type of a record, as far as its row states them.
 #[derive(Clone, Copy)]
 pub(crate) struct RecordHead {
     pub(crate) ttl: Option<Ttl>,
@@ -28,7 +28,7 @@ pub(crate) enum HeadWord {
     Rtype(Rtype),
 }
 
-/// Reads the TTL and the class, if they are stated and in either order, and the type (RFC 1035 5.1).
+/// Reads the TTL and the class, if they are stated, in either order, and then the type (RFC 1035 5.1).
 #[tactic(auto, using(crate::proofs::Heads::no_word, crate::proofs::Heads::with_type, crate::proofs::Heads::with_ttl, crate::proofs::Heads::with_class, crate::proofs::Heads::behind_ttl, crate::proofs::Heads::behind_class))]
 pub(crate) fn scan_head<S: EntryScanner>(scanner: &mut S) -> Result<RecordHead, S::Error>
     ensures ok { IfOk result (λ head. HasHead (S.tokens scanner.old) head.ttl head.class head.rtype (S.tokens scanner.new)) }
@@ -117,8 +117,8 @@ fn next_word<S: EntryScanner>(scanner: &mut S) -> Result<HeadWord, S::Error>
     scanner.scan_ascii_str(word_of)
 }
 
-/// Returns what a word says: digits are a TTL, another word is a type, and only if it is none a class. Most words are of class IN or of
-/// a few types, which are seen before the mnemonics of all types are searched.
+/// Returns what a word says: digits are a TTL; any other word is a type, and only if it is none, a class. Most words
+/// are the class IN or one of a few types, so these come before the search in the mnemonics of all types.
 #[inline(always)]
 #[tactic(auto, using(crate::proofs::Heads::number_alone))]
 fn word_of(text: &str) -> Option<HeadWord>
@@ -146,7 +146,7 @@ fn word_of(text: &str) -> Option<HeadWord>
     }
 }
 
-/// Returns whether these are decimal digits alone.
+/// Returns whether the text consists of decimal digits.
 #[inline(always)]
 fn are_digits(text: &str) -> bool
     ensures { result ≡ list_all is_ascii_digit text.now }

@@ -8,7 +8,7 @@ use dns_name::ToName;
 use dns_row_scanner::EntryScanner;
 use dns_text::Scanner;
 
-/// Reads the owner that a row states. A row that white space leads states none.
+/// Reads the owner that a row states. A row that begins with white space states none.
 pub(crate) fn scan_owner<S: EntryScanner>(
     led: bool,
     scanner: &mut S,

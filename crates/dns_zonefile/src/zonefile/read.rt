@@ -1,4 +1,4 @@
-//! Entries, read one after another.
+//! Reading entries, one after another.
 ghost use Rattle.std.specs.Prelude.{◌≡◌, List, Some, None, Err, Result, Option, false, map, option_copied, IfOk, IfErr, OnOk, OnErr};
 ghost use Rattle.dns_tokens.specs.RowFound.{IsRowAt};
 ghost use Rattle.dns_tokens.specs.TokenSpan.{token_in};
@@ -19,7 +19,7 @@ use dns_name::ToName;
 use dns_row_scanner::{EntryError, ScannedName};
 use dns_tokens::{RowFound, read_row};
 
-/// What a row gives.
+/// The result of reading a row.
 #[derive(Drop)]
 pub(crate) enum RowRead<Given> {
     /// Nothing: it has no tokens, or is a directive.
@@ -31,10 +31,10 @@ pub(crate) enum RowRead<Given> {
 }
 
 impl Zonefile {
-    /// Returns the next record or include, or None at the end of the text.
+    /// Returns the next record or include, or None at the end of the text (RFC 1035 5.1).
     ///
-    /// Fails if the row behind them is no row, or is neither of these nor a directive. Fails too if out of memory, as `is_memory` tells.
-    /// Then each call fails with this error again.
+    /// Fails if the next row is malformed, or is neither of these nor a directive, and if out of memory:
+    /// `Error::is_memory` tells which. After an error, each call fails with the same error.
     pub fn next_entry(&mut self) -> Result<Option<Entry>, Error>
         ensures gives { refused_in self.old ≡ None
             → Gives (reader_of self.old) (given_of ⟦<ScannedName as ToName>⟧.name result) (reader_of self.new) }
@@ -49,11 +49,11 @@ impl Zonefile {
 
     /// Appends the octets of the next record, or returns the next include, or None at the end of the text.
     ///
-    /// The octets are the record's with every name written out: owner, type, class, TTL, length and data (RFC 1035 3.2.1). Nothing
-    /// is appended for an include, at the end, and on failure. It fails as `next_entry` does.
+    /// The octets are the record's, every name in full: owner, type, class, TTL, RDLENGTH and data (RFC 1035 3.2.1).
+    /// Nothing is appended for an include, at the end, and on failure. Fails as `next_entry` does.
     ///
-    /// Each part of a record is appended where it is scanned. Only octets in base 16 or 64 and opaque data are read into a vector of
-    /// their own first. Of a row with several faults, it may tell another one than `next_entry` does.
+    /// Each part of a record is appended as it is scanned. Only octets in base 16 or 64 and unknown data are first read
+    /// into a vector of their own. For a row with several faults, the error may differ from that of `next_entry`.
     pub fn next_octets(&mut self, octets: &mut Vec<u8>) -> Result<Option<ComposedEntry>, Error>
         ensures gives { refused_in self.old ≡ None → (given : Result (Option spec.Entry) EntryError)
             × Gives (reader_of self.old) given (reader_of self.new)
@@ -68,7 +68,7 @@ impl Zonefile {
         self.next_given(octets)
     }
 
-    /// Returns the next record or include in the form, as `next_entry` has it.
+    /// Returns the next record or include in the form. Fails as `next_entry` does.
     fn next_given<F: EntryForm>(&mut self, form: &mut F) -> Result<Option<F::Given>, Error>
         ensures gives { refused_in self.old ≡ None → GivesInForm F.gives (reader_of self.old) (F.octets form.old) (with_reason result)
             (reader_of self.new) (F.octets form.new) }
@@ -92,7 +92,7 @@ impl Zonefile {
         }
     }
 
-    /// Reads rows up to the next record or include, or the end.
+    /// Reads rows up to the next record or include, or the end of the text.
     fn read_entry<F: EntryForm>(&mut self, form: &mut F) -> Result<Option<F::Given>, EntryError>
         ensures gives { GivesInForm F.gives (reader_of self.old) (F.octets form.old) result (reader_of self.new) (F.octets form.new) }
         ensures refused { refused_in self.new ≡ refused_in self.old }
@@ -123,7 +123,7 @@ impl Zonefile {
         }
     }
 
-    /// Reads the row at the place, whose tokens were found, and goes on to the next one.
+    /// Reads the row at the current place, whose tokens were found, and goes on to the next one.
     fn enter_row<F: EntryForm>(
         &mut self,
         next: usize,
@@ -154,7 +154,7 @@ impl Zonefile {
     }
 }
 
-/// Returns the line behind these octets, counted from 1.
+/// Returns the number of the line after these octets, counted from 1.
 fn line_of(before: &[u8]) -> usize
     ensures { result ≡ line_behind before.now }
 {

@@ -1,4 +1,4 @@
-//! What holds of a zone's printed text.
+//! Laws of a zone's printed text.
 ghost use Rattle.std.specs.Prelude.{◌≡◌, ◌≢◌, ℕ, List, Option};
 ghost use Rattle.dns_text.specs.Document.{Layout};
 ghost use Rattle.zone_octets.specs.Record.{Record};
@@ -9,7 +9,7 @@ ghost use Rattle.zone_rules.specs.ZoneText.{IsZoneText};
 
 use dns_scan::laws::texts_read_back;
 
-/// The records of a zone have a printed text under each layout. Records of any types have one at most.
+/// The records of a zone have a printed text in each layout. Records of any types have at most one.
 pub fn records_have_one_printed_text()
     ensures some { (layout : Layout) (class : ℕ) (records : List Record) → AreRecordsOf class records →
         (text : List ℕ) × IsPrinted layout records text }
@@ -17,7 +17,7 @@ pub fn records_have_one_printed_text()
         IsPrinted layout records a → IsPrinted layout records b → a ≡ b }
 {}
 
-/// What is printed of a zone is its text, under each layout: read again for its class and under any origin, it gives the very same
+/// The printed text of a zone is its text, in each layout: read with its class and any origin, it gives the same
 /// records. No zone has the class ANY.
 pub fn printed_text_is_the_zones()
     ensures { (layout : Layout) (origin : Option (List (List ℕ))) (class : ℕ) (records : List Record) (text : List ℕ) →

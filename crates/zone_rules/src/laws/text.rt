@@ -5,26 +5,26 @@ ghost use Rattle.zone_rules.specs.ZoneText.{IsZoneFault, IsZoneText};
 ghost use Rattle.zone_rules.specs.declared.zone_error.ZoneError.{ZoneError};
 ghost use Rattle.zone_rules.specs.declared.zone_error.ZoneError.TheVariants as zone_error;
 
-/// A text is a zone's with one list of records.
+/// A text is a zone's with at most one list of records.
 pub fn text_has_one_reading()
     ensures { (text : List ℕ) (origin : Option (List (List ℕ))) (class : ℕ) (a b : List Record) →
         IsZoneText text origin class a → IsZoneText text origin class b → a ≡ b }
 {}
 
-/// A zone's text has no fault. (Nothing is said of memory.)
+/// A zone's text has no fault other than `OutOfMemory`.
 pub fn zone_text_breaks_no_rule()
     ensures { (text : List ℕ) (origin : Option (List (List ℕ))) (class : ℕ) (records : List Record) (e : ZoneError) →
         IsZoneText text origin class records → IsZoneFault text origin class e → e ≡ zone_error.OutOfMemory }
 {}
 
-/// A text has at most one fault. (Nothing is said of memory.)
+/// A text has at most one fault other than `OutOfMemory`.
 pub fn one_zone_fault()
     ensures { (text : List ℕ) (origin : Option (List (List ℕ))) (class : ℕ) (e d : ZoneError) →
         e ≢ zone_error.OutOfMemory → d ≢ zone_error.OutOfMemory →
         IsZoneFault text origin class e → IsZoneFault text origin class d → e ≡ d }
 {}
 
-/// A text is a zone's, or has a fault other than of memory: it is not neither.
+/// A text is a zone's, or it has a fault other than `OutOfMemory`: it cannot be neither.
 pub fn zone_text_or_fault()
     ensures { (text : List ℕ) (origin : Option (List (List ℕ))) (class : ℕ) →
         ((records : List Record) → IsZoneText text origin class records → ⊥) →

@@ -1,4 +1,4 @@
-//! What holds of data that a zone's text has as opaque octets.
+//! Laws of data that a zone's text writes in the form of unknown data, `\# 4 C0000201`.
 ghost use Rattle.std.specs.Prelude.{ℕ, List, Option};
 ghost use Rattle.dns_label.specs.Octets.{AreOctets};
 ghost use Rattle.dns_text.specs.Rows.{TokenRow};
@@ -9,10 +9,10 @@ ghost use Rattle.zone_octets.specs.Record.{Record};
 ghost use Rattle.zone_rules.specs.Untyped.{HasOpaqueRow, IsOpaqueForm};
 ghost use Rattle.zone_rules.specs.ZoneText.{IsZoneText, start_of};
 
-/// Opaque octets stand for data of a type with fields (RFC 3597 5).
+/// Data of a type with fields may be written in the form of unknown data (RFC 3597 5).
 ///
-/// `some`: each row that states a record can be put into this form. `into`: if a row of a zone's text is, the text stays the zone's, with
-/// the same records. `out_of`: so it does if a row is taken out of this form.
+/// `some`: each row that states a record can be put into this form. `into`: if a row of a zone's text is put into it,
+/// the text stays the zone's, with the same records. `out_of`: the same holds if a row is taken out of it.
 pub fn opaque_data_is_the_same()
     ensures some { (origin : Option (List (List ℕ))) (row : TokenRow) (stated : Stated) → StatesRecord (SpellsUnder origin) row stated →
         AreOctets (data_octets stated.rdata) → (other : TokenRow) × IsOpaqueForm (SpellsUnder origin) row other }

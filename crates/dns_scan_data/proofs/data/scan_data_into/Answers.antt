@@ -3,7 +3,7 @@ use Rattle.dns_rdata.proofs.ScanAny.{err_same, is_false}
 use Rattle.dns_scan_data.proofs.Appending.{data_moved}
 use Rattle.dns_scan_data.proofs.data.scan_data_into.Goals as goal
 
--- the marker stood before, and is taken
+-- the marker was there, and is taken
 pub returns-in-Ok-true-clause-ok : goal.returns-in-Ok-true-clause-ok
 returns-in-Ok-true-clause-ok g c = data_moved _ _ _ c.in-Ok-true.ensures.names _ _ _ _
     (sym (c.in-Ok-true.ensures.marked c.in-Ok-true.field-0-test)) _ _ c.scan_opaque_into.ensures.ok

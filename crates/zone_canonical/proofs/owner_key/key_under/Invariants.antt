@@ -4,7 +4,7 @@ use Rattle.dns_label.specs.Name.{low}
 use Rattle.zone_canonical.specs.OwnerKey.{code, front_key}
 use Rattle.zone_canonical.proofs.owner_key.key_under.Given as goal
 
--- so many digits are in the key, and the others are those to come
+-- this number of digits is in the key, and the others are those to come
 abbrev pub invariant-loop : goal.invariant-loop
 invariant-loop l = record {
   fits : l.key < 512 ^ l.counter;
