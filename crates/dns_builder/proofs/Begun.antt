@@ -1,10 +1,9 @@
 -- How an answer begins: its header, and its sections.
-use Rattle.std.proofs.Common.{◌≡◌, ◌∙◌, ◌%◌, ℕ, Bool, true, List, [], ◌∷◌, length, refl, sym, ap, subst, arith}
+use Rattle.std.proofs.Common.{◌≡◌, ◌∙◌, ℕ, true, List, [], ◌∷◌, length, refl, sym, ap, subst, arith}
 use Rattle.std.specs.Prelude.{Result, Ok, Err, IfErr, map}
 use Rattle.std.specs.Result.{IsErrAnd}
 use Rattle.dns_name.specs.Spelling.{Spelling}
 use Rattle.dns_name.specs.Page.{Page, Parts}
-use Rattle.dns_header.specs.Header.{id_of, opcode_of, recursion_desired}
 use Rattle.dns_header.specs.HeaderFields.{HeaderFields, fields_of}
 use Rattle.dns_header.specs.Question.{Question, question_parts}
 use Rattle.dns_sections.specs.Questions.{first_question}
@@ -30,24 +29,6 @@ begins s query rcode built old new header is none says holds = (
   subst (λ (l : List (List Parts)). IsDraftOf s (record { header = header; sections = l }) new)
       (first-begun built.sections (sym (length-begun is) ∙ none)) holds,
 )
-
--- what is set, one field after another
-pub answers-header : (query old with_id with_qr with_opcode with_rd new : List ℕ) (id opcode : ℕ) (rd : Bool) (rcode : ℕ)
-    → fields_of with_id ≡ record (fields_of old) { id = id }
-    → fields_of with_qr ≡ record (fields_of with_id) { qr = true }
-    → fields_of with_opcode ≡ record (fields_of with_qr) { opcode = opcode % 16 }
-    → fields_of with_rd ≡ record (fields_of with_opcode) { rd = rd }
-    → fields_of new ≡ record (fields_of with_rd) { rcode = rcode }
-    → id ≡ id_of query → opcode ≡ opcode_of query → rd ≡ recursion_desired query → AnswersHeader query rcode old new
-answers-header query old with_id with_qr with_opcode with_rd new id opcode rd rcode sets_id sets_qr sets_opcode sets_rd sets_rcode is_id is_opcode is_rd =
-    sets_rcode ∙ ap (λ (f : HeaderFields). record f { rcode = rcode })
-    (sets_rd ∙ ap (λ (f : HeaderFields). record f { rd = rd })
-    (sets_opcode ∙ ap (λ (f : HeaderFields). record f { opcode = opcode % 16 })
-    (sets_qr ∙ ap (λ (f : HeaderFields). record f { qr = true }) sets_id)))
-    ∙ λ i. record (fields_of old) { id = is_id i; qr = true; opcode = small i; rd = is_rd i; rcode = rcode }
-  where
-    small : opcode % 16 ≡ opcode_of query
-    small = omega arith
 
 -- a query's header is that of its message
 pub of-message : (query message : List ℕ) (rcode : ℕ) (old new : List ℕ) → fields_of query ≡ fields_of message

@@ -1,5 +1,5 @@
 -- Empty sections are started.
-use Rattle.std.proofs.Common.{◌≡◌, ◌≤◌, ◌+◌, ◌-◌, ℕ, [], ◌∷◌, ◌++◌, length, sym, ◌∙◌, ap, arith}
+use Rattle.std.proofs.Common.{◌≡◌, ◌≤◌, ◌+◌, ◌-◌, ℕ, [], ◌++◌, length, sym, ◌∙◌, arith}
 use Rattle.std.specs.Prelude.{replicate}
 use Rattle.dns_name.specs.Spelling.{Spelling}
 use Rattle.dns_name.specs.RecordData.{page_of}
@@ -32,11 +32,3 @@ went_on {s} {built} {draft} count new is begun page starts = record {
         ≡ starts_behind s (page_of (header_octets built) []) built.sections
         ++ replicate (count - length built.sections) (length (built_page s built).octets)
     more = λ i. is.starts i ++ replicate (count - length-begun is i) (length (is.page i).octets)
-
--- one section is started
-pub began : {s : Spelling} {built : Built} {draft : Draft} (count : ℕ) (new : Draft) → IsDraftOf s built draft
-    → count ≡ length draft.starts + 1 → new.page ≡ draft.page → new.starts ≡ draft.starts ++ length draft.page.octets ∷ []
-    → IsDraftOf s (going_to count built) new
-began {draft = draft} count new is one page starts =
-    went_on count new is (omega arith) page
-    (starts ∙ ap (λ n. draft.starts ++ replicate n (length draft.page.octets)) (let e : 1 ≡ count - length draft.starts = omega arith in e))

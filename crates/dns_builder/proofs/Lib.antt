@@ -8,7 +8,6 @@ pub mod NewHeader
 pub mod Pushes
 pub mod GoesBack
 pub mod GoesOn
-pub mod Nothing
 pub mod FreeHeader
 pub mod Cleared
 pub mod Shown

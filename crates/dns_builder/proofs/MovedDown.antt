@@ -1,6 +1,6 @@
 -- Octets that are moved down, some at a time.
 use Rattle.std.proofs.Common.{◌≡◌, ◌≤◌, ◌+◌, ◌-◌, ℕ, List, ◌++◌, length, take, drop, sym, ◌∙◌, ap, arith, length-append, append_assoc, length-drop}
-use Rattle.std.proofs.lemmas.List.{length-take, take_min, take_all, take_at, drop-drop, take-append-drop, append-nil}
+use Rattle.std.proofs.lemmas.List.{length-take, take_min, drop-drop}
 use Rattle.std.proofs.Math.Seq.{take-add, drop-append-add}
 use Rattle.dns_name.specs.Remembered.{patched}
 use Rattle.dns_builder.proofs.Patches.{patched_behind}
@@ -74,19 +74,3 @@ module _ (octets : List ℕ) (to from read write : ℕ) (down : to ≤ from) (be
     length-drop read now,
     moved-long now is,
   )
-
-  pub moved-all : (now : List ℕ) → now ≡ moved_some octets to from read write → length now ≤ read
-      → take write now ≡ take to octets ++ drop from octets
-  moved-all now is end =
-      ap (take write) is ∙ take_at (moved_front octets to from read) (drop write octets) write front-long
-      ∙ ap (λ l. take to octets ++ l) (take_all (read - from) (drop from octets) (omega (arith, length-drop from octets, long)))
-    where
-      long : length octets ≤ read
-      long = omega (arith, moved-long now is)
-
--- at first none are moved
-pub moved-none : (octets : List ℕ) (to from : ℕ) → octets ≡ moved_some octets to from from to
-moved-none octets to from =
-    sym (take-append-drop to octets)
-    ∙ ap (λ l. l ++ drop to octets) (sym (append-nil (take to octets))
-    ∙ ap (λ n. take to octets ++ take n (drop from octets)) (let none : 0 ≡ from - from = omega arith in none))

@@ -1,6 +1,6 @@
 -- An OPT record on a page: the octets before its options, and the options.
-use Rattle.std.proofs.Common.{◌≡◌, ◌≤◌, ◌<◌, ◌+◌, ◌-◌, ℕ, true, List, [], ◌∷◌, ◌++◌, length, take, drop, inl, sym, ◌∙◌, ap, arith, length-append, length-drop, append_assoc}
-use Rattle.std.proofs.lemmas.List.{append-nil, length-take, take-append-drop, take-append-le, drop-append-le, drop_at}
+use Rattle.std.proofs.Common.{◌≡◌, ◌≤◌, ◌<◌, ◌+◌, ◌-◌, ℕ, true, List, [], ◌∷◌, ◌++◌, length, take, drop, inl, ◌∙◌, ap, arith, length-append, length-drop, append_assoc}
+use Rattle.std.proofs.lemmas.List.{append-nil, length-take, take-append-le, drop-append-le, drop_at}
 use Rattle.std.specs.Int.{to_be_bytes, w16, w32}
 use Rattle.dns_octets.specs.Builder.{Known}
 use Rattle.dns_name.specs.Spelling.{Spelling, name_text, known_after, split_from}
@@ -16,9 +16,6 @@ use Rattle.dns_builder.proofs.Patches.{patched_behind}
 -- as many octets are at the end
 pub length-last : (octets : List ℕ) (count : ℕ) → 8 ≤ length octets - count → length (drop (length octets - count) octets) ≡ count
 length-last octets count some = omega (arith, length-drop (length octets - count) octets)
-
-pub length-last-few : (octets : List ℕ) (count : ℕ) → length (drop (length octets - count) octets) ≤ count
-length-last-few octets count = omega (arith, length-drop (length octets - count) octets)
 
 -- octets that are appended leave the start where it is
 
@@ -48,11 +45,6 @@ module _ (octets : List ℕ) (count replaced : ℕ) where
 
   abbrev pub without-replaced : List ℕ
   without-replaced = take (behind-replaced - replaced) octets ++ drop behind-replaced octets
-
-  pub none-replaced : (behind-replaced - replaced < behind-replaced → ⊥) → octets ≡ without-replaced
-  none-replaced none =
-      sym (take-append-drop behind-replaced octets)
-      ∙ ap (λ n. take n octets ++ drop behind-replaced octets) (let same : behind-replaced ≡ behind-replaced - replaced = omega (arith, none) in same)
 
   module _ (some : behind-replaced - replaced < behind-replaced) (new : List ℕ) (is : new ≡ without-replaced) where
     pub start-moved : length new - count ≡ behind-replaced - replaced

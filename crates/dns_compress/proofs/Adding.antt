@@ -1,22 +1,13 @@
 -- The suffixes of a name, added one after another.
 use Rattle.std.proofs.Common.{◌≡◌, ◌+◌, ℕ, zero, suc, true, List, [], ◌∷◌, ◌++◌, length, take, drop, map, refl, sym, ◌∙◌, ap, subst, append_assoc}
 use Rattle.std.specs.Char.{to_ascii_lowercase}
-use Rattle.std.proofs.lemmas.List.{append-nil, length-map, take-append-drop}
-use Rattle.std.proofs.Math.Seq.{take-nil}
+use Rattle.std.proofs.lemmas.List.{length-map, take-append-drop}
 use Rattle.dns_octets.specs.Builder.{Standing, Known}
 use Rattle.dns_label.specs.Name.{wire, low}
-use Rattle.dns_name.specs.Spelling.{Spelling, tree_spelling, hash_spelling, remembered_form, standings}
+use Rattle.dns_name.specs.Spelling.{tree_spelling, hash_spelling, remembered_form, standings}
 use Rattle.dns_name.proofs.Folding.{form-exact}
 use Rattle.dns_compress.specs.Tables.{added, in_order}
 use Rattle.dns_compress.proofs.InOrder.{in_order-front}
-
--- no label, no suffix
-pub added-none : (s : Spelling) (place stop : ℕ) (count : ℕ) (name : List (List ℕ)) → count ≡ 0 → added s count place stop name ≡ []
-added-none s place stop count name is = ap (λ n. added s n place stop name) is
-
-pub added-root : (s : Spelling) (count place stop : ℕ) (name : List (List ℕ)) → name ≡ [] → added s count place stop name ≡ []
-added-root s count place stop name is =
-    ap (λ n. added s count place stop n) is ∙ ap (λ l. standings s place stop l (drop count [])) (take-nil count)
 
 -- one label more
 pub added-label : (count more place next stop : ℕ) (name : List (List ℕ)) (label : List ℕ) (parent : List (List ℕ)) → name ≡ label ∷ parent
@@ -46,9 +37,6 @@ module _ (known rest all : Known) (first : Standing) (is : all ≡ first ∷ res
 
   pub all_added : (new : Known) → new ≡ known ++ first ∷ [] → new ++ rest ≡ known ++ all
   all_added new now = ap (λ (l : Known). l ++ rest) now ∙ one_more
-
-pub none_added : (known more : Known) → more ≡ [] → known ≡ known ++ more
-none_added known more is = sym (append-nil known) ∙ ap (λ (l : Known). known ++ l) (sym is)
 
 -- if case makes no difference, a name's suffixes are those of the name in lower case
 lowered_suffix : (name : List (List ℕ)) → remembered_form hash_spelling name ≡ remembered_form tree_spelling (low name)

@@ -1,13 +1,12 @@
 -- Suffixes in the order of writing.
-use Rattle.std.proofs.Common.{◌⊎◌, inl, inr, ◌≡◌, ◌≤◌, ◌<◌, ℕ, Bool, true, false, None, List, [], ◌∷◌, ◌++◌, refl, ◌∙◌, ap, arith}
+use Rattle.std.proofs.Common.{◌⊎◌, inl, inr, ◌≡◌, ◌≤◌, ℕ, Bool, true, false, None, List, [], ◌∷◌, ◌++◌, refl, ◌∙◌, arith}
 use Rattle.std.specs.Prelude.{if◌then◌else◌}
 use Rattle.std.specs.List.{list_all}
-use Rattle.std.proofs.lemmas.Bool.{and_parts, and_from, leb-true, lt-leb, false≢true}
-use Rattle.std.proofs.lemmas.List.{append-nil}
+use Rattle.std.proofs.lemmas.Bool.{and_parts, and_from, leb-true, false≢true}
 use Rattle.dns_octets.specs.Builder.{Standing, Known, before}
 use Rattle.dns_name.specs.Remembered.{IsKnown}
 use Rattle.dns_name.specs.Remembered.IsKnown.{first, later}
-use Rattle.dns_name.proofs.Known.{before-append, before_all, known-append_cases}
+use Rattle.dns_name.proofs.Known.{before_all, known-append_cases}
 use Rattle.dns_name.specs.Spelling.{Spelling, is_same, place_in}
 use Rattle.dns_compress.specs.Tables.{goes_before, in_order}
 
@@ -60,11 +59,6 @@ stops_first s (front ∷ known) other last one first =
     leb-true front.stop other.stop (before_parts _ _ (and_parts (goes_before s front other) (goes_last s known other) last).0).1
 stops_first s (front ∷ known) other last one (later is) =
     stops_first s known other (and_parts (goes_before s front other) (goes_last s known other) last).1 one is
-
-pub before-last : (len : ℕ) (known : Known) (other : Standing) → len < other.stop → before len (known ++ other ∷ []) ≡ before len known
-before-last len known other behind =
-    before-append len known (other ∷ []) ∙ ap (λ (l : Known). before len known ++ l) (rw (lt-leb other.stop len behind) refl)
-    ∙ append-nil (before len known)
 
 pub before-whole : (s : Spelling) (len : ℕ) (known : Known) (other : Standing) → in_order s (known ++ other ∷ []) ≡ true → other.stop ≤ len
     → before len (known ++ other ∷ []) ≡ known ++ other ∷ []

@@ -10,10 +10,6 @@ pub total-append : (written more : List Written) → total (written ++ more) ≡
 total-append [] more = omega arith
 total-append (one ∷ written) more = let e = total-append written more in omega (arith, e)
 
-pub length-standings_in : (octets : List ℕ) (written : List Written) → length (standings_in octets written) ≡ length written
-length-standings_in octets [] = refl
-length-standings_in octets (one ∷ written) = ap suc (length-standings_in (drop one.len octets) written)
-
 -- octets after those of the suffixes change none of them
 standings_in-take : (octets : List ℕ) (written : List Written) (n : ℕ) → total written ≤ n
     → standings_in (take n octets) written ≡ standings_in octets written

@@ -1,18 +1,11 @@
 -- Suffixes that will be remembered.
-use Rattle.std.proofs.Common.{◌≡◌, ◌+◌, ◌-◌, ℕ, zero, suc, List, [], ◌∷◌, ◌++◌, length, take, drop, refl, sym, ◌∙◌, ap, arith, length-append}
+use Rattle.std.proofs.Common.{◌≡◌, ◌+◌, ◌-◌, ℕ, suc, List, [], ◌∷◌, ◌++◌, length, take, drop, refl, sym, ◌∙◌, ap, arith, length-append}
 use Rattle.std.proofs.lemmas.List.{take_at, drop_at}
 use Rattle.dns_label.specs.Name.{wire}
 use Rattle.dns_compress.specs.Waiting.{suffixes_of, octets_in, front_of}
 
 pub suffixes-none : (count : ℕ) (name : List (List ℕ)) → count ≡ 0 → suffixes_of count name ≡ []
 suffixes-none count name is = ap (λ n. suffixes_of n name) is
-
-pub suffixes-root : (count : ℕ) (name : List (List ℕ)) → name ≡ [] → suffixes_of count name ≡ []
-suffixes-root count name is = ap (suffixes_of count) is ∙ root count
-  where
-    root : (count : ℕ) → suffixes_of count [] ≡ []
-    root zero = refl
-    root (suc count) = refl
 
 pub suffixes-label : (count more : ℕ) (name : List (List ℕ)) (label : List ℕ) (parent : List (List ℕ)) → name ≡ label ∷ parent → more ≡ suc count
     → suffixes_of more name ≡ suffixes_of count parent ++ wire name ∷ []

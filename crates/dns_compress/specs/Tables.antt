@@ -1,13 +1,9 @@
 -- What a table of suffixes remembers (RFC 1035 4.1.4).
-use Rattle.std.specs.Prelude.{ℕ, Bool, true, false, None, nat_le, ◌&&◌, if◌then◌else◌, List, [], ◌∷◌, take, drop}
+use Rattle.std.specs.Prelude.{ℕ, Bool, true, false, nat_le, ◌&&◌, if◌then◌else◌, List, [], ◌∷◌, take, drop}
 use Rattle.std.specs.List.{list_all}
 use Rattle.dns_octets.specs.Builder.{Standing, Known}
 use Rattle.dns_label.specs.Name.{low}
 use Rattle.dns_name.specs.Spelling.{Spelling, is_same, standings}
-
--- any number of suffixes, equal up to case if it folds; if so, all new suffixes of a name are remembered or none
-abbrev pub unbounded : Bool → Spelling
-unbounded folds = record { folds = folds; most = None; far = folds }
 
 -- what a suffix is looked up by: the suffix in lower case, or as it is
 abbrev pub looked_up : Bool → List (List ℕ) → List (List ℕ)

@@ -84,11 +84,6 @@ before_step {rest = rest} {text = []} is some = absurd (some refl)
 before_step {rest = rest} {text = octet ∷ text} is some =
     omega (arith, ap (λ (l : List (List ℕ)). length (labels_wire (before_root l))) is, length-append text (labels_wire (before_root rest)))
 
-pub before_end : {labels rest : List (List ℕ)} {text : List ℕ} → labels ≡ text ∷ rest → text ≡ []
-    → length (labels_wire (before_root labels)) ≡ 0
-before_end {rest = rest} is none =
-    ap (λ (l : List (List ℕ)). length (labels_wire (before_root l))) is ∙ ap (λ (t : List ℕ). length (labels_wire (before_root (t ∷ rest)))) none
-
 -- a relative name followed by an absolute one
 pub joined_name : (front name : List (List ℕ)) → IsName front → IsName name → length (labels_wire front) + length (wire name) ≤ 255 → IsName (front ++ name)
 joined_name front name is_name is_other few = record {

@@ -162,9 +162,6 @@ strip_rest {part = part} strip at front =
 
 -- ---- where labels begin
 
-pub start_here : (labels : List (List ℕ)) → IsLabelStart labels 0
-start_here labels = record { front = []; back = labels; whole = refl; at = refl }
-
 pub start_on : {labels rest : List (List ℕ)} {text : List ℕ} {place left : ℕ} → labels ≡ text ∷ rest → place ≡ left + (length text + 1)
     → IsLabelStart rest left → IsLabelStart labels place
 start_on {text = text} is at start = record {

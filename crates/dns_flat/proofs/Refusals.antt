@@ -1,11 +1,10 @@
 -- Why no name was made of an iterator's items.
-use Rattle.std.proofs.Common.{◌≡◌, ℕ, true, List, ◌++◌, refl, sym, subst, append-nil}
+use Rattle.std.proofs.Common.{ℕ, true, List, ◌++◌, refl, subst, append-nil}
 use Rattle.std.specs.Prelude.{Option, Result, Ok, Err, IfOk, IfErr}
 use Rattle.std.specs.List.{AllByRecursion, flat_map}
 use Rattle.std.specs.Iterator.{Drains}
 use Rattle.dns_label.specs.declared.symbol.Symbol.{Symbol}
 use Rattle.dns_label.specs.Symbol.{IsSymbol, spelled}
-use Rattle.dns_label.specs.Taken.{RulesOut}
 use Rattle.dns_label.specs.NameText.{IsNameText}
 use Rattle.dns_wire.specs.Text.{SpellName, IsRefused, IsRefusedBy}
 use Rattle.dns_wire.specs.declared.text.FromStrError.{FromStrError}
@@ -26,14 +25,6 @@ module _ {S A T : Type 0} (steps : S → Option A → S → Type 0) (Spells : Li
         refused is.0 (subst Q (append-nil items) (subst P (ends refl) is.1));
   }
   drained_refused start items (Err ShortBuf) gave refused = (items, gave, refused)
-
-  pub ruled_out : (start : S) (result : Result T FromStrError)
-      → IfErr result (λ error. (reason : _) × (error ≡ Presentation reason))
-      → RulesOut steps start (λ items. (name : List (List ℕ)) × Spells items name) → IfErr result (IsRefusedBy steps start Spells)
-  ruled_out start (Ok value) is out = tt
-  ruled_out start (Err error) is out =
-      let P : FromStrError → Type 0 = λ e. IsRefusedBy steps start Spells e in
-      subst P (sym is.1) out
 
 -- symbols are refused as their text is
 pub symbols_refused : {T : Type 0} (symbols : List Symbol) (result : Result T FromStrError) → AllByRecursion IsSymbol symbols

@@ -1,11 +1,11 @@
 -- The names of addresses.
-use Rattle.std.proofs.Common.{◌≡◌, ℕ, ◌/◌, ◌%◌, ◌≤◌, List, [], ◌∷◌, ◌++◌, length, map, reverse, refl, sym, ◌∙◌, ap, subst, arith, append_assoc}
-use Rattle.std.specs.Prelude.{◌<◌, ◌^◌, false, slice_index}
+use Rattle.std.proofs.Common.{◌≡◌, ℕ, ◌≤◌, List, [], ◌∷◌, ◌++◌, length, map, reverse, sym, ◌∙◌, ap, subst, arith, append_assoc}
+use Rattle.std.specs.Prelude.{◌<◌, ◌^◌, slice_index}
 use Rattle.std.specs.List.{AllByRecursion, flat_map}
 use Rattle.std.proofs.lemmas.List.{reverse-append}
 use Rattle.dns_label.specs.Name.{IsLabel, IsName, wire, labels_wire}
 use Rattle.dns_label.specs.Composed.{label_wire}
-use Rattle.std.specs.Fmt.{decimal, digit_glyph}
+use Rattle.std.specs.Fmt.{decimal}
 use Rattle.std.proofs.lemmas.Fmt.{decimal_nonempty, length-decimal-le}
 use Rattle.std.specs.Prelude.{codes}
 use Rattle.std.specs.Net.Addr.{ipv4_octets, ipv6_octets}
@@ -26,15 +26,6 @@ decimal_step wire made rest front last whole is splits puts =
     ap (λ l. l ++ labels_wire (decimal_labels front)) puts
     ∙ append_assoc wire (label_wire (decimal last)) (labels_wire (decimal_labels front))
     ∙ ap (λ (o : List ℕ). wire ++ labels_wire (map decimal o)) (sym (turned rest front last splits)) ∙ is
-
-pub hex_step : (wire half made rest front : List ℕ) (last : ℕ) (whole : List ℕ) → wire ++ labels_wire (hex_labels rest) ≡ whole
-    → rest ≡ front ++ last ∷ [] → half ≡ wire ++ label_wire (digit_glyph false (last % 16) ∷ []) → made ≡ half ++ label_wire (digit_glyph false (last / 16 % 16) ∷ [])
-    → made ++ labels_wire (hex_labels front) ≡ whole
-hex_step wire half made rest front last whole is splits puts more =
-    ap (λ l. l ++ labels_wire (hex_labels front)) (more ∙ ap (λ l. l ++ label_wire (digit_glyph false (last / 16 % 16) ∷ [])) puts)
-    ∙ append_assoc (wire ++ label_wire (digit_glyph false (last % 16) ∷ [])) (label_wire (digit_glyph false (last / 16 % 16) ∷ [])) (labels_wire (hex_labels front))
-    ∙ append_assoc wire (label_wire (digit_glyph false (last % 16) ∷ [])) (label_wire (digit_glyph false (last / 16 % 16) ∷ []) ++ labels_wire (hex_labels front))
-    ∙ ap (λ (o : List ℕ). wire ++ labels_wire (flat_map nibble_labels o)) (sym (turned rest front last splits)) ∙ is
 
 digits_label : (n : ℕ) → n < 2 ^ 8 → IsLabel (decimal n)
 digits_label n fits = record {

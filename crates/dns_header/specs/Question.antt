@@ -1,7 +1,7 @@
 -- The question of a message (RFC 1035 4.1.2).
-use Rattle.std.specs.Prelude.{◌≡◌, ◌+◌, ◌<◌, ◌≤◌, ◌^◌, ℕ, List, ◌++◌, length, drop}
+use Rattle.std.specs.Prelude.{◌≡◌, ◌+◌, ◌<◌, ◌≤◌, ℕ, List, ◌++◌, length}
 use Rattle.std.specs.Int.{to_be_bytes, w16}
-use Rattle.dns_label.specs.Name.{IsName, wire}
+use Rattle.dns_label.specs.Name.{wire}
 use Rattle.dns_label.specs.Spelled.{Reads}
 use Rattle.dns_name.specs.Page.{Parts}
 use Rattle.dns_name.specs.Page.Parts.{End, Octets, Named}
@@ -25,15 +25,6 @@ pub record ReadsQuestion (message : List ℕ) (place : ℕ) (q : Question) (next
   pub qtype : q.qtype ≡ number_at message behind
   pub qclass : q.qclass ≡ number_at message (behind + 2)
   pub ends : next ≡ behind + 4
-
--- The same, with the name written out.
-pub record ReadsPlainQuestion (message : List ℕ) (place : ℕ) (q : Question) (next : ℕ) : Type 0 where
-  pub name : IsName q.name
-  pub qtype : q.qtype < 2 ^ 16
-  pub qclass : q.qclass < 2 ^ 16
-  pub rest : List ℕ
-  pub at : drop place message ≡ question_octets q ++ rest
-  pub ends : next ≡ place + length (question_octets q)
 
 -- the parts by which a message spells a question
 abbrev pub question_parts : Question → Parts

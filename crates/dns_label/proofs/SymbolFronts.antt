@@ -6,7 +6,7 @@ use Rattle.dns_label.specs.Symbol.{IsSymbol, spelled}
 use Rattle.std.specs.Prelude.{Option, Some, Result, Ok, Err, IsErr, OnErr}
 use Rattle.dns_label.specs.declared.symbol.SymbolCharsError.{SymbolCharsError}
 use Rattle.dns_label.specs.declared.symbol.SymbolCharsError.TheVariants.{BadChar, BadEscape, ShortInput}
-use Rattle.dns_label.specs.ReadSymbol.{BeginsWithSymbol, BeginsWithDigit, GoesOnInSymbols, ReadsSymbol, IsDigitFault, IsEscapeFault, IsSymbolFault}
+use Rattle.dns_label.specs.ReadSymbol.{BeginsWithSymbol, BeginsWithDigit, GoesOnInSymbols, ReadsSymbol, IsDigitFault, IsEscapeFault}
 use Rattle.dns_label.specs.Taken.{RulesOut}
 
 pub no_digit : (c : ℕ) (rest : List ℕ) → (48 ≤ c → c ≤ 57 → ⊥) → BeginsWithDigit (c ∷ rest) → ⊥
@@ -142,10 +142,3 @@ fault_behind_two steps start here there first tens ShortInput step next least mo
   omega arith,
   (fault.0, (fault.1.0, (here, step, (there, next, fault.1.1)), fault.1.2)),
 )
-
--- which fault follows a backslash
-pub fault_behind_backslash : {S : Type 0} (steps : S → Option ℕ → S → Type 0) (start here : S) (error : SymbolCharsError)
-    → steps start (Some 92) here → IsEscapeFault steps here error → IsSymbolFault steps start error
-fault_behind_backslash steps start here BadChar step fault = absurd fault
-fault_behind_backslash steps start here BadEscape step fault = (here, step, fault)
-fault_behind_backslash steps start here ShortInput step fault = (here, step, fault)

@@ -1,7 +1,7 @@
 -- What calls of `next` on an iterator rule out.
-use Rattle.std.proofs.Common.{◌≡◌, true, false, List, [], ◌∷◌, ◌++◌, refl, sym, ◌∙◌, ap, subst, append_assoc, append-nil}
+use Rattle.std.proofs.Common.{◌≡◌, true, false, List, [], ◌∷◌, ◌++◌, refl, sym, subst, append_assoc}
 use Rattle.std.specs.Prelude.{Option, Some, None}
-use Rattle.std.specs.Iterator.{Yields, Drains, YieldsFirst}
+use Rattle.std.specs.Iterator.{Yields}
 use Rattle.dns_label.specs.Taken.{RulesOut}
 
 -- an item was given, and the rest rules it out
@@ -63,17 +63,3 @@ rules_behind {steps = steps} {P = P} start here items gave out = record {
   gave = (out.gave.0, yields_append steps items out.taken start here out.gave.0 gave out.gave.1, out.gave.2);
   none = λ rest ends is. out.none rest ends (subst P (append_assoc items out.taken rest) is);
 }
-
--- an iterator that shows what it has left
-module _ {S A : Type 0} (left : S → List A) where
-  pub first_yields : (items : List A) (start here : S) → Yields (YieldsFirst left) start items here → left start ≡ items ++ left here
-  first_yields [] start here gave = ap left gave
-  first_yields (item ∷ items) start here gave = gave.1 ∙ ap (λ l. item ∷ l) (first_yields items gave.0 here gave.2)
-
-  pub first_drains : (items : List A) (start : S) → Drains (YieldsFirst left) start items → items ≡ left start
-  first_drains items start gave =
-      sym (first_yields items start gave.1.0 gave.1.1 ∙ ap (λ l. items ++ l) gave.1.2.0 ∙ append-nil items)
-
-  pub first_rules : {P : List A → Type 0} (start : S) → RulesOut (YieldsFirst left) start P → P (left start) → ⊥
-  first_rules {P = P} start out is =
-      out.none (left out.gave.0) (λ ended. (out.gave.2 ended).1.0) (subst P (first_yields out.taken start out.gave.0 out.gave.1) is)

@@ -67,13 +67,3 @@ pub appends_all : {old now : List ℕ} {old_known known : Known} {left : List (L
     → now ≡ old ++ wire name
 appends_all {old} {now} name is none =
     sym (append-nil now) ∙ ap (λ l. now ++ labels_wire l) (sym none) ∙ is.written ∙ ap (λ l. old ++ l) (labels_wire-with_root name)
-
-pub appends_fits : {old now : List ℕ} {old_known known : Known} {left : List (List ℕ)} {old_bound bound : Option ℕ}
-    (name : List (List ℕ)) → Appends old now old_known known (with_root name) left old_bound bound → left ≡ []
-    → IsWithin old_bound (length now)
-appends_fits {now = now} {left = left} {old_bound = old_bound} name is none = fits is.fits
-  where
-    fits : (left ≡ with_root name) ⊎ IsWithin old_bound (length now) → IsWithin old_bound (length now)
-    fits (inl all) =
-        absurd (omega (arith, ap (length {A = List ℕ}) none, ap (length {A = List ℕ}) all, length-append name ([] ∷ [])))
-    fits (inr within) = within

@@ -15,10 +15,6 @@ pub known-append_left : {standing : Standing} {known : Known} (more : Known) →
 known-append_left more first = first
 known-append_left more (later is) = later (known-append_left more is)
 
-pub known-append_right : {standing : Standing} (known : Known) {more : Known} → IsKnown standing more → IsKnown standing (known ++ more)
-known-append_right [] is = is
-known-append_right (other ∷ known) is = later (known-append_right known is)
-
 pub known-append_cases : {standing : Standing} (known more : Known) → IsKnown standing (known ++ more)
     → IsKnown standing known ⊎ IsKnown standing more
 known-append_cases [] more is = inr is

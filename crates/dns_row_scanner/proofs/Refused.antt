@@ -1,5 +1,5 @@
 -- What holds of every error, and of every value.
-use Rattle.std.specs.Prelude.{Result, Ok, Err, IfOk, IfErr, OnOk, Option, Some, None, IfSome, IfNone}
+use Rattle.std.specs.Prelude.{Result, Ok, Err, IfOk, IfErr, OnOk}
 
 pub if_err_each : {T E : Type 0} (result : Result T E) (P : E → Type 0) → ((error : E) → P error) → IfErr result P
 if_err_each (Ok value) P each = tt
@@ -8,14 +8,6 @@ if_err_each (Err error) P each = each error
 pub if_ok_weaker : {T E : Type 0} (result : Result T E) (P Q : T → Type 0) → ((value : T) → P value → Q value) → IfOk result P → IfOk result Q
 if_ok_weaker (Ok value) P Q more is = more value is
 if_ok_weaker (Err error) P Q more is = tt
-
-pub if_some_weaker : {T : Type 0} (found : Option T) (P Q : T → Type 0) → ((value : T) → P value → Q value) → IfSome found P → IfSome found Q
-if_some_weaker (Some value) P Q more is = more value is
-if_some_weaker None P Q more is = tt
-
-pub if_none_weaker : {T : Type 0} (found : Option T) (P Q : Type 0) → (P → Q) → IfNone found P → IfNone found Q
-if_none_weaker (Some value) P Q more is = tt
-if_none_weaker None P Q more is = more is
 
 pub on_ok_weaker : {T E : Type 0} (result : Result T E) (P Q : Type 0) → (P → Q) → OnOk result P → OnOk result Q
 on_ok_weaker (Ok value) P Q more is = more is

@@ -3,7 +3,7 @@ use Rattle.std.proofs.Common.{◌≡◌, ℕ, ◌+◌, ◌*◌, ◌<◌, ◌≤�
 use Rattle.std.specs.Prelude.{None, ◌⊎◌}
 use Rattle.std.specs.List.{AllByRecursion}
 use Rattle.std.proofs.Math.Nat.{suc-mul}
-use Rattle.std.proofs.lemmas.List.{map_push, length-replicate, length-map, replicate_more}
+use Rattle.std.proofs.lemmas.List.{map_push, length-replicate, length-map}
 use Rattle.dns_scan.specs.declared.encoding.base.Base.{Base}
 use Rattle.dns_scan.specs.declared.encoding.base.Base.TheVariants.{Sixteen, ThirtyTwoHex, SixtyFour}
 use Rattle.dns_scan.specs.Bits.{bits, all_bits}
@@ -57,23 +57,6 @@ read_more base old new text c number more read none still sound is small octets 
       ∙ ap (λ l. l ++ new.waiting) (sym (all_bits-append 8 old.octets more) ∙ ap (all_bits 8) (sym octets));
   little = little;
   padded = inl still;
-}
-
--- one more pad
-pub read_pad : (old new : Progress) (text : List ℕ) → HasRead SixtyFour old text → new.error ≡ None → new.octets ≡ old.octets
-    → new.waiting ≡ old.waiting → new.pads ≡ old.pads + 1 → length old.waiting < 6 → 2 * (old.pads + 1) ≤ length old.waiting
-    → HasRead SixtyFour new (text ++ 61 ∷ [])
-read_pad old new text read sound octets waiting pads few room = record {
-  sound = sound;
-  characters = read.characters;
-  written =
-      ap (λ l. l ++ 61 ∷ []) read.written ∙ append_assoc read.characters (replicate old.pads 61) (61 ∷ [])
-      ∙ ap (λ l. read.characters ++ l) (replicate_more old.pads 61) ∙ ap (λ n. read.characters ++ replicate n 61) (sym pads);
-  each = read.each;
-  are_octets = subst (λ l. AllByRecursion IsOctet l) (sym octets) read.are_octets;
-  cut = read.cut ∙ ap (λ l. all_bits 8 l ++ old.waiting) (sym octets) ∙ ap (λ l. all_bits 8 new.octets ++ l) (sym waiting);
-  little = omega (arith, ap (length {A = ℕ}) waiting, read.little);
-  padded = inr (refl, omega (arith, ap (length {A = ℕ}) waiting), omega (arith, pads, ap (length {A = ℕ}) waiting));
 }
 
 -- the pad is no character

@@ -17,9 +17,6 @@ pub record ReadingSymbols (text rest : List ℕ) (front : List Symbol) : Type 0 
   pub on : (more : List Symbol) → AreWritten more rest → AreWritten (front ++ more) text
   pub back : (all : List Symbol) → AreWritten all text → (more : List Symbol) × AreWritten more rest × (all ≡ front ++ more)
 
-pub symbols_here : (text : List ℕ) → ReadingSymbols text text []
-symbols_here text = record { on = λ more are. are; back = λ all are. (all, are, refl) }
-
 written_none : AreWritten [] []
 written_none = record { each = tt; written = refl }
 
@@ -169,13 +166,6 @@ entry_end before left front reading none =
     let P : List EntrySymbol → Type 0 = λ l. IsEntry HasMarked before l in
     let Q : List Token → Type 0 = λ t. IsEntry HasMarked t [] in
     subst P (append-nil front) (reading.on [] (subst Q (sym none) refl))
-
-pub entry_only : (before left : List Token) (front all : List EntrySymbol) → ReadingEntry before left front → left ≡ []
-    → IsEntry HasMarked before all → all ≡ front
-entry_only before left front all reading none entry =
-    let at = reading.back all entry in
-    let Q : List Token → Type 0 = λ t. IsEntry HasMarked t at.0 in
-    at.2 ∙ ap (λ l. front ++ l) (subst Q none at.1) ∙ append-nil front
 
 -- runs of a closure, one after another
 pub folds_join : {P A : Type 0} (R : P → A → P → Type 0) (p q r : P) (xs ys : List A) → FoldsTo R p xs q → FoldsTo R q ys r → FoldsTo R p (xs ++ ys) r

@@ -83,10 +83,6 @@ reading_full text rest behind taken symbol reading is_symbol is full string is_t
     let size = ap (length {A = ℕ}) (whole.2 ∙ ap (λ l. taken ++ l) less.2) in
     omega (arith, size, length-append taken (octet symbol ∷ less.0), is_text.short)
 
--- what was taken of a text comes first in it
-pub begins_here : (text : List ℕ) → BeginsWith text [] text
-begins_here text = record { symbols = []; each = tt; written = refl; stand = refl }
-
 each_push : (symbols : List Symbol) (symbol : Symbol) → AllByRecursion IsSymbol symbols → IsSymbol symbol → AllByRecursion IsSymbol (symbols ++ symbol ∷ [])
 each_push [] symbol each is = (is, tt)
 each_push (first ∷ symbols) symbol each is = (each.0, each_push symbols symbol each.1 is)

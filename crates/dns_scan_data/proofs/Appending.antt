@@ -21,9 +21,6 @@ use Rattle.dns_scan_data.proofs.InFull.{field_behind, row_behind}
 abbrev pub Names : Type 1
 Names = List ℕ → List (List ℕ) → Type 0
 
-pub gone_nowhere : (old : List ℕ) → GoesOn old old
-gone_nowhere old = record { more = []; is = sym (append-nil old) }
-
 pub gone_on : {old mid new : List ℕ} → GoesOn old mid → GoesOn mid new → GoesOn old new
 gone_on {old} first next = record {
   more = first.more ++ next.more;
@@ -33,9 +30,6 @@ gone_on {old} first next = record {
 -- what was appended is cut off again
 pub cut_back : (old new : List ℕ) → GoesOn old new → take (length old) new ≡ old
 cut_back old new goes = ap (take (length old)) goes.is ∙ take-append_seam old goes.more
-
-pub cut_off : {old mid new : List ℕ} (n : ℕ) → n ≡ length old → GoesOn old mid → new ≡ take n mid → new ≡ old
-cut_off {old} {mid} n at goes cuts = cuts ∙ ap (λ (k : ℕ). take k mid) at ∙ cut_back old mid goes
 
 -- a value that was scanned and composed
 pub field_appended : {names : Names} {its : Kind} {tokens left : List Token} {old new : List ℕ} (field : Field) → kind_of field ≡ its

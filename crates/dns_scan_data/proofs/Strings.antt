@@ -55,6 +55,3 @@ strings_appended {names} {tokens} {old = old} some appends =
       scans = ([], entry_scanned names tokens [] appends.octets are.each some appends.entry are.written refl, appends.none);
       behind = appends.behind ∙ ap (λ (l : List ℕ). old ++ l) (are.written ∙ sym (append-nil (flat_map string_wire are.each)));
     }
-
-pub strings_gone : {tokens left : List Token} {old new : List ℕ} → AppendsStrings tokens left old new → GoesOn old new
-strings_gone appends = record { more = appends.octets; is = appends.behind }

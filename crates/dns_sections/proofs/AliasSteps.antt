@@ -187,18 +187,11 @@ module _ {name : List (List ℕ)} {here there new : Cursor} (looks : LooksOn nam
   pub all-found : GivesAlias here None new → (aliases : List Alias) × HasAliases there aliases
   all-found ends = let before = looks.back [] (HasAliases.none ends) in (before.0, before.1)
 
--- at the start
-pub looks-there : (name : List (List ℕ)) (there : Cursor) → LooksOn name there there
-looks-there name there = record { back = λ rest left. (rest, left, refl); forth = λ aliases all. (aliases, all, refl) }
-
 -- All that one cursor returns makes a name an alias if what another one has left does, or if it was found to be one
 -- before.
 pub record FindsOn (name : List (List ℕ)) (here there : Cursor) (found : Bool) : Type 0 where
   pub back : (rest : List Alias) → HasAliases here rest → (aliases : List Alias) × HasAliases there aliases
       × (is_some (aliased aliases name) ≡ (found || is_some (aliased rest name)))
-
-pub finds-there : (name : List (List ℕ)) (there : Cursor) → FindsOn name there there false
-finds-there name there = record { back = λ rest left. (rest, left, refl) }
 
 module _ {name : List (List ℕ)} {here there new : Cursor} {found : Bool} (finds : FindsOn name here there found) where
   pub finds-other : {alias : Alias} → GivesAlias here (Some (Ok alias)) new → is_of name alias ≡ false → FindsOn name new there found

@@ -1,5 +1,5 @@
 -- Sections that are reached, and where cursors over them lead.
-use Rattle.std.proofs.Common.{◌≡◌, ℕ, List, Some, None, Ok, Err, MatchResult, ap, subst}
+use Rattle.std.proofs.Common.{◌≡◌, ℕ, List, Some, Ok, Err, MatchResult, ap, subst}
 use Rattle.std.specs.Prelude.{Result}
 use Rattle.dns_octets.specs.declared.error.ParseError.{ParseError}
 use Rattle.dns_header.specs.Header.{question_count}
@@ -68,7 +68,3 @@ pub goes-on : {A : Type 0} (at : A → SectionCursor) {message : List ℕ} {befo
     → MatchResult result (λ found. IsSectionOf message section (at found)) (IsOutOfReach message section)
 goes-on at (Ok found) follows is leads = section-on follows is leads
 goes-on at (Err error) follows is leads = section-stuck follows is leads
-
--- a section that is not the last leads on
-pub leads-somewhere : {at : SectionCursor} {section : Section} → following at.section ≡ Some section → LeadsOn at (Ok None) → ⊥
-leads-somewhere follows (LeadsOn.last none) = cc

@@ -89,7 +89,3 @@ has_feed (octet ∷ rest) = if octet == 10 then true else has_feed rest
 abbrev pub is_end : List ℕ → Bool
 is_end [] = true
 is_end (octet ∷ rest) = if is_gap octet then is_end rest else (if octet == 59 then not (has_feed rest) else false)
-
--- A row without tokens, which is no entry; `rest` is what follows its line feed.
-abbrev pub IsEmptyRow : List ℕ → List ℕ → Type 0
-IsEmptyRow text rest = Row false text [] rest

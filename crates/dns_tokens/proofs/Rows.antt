@@ -1,12 +1,12 @@
 -- Rows, token by token, and the end of a text.
 use Rattle.std.proofs.Common.{◌≡◌, ◌==◌, ℕ, ◌+◌, ◌<◌, ◌≤◌, Bool, true, false, List, [], ◌∷◌, ◌++◌, length, map, drop, get_or, Option, Some, None, if◌then◌else◌, not, refl, sym, ◌∙◌, ap, subst, arith, length-append}
-use Rattle.std.proofs.lemmas.List.{append-nil, drop_all, drop_more, length-drop}
+use Rattle.std.proofs.lemmas.List.{append-nil, drop_more, length-drop}
 use Rattle.std.specs.Prelude.{All}
-use Rattle.std.proofs.lemmas.List.Elements.{All-nil, All-push}
+use Rattle.std.proofs.lemmas.List.Elements.{All-push}
 use Rattle.std.proofs.lemmas.Bool.Decides.{Decides-eqb}
 use Rattle.dns_scan.specs.Token.{Token}
 use Rattle.dns_text.specs.Rows.{is_led}
-use Rattle.dns_text.specs.Tokens.{Next, Row, from_feed, has_feed, is_end, is_gap}
+use Rattle.dns_text.specs.Tokens.{Next, Row, from_feed, has_feed, is_end}
 use Rattle.dns_text.specs.Tokens.Next.{ended, goes, comment, quoted, unquoted}
 use Rattle.dns_text.specs.Tokens.Row.{end, token}
 use Rattle.dns_tokens.specs.RowFound.{IsRowAt, NoRow}
@@ -54,15 +54,6 @@ pub record Held (text : List ℕ) (place : ℕ) (spans : List TokenSpan) (inside
   pub back : (tokens : List Token) (rest : List ℕ) → Row false (drop place text) tokens rest
       → (others : List Token) × Row inside left others rest
   pub marked : All (IsMarked text) spans
-
-pub held_none : (text : List ℕ) (place : ℕ) (spans : List TokenSpan) (inside : Bool) (left : List ℕ) → spans ≡ [] → inside ≡ false
-    → left ≡ drop place text → Held text place spans inside left
-held_none text place spans inside left none outside at =
-    let here : Held text place [] false (drop place text) =
-    record { on = λ others rest row. row; back = λ tokens rest row. (tokens, row); marked = All-nil (IsMarked text) } in
-    subst (λ (l : List TokenSpan). Held text place l inside left) (sym none)
-    (subst (λ (b : Bool). Held text place [] b left) (sym outside)
-    (subst (λ (l : List ℕ). Held text place [] false l) (sym at) here))
 
 tokens_more : (text : List ℕ) (spans : List TokenSpan) (span : TokenSpan) (others : List Token)
     → map (λ s. token_in text s) (spans ++ span ∷ []) ++ others ≡ map (λ s. token_in text s) spans ++ (token_in text span ∷ others)
@@ -115,23 +106,6 @@ pub held_broken : {text left : List ℕ} {place : ℕ} {spans : List TokenSpan} 
     → NoNext inside left → NoRow (drop place text)
 held_broken held none tokens rest row = let left_row = held.back tokens rest row in none_of_row none left_row.1
 
--- white space at the start
-pub led_at : (text : List ℕ) (place : ℕ) → place < length text → is_led (drop place text) ≡ is_gap (get_or text place 0)
-led_at text place within = ap is_led (drop_more text place 0 within)
-
-pub led_over : (text : List ℕ) (place : ℕ) → length text ≤ place → is_led (drop place text) ≡ false
-led_over text place over = ap is_led (drop_all place text over)
-
--- the end of the text
-pub end_over : (text : List ℕ) (place : ℕ) → length text ≤ place → is_end (drop place text) ≡ true
-end_over text place over = ap is_end (drop_all place text over)
-
-pub end_at_gap : (text : List ℕ) (place : ℕ) → place < length text → is_gap (get_or text place 0) ≡ true
-    → is_end (drop place text) ≡ is_end (drop (place + 1) text)
-end_at_gap text place within gap =
-    ap is_end (drop_more text place 0 within)
-    ∙ ap (λ (b : Bool). if b then is_end (drop (place + 1) text) else (if (get_or text place 0 == 59) then not (has_feed (drop (place + 1) text)) else false)) gap
-
 end_feed : (octet : ℕ) (text : List ℕ) (feed : Bool) → (octet == 10) ≡ feed → not (has_feed text) ≡ is_end (from_feed text)
     → not (if feed then true else has_feed text) ≡ is_end (if feed then octet ∷ text else from_feed text)
 end_feed octet text true is behind =
@@ -148,10 +122,3 @@ pub end_at_comment : (text : List ℕ) (place stop : ℕ) → place < length tex
 end_at_comment text place stop within is feed =
     ap is_end (drop_more text place 0 within) ∙ ap (λ (n : ℕ). is_end (n ∷ drop (place + 1) text)) is
     ∙ end_behind_comment (drop (place + 1) text) ∙ ap is_end (sym feed)
-
-pub end_at_other : (text : List ℕ) (place : ℕ) → place < length text → is_gap (get_or text place 0) ≡ false
-    → (get_or text place 0 == 59) ≡ false → is_end (drop place text) ≡ false
-end_at_other text place within gap other =
-    ap is_end (drop_more text place 0 within)
-    ∙ ap (λ (b : Bool). if b then is_end (drop (place + 1) text) else (if (get_or text place 0 == 59) then not (has_feed (drop (place + 1) text)) else false)) gap
-    ∙ ap (λ (b : Bool). if b then not (has_feed (drop (place + 1) text)) else false) other

@@ -101,9 +101,6 @@ pub record SameNext (inside : Bool) (text : List ℕ) (inside' : Bool) (text' : 
   pub on : (found : Option Token) (out : Bool) (rest : List ℕ) → Next inside' text' found out rest → Next inside text found out rest
   pub back : (found : Option Token) (out : Bool) (rest : List ℕ) → Next inside text found out rest → Next inside' text' found out rest
 
-pub same_here : (inside : Bool) (text : List ℕ) → SameNext inside text inside text
-same_here inside text = record { on = λ found out rest next. next; back = λ found out rest next. next }
-
 module _ {start : Bool} {first : List ℕ} (text : List ℕ) (place : ℕ) (within : place < length text) {inside : Bool} (same : SameNext start first inside (drop place text)) where
   here : drop place text ≡ get_or text place 0 ∷ drop (place + 1) text
   here = drop_more text place 0 within

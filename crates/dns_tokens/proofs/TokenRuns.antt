@@ -134,17 +134,6 @@ runs_to quoted text place end behind within taken none no_escape =
       marked = sym taken.is_marked ∙ ap has_backslash (sym first);
     }
 
--- an escape in a text
-pub no_escape_of_nothing : NoEscape []
-no_escape_of_nothing rest has =
-    let bad : ◌≡◌ {A = List ℕ} [] (92 ∷ (has.octets ++ rest)) = has.whole ∙ ap (λ l. l ++ rest) has.escape in
-    absurd (omega (arith, ap (length {A = ℕ}) bad))
-
-pub no_escape_at : (octet : ℕ) (text : List ℕ) → (octet ≡ 92 → ⊥) → NoEscape (octet ∷ text)
-no_escape_at octet text other rest has =
-    let written : octet ∷ text ≡ 92 ∷ (has.octets ++ rest) = has.whole ∙ ap (λ l. l ++ rest) has.escape in
-    other (cc)
-
 escaped : (symbol : Symbol) (text rest : List ℕ) → IsSymbol symbol → 92 ∷ text ≡ spelled symbol ++ rest
     → (octets : List ℕ) × (spelled symbol ≡ 92 ∷ octets)
 escaped (Char c) text rest is at = let e : c ≡ 92 = cc in absurd (is.1 e)

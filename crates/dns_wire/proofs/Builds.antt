@@ -162,9 +162,6 @@ label_len built (octet ∷ label) some =
     ap (λ (l : List (List ℕ)). length (labels_wire l)) (append-nil (labels_built built ++ (octet ∷ label) ∷ []))
     ∙ length-labels_wire_more (labels_built built) (octet ∷ label)
 
-pub ended_len : (built : Built) → built_len (ended built) ≡ built_len built
-ended_len built = ap (λ (l : List (List ℕ)). length (labels_wire l)) (append-nil (labels_built built))
-
 -- with the root after them the labels are a name
 pub stands_name : (octets whole : List ℕ) (head : Option ℕ) (built : Built) → StandsFor octets head built → whole ≡ octets ++ 0 ∷ []
     → IsName (labels_built built) × (whole ≡ wire (labels_built built))

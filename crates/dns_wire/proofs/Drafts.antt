@@ -1,5 +1,5 @@
 -- A name while its text is read.
-use Rattle.std.proofs.Common.{◌≡◌, ℕ, zero, suc, ◌+◌, ◌<◌, ◌≤◌, List, [], ◌∷◌, ◌++◌, length, take, set, refl, sym, ◌∙◌, ap, arith, append_assoc, append-nil, length-append, length-take}
+use Rattle.std.proofs.Common.{◌≡◌, ℕ, zero, suc, ◌+◌, ◌<◌, ◌≤◌, List, [], ◌∷◌, ◌++◌, length, take, set, refl, sym, ◌∙◌, ap, arith, append-nil, length-append, length-take}
 use Rattle.std.specs.List.{AllByRecursion}
 use Rattle.dns_label.specs.Name.{IsLabel, IsName, wire, labels_wire}
 use Rattle.dns_wire.specs.Draft.{Holds}
@@ -27,14 +27,6 @@ take_set_in (first ∷ octets) (suc len) (suc place) octet within =
 pub set_seam : (front : List ℕ) (octet other : ℕ) (rest : List ℕ) → set (front ++ octet ∷ rest) (length front) other ≡ front ++ other ∷ rest
 set_seam [] octet other rest = refl
 set_seam (first ∷ front) octet other rest = ap (λ l. first ∷ l) (set_seam front octet other rest)
-
-pub draft-push : (octets : List ℕ) (len octet : ℕ) (done : List (List ℕ)) (begun : List ℕ) → len < length octets
-    → take len octets ≡ labels_wire done ++ 0 ∷ begun
-    → take (len + 1) (set octets len octet) ≡ labels_wire done ++ 0 ∷ (begun ++ octet ∷ [])
-draft-push octets len octet done begun within is =
-    let e : len + 1 ≡ suc len = omega arith in
-    ap (λ (n : ℕ). take n (set octets len octet)) e ∙ take_set_at octets len octet within
-    ∙ ap (λ l. l ++ octet ∷ []) is ∙ append_assoc (labels_wire done) (0 ∷ begun) (octet ∷ [])
 
 -- the number of octets
 pub draft-len : (octets : List ℕ) (len : ℕ) (done : List (List ℕ)) (begun : List ℕ) → len ≤ length octets

@@ -18,15 +18,6 @@ pub record Remains (name base : List (List ℕ)) (rest : List ℕ) : Type 0 wher
   pub keeps : EndsWith (low name) (low base) → EndsWith (low back) (low base)
   pub gives : EndsWith (low back) (low base) → EndsWith (low name) (low base)
 
-pub remains_whole : (octets : List ℕ) (base : List (List ℕ)) → IsWritten octets → Remains (labels_at octets 0) base octets
-remains_whole octets base written = record {
-  back = labels_at octets 0;
-  is_name = written.is_name;
-  is = written.whole;
-  keeps = λ ends. ends;
-  gives = λ ends. ends;
-}
-
 -- a name with more octets than its suffix has labels before that
 longer_by : (text : List ℕ) (parent base front : List (List ℕ)) → IsName (text ∷ parent) → IsName base
     → length (wire base) < length (wire (text ∷ parent)) → low (text ∷ parent) ≡ front ++ low base → EndsWith (low parent) (low base)

@@ -8,7 +8,6 @@ use Rattle.dns_label.specs.Split.{StartsWithLabel, NoLabel}
 use Rattle.dns_label.specs.declared.label.SplitLabelError.{SplitLabelError}
 use Rattle.dns_wire.specs.Flat.{IsWritten}
 use Rattle.dns_wire.specs.FlatLabels.{labels_within, flat_labels, IsShort, AreLabels}
-use Rattle.dns_wire.specs.Parts.{IsLabelStart}
 use Rattle.dns_wire.proofs.Flat.{same_front, no_label_no_front, flat-written, flat-labels}
 use Rattle.dns_wire.proofs.Wire.{labels_wire-append, wire_is, length-wire_is}
 
@@ -187,8 +186,3 @@ parted (text ∷ front) back (other ∷ other_front) other_back same less =
       front_is = ap (λ l. l ∷ other_front) (sym e) ∙ ap (λ l. text ∷ l) more.front_is;
       back_is = more.back_is;
     }
-
-pub between_starts : {labels : List (List ℕ)} {start end : ℕ} (from : IsLabelStart labels start) (to : IsLabelStart labels end)
-    → start ≤ end → Parted from.front from.back to.front to.back
-between_starts from to less =
-    parted from.front from.back to.front to.back (sym from.whole ∙ to.whole) (omega (arith, from.at, to.at))

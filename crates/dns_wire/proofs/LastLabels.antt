@@ -75,9 +75,6 @@ pub record Stands (octets : List ℕ) (text rest : List ℕ) : Type 0 where
   pub whole : flat_labels octets ≡ front ++ (text ∷ flat_labels rest)
   pub are : AreLabels rest
 
-pub stands_first : {octets text rest : List ℕ} → flat_labels octets ≡ text ∷ flat_labels rest → AreLabels rest → Stands octets text rest
-stands_first is are = record { front = []; whole = is; are = are }
-
 pub stands_next : {octets text rest label behind : List ℕ} → Stands octets text rest → flat_labels rest ≡ label ∷ flat_labels behind → AreLabels behind
     → Stands octets label behind
 stands_next {text = text} {label = label} {behind = behind} stands is are = record {

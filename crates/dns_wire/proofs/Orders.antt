@@ -60,12 +60,6 @@ order_more {labels} {others} {rest} {rests} {label} {other} order tied is are lo
     ap (λ o. ordering_then o tied) whole ∙ then_assoc (labels_order rest rests) (label_order label other) tied
     ∙ ap (ordering_then (labels_order rest rests)) (sym here)
 
--- no label on either side
-pub order_none : {labels others : List (List ℕ)} (tied : Ordering) → labels ≡ [] → others ≡ []
-    → ordering_then (labels_order labels others) tied ≡ tied
-order_none {labels} {others} tied none nothing =
-    ap (λ l. ordering_then (labels_order l others) tied) none ∙ ap (λ l. ordering_then (labels_order [] l) tied) nothing
-
 pub no_labels : (labels : List (List ℕ)) → length labels ≡ 0 → labels ≡ []
 no_labels [] none = refl
 no_labels (label ∷ labels) none = absurd (omega arith)

@@ -1,6 +1,5 @@
 -- Names in text without escapes: labels are taken off the front, each with its dot, and written after their lengths.
-use Rattle.std.proofs.Common.{◌≡◌, ℕ, ◌+◌, ◌-◌, ◌<◌, ◌≤◌, ◌↔◌, Bool, true, false, cond, suc, List, [], ◌∷◌, ◌++◌, length, map, take, drop, set, refl, sym, ◌∙◌, ap, subst, arith, append_assoc, append-nil, length-append}
-use Rattle.std.proofs.lemmas.Bool.{false_from_ne_true, false≢true}
+use Rattle.std.proofs.Common.{◌≡◌, ℕ, ◌+◌, ◌-◌, ◌<◌, ◌≤◌, Bool, true, false, cond, suc, List, [], ◌∷◌, ◌++◌, length, map, take, drop, set, refl, sym, ◌∙◌, ap, subst, arith, append_assoc, append-nil, length-append}
 use Rattle.std.proofs.lemmas.Bool.Decides.{nat_tests}
 use Rattle.std.specs.Prelude.{◌==◌, ◌||◌, nat_lt, not}
 use Rattle.std.specs.List.{AllByRecursion, flat_map, prefix_len}
@@ -20,13 +19,6 @@ use Rattle.dns_wire.proofs.Wire.{labels_wire-append, labels_wire-with_root}
 -- the test agrees with the relation
 pub unescaped_sound : (octet : ℕ) → is_unescaped octet ≡ true → IsUnescaped octet
 unescaped_sound octet is = grind (arith, nat_tests)
-
-unescaped_back : (octet : ℕ) → IsUnescaped octet → is_unescaped octet ≡ true
-unescaped_back octet is = grind (arith, nat_tests)
-
-pub unescaped_test : (octet : ℕ) (test : Bool) → (test ≡ true) ↔ IsUnescaped octet → test ≡ is_unescaped octet
-unescaped_test octet true says = sym (unescaped_back octet (says.0 refl))
-unescaped_test octet false says = sym (false_from_ne_true (is_unescaped octet) (λ is. false≢true (says.1 (unescaped_sound octet is))))
 
 -- the octets that are none, by the marks of their lanes
 pub unescaped_not : (octet : ℕ)

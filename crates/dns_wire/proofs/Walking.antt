@@ -1,6 +1,6 @@
 -- The walk over the heads of a name.
-use Rattle.std.proofs.Common.{◌≡◌, ℕ, ◌+◌, ◌<◌, ◌≤◌, suc, List, [], ◌∷◌, ◌++◌, length, drop, refl, sym, ◌∙◌, ap, subst, arith, append_assoc}
-use Rattle.std.specs.Prelude.{Option, Some, None, unwrap_or}
+use Rattle.std.proofs.Common.{◌≡◌, ℕ, ◌+◌, ◌<◌, ◌≤◌, suc, List, [], ◌∷◌, ◌++◌, length, drop, sym, ◌∙◌, ap, subst, arith, append_assoc}
+use Rattle.std.specs.Prelude.{Option, Some, unwrap_or}
 use Rattle.dns_label.specs.Name.{wire, labels_wire}
 use Rattle.dns_label.specs.Spelled.{Spells, Reads}
 use Rattle.dns_label.specs.Spelled.Spells.{root, label, pointer}
@@ -23,14 +23,6 @@ pub record Walks (message : List ℕ) (start place len left : ℕ) (behind : Opt
       → Spells message 255 start (front ++ name) (unwrap_or behind after)
   pub back : (whole : List (List ℕ)) (end : ℕ) → Spells message 255 start whole end → Comes message left place front whole
   pub long : length (labels_wire front) ≡ len
-
-pub walks_here : (message : List ℕ) (start : ℕ) → Walks message start start 0 255 None
-walks_here message start = record {
-  front = [];
-  on = λ name after here. here;
-  back = λ whole end here. record { name = whole; after = end; spelled = here; whole_is = refl };
-  long = refl;
-}
 
 pub walks-label : {message : List ℕ} {start place len left : ℕ} {behind : Option ℕ} (text rest : List ℕ) (place' len' : ℕ)
     → Walks message start place len left behind → StartsWithLabel (drop place message) text rest → 0 < length text

@@ -54,10 +54,6 @@ of_directs (directs_include {word = word} is bare spells ascii) =
 of_directs (directs_include_at {word = word} is bare spells ascii under) =
     record { word = Include; takes = record { token = word; is = refl; fits = lowered is }; argues = include_at bare spells ascii under }
 
--- a token is one word
-word_length : DirectiveWord → ℕ
-word_length word = length (word_of word)
-
 words_differ : (word other : DirectiveWord) → word_of word ≡ word_of other → word ≡ other
 words_differ Origin Origin same = refl
 words_differ Origin Ttl same = let bad : ◌≡◌ {A = ℕ} 7 4 = ap (length {A = ℕ}) same in cc

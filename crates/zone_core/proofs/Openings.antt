@@ -8,7 +8,6 @@ use Rattle.dns_name.specs.RecordData.{page_of}
 use Rattle.dns_name.specs.Spelling.{plain}
 use Rattle.dns_name.proofs.Spelled.{plain_text, plain_known}
 use Rattle.dns_header.specs.HeaderCounts.{counts_of, counts_octets}
-use Rattle.dns_header.specs.HeaderFields.{fields_of, header_octets}
 use Rattle.dns_header.specs.Question.{Question, question_octets, question_parts}
 use Rattle.zone_core.specs.Query.{one_question}
 
@@ -35,9 +34,3 @@ pub counts_one : (clear counts : List ℕ) → clear ≡ 0 ∷ 0 ∷ 0 ∷ 0 ∷
     → counts ≡ counts_octets (counts_of counts) → counts ≡ one_question
 counts_one clear counts clear_is set is =
     is ∙ ap counts_octets (set ∙ ap (λ (l : List ℕ). record (counts_of l) { qd = 1 }) clear_is)
-
--- the header that has an id alone
-pub id_alone : (id : ℕ) (clear header : List ℕ) → clear ≡ 0 ∷ 0 ∷ 0 ∷ 0 ∷ [] → fields_of header ≡ record (fields_of clear) { id = id }
-    → header ≡ header_octets (fields_of header) → header ≡ to_be_bytes w16 id ++ 0 ∷ 0 ∷ []
-id_alone id clear header clear_is set is =
-    is ∙ ap header_octets (set ∙ ap (λ (l : List ℕ). record (fields_of l) { id = id }) clear_is)

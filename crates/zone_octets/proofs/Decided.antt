@@ -1,6 +1,6 @@
 -- What holds, or does not: equal lists, and a list at the end of another.
-use Rattle.std.proofs.Common.{◌<◌, ◌≤◌, true, false, ◌≡◌, ◌⊎◌, ℕ, List, [], ◌∷◌, ◌++◌, refl, ap, inl, inr}
-use Rattle.std.proofs.lemmas.Bool.{cases_lt, cases_eq}
+use Rattle.std.proofs.Common.{◌≡◌, ◌⊎◌, ℕ, List, [], ◌∷◌, ◌++◌, refl, ap, inl, inr}
+use Rattle.std.proofs.lemmas.Bool.{cases_eq}
 use Rattle.dns_wire.specs.Suffix.{EndsWith}
 
 abbrev pub Decided : Type 0 → Type 0
@@ -49,7 +49,3 @@ end_of_none ys (inr apart) = inr (λ ends. no_end_of_none ys ends.front apart en
 pub decided_end : (xs ys : List (List ℕ)) → Decided (EndsWith xs ys)
 decided_end [] ys = end_of_none ys (decided_names [] ys)
 decided_end (x ∷ xs) ys = end_of_more x xs ys (decided_names (x ∷ xs) ys) (decided_end xs ys)
-
--- a test for enough octets that returns false
-pub too_few : (wanted there : ℕ) → (wanted ≤ there → false ≡ true) → there < wanted
-too_few wanted there fails = elim (cases_lt there wanted) [ inl few ↦ few | inr enough ↦ let e = fails enough in absurd cc ]

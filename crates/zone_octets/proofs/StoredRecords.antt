@@ -12,7 +12,6 @@ use Rattle.dns_label.proofs.Spelling.{labels_at-reads, spelled-written}
 use Rattle.dns_wire.specs.Flat.{IsWritten}
 use Rattle.dns_wire.proofs.Flat.{flat-written}
 use Rattle.dns_header.specs.Header.{number_at}
-use Rattle.dns_header.specs.Head.{after_length, fixed_octets}
 use Rattle.dns_message.specs.Record.{IsRecord, record_octets}
 use Rattle.zone_octets.specs.Record.{Record}
 use Rattle.zone_octets.specs.Stored.{IsStored, AreStored, record_in, record_with, records_at, starts}
@@ -289,9 +288,3 @@ owner_front octets len stored =
 
 pub owner_written : (octets : List ℕ) (len : ℕ) → IsStored octets len → IsWritten (take len octets)
 owner_written octets len stored = flat-written (take len octets) (record_in octets).owner stored.lawful.owner (owner_front octets len stored)
-
--- a record that is written part by part: its owner, its numbers, and its data after RDLENGTH
-pub written_record : (first second third : List ℕ) (r : Record) → first ≡ wire r.owner
-    → second ≡ first ++ fixed_octets r.rtype r.class r.ttl → third ≡ second ++ after_length r.rdata → third ≡ record_octets r
-written_record first second third r owner numbers data' =
-    data' ∙ ap (λ l. l ++ after_length r.rdata) (numbers ∙ ap (λ l. l ++ fixed_octets r.rtype r.class r.ttl) owner)

@@ -1,11 +1,11 @@
 -- How far a receiver is.
-use Rattle.std.proofs.Common.{◌≡◌, ◌≢◌, ℕ, ◌≤◌, Bool, true, false, Option, Some, None, List, [], ◌++◌, ◌∷◌, length, take, refl, sym, ap, ◌∙◌, subst, arith, append-nil, inl, inr}
+use Rattle.std.proofs.Common.{◌≡◌, ℕ, ◌≤◌, Bool, true, false, None, List, [], ◌++◌, length, take, refl, sym, ap, ◌∙◌, subst, arith, append-nil, inl, inr}
 use Rattle.std.proofs.lemmas.List.{take_all}
 use Rattle.zone_octets.specs.Record.{Record}
 use Rattle.zone_core.specs.Query.{AxfrQuery}
 use Rattle.zone_core.specs.Transfer.{IsTransfer}
 use Rattle.zone_receive.specs.Receiving.{Heard, IsHeard, IsNoZone, IsStreamFault, Refuses, Stage, StandsAt, StandsIn, Takes, refusal_in}
-use Rattle.zone_receive.specs.Receiving.Stage.{Begun, Ended, Fresh, Refused}
+use Rattle.zone_receive.specs.Receiving.Stage.{Begun, Ended, Refused}
 use Rattle.zone_receive.specs.Intake.{EndsTransfer, GoesOn, IsEnded, IsWaiting, heard_by, stage_where}
 use Rattle.zone_receive.specs.Received.{heard_in, stage_in}
 use Rattle.zone_receive.specs.declared.error.ReceiveError.{ReceiveError}
@@ -189,8 +189,3 @@ no_zone heard at intake query view is =
     → IsNoZone (heard_in at intake query) stream receive_error.Unfinished in
     let Q : Heard → Type 0 = λ heard. (stream : List ℕ) → StandsAt heard stream → IsNoZone heard stream receive_error.Unfinished in
     subst Q view (subst P (sym is) (λ stream stands. no_zone_yet intake query stream stands))
-
-pub refused_stage : (heard : Heard) (at : Progress) (intake : Intake) (query : AxfrQuery) (error : ReceiveError) → heard_in at intake query ≡ heard
-    → at ≡ progress.Refused error → heard.stage ≡ Refused error
-refused_stage heard at intake query error view is =
-    ap (λ (h : Heard). h.stage) (sym view) ∙ ap (λ (p : Progress). stage_in p intake.is_first) is

@@ -1,5 +1,5 @@
 -- Which entries keep the rules if more entries follow them.
-use Rattle.std.proofs.Common.{◌≡◌, ℕ, List, [], ◌∷◌, ◌++◌, Option, append-nil, refl, sym, ◌∙◌, ap, subst}
+use Rattle.std.proofs.Common.{◌≡◌, ℕ, List, [], ◌∷◌, ◌++◌, append-nil, refl, sym, ◌∙◌, ap, subst}
 use Rattle.std.specs.List.{AllByRecursion, push}
 use Rattle.dns_header.specs.Record.{RecordOf}
 use Rattle.dns_rdata.specs.Data.{Data}
@@ -8,7 +8,7 @@ use Rattle.dns_zonefile.specs.Entry.{Entry}
 use Rattle.dns_zonefile.specs.Entry.Entry.{Directive, Include, Resource}
 use Rattle.dns_zonefile.specs.Reader.{AreDirectives}
 use Rattle.zone_octets.specs.Record.{Record}
-use Rattle.zone_octets.specs.Zone.{IsBehindSoa, IsZone, IsZoneFront}
+use Rattle.zone_octets.specs.Zone.{IsBehindSoa, IsZoneFront}
 use Rattle.zone_octets.proofs.Each.{all_append, all_fronts}
 use Rattle.zone_rules.specs.ZoneText.{IsWellTyped, KeepRules, MayFollow, NamesNoFile, records_in}
 
@@ -22,13 +22,6 @@ records_append (Directive ∷ entries) more = records_append entries more
 pub records_push : (entries : List Entry) (rr : RecordOf (List (List ℕ)) Data)
     → records_in (push entries (Resource rr)) ≡ push (records_in entries) (record_of rr)
 records_push entries rr = records_append entries (Resource rr ∷ [])
-
-pub records_push_include : (entries : List Entry) (path : List ℕ) (origin : Option (List (List ℕ)))
-    → records_in (push entries (Include path origin)) ≡ records_in entries
-records_push_include entries path origin = records_append entries (Include path origin ∷ []) ∙ append-nil (records_in entries)
-
-pub records_push_directive : (entries : List Entry) → records_in (push entries Directive) ≡ records_in entries
-records_push_directive entries = records_append entries (Directive ∷ []) ∙ append-nil (records_in entries)
 
 no_records : (directives : List Entry) → AreDirectives directives → records_in directives ≡ []
 no_records [] are = refl
@@ -48,10 +41,6 @@ no_files (entry ∷ directives) are = (subst NamesNoFile (sym are.0) tt, no_file
 pub zone_front : (front more : List Record) → IsZoneFront (front ++ more) → IsZoneFront front
 zone_front [] more zone = tt
 zone_front (soa ∷ others) more zone = (zone.0, (all_fronts (IsBehindSoa soa) others more zone.1).0)
-
-pub front_of_zone : (records : List Record) → IsZone records → IsZoneFront records
-front_of_zone [] zone = tt
-front_of_zone (soa ∷ others) zone = zone
 
 -- no entries, and more after those that keep the rules
 pub keeps_none : KeepRules []

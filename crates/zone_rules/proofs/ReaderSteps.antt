@@ -7,7 +7,6 @@ use Rattle.dns_rdata.specs.Data.{Data}
 use Rattle.dns_rdata.specs.DataOctets.{IsSpellable}
 use Rattle.dns_rdata.specs.Fields.{IsData}
 use Rattle.dns_message.specs.Held.{record_of}
-use Rattle.dns_message.specs.Record.{record_octets}
 use Rattle.dns_row_scanner.specs.EntryError.{is_memory}
 use Rattle.dns_row_scanner.specs.declared.entry_error.EntryError.{EntryError}
 use Rattle.dns_zonefile.specs.Composed.{HandsOn, included}
@@ -27,7 +26,7 @@ use Rattle.zone_octets.specs.Record.{Record}
 use Rattle.zone_octets.specs.Zone.{IsUnder, IsZone, any_class, soa_type}
 use Rattle.zone_rules.specs.ZoneText.{IsWellTyped, IsZoneFault, IsZoneText, KeepRules, MayFollow, Reaches, ReachesRecord, records_in, start_of}
 use Rattle.zone_rules.specs.declared.zone_error.ZoneError.TheVariants as zone_error
-use Rattle.zone_rules.proofs.KeptRules.{keeps_directives, keeps_none, keeps_record, records_behind, records_push}
+use Rattle.zone_rules.proofs.KeptRules.{keeps_directives, keeps_record, records_behind, records_push}
 
 -- a reader at the start of a text
 abbrev pub reader_at : Context → List ℕ → Reader
@@ -89,16 +88,6 @@ pub record HasKept (given : List ℕ) (origin : Option (List (List ℕ))) (class
   pub keep : KeepRules entries
   pub are : records ≡ records_in entries
 
-pub kept_at_start : (given : List ℕ) (origin : Option (List (List ℕ))) (class : ℕ) → class ≢ any_class
-    → HasKept given origin class [] (reader_at (start_of origin class) given)
-kept_at_start given origin class known = record {
-  class_known = known;
-  entries = [];
-  read = nothing_read (start_of origin class) given;
-  keep = keeps_none;
-  are = refl;
-}
-
 -- the text ends after them
 pub zone_text : {given : List ℕ} {origin : Option (List (List ℕ))} {class : ℕ} {records : List Record} {reader new : Reader}
     → HasKept given origin class records reader → Gives reader (Ok None) new → IsZone records → IsZoneText given origin class records
@@ -110,18 +99,6 @@ zone_text kept gives zone =
       keep = keeps_directives all.0 kept.keep all.1;
       are = kept.are ∙ sym (records_behind kept.entries all.0 all.1);
       zone = zone;
-    }
-
-pub no_soa_fault : {given : List ℕ} {origin : Option (List (List ℕ))} {class : ℕ} {records : List Record} {reader new : Reader}
-    → HasKept given origin class records reader → Gives reader (Ok None) new → records ≡ []
-    → IsZoneFault given origin class zone_error.NoSoa
-no_soa_fault kept gives empty =
-    let all = ended_behind kept.read gives in record {
-      class_known = kept.class_known;
-      entries = kept.entries ++ all.0;
-      has = all.2;
-      keep = keeps_directives all.0 kept.keep all.1;
-      none = records_behind kept.entries all.0 all.1 ∙ sym kept.are ∙ empty;
     }
 
 -- the text fails after them
@@ -234,9 +211,6 @@ handed_include : {old octets : List ℕ} {found : Result (Option Entry) EntryErr
     → HandsOn old found (Ok (Some (composed.Include file))) octets → found ≡ Ok (Some (included (box_value file)))
 handed_include HandsOn.include = refl
 
-handed_end : {old octets : List ℕ} {found : Result (Option Entry) EntryError} → HandsOn old found (Ok None) octets → found ≡ Ok None
-handed_end HandsOn.ended = refl
-
 handed_error : {old octets : List ℕ} {found : Result (Option Entry) EntryError} {error : EntryError}
     → HandsOn old found (Err error) octets → found ≡ Err error
 handed_error HandsOn.refused = refl
@@ -248,9 +222,6 @@ pub include_handed : {given : List ℕ} {origin : Option (List (List ℕ))} {cla
 include_handed {reader = reader} {new = new} kept hands number =
     include_fault (meets kept
     (subst (λ (f : Result (Option Entry) EntryError). Gives reader f new) (handed_include hands.2) hands.1) number)
-
-pub gives_end : {reader new : Reader} {old octets : List ℕ} → HandsOver reader old (Ok None) new octets → Gives reader (Ok None) new
-gives_end {reader} {new} hands = subst (λ (f : Result (Option Entry) EntryError). Gives reader f new) (handed_end hands.2) hands.1
 
 pub gives_error : {reader new : Reader} {old octets : List ℕ} {error : EntryError} → HandsOver reader old (Err error) new octets
     → Gives reader (Err error) new

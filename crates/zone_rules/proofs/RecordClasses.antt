@@ -8,11 +8,8 @@ use Rattle.dns_zonefile.specs.Entries.{AreEntries}
 use Rattle.dns_zonefile.specs.Entry.{Context, Enters, Entry}
 use Rattle.dns_zonefile.specs.Entry.Entry.{Directive, Include, Resource}
 use Rattle.dns_zonefile.specs.Statement.{Statement}
-use Rattle.dns_zonefile.specs.Reader.{Reader}
 use Rattle.zone_octets.specs.Record.{Record}
-use Rattle.zone_octets.proofs.Each.{all_fronts}
 use Rattle.zone_rules.specs.ZoneText.{IsZoneText, records_in}
-use Rattle.zone_rules.proofs.ReaderSteps.{MeetsRecord}
 
 abbrev HasClass : ℕ → Entry → Type 0
 HasClass class (Resource rr) = rr.class ≡ class
@@ -48,10 +45,3 @@ pub zone_text_class : {given : List ℕ} {origin : Option (List (List ℕ))} {cl
 zone_text_class {class = class} zone =
     subst (λ (l : List Record). AllByRecursion (λ (r : Record). r.class ≡ class) l) (sym zone.are)
     (classes_in class zone.entries (each_class class refl zone.has.are))
-
-pub met_class : {given : List ℕ} {origin : Option (List (List ℕ))} {class n : ℕ} {records : List Record} {r : Record} {new : Reader}
-    → MeetsRecord given origin class n records r new → r.class ≡ class
-met_class {class = class} is =
-    let before = is.meets.before in
-    ap (λ (s : Record). s.class) is.is
-    ∙ (all_fronts (HasClass class) before (Resource is.rr ∷ []) (each_class class refl is.meets.reaches.are)).1.0

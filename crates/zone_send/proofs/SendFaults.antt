@@ -8,15 +8,9 @@ use Rattle.zone_core.specs.Query.{AxfrQuery, IsQuery}
 use Rattle.std.specs.List.{AllByRecursion}
 use Rattle.zone_octets.specs.Records.{AreRecordsOf, IsRecordOf}
 use Rattle.zone_octets.specs.Typed.{HasLawfulData}
-use Rattle.zone_core.specs.Cutting.{IsBlocked}
-use Rattle.zone_send.specs.Sent.{size, with_soa_again, IsQueryFor, AsksFor, IsSent}
-use Rattle.zone_send.specs.SentBy.{IsBlockedBy, IsSendFault, IsRefusedFor}
-use Rattle.zone_send.specs.Sending.{IsRefusedBy}
-use Rattle.zone_send.specs.SpelledSent.{IsSpelledBlocked}
-use Rattle.zone_send.specs.SpelledSending.{IsRefusedSpelled}
+use Rattle.zone_send.specs.Sent.{IsQueryFor, AsksFor}
+use Rattle.zone_send.specs.SentBy.{IsSendFault, IsRefusedFor}
 use Rattle.zone_send.specs.declared.sending.Spelling.{Spelling}
-use Rattle.zone_send.specs.declared.sending.Spelling.TheVariants.{Plain}
-use Rattle.dns_name.specs.Spelling.{Spelling as Spells}
 use Rattle.zone_text.specs.View.{apex_of}
 
 fault_of : (spelling : Spelling) (query : AxfrQuery) (class : ℕ) (records : List Record) (octets : List ℕ) (max : ℕ) (error : SendError)
@@ -33,29 +27,6 @@ pub fault_for : (spelling : Spelling) (query : AxfrQuery) (class : ℕ) (held re
 fault_for spelling query class held records octets max error is asks are refused =
     let P : List Record → Type 0 = λ rs. IsRefusedFor spelling rs query max error in
     fault_of spelling query class records octets max error is asks (subst P are refused)
-
--- with every name written out
-pub plain_refused : (query : AxfrQuery) (records : List Record) (within max : ℕ) (error : SendError) → within ≡ max
-    → IsRefusedBy query within records error → IsRefusedFor Plain records query max error
-plain_refused query records within max (send_error.Query fault) same refused = absurd refused
-plain_refused query records within max send_error.WrongZone same refused = absurd refused
-plain_refused query records within max (send_error.Record n) same refused =
-    let P : ℕ → Type 0 = λ m. IsBlocked (size query) m (with_soa_again records) n in subst P same refused
-plain_refused query records within max send_error.OutOfMemory same refused = tt
-
-pub plain_sent : (query : AxfrQuery) (records : List Record) (within max : ℕ) (stream : List ℕ) → within ≡ max
-    → IsSent records query within stream → IsSent records query max stream
-plain_sent query records within max stream same sent =
-    let P : ℕ → Type 0 = λ m. IsSent records query m stream in subst P same sent
-
--- with names by a spelling
-pub spelled_refused : (spelling : Spelling) (s : Spells) (query : AxfrQuery) (records : List Record) (max : ℕ) (error : SendError)
-    → ((n : ℕ) → IsSpelledBlocked s records query max n → IsBlockedBy spelling records query max n)
-    → IsRefusedSpelled s records query max error → IsRefusedFor spelling records query max error
-spelled_refused spelling s query records max (send_error.Query fault) same refused = absurd refused
-spelled_refused spelling s query records max send_error.WrongZone same refused = absurd refused
-spelled_refused spelling s query records max (send_error.Record n) same refused = same n refused
-spelled_refused spelling s query records max send_error.OutOfMemory same refused = tt
 
 -- the data of a zone's records is that of their types
 pub all_lawful : (class : ℕ) (records : List Record) → AllByRecursion (IsRecordOf class) records → AllByRecursion HasLawfulData records

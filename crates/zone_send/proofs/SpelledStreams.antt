@@ -8,7 +8,7 @@ use Rattle.dns_name.specs.Spelling.{Spelling}
 use Rattle.dns_name.specs.Page.{Parts}
 use Rattle.dns_builder.specs.Built.{Draft}
 use Rattle.zone_octets.specs.Record.{Record}
-use Rattle.zone_octets.proofs.Indexed.{take-next, slice_get-front}
+use Rattle.zone_octets.proofs.Indexed.{take-next}
 use Rattle.zone_core.specs.Query.{AxfrQuery}
 use Rattle.zone_core.specs.Frames.{frame, frames}
 use Rattle.zone_core.specs.Cutting.{IsFullCut, FitsNotBehind, IsBlocked}
@@ -16,7 +16,7 @@ use Rattle.zone_send.specs.Sent.{with_soa_again}
 use Rattle.zone_send.specs.Spelled.{spelled_size}
 use Rattle.zone_send.specs.SpelledSent.{spelled_message}
 use Rattle.zone_send.specs.SpelledSending.{HoldsGroup, IsPushed, HoldsUpTo, IsNextFrame, HasNoRoomAlone, SendsUpTo}
-use Rattle.zone_core.proofs.Greedy.{blocked_at, full_cut_of_none, full_cut_closes, not_behind_last}
+use Rattle.zone_core.proofs.Greedy.{blocked_at, full_cut_closes, not_behind_last}
 use Rattle.zone_send.proofs.SpelledPages.{page_is, size_more}
 
 -- the first record of a message
@@ -114,24 +114,11 @@ frames-push message front x =
     ∙ sym (flat_map-append frame (map message front) (message x ∷ []))
     ∙ ap frames (sym (map-append message front (x ∷ [])))
 
-any_behind : {X : Type 0} (size : List X → ℕ) (max : ℕ) (all : List X) → IfSome (slice_get all 0) (FitsNotBehind size max [])
-any_behind size max [] = tt
-any_behind size max (x ∷ xs) = tt
-
 behind_last : {X : Type 0} (size : List X → ℕ) (max : ℕ) (groups : List (List X)) (group all : List X) (next : ℕ)
     → IfSome (slice_get all next) (λ x. max < size (push group x)) → IfSome (slice_get all next) (FitsNotBehind size max (push groups group))
 behind_last size max groups group [] next full = tt
 behind_last size max groups group (x ∷ xs) zero full = not_behind_last size max groups group x full
 behind_last size max groups group (x ∷ xs) (suc next) full = behind_last size max groups group xs next full
-
-pub sends_none : {s : Spelling} {query : AxfrQuery} {item : Record → Parts} {max : ℕ} (all : List Record) (stream : List ℕ) → stream ≡ []
-    → SendsUpTo s query item max all 0 stream
-sends_none {s} {query} {item} {max} all stream empty = record {
-  groups = [];
-  cut = full_cut_of_none (spelled_size s query item) max;
-  behind = any_behind (spelled_size s query item) max all;
-  framed = empty;
-}
 
 pub sends_next : {s : Spelling} {query : AxfrQuery} {item : Record → Parts} {max start next : ℕ} {all : List Record} {stream octets new : List ℕ}
     → SendsUpTo s query item max all start stream → IsNextFrame s query item max all start next octets → new ≡ stream ++ octets
@@ -162,20 +149,6 @@ pub cut_of_all : {s : Spelling} {query : AxfrQuery} {item : Record → Parts} {m
     → (sends : SendsUpTo s query item max all next stream) → length all ≤ next → IsFullCut (spelled_size s query item) max all sends.groups
 cut_of_all {s} {query} {item} {max} {next} {all} sends past =
     let P : List Record → Type 0 = λ rs. IsFullCut (spelled_size s query item) max rs sends.groups in subst P (take_all next all past) sends.cut
-
--- the records that are sent
-pub length-again : (records : List Record) → 0 < length records → length (with_soa_again records) ≡ length records + 1
-length-again [] some = absurd (omega arith)
-length-again (soa ∷ others) some = omega (arith, length-append others (soa ∷ []))
-
-pub none_sent : (records : List Record) → length records ≡ 0 → length (with_soa_again records) ≡ 0
-none_sent [] none = refl
-none_sent (soa ∷ others) none = absurd (omega arith)
-
--- one of the zone's
-pub again_front : (records : List Record) (i : ℕ) (r : Record) → slice_get records i ≡ Some r → slice_get (with_soa_again records) i ≡ Some r
-again_front [] i r there = absurd cc
-again_front (soa ∷ others) i r there = slice_get-front (soa ∷ others) (soa ∷ []) i r there
 
 behind_all : {X : Type 0} (xs : List X) (x : X) (i : ℕ) → i ≡ length xs → slice_get (xs ++ x ∷ []) i ≡ Some x
 behind_all [] x zero is = refl

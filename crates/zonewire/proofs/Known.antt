@@ -4,11 +4,6 @@ use Rattle.std.proofs.lemmas.List.{take_rest}
 use Rattle.std.specs.Io.KnownBytes.{Appends, Consumes, IsAtEnd}
 use Rattle.zonewire.specs.Stream.{WereLeft}
 
--- nothing was appended
-pub appends_nothing : (known : Option (List ℕ)) → Appends known known []
-appends_nothing None = tt
-appends_nothing (Some xs) = sym (append-nil xs)
-
 -- one piece was appended, and then another
 pub appends_both : (first second third : Option (List ℕ)) (a b : List ℕ) → Appends first second a → Appends second third b → Appends first third (a ++ b)
 appends_both None second third a b p q = tt
