@@ -1,4 +1,4 @@
--- What a stream and a refusal say of a zone and a query.
+-- What a stream, and what a fault, says of a zone and a query.
 use Rattle.std.proofs.Common.{◌≡◌, ℕ, ◌<◌, ◌^◌, List, [], ◌∷◌, get_or, subst, arith}
 use Rattle.dns_header.specs.Header.{id_of}
 use Rattle.zone_octets.specs.Record.{Record}
@@ -57,12 +57,12 @@ spelled_refused spelling s query records max send_error.WrongZone same refused =
 spelled_refused spelling s query records max (send_error.Record n) same refused = same n refused
 spelled_refused spelling s query records max send_error.OutOfMemory same refused = tt
 
--- the data of a zone's records is that of their types
+-- the data of a zone's records is lawful for their types
 pub all_lawful : (class : ℕ) (records : List Record) → AllByRecursion (IsRecordOf class) records → AllByRecursion HasLawfulData records
 all_lawful class [] each = tt
 all_lawful class (r ∷ records) each = (each.0.data_is, all_lawful class records each.1)
 
--- the class of a zone is one that a message can say
+-- the class of a zone fits in two octets
 class_small : (class : ℕ) (records : List Record) → AreRecordsOf class records → class < 2 ^ 16
 class_small class [] are = absurd are.zone
 class_small class (soa ∷ others) are =
@@ -78,7 +78,7 @@ query_for query class records octets is small asks are = record {
   asks = asks;
 }
 
--- an id is what two octets say
+-- an ID fits in two octets
 pub id_small : (octets : List ℕ) → ((i : ℕ) → get_or octets i 0 < 256) → id_of octets < 2 ^ 16
 id_small [] each = omega arith
 id_small (a ∷ []) each = let high : a < 256 = each 0 in omega arith
