@@ -1,11 +1,11 @@
-//! Answers to a query, begun (RFC 1035 4.1.1).
+//! The start of answers to a query (RFC 1035 4.1.1).
 use dns_builder::MessageBuilder;
 use dns_name::Rcode;
 use dns_sections::Message;
 use rows::{Answer, Row, RowError};
 use std::alloc::Global;
 
-/// Begins an answer. Writes its octets, or why a question is refused.
+/// Starts an answer. Writes its octets, or why a question does not fit.
 pub fn start_answer(alloc: Global, row: &mut Row<'_>, out: &mut Answer) -> Result<(), RowError> {
     let builder = builder_of(alloc, row)?;
     let query = query_of(alloc, row)?;
@@ -15,7 +15,7 @@ pub fn start_answer(alloc: Global, row: &mut Row<'_>, out: &mut Answer) -> Resul
     }
 }
 
-/// Begins an answer, which may be a failure. Writes its octets.
+/// Starts an answer that may be an error. Writes its octets.
 pub fn start_error(alloc: Global, row: &mut Row<'_>, out: &mut Answer) -> Result<(), RowError> {
     let builder = builder_of(alloc, row)?;
     let query = query_of(alloc, row)?;
@@ -26,7 +26,7 @@ pub fn start_error(alloc: Global, row: &mut Row<'_>, out: &mut Answer) -> Result
     )
 }
 
-/// A builder over a vector, with a push limit.
+/// Returns a builder over a vector, with a push limit.
 fn builder_of(alloc: Global, row: &mut Row<'_>) -> Result<MessageBuilder<Vec<u8>>, RowError> {
     let Ok(mut builder) = MessageBuilder::new_vec(alloc) else {
         return Err(RowError::OutOfMemory);
@@ -35,7 +35,7 @@ fn builder_of(alloc: Global, row: &mut Row<'_>) -> Result<MessageBuilder<Vec<u8>
     Ok(builder)
 }
 
-/// The query of these octets.
+/// Returns the query of these octets.
 fn query_of(alloc: Global, row: &mut Row<'_>) -> Result<Message<Vec<u8>>, RowError> {
     match Message::from_octets(row.octets(alloc)?) {
         Ok(message) => Ok(message),

@@ -9,7 +9,7 @@ use dns_name::{Composer, Rtype};
 use rows::{Answer, Row, RowError};
 use std::alloc::Global;
 
-/// Builds a message over a stream target, plain or under a compressor, and writes its octets.
+/// Builds a message over a stream target, plain or with a compressor, and writes its octets.
 pub fn build(alloc: Global, row: &mut Row<'_>, out: &mut Answer) -> Result<(), RowError> {
     let Ok(stream) = StreamTarget::new_vec(alloc) else {
         return Err(RowError::OutOfMemory);

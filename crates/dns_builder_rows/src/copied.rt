@@ -6,8 +6,8 @@ use dns_sections::Message;
 use rows::{Answer, Row, RowError};
 use std::alloc::Global;
 
-/// Copies the CNAME records of a message into the sections of a builder over a vector, with a push limit. Writes the octets, or why
-/// a push is refused.
+/// Copies the CNAME records of a message into the sections of a builder over a vector, with a push limit. Writes the
+/// octets, or why a push fails.
 pub fn copy_cnames(alloc: Global, row: &mut Row<'_>, out: &mut Answer) -> Result<(), RowError> {
     let builder = answer_builder(alloc, row)?;
     let octets = row.octets(alloc)?;
@@ -28,7 +28,7 @@ pub fn copy_cnames(alloc: Global, row: &mut Row<'_>, out: &mut Answer) -> Result
     }
 }
 
-/// A builder over a vector in the answer section, with a push limit.
+/// Returns a builder over a vector in the answer section, with a push limit.
 fn answer_builder(alloc: Global, row: &mut Row<'_>) -> Result<AnswerBuilder<Vec<u8>>, RowError> {
     let Ok(mut builder) = MessageBuilder::new_vec(alloc) else {
         return Err(RowError::OutOfMemory);

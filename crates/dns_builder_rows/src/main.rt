@@ -1,6 +1,6 @@
-//! Rows of the calls of `dns_builder` and `dns_compress`: what messages they build, and which pushes they refuse.
+//! Answers rows of the calls of `dns_builder` and `dns_compress`: which messages they build, and which pushes fail.
 //!
-//! A row lists steps. A refusal is written where its step stands, and the octets are written last.
+//! A row lists steps. The error of a step is written in its order, and the octets are written last.
 #![tactic(auto)]
 
 mod answers;

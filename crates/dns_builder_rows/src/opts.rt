@@ -1,4 +1,4 @@
-//! OPT records as a row has them (RFC 6891 6.1).
+//! OPT records as given in a row (RFC 6891 6.1).
 ghost use Rattle.dns_builder.specs.OptSeen.{LeavesMessage};
 
 use dns_builder::{MessageBuilder, OptBuilder};
@@ -9,7 +9,7 @@ use dns_name::{
 use rows::{Answer, Row, RowError};
 use std::alloc::Global;
 
-/// What is done to an OPT record.
+/// The fields of an OPT record, its option, and what happens after the option is pushed.
 #[derive(Drop)]
 pub struct OptRow {
     udp_payload_size: u16,
@@ -22,20 +22,20 @@ pub struct OptRow {
     behind: Behind,
 }
 
-/// What comes of the option.
+/// What happens after the option is pushed.
 #[derive(Drop)]
 enum Behind {
-    /// Its refusal is told.
+    /// The result of the push is returned.
     Told,
-    /// The answer is Ok even if it is refused.
+    /// `Ok` is returned, even if the push fails.
     Dropped,
-    /// It is replaced, and the fields too, with those of this record.
+    /// The option and the fields are replaced with those of this record.
     Replaced(OptRecord<Vec<u8>>),
 }
 
 impl Behind {
-    /// Reads whether the option's refusal is told, or dropped, or by which record all is replaced: its payload size, its TTL and the
-    /// octets of its options.
+    /// Reads whether the result of the push is returned or dropped, or which record replaces the option and the fields:
+    /// its payload size, its TTL and the octets of its options.
     fn read(alloc: Global, row: &mut Row<'_>) -> Result<Self, RowError> {
         match row.word()? {
             "told" => Ok(Behind::Told),
@@ -57,8 +57,8 @@ fn record_of(alloc: Global, row: &mut Row<'_>) -> Result<OptRecord<Vec<u8>>, Row
 }
 
 impl OptRow {
-    /// Reads the payload size, the response code, the version and DO, the code, the length and the octets of an option, and what comes
-    /// of it.
+    /// Reads the payload size, the response code, the version and DO; the code, the length and the octets of an option;
+    /// and what happens after the option is pushed.
     pub fn read(alloc: Global, row: &mut Row<'_>) -> Result<Self, RowError> {
         Ok(OptRow {
             udp_payload_size: row.value()?,
@@ -72,7 +72,7 @@ impl OptRow {
         })
     }
 
-    /// Sets the fields and pushes the option, and replaces both if the row says so.
+    /// Sets the fields and pushes the option. Replaces both if the row says so.
     pub fn apply<Target: Composer>(&self, opt: &mut OptBuilder<Target>) -> Result<(), AppendError>
         ensures { LeavesMessage Target.list Target.known Target.bound Target.stays opt.old opt.new }
     {
@@ -91,8 +91,9 @@ impl OptRow {
     }
 }
 
-/// Pushes so many records of the root without data into a message over a vector, and then an OPT record. Writes the refusal, and then
-/// how many additional records the message has, its response code, and how many octets.
+/// Pushes records of the root without data into a message over a vector, as many as the row says, and then an OPT
+/// record. Writes the error if the last push fails, and then the message's number of additional records, its response
+/// code, and its number of octets.
 pub fn opt_behind(alloc: Global, row: &mut Row<'_>, out: &mut Answer) -> Result<(), RowError> {
     let Ok(builder) = MessageBuilder::new_vec(alloc) else {
         return Err(RowError::OutOfMemory);

@@ -1,13 +1,13 @@
-//! Owners of a zone in order, as a transfer writes them (RFC 5936 2.2).
+//! The owners of a zone in order, as in the messages of a transfer (RFC 5936 2.2).
 use dns_compress::{HashCompressor, StaticCompressor, TreeCompressor};
 use dns_name::{Composer, Name};
 use rows::{Answer, Row, RowError};
 use std::alloc::Global;
 
-/// A message that has more octets than this takes no further owner.
+/// A message with more octets than this gets no further owner.
 const LONG: usize = 16_000;
 
-/// Appends so many owners to a vector, plain or under a compressor.
+/// Appends owners to a vector, plain or with a compressor.
 pub fn append_owners(alloc: Global, row: &mut Row<'_>, out: &mut Answer) -> Result<(), RowError> {
     let vec: Vec<u8> = Vec::new(alloc);
     match row.word()? {
@@ -19,7 +19,8 @@ pub fn append_owners(alloc: Global, row: &mut Row<'_>, out: &mut Answer) -> Resu
     }
 }
 
-/// Appends so many owners, and begins a new message behind each long one. Writes how many octets all messages have.
+/// Appends as many owners as the row says, and begins a new message after each long one. Writes the number of octets of
+/// all messages.
 fn append_and_count<Target: Composer + Drop>(
     mut target: Target,
     row: &mut Row<'_>,

@@ -1,4 +1,4 @@
-//! Questions that are pushed up to a refusal (RFC 1035 4.1.2).
+//! Questions that are pushed until a push fails (RFC 1035 4.1.2).
 use arrayvec::ArrayVec;
 use dns_builder::{MessageBuilder, QuestionBuilder};
 use dns_name::{AppendError, Composer, Name, Rtype};
@@ -16,8 +16,8 @@ pub fn over_vec(alloc: Global, row: &mut Row<'_>, out: &mut Answer) -> Result<()
     push_questions(MessageBuilder::new_vec(alloc), row, out)
 }
 
-/// Takes the steps that are left: `limit` and a push limit, or how many questions to push. Writes how many questions the message has
-/// then, and how many octets.
+/// Takes the steps that are left: `limit` and a push limit, or `push` and a number of questions. Then writes the number
+/// of questions in the message, and its number of octets.
 fn push_questions<Target: Composer + Drop>(
     builder: Result<MessageBuilder<Target>, AppendError>,
     row: &mut Row<'_>,
@@ -41,7 +41,7 @@ fn push_questions<Target: Composer + Drop>(
     out.shown(&builder.as_slice().len())
 }
 
-/// Pushes so many questions for an address of the root, up to the first that is refused. Writes that refusal.
+/// Pushes `count` questions for an address of the root, up to the first push that fails. Writes its error.
 fn push_roots<Target: Composer>(
     builder: &mut QuestionBuilder<Target>,
     count: u32,

@@ -1,17 +1,17 @@
-//! Random steps over a compressor: names and octets that are appended, some of them refused, and truncations.
+//! Random steps over a compressor: names and octets that are appended if they fit, and truncations.
 //!
-//! A fixed generator draws the steps. A checksum takes in, after each step, the octets of the target and how some names
-//! would be spelled behind them. `tools/compressor_rows.py` works out the same from the rules of the spellings alone.
+//! A fixed generator draws the steps. After each step a checksum takes in the octets of the target, and how some names
+//! would be spelled after them. `tools/compressor_rows.py` computes the same from the rules of the spellings alone.
 use arrayvec::ArrayVec;
 use dns_compress::{HashCompressor, StaticCompressor, TreeCompressor};
 use dns_name::{AppendError, Composer, Name};
 use rows::{Answer, Row, RowError};
 use std::alloc::Global;
 
-/// How many names are tried after each step.
+/// The number of names that are tried after each step.
 const PROBES: usize = 8;
 
-/// How many steps are taken between two checksums that are written.
+/// The number of steps between two checksums that are written.
 const STEPS_AT_ONCE: u32 = 250;
 
 /// Takes random steps over a target of at most 256 octets.
@@ -36,8 +36,8 @@ pub fn over_vec(alloc: Global, row: &mut Row<'_>, out: &mut Answer) -> Result<()
     }
 }
 
-/// Appends octets that no step touches, and takes steps behind them. Writes how many octets there are and the checksum,
-/// after every 250 steps.
+/// Appends octets that no step changes, and takes steps after them. Writes the number of octets and the checksum after
+/// every 250 steps.
 fn take_steps<Target: Composer + Drop>(
     alloc: Global,
     mut target: Target,
@@ -68,18 +68,18 @@ fn take_steps<Target: Composer + Drop>(
     Ok(())
 }
 
-/// What the steps are taken over, and what they came to.
+/// The target of the steps, and what they have given so far.
 #[derive(Drop)]
 struct Steps<Target: Composer> {
     target: Target,
-    /// How many octets no step touches.
+    /// The number of octets at the front that no step changes.
     front: usize,
     draws: Draws,
     sum: Checksum,
 }
 
 impl<Target: Composer> Steps<Target> {
-    /// Takes a step, and takes in what it came to.
+    /// Takes a step, and adds its result to the checksum.
     fn take(&mut self, alloc: Global) -> Result<(), RowError> {
         let appended = match self.draws.below(32) {
             0 => self.truncate(),
@@ -114,7 +114,7 @@ impl<Target: Composer> Steps<Target> {
         }
     }
 
-    /// Appends a name, takes in how it is spelled, and takes it off again.
+    /// Appends a name, adds its octets to the checksum, and removes them again.
     fn probe(&mut self, alloc: Global) -> Result<(), RowError> {
         let len = self.target.octets().len();
         let name = self.draws.name(alloc)?;
@@ -159,7 +159,7 @@ impl Draws {
         }
     }
 
-    /// Draws a label, with its length in front.
+    /// Draws a label, after its length.
     fn label(&mut self) -> &'static [u8] {
         match self.below(8) {
             0 => b"\x01a",
@@ -181,7 +181,7 @@ struct Checksum {
 }
 
 impl Checksum {
-    /// Takes in the octets.
+    /// Adds the octets to the checksum.
     fn take(&mut self, octets: &[u8]) {
         for octet in octets {
             self.value = (self.value ^ u32::from(*octet)).wrapping_mul(16_777_619);

@@ -1,4 +1,4 @@
-//! Names and records as a row has them (RFC 1035 5.1).
+//! Names and records as given in a row (RFC 1035 5.1).
 use dns_header::Record;
 use dns_name::{Name, Ttl, UnknownRecordData};
 use dns_rdata::ZoneRecordData;
@@ -8,7 +8,7 @@ use std::alloc::Global;
 
 type OwnedName = Name<Vec<u8>>;
 
-/// The name of a text.
+/// Returns the name of a text.
 pub fn name_of(alloc: Global, row: &mut Row<'_>) -> Result<OwnedName, RowError> {
     match Name::vec_from_str(alloc, row.word()?) {
         Ok(name) => Ok(name),
@@ -16,7 +16,8 @@ pub fn name_of(alloc: Global, row: &mut Row<'_>) -> Result<OwnedName, RowError> 
     }
 }
 
-/// The record of an owner, a TTL, a class, a type, and the words of its data up to `|` or the end.
+/// Returns the record of an owner, a TTL, a class, a type, and the words of its data up to `|` or
+/// the end.
 pub fn record_of(
     alloc: Global,
     row: &mut Row<'_>,
@@ -33,7 +34,7 @@ pub fn record_of(
     }
 }
 
-/// The words up to `|` or the end, each with a line feed behind it.
+/// Returns the words up to `|` or the end, with a line feed after each.
 fn words_of(alloc: Global, row: &mut Row<'_>) -> Result<String, RowError> {
     let mut words = String::new(alloc);
     for _ in 0..u32::MAX {
@@ -50,7 +51,7 @@ fn words_of(alloc: Global, row: &mut Row<'_>) -> Result<String, RowError> {
     Ok(words)
 }
 
-/// The record of an owner, a TTL, a class, a type, and the octets of its data.
+/// Returns the record of an owner, a TTL, a class, a type, and the octets of its data.
 pub fn record_of_octets(
     alloc: Global,
     row: &mut Row<'_>,

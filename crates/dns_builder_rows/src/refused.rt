@@ -1,4 +1,4 @@
-//! Records for which a message has too little room, by one octet more at a time.
+//! Records that a message has too little room for, with one more octet of room each time.
 use crate::opts::OptRow;
 use crate::records::record_of;
 use arrayvec::ArrayVec;
@@ -16,8 +16,8 @@ type Room = ArrayVec<u8, 64>;
 
 type OwnedRecord = Record<Name<Vec<u8>>, ZoneRecordData<Vec<u8>, Name<Vec<u8>>>>;
 
-/// Pushes a record into messages with room for none of its octets, for one, and so on, up to the first that takes it. Writes how many
-/// refused it. Each of them has to be as it was before.
+/// Pushes a record into messages with room for none of its octets, for one, and so on, up to the first push that
+/// succeeds. Writes the number of pushes that failed. Each of them must leave the message as it was.
 pub fn refused_in_turn(alloc: Global, row: &mut Row<'_>, out: &mut Answer) -> Result<(), RowError> {
     let kind = row.word()?;
     let record = record_of(alloc, row)?;
@@ -46,7 +46,7 @@ pub fn refused_in_turn(alloc: Global, row: &mut Row<'_>, out: &mut Answer) -> Re
     Err(RowError::BadWord)
 }
 
-/// Returns whether a message with so much room refuses a record.
+/// Returns whether the push of a record fails in a message with this much room.
 fn refuses<Target: Composer + Drop>(
     alloc: Global,
     target: Target,
@@ -80,7 +80,7 @@ pub fn opt_refused_in_turn(
     Err(RowError::BadWord)
 }
 
-/// Returns whether a message with so much room refuses an OPT record.
+/// Returns whether the push of an OPT record fails in a message with this much room.
 fn refuses_opt(alloc: Global, opt_row: &OptRow, room: usize) -> Result<bool, RowError> {
     let mut additional: AdditionalBuilder<Room> = filled(alloc, Room::new(), room)?.additional();
     let before = Vec::from_slice(alloc, additional.as_slice())?;
@@ -100,7 +100,7 @@ fn refuses_opt(alloc: Global, opt_row: &OptRow, room: usize) -> Result<bool, Row
     }
 }
 
-/// Returns a message with a record of the root, behind which so much room is left.
+/// Returns a message with a record of the root, after which this much room is left.
 fn filled<Target: Composer + Drop>(
     alloc: Global,
     target: Target,
@@ -124,7 +124,7 @@ fn filled<Target: Composer + Drop>(
     }
 }
 
-/// Fails unless the message was refused for want of room, and has the octets and the counts that it had before.
+/// Fails unless the push failed for want of room, and the message still has its octets and its counts.
 fn is_as_before(
     error: PushError,
     now: &[u8],

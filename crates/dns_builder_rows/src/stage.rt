@@ -9,7 +9,7 @@ use dns_name::Composer;
 use dns_sections::PushError;
 use rows::RowError;
 
-/// A builder of a message, by the section that it is in.
+/// A builder of a message, by its section.
 #[derive(Drop)]
 pub enum Stage<Target: Composer> {
     Start(MessageBuilder<Target>),
@@ -20,7 +20,7 @@ pub enum Stage<Target: Composer> {
 }
 
 impl<Target: Composer + Drop> Stage<Target> {
-    /// Goes to the section of this name.
+    /// Goes on to the section of this name.
     pub fn go_to(self, section: &str) -> Result<Self, RowError> {
         match self {
             Stage::Start(builder) => moved(builder, section),
@@ -31,7 +31,7 @@ impl<Target: Composer + Drop> Stage<Target> {
         }
     }
 
-    /// Puts the first four octets of these in place of the header, before a section is begun.
+    /// Replaces the header with the first four of these octets, before a section is begun.
     pub fn set_header(&mut self, octets: &[u8]) -> Result<(), RowError> {
         match self {
             Stage::Start(builder) if octets.len() >= 4 => {
@@ -53,7 +53,7 @@ impl<Target: Composer + Drop> Stage<Target> {
         }
     }
 
-    /// Empties the section, which has to be begun.
+    /// Empties the section, which must be begun.
     pub fn rewind(&mut self) -> Result<(), RowError> {
         match self {
             Stage::Start(_) => return Err(RowError::BadWord),
@@ -109,7 +109,7 @@ impl<Target: Composer + Drop> Stage<Target> {
     }
 }
 
-/// The builder in the section of this name.
+/// Returns the builder in the section of this name.
 fn moved<Target: Composer + Drop, S: BuilderSection>(
     builder: SectionBuilder<Target, S>,
     section: &str,

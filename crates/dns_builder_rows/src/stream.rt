@@ -1,4 +1,4 @@
-//! Messages behind their length, over a compressor or with names in full (RFC 1035 4.1.4, 4.2.2).
+//! Messages after their length, with a compressor or with names in full (RFC 1035 4.1.4, 4.2.2).
 ghost use Rattle.std.specs.Prelude.{◌≡◌, IfOk};
 ghost use Rattle.dns_name.specs.Spelling.{static_spelling, tree_spelling, hash_spelling};
 ghost use Rattle.dns_header.specs.Written.{parts_of};
@@ -32,7 +32,7 @@ pub fn new_stream_vec(alloc: Global, row: &mut Row<'_>, out: &mut Answer) -> Res
     write_octets(builder.finish().as_stream_slice(), out)
 }
 
-/// Pushes two answers over a compressor over a stream target over a vector, and writes the length and the message.
+/// Pushes two answers over a compressor of a stream target of a vector, and writes the length and the message.
 pub fn two_answers(alloc: Global, row: &mut Row<'_>, out: &mut Answer) -> Result<(), RowError> {
     match row.word()? {
         "static" => two_over_static(alloc, row, out),
@@ -42,28 +42,28 @@ pub fn two_answers(alloc: Global, row: &mut Row<'_>, out: &mut Answer) -> Result
     }
 }
 
-/// Pushes two answers over a compressor of the first kind.
+/// Pushes two answers over a `StaticCompressor`.
 fn two_over_static(alloc: Global, row: &mut Row<'_>, out: &mut Answer) -> Result<(), RowError> {
     let first = record_of(alloc, row)?;
     let second = record_of(alloc, row)?;
     write_stream(over_static(alloc, first, second), out)
 }
 
-/// Pushes two answers over a compressor of the second kind.
+/// Pushes two answers over a `TreeCompressor`.
 fn two_over_tree(alloc: Global, row: &mut Row<'_>, out: &mut Answer) -> Result<(), RowError> {
     let first = record_of(alloc, row)?;
     let second = record_of(alloc, row)?;
     write_stream(over_tree(alloc, first, second), out)
 }
 
-/// Pushes two answers over a compressor of the third kind.
+/// Pushes two answers over a `HashCompressor`.
 fn two_over_hash(alloc: Global, row: &mut Row<'_>, out: &mut Answer) -> Result<(), RowError> {
     let first = record_of(alloc, row)?;
     let second = record_of(alloc, row)?;
     write_stream(over_hash(alloc, first, second), out)
 }
 
-/// Writes the length and the message, or why a push was refused.
+/// Writes the length and the message, or why a push failed.
 fn write_stream(
     stream: Result<StreamTarget<Vec<u8>>, PushError>,
     out: &mut Answer,
@@ -74,7 +74,7 @@ fn write_stream(
     }
 }
 
-/// Builds a message of two answers over a compressor of the first kind.
+/// Builds a message of two answers over a `StaticCompressor`.
 fn over_static<R: ComposeRecord + Drop>(
     alloc: Global,
     first: R,
@@ -88,7 +88,7 @@ fn over_static<R: ComposeRecord + Drop>(
     Ok(answered_by(compressor, first, second)?.into_target())
 }
 
-/// Builds a message of two answers over a compressor of the second kind.
+/// Builds a message of two answers over a `TreeCompressor`.
 fn over_tree<R: ComposeRecord + Drop>(
     alloc: Global,
     first: R,
@@ -102,7 +102,7 @@ fn over_tree<R: ComposeRecord + Drop>(
     Ok(answered_by(compressor, first, second)?.into_target())
 }
 
-/// Builds a message of two answers over a compressor of the third kind.
+/// Builds a message of two answers over a `HashCompressor`.
 fn over_hash<R: ComposeRecord + Drop>(
     alloc: Global,
     first: R,

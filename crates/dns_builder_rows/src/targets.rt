@@ -4,7 +4,7 @@ use dns_name::{AppendError, Composer, Name};
 use rows::{Answer, Row, RowError};
 use std::alloc::Global;
 
-/// Appends to a vector, plain or under a compressor.
+/// Appends to a vector, plain or with a compressor.
 pub fn append_to_compressor(
     alloc: Global,
     row: &mut Row<'_>,
@@ -86,7 +86,7 @@ fn append_name<Target: Composer>(
     }
 }
 
-/// Writes how many octets there are and the last 48 of them, or all where there are at most 120.
+/// Writes the number of octets and the last 48 of them, or all of them if there are at most 120.
 pub fn write_octets(octets: &[u8], out: &mut Answer) -> Result<(), RowError> {
     out.shown(&octets.len())?;
     if octets.len() <= 120 {

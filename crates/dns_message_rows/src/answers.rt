@@ -1,4 +1,4 @@
-//! What messages answer, and what they say of EDNS (RFC 1035 4.1, RFC 6891 6.1).
+//! What messages answer, and their EDNS records (RFC 1035 4.1, RFC 6891 6.1).
 use crate::messages::asked;
 use crate::options::options;
 use dns_message::{Message, OptRecord};
@@ -6,7 +6,7 @@ use dns_rdata::A;
 use rows::{Answer, Row, RowError};
 use std::alloc::Global;
 
-/// Answers a call of a message, which is read already.
+/// Answers a call of a message that is already parsed.
 pub fn answer(
     alloc: Global,
     message: &Message<&[u8]>,

@@ -1,4 +1,4 @@
-//! Messages that are changed, copied and read as a whole (RFC 1035 4.1).
+//! Messages that are changed, copied, and read whole (RFC 1035 4.1).
 use crate::parsed::record_or;
 use arrayvec::ArrayVec;
 use dns_message::{Header, Message, Opt, OptRecord, ParsedRecord, Record};
@@ -7,7 +7,7 @@ use dns_rdata::A;
 use rows::{Answer, Row, RowError};
 use std::alloc::Global;
 
-/// Whether a method of messages is answered here.
+/// Returns whether this module answers a method of messages.
 pub fn answers(method: &str) -> bool {
     matches!(
         method,
@@ -32,7 +32,7 @@ fn message_of(alloc: Global, row: &mut Row<'_>) -> Result<Message<Vec<u8>>, RowE
     }
 }
 
-/// Writes a message once its header is another one.
+/// Writes a message after its header is replaced.
 fn set_header(alloc: Global, row: &mut Row<'_>, out: &mut Answer) -> Result<(), RowError> {
     let octets = row.octets(alloc)?;
     if octets.len() < 4 {
@@ -43,7 +43,7 @@ fn set_header(alloc: Global, row: &mut Row<'_>, out: &mut Answer) -> Result<(), 
     out.octets(message.as_slice())
 }
 
-/// Writes a message once its last additional record is gone, which has to be there.
+/// Writes a message after its last additional record is removed. It must have one.
 fn remove_last_additional(mut message: Message<Vec<u8>>, out: &mut Answer) -> Result<(), RowError> {
     if message.header_counts().arcount() == 0 {
         return Err(RowError::BadWord);
@@ -79,7 +79,7 @@ fn get_last_additional(alloc: Global, row: &mut Row<'_>, out: &mut Answer) -> Re
     }
 }
 
-/// Writes a message over octets that may hold so many.
+/// Writes a copy of a message, in 16 octets or in any number of them.
 fn octets_from(alloc: Global, row: &mut Row<'_>, out: &mut Answer) -> Result<(), RowError> {
     let room = row.word()?;
     let message = message_of(alloc, row)?;
@@ -104,8 +104,8 @@ fn octets_or<Octs: Octets + Drop>(
     }
 }
 
-/// Reads the answers of a message of a front, a record so many times over, and what stands after it. Writes how many octets there are
-/// and how many answers, the last answer, and the place after it.
+/// Reads the answers of a message that is made of octets, a record repeated `count` times, and more octets. Writes the
+/// number of octets and of answers, the last answer, and the place after it.
 fn repeated(alloc: Global, row: &mut Row<'_>, out: &mut Answer) -> Result<(), RowError> {
     let mut octets = row.octets(alloc)?;
     let count: u16 = row.value()?;

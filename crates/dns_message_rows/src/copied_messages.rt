@@ -1,4 +1,4 @@
-//! Messages whose records are copied, section by section (RFC 1035 4.1).
+//! Messages whose records are copied section by section (RFC 1035 4.1).
 ghost use Rattle.std.specs.Prelude.{⊤};
 
 use dns_message::{ComposeRecord, Message, PushError, RecordTarget, Section};
@@ -7,13 +7,13 @@ use dns_rdata::ZoneRecordData;
 use rows::{Answer, Row, RowError};
 use std::alloc::Global;
 
-/// The records that were pushed, each with its section, in a message of its own.
+/// The records that were pushed, each with its section and as octets of its own.
 #[derive(Drop)]
 struct Pushed {
     alloc: Global,
     /// The section of the next record.
     section: Section,
-    /// Further records are refused.
+    /// The number of records that it takes. A further push fails.
     most: usize,
     records: Vec<(Section, Vec<u8>)>,
 }
@@ -55,7 +55,7 @@ impl Pushed {
             .count()
     }
 
-    /// Writes how many records each section has, and then the records, each after its section.
+    /// Writes the number of records in each section, and then the records, each after its section.
     fn write(&self, out: &mut Answer) -> Result<(), RowError> {
         out.shown(&self.count(Section::Answer))?;
         out.shown(&self.count(Section::Authority))?;
@@ -68,8 +68,8 @@ impl Pushed {
     }
 }
 
-/// Copies the CNAME records or all records, and leaves out those whose data does not read. So many are taken, and the next one is
-/// refused.
+/// Copies the CNAME records or all records, and leaves out those whose data cannot be parsed. The target takes the
+/// number of records that the row says.
 pub fn copy_records(
     alloc: Global,
     message: &Message<&[u8]>,

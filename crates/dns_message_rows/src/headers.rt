@@ -51,7 +51,7 @@ fn set_bit(call: &str, header: &mut Header, set: bool) -> Result<(), RowError> {
     Ok(())
 }
 
-/// Writes the id, the opcode, the response code, and the names of the bits that are set.
+/// Writes the ID, the opcode, the response code, and the names of the bits that are set.
 fn fields(header: Header, out: &mut Answer) -> Result<(), RowError> {
     out.shown(&header.id())?;
     out.shown(&header.opcode().to_int())?;

@@ -1,7 +1,7 @@
-//! Rows of the calls of `dns_message`: what each call returns for the values that stand in `stdin`.
+//! Answers rows of the calls of `dns_message`: what each call returns for the values in `stdin`.
 //!
-//! What is parsed is given by a place and the message in which it stands from there on, and the place behind it is the last
-//! word of the answer. Other names are texts, and other records stand as in a zone file.
+//! What is parsed is given by a place and the message, and the last word of the answer is the place after it. Other
+//! names are texts, and other records are written as in a zone file.
 #![tactic(auto)]
 
 mod answers;

@@ -1,4 +1,4 @@
-//! Messages, and what the cursors over their sections give (RFC 1035 4.1).
+//! Messages, and what the cursors over their sections return (RFC 1035 4.1).
 use crate::answers;
 use crate::copied_messages::copy_records;
 use crate::parsed::record_or;
@@ -31,7 +31,7 @@ pub fn answer(alloc: Global, row: &mut Row<'_>, out: &mut Answer) -> Result<(), 
     }
 }
 
-/// Writes what the header says, and what the first question asks.
+/// Writes the values of the header and the first question.
 fn views(message: &Message<&[u8]>, out: &mut Answer) -> Result<(), RowError> {
     out.octets(message.header_section().as_slice())?;
     out.shown(&message.no_error())?;
@@ -50,7 +50,7 @@ pub fn asked(question: &Question<ParsedName<&[u8]>>, out: &mut Answer) -> Result
     out.shown(&question.qclass())
 }
 
-/// Writes the questions that a cursor gives, and the place after them.
+/// Writes the questions that a cursor returns, and the place after them.
 fn questions(message: &Message<&[u8]>, out: &mut Answer) -> Result<(), RowError> {
     let mut section = message.question();
     while let Some(question) = section.next() {
@@ -69,7 +69,7 @@ fn head(record: &ParsedRecord<'_>, out: &mut Answer) -> Result<(), RowError> {
     out.shown(&record.rdlen())
 }
 
-/// Writes the heads that a cursor gives, and the place after them.
+/// Writes the same for each record that a cursor returns, and the place after them.
 fn heads(section: Result<RecordSection<'_>, ParseError>, out: &mut Answer) -> Result<(), RowError> {
     let mut section = match section {
         Ok(section) => section,
@@ -84,7 +84,7 @@ fn heads(section: Result<RecordSection<'_>, ParseError>, out: &mut Answer) -> Re
     out.shown(&section.pos())
 }
 
-/// Writes the heads of all records, each after its section, and that they end.
+/// Writes the same for all records, each after its section, and then `end`.
 fn all_heads(message: &Message<&[u8]>, out: &mut Answer) -> Result<(), RowError> {
     for item in message.iter() {
         match item {
@@ -98,7 +98,7 @@ fn all_heads(message: &Message<&[u8]>, out: &mut Answer) -> Result<(), RowError>
     out.shown(&"end")
 }
 
-/// Writes the records of a section as a zone file has them.
+/// Writes the records of a section as in a zone file.
 fn records(
     section: Result<RecordSection<'_>, ParseError>,
     out: &mut Answer,
@@ -116,7 +116,7 @@ fn records(
     Ok(())
 }
 
-/// Writes the addresses of a section, those of class IN or of any, and that they end.
+/// Writes the addresses of a section, of class IN or of any class, and then `end`.
 fn addresses(
     section: Result<RecordSection<'_>, ParseError>,
     in_only: bool,
@@ -140,7 +140,7 @@ fn addresses(
     out.shown(&"end")
 }
 
-/// Writes all sections of a message as a zone file has their records, each after its name.
+/// Writes the questions of a message, and then the records of each section as in a zone file, after its name.
 fn sections(message: &Message<&[u8]>, out: &mut Answer) -> Result<(), RowError> {
     let (_, answer, authority, additional) = match message.sections() {
         Ok(all) => all,
@@ -155,7 +155,7 @@ fn sections(message: &Message<&[u8]>, out: &mut Answer) -> Result<(), RowError> 
     records(Ok(additional), out)
 }
 
-/// Reads so many records of the answer section, and writes where the section after it begins.
+/// Reads `count` records of the answer section, and writes the place where the next section begins.
 fn next_section(message: &Message<&[u8]>, count: u16, out: &mut Answer) -> Result<(), RowError> {
     let mut section = match message.answer() {
         Ok(section) => section,

@@ -16,7 +16,7 @@ pub fn options(opt: &Opt<&[u8]>, out: &mut Answer) -> Result<(), RowError> {
     Ok(())
 }
 
-/// Answers the options that octets are.
+/// Answers how octets are read as options.
 pub fn answer_options(alloc: Global, row: &mut Row<'_>, out: &mut Answer) -> Result<(), RowError> {
     let octets = row.octets(alloc)?;
     match Opt::from_octets(octets.as_slice()) {
@@ -28,8 +28,8 @@ pub fn answer_options(alloc: Global, row: &mut Row<'_>, out: &mut Answer) -> Res
     }
 }
 
-/// Answers an OPT record in a message: UDP payload size, the response code with one of 5 in the header, version, DO, and the
-/// options.
+/// Answers an OPT record in a message: its UDP payload size, the response code if the header has response code 5, the
+/// version, DO, and the options.
 pub fn answer_record(alloc: Global, row: &mut Row<'_>, out: &mut Answer) -> Result<(), RowError> {
     let place = row.value()?;
     let message = row.octets(alloc)?;
@@ -54,7 +54,7 @@ pub fn answer_record(alloc: Global, row: &mut Row<'_>, out: &mut Answer) -> Resu
     out.shown(&parser.pos())
 }
 
-/// Answers the class and the TTL behind a setter, or what they say.
+/// Answers the class and the TTL after a setter, or their values.
 pub fn answer_header(row: &mut Row<'_>, out: &mut Answer) -> Result<(), RowError> {
     let class = row.value()?;
     let mut header = OptHeader::from_class_and_ttl(class, Ttl::from_secs(row.value()?));

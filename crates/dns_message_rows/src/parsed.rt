@@ -1,4 +1,4 @@
-//! Records in messages: heads, and data that is read at once or later (RFC 1035 4.1.3).
+//! Records in messages: headers, and data that is parsed at once or later (RFC 1035 4.1.3).
 use crate::records::hash_of;
 use dns_message::{ParsedRecord, Record, RecordHeader};
 use dns_name::{Name, ParseError, ParsedName, Parser, ToName, Ttl};
@@ -7,10 +7,10 @@ use rows::{Answer, Row, RowError};
 use std::alloc::Global;
 use std::fmt::Display;
 
-/// A record whose name and data lie in a message.
+/// A record whose name and data are in a message.
 type Read<'a> = Record<ParsedName<&'a [u8]>, ZoneRecordData<&'a [u8], ParsedName<&'a [u8]>>>;
 
-/// The name of a text.
+/// Returns the name of a text.
 pub fn name_of(alloc: Global, row: &mut Row<'_>) -> Result<Name<Vec<u8>>, RowError> {
     let text = row.text(alloc)?;
     match Name::vec_from_str(alloc, text.as_str()) {
@@ -19,7 +19,7 @@ pub fn name_of(alloc: Global, row: &mut Row<'_>) -> Result<Name<Vec<u8>>, RowErr
     }
 }
 
-/// A parser over a message, at a place.
+/// Returns a parser of a message at a place.
 pub fn at_place(message: &[u8], place: usize) -> Result<Parser<'_>, RowError> {
     let mut parser = Parser::from_ref(message);
     match parser.advance(place) {
@@ -28,7 +28,7 @@ pub fn at_place(message: &[u8], place: usize) -> Result<Parser<'_>, RowError> {
     }
 }
 
-/// Writes the fields of a head.
+/// Writes the fields of a record header.
 fn head<N: ToName + Display>(header: &RecordHeader<N>, out: &mut Answer) -> Result<(), RowError> {
     out.shown(header.owner())?;
     out.shown(&header.ttl().as_secs())?;
@@ -45,7 +45,7 @@ pub fn record_or(out: &mut Answer, rr: Result<Read<'_>, ParseError>) -> Result<(
     }
 }
 
-/// Writes a record, that it is of no type that is taken, or why there is none.
+/// Writes a record, or `None` if its data is of another type, or why there is no record.
 fn maybe_record_or(
     out: &mut Answer,
     found: Result<Option<Read<'_>>, ParseError>,
@@ -57,7 +57,7 @@ fn maybe_record_or(
     }
 }
 
-/// Answers a call of heads.
+/// Answers a call of record headers.
 pub fn answer_header(alloc: Global, row: &mut Row<'_>, out: &mut Answer) -> Result<(), RowError> {
     match row.call() {
         "RecordHeader::compose" | "RecordHeader::compose_canonical" => {
@@ -81,7 +81,7 @@ pub fn answer_header(alloc: Global, row: &mut Row<'_>, out: &mut Answer) -> Resu
     out.shown(&parser.pos())
 }
 
-/// Answers the head, or the record with the data behind it.
+/// Answers the record header, or the record with the data after it.
 fn answer_data<'a>(
     call: &str,
     header: RecordHeader<ParsedName<&'a [u8]>>,
@@ -102,7 +102,7 @@ fn answer_data<'a>(
     }
 }
 
-/// The head of an owner, a TTL, a class, a type and a length of data.
+/// Returns the record header of an owner, a TTL, a class, a type and a length of data.
 fn header_of(alloc: Global, row: &mut Row<'_>) -> Result<RecordHeader<Name<Vec<u8>>>, RowError> {
     let owner = name_of(alloc, row)?;
     let ttl = Ttl::from_secs(row.value()?);
@@ -110,7 +110,7 @@ fn header_of(alloc: Global, row: &mut Row<'_>) -> Result<RecordHeader<Name<Vec<u
     Ok(RecordHeader::new(owner, row.value()?, class, ttl, row.value()?))
 }
 
-/// Answers how two heads stand to one another: whether they are equal and hash alike, or their order.
+/// Answers how two record headers compare: whether they are equal and have the same hash, or their order.
 fn answer_compared(alloc: Global, row: &mut Row<'_>, out: &mut Answer) -> Result<(), RowError> {
     let header = header_of(alloc, row)?;
     let other = header_of(alloc, row)?;
@@ -121,7 +121,7 @@ fn answer_compared(alloc: Global, row: &mut Row<'_>, out: &mut Answer) -> Result
     out.shown(&(hash_of(&header) == hash_of(&other)))
 }
 
-/// Answers the octets of a head.
+/// Answers the octets of a record header.
 fn answer_composed(alloc: Global, row: &mut Row<'_>, out: &mut Answer) -> Result<(), RowError> {
     let header = header_of(alloc, row)?;
     let mut target = Vec::new(alloc);
@@ -136,7 +136,7 @@ fn answer_composed(alloc: Global, row: &mut Row<'_>, out: &mut Answer) -> Result
     }
 }
 
-/// Answers a call of records whose data is read later.
+/// Answers a call of records whose data is parsed later.
 pub fn answer(alloc: Global, row: &mut Row<'_>, out: &mut Answer) -> Result<(), RowError> {
     let place = row.value()?;
     let message = row.octets(alloc)?;
@@ -174,7 +174,7 @@ pub fn answer(alloc: Global, row: &mut Row<'_>, out: &mut Answer) -> Result<(), 
     out.shown(&parser.pos())
 }
 
-/// Answers the record that stands in a message.
+/// Answers the record at a place of a message.
 pub fn answer_record(alloc: Global, row: &mut Row<'_>, out: &mut Answer) -> Result<(), RowError> {
     let place = row.value()?;
     let message = row.octets(alloc)?;

@@ -9,7 +9,7 @@ use std::fmt::Display;
 
 type Owned = Question<Name<Vec<u8>>>;
 
-/// The question of a name, a type and a class.
+/// Returns the question of a name, a type and a class.
 fn question_of(alloc: Global, row: &mut Row<'_>) -> Result<Owned, RowError> {
     Ok(Question::new(name_of(alloc, row)?, row.value()?, row.value()?))
 }
@@ -61,7 +61,7 @@ fn answer_text(alloc: Global, row: &mut Row<'_>, out: &mut Answer) -> Result<(),
     }
 }
 
-/// Answers the question in a message, or that one is skipped.
+/// Answers the question in a message, or that it is skipped.
 fn answer_parser(alloc: Global, row: &mut Row<'_>, out: &mut Answer) -> Result<(), RowError> {
     let place = row.value()?;
     let message = row.octets(alloc)?;

@@ -1,4 +1,4 @@
-//! Records as they stand in a zone file: composed, compared and printed (RFC 1035 4.1.3 and 5.1).
+//! Records written as in a zone file: composed, compared and printed (RFC 1035 4.1.3 and 5.1).
 use crate::parsed::{answer_record, name_of};
 use dns_message::Record;
 use dns_name::{CanonicalOrd, Name, Ttl};
@@ -10,7 +10,8 @@ use std::hash::{DefaultHasher, Hash, Hasher};
 
 type Owned = Record<Name<Vec<u8>>, ZoneRecordData<Vec<u8>, Name<Vec<u8>>>>;
 
-/// The record of an owner, a TTL, a class, a type, and the words of its data up to `|` or the end.
+/// Returns the record of an owner, a TTL, a class, a type, and the words of its data up to `|` or
+/// the end.
 fn record_of(alloc: Global, row: &mut Row<'_>) -> Result<Owned, RowError> {
     let owner = name_of(alloc, row)?;
     let ttl = Ttl::from_secs(row.value()?);
@@ -24,7 +25,7 @@ fn record_of(alloc: Global, row: &mut Row<'_>) -> Result<Owned, RowError> {
     }
 }
 
-/// The words up to `|` or the end, each with a line feed behind it.
+/// Returns the words up to `|` or the end, with a line feed after each.
 fn words_of(alloc: Global, row: &mut Row<'_>) -> Result<String, RowError> {
     let mut words = String::new(alloc);
     for _ in 0..u32::MAX {
@@ -41,7 +42,7 @@ fn words_of(alloc: Global, row: &mut Row<'_>) -> Result<String, RowError> {
     Ok(words)
 }
 
-/// The hash of a value.
+/// Returns the hash of a value.
 pub fn hash_of<T: Hash>(value: &T) -> u64 {
     let mut state = DefaultHasher::new();
     value.hash(&mut state);

@@ -1,4 +1,4 @@
-//! The counts, and the twelve octets of a header section (RFC 1035 4.1.1, RFC 2136 2.2).
+//! The counts, and the twelve octets of a message's header (RFC 1035 4.1.1, RFC 2136 2.2).
 use dns_message::{Header, HeaderCounts, HeaderSection};
 use dns_name::{Compose, Parser};
 use rows::{Answer, Row, RowError};
@@ -40,7 +40,7 @@ pub fn answer(alloc: Global, row: &mut Row<'_>, out: &mut Answer) -> Result<(), 
     out.octets(section.as_slice())
 }
 
-/// Answers a call of counts: all of them under both their names, or the octets once a call has changed them.
+/// Answers a call of counts: all counts under both their names, or the octets after a call has changed them.
 fn answer_counts(
     mut counts: HeaderCounts,
     row: &mut Row<'_>,
@@ -69,7 +69,7 @@ fn answer_counts(
     out.octets(counts.as_slice())
 }
 
-/// Writes the counts under their names in queries, and under those in updates.
+/// Writes the counts under their names in queries, and under their names in updates.
 fn under_both_names(counts: HeaderCounts, out: &mut Answer) -> Result<(), RowError> {
     let numbers = [
         counts.qdcount(),
@@ -103,7 +103,7 @@ fn set(call: &str, counts: &mut HeaderCounts, value: u16) -> Result<(), RowError
     Ok(())
 }
 
-/// Takes one off the count that a call names, which may not be 0.
+/// Subtracts one from the count that a call names, which must not be 0.
 fn decrease(call: &str, counts: &mut HeaderCounts) -> Result<(), RowError> {
     match call {
         "HeaderCounts::dec_qdcount" if counts.qdcount() > 0 => counts.dec_qdcount(),

@@ -1,4 +1,4 @@
-//! Builders of messages over a vector, with ample memory, and over a target that is full.
+//! Builders of messages over a vector, with enough memory, and over a target that is full.
 use arrayvec::ArrayVec;
 use dns_builder::MessageBuilder;
 use dns_header::Record;
@@ -10,7 +10,7 @@ use std::test::Fail;
 /// A question for the addresses of the root, with RD set.
 const QUESTION: [u8; 17] = [0, 7, 1, 0, 0, 1, 0, 0, 0, 0, 0, 0, 0, 0, 1, 0, 1];
 
-/// Returns the address of the root.
+/// Returns the address record of the root.
 fn address() -> Record<Name<&'static [u8]>, A> {
     Record::new(
         Name::root_slice(),

@@ -1,4 +1,4 @@
-//! The values of headers that the standard begins with, and what is set as a whole.
+//! The values of a new header, and parts that are set as a whole.
 
 use dns_header::{Flags, Header, HeaderCounts, HeaderSection};
 

@@ -1,7 +1,7 @@
-//! Tests of `dns_message` and its parts that a row of `dns_message_rows` cannot say: types, tuples, targets without room, octets that
-//! are handed back, and cursors and builders that are taken apart.
+//! Tests of `dns_message` and of the crates below it that a row of `dns_message_rows` cannot say: types, tuples,
+//! targets without room, octets that are returned, and cursors and builders that are taken apart.
 //!
-//! They stand in a crate of their own, so that a check of the tests doesn't check those crates once more.
+//! They are in a crate of their own, so that a check of the tests doesn't check those crates again.
 #![tactic(auto)]
 
 #[cfg(test)]

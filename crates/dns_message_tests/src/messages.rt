@@ -1,10 +1,10 @@
-//! Messages over octets that are handed back and lent, and cursors that are taken apart.
+//! Messages over octets that are returned or lent, and cursors that are taken apart.
 use crate::type_alone::TypeAlone;
 use dns_rdata::A;
 use dns_sections::{Message, RecordSection};
 use std::test::Fail;
 
-/// A header that counts three answers, and these: an address, data of type 65280, and an address of class CH.
+/// A header that counts three answers, and the answers: an address, data of type 65280, and an address of class CH.
 const ANSWERS: [u8; 55] = [
     0, 0, 0, 0, 0, 0, 0, 3, 0, 0, 0, 0, //
     0, 0, 1, 0, 1, 0, 0, 0, 0, 0, 4, 192, 0, 2, 1, //

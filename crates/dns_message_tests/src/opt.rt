@@ -1,4 +1,4 @@
-//! OPT records that are made and composed (RFC 6891 6.1).
+//! OPT records that are built and composed (RFC 6891 6.1).
 
 use dns_header::{Header, Opt, OptHeader, OptRecord, Record};
 use dns_name::{

@@ -1,12 +1,12 @@
-//! Records of several types: with opaque data, as tuples, and in parts.
+//! Records of several types: with unknown data, as tuples, and in parts.
 
 use arrayvec::ArrayVec;
 use dns_header::{ComposeRecord, ParsedRecord, Record, RecordHeader};
 use dns_name::{AppendError, Class, Name, ParsedName, Parser, Rtype, Ttl, UnknownRecordData};
 use std::test::Fail;
 
-/// After three octets the record `b.a. 60 CH MX`, whose owner points to the `a.` before it, with two octets of data, and then
-/// one octet more.
+/// Three octets; the record `b.a. 60 CH MX` with two octets of data, its owner with a pointer to the `a.` before it;
+/// and one more octet.
 const MESSAGE: [u8; 20] = [
     1, b'a', 0, 1, b'b', 0xC0, 0, 0, 15, 0, 3, 0, 0, 0, 60, 0, 2, 7, 8, 9,
 ];

@@ -1,4 +1,4 @@
-//! Records whose parts are changed and converted, and why one is not parsed.
+//! Records whose parts are changed and converted, and one that cannot be parsed.
 
 use arrayvec::ArrayVec;
 use dns_header::{Record, RecordParseError};

@@ -1,9 +1,9 @@
-//! Data of which nothing is kept but the type.
+//! Record data that keeps only its type.
 ghost use Rattle.std.specs.Prelude.{◌≡◌};
 
 use dns_name::{ParseAnyRecordData, ParseError, Parser, RecordData, Rtype};
 
-/// The type of data, which may be any.
+/// The type of data of any type.
 #[derive(Clone, Copy)]
 pub struct TypeAlone {
     rtype: Rtype,

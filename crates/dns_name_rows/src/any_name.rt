@@ -1,4 +1,4 @@
-//! What every absolute name says, whatever holds it.
+//! The methods of every absolute name, whatever its type.
 use crate::read::{flat, parsed, write_octets, write_target};
 use dns_name::ToName;
 use rows::{Answer, Row, RowError};
@@ -32,13 +32,13 @@ pub fn answer<N: ToName>(
     }
 }
 
-/// The length and the octets of a name.
+/// Writes the length and the octets of a name.
 pub fn answer_chain<N: ToName>(alloc: Global, name: &N, out: &mut Answer) -> Result<(), RowError> {
     out.shown(&name.compose_len())?;
     out.octets(name.to_vec(alloc)?.as_slice())
 }
 
-/// The octets of each label, and how many there are.
+/// Writes the octets of each label, and the number of labels.
 fn write_labels<N: ToName>(name: &N, out: &mut Answer) -> Result<(), RowError> {
     for index in 0..128usize {
         match name.label(index) {
@@ -49,7 +49,7 @@ fn write_labels<N: ToName>(name: &N, out: &mut Answer) -> Result<(), RowError> {
     out.shown(&name.iter_labels().count())
 }
 
-/// Another name is given by its octets, or as what stands at a place of a message.
+/// Answers a call of two names. The other name is given by its octets, or by a message and a place.
 fn answer_two<N: ToName>(
     alloc: Global,
     name: &N,

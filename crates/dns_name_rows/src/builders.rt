@@ -7,8 +7,8 @@ use rows::{Answer, Row, RowError};
 use std::alloc::Global;
 use std::error::Error;
 
-/// A builder and the calls that follow on it, each with its argument. What a call refuses is written, and so are the
-/// octets at the end.
+/// Makes a builder and then the calls that follow, each with its argument. Writes the error of each call that fails,
+/// and the octets at the end.
 pub fn answer(alloc: Global, row: &mut Row<'_>, out: &mut Answer) -> Result<(), RowError> {
     match row.method() {
         "new_vec" => build(alloc, NameBuilder::new_vec(alloc), row, out),
@@ -74,7 +74,7 @@ fn answer_step<B: WriteOctets>(
     }
 }
 
-/// Pushes octets up to the first that is refused.
+/// Pushes octets up to the first that fails.
 fn push_all<B: WriteOctets>(
     name: &mut NameBuilder<B>,
     octets: &[u8],
@@ -88,7 +88,7 @@ fn push_all<B: WriteOctets>(
     Ok(())
 }
 
-/// Writes why a call was refused, if it was.
+/// Writes the error of a call, if it failed.
 fn write_error<E: Error>(made: Result<(), E>, out: &mut Answer) -> Result<(), RowError> {
     match made {
         Ok(()) => Ok(()),
@@ -96,7 +96,7 @@ fn write_error<E: Error>(made: Result<(), E>, out: &mut Answer) -> Result<(), Ro
     }
 }
 
-/// The name of finished labels, alone, before the root's or before an origin's. The first is built further.
+/// Writes the name of finished labels: alone, and then built further; before the root; or before an origin.
 fn finish(alloc: Global, row: &mut Row<'_>, out: &mut Answer) -> Result<(), RowError> {
     let name = match NameBuilder::from_builder(row.octets(alloc)?) {
         Ok(name) => name,

@@ -1,11 +1,11 @@
-//! Names of two parts.
+//! Chains of two names.
 use crate::read::{flat, relative};
 use crate::{any_name, relative_names};
 use dns_name::{Chain, Name, RelativeName, ToLabelIter, ToRelativeName};
 use rows::{Answer, Row, RowError};
 use std::alloc::Global;
 
-/// The parts are the first arguments of each call. Where the second is an absolute name the chain is one too.
+/// The two names are the first arguments of each call. If the second is absolute, so is the chain.
 pub fn answer(alloc: Global, row: &mut Row<'_>, out: &mut Answer) -> Result<(), RowError> {
     let left = row.octets(alloc)?;
     let left = relative(left.as_slice())?;

@@ -5,7 +5,7 @@ use rows::{Answer, Row, RowError};
 use std::alloc::Global;
 use std::hash::{FoldHasher, Hash, Hasher};
 
-/// The octets are the first argument of each call but two.
+/// The octets are the first argument of all calls but two.
 pub fn answer(alloc: Global, row: &mut Row<'_>, out: &mut Answer) -> Result<(), RowError> {
     match row.method() {
         "root" => return out.octets(Label::root().as_slice()),
@@ -22,7 +22,7 @@ pub fn answer(alloc: Global, row: &mut Row<'_>, out: &mut Answer) -> Result<(), 
     }
 }
 
-/// The label that a row gives by its octets.
+/// Returns the label of these octets.
 pub fn label(octets: &[u8]) -> Result<Label<'_>, RowError> {
     match Label::from_slice(octets) {
         Ok(label) => Ok(label),
@@ -47,7 +47,7 @@ fn split_from(octets: &[u8], out: &mut Answer) -> Result<(), RowError> {
     }
 }
 
-/// The labels one after another, then `end`, and `more` if one follows the end.
+/// Writes the labels one after another, then `end`, and `more` if one follows the end.
 fn iter_slice(octets: &[u8], place: usize, out: &mut Answer) -> Result<(), RowError> {
     let mut labels = Label::iter_slice(octets, place);
     for _ in 0..300 {
@@ -63,7 +63,7 @@ fn iter_slice(octets: &[u8], place: usize, out: &mut Answer) -> Result<(), RowEr
     }
 }
 
-/// `LabelMut::make_canonical`, where the octets stand.
+/// Answers `LabelMut::make_canonical`, which changes the octets in place.
 fn make_canonical(mut octets: Vec<u8>, out: &mut Answer) -> Result<(), RowError> {
     match LabelMut::from_slice(octets.as_mut_slice()) {
         Ok(mut label) => label.make_canonical(),
@@ -116,7 +116,7 @@ fn compare(
     }
 }
 
-/// Whether two values have one hash.
+/// Returns whether two values have the same hash.
 pub fn are_hashed_alike<T: Hash>(left: &T, right: &T) -> bool {
     hash_of(left) == hash_of(right)
 }

@@ -1,7 +1,7 @@
-//! Answers rows of calls of `dns_name` and of its parts, `dns_octets`, `dns_values` and `dns_label`.
+//! Answers rows of calls of `dns_name` and of the crates below it, `dns_octets`, `dns_values` and `dns_label`.
 //!
-//! The rows are in `stdin` and their answers in `stdout`: examples of RFCs and of the crate `domain`, and each limit from
-//! both sides.
+//! The rows are in `stdin` and their answers in `stdout`: examples from RFCs and from the crate `domain`, and each
+//! limit from both sides.
 #![tactic(auto)]
 
 mod any_name;

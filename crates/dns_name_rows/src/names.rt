@@ -1,4 +1,4 @@
-//! Absolute names that lie flat.
+//! Absolute names in flat octets.
 use crate::read::{flat, parser_at, write_unread, write_vec};
 use crate::{any_name, parts, read, text};
 use arrayvec::ArrayVec;
@@ -27,7 +27,7 @@ pub fn answer(alloc: Global, row: &mut Row<'_>, out: &mut Answer) -> Result<(), 
     }
 }
 
-/// The octets of a name, or why there is none.
+/// Returns the octets of a name, or why there is none.
 pub fn octets_of<E>(made: Result<Name<Vec<u8>>, E>) -> Result<Vec<u8>, E> {
     match made {
         Ok(name) => Ok(name.into_octets()),
@@ -35,7 +35,7 @@ pub fn octets_of<E>(made: Result<Name<Vec<u8>>, E>) -> Result<Vec<u8>, E> {
     }
 }
 
-/// The length and the text of a name of an address.
+/// Writes the length and the text of an address's name.
 fn reverse(made: Result<Name<Vec<u8>>, PushError>, out: &mut Answer) -> Result<(), RowError> {
     match made {
         Ok(name) => {
@@ -46,7 +46,7 @@ fn reverse(made: Result<Name<Vec<u8>>, PushError>, out: &mut Answer) -> Result<(
     }
 }
 
-/// The name of an address, in 73 octets of room.
+/// Writes the name of an address, built in 73 octets of room.
 fn reverse_in_73(alloc: Global, address: IpAddr, out: &mut Answer) -> Result<(), RowError> {
     match Name::<ArrayVec<u8, 73>>::reverse_from_addr(alloc, address) {
         Ok(name) => out.shown(&name),
@@ -80,7 +80,7 @@ fn from_octets(octets: Vec<u8>, out: &mut Answer) -> Result<(), RowError> {
     }
 }
 
-/// The name at a place of a message, and the place after it.
+/// Writes the name at a place of a message, and the place after it.
 fn parse(message: &[u8], place: usize, out: &mut Answer) -> Result<(), RowError> {
     let mut parser = parser_at(message, place)?;
     match Name::parse(&mut parser) {

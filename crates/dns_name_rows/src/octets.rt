@@ -1,4 +1,4 @@
-//! Numbers and addresses, from octets and to octets in network order.
+//! Numbers and addresses, parsed from octets and composed in network order.
 use crate::read::{write_target, write_unread};
 use dns_name::{Compose, Parse, Parser};
 use rows::{Answer, Row, RowError};
@@ -7,7 +7,7 @@ use std::fmt::{Debug, Display};
 use std::net::{Ipv4Addr, Ipv6Addr};
 use std::str::FromStr;
 
-/// `Parse::TYPE` of octets: the value at their start, and the place after it.
+/// Answers `Parse::TYPE` of octets: the value at their start, and the place after it.
 pub fn answer_parse(alloc: Global, row: &mut Row<'_>, out: &mut Answer) -> Result<(), RowError> {
     let octets = row.octets(alloc)?;
     let octets = octets.as_slice();
@@ -39,7 +39,7 @@ fn parse<'a, T: Parse<'a> + Debug + Drop>(
     out.shown(&parser.pos())
 }
 
-/// `Compose::TYPE` of a value: its octets.
+/// Answers `Compose::TYPE` of a value: its octets.
 pub fn answer_compose(alloc: Global, row: &mut Row<'_>, out: &mut Answer) -> Result<(), RowError> {
     match row.method() {
         "u8" => compose::<u8>(alloc, row, out),
@@ -75,7 +75,7 @@ pub fn composed<T: Compose>(alloc: Global, value: &T, out: &mut Answer) -> Resul
     write_target(appended, &target, out)
 }
 
-/// Writes a value as it shows, and its octets.
+/// Writes a value by its `Display`, and its octets.
 pub fn shown_and_composed<T: Compose + Display>(
     alloc: Global,
     value: &T,

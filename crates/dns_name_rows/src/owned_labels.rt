@@ -1,4 +1,4 @@
-//! Labels that hold their octets.
+//! Labels that own their octets.
 use crate::labels::{are_hashed_alike, label};
 use dns_name::{LabelFromStrError, OwnedLabel};
 use rows::{Answer, Row, RowError};
@@ -26,7 +26,7 @@ pub fn answer(alloc: Global, row: &mut Row<'_>, out: &mut Answer) -> Result<(), 
     }
 }
 
-/// Writes the octets of a label with the length before them, or why there is none.
+/// Writes the octets of a label after their length, or why there is none.
 fn write_owned(
     owned: Result<OwnedLabel, LabelFromStrError>,
     out: &mut Answer,
@@ -37,7 +37,7 @@ fn write_owned(
     }
 }
 
-/// The label in lower case, and a copy that was taken before.
+/// Writes the label in lower case, and a copy made before that.
 fn make_canonical(mut owned: OwnedLabel, out: &mut Answer) -> Result<(), RowError> {
     let copy = owned;
     owned.make_canonical();
@@ -45,7 +45,7 @@ fn make_canonical(mut owned: OwnedLabel, out: &mut Answer) -> Result<(), RowErro
     out.octets(copy.clone()?.as_label().as_slice())
 }
 
-/// The order of two labels, whether they are equal, less, and hashed alike.
+/// Writes the order of two labels, and whether they are equal, less, and of the same hash.
 fn compare(left: &OwnedLabel, right: &OwnedLabel, out: &mut Answer) -> Result<(), RowError> {
     out.named(&left.cmp(right))?;
     out.shown(&(left == right))?;

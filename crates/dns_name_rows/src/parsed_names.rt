@@ -27,7 +27,7 @@ pub fn answer(alloc: Global, row: &mut Row<'_>, out: &mut Answer) -> Result<(), 
     }
 }
 
-/// The length of the name, how many labels it has, and the place after it.
+/// Writes the length of the name, the number of its labels, and the place after it.
 fn parse(message: &[u8], place: usize, out: &mut Answer) -> Result<(), RowError> {
     let mut parser = parser_at(message, place)?;
     match ParsedName::parse(&mut parser) {
@@ -40,7 +40,7 @@ fn parse(message: &[u8], place: usize, out: &mut Answer) -> Result<(), RowError>
     out.shown(&parser.pos())
 }
 
-/// The place after the name.
+/// Writes the place after the name.
 fn skip(message: &[u8], place: usize, out: &mut Answer) -> Result<(), RowError> {
     let mut parser = parser_at(message, place)?;
     if let Err(error) = ParsedName::skip(&mut parser) {
@@ -49,7 +49,7 @@ fn skip(message: &[u8], place: usize, out: &mut Answer) -> Result<(), RowError> 
     out.shown(&parser.pos())
 }
 
-/// Each label that is split off, up to the root.
+/// Writes each label that is split off, up to the root.
 fn split_firsts(mut name: ParsedName<&[u8]>, out: &mut Answer) -> Result<(), RowError> {
     for _ in 0..130 {
         match name.split_first() {
@@ -60,7 +60,7 @@ fn split_firsts(mut name: ParsedName<&[u8]>, out: &mut Answer) -> Result<(), Row
     out.shown(&name.is_root())
 }
 
-/// The first label of each parent, and whether it is compressed, up to the root.
+/// Writes the first label of each parent, and whether the parent is compressed, up to the root.
 fn parents(mut name: ParsedName<&[u8]>, out: &mut Answer) -> Result<(), RowError> {
     for _ in 0..130 {
         match name.parent() {
@@ -94,7 +94,7 @@ fn answer_of(
     }
 }
 
-/// The text of the name and of each of its parents.
+/// Writes the text of the name and of each of its parents.
 fn write_suffixes(name: &ParsedName<&[u8]>, out: &mut Answer) -> Result<(), RowError> {
     for suffix in name.iter_suffixes() {
         out.shown(&suffix)?;

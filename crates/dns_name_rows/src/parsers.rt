@@ -1,10 +1,10 @@
-//! Parsers, which take octets one after another.
+//! Parsers of octets.
 use dns_name::{Parser, ShortInput};
 use rows::{Answer, Row, RowError};
 use std::alloc::Global;
 use std::fmt::Debug;
 
-/// `Parser::from_ref` of octets, and the calls that follow on it, each with its argument: an answer each.
+/// Answers `Parser::from_ref` of octets and the calls that follow, each with its argument: an answer each.
 pub fn answer(alloc: Global, row: &mut Row<'_>, out: &mut Answer) -> Result<(), RowError> {
     if row.method() != "from_ref" {
         return Err(RowError::UnknownCall);
@@ -66,14 +66,14 @@ fn write_number<T: Debug + Drop>(
     }
 }
 
-/// `parse_buf` into two octets, and these.
+/// Answers `parse_buf` into two octets: the result and these octets.
 fn parse_two(parser: &mut Parser<'_>, out: &mut Answer) -> Result<(), RowError> {
     let mut buf = [0u8; 2];
     write_number(parser.parse_buf(&mut buf), out)?;
     out.octets(&buf)
 }
 
-/// The parser goes on within its next octets: its place, its end and what is left of it.
+/// Answers `parse_parser`: the place and the end of the new parser, and the octets left to it.
 fn parse_parser(parser: &mut Parser<'_>, len: usize, out: &mut Answer) -> Result<(), RowError> {
     match parser.parse_parser(len) {
         Ok(inner) => {

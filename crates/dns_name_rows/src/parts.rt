@@ -1,4 +1,4 @@
-//! Parts of absolute names, which begin where a label does.
+//! Suffixes and slices of absolute names, which begin where a label does.
 use dns_name::Name;
 use rows::{Answer, Row, RowError};
 
@@ -31,7 +31,7 @@ pub fn answer(name: &Name<&[u8]>, row: &mut Row<'_>, out: &mut Answer) -> Result
     }
 }
 
-/// The name and each of its parents.
+/// Writes the name and each of its parents.
 pub fn write_suffixes(name: &Name<&[u8]>, out: &mut Answer) -> Result<(), RowError> {
     for suffix in name.iter_suffixes() {
         out.octets(suffix.as_slice())?;
@@ -39,7 +39,7 @@ pub fn write_suffixes(name: &Name<&[u8]>, out: &mut Answer) -> Result<(), RowErr
     Ok(())
 }
 
-/// The first label and the parent.
+/// Writes the first label and the parent.
 pub fn split_first(name: &Name<&[u8]>, out: &mut Answer) -> Result<(), RowError> {
     match name.split_first() {
         Some((label, parent)) => {

@@ -1,11 +1,11 @@
-//! Arguments that are names, and answers that are more than one value.
+//! Arguments that are names, and answers of several values.
 use dns_name::{
     AppendError, Label, Name, ParseError, ParsedName, Parser, RelativeName, RelativeNameError,
 };
 use rows::{Answer, RowError};
 use std::error::Error;
 
-/// The absolute name that a row gives by its octets.
+/// Returns the absolute name of these octets.
 pub fn flat(octets: &[u8]) -> Result<Name<&[u8]>, RowError> {
     match Name::from_slice(octets) {
         Ok(name) => Ok(name),
@@ -13,7 +13,7 @@ pub fn flat(octets: &[u8]) -> Result<Name<&[u8]>, RowError> {
     }
 }
 
-/// The relative name that a row gives by its octets.
+/// Returns the relative name of these octets.
 pub fn relative(octets: &[u8]) -> Result<RelativeName<&[u8]>, RowError> {
     match RelativeName::from_slice(octets) {
         Ok(name) => Ok(name),
@@ -21,7 +21,7 @@ pub fn relative(octets: &[u8]) -> Result<RelativeName<&[u8]>, RowError> {
     }
 }
 
-/// A parser over the octets of a message, at a place.
+/// Returns a parser of a message, at a place.
 pub fn parser_at(message: &[u8], place: usize) -> Result<Parser<'_>, RowError> {
     let mut parser = Parser::from_ref(message);
     match parser.seek(place) {
@@ -30,7 +30,7 @@ pub fn parser_at(message: &[u8], place: usize) -> Result<Parser<'_>, RowError> {
     }
 }
 
-/// The name that stands at a place of a message.
+/// Returns the name at a place of a message.
 pub fn parsed(message: &[u8], place: usize) -> Result<ParsedName<&[u8]>, RowError> {
     match ParsedName::parse_ref(&mut parser_at(message, place)?) {
         Ok(name) => Ok(name),
@@ -74,7 +74,7 @@ pub fn write_target(
     }
 }
 
-/// Writes why octets do not parse: that they end too early, or what is wrong with their form.
+/// Writes why octets cannot be parsed: they end too early, or their form is wrong.
 pub fn write_unread(error: ParseError, out: &mut Answer) -> Result<(), RowError> {
     match error {
         ParseError::ShortInput => out.refused(&error),

@@ -1,4 +1,4 @@
-//! Opaque data of records, and how much of it a record has.
+//! Unknown data of records, and the lengths of record data.
 use crate::labels::are_hashed_alike;
 use crate::read::{parser_at, write_target, write_unread};
 use dns_name::{
@@ -8,7 +8,7 @@ use dns_name::{
 use rows::{Answer, Row, RowError};
 use std::alloc::Global;
 
-/// A type of records and octets are the first arguments of each call.
+/// A record type and octets are the first arguments of each call.
 pub fn answer(alloc: Global, row: &mut Row<'_>, out: &mut Answer) -> Result<(), RowError> {
     let rtype = Rtype::from_int(row.value()?);
     let octets = row.octets(alloc)?;
@@ -23,7 +23,7 @@ pub fn answer(alloc: Global, row: &mut Row<'_>, out: &mut Answer) -> Result<(), 
     }
 }
 
-/// The length of the data from a place on, and the place after it.
+/// Writes the length of the data from a place on, and the place after it.
 fn parse(rtype: Rtype, octets: &[u8], place: usize, out: &mut Answer) -> Result<(), RowError> {
     let mut parser = parser_at(octets, place)?;
     let found: Result<Option<UnknownRecordData<&[u8]>>, _> = ParseRecordData::parse_rdata(
@@ -41,7 +41,7 @@ fn parse(rtype: Rtype, octets: &[u8], place: usize, out: &mut Answer) -> Result<
     out.shown(&parser.pos())
 }
 
-/// The length of the data.
+/// Writes the length of the data.
 fn parse_any(rtype: Rtype, octets: &[u8], out: &mut Answer) -> Result<(), RowError> {
     let mut parser = Parser::from_ref(octets);
     let found: Result<UnknownRecordData<&[u8]>, _> = ParseAnyRecordData::parse_any_rdata(
@@ -112,7 +112,7 @@ fn compare(
     }
 }
 
-/// Lengths, which are a record's or too long.
+/// Answers calls of lengths: a length that record data may have, or one that is too long.
 pub fn answer_lengths(row: &mut Row<'_>, out: &mut Answer) -> Result<(), RowError> {
     let len: usize = row.value()?;
     let checked = match row.method() {

@@ -1,4 +1,4 @@
-//! Relative names that lie flat.
+//! Relative names in flat octets.
 use crate::read::{relative, write_label, write_octets, write_target, write_vec};
 use dns_name::{RelativeFromStrError, RelativeName, ToLabelIter, ToRelativeName};
 use rows::{Answer, Row, RowError};
@@ -57,7 +57,7 @@ fn answer_octets(
     }
 }
 
-/// A name that is changed in place, or becomes another one.
+/// Answers a call that changes a name in place, or converts it.
 fn changed(
     alloc: Global,
     octets: &[u8],
@@ -165,7 +165,7 @@ fn answer_part(
     }
 }
 
-/// What every relative name says, whatever holds it.
+/// Answers the methods of every relative name, whatever its type.
 pub fn answer_any<N: ToRelativeName>(
     alloc: Global,
     name: &N,

@@ -43,7 +43,7 @@ fn write_found<T: Debug + Drop>(
     }
 }
 
-/// A symbol of two words: its kind, and its character or the number of its octet.
+/// Takes a symbol of two words: its kind, and its character or the number of its octet.
 pub fn symbol(alloc: Global, row: &mut Row<'_>) -> Result<Symbol, RowError> {
     match row.word()? {
         "Char" => Ok(Symbol::Char(character(row.text(alloc)?.as_str())?)),
@@ -60,7 +60,7 @@ fn character(text: &str) -> Result<char, RowError> {
     }
 }
 
-/// The symbol at the start of a text, and how many octets follow it.
+/// Writes the symbol at the start of a text, and the number of octets after it.
 fn split_from(text: &[u8], out: &mut Answer) -> Result<(), RowError> {
     match Symbol::split_from(text) {
         Some((symbol, rest)) => {
@@ -71,7 +71,7 @@ fn split_from(text: &[u8], out: &mut Answer) -> Result<(), RowError> {
     }
 }
 
-/// Each symbol of a text and each refusal, up to the end.
+/// Writes each symbol and each error of a text, up to the end.
 fn from_chars(text: &str, out: &mut Answer) -> Result<(), RowError> {
     let mut chars = text.chars();
     for _ in 0..100 {
@@ -84,7 +84,7 @@ fn from_chars(text: &str, out: &mut Answer) -> Result<(), RowError> {
     out.shown(&"end")
 }
 
-/// `Symbols::new` of a text: each symbol, and how the iteration ended.
+/// Answers `Symbols::new` of a text: each symbol, and how the iteration ended.
 pub fn answer_all(alloc: Global, row: &mut Row<'_>, out: &mut Answer) -> Result<(), RowError> {
     if row.method() != "new" {
         return Err(RowError::UnknownCall);

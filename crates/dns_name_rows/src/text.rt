@@ -1,4 +1,4 @@
-//! Names that text spells.
+//! Names from text.
 use crate::names::octets_of;
 use crate::read::write_vec;
 use crate::symbols::symbol;
@@ -17,14 +17,14 @@ pub fn answer_absolute(alloc: Global, row: &mut Row<'_>, out: &mut Answer) -> Re
     write_vec(octets_of(made), out)
 }
 
-/// The name that symbols spell, two words each.
+/// Writes the name that symbols spell, each given as two words.
 pub fn answer_symbols(alloc: Global, row: &mut Row<'_>, out: &mut Answer) -> Result<(), RowError> {
     let symbols = symbols(alloc, row)?;
     let made = Name::from_symbols(alloc, symbols.as_slice().iter().copied());
     write_vec(octets_of(made), out)
 }
 
-/// The symbols that a row gives, up to its end.
+/// Takes the symbols up to the end of the row.
 pub fn symbols(alloc: Global, row: &mut Row<'_>) -> Result<Vec<Symbol>, RowError> {
     let mut symbols = Vec::new(alloc);
     for _ in 0..300 {
@@ -36,7 +36,7 @@ pub fn symbols(alloc: Global, row: &mut Row<'_>) -> Result<Vec<Symbol>, RowError
     Ok(symbols)
 }
 
-/// The octets after the name of a text is appended to them, or why it isn't.
+/// Writes the octets after the name of a text is appended, or why it is not.
 pub fn append_absolute(
     mut octets: Vec<u8>,
     alloc: Global,
@@ -50,7 +50,7 @@ pub fn append_absolute(
     out.octets(octets.as_slice())
 }
 
-/// Which kind of name a text spells, and its octets.
+/// Writes which kind of name a text spells, and its octets.
 pub fn answer_spelled(alloc: Global, row: &mut Row<'_>, out: &mut Answer) -> Result<(), RowError> {
     if row.method() != "from_chars" {
         return Err(RowError::UnknownCall);

@@ -21,7 +21,7 @@ pub fn answer(alloc: Global, row: &mut Row<'_>, out: &mut Answer) -> Result<(), 
     }
 }
 
-/// SECOND, MINUTE, HOUR, DAY, ZERO, MAX, CAP.
+/// Writes SECOND, MINUTE, HOUR, DAY, ZERO, MAX, CAP.
 fn write_constants(out: &mut Answer) -> Result<(), RowError> {
     for ttl in [
         Ttl::SECOND,
@@ -65,7 +65,7 @@ fn checked_sum(alloc: Global, row: &mut Row<'_>, out: &mut Answer) -> Result<(),
     write_time(Ttl::checked_sum(ttls.as_slice()), out)
 }
 
-/// A time of minutes, hours or days, of which there are so many at most.
+/// Answers a TTL of minutes, hours or days, up to the largest number of them.
 fn of_units(row: &mut Row<'_>, out: &mut Answer) -> Result<(), RowError> {
     let count: u32 = row.value()?;
     let ttl = match row.method() {
@@ -94,7 +94,7 @@ fn answer_of(alloc: Global, ttl: Ttl, row: &mut Row<'_>, out: &mut Answer) -> Re
     }
 }
 
-/// Sums and products with a number of seconds, or of times.
+/// Answers sums and products with a number of seconds, or of TTLs.
 fn answer_sums(method: &str, ttl: Ttl, other: u32, out: &mut Answer) -> Result<(), RowError> {
     let time = Ttl::from_secs(other);
     let made = match method {

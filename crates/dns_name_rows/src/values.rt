@@ -11,7 +11,7 @@ use std::alloc::Global;
 use std::error::Error;
 use std::fmt::Display;
 
-/// Classes and types of records: each as it shows, and its octets.
+/// Answers calls of classes and types: each by its `Display`, and its octets.
 pub fn answer_words(alloc: Global, row: &mut Row<'_>, out: &mut Answer) -> Result<(), RowError> {
     match row.call() {
         "Class::from_int" => shown_and_composed(alloc, &Class::from_int(row.value()?), out),
@@ -62,7 +62,7 @@ fn write_found<T: Compose + Display + Drop>(
     }
 }
 
-/// Codes of options, operations and responses: each as a number.
+/// Answers calls of option codes, opcodes and response codes: each as a number.
 pub fn answer_codes(alloc: Global, row: &mut Row<'_>, out: &mut Answer) -> Result<(), RowError> {
     match row.call() {
         "Opcode::from_int" => out.shown(&Opcode::from_int(row.value()?).to_int()),
@@ -81,7 +81,7 @@ pub fn answer_codes(alloc: Global, row: &mut Row<'_>, out: &mut Answer) -> Resul
     }
 }
 
-/// QUERY, IQUERY, STATUS, NOTIFY, UPDATE.
+/// Writes QUERY, IQUERY, STATUS, NOTIFY, UPDATE.
 fn write_opcodes(out: &mut Answer) -> Result<(), RowError> {
     for code in [
         Opcode::QUERY,
@@ -95,7 +95,7 @@ fn write_opcodes(out: &mut Answer) -> Result<(), RowError> {
     Ok(())
 }
 
-/// NOERROR, FORMERR, SERVFAIL, NXDOMAIN, NOTIMP, REFUSED.
+/// Writes NOERROR, FORMERR, SERVFAIL, NXDOMAIN, NOTIMP, REFUSED.
 fn write_rcodes(out: &mut Answer) -> Result<(), RowError> {
     for code in [
         Rcode::NOERROR,
@@ -110,7 +110,7 @@ fn write_rcodes(out: &mut Answer) -> Result<(), RowError> {
     Ok(())
 }
 
-/// `TYPE::parse` of octets: the number at their start, and the place after it.
+/// Answers `TYPE::parse` of octets: the number at their start, and the place after it.
 fn answer_parsed(call: &str, octets: &[u8], out: &mut Answer) -> Result<(), RowError> {
     let mut parser = Parser::from_ref(octets);
     match call {
@@ -136,7 +136,7 @@ fn write_parsed<T: Display + Drop>(
     }
 }
 
-/// Serial numbers.
+/// Answers calls of serial numbers.
 pub fn answer_serial(alloc: Global, row: &mut Row<'_>, out: &mut Answer) -> Result<(), RowError> {
     match row.method() {
         "from_str" => write_read(alloc, row.text(alloc)?.parse::<Serial>(), out),
@@ -177,7 +177,7 @@ fn answer_of(
     }
 }
 
-/// The canonical order of two values.
+/// Writes the canonical order of two values.
 pub fn compare<T: CanonicalOrd>(
     method: &str,
     left: &T,

@@ -17,7 +17,7 @@ use Rattle.dns_name.proofs.Folding.{same_is, length-folded, folded-folded, form-
 use Rattle.dns_name.proofs.Known.{free_cases}
 use Rattle.dns_name.proofs.Soundness.{merely-within, text-append, text-take, text-patch, IsSound-append, IsSound-before, IsSound-name, IsSound-patch}
 
--- a name as the spelling compares it is what it is remembered by
+-- a name is remembered as the spelling compares it
 folded_wire : (folds : Bool) (name : List (List ℕ)) → IsName name → folded (one_suffix folds) (wire name) ≡ remembered_form (one_suffix folds) name
 folded_wire true name is = low_wire name is.labels
 folded_wire false name is = sym (form-exact (one_suffix false) name refl)
@@ -31,7 +31,7 @@ wire_long text (other ∷ name) = omega (arith, length-append text (wire (other 
 abbrev pub unsplit : List (List ℕ) → Split
 unsplit name = record { labels = []; suffix = name }
 
--- with no room, the rest is a suffix
+-- without room to remember more, the rest is a suffix
 
 rest_split : (folds : Bool) (place : ℕ) (name : List (List ℕ)) → split_from (one_suffix folds) [] 1 place name ≡ unsplit name
 unfolding split_from
@@ -42,7 +42,7 @@ full_suffix : (folds : Bool) (name : List (List ℕ)) → suffix_text (one_suffi
 full_suffix folds [] = refl
 full_suffix folds (text ∷ name) = refl
 
--- the first name splits after its first label, or at once where no pointer reaches it
+-- the first name splits after its first label, or at once if no pointer reaches it
 
 split_near : (folds : Bool) (place : ℕ) (text : List ℕ) (name : List (List ℕ)) → is_near place ≡ true
     → split_from (one_suffix folds) [] 0 place (text ∷ name) ≡ record { labels = text ∷ []; suffix = name }
@@ -85,7 +85,7 @@ whole folds place octets = record { suffix = folded (one_suffix folds) octets; p
 if_near-one : (standing : Standing) → is_near standing.place ≡ true → if_near (standing ∷ []) ≡ standing ∷ []
 if_near-one standing near = rw near refl
 
--- what a name adds where it splits so
+-- what a name adds with this split
 abbrev pub added_by : Bool → ℕ → Split → Known
 added_by folds place split =
     if_near (standings (one_suffix folds) place (place + length (split_text (one_suffix folds) [] split)) split.labels split.suffix)
@@ -109,7 +109,7 @@ unfolding known_after split_from
 one_none_root folds place [] short = refl
 one_none_root folds place (text ∷ name) short = absurd (omega (arith, wire_long text name))
 
--- where a suffix is remembered, no name is split: it is a pointer, or it is written in full
+-- if a suffix is remembered, no name is split: it is a pointer, or it is written in full
 
 kept_split : (folds : Bool) (standing : Standing) (place : ℕ) (name : List (List ℕ))
     → split_from (one_suffix folds) (standing ∷ []) 1 place name ≡ unsplit name
@@ -157,7 +157,7 @@ pub one_other_text : (folds : Bool) (standing : Standing) (place : ℕ) (name : 
     → name_text (one_suffix folds) (standing ∷ []) place name ≡ wire name
 one_other_text folds standing place name other = kept_text folds standing place name ∙ other_suffix folds standing name other
 
--- what is remembered is the same while its octets stay
+-- what is remembered stays as long as its octets stay
 
 slice_text : {octets : List ℕ} {place : ℕ} {text : List ℕ} (stop : ℕ) → place + length text ≡ stop → HasText octets place text
     → slice_range octets place stop ≡ text
@@ -294,7 +294,7 @@ module _ (folds : Bool) {octets : List ℕ} {between : Option (ℕ × ℕ)} (at 
       (sym (stands.suffix_is ∙ ap (remembered_form (one_suffix folds)) stands.spelled.name_is))
       (wire_long (folded (one_suffix folds) stands.spelled.label) (map (folded (one_suffix folds)) stands.spelled.parent)))
 
-  -- where a name has been appended, the remembered one is repeated if it is that name
+  -- after a name is appended, it repeats the remembered name if it is the same
   repeated : (new : List ℕ) (place : ℕ) (name : List (List ℕ)) → new ≡ octets ++ wire name → place ≡ length octets
       → is_same (one_suffix folds) (slice_range new at.0 at.1) (drop place new) ≡ is_same (one_suffix folds) the_one.suffix (wire name)
   repeated new place name whole here =
@@ -352,7 +352,7 @@ first_known folds octets new name named is = by_tests (nat_lt (length octets) 16
         ∙ ap (λ stop. record { suffix = folded (one_suffix folds) (wire name); place = length octets; stop = stop } ∷ []) long
         ∙ sym (one_none_known folds (length octets) name named (ltb-true (length octets) 16384 near) (omega (arith, long)))
 
--- a name that has been appended has an octet at least
+-- a name that is appended adds at least one octet
 pub appended_some : (octets new : List ℕ) (name : List (List ℕ)) → new ≡ octets ++ wire name → length octets < length new
 appended_some octets new [] is = omega (arith, ap (length {A = ℕ}) is, length-append octets (0 ∷ []))
 appended_some octets new (text ∷ name) is = omega (arith, ap (length {A = ℕ}) is, length-append octets (wire (text ∷ name)))

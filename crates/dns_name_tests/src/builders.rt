@@ -1,4 +1,4 @@
-//! Names that are built in fixed octets, and from names of two parts (RFC 1035 2.3.4).
+//! Names that are built in fixed octets, and from chains of two names (RFC 1035 2.3.4).
 use arrayvec::ArrayVec;
 use dns_name::{
     AppendError, Chain, NameBuilder, PushError, PushNameError, RelativeName, ToRelativeName,

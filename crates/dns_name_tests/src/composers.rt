@@ -1,4 +1,4 @@
-//! Targets at concrete types, through their bound.
+//! Targets of concrete types, used through their trait bound.
 use crate::one_suffix::{OctetForOctet, OneSuffix, UpToCase};
 use arrayvec::ArrayVec;
 use dns_name::{AppendError, Composer, Name, Octets, OctetsBuilder, Truncate};
@@ -7,7 +7,7 @@ use std::test::Fail;
 /// `a.b.`
 const NAME: &[u8] = b"\x01a\x01b\x00";
 
-/// Appends two octets and the name twice, and writes the two octets anew.
+/// Appends two octets and the name twice, and then overwrites the two octets.
 fn compose_twice<Target: Composer>(target: &mut Target) -> Result<bool, AppendError> {
     target.truncate(0);
     target.append_slice(&[0, 0])?;

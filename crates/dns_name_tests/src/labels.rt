@@ -1,4 +1,4 @@
-//! Labels that are changed where they stand, and the symbols of a text in a closure.
+//! Labels that are changed in place, and the symbols of a text in a closure.
 mod lent;
 mod owned_view;
 mod symbols;

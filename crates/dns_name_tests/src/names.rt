@@ -11,7 +11,7 @@ use dns_name::{
 };
 use std::test::Fail;
 
-/// A message with www.example.com at 15.
+/// A message with www.example.com at place 15.
 const WWW: &[u8] = b"\x03com\x00\x07example\xc0\x00\x03www\xc0\x05";
 
 /// The name www.example.com of `WWW`.

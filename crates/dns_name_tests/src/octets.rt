@@ -1,4 +1,4 @@
-//! Octets and targets of each kind, through their bounds, and what errors show.
+//! Octets and targets of each kind, used through their trait bounds, and the texts of errors.
 use arrayvec::ArrayVec;
 use dns_octets::{
     AppendError, EmptyBuilder, FormError, FreezeBuilder, FromBuilder, Octets, OctetsBuilder,
@@ -74,7 +74,7 @@ fn octets_of_targets(rt: HostRuntime) -> Result<(), Fail> {
     Ok(())
 }
 
-/// The octets appended to an empty target, which are then taken out of it.
+/// Appends the octets to an empty target, and returns what is then taken out of it.
 fn collected<Octs: FromBuilder>(alloc: Global, octets: &[u8]) -> Result<Octs, AppendError>
 where
     Octs::Builder: EmptyBuilder + Drop,

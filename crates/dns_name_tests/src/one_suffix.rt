@@ -12,7 +12,7 @@ use std::alloc::Global;
 
 /// How names are compared.
 pub trait Comparison: Copy {
-    /// Whether names that differ in ASCII case alone are the same.
+    /// Whether names that differ only in ASCII case are the same.
     ghost folds: { Bool };
 
     /// Returns whether two names, as octets on the wire, are the same.
@@ -20,7 +20,7 @@ pub trait Comparison: Copy {
         ensures { result ≡ is_same (one_suffix folds) one.now other.now };
 }
 
-/// Names that differ in ASCII case alone are the same (RFC 4343).
+/// Names that differ only in ASCII case are the same (RFC 4343).
 #[derive(Clone, Copy)]
 pub struct UpToCase;
 
@@ -32,7 +32,7 @@ impl Comparison for UpToCase {
     }
 }
 
-/// Names are the same where their octets are.
+/// Names are the same if their octets are.
 #[derive(Clone, Copy)]
 pub struct OctetForOctet;
 
@@ -44,7 +44,7 @@ impl Comparison for OctetForOctet {
     }
 }
 
-/// The octets, and the places between which the remembered name stands.
+/// The octets, and the places of the remembered name: where it begins and where it ends.
 #[derive(Drop)]
 pub struct OneSuffix<C: Comparison> {
     comparison: C,
@@ -101,7 +101,7 @@ impl<C: Comparison> Truncate for OneSuffix<C> {
     }
 }
 
-/// Returns what is still remembered after a cut of the octets to a length.
+/// Returns what is still remembered after the octets are cut to a length.
 fn still_within(between: Option<(usize, usize)>, len: usize) -> Option<(usize, usize)>
     ensures { result ≡ within len between }
 {
@@ -130,8 +130,8 @@ impl<C: Comparison> Composer for OneSuffix<C> {
     ghost sound = { λ target. target.sound };
 }
 
-/// Appends a pointer where the name is the remembered one, and else the name in full. Returns which name is remembered
-/// then.
+/// Appends a pointer if the name is the remembered one, otherwise the name in full. Returns which name is remembered
+/// then. Fails only if out of memory, and then leaves the octets as they were.
 fn append_name<C: Comparison, N: ToName>(
     comparison: C,
     octets: &mut Vec<u8>,
@@ -169,7 +169,7 @@ fn append_name<C: Comparison, N: ToName>(
     }
 }
 
-/// Returns whether the octets from a place on are the same as those between two places before it.
+/// Returns whether the octets from a place on are the same as those between two earlier places.
 fn is_repeated<C: Comparison>(
     comparison: C,
     octets: &[u8],

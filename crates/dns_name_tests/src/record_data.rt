@@ -1,4 +1,4 @@
-//! Data with a name in it, through the calls that all types of data have (RFC 1035 3.3.11, 4.1.4; RFC 4034 6.2).
+//! Data with a name in it, used through the calls of all types of data (RFC 1035 3.3.11, 4.1.4; RFC 4034 6.2).
 mod server;
 
 use crate::one_suffix::{OctetForOctet, OneSuffix};

@@ -3,7 +3,7 @@ use dns_name::{OctetKind, run_end};
 use std::simd::prelude::*;
 use std::test::Fail;
 
-/// The octet of the letter a alone.
+/// The kind of one octet, the letter a.
 struct LetterA;
 
 impl OctetKind for LetterA {
@@ -20,7 +20,7 @@ impl OctetKind for LetterA {
     }
 }
 
-/// Texts shorter and longer than what is looked at together, with another octet at each place or none.
+/// Texts shorter and longer than the octets that are checked together, with another octet at each place or none.
 #[test]
 fn a_run_ends_at_another_octet_or_the_end(rt: HostRuntime) -> Result<(), Fail> {
     for len in 0..40 {

@@ -1,4 +1,4 @@
-//! Opaque data, in octets of each kind.
+//! Unknown data, in octets of each kind.
 use arrayvec::ArrayVec;
 use dns_name::{AppendError, ComposeRecordData, OctetsFrom, RecordData, Rtype, UnknownRecordData};
 use std::alloc::Global;

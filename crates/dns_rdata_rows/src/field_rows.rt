@@ -1,4 +1,4 @@
-//! Rows of fields as values of their types: the row and then its fields are the arguments of a call.
+//! Rows of fields as values of their types: a call's arguments are the kind of row and then its fields.
 ghost use Rattle.dns_text.specs.Documents.{block_of};
 ghost use Rattle.dns_rdata.specs.Shown.{row_pieces};
 
@@ -16,7 +16,7 @@ use std::alloc::Global;
 use std::fmt;
 use std::net::Ipv4Addr;
 
-/// Writes the octets that a row of fields is composed as.
+/// Writes the octets of a row of fields, composed.
 fn octets<R: FieldRow>(alloc: Global, row: &R, out: &mut Answer) -> Result<(), RowError> {
     let mut target = Vec::new(alloc);
     let outcome = compose_row(row, &mut target);
@@ -35,7 +35,7 @@ fn written(
     }
 }
 
-/// Answers how a row of a name that may be a pointer and one that may not is composed.
+/// Answers how a row is composed that has a name that may be compressed and one that may not.
 pub fn answer_composed(alloc: Global, row: &mut Row<'_>, out: &mut Answer) -> Result<(), RowError> {
     let one = row.octets(alloc)?;
     let other = row.octets(alloc)?;
@@ -57,7 +57,7 @@ pub fn answer_composed(alloc: Global, row: &mut Row<'_>, out: &mut Answer) -> Re
     }
 }
 
-/// Answers how many octets a row has.
+/// Answers how many octets a row takes.
 pub fn answer_len(alloc: Global, row: &mut Row<'_>, out: &mut Answer) -> Result<(), RowError> {
     match row.word()? {
         "names" => answer_composed(alloc, row, out),
@@ -65,21 +65,22 @@ pub fn answer_len(alloc: Global, row: &mut Row<'_>, out: &mut Answer) -> Result<
     }
 }
 
-/// Answers how many octets a rest has, and how many a row of a number and the rest.
+/// Answers how many octets a rest takes, and how many a row of a number and the rest.
 fn answer_rest_len(alloc: Global, row: &mut Row<'_>, out: &mut Answer) -> Result<(), RowError> {
     let rest = row.octets(alloc)?;
     out.named(&row_len(&Last(Rest16(rest.as_slice())), false))?;
     out.named(&row_len(&(1u8, Last(Rest16(rest.as_slice()))), false))
 }
 
-/// The rows of A, NS and CAA data in a message.
+/// The row of A data. The rows of NS and CAA data in a message follow.
 type Address = (Ipv4Addr, ());
 
 type Host<'a> = (Compressible<ParsedName<&'a [u8]>>, ());
 
 type Property<'a> = (u8, (Tag<&'a [u8]>, Last<RestText<&'a [u8]>>));
 
-/// Answers how a row is parsed: the octets that it is composed as, or why there is none, and the parser's place then.
+/// Answers how a row is parsed: its octets when it is composed again, or why there is no row, and then the parser's
+/// place.
 pub fn answer_parsed(alloc: Global, row: &mut Row<'_>, out: &mut Answer) -> Result<(), RowError> {
     let kind = row.word()?;
     let message = row.octets(alloc)?;
@@ -93,7 +94,8 @@ pub fn answer_parsed(alloc: Global, row: &mut Row<'_>, out: &mut Answer) -> Resu
     out.shown(&parser.pos())
 }
 
-/// Writes the octets of a row, or why there is none and whether this is `ShortInput` as an error of data of any type.
+/// Writes the octets of a row, or why there is none and whether this error is `ShortInput` as an error of data of any
+/// type.
 fn parsed<R: FieldRow + Drop>(
     alloc: Global,
     row: Result<R, ReadError>,
@@ -108,7 +110,7 @@ fn parsed<R: FieldRow + Drop>(
     }
 }
 
-/// Answers how the row of MX data is scanned: the octets that it is composed as, and the words that are left.
+/// Answers how the row of MX data is scanned: its octets when it is composed, and the words that are left.
 pub fn answer_scanned(alloc: Global, row: &mut Row<'_>, out: &mut Answer) -> Result<(), RowError> {
     let words = row.lines(alloc)?;
     let mut scanner = IterScanner::new(alloc, words.as_str().lines())?;
@@ -119,7 +121,7 @@ pub fn answer_scanned(alloc: Global, row: &mut Row<'_>, out: &mut Answer) -> Res
     left(&mut scanner, out)
 }
 
-/// Answers the strings that octets are: these octets, and how many strings there are.
+/// Answers how octets are read as strings: these octets, and the number of strings.
 pub fn answer_strings(alloc: Global, row: &mut Row<'_>, out: &mut Answer) -> Result<(), RowError> {
     let octets = row.octets(alloc)?;
     let Some(strings) = Strings::from_octets(octets.as_slice()) else {
@@ -133,7 +135,7 @@ pub fn answer_strings(alloc: Global, row: &mut Row<'_>, out: &mut Answer) -> Res
     out.shown(&count)
 }
 
-/// Answers how the canonical form of a row stands to octets.
+/// Answers how the canonical form of a row compares to octets.
 pub fn answer_beside(alloc: Global, row: &mut Row<'_>, out: &mut Answer) -> Result<(), RowError> {
     let octets = row.octets(alloc)?;
     let octets = octets.as_slice();
@@ -160,7 +162,7 @@ pub fn answer_beside(alloc: Global, row: &mut Row<'_>, out: &mut Answer) -> Resu
     }
 }
 
-/// Writes how the canonical form of a row stands to octets.
+/// Writes how the canonical form of a row compares to octets.
 fn beside<R: FrontRow>(row: &R, octets: &[u8], out: &mut Answer) -> Result<(), RowError> {
     out.named(&canonical_row_cmp_octets(row, octets))
 }

@@ -1,16 +1,16 @@
-//! The fields of data, as the getters of its type return them.
+//! The fields of data, as returned by the getters of its type.
 use crate::given::Read;
 use dns_name::RecordData;
 use dns_rdata::ZoneRecordData;
 use rows::{Answer, RowError};
 
-/// Writes the type of data and its fields.
+/// Writes the type of the data and its fields.
 pub fn answer(rdata: &Read<'_>, out: &mut Answer) -> Result<(), RowError> {
     out.shown(&rdata.rtype().to_int())?;
     names(rdata, out)
 }
 
-/// Writes the fields of data of a type that has one name.
+/// Writes the fields of data if its type has one name.
 fn names(rdata: &Read<'_>, out: &mut Answer) -> Result<(), RowError> {
     match rdata {
         ZoneRecordData::Ns(ns) => out.shown(ns.nsdname()),
@@ -25,7 +25,7 @@ fn names(rdata: &Read<'_>, out: &mut Answer) -> Result<(), RowError> {
     }
 }
 
-/// Writes the fields of data of another type that has names.
+/// Writes the fields of data if its type is another one with names.
 fn rows_of_names(rdata: &Read<'_>, out: &mut Answer) -> Result<(), RowError> {
     match rdata {
         ZoneRecordData::Soa(soa) => {
@@ -59,7 +59,7 @@ fn rows_of_names(rdata: &Read<'_>, out: &mut Answer) -> Result<(), RowError> {
     }
 }
 
-/// Writes the fields of data of a type that has no names.
+/// Writes the fields of data if its type has no names.
 fn rows_of_octets(rdata: &Read<'_>, out: &mut Answer) -> Result<(), RowError> {
     match rdata {
         ZoneRecordData::A(a) => out.shown(&a.addr()),

@@ -1,4 +1,4 @@
-//! Data that a row gives: its type, and a message in which it stands from a place to the end.
+//! Data that a row gives: its type, and a message with the data from a place up to the end.
 use crate::zone_data::{answer_method, layout_of};
 use dns_name::{ParseAnyRecordData, ParseError, ParsedName, Parser, Rtype, UnknownRecordData};
 use dns_rdata::ZoneRecordData;
@@ -18,7 +18,7 @@ pub struct Given {
 }
 
 impl Given {
-    /// Takes a type, and the place behind its `@` if there is one.
+    /// Takes a type, and the place after its `@` if there is one.
     pub fn of(row: &mut Row<'_>) -> Result<Self, RowError> {
         let word = row.word()?;
         let (is_opaque, word) = match word.strip_prefix("\\#") {
@@ -39,7 +39,8 @@ impl Given {
         }
     }
 
-    /// The data of these octets: its fields from the place on, or where it is opaque all octets.
+    /// Parses the data of these octets: its fields from the place on, or all octets if it is
+    /// unknown data.
     pub fn read<'a>(self, octets: &'a [u8]) -> Result<Read<'a>, ParseError> {
         if self.is_opaque {
             return match UnknownRecordData::from_octets(self.rtype, octets) {
@@ -65,7 +66,7 @@ pub fn answer(alloc: Global, row: &mut Row<'_>, out: &mut Answer) -> Result<(), 
     }
 }
 
-/// Answers the text of data under a layout, as a literal.
+/// Answers the text of data in a layout, as a literal.
 pub fn answer_layout(alloc: Global, row: &mut Row<'_>, out: &mut Answer) -> Result<(), RowError> {
     let kind = layout_of(row)?;
     let given = Given::of(row)?;

@@ -1,4 +1,4 @@
-//! Data that is made of its fields.
+//! Data that is made from its fields.
 use dns_name::{ComposeRecordData, LongRecordData};
 use dns_rdata::{A, Aaaa, Caa, Dnskey, Ds, Hinfo};
 use dns_text::CharStr;
@@ -7,7 +7,8 @@ use std::alloc::Global;
 use std::fmt::Display;
 use std::net::Ipv4Addr;
 
-/// Writes the type and how many octets data has, or its text if that is what is called, or why there is none.
+/// Writes the type of the data and its number of octets, or its text if the call is `to_string`, or why there is no
+/// data.
 fn made<D: ComposeRecordData + Display + Drop>(
     method: &str,
     rdata: Result<D, LongRecordData>,
@@ -25,7 +26,7 @@ fn made<D: ComposeRecordData + Display + Drop>(
     }
 }
 
-/// Answers a call of a type that is an address: the address that it then gives.
+/// Answers a call of a type whose data is an address: the address that it returns.
 pub fn answer_address(row: &mut Row<'_>, out: &mut Answer) -> Result<(), RowError> {
     match row.call() {
         "A::from_octets" => {
@@ -56,27 +57,27 @@ fn string(alloc: Global, row: &mut Row<'_>) -> Result<CharStr<Vec<u8>>, RowError
     }
 }
 
-/// Answers how HINFO data is made: its text.
+/// Answers how HINFO data is made: writes its text.
 pub fn answer_hinfo(alloc: Global, row: &mut Row<'_>, out: &mut Answer) -> Result<(), RowError> {
     let cpu = string(alloc, row)?;
     out.shown(&Hinfo::new(cpu, string(alloc, row)?))
 }
 
-/// Answers how CAA data is made.
+/// Answers a call that makes CAA data.
 pub fn answer_caa(alloc: Global, row: &mut Row<'_>, out: &mut Answer) -> Result<(), RowError> {
     let flags = row.value()?;
     let tag = string(alloc, row)?;
     made(row.method(), Caa::new(flags, tag, row.octets(alloc)?), out)
 }
 
-/// Answers how DNSKEY data is made.
+/// Answers a call that makes DNSKEY data.
 pub fn answer_dnskey(alloc: Global, row: &mut Row<'_>, out: &mut Answer) -> Result<(), RowError> {
     let (flags, protocol, algorithm) = (row.value()?, row.value()?, row.value()?);
     let key = Dnskey::new(flags, protocol, algorithm, row.octets(alloc)?);
     made(row.method(), key, out)
 }
 
-/// Answers how DS data is made, or the digest that it gives away.
+/// Answers a call that makes DS data or takes the digest out of it.
 pub fn answer_ds(alloc: Global, row: &mut Row<'_>, out: &mut Answer) -> Result<(), RowError> {
     let (key_tag, algorithm, digest_type) = (row.value()?, row.value()?, row.value()?);
     let ds = Ds::new(key_tag, algorithm, digest_type, row.octets(alloc)?);
@@ -86,7 +87,7 @@ pub fn answer_ds(alloc: Global, row: &mut Row<'_>, out: &mut Answer) -> Result<(
     made(row.method(), ds, out)
 }
 
-/// Writes the digest that data gives away.
+/// Writes the digest taken out of the data.
 fn digest(ds: Result<Ds<Vec<u8>>, LongRecordData>, out: &mut Answer) -> Result<(), RowError> {
     match ds {
         Ok(ds) => out.octets(ds.into_digest().as_slice()),

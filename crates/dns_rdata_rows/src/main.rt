@@ -1,7 +1,7 @@
-//! Rows of the calls of `dns_rdata`: what each call returns for the values that stand in `stdin`.
+//! Answers rows of the calls of `dns_rdata`: what each call returns for the values in `stdin`.
 //!
-//! Data is given by its type and its octets, a type as its mnemonic. A type after `\#` makes its data opaque. Where `@` and a
-//! number stand behind a type, the octets are a message, and the data stands in it from that place on.
+//! Data is given by its type and its octets, a type by its mnemonic. A type after `\#` makes it unknown data. If `@`
+//! and a number follow a type, the octets are a message, and the data begins at that place in it.
 #![tactic(auto)]
 
 mod field_rows;

@@ -1,4 +1,4 @@
-//! Data of the types that have names: made of its fields, and read only as its own type.
+//! Data of the types with names: made from its fields, and parsed only as its own type.
 use crate::zone_data::{parser_at, placed};
 use dns_name::{Name, ParseError, ParseRecordData, ParsedName, Serial, Ttl};
 use dns_rdata::{Cname, Mb, Md, Mf, Mg, Minfo, Mr, Mx, Ns, Ptr, Rp, Soa, Srv};
@@ -6,7 +6,7 @@ use rows::{Answer, Row, RowError};
 use std::alloc::Global;
 use std::fmt::Display;
 
-/// The name of these octets.
+/// Returns the name of these octets.
 pub fn name(octets: &[u8]) -> Result<Name<&[u8]>, RowError> {
     match Name::from_slice(octets) {
         Ok(name) => Ok(name),
@@ -14,7 +14,8 @@ pub fn name(octets: &[u8]) -> Result<Name<&[u8]>, RowError> {
     }
 }
 
-/// Answers how data of one name is made: the name that it gives by reference, and the one that it gives away.
+/// Answers how data of one name is made: writes the name that it returns by reference and the name that it is converted
+/// into.
 pub fn answer_one(alloc: Global, row: &mut Row<'_>, out: &mut Answer) -> Result<(), RowError> {
     let octets = row.octets(alloc)?;
     let name = name(octets.as_slice())?;
@@ -74,7 +75,7 @@ fn mailbox(family: &str, name: Name<&[u8]>, out: &mut Answer) -> Result<(), RowE
     }
 }
 
-/// Answers how data of two names is made: its text.
+/// Answers how data of two names is made: writes its text.
 pub fn answer_two(alloc: Global, row: &mut Row<'_>, out: &mut Answer) -> Result<(), RowError> {
     let one = row.octets(alloc)?;
     let other = row.octets(alloc)?;
@@ -86,7 +87,7 @@ pub fn answer_two(alloc: Global, row: &mut Row<'_>, out: &mut Answer) -> Result<
     }
 }
 
-/// Takes the numbers of SOA data, and writes its text, its version and how long it may be kept that something is not there.
+/// Takes the numbers of SOA data, and writes its text, its serial number and its minimum TTL.
 fn soa(
     row: &mut Row<'_>,
     mname: Name<&[u8]>,
@@ -106,25 +107,24 @@ fn soa(
     out.shown(&soa.minimum().as_secs())
 }
 
-/// Answers how MX data is made: its text.
+/// Answers how MX data is made: writes its text.
 pub fn answer_mx(alloc: Global, row: &mut Row<'_>, out: &mut Answer) -> Result<(), RowError> {
     let preference = row.value()?;
     let octets = row.octets(alloc)?;
     out.shown(&Mx::new(preference, name(octets.as_slice())?))
 }
 
-/// Answers how SRV data is made: its text.
+/// Answers how SRV data is made: writes its text.
 pub fn answer_srv(alloc: Global, row: &mut Row<'_>, out: &mut Answer) -> Result<(), RowError> {
     let (priority, weight, port) = (row.value()?, row.value()?, row.value()?);
     let octets = row.octets(alloc)?;
     out.shown(&Srv::new(priority, weight, port, name(octets.as_slice())?))
 }
 
-/// Data over a name of a message.
+/// A name in a message.
 type Parsed<'a> = ParsedName<&'a [u8]>;
 
-/// Answers the data that stands in a message from a place on if it is of the type that the row gives, and the parser's place
-/// then.
+/// Answers the data at a place of a message, if it is of the type in the row, and then the parser's place.
 pub fn answer_taken(alloc: Global, row: &mut Row<'_>, out: &mut Answer) -> Result<(), RowError> {
     let (rtype, place, message) = placed(alloc, row)?;
     let mut parser = parser_at(message.as_slice(), place)?;

@@ -1,4 +1,4 @@
-//! Two values of data, compared.
+//! Comparisons of two values of data.
 use crate::given::{Given, Read};
 use dns_name::CanonicalOrd;
 use rows::{Answer, Row, RowError};
@@ -27,7 +27,7 @@ pub fn answer(alloc: Global, row: &mut Row<'_>, out: &mut Answer) -> Result<(), 
     }
 }
 
-/// Writes how the values stand to each other, of `eq` also whether both have one hash.
+/// Writes how the values compare; for `eq` also whether they have the same hash.
 fn compared(
     call: &str,
     one: &Read<'_>,

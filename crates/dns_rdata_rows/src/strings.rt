@@ -1,10 +1,10 @@
-//! TXT data: strings in a row, and how they are built (RFC 1035 3.3.14).
+//! TXT data: its strings, and how they are built (RFC 1035 3.3.14).
 use dns_rdata::{Txt, TxtAppendError, TxtBuilder};
 use dns_text::{CharStr, IterScanner};
 use rows::{Answer, Row, RowError};
 use std::alloc::Global;
 
-/// Answers a call of TXT data, whose octets are the argument. A long text is cut into strings, whose lengths stand there.
+/// Answers a call of TXT data, whose octets are the argument. If a long text is cut into strings, writes their lengths.
 pub fn answer(alloc: Global, row: &mut Row<'_>, out: &mut Answer) -> Result<(), RowError> {
     if row.call() == "Txt::scan" {
         return scanned(alloc, row, out);
@@ -46,7 +46,7 @@ pub fn answer(alloc: Global, row: &mut Row<'_>, out: &mut Answer) -> Result<(), 
     }
 }
 
-/// Answers how many octets the data has that is scanned from so many words, each of so many octets.
+/// Answers how many octets the data takes that is scanned from `count` words of `len` octets each.
 fn scanned(alloc: Global, row: &mut Row<'_>, out: &mut Answer) -> Result<(), RowError> {
     let (count, len): (u16, u16) = (row.value()?, row.value()?);
     let mut words = String::new(alloc);
@@ -63,7 +63,7 @@ fn scanned(alloc: Global, row: &mut Row<'_>, out: &mut Answer) -> Result<(), Row
     }
 }
 
-/// Writes how many octets the data has, and then of each string.
+/// Writes the number of octets of the data, and then of each string.
 fn lengths(txt: &Txt<Vec<u8>>, out: &mut Answer) -> Result<(), RowError> {
     out.shown(&txt.len())?;
     for string in txt.iter() {
@@ -72,7 +72,7 @@ fn lengths(txt: &Txt<Vec<u8>>, out: &mut Answer) -> Result<(), RowError> {
     Ok(())
 }
 
-/// Writes that a call succeeds, or why it is refused.
+/// Writes that a call succeeds, or why it fails.
 fn outcome(out: &mut Answer, outcome: Result<(), TxtAppendError>) -> Result<(), RowError> {
     match outcome {
         Ok(()) => out.shown(&"ok"),
@@ -80,7 +80,7 @@ fn outcome(out: &mut Answer, outcome: Result<(), TxtAppendError>) -> Result<(), 
     }
 }
 
-/// Answers each call of a builder, and in the end how many octets the data has and how many each string.
+/// Answers each call of a builder, and at the end the number of octets of the data and of each string.
 pub fn answer_builder(alloc: Global, row: &mut Row<'_>, out: &mut Answer) -> Result<(), RowError> {
     let mut builder = TxtBuilder::new_vec(alloc);
     for _ in 0..u32::MAX {

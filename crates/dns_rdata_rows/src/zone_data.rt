@@ -85,7 +85,7 @@ pub fn layout_of(row: &mut Row<'_>) -> Result<DisplayKind, RowError> {
     }
 }
 
-/// Answers the data that the words spell, and after `|` the words that are left.
+/// Answers the data that the words spell, and the words that are left, after `|`.
 pub fn answer_scan(alloc: Global, row: &mut Row<'_>, out: &mut Answer) -> Result<(), RowError> {
     let rtype = row.value()?;
     let words = row.lines(alloc)?;
@@ -95,7 +95,7 @@ pub fn answer_scan(alloc: Global, row: &mut Row<'_>, out: &mut Answer) -> Result
     left(&mut scanner, out)
 }
 
-/// Writes the words that are left, with `|` before them.
+/// Writes `|` and the words that are left.
 pub fn left<S: Scanner>(scanner: &mut S, out: &mut Answer) -> Result<(), RowError>
 where
     S::Error: Drop,
@@ -113,12 +113,12 @@ where
     Ok(())
 }
 
-/// A type, a place and a message.
+/// Takes a type, a place and a message.
 pub fn placed(alloc: Global, row: &mut Row<'_>) -> Result<(Rtype, usize, Vec<u8>), RowError> {
     Ok((row.value()?, row.value()?, row.octets(alloc)?))
 }
 
-/// A parser of a message at a place.
+/// Returns a parser of a message at a place.
 pub fn parser_at(message: &[u8], place: usize) -> Result<Parser<'_>, RowError> {
     let mut parser = Parser::from_ref(message);
     match parser.advance(place) {
@@ -127,7 +127,7 @@ pub fn parser_at(message: &[u8], place: usize) -> Result<Parser<'_>, RowError> {
     }
 }
 
-/// Answers the data that stands in a message from a place on, and the parser's place then.
+/// Answers the data at a place of a message, and then the parser's place.
 pub fn answer_parse(alloc: Global, row: &mut Row<'_>, out: &mut Answer) -> Result<(), RowError> {
     let (rtype, place, message) = placed(alloc, row)?;
     let mut parser = parser_at(message.as_slice(), place)?;
@@ -136,7 +136,7 @@ pub fn answer_parse(alloc: Global, row: &mut Row<'_>, out: &mut Answer) -> Resul
     out.shown(&parser.pos())
 }
 
-/// Answers the same by the call that takes data of some types alone.
+/// The same for the call that takes only data of some types.
 pub fn answer_taken(alloc: Global, row: &mut Row<'_>, out: &mut Answer) -> Result<(), RowError> {
     let (rtype, place, message) = placed(alloc, row)?;
     let mut parser = parser_at(message.as_slice(), place)?;
@@ -148,7 +148,7 @@ pub fn answer_taken(alloc: Global, row: &mut Row<'_>, out: &mut Answer) -> Resul
     out.shown(&parser.pos())
 }
 
-/// Answers the data that stands in a message from a place on, once it owns its octets.
+/// Answers the data at a place of a message, converted so that it owns its octets.
 pub fn answer_owned(alloc: Global, row: &mut Row<'_>, out: &mut Answer) -> Result<(), RowError> {
     let (rtype, place, message) = placed(alloc, row)?;
     let mut parser = parser_at(message.as_slice(), place)?;

@@ -1,4 +1,4 @@
-//! Strings that are built into octets that have too little room.
+//! Strings that are built into octets with too little room.
 use arrayvec::ArrayVec;
 use dns_rdata::{Txt, TxtAppendError, TxtBuilder};
 use std::test::Fail;

@@ -1,4 +1,4 @@
-//! Data in octets of another kind, which have room for it or not.
+//! Data in octets of another kind, with room for it and without.
 use arrayvec::ArrayVec;
 use dns_name::{
     AppendError, FlattenInto, Name, OctetsFrom, ParseAnyRecordData, ParsedName, Parser, Rtype,
@@ -38,7 +38,7 @@ fn strings_are_of_another_kind_where_they_fit(rt: HostRuntime) -> Result<(), Fai
     Ok(())
 }
 
-/// Data whose octets and names lie in a message.
+/// Data whose octets and names are in a message.
 type Read<'a> = ZoneRecordData<&'a [u8], ParsedName<&'a [u8]>>;
 
 /// Data in at most two octets.

@@ -62,7 +62,7 @@ fn answer_string(
     }
 }
 
-/// Answers a comparison of two strings, of `eq` also whether they have one hash.
+/// Answers a comparison of two strings; for `eq` also whether they have the same hash.
 fn answer_pair(one: Vec<u8>, other: Vec<u8>, call: &str, out: &mut Answer) -> Result<(), RowError> {
     let (Ok(one), Ok(other)) = (CharStr::from_octets(one), CharStr::from_octets(other)) else {
         return Err(RowError::BadWord);
@@ -84,7 +84,7 @@ fn hashed(string: &CharStr<Vec<u8>>) -> u64 {
     state.finish()
 }
 
-/// Answers each append to a builder, and the string in the end.
+/// Answers each append to a builder, and writes the finished string.
 pub fn answer_builder(alloc: Global, row: &mut Row<'_>, out: &mut Answer) -> Result<(), RowError> {
     let mut builder = match CharStrBuilder::from_builder(row.octets(alloc)?) {
         Ok(builder) => builder,

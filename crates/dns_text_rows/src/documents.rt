@@ -1,4 +1,4 @@
-//! Documents under the three layouts (RFC 1035 5.1).
+//! Documents in the three layouts (RFC 1035 5.1).
 use dns_name::{
     Chain, Class, Name, ParsedName, Parser, RelativeName, Rtype, Serial, Ttl, UnknownRecordData,
 };
@@ -6,7 +6,7 @@ use dns_text::{DisplayKind, ZonefileFmt};
 use rows::{Answer, Row, RowError};
 use std::alloc::Global;
 
-/// The layout of this name.
+/// Returns the layout of this name.
 fn kind_of(word: &str) -> Result<DisplayKind, RowError> {
     match word {
         "Simple" => Ok(DisplayKind::Simple),
@@ -16,7 +16,7 @@ fn kind_of(word: &str) -> Result<DisplayKind, RowError> {
     }
 }
 
-/// Writes the text of a value under a layout as a literal.
+/// Writes the text of a value in a layout, as a literal.
 fn show<T: ZonefileFmt + Drop>(
     alloc: Global,
     kind: DisplayKind,
@@ -45,7 +45,7 @@ pub fn answer(alloc: Global, row: &mut Row<'_>, out: &mut Answer) -> Result<(), 
     }
 }
 
-/// Answers the text of a name.
+/// Answers a call for the text of a name.
 fn answer_name(
     word: &str,
     kind: DisplayKind,

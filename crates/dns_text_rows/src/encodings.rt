@@ -48,7 +48,8 @@ fn display(alloc: Global, row: &mut Row<'_>, out: &mut Answer) -> Result<(), Row
     out.shown(&shown)
 }
 
-/// Pushes each character of a text to a decoder, and then finalizes it. Every answer stands there.
+/// Pushes each character of a text to a decoder, and then finalizes it. Writes the result of each
+/// call.
 macro_rules! push_all {
     ($base:ident, $alloc:expr, $row:expr, $out:expr) => {{
         let text = $row.text($alloc)?;

@@ -1,4 +1,4 @@
-//! What a scanner over the words of a row takes, and what it leaves (RFC 1035 5.1, RFC 3597 5).
+//! What a scanner of the words of a row takes, and what it leaves (RFC 1035 5.1, RFC 3597 5).
 use dns_name::{Class, Octets, Rtype, Serial, Ttl, UnknownRecordData};
 use dns_text::{CharStr, IterScanner, Scan, Scanner, scan_unknown_octets, scan_without_marker};
 use rows::{Answer, Row, RowError};
@@ -6,7 +6,7 @@ use std::alloc::Global;
 use std::error::Error;
 use std::fmt::Display;
 
-/// Writes the tokens that a scanner has left, if any, after `|`.
+/// Writes `|` and the tokens that a scanner has left, if any.
 pub fn rest(scanner: &mut IterScanner<'_>, out: &mut Answer) -> Result<(), RowError> {
     if scanner.continues() {
         out.shown(&"|")?;
@@ -54,7 +54,7 @@ fn shown_or<T: Display + Drop, E: Error>(
     }
 }
 
-/// Writes that a call succeeds, or why it is refused.
+/// Writes that a call succeeds, or why it fails.
 pub fn done_or<E: Error>(out: &mut Answer, outcome: Result<(), E>) -> Result<(), RowError> {
     match outcome {
         Ok(()) => out.shown(&"ok"),
@@ -106,7 +106,7 @@ fn answer_number(
     }
 }
 
-/// Answers `scan` of a value of records.
+/// Answers `scan` of a value in records.
 fn answer_value(
     call: &str,
     scanner: &mut IterScanner<'_>,
@@ -132,7 +132,7 @@ fn answer_value(
     }
 }
 
-/// Answers data of an unknown type, of `scan_without_marker` as that of type A.
+/// Answers a call for data of an unknown type; `scan_without_marker` is called for type A.
 fn answer_data(
     call: &str,
     scanner: &mut IterScanner<'_>,

@@ -8,7 +8,7 @@ use std::hash::{DefaultHasher, Hash, Hasher};
 
 type Owned = UncertainName<Vec<u8>>;
 
-/// Writes of which kind a name is, its octets and its text.
+/// Writes whether a name is absolute or relative, its octets and its text.
 fn name_or<E: Error>(out: &mut Answer, name: Result<Owned, E>) -> Result<(), RowError> {
     match name {
         Ok(name) => {
@@ -24,7 +24,7 @@ fn name_or<E: Error>(out: &mut Answer, name: Result<Owned, E>) -> Result<(), Row
     }
 }
 
-/// The name of the octets that are the next argument.
+/// Takes the next argument, and returns the name of its octets.
 fn name_of(alloc: Global, row: &mut Row<'_>) -> Result<Owned, RowError> {
     match UncertainName::from_octets(row.octets(alloc)?) {
         Ok(name) => Ok(name),
@@ -32,7 +32,7 @@ fn name_of(alloc: Global, row: &mut Row<'_>) -> Result<Owned, RowError> {
     }
 }
 
-/// The absolute name of the octets that are the next argument.
+/// Takes the next argument, and returns the absolute name of its octets.
 fn absolute_of(alloc: Global, row: &mut Row<'_>) -> Result<Name<Vec<u8>>, RowError> {
     match Name::from_octets(row.octets(alloc)?) {
         Ok(name) => Ok(name),
@@ -94,7 +94,7 @@ fn answer_method(alloc: Global, row: &mut Row<'_>, out: &mut Answer) -> Result<(
     }
 }
 
-/// Answers a method of a name and another, of `eq` also whether they have one hash.
+/// Answers a method of two names; for `eq` also whether they have the same hash.
 fn answer_pair(
     alloc: Global,
     name: &Owned,
@@ -113,7 +113,7 @@ fn answer_pair(
     }
 }
 
-/// Answers a method of a name under an absolute suffix.
+/// Answers a method of a name with an absolute suffix.
 pub fn answer_chain(alloc: Global, row: &mut Row<'_>, out: &mut Answer) -> Result<(), RowError> {
     let name = name_of(alloc, row)?;
     let chain = match name.chain(absolute_of(alloc, row)?) {

@@ -1,6 +1,6 @@
-//! Tests of `dns_text` that a row of `dns_text_rows` cannot say: types, closures, and targets that refuse.
+//! Tests of `dns_text` that a row of `dns_text_rows` cannot say: types, closures, and targets that fail.
 //!
-//! They stand in a crate of their own, so that a check of the tests doesn't check `dns_text` once more.
+//! They are in a crate of their own, so that a check of the tests doesn't check `dns_text` again.
 #![tactic(auto)]
 
 #[cfg(test)]

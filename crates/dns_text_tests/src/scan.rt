@@ -1,4 +1,4 @@
-//! Strings, scanners and converters: octets of several kinds, closures, and errors that no text gives.
+//! Strings, scanners and converters: octets of several kinds, closures, and errors that no text causes.
 mod char_strs;
 mod scanners;
 mod symbols;

@@ -1,4 +1,4 @@
-//! Readers that are handed a text and asked for entries, step by step.
+//! Readers that are given a text and asked for entries, step by step.
 use dns_name::{Class, ComposeRecordData, Name, ToName};
 use dns_zonefile::{ComposedEntry, Entry, Error, ScannedRecord, Zonefile};
 use rows::{Answer, Row, RowError};
@@ -26,7 +26,7 @@ pub fn answer_of_text(alloc: Global, row: &mut Row<'_>, out: &mut Answer) -> Res
     take_steps(alloc, &mut zonefile, row, out)
 }
 
-/// Answers how many entries a text has that is repeated so many times, of class IN where none is stated.
+/// Answers how many entries a text has that is repeated a number of times. Entries without a class are of class IN.
 pub fn answer_count(alloc: Global, row: &mut Row<'_>, out: &mut Answer) -> Result<(), RowError> {
     let mut zonefile = repeated(alloc, row)?;
     match read_to_end(&mut zonefile) {
@@ -35,7 +35,7 @@ pub fn answer_count(alloc: Global, row: &mut Row<'_>, out: &mut Answer) -> Resul
     }
 }
 
-/// Answers how many octets the records of such a text have.
+/// Answers how many octets the records of such a text take.
 pub fn answer_count_octets(
     alloc: Global,
     row: &mut Row<'_>,
@@ -49,7 +49,7 @@ pub fn answer_count_octets(
     }
 }
 
-/// Returns a reader of a text that is repeated so many times.
+/// Returns a reader of a text that is repeated a number of times.
 fn repeated(alloc: Global, row: &mut Row<'_>) -> Result<Zonefile, RowError> {
     let count: u32 = row.value()?;
     let once = row.text_octets(alloc)?;
@@ -62,8 +62,8 @@ fn repeated(alloc: Global, row: &mut Row<'_>) -> Result<Zonefile, RowError> {
     Ok(zonefile)
 }
 
-/// Answers the octets of a text's records, of class IN where none is stated, behind one another up to the end or to what is
-/// refused. Its includes come first, and why it is refused.
+/// Answers the octets of a text's records one after another, up to the end or to an error. Entries without a class are
+/// of class IN. The includes come before the octets, and so does the error.
 pub fn answer_octets(alloc: Global, row: &mut Row<'_>, out: &mut Answer) -> Result<(), RowError> {
     let mut zonefile = Zonefile::from_vec(alloc, row.text_octets(alloc)?);
     zonefile.set_default_class(Class::IN);
@@ -76,7 +76,8 @@ pub fn answer_octets(alloc: Global, row: &mut Row<'_>, out: &mut Answer) -> Resu
     out.octets(octets.as_slice())
 }
 
-/// Appends the octets of the next entry, and returns whether there is one. Writes an include, and why there is none.
+/// Appends the octets of the next entry, and returns whether there is one. Writes an include, and why there is no
+/// entry.
 fn appends_one(
     alloc: Global,
     zonefile: &mut Zonefile,
@@ -127,7 +128,7 @@ fn appends_next(zonefile: &mut Zonefile, octets: &mut Vec<u8>) -> Result<bool, E
     Ok(zonefile.next_octets(octets)?.is_some())
 }
 
-/// Takes the steps that the words of a row name.
+/// Takes the steps named by the words of a row.
 fn take_steps(
     alloc: Global,
     zonefile: &mut Zonefile,
@@ -192,7 +193,7 @@ fn show_entry(alloc: Global, entry: &Entry, out: &mut Answer) -> Result<(), RowE
     }
 }
 
-/// Writes the path of a file, and the origin for it, if there is one.
+/// Writes the path of a file, and its origin if it has one.
 fn show_include<N: ToName>(
     alloc: Global,
     path: &str,

@@ -1,4 +1,4 @@
-//! Rows of the calls of `dns_zonefile`: what each call returns for the values that stand in `stdin`.
+//! Answers rows of the calls of `dns_zonefile`: what each call returns for the values in `stdin`.
 #![tactic(auto)]
 
 mod entries;

@@ -1,6 +1,6 @@
-//! Tests of `dns_zonefile` and its parts: names under an origin, rows that are scanned, and readers.
+//! Tests of `dns_zonefile` and of the crates below it: names under an origin, rows that are scanned, and readers.
 //!
-//! They stand in a crate of their own, so that a check of the tests doesn't check `dns_zonefile` once more.
+//! They are in a crate of their own, so that a check of the tests doesn't check `dns_zonefile` again.
 #![tactic(auto)]
 
 #[cfg(test)]

@@ -4,7 +4,7 @@ use dns_row_scanner::{EntryError, ScannedName, scan_name};
 use std::alloc::Global;
 use std::test::Fail;
 
-/// Returns the name as it is printed, or how it is refused.
+/// Returns the printed name, or the text of the error.
 fn shown(alloc: Global, name: Result<ScannedName, EntryError>) -> Result<String, Fail> {
     match name {
         Ok(name) => Ok(format!(in alloc; "{}", name.fmt_with_dot())?),

@@ -1,4 +1,4 @@
-//! The octets of records, composed straight behind a vector, with ample memory.
+//! The octets of records, composed directly at the end of a vector, with enough memory.
 use dns_name::{Class, ToName};
 use dns_zonefile::{ComposedEntry, Zonefile};
 use std::alloc::Global;
@@ -6,7 +6,7 @@ use std::test::Fail;
 
 const TEXT: &[u8] = b"$ORIGIN a.\nb 60 A 1.2.3.4\n MX 10 c\n TXT x\n$INCLUDE f d\n";
 
-/// Returns the octets of its records, behind two others.
+/// Returns the octets of its records, after two other octets.
 fn expected(alloc: Global) -> Result<Vec<u8>, Fail> {
     let mut octets = Vec::from_slice(alloc, b"hi")?;
     octets.extend_from_slice(

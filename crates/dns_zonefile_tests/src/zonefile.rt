@@ -1,11 +1,11 @@
-//! Readers of zone files, with ample memory: each call that may want memory succeeds, and errors tell what they are.
+//! Readers of zone files, with enough memory: each call that may allocate succeeds. And the texts of errors.
 use dns_name::{Class, Name, ToName};
 use dns_row_scanner::absolute;
 use dns_zonefile::{Entry, Error, Zonefile};
 use std::alloc::Global;
 use std::test::Fail;
 
-/// Returns the next entry as it is printed, `end`, or its error.
+/// Returns the printed next entry, `end`, or its error.
 fn next_of(alloc: Global, zonefile: &mut Zonefile) -> Result<String, Fail> {
     match zonefile.next_entry() {
         Ok(Some(entry)) => shown(alloc, &entry),
@@ -14,7 +14,7 @@ fn next_of(alloc: Global, zonefile: &mut Zonefile) -> Result<String, Fail> {
     }
 }
 
-/// Returns an entry as it is printed.
+/// Returns the printed entry.
 fn shown(alloc: Global, entry: &Entry) -> Result<String, Fail> {
     match entry {
         Entry::Record(record) => {
@@ -25,7 +25,7 @@ fn shown(alloc: Global, entry: &Entry) -> Result<String, Fail> {
     }
 }
 
-/// Returns what an error tells.
+/// Returns the text of an error.
 fn told(alloc: Global, error: &Error) -> Result<String, Fail> {
     Ok(format!(in alloc;
         "{} {} {} {}",

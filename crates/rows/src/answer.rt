@@ -3,21 +3,21 @@ use crate::RowError;
 use std::error::Error;
 use std::fmt::{Debug, Display};
 
-/// The values that a call returns, with spaces between them, as they are written one after another.
+/// The values that a call returns, as they are written one after another, with spaces between them.
 #[derive(Drop)]
 pub struct Answer {
     line: String,
-    /// Whether an error is written as its text, and not by its name.
+    /// Whether an error is written as its text, not as its name.
     says_why: bool,
 }
 
 impl Answer {
-    /// An answer without a value yet.
+    /// Returns an answer without a value.
     pub(crate) fn new(line: String, says_why: bool) -> Self {
         Answer { line, says_why }
     }
 
-    /// The values that were written.
+    /// Returns the values that were written.
     pub(crate) fn into_line(self) -> String {
         self.line
     }
@@ -30,14 +30,14 @@ impl Answer {
         Ok(())
     }
 
-    /// Writes a value as it shows: a number, a truth or a text.
+    /// Writes a value by its `Display`: a number, a boolean or a text.
     pub fn shown<T: Display>(&mut self, value: &T) -> Result<(), RowError> {
         self.separate()?;
         write!(self.line, "{value}")?;
         Ok(())
     }
 
-    /// Writes a value by its name in Rust: `Less`, `None`, `Some(5)`.
+    /// Writes a value by its `Debug`: `Less`, `None`, `Some(5)`.
     pub fn named<T: Debug>(&mut self, value: &T) -> Result<(), RowError> {
         self.separate()?;
         write!(self.line, "{value:?}")?;
@@ -56,8 +56,8 @@ impl Answer {
         Ok(())
     }
 
-    /// Writes a text as a row has it: printable ASCII as it stands, but `%` and any other octet as `%` and two hexadecimal
-    /// digits; `-` for no octet.
+    /// Writes a text as in a row: printable ASCII as it is, but `%` and any other octet as `%` and two hexadecimal
+    /// digits; `-` for the empty text.
     pub fn text(&mut self, octets: &[u8]) -> Result<(), RowError> {
         self.separate()?;
         if octets.is_empty() {
@@ -73,7 +73,7 @@ impl Answer {
         Ok(())
     }
 
-    /// Writes `refused` and the name of an error, or its text where the row begins with `why`.
+    /// Writes `refused` and the name of an error, or its text if the row begins with `why`.
     pub fn refused<E: Error>(&mut self, error: &E) -> Result<(), RowError> {
         self.separate()?;
         self.line.push_str("refused ")?;

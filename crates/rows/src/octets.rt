@@ -1,8 +1,8 @@
-//! Octets as a row writes them.
+//! Octets in a row's notation.
 use crate::RowError;
 use std::alloc::Global;
 
-/// The octets that a word writes: hexadecimal digits, or parts with `+` between them, any of them repeated.
+/// Returns the octets that a word denotes: hexadecimal digits, or pieces with `+` between them, any of them repeated.
 pub(crate) fn octets_of(alloc: Global, word: &str) -> Result<Vec<u8>, RowError> {
     let mut octets = Vec::new(alloc);
     if word == "-" {
@@ -14,7 +14,7 @@ pub(crate) fn octets_of(alloc: Global, word: &str) -> Result<Vec<u8>, RowError> 
     Ok(octets)
 }
 
-/// Appends the octets of digits, as often as a number behind `*` says.
+/// Appends the octets of a piece, as many times as the number after its `*` says.
 fn append_part(octets: &mut Vec<u8>, part: &str) -> Result<(), RowError> {
     let Some((digits, times)) = part.split_once('*') else {
         return append_digits(octets, part);
@@ -36,7 +36,7 @@ fn append_digits(octets: &mut Vec<u8>, digits: &str) -> Result<(), RowError> {
     Ok(())
 }
 
-/// The octet of two hexadecimal digits.
+/// Returns the octet of two hexadecimal digits.
 fn octet_of(pair: &[u8]) -> Result<u8, RowError> {
     let [high, low] = pair else {
         return Err(RowError::BadWord);
@@ -50,7 +50,7 @@ fn octet_of(pair: &[u8]) -> Result<u8, RowError> {
     }
 }
 
-/// The octets of a text in which `%` and two hexadecimal digits stand for an octet.
+/// Returns the octets of a text, in which `%` and two hexadecimal digits stand for an octet.
 pub(crate) fn octets_of_text(alloc: Global, word: &str) -> Result<Vec<u8>, RowError> {
     let mut octets = Vec::new(alloc);
     if word == "-" {

@@ -1,12 +1,12 @@
-//! The rows of standard input, answered one after another.
+//! Answers the rows of standard input one after another.
 use crate::{Answer, Row, RowError};
 use std::alloc::Global;
 use std::io;
 use std::process::ExitCode;
 
-/// The calls that a program answers rows of.
+/// The calls whose rows a program answers.
 pub trait Calls {
-    /// Takes the arguments of the call that the row names, and writes what it returns.
+    /// Takes the arguments of the call that the row names, and writes what the call returns.
     fn answer(&self, alloc: Global, row: &mut Row<'_>, out: &mut Answer) -> Result<(), RowError>;
 }
 
@@ -42,7 +42,7 @@ fn answer_lines<C: Calls>(rt: &HostRuntime, calls: &C) -> io::Result<()> {
     Ok(())
 }
 
-/// The answer to a row.
+/// Returns the answer to a row.
 fn answer_line<C: Calls>(alloc: Global, calls: &C, line: &str) -> Result<String, RowError> {
     let (says_why, line) = match line.strip_prefix("why ") {
         Some(rest) => (true, rest),

@@ -13,13 +13,13 @@ pub enum RowError {
     /// An argument is missing.
     #[error("missing argument")]
     MissingWord,
-    /// An argument is no value of the kind that the call takes.
+    /// An argument is not a value of the kind that the call takes.
     #[error("bad argument")]
     BadWord,
     /// Words follow the last argument.
     #[error("trailing argument")]
     TrailingWord,
-    /// There is no memory left.
+    /// Out of memory.
     #[error("out of memory")]
     OutOfMemory,
 }
@@ -36,7 +36,7 @@ impl<T: Drop> From<AllocFailed<T>> for RowError {
     }
 }
 
-/// A row: its call, and the words of its arguments that no one has taken yet.
+/// A row: its call, and the words of the arguments that are not taken yet.
 #[derive(Drop)]
 pub struct Row<'a> {
     call: &'a str,
@@ -44,7 +44,7 @@ pub struct Row<'a> {
 }
 
 impl<'a> Row<'a> {
-    /// The row of a line.
+    /// Returns the row of a line.
     pub fn new(line: &'a str) -> Self {
         match line.split_once(' ') {
             Some((call, words)) => Row {
@@ -58,12 +58,12 @@ impl<'a> Row<'a> {
         }
     }
 
-    /// The first word: the whole name of the call.
+    /// Returns the first word: the whole name of the call.
     pub fn call(&self) -> &'a str {
         self.call
     }
 
-    /// The type whose method the call is, as `Name` of `Name::from_slice`, or the whole call if it is no method.
+    /// Returns the type of a method, as `Name` of `Name::from_slice`, or the whole call if it is not a method.
     pub fn family(&self) -> &'a str {
         match self.call.split_once("::") {
             Some((family, _)) => family,
@@ -71,7 +71,7 @@ impl<'a> Row<'a> {
         }
     }
 
-    /// The method of the type, as `from_slice` of `Name::from_slice`, or nothing if the call is no method.
+    /// Returns the name of a method, as `from_slice` of `Name::from_slice`, or nothing if the call is not a method.
     pub fn method(&self) -> &'a str {
         match self.call.split_once("::") {
             Some((_, method)) => method,
@@ -79,12 +79,12 @@ impl<'a> Row<'a> {
         }
     }
 
-    /// Whether there are arguments left.
+    /// Returns whether arguments are left.
     pub fn has_more(&self) -> bool {
         self.words.is_some()
     }
 
-    /// Takes the next argument as it stands.
+    /// Takes the next argument as it is.
     pub fn word(&mut self) -> Result<&'a str, RowError> {
         let Some(words) = self.words else {
             return Err(RowError::MissingWord);
@@ -101,7 +101,7 @@ impl<'a> Row<'a> {
         }
     }
 
-    /// Takes the next argument as a number, or as another value that text spells.
+    /// Takes the next argument as a number, or as another value with a text form.
     pub fn value<T: FromStr>(&mut self) -> Result<T, RowError>
     where
         T::Err: Drop,
@@ -122,7 +122,7 @@ impl<'a> Row<'a> {
         octets_of_text(alloc, self.word()?)
     }
 
-    /// Takes all arguments that are left as texts, each with a line feed behind it.
+    /// Takes all arguments that are left as texts, and adds a line feed after each.
     pub fn lines(&mut self, alloc: Global) -> Result<String, RowError> {
         let mut lines = String::new(alloc);
         for _ in 0..u32::MAX {

@@ -5,24 +5,24 @@ use Rattle.zone_core.specs.Cutting.{joined, IsNonempty, Fits, IsFull, IsFullCut,
 use Rattle.zone_core.proofs.Splits.{GoesPast, two_splits, nil_append_cons, push_append}
 use Rattle.zone_core.proofs.Splits.Compared.{same, longer, shorter}
 
--- Where a size grows, each part of what fits fits.
+-- If a size grows, each front and each back of what fits fits.
 pub grows_fits : {X : Type 0} (size : List X → ℕ) (max : ℕ) → Grows size → PartsFit size max
 grows_fits size max grows = record {
   front = λ xs more fits. let longer = grows.front xs more in omega arith;
   back = λ more xs fits. let longer = grows.back more xs in omega arith;
 }
 
--- a list doesn't fit where it goes on from a group of a full list by the element behind the group
+-- a list doesn't fit if it extends a group of a full list by the element after the group
 too_long : {X : Type 0} (size : List X → ℕ) (max : ℕ) → FrontsFit size max → (g : List X) (y : X) (w h : List X) → max < size (push g y) → h ≡ g ++ y ∷ w → size h ≤ max → ⊥
 too_long size max fit g y w h full e small =
     let front = fit (push g y) w (rw (e ∙ push_append g y w) at small) in
     omega arith
 
--- what a full list says of its first group and the element behind it
+-- what a full list says of its first group and the element after it
 full_behind : {X : Type 0} (size : List X → ℕ) (max : ℕ) (g : List X) (gs : List (List X)) (y : X) (rest : List X) → IsFull size max (g ∷ gs) → joined gs ≡ y ∷ rest → max < size (push g y)
 full_behind size max g gs y rest full e = rw e at full.0
 
--- Groups that are full are no more than groups that are small, where these join to a list that ends like the first.
+-- Full groups are no more than small groups whose joined list ends in theirs.
 fewest : {X : Type 0} (size : List X → ℕ) (max : ℕ) → PartsFit size max → (before : List X) (gs hs : List (List X)) → AllByRecursion IsNonempty gs → IsFull size max gs → AllByRecursion (λ h. size h ≤ max) hs → joined hs ≡ before ++ joined gs → length gs ≤ length hs
 fewest size max fit before [] hs nonempty full small e = omega arith
 fewest size max fit before ([] ∷ gs) hs nonempty full small e = absurd nonempty.0
@@ -46,7 +46,7 @@ pub full_cut_is_fewest : {X : Type 0} (size : List X → ℕ) (max : ℕ) (xs : 
 full_cut_is_fewest size max xs gs hs fit cut fits =
     fewest size max fit [] gs hs cut.fits.cut.nonempty cut.full fits.small (fits.cut.joins ∙ sym cut.fits.cut.joins)
 
--- no groups are small that join to a list with an element that is too large alone
+-- a list with an element that is too large alone has no cutting into small groups
 too_large : {X : Type 0} (size : List X → ℕ) (max : ℕ) → PartsFit size max → (before : List X) (x : X) (after : List X) (hs : List (List X)) → max < size (x ∷ []) → AllByRecursion (λ h. size h ≤ max) hs → joined hs ≡ before ++ x ∷ after → ⊥
 too_large size max fit before x after [] alone small e = nil_append_cons before after x e
 too_large size max fit before x after (h ∷ hs) alone small e =
@@ -59,12 +59,12 @@ too_large size max fit before x after (h ∷ hs) alone small e =
           omega arith
     ]
 
--- Where an element is blocked, no cutting fits.
+-- If an element is blocked, no cutting fits.
 pub blocked_fits_no_cutting : {X : Type 0} (size : List X → ℕ) (max : ℕ) (xs : List X) (n : ℕ) (hs : List (List X)) → PartsFit size max → IsBlocked size max xs n → Fits size max xs hs → ⊥
 blocked_fits_no_cutting size max xs n hs fit blocked fits =
     too_large size max fit blocked.before blocked.x blocked.after hs blocked.alone fits.small (fits.cut.joins ∙ blocked.splits)
 
--- behind its first group, a full cut is that of what is left
+-- after its first group, a full cut is a full cut of the rest
 abbrev rest_cut : {X : Type 0} (size : List X → ℕ) (max : ℕ) (xs g : List X) (gs : List (List X)) → IsFullCut size max xs (g ∷ gs) → IsFullCut size max (joined gs) gs
 rest_cut size max xs g gs cut = record {
   fits = record { cut = record { nonempty = cut.fits.cut.nonempty.1; joins = refl }; small = cut.fits.small.1 };
@@ -93,12 +93,12 @@ one_cut size max fit xs ys ((x ∷ g) ∷ gs) (h ∷ hs) a b e =
 pub full_cut_is_one : {X : Type 0} (size : List X → ℕ) (max : ℕ) (xs : List X) (gs hs : List (List X)) → FrontsFit size max → IsFullCut size max xs gs → IsFullCut size max xs hs → gs ≡ hs
 full_cut_is_one size max xs gs hs fit a b = one_cut size max fit xs xs gs hs a b (a.fits.cut.joins ∙ sym b.fits.cut.joins)
 
--- what doesn't fit behind the groups doesn't behind those without the first
+-- an element that doesn't fit after the groups doesn't fit after the groups without the first
 behind_rest : {X : Type 0} (size : List X → ℕ) (max : ℕ) (g : List X) (gs : List (List X)) (x : X) → FitsNotBehind size max (g ∷ gs) x → FitsNotBehind size max gs x
 behind_rest size max g [] x behind = tt
 behind_rest size max g (k ∷ gs) x behind = behind
 
--- the same of the first group, where one more element stands behind all groups that doesn't fit behind the last
+-- the same of the first group, if one more element follows all groups and doesn't fit into the last
 full_behind_more : {X : Type 0} (size : List X → ℕ) (max : ℕ) (g : List X) (gs : List (List X)) (x : X) (after : List X) (y : X) (rest : List X) → AllByRecursion IsNonempty gs → IsFull size max (g ∷ gs) → FitsNotBehind size max (g ∷ gs) x → joined gs ++ x ∷ after ≡ y ∷ rest → max < size (push g y)
 full_behind_more size max g [] x after y rest nonempty full behind e =
     let heads : x ≡ y = cc in rw heads at behind
@@ -106,7 +106,7 @@ full_behind_more size max g ([] ∷ gs) x after y rest nonempty full behind e = 
 full_behind_more size max g ((z ∷ k) ∷ gs) x after y rest nonempty full behind e =
     let heads : z ≡ y = cc in rw heads at full.0
 
--- a full cut of a list, and one of the elements before an element that is blocked
+-- a full cut of a list, and one of the elements before a blocked element
 apart : {X : Type 0} (size : List X → ℕ) (max : ℕ) → FrontsFit size max → (before : List X) (x : X) (after ys : List X) (gs hs : List (List X)) → IsFullCut size max before gs → FitsNotBehind size max gs x → max < size (x ∷ []) → IsFullCut size max ys hs → joined hs ≡ joined gs ++ x ∷ after → ⊥
 apart size max fit before x after ys gs [] a behind alone b e = nil_append_cons (joined gs) after x e
 apart size max fit before x after ys [] ([] ∷ hs) a behind alone b e = b.fits.cut.nonempty.0
@@ -128,7 +128,7 @@ cut_and_blocked size max xs gs n fit cut b =
     let joins : joined gs ≡ joined b.groups ++ b.x ∷ b.after = cc (cut.fits.cut.joins, b.splits, b.cut.fits.cut.joins) in
     apart size max fit b.before b.x b.after xs b.groups gs b.cut b.behind b.alone cut joins
 
--- a blocked element, and elements with a full cut that are that one and more
+-- a blocked element, and a full cut of elements that go past it
 blocked_within : {X : Type 0} (size : List X → ℕ) (max : ℕ) (xs ys : List X) (m n : ℕ) → FrontsFit size max → (a : IsBlocked size max xs m) → (b : IsBlocked size max ys n) → GoesPast a.before (a.x ∷ a.after) b.before (b.x ∷ b.after) → ⊥
 blocked_within size max xs ys m n fit a b s =
     let before : a.before ≡ b.before ++ b.x ∷ s.w = cc (s.front, s.back) in

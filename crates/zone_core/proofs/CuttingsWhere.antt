@@ -1,11 +1,11 @@
--- A full cut has the fewest groups also if parts fit only of elements that are as they may be.
+-- A full cut has the fewest groups also if parts fit only for elements with a property.
 use Rattle.std.proofs.Common.{◌≡◌, ℕ, ◌<◌, ◌≤◌, List, [], ◌∷◌, ◌++◌, length, refl, sym, ◌∙◌, arith, append_assoc}
 use Rattle.std.specs.List.{AllByRecursion, push}
 use Rattle.zone_core.specs.Cutting.{joined, IsNonempty, Fits, IsFull, IsFullCut, IsBlocked}
 use Rattle.zone_core.proofs.Splits.{two_splits, nil_append_cons, push_append}
 use Rattle.zone_core.proofs.Splits.Compared.{same, longer, shorter}
 
--- What fits, fits without its first elements and without its last, if each element is as it may be.
+-- What fits, fits without its first elements and without its last, if each element has the property.
 pub record PartsFitWhere {X : Type 0} (P : X → Type 0) (size : List X → ℕ) (max : ℕ) : Type 0 where
   pub front : (xs more : List X) → AllByRecursion P (xs ++ more) → size (xs ++ more) ≤ max → size xs ≤ max
   pub back : (more xs : List X) → AllByRecursion P (more ++ xs) → size (more ++ xs) ≤ max → size xs ≤ max
@@ -14,7 +14,7 @@ pub all-split : {X : Type 0} (P : X → Type 0) (xs ys : List X) → AllByRecurs
 all-split P [] ys all = (tt, all)
 all-split P (x ∷ xs) ys all = let on = all-split P xs ys all.1 in ((all.0, on.0), on.1)
 
--- what holds of each element holds of each in the groups
+-- what holds of each element holds of each element of each group
 pub all_groups : {X : Type 0} (P : X → Type 0) (groups : List (List X)) → AllByRecursion P (joined groups) → AllByRecursion (λ group. AllByRecursion P group) groups
 all_groups P [] all = tt
 all_groups P (group ∷ groups) all =
@@ -69,7 +69,7 @@ module _ {X : Type 0} (P : X → Type 0) (size : List X → ℕ) (max : ℕ) (fi
             omega arith
       ]
 
-  -- Where an element is blocked, no cutting fits.
+  -- If an element is blocked, no cutting fits.
   pub blocked_fits_no_cutting_where : (xs : List X) (n : ℕ) (hs : List (List X)) → AllByRecursion P xs → IsBlocked size max xs n → Fits size max xs hs → ⊥
   blocked_fits_no_cutting_where xs n hs all blocked fits =
       let joins = fits.cut.joins in

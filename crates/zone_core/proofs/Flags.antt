@@ -1,4 +1,4 @@
--- What a function promises of a flag, where the flag is known.
+-- What a function promises of a flag, once the flag is known.
 use Rattle.std.proofs.Common.{◌≡◌, ℕ, Bool, true, false, sym, ◌∙◌}
 use Rattle.std.specs.Prelude.{◌==◌}
 use Rattle.std.specs.Bool.{OnTrue, OnFalse}

@@ -1,4 +1,4 @@
--- A stream is whole messages behind their lengths, and less than a whole one, in one way.
+-- A stream splits in one way into whole messages, each after its length, and less than a whole one.
 use Rattle.std.proofs.Common.{◌≡◌, ℕ, ◌<◌, List, [], ◌∷◌, ◌++◌, length, refl, sym, ◌∙◌, subst, arith, append_assoc, append-nil, length-append}
 use Rattle.std.specs.Int.{to_be_bytes, from_be_bytes, w16}
 use Rattle.std.specs.List.{AllByRecursion}
@@ -6,14 +6,14 @@ use Rattle.std.proofs.lemmas.Nat.{from_be_bytes-to_be_bytes_2}
 use Rattle.dns_rdata.proofs.Fronts.{same_fronts, same_number16}
 use Rattle.zone_core.specs.Frames.{frame, frames, IsFramable, IsPartial, Splits}
 
--- messages at the front of two streams that are one
+-- first messages of two streams that are equal
 pub same_message : (m n more rest : List ℕ) → IsFramable m → IsFramable n → frame m ++ more ≡ frame n ++ rest
     → (m ≡ n) × (more ≡ rest)
 same_message m n more rest small small' e =
     let lengths : to_be_bytes w16 (length m) ≡ to_be_bytes w16 (length n) = cc in
     same_fronts m n more rest (same_number16 (length m) (length n) small small' lengths) cc
 
--- a whole frame is no part of one
+-- a whole frame is not less than one
 pub whole_is_not_partial : (rest m more : List ℕ) → IsPartial rest → IsFramable m → rest ≡ frame m ++ more → ⊥
 whole_is_not_partial rest m more partial small e =
     let P : List ℕ → Type 0 = λ octets. IsPartial octets in
@@ -41,7 +41,7 @@ pub splits_one : (stream : List ℕ) (messages others : List (List ℕ)) (rest r
 splits_one stream messages others rest rest' a b =
     frames_one messages others rest rest' a.each b.each a.partial b.partial (sym a.whole ∙ b.whole)
 
--- whole frames are those of one list of messages
+-- whole frames determine the list of messages
 pub whole_frames_one : (messages others : List (List ℕ)) → AllByRecursion IsFramable messages
     → AllByRecursion IsFramable others → frames messages ≡ frames others → messages ≡ others
 whole_frames_one messages others each each' e =

@@ -8,12 +8,12 @@ use Rattle.std.proofs.lemmas.List.{append-nil}
 use Rattle.zone_core.specs.Cutting.{joined, IsNonempty, IsFull, IsFullCut, FitsNotBehind, IsBlocked, CutOrBlocked}
 use Rattle.zone_core.proofs.Splits.{push_append}
 
--- what holds of all groups and of one more
+-- what holds of all groups, and of one more
 all_push : {A : Type 0} (P : A → Type 0) (front : List A) (a : A) → AllByRecursion P front → P a → AllByRecursion P (push front a)
 all_push P [] a all one = (one, tt)
 all_push P (b ∷ front) a all one = (all.0, all_push P front a all.1 one)
 
--- what holds of all groups, where another takes the place of the last
+-- what holds of all groups, with the last replaced
 all_replaced : {A : Type 0} (P : A → Type 0) (front : List A) (a b : A) → AllByRecursion P (push front a) → P b → AllByRecursion P (push front b)
 all_replaced P [] a b all one = (one, tt)
 all_replaced P (c ∷ front) a b all one = (all.0, all_replaced P front a b all.1 one)
@@ -26,17 +26,17 @@ joined-push : {X : Type 0} (gs : List (List X)) (g : List X) → joined (push gs
 joined-push [] g = append-nil g
 joined-push (h ∷ gs) g = ap (λ l. h ++ l) (joined-push gs g) ∙ sym (append_assoc h (joined gs) g)
 
--- the last of some groups is the one put behind them
+-- the last group is the one that was added last
 pub last_or-push : {X : Type 0} (first : List X) (gs : List (List X)) (g : List X) → last_or (Some first) (push gs g) ≡ Some g
 last_or-push first [] g = refl
 last_or-push first (h ∷ gs) g = last_or-push h gs g
 
--- an element doesn't fit behind groups where it doesn't fit behind the last of them
+-- an element doesn't fit after groups if it doesn't fit into the last of them
 pub not_behind_last : {X : Type 0} (size : List X → ℕ) (max : ℕ) (gs : List (List X)) (g : List X) (x : X) → max < size (push g x) → FitsNotBehind size max (push gs g) x
 not_behind_last size max [] g x large = large
 not_behind_last size max (h ∷ gs) g x large = rw (last_or-push h gs g) large
 
--- groups stay full where the last one goes on, since each keeps the element behind it
+-- groups stay full if the last one goes on, since each is still followed by the same element
 full_longer : {X : Type 0} (size : List X → ℕ) (max : ℕ) (gs : List (List X)) (g : List X) (x : X) → AllByRecursion IsNonempty (push gs g) → IsFull size max (push gs g) → IsFull size max (push gs (push g x))
 full_longer size max [] g x nonempty full = (tt, tt)
 full_longer size max (h ∷ []) [] x nonempty full = absurd nonempty.1.0
@@ -44,21 +44,21 @@ full_longer size max (h ∷ []) (y ∷ g) x nonempty full = (full.0, (tt, tt))
 full_longer size max (h ∷ ([] ∷ gs)) g x nonempty full = absurd nonempty.1.0
 full_longer size max (h ∷ ((y ∷ k) ∷ gs)) g x nonempty full = (full.0, full_longer size max ((y ∷ k) ∷ gs) g x nonempty.1 full.1)
 
--- one more group, which begins with an element that doesn't fit behind the others
+-- one more group, whose first element doesn't fit into the group before
 full_opened : {X : Type 0} (size : List X → ℕ) (max : ℕ) (gs : List (List X)) (x : X) → AllByRecursion IsNonempty gs → IsFull size max gs → FitsNotBehind size max gs x → IsFull size max (push gs (x ∷ []))
 full_opened size max [] x nonempty full behind = (tt, tt)
 full_opened size max (h ∷ []) x nonempty full behind = (behind, (tt, tt))
 full_opened size max (h ∷ ([] ∷ gs)) x nonempty full behind = absurd nonempty.1.0
 full_opened size max (h ∷ ((y ∷ k) ∷ gs)) x nonempty full behind = (full.0, full_opened size max ((y ∷ k) ∷ gs) x nonempty.1 full.1 behind)
 
--- Nothing is cut into no groups.
+-- The full cut of no elements has no groups.
 pub full_cut_of_none : {X : Type 0} (size : List X → ℕ) (max : ℕ) → IsFullCut {X = X} size max [] []
 full_cut_of_none size max = record {
   fits = record { cut = record { nonempty = tt; joins = refl }; small = tt };
   full = tt;
 }
 
--- An element that fits behind the last group goes there.
+-- An element that fits into the last group goes there.
 pub full_cut_goes_on : {X : Type 0} (size : List X → ℕ) (max : ℕ) (xs : List X) (gs : List (List X)) (g : List X) (x : X) → IsFullCut size max xs (push gs g) → size (push g x) ≤ max → IsFullCut size max (push xs x) (push gs (push g x))
 full_cut_goes_on size max xs gs g x cut room = record {
   fits = record {
@@ -71,7 +71,7 @@ full_cut_goes_on size max xs gs g x cut room = record {
   full = full_longer size max gs g x cut.fits.cut.nonempty cut.full;
 }
 
--- An element that doesn't fit there, but alone, begins a group.
+-- An element that doesn't fit there but fits alone begins a group.
 pub full_cut_opens : {X : Type 0} (size : List X → ℕ) (max : ℕ) (xs : List X) (gs : List (List X)) (x : X) → IsFullCut size max xs gs → FitsNotBehind size max gs x → size (x ∷ []) ≤ max → IsFullCut size max (push xs x) (push gs (x ∷ []))
 full_cut_opens size max xs gs x cut behind room = record {
   fits = record {
@@ -84,7 +84,7 @@ full_cut_opens size max xs gs x cut behind room = record {
   full = full_opened size max gs x cut.fits.cut.nonempty cut.full behind;
 }
 
--- An element that fits neither there nor alone is blocked, whatever stands behind it.
+-- An element that fits neither there nor alone is blocked, whatever follows it.
 pub next_is_blocked : {X : Type 0} (size : List X → ℕ) (max : ℕ) (xs : List X) (gs : List (List X)) (x : X) (after : List X) → IsFullCut size max xs gs → FitsNotBehind size max gs x → max < size (x ∷ []) → IsBlocked size max (xs ++ x ∷ after) (length xs + 1)
 next_is_blocked size max xs gs x after cut behind alone = record {
   before = xs;
@@ -98,7 +98,7 @@ next_is_blocked size max xs gs x after cut behind alone = record {
   alone = alone;
 }
 
--- a list in which x stands at i, split there
+-- a list with x at index i, split there
 split_at : {X : Type 0} (xs : List X) (i : ℕ) (x : X) → slice_get xs i ≡ Some x → xs ≡ take i xs ++ x ∷ drop (suc i) xs
 split_at [] i x e = absurd cc
 split_at (y ∷ xs) zero x e = cc
@@ -109,7 +109,7 @@ length_before [] i x e = absurd cc
 length_before (y ∷ xs) zero x e = refl
 length_before (y ∷ xs) (suc i) x e = ap suc (length_before xs i x e)
 
--- The same of the element at an index of a list: its number is one more.
+-- The same of the element at an index of a list: its number is the index plus 1.
 pub blocked_at : {X : Type 0} (size : List X → ℕ) (max : ℕ) (xs : List X) (i : ℕ) (gs : List (List X)) (x : X) → slice_get xs i ≡ Some x → IsFullCut size max (take i xs) gs → FitsNotBehind size max gs x → max < size (x ∷ []) → IsBlocked size max xs (i + 1)
 blocked_at size max xs i gs x at cut behind alone = record {
   before = take i xs;
@@ -123,7 +123,7 @@ blocked_at size max xs i gs x at cut behind alone = record {
   alone = alone;
 }
 
--- the last of these groups, behind which an element fits
+-- the last of these groups, which has room for an element
 record HasRoom {X : Type 0} (size : List X → ℕ) (max : ℕ) (groups : List (List X)) (x : X) : Type 0 where
   front : List (List X)
   last : List X
@@ -143,7 +143,7 @@ room_or_none size max (g ∷ (h ∷ gs)) x =
       | inr behind ↦ inr behind
     ]
 
--- from a full cut of what stands before, each further element goes on, opens a group or is blocked
+-- from a full cut of the elements before, each further element goes on, opens a group or is blocked
 cut_on : {X : Type 0} (size : List X → ℕ) (max : ℕ) (before rest : List X) (gs : List (List X)) → IsFullCut size max before gs → CutOrBlocked size max (before ++ rest)
 cut_on size max before [] gs cut = inl (gs, rw (append-nil before) cut)
 cut_on size max before (x ∷ rest) gs cut =
@@ -159,7 +159,7 @@ cut_on size max before (x ∷ rest) gs cut =
 pub cut_or_blocked : {X : Type 0} (size : List X → ℕ) (max : ℕ) (xs : List X) → CutOrBlocked size max xs
 cut_or_blocked size max xs = cut_on size max [] xs [] (full_cut_of_none size max)
 
--- one more group, which begins with an element that doesn't fit behind the others
+-- one more group, whose first element doesn't fit into the group before
 full_closed : {X : Type 0} (size : List X → ℕ) (max : ℕ) (gs : List (List X)) (x : X) (xs : List X) → AllByRecursion IsNonempty gs
     → IsFull size max gs → FitsNotBehind size max gs x → IsFull size max (push gs (x ∷ xs))
 full_closed size max [] x xs nonempty full behind = (tt, tt)
@@ -167,7 +167,7 @@ full_closed size max (h ∷ []) x xs nonempty full behind = (behind, (tt, tt))
 full_closed size max (h ∷ ([] ∷ gs)) x xs nonempty full behind = absurd nonempty.1.0
 full_closed size max (h ∷ ((y ∷ k) ∷ gs)) x xs nonempty full behind = (full.0, full_closed size max ((y ∷ k) ∷ gs) x xs nonempty.1 full.1 behind)
 
--- A whole group whose first element doesn't fit behind the others.
+-- A whole group whose first element doesn't fit into the group before.
 pub full_cut_closes : {X : Type 0} (size : List X → ℕ) (max : ℕ) (before : List X) (gs : List (List X)) (x : X) (xs : List X)
     → IsFullCut size max before gs → FitsNotBehind size max gs x → size (x ∷ xs) ≤ max
     → IsFullCut size max (before ++ x ∷ xs) (push gs (x ∷ xs))

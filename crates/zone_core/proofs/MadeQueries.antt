@@ -1,4 +1,4 @@
--- A query that is made is read.
+-- A composed query is read as that query.
 use Rattle.std.proofs.Common.{◌≡◌, ℕ, ◌+◌, ◌<◌, ◌^◌, List, [], ◌++◌, length, drop, false, refl, sym, subst, arith, append-nil}
 use Rattle.std.specs.Prelude.{◌≢◌}
 use Rattle.std.proofs.lemmas.Nat.{from_be_bytes-to_be_bytes_2}

@@ -1,4 +1,4 @@
--- Octets are one query, or break one rule first.
+-- Octets are one query, or first break one rule.
 use Rattle.std.proofs.Common.{◌≡◌, ◌≢◌, ◌+◌, ◌≤◌, ℕ, false, List, length, refl, sym, ap, ◌∙◌, subst, arith, inl, inr}
 use Rattle.dns_label.proofs.Spelling.{reads_one}
 use Rattle.dns_header.specs.Header.{number_at, is_response, opcode_of}
@@ -10,7 +10,7 @@ use Rattle.zone_core.specs.declared.query_error.QueryError.TheVariants as query_
 use Rattle.zone_core.proofs.OrderedRules.{Rules, FirstBroken, AllKept, first_one, broken_not_kept}
 use Rattle.zone_core.proofs.OrderedRules.Rules.{no_more, rule}
 
--- one question stands at a place, with one place behind it
+-- one question is at a place, with one place after it
 pub question_one : {message : List ℕ} {place next end : ℕ} {q other : Question} → ReadsQuestion message place q next
     → ReadsQuestion message place other end → (q ≡ other) × (next ≡ end)
 question_one {message} reads reads' =
@@ -19,7 +19,7 @@ question_one {message} reads reads' =
     let qclass = reads.qclass ∙ ap (λ place. number_at message (place + 2)) one.1 ∙ sym reads'.qclass in
     (λ i. record { name = one.0 i; qtype = qtype i; qclass = qclass i }, omega (arith, one.1, reads.ends, reads'.ends))
 
--- the question of a message is one of which this holds
+-- a message has a question for which this holds
 abbrev AsksWith : List ℕ → (Question → ℕ → Type 0) → Type 0
 AsksWith message P = (q : Question) × (next : ℕ) × ReadsQuestion message 12 q next × P q next
 
@@ -139,7 +139,7 @@ all_kept message query is =
     let whole : AsksWith message (λ q next. next ≡ length message) = (q, next, is.question, refl) in
     (kept.long, (kept.query, (kept.opcode, (kept.counts, (asks, (axfr, (one_class, (whole, tt))))))))
 
--- octets ask one thing
+-- octets are one query
 pub query_one : (message : List ℕ) (query other : AxfrQuery) → IsQuery message query → IsQuery message other → query ≡ other
 query_one message query other is is' =
     let question = (question_one is.question is'.question).0 in

@@ -13,7 +13,7 @@ use Rattle.zone_core.specs.Transfer.{AsksAgain, SpellsRecords, IsAnswer, AreAnsw
 use Rattle.zone_core.specs.Transfer.SpellsRecords.{none, one}
 use Rattle.zone_core.proofs.Framing.{whole_frames_one}
 
--- the first record that is spelled, and those behind it
+-- the first record that is spelled, and those after it
 record FirstRecord (message : List ℕ) (place : ℕ) (r : Record) (records : List Record) (next : ℕ) : Type 0 where
   end : ℕ
   has : ReadsRecord message place r end
@@ -28,7 +28,7 @@ opened : {message : List ℕ} {place next : ℕ} {records : List Record} → Spe
 opened none = tt
 opened (one end has behind) = record { end = end; has = has; behind = behind }
 
--- equally many records that are spelled from one place on
+-- lists of as many records that are spelled from one place on are the same
 records_one : (message : List ℕ) (records others : List Record) (place next next' : ℕ) → length records ≡ length others
     → SpellsRecords message place records next → SpellsRecords message place others next' → records ≡ others
 records_one message [] [] place next next' many spelled spelled' = refl
@@ -42,7 +42,7 @@ records_one message (r ∷ records) (s ∷ others) place next next' many spelled
     let rest = records_one message records others first.end next next' (omega arith) first.behind (subst P (sym same.1) first'.behind) in
     cc (same.0, rest)
 
--- the place behind the question
+-- the place after the question
 question_one : {message : List ℕ} {place next next' : ℕ} {q other : Question} → ReadsQuestion message place q next
     → ReadsQuestion message place other next' → next ≡ next'
 question_one reads reads' =
@@ -55,7 +55,7 @@ asked_one query first message place place' (inl bare) (inr asks) = absurd (omega
 asked_one query first message place place' (inr asks) (inl bare) = absurd (omega (arith, bare.1, asks.0))
 asked_one query first message place place' (inr asks) (inr asks') = question_one asks.2 asks'.2
 
--- an answer carries one list of records
+-- an answer has one list of records
 pub answer_one : (query : AxfrQuery) (first : Bool) (message : List ℕ) (records others : List Record)
     → IsAnswer query first message records → IsAnswer query first message others → records ≡ others
 answer_one query first message records others answer answer' =

@@ -1,4 +1,4 @@
--- What a message begins with, composed: its header, its counts and one question.
+-- What a message begins with, as composed: header, counts and one question.
 use Rattle.std.proofs.Common.{◌≡◌, ℕ, List, [], ◌∷◌, ◌++◌, length, sym, ap, ◌∙◌, append_assoc}
 use Rattle.std.specs.Int.{to_be_bytes, w16}
 use Rattle.dns_label.specs.Name.{wire}
@@ -11,7 +11,7 @@ use Rattle.dns_header.specs.HeaderCounts.{counts_of, counts_octets}
 use Rattle.dns_header.specs.Question.{Question, question_octets, question_parts}
 use Rattle.zone_core.specs.Query.{one_question}
 
--- a name and octets behind it, written in full
+-- a name written in full, and octets after it
 named_page : (old : List ℕ) (name : List (List ℕ)) (numbers : List ℕ)
     → write plain (page_of old []) (Named name (Octets numbers End)) ≡ page_of (old ++ (wire name ++ numbers)) []
 unfolding write
@@ -34,3 +34,12 @@ pub counts_one : (clear counts : List ℕ) → clear ≡ 0 ∷ 0 ∷ 0 ∷ 0 ∷
     → counts ≡ counts_octets (counts_of counts) → counts ≡ one_question
 counts_one clear counts clear_is set is =
     is ∙ ap counts_octets (set ∙ ap (λ (l : List ℕ). record (counts_of l) { qd = 1 }) clear_is)
+<<<<<<< HEAD
+=======
+
+-- a header with an ID and no other field set
+pub id_alone : (id : ℕ) (clear header : List ℕ) → clear ≡ 0 ∷ 0 ∷ 0 ∷ 0 ∷ [] → fields_of header ≡ record (fields_of clear) { id = id }
+    → header ≡ header_octets (fields_of header) → header ≡ to_be_bytes w16 id ++ 0 ∷ 0 ∷ []
+id_alone id clear header clear_is set is =
+    is ∙ ap header_octets (set ∙ ap (λ (l : List ℕ). record (fields_of l) { id = id }) clear_is)
+>>>>>>> a5ab56371670fe94c6294c8529dc7ab8f30e6762

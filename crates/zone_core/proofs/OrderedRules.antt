@@ -1,13 +1,13 @@
--- Rules in an order, of which the first that is broken counts.
+-- Rules in an order: the first broken rule gives the error.
 use Rattle.std.proofs.Common.{◌≡◌, ◌⊎◌, sym, ◌∙◌, inl, inr}
 use Rattle.std.specs.Prelude.{⊤}
 
--- rules, each with the error of what breaks it
+-- rules, each with the error of breaking it
 pub data Rules (E : Type 0) : Type 1 where
   no_more : Rules E
   rule : Type 0 → E → Rules E → Rules E
 
--- the first rule that is broken is one of this error
+-- the first broken rule has this error
 abbrev pub FirstBroken : {E : Type 0} → Rules E → E → Type 0
 FirstBroken no_more e = ⊥
 FirstBroken (rule P error rules) e = ((P → ⊥) × (e ≡ error)) ⊎ (P × FirstBroken rules e)

@@ -1,4 +1,4 @@
--- The questions of messages: where there is none, and which a message asks.
+-- The questions of messages: when there is none, and which one a message has.
 use Rattle.std.proofs.Common.{◌≡◌, ℕ, ◌+◌, Bool, List, sym, ap, ◌∙◌, subst, arith, inl, inr}
 use Rattle.dns_label.proofs.Spelling.{reads_one}
 use Rattle.dns_header.specs.Header.{number_at, question_count}
@@ -6,7 +6,7 @@ use Rattle.dns_header.specs.Question.{Question, ReadsQuestion}
 use Rattle.zone_core.specs.Query.{AxfrQuery}
 use Rattle.zone_core.specs.Transfer.{AsksAgain, HasAnswerHeader, IsQuestionOf}
 
--- a question at a place is one
+-- at most one question is at a place
 question_one : {message : List ℕ} {place next next' : ℕ} {q other : Question} → ReadsQuestion message place q next
     → ReadsQuestion message place other next' → q ≡ other
 question_one {message} {q = q} {other} reads reads' =

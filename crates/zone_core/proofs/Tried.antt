@@ -1,5 +1,5 @@
--- The definitions tried on three records: an SOA of 39 octets, an A of 17 and the SOA again, in messages whose header and
--- question take 19. Each record stands here for its size.
+-- The definitions tried on three records: an SOA of 39 octets, an A of 17 and the SOA again, in messages whose header
+-- and question take 19. Each record is given as its size.
 use Rattle.std.proofs.Common.{ℕ, ◌+◌, List, [], ◌∷◌, refl, arith}
 use Rattle.std.specs.Prelude.{sum}
 use Rattle.zone_core.specs.Cutting.{Fits, IsFull, IsFullCut, IsBlocked}
@@ -10,7 +10,7 @@ size group = 19 + sum group
 abbrev rows : List ℕ
 rows = 39 ∷ 17 ∷ 39 ∷ []
 
--- 512 octets hold them all
+-- 512 octets hold all of them
 cut_at_512 : IsFullCut size 512 rows ((39 ∷ 17 ∷ 39 ∷ []) ∷ [])
 cut_at_512 = record {
   fits = record { cut = record { nonempty = (tt, tt); joins = refl }; small = (omega arith, tt) };
@@ -31,7 +31,7 @@ other_at_75 = record { cut = record { nonempty = (tt, (tt, tt)); joins = refl };
 other_is_not_full : IsFull size 75 ((39 ∷ []) ∷ (17 ∷ 39 ∷ []) ∷ []) → ⊥
 other_is_not_full full = let large = full.0 in omega arith
 
--- 58 octets hold any one of them, and no two
+-- 58 octets hold any one of them, but no two
 cut_at_58 : IsFullCut size 58 rows ((39 ∷ []) ∷ (17 ∷ []) ∷ (39 ∷ []) ∷ [])
 cut_at_58 = record {
   fits = record {
@@ -55,7 +55,7 @@ blocked_at_57 = record {
   alone = omega arith;
 }
 
--- Without the SOA in front they hold the A, and then the second record is blocked.
+-- Without the first SOA they hold the A, and then the second record is blocked.
 blocked_behind : IsBlocked size 57 (17 ∷ 39 ∷ []) 2
 blocked_behind = record {
   before = 17 ∷ [];

@@ -1,10 +1,10 @@
--- What the program's queries ask.
+-- What a query that the code parsed asks.
 use Rattle.dns_name.specs.ParsedName.{labels_of}
 use Rattle.zone_core.specs.Query.{AxfrQuery}
 use Rattle.zone_core.specs.declared.query.Query.{Query}
 use Rattle.zone_core.specs.declared.owned_query.OwnedQuery.{OwnedQuery}
 
--- the query with its name's labels
+-- a parsed query, with its name as labels
 abbrev pub asked_by : Query → AxfrQuery
 asked_by query = record {
   id = query.id;
@@ -13,6 +13,6 @@ asked_by query = record {
   class = query.class;
 }
 
--- the same query where it holds its name itself
+-- the same for a query that owns its name
 abbrev pub asked_of : OwnedQuery → AxfrQuery
 asked_of query = record { id = query.id; recursion = query.rd; name = query.name; class = query.class }

@@ -1,4 +1,4 @@
--- Messages on a stream, each behind its length in two octets (RFC 1035 4.2.2).
+-- Messages on a stream, each after its length in two octets (RFC 1035 4.2.2).
 use Rattle.std.specs.Prelude.{◌≡◌, ◌<◌, ◌^◌, ℕ, List, [], ◌∷◌, ◌++◌, length, flat_map, ⊤}
 use Rattle.std.specs.List.{AllByRecursion}
 use Rattle.std.specs.Int.{to_be_bytes, from_be_bytes, w16}
@@ -9,7 +9,7 @@ frame message = to_be_bytes w16 (length message) ++ message
 abbrev pub frames : List (List ℕ) → List ℕ
 frames messages = flat_map frame messages
 
--- a message whose length two octets can say
+-- a message whose length fits in two octets
 abbrev pub IsFramable : List ℕ → Type 0
 IsFramable message = length message < 2 ^ 16
 

@@ -44,7 +44,7 @@ pub record KeepsHeaderRules (message : List ℕ) : Type 0 where
   pub opcode : opcode_of message ≡ 0
   pub counts : AsksOne message
 
--- The octets are a query for a transfer, and this is what they ask.
+-- The octets are a query for a transfer, with these values.
 pub record IsQuery (message : List ℕ) (query : AxfrQuery) : Type 0 where
   pub header : KeepsHeaderRules message
   pub id : query.id ≡ id_of message

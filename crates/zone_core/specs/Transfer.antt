@@ -1,4 +1,4 @@
--- Which stream is the transfer of a zone to who asked for it (RFC 5936 2.2).
+-- Which stream is the transfer of a zone in answer to a query (RFC 5936 2.2).
 use Rattle.std.specs.Prelude.{◌≡◌, ◌≢◌, ◌≤◌, ◌⊎◌, ℕ, Bool, true, false, List, [], ◌∷◌, ◌++◌, length}
 use Rattle.std.specs.List.{AllByRecursion}
 use Rattle.dns_label.specs.Name.{low}
@@ -19,26 +19,26 @@ pub record IsQuestionOf (query : AxfrQuery) (q : Question) : Type 0 where
   pub qtype : q.qtype ≡ axfr_type
   pub qclass : q.qclass ≡ query.class
 
--- The message has the query's question and the place is behind it, or has none and the place is behind the header. The
--- first message has one.
+-- The message has the query's question and the place is after it, or has no question and the place is after the header.
+-- The first message has the question.
 abbrev pub AsksAgain : AxfrQuery → Bool → List ℕ → ℕ → Type 0
 AsksAgain query first message place =
     ((first ≡ false) × (question_count message ≡ 0) × (place ≡ 12))
     ⊎ ((question_count message ≡ 1) × (q : Question) × ReadsQuestion message 12 q place × IsQuestionOf query q)
 
--- the message spells the records one behind the other, and `next` is the place behind the last
+-- the message spells the records one after another, and `next` is the place after the last
 pub data SpellsRecords (message : List ℕ) : ℕ → List Record → ℕ → Type 0 where
   none : {place : ℕ} → SpellsRecords message place [] place
   one : {place next : ℕ} {r : Record} {records : List Record} (behind : ℕ) → ReadsRecord message place r behind
       → SpellsRecords message behind records next → SpellsRecords message place (r ∷ records) next
 
--- what a message with answers alone counts, and at most one question
+-- the counts of a message with answers only, and at most one question
 pub record CountsAnswers (message : List ℕ) : Type 0 where
   pub questions : question_count message ≤ 1
   pub authority : authority_count message ≡ 0
   pub additional : additional_count message ≡ 0
 
--- The header of an answer to the query. Bits that are not named are ignored.
+-- The header of an answer to the query. Other bits are ignored.
 pub record HasAnswerHeader (query : AxfrQuery) (message : List ℕ) : Type 0 where
   pub long : 12 ≤ length message
   pub id : id_of message ≡ query.id
@@ -81,7 +81,7 @@ abbrev pub ClosesTransfer : List Record → Record → Type 0
 ClosesTransfer [] last = ⊥
 ClosesTransfer (soa ∷ others) last = (last.rtype ≡ soa_type) × SameSoa soa last
 
--- The stream is whole frames, each an answer to the query. Their records are these and the SOA again, which is the last
+-- The stream is whole frames, each an answer to the query. Their records are these and then the SOA again, as the last
 -- record of the last message.
 pub record IsTransfer (query : AxfrQuery) (stream : List ℕ) (records : List Record) : Type 0 where
   pub messages : List (List ℕ)
@@ -102,7 +102,7 @@ abbrev pub IsFirst : List Record → Record → Type 0
 IsFirst [] last = ⊥
 IsFirst (soa ∷ others) last = last ≡ soa
 
--- A transfer whose last SOA is the first record again octet for octet, and not only up to the case of its names.
+-- A transfer whose last SOA equals the first record octet for octet, not only up to ASCII case.
 pub record IsExactTransfer (query : AxfrQuery) (stream : List ℕ) (records : List Record) : Type 0 where
   pub transfer : IsTransfer query stream records
   pub again : IsFirst records transfer.last

@@ -1,5 +1,5 @@
-//! What holds of the definitions that the contracts of sending and receiving stand on. A law is a function with an empty body, whose
-//! contract is the law.
+//! Laws of the definitions that the contracts of sending and receiving use. A law is a function with an empty body
+//! whose contract is the law.
 
 mod cutting;
 mod framing;

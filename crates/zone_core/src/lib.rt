@@ -1,8 +1,8 @@
-//! Queries for the transfer of a zone, and what holds of transfers (RFC 5936).
+//! Queries for the transfer of a zone, and laws of transfers (RFC 5936).
 //!
-//! A part of `zonewire`, which hands `check_query`, `axfr_query` and their types on. `zone_send` and `zone_receive` stand on it: its
-//! `specs/` say what a query asks, which stream is a zone's transfer, and how records are cut into messages. The functions of its
-//! other modules are for these two.
+//! Part of `zonewire`, which re-exports `check_query`, `axfr_query` and their types. `zone_send` and `zone_receive`
+//! build on it: `specs/` defines what a query asks, which stream is a zone's transfer, and how records are cut into
+//! messages. The functions of the other modules are for these two crates.
 #![tactic(auto)]
 
 pub mod laws;

@@ -1,4 +1,4 @@
-//! Queries that hold the name that they ask for.
+//! Queries that own the name they ask for.
 ghost use Rattle.std.specs.Prelude.{◌≡◌, IfOk};
 ghost use Rattle.zone_core.specs.Asked.{asked_by, asked_of};
 
@@ -6,7 +6,7 @@ use crate::query::Query;
 use dns_name::{Class, Name, ToName};
 use std::alloc::{AllocError, Global};
 
-/// A query for the transfer of a zone that does not refer to its message.
+/// A query for the transfer of a zone that does not borrow its message.
 #[derive(Debug, Drop)]
 pub struct OwnedQuery {
     pub id: u16,

@@ -11,7 +11,7 @@ use dns_message::{Header, HeaderCounts};
 use dns_name::{Class, Name, Opcode, ParsedName, Rtype};
 use std::alloc::{AllocError, Global};
 
-/// A query for the transfer of a zone (RFC 5936 2.1), as far as it counts.
+/// A query for the transfer of a zone (RFC 5936 2.1): the values that an answer depends on.
 #[derive(Debug, Drop)]
 pub struct Query<'a> {
     id: u16,
@@ -21,28 +21,28 @@ pub struct Query<'a> {
 }
 
 impl<'a> Query<'a> {
-    /// The number that the answer repeats.
+    /// Returns the ID, which the answer repeats.
     pub fn id(&self) -> u16
         ensures { result ≡ (asked_by self.now).id }
     {
         self.id
     }
 
-    /// Whether recursion is desired (RD), which the answer repeats.
+    /// Returns RD, whether recursion is desired. The answer repeats it.
     pub fn rd(&self) -> bool
         ensures { result ≡ (asked_by self.now).recursion }
     {
         self.rd
     }
 
-    /// The name of the zone that is asked for.
+    /// Returns the name of the zone that is asked for.
     pub fn name(&self) -> ParsedName<&'a [u8]>
         ensures { labels_of result ≡ (asked_by self.now).name }
     {
         self.name
     }
 
-    /// The class of the zone that is asked for.
+    /// Returns the class of the zone that is asked for.
     pub fn class(&self) -> Class
         ensures { result ≡ (asked_by self.now).class }
     {
@@ -50,9 +50,10 @@ impl<'a> Query<'a> {
     }
 }
 
-/// Reads a query for a zone's transfer, and refuses other octets by the first rule that they break.
+/// Parses the octets of a message as a query for a zone's transfer (RFC 5936 2.1). Fails with the first rule of
+/// `QueryError` that they break.
 ///
-/// All bits of the header that no rule names are ignored.
+/// The header bits that no rule names are ignored.
 pub fn check_query(octets: &[u8]) -> Result<Query<'_>, QueryError>
     ensures ok { IfOk result (λ query. IsQuery octets.now (asked_by query)) }
     ensures err { IfErr result (IsQueryFault octets.now) }
@@ -93,8 +94,8 @@ pub fn check_query(octets: &[u8]) -> Result<Query<'_>, QueryError>
 /// The class ANY (RFC 1035 3.2.5), which no zone has.
 const ANY: u16 = 255;
 
-/// Returns the query for the transfer of the zone of this name and class, with all flags clear (RFC 5936 2.1). Fails if out of
-/// memory.
+/// Composes the query for the transfer of the zone with this name and class, with all flags clear (RFC 5936 2.1).
+/// Returns its octets. Fails if out of memory.
 pub fn axfr_query(
     alloc: Global,
     id: u16,
@@ -106,12 +107,12 @@ pub fn axfr_query(
 {
     let mut header = Header::new();
     header.set_id(id);
-    // The proof reads the octets off the fields.
+    // For the proof: the header's octets are its fields.
     header_is_its_fields(header);
     compose_opening(alloc, header, name, class)
 }
 
-/// Whether a message counts one question and no record.
+/// Returns whether a message counts one question and no record.
 fn asks_one(message: &[u8]) -> bool
     requires { 12 ≤ length message.now }
     ensures { IsTrue result ↔ AsksOne message.now }

@@ -1,22 +1,22 @@
-//! Why octets are no query for a zone's transfer.
+//! Why octets are not a query for a zone's transfer.
 use thiserror::Error;
 
-/// The first rule that a query breaks, in this order (RFC 5936 2.1).
+/// The first rule that a query breaks, in the order of the variants (RFC 5936 2.1).
 #[derive(Clone, Copy, Debug, PartialEq, Eq, Error)]
 pub enum QueryError {
-    /// There are fewer than the 12 octets of a header.
+    /// The octets are fewer than the 12 of a header.
     #[error("query: short")]
     Short,
-    /// It is a response: QR is set.
+    /// The message is a response: QR is set.
     #[error("query: response")]
     Response,
-    /// The opcode is not 0.
+    /// The opcode is not 0 (QUERY).
     #[error("query: opcode")]
     Opcode,
-    /// There is not one question, or there is a record.
+    /// The message does not count one question and no record.
     #[error("query: counts")]
     Counts,
-    /// The question is not read.
+    /// No question can be parsed after the header.
     #[error("query: malformed")]
     Malformed,
     /// The question's type is not AXFR.
@@ -25,7 +25,7 @@ pub enum QueryError {
     /// The question's class is ANY, which no zone has.
     #[error("query: class ANY")]
     ClassAny,
-    /// There are octets behind the question.
+    /// Octets follow the question.
     #[error("query: trailing")]
     Trailing,
 }

@@ -11,11 +11,11 @@ use dns_message::{Header, HeaderCounts, Question};
 use dns_name::{Class, Name, ParseError, ParsedName, Parser, Rtype};
 use std::alloc::{AllocError, Global};
 
-/// The octets of a message's header (RFC 1035 4.1.1).
+/// The number of octets of a message's header (RFC 1035 4.1.1).
 pub const HEADER_OCTETS: usize = 12;
 
-/// Parses the question after the header of a message, and returns it with the place after it. Fails if no question is there
-/// (RFC 1035 4.1.2).
+/// Parses the question after the header of a message. Returns it and the place after it, in octets from the start of
+/// the message. Fails if no question is there (RFC 1035 4.1.2).
 pub fn parse_question(message: &[u8]) -> Result<(Question<ParsedName<&[u8]>>, usize), ParseError>
     requires { 12 ≤ length message.now }
     ensures ok { IfOk result (λ found. ReadsQuestion message.now 12 (question_of labels_of found.0) found.1) }
@@ -29,8 +29,8 @@ pub fn parse_question(message: &[u8]) -> Result<(Question<ParsedName<&[u8]>>, us
     }
 }
 
-/// Returns the octets of a message with this header, the question for the transfer of the zone of this name and class, and no record
-/// (RFC 1035 4.1). Fails if out of memory.
+/// Composes a message of this header, the question for the transfer of the zone with this name and class, and no record
+/// (RFC 1035 4.1). Returns its octets. Fails if out of memory.
 pub fn compose_opening(
     alloc: Global,
     header: Header,
@@ -41,7 +41,7 @@ pub fn compose_opening(
 {
     let mut counts = HeaderCounts::new();
     counts.set_qdcount(1);
-    // The proof reads the octets off the numbers.
+    // For the proof: the octets of the counts are its four numbers.
     counts_are_four_numbers(counts);
     let mut octets = Vec::with_capacity(alloc, HEADER_OCTETS + name.len() + 4)?;
     octets.extend_from_slice(header.as_slice())?;

@@ -46,7 +46,7 @@ fn perform(rt: &HostRuntime, given: &[String]) -> Ending {
     program(rt.alloc(), words.as_slice(), &mut source, &mut sink)
 }
 
-/// Says on standard error why the program failed: by the text of the fault, or by that of `clap`.
+/// Writes on standard error why the program failed: the text of the fault, or that of `clap`.
 fn report(rt: &HostRuntime, ending: &Ending) {
     let _ = match ending {
         Ending::Done => Ok(()),

@@ -1,6 +1,6 @@
-//! Tests of `zone_text`, `zone_core` and `zonewire` by outside examples, through the face.
+//! Tests of `zonewire` through its public calls, by examples worked out by hand.
 //!
-//! They stand beside the program, so that a check of the tests doesn't check those crates once more.
+//! They are in the program's crate, so that a check of the tests doesn't check `zonewire` again.
 
 mod examples;
 mod received;

@@ -1,11 +1,11 @@
-//! Why the words of the command line are not there.
+//! Why the words of the command line are not known.
 ghost use Rattle.std.specs.Prelude.{◌≡◌};
 ghost use Rattle.zone_main.specs.declared.unasked.Unasked.TheVariants.{OutOfMemory};
 
 use std::alloc::AllocError;
 use std::io::{Error, ErrorKind};
 
-/// Why the words are not there.
+/// Why the words are not known.
 #[derive(Drop)]
 pub(crate) enum Unasked {
     /// A word is not UTF-8.
@@ -15,7 +15,7 @@ pub(crate) enum Unasked {
 }
 
 impl Unasked {
-    /// Returns what an error of `std::env::args` says.
+    /// Returns the reason for an error of `std::env::args`.
     pub(crate) fn of_words(error: Error) -> Unasked {
         match error.kind() {
             ErrorKind::OutOfMemory => Unasked::OutOfMemory,

@@ -1,4 +1,4 @@
--- Answers with their groups of records: of a list of messages that goes on behind another, and of one message more.
+-- Answers with their groups of records, for a list of messages that continues another, and for one more message.
 use Rattle.std.proofs.Common.{◌≡◌, ℕ, Bool, true, false, List, [], ◌∷◌, ◌++◌, refl, sym, ap, ◌∙◌, subst, append-nil}
 use Rattle.std.proofs.lemmas.List.Concat.{flat_map-append}
 use Rattle.zone_octets.specs.Record.{Record}
@@ -7,7 +7,7 @@ use Rattle.zone_core.specs.Cutting.{joined}
 use Rattle.zone_core.specs.Transfer.{IsAnswer, AreAnswers}
 use Rattle.zone_receive.specs.Receiving.{is_first}
 
--- whether the message behind others is the first
+-- whether the message after these is the first
 abbrev pub first_behind : Bool → List (List ℕ) → Bool
 first_behind first [] = first
 first_behind first (message ∷ messages) = false
@@ -20,7 +20,7 @@ pub first_of_stream : (messages : List (List ℕ)) → first_behind true message
 first_of_stream [] = refl
 first_of_stream (message ∷ messages) = refl
 
--- The groups of messages that go on behind others: those of the others, that of the next message, and those behind it.
+-- The groups of messages that continue others: those of the others, that of the next message, and those after it.
 pub record GroupsPast (query : AxfrQuery) (first : Bool) (others : List (List ℕ)) (next : List ℕ)
     (behind : List (List ℕ)) (groups : List (List Record)) : Type 0 where
   pub before : List (List Record)
@@ -58,7 +58,7 @@ groups_past query first (message ∷ others) next behind (group ∷ groups) answ
       rest = there.rest;
     }
 
--- one answer more
+-- one more answer
 pub answers_push : (query : AxfrQuery) (first : Bool) (messages : List (List ℕ)) (groups : List (List Record))
     (message : List ℕ) (group : List Record) → AreAnswers query first messages groups
     → IsAnswer query (first_behind first messages) message group
@@ -70,7 +70,7 @@ answers_push query first (other ∷ messages) (others ∷ groups) message group 
     let P : Bool → Type 0 = λ first. IsAnswer query first message group in
     (answers.0, answers_push query false messages groups message group answers.1 (subst P (sym (none_is_first messages)) answer))
 
--- the records of groups that go on
+-- the records of groups that continue others
 pub joined_past : (before : List (List Record)) (group : List Record) (after : List (List Record))
     → joined (before ++ group ∷ after) ≡ joined before ++ (group ++ joined after)
 joined_past before group after = flat_map-append (λ g. g) before (group ∷ after)

@@ -9,7 +9,7 @@ use Rattle.std.proofs.lemmas.Option.{get_or_from_slice_get}
 use Rattle.zone_core.specs.Frames.{IsPartial}
 use Rattle.zone_receive.specs.Intake.{Completes}
 
--- octets that do not have a frame's length are less than a whole one
+-- octets without a length are less than a whole frame
 pub without_first : (octets : List ℕ) → slice_get octets 0 ≡ None → IsPartial octets
 without_first [] none = tt
 without_first (high ∷ octets) none = absurd cc
@@ -19,7 +19,7 @@ without_second [] none = tt
 without_second (high ∷ []) none = tt
 without_second (high ∷ low ∷ octets) none = absurd cc
 
--- and those that have it begin with it
+-- octets with a length begin with it
 pub with_both : (octets : List ℕ) (high low : ℕ) → slice_get octets 0 ≡ Some high → slice_get octets 1 ≡ Some low
     → octets ≡ high ∷ low ∷ drop 2 octets
 with_both [] high low first second = absurd cc
@@ -29,14 +29,14 @@ with_both (x ∷ y ∷ octets) high low first second =
     let two : y ≡ low = cc in
     cc (one, two)
 
--- a frame that is cut is less than a whole one
+-- a frame that is cut off is less than a whole one
 pub cut_is_partial : (octets behind : List ℕ) (high low : ℕ) → octets ≡ high ∷ low ∷ behind
     → length octets < from_be_bytes w16 (high ∷ low ∷ []) + 2 → IsPartial octets
 cut_is_partial octets behind high low is cut =
     let short : IsPartial (high ∷ low ∷ behind) = omega (arith, cut, ap length is) in
     subst IsPartial (sym is) short
 
--- less than a whole frame is shorter than it says
+-- less than a whole frame is shorter than its length says
 pub open_is_short : (open_frame octets behind : List ℕ) (high low : ℕ) → IsPartial open_frame → open_frame ++ octets ≡ high ∷ low ∷ behind
     → length open_frame < from_be_bytes w16 (high ∷ low ∷ []) + 2
 open_is_short [] octets behind high low partial is = omega arith
@@ -50,7 +50,7 @@ two_small high low first second zero = first
 two_small high low first second (suc zero) = second
 two_small high low first second (suc (suc i)) = omega arith
 
--- the octets of two lists, the second behind the first
+-- the octets of two lists, the second after the first
 pub small_at : (front back : List ℕ) → ((i : ℕ) → get_or front i 0 < 256) → ((i : ℕ) → get_or back i 0 < 256)
     → (i x : ℕ) → slice_get (front ++ back) i ≡ Some x → x < 256
 small_at [] back first second i x at = omega (arith, second i, get_or_from_slice_get back i x 0 at)

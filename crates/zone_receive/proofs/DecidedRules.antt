@@ -1,5 +1,10 @@
+<<<<<<< HEAD
 -- Each rule of a message is kept or broken, so the first that is broken is found.
 use Rattle.std.proofs.Common.{◌≡◌, ◌⊎◌, ℕ, Bool, true, false, List, [], ◌∷◌, map, Some, None, refl, sym, ap, ◌∙◌, subst, arith, append-nil, inl, inr}
+=======
+-- Each rule of a message is kept or broken, so the first broken one is found.
+use Rattle.std.proofs.Common.{◌≡◌, ◌⊎◌, ℕ, ◌≤◌, Bool, true, false, List, [], ◌∷◌, length, map, Some, None, refl, sym, ap, ◌∙◌, subst, arith, append-nil, inl, inr}
+>>>>>>> a5ab56371670fe94c6294c8529dc7ab8f30e6762
 use Rattle.std.specs.Prelude.{⊤}
 use Rattle.std.specs.List.{AllByRecursion}
 use Rattle.std.proofs.lemmas.Bool.{cases_lt, cases_eq}
@@ -25,12 +30,12 @@ use Rattle.zone_receive.proofs.MessageFaults.{record_rules, head_rules}
 use Rattle.zone_core.proofs.OrderedRules.{Rules, FirstBroken, AllKept}
 use Rattle.zone_core.proofs.OrderedRules.Rules.{no_more, rule}
 
--- rules that are each kept or broken
+-- rules, each of them kept or broken
 abbrev pub DecidedRules : Rules ReceiveError → Type 0
 DecidedRules no_more = ⊤
 DecidedRules (rule P error rules) = Decided P × DecidedRules rules
 
--- the first that is broken, or all are kept
+-- the first broken rule, or all are kept
 abbrev pub Judged : Rules ReceiveError → Type 0
 Judged rules = ((e : ReceiveError) × FirstBroken rules e) ⊎ AllKept rules
 
@@ -43,7 +48,7 @@ pub judged : (rules : Rules ReceiveError) → DecidedRules rules → Judged rule
 judged no_more decided = inr tt
 judged (rule P error rules) decided = judged_more P error rules decided.0 (judged rules decided.1)
 
--- a record whose data is that of its type
+-- a record whose data is lawful for its type
 abbrev pub HasData : Record → Type 0
 HasData r = IsData r.rtype r.rdata
 
@@ -180,7 +185,7 @@ of_query_decided query q = elim (decided_names (low q.name) (low query.name)) [
 abbrev Asks : AxfrQuery → Bool → List ℕ → Type 0
 Asks query first message = (place : ℕ) × AsksAgain query first message place
 
--- a question that is asked is the one that is there
+-- if a message counts a question, the question is the one at the place
 asked_there : (query : AxfrQuery) (first : Bool) (message : List ℕ) (place : ℕ) → question_count message ≡ 1
     → AsksAgain query first message place → (some : HasSomeQuestion message 12) × IsQuestionOf query some.q
 asked_there query first message place one (inl bare) = absurd (omega (arith, one, bare.1))

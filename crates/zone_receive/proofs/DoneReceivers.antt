@@ -5,7 +5,7 @@ use Rattle.zone_receive.specs.Receiving.Stage.{Begun, Ended, Fresh, Refused}
 use Rattle.zone_receive.proofs.Intakes.{heard_is_begun}
 use Rattle.zone_receive.proofs.OneOfThree.{transfer_not_begun}
 
--- a stream that is heard is no transfer
+-- a stream that is heard so far is not a transfer
 heard_not_whole : (heard : Heard) (stream : List ℕ) → IsHeard heard stream → IsWholeTransfer heard.query stream → ⊥
 heard_not_whole heard stream is whole =
     transfer_not_begun heard.query stream stream [] whole.0 (sym (append-nil stream)) whole.1 (heard_is_begun is)
@@ -17,7 +17,7 @@ whole_is_ended Begun heard stream stands kept whole = absurd (heard_not_whole he
 whole_is_ended Ended heard stream stands kept whole = refl
 whole_is_ended (Refused error) heard stream stands kept whole = absurd cc
 
--- a receiver that is not done has no transfer, or has refused
+-- a receiver that is not done has no transfer, or has failed
 pub not_done : (heard : Heard) (stream : List ℕ) → (heard.stage ≡ Ended → ⊥) → StandsAt heard stream → refusal_in heard.stage ≡ None
     → IsWholeTransfer heard.query stream → ⊥
 not_done heard stream not_there stands kept whole = not_there (whole_is_ended heard.stage heard stream stands kept whole)

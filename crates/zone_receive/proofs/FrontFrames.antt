@@ -1,4 +1,4 @@
--- Two lists of messages in frames at the front of one stream: they are one, or the one goes on behind the other.
+-- Two lists of messages in frames at the front of one stream: they are equal, or one continues the other.
 use Rattle.std.proofs.Common.{◌≡◌, ℕ, List, [], ◌∷◌, ◌++◌, refl, sym, ap, ◌∙◌, append_assoc, append-nil}
 use Rattle.std.specs.List.{AllByRecursion}
 use Rattle.std.proofs.lemmas.List.Concat.{flat_map-append}
@@ -9,7 +9,7 @@ pub record SameFrames (messages others : List (List ℕ)) (more rest : List ℕ)
   pub same : messages ≡ others
   pub back : more ≡ rest
 
--- The messages are the others with `next` behind them, and then `behind`.
+-- The messages are the others, then `next`, and then `behind`.
 pub record FramesPast (messages others : List (List ℕ)) (more rest : List ℕ) : Type 0 where
   pub next : List ℕ
   pub behind : List (List ℕ)
@@ -50,7 +50,7 @@ two_fronts (m ∷ messages) (n ∷ others) more rest each each' e =
       | fewer_frames s ↦ fewer_frames (record { next = s.next; behind = s.behind; front = cc (first.0, s.front); fits = s.fits; back = s.back })
     ]
 
--- one message more in frames
+-- one more message in frames
 pub frames_push : (messages : List (List ℕ)) (message behind : List ℕ)
     → frames messages ++ (frame message ++ behind) ≡ frames (messages ++ message ∷ []) ++ behind
 frames_push messages message behind =

@@ -13,7 +13,7 @@ use Rattle.zone_receive.specs.Intake.{BreaksRule, EndsTransfer, GoesOn, IsEnded,
 use Rattle.zone_receive.specs.declared.error.ReceiveError.{ReceiveError}
 use Rattle.zone_receive.specs.declared.intake.Intake.{Intake}
 
--- where no last SOA has come, the stream is only begun
+-- before the last SOA, the stream is only begun
 pub heard_is_begun : {heard : Heard} {stream : List ℕ} → IsHeard heard stream → IsBegun heard.query stream
 heard_is_begun {heard} is = record {
   messages = is.messages;
@@ -42,7 +42,7 @@ pub goes_waits : {old new : Intake} {query : AxfrQuery} (octets : List ℕ) → 
 goes_waits octets waits goes =
     record { stream = waits.stream ++ octets; heard = goes.heard waits.stream waits.heard; known = goes.known }
 
--- no octets have come
+-- before the first octet
 pub heard_none : (intake : Intake) (query : AxfrQuery) → intake.open_frame.items ≡ [] → intake.records ≡ [] → intake.is_first ≡ true
     → IsHeard (heard_by intake query) []
 heard_none intake query none no_records first = record {
@@ -63,7 +63,7 @@ waits_none intake query none no_records first = record {
   known = subst (AllByRecursion (IsRecordOf query.class)) (sym no_records) tt;
 }
 
--- octets behind others
+-- octets after others
 pub goes_more : {old between new : Intake} {query : AxfrQuery} (octets more all : List ℕ) → octets ++ more ≡ all → GoesOn old octets between query
     → GoesOn between more new query → GoesOn old all new query
 goes_more {new = new} {query = query} octets more all is goes then =
@@ -92,7 +92,7 @@ breaks_more {query = query} error octets more behind all is goes breaks stream h
     let P : List ℕ → Type 0 = λ stream. IsStreamFault query stream error in
     subst P (append_assoc stream octets (more ++ behind) ∙ ap (λ l. stream ++ l) is) (breaks (stream ++ octets) behind (goes.heard stream heard))
 
--- octets that make no frame whole
+-- octets that complete no frame
 pub opens_more : (old new : Intake) (query : AxfrQuery) (octets : List ℕ) → new.open_frame.items ≡ old.open_frame.items ++ octets
     → new.records ≡ old.records → new.is_first ≡ old.is_first → IsPartial (old.open_frame.items ++ octets)
     → AllByRecursion (IsRecordOf query.class) old.records → GoesOn old octets new query
@@ -114,7 +114,7 @@ opens_more old new query octets opened same first partial known = record {
   known = subst (AllByRecursion (IsRecordOf query.class)) (sym same) known;
 }
 
--- the octets of a piece up to a place, and those behind it
+-- the octets of a piece up to a place, and those after it
 pub piece_next : (piece : List ℕ) (taken end : ℕ) → taken ≤ end → take taken piece ++ take (end - taken) (drop taken piece) ≡ take end piece
 piece_next piece taken end before =
     let is : taken + (end - taken) ≡ end = omega (arith, before) in
@@ -126,7 +126,7 @@ piece_is piece taken end before =
     sym (append_assoc (take taken piece) (take (end - taken) (drop taken piece)) (drop end piece))
     ∙ ap (λ l. l ++ drop end piece) (piece_next piece taken end before) ∙ take-append-drop end piece
 
--- the octets that make the open frame whole, as a part of the piece
+-- the octets that complete the open frame, as a part of the piece
 pub framed_next : (open_frame items rest behind : List ℕ) (taken len : ℕ) → items ≡ open_frame → rest ≡ behind → IsFrame (items ++ take len rest)
     → IsFrame (open_frame ++ take ((taken + len) - taken) behind)
 framed_next open_frame items rest behind taken len is same framed =

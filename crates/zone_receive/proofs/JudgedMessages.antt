@@ -1,4 +1,4 @@
--- A message behind others is at fault, or it is an answer whose records keep the rules.
+-- A message after others is at fault, or it is an answer whose records keep the rules.
 use Rattle.std.proofs.Common.{◌≡◌, ◌≢◌, ℕ, ◌+◌, ◌<◌, ◌≤◌, zero, suc, Bool, true, false, List, [], ◌∷◌, ◌++◌, length, refl, sym, subst, arith, append_assoc, append-nil, length-append, inl, inr}
 use Rattle.std.specs.List.{AllByRecursion}
 use Rattle.std.proofs.lemmas.Bool.{cases_lt, cases_eq}
@@ -22,13 +22,13 @@ use Rattle.dns_message.proofs.DecidedRecords.{record_decided}
 use Rattle.zone_receive.proofs.SpelledRecords.{read_has_data}
 use Rattle.zone_receive.proofs.DecidedRules.{HasData, judged, record_rules_decided, head_rules_decided}
 
--- what a message is behind others with the records in front
+-- the verdict on a message, given the records before it
 pub data Verdict (query : AxfrQuery) (front : List Record) (first : Bool) (message : List ℕ) : Type 0 where
   at_fault : (e : ReceiveError) → IsMessageFault query front first message e → Verdict query front first message
   answers : (group : List Record) → IsAnswer query first message group → IsLawful query (front ++ group)
       → AllByRecursion HasData group → Verdict query front first message
 
--- the first rule of the head that is broken is the fault
+-- the first broken rule of the head is the fault
 head_fault : (query : AxfrQuery) (front : List Record) (first : Bool) (message : List ℕ) (e : ReceiveError)
     → FirstBroken (head_rules query first message) e → IsMessageFault query front first message e
 head_fault query front first message e (inl broken) =
@@ -99,7 +99,7 @@ record_fault query front first message group place next r e keeps some has (inr 
 record_fault query front first message group place next r e keeps some has (inr (one, inr (two, inr (three, inr (four, inr (five, inr (six, no_more))))))) =
     absurd no_more
 
--- a record that keeps the rules behind others makes them a lawful list again
+-- a record that keeps the rules after others extends them to a lawful list
 lawful_push : (query : AxfrQuery) (front : List Record) (r : Record) → IsOpen query front → AllKept (record_rules query front r)
     → IsLawful query (front ++ r ∷ [])
 lawful_push query [] r open_ (first, (class, (under, (last, (not_closed, (spellable, rest)))))) =
@@ -122,7 +122,7 @@ lawful_push query (soa ∷ others) r open_ (first, (class, (under, (last, (not_c
       )
     ]
 
--- where all records are there
+-- all records are judged
 all_judged : (query : AxfrQuery) (front : List Record) (first : Bool) (message : List ℕ) (group : List Record) (place : ℕ)
     → KeepsRulesTo query front first message group place → AllByRecursion HasData group → length group ≡ answer_count message
     → Verdict query front first message
@@ -139,7 +139,7 @@ all_judged query front first message group place keeps data' all = elim (cases_e
   | inr more ↦ at_fault receive_error.Trailing (group, place, keeps, all, more)
 ]
 
--- one record more that keeps the rules
+-- one more record that keeps the rules
 keeps_push : (query : AxfrQuery) (front : List Record) (first : Bool) (message : List ℕ) (group : List Record) (place next : ℕ) (r : Record)
     → KeepsRulesTo query front first message group place → ReadsRecord message place r next
     → AllKept (record_rules query (front ++ group) r) → KeepsRulesTo query front first message (group ++ r ∷ []) next
@@ -157,7 +157,7 @@ keeps_push query front first message group place next r keeps has kept =
       lawful = subst P (append_assoc front group (r ∷ [])) goes;
     }
 
--- so many records are left
+-- the verdict, by the number of records that are left
 judged_from : (query : AxfrQuery) (front : List Record) (first : Bool) (message : List ℕ) → AreOctets message → AllByRecursion HasData front
     → (left : ℕ) (group : List Record) (place : ℕ) → KeepsRulesTo query front first message group place → AllByRecursion HasData group
     → length group + left ≡ answer_count message → Verdict query front first message

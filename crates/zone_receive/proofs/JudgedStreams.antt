@@ -1,4 +1,4 @@
--- Every stream of octets has a transfer at its front, or is begun, or is at fault.
+-- Every stream of octets begins with a transfer, or is begun, or is at fault.
 use Rattle.std.proofs.Common.{◌≡◌, ◌⊎◌, ℕ, ◌+◌, ◌<◌, ◌≤◌, ◌^◌, zero, suc, Bool, true, List, [], ◌∷◌, ◌++◌, length, refl, sym, ap, ◌∙◌, subst, arith, append_assoc, append-nil, length-append, inl, inr}
 use Rattle.std.specs.Int.{to_be_bytes, from_be_bytes, w16}
 use Rattle.std.specs.List.{AllByRecursion}
@@ -115,7 +115,7 @@ bad_next query stream messages groups rest heard next e fault = record {
   fault = fault;
 }
 
--- the front of the stream with the next message
+-- the front of the stream and the next message
 record Goes (query : AxfrQuery) (stream : List ℕ) (messages : List (List ℕ)) (groups : List (List Record)) (behind : List ℕ) : Type 0 where
   each : AllByRecursion IsFramable messages
   whole : stream ≡ frames messages ++ behind
@@ -134,7 +134,7 @@ goes_on query stream messages groups rest heard next group answer =
           (subst P (sym (first_of_stream messages)) answer);
     }
 
--- a list that is closed by the last group ends in it
+-- a list that the last group closes ends in it
 record EndsIn (groups : List (List Record)) (group : List Record) (records : List Record) (last : Record) : Type 0 where
   last_group : List Record
   splits : group ≡ last_group ++ last ∷ []

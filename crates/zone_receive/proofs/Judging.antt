@@ -1,4 +1,4 @@
--- A frame is judged behind those that are.
+-- A frame is judged after those before it.
 use Rattle.std.proofs.Common.{◌≡◌, ℕ, Bool, true, false, List, [], ◌∷◌, ◌++◌, drop, refl, sym, ap, ◌∙◌, subst, append_assoc, append-nil}
 use Rattle.std.proofs.lemmas.List.{same_from_push}
 use Rattle.std.proofs.lemmas.List.Concat.{flat_map-append}
@@ -23,7 +23,7 @@ use Rattle.zone_octets.proofs.Each.{all_append}
 use Rattle.zone_receive.proofs.LawfulRecords.{closed_not_open}
 use Rattle.zone_receive.proofs.AnswerGroups.{answers_push, first_of_stream}
 
--- the message within its frame, where that stands in the octets alone
+-- the message of a frame that is in the octets alone
 pub framed_message : (octets : List ℕ) (framed : IsFrame octets) → drop 2 octets ≡ framed.message
 framed_message octets framed = ap (drop 2) framed.whole
 
@@ -49,7 +49,7 @@ stage_push : (messages : List (List ℕ)) (message : List ℕ) → Begun ≡ sta
 stage_push [] message = refl
 stage_push (other ∷ messages) message = refl
 
--- The stream is one message more.
+-- The stream has one more message.
 record NextHeard (messages : List (List ℕ)) (message stream : List ℕ) : Type 0 where
   each : AllByRecursion IsFramable (push messages message)
   whole : stream ≡ frames (push messages message)
@@ -70,7 +70,7 @@ next_answers intake query stream is message group answer =
     answers_push query true is.messages is.groups message group is.answers
     (subst P (first_by is.messages intake.is_first is.stage ∙ sym (first_of_stream is.messages)) answer)
 
--- what stands where no last SOA has come
+-- what holds before the last SOA
 record StandsOpen (query : AxfrQuery) (held front : List Record) : Type 0 where
   same : front ≡ held
   still : IsOpen query held
@@ -105,7 +105,7 @@ judged_on old new query octets framed none first takes known = record {
   known = known;
 }
 
--- what stands where the last SOA has come
+-- what holds after the last SOA
 record StandsClosed (query : AxfrQuery) (held front : List Record) : Type 0 where
   last : Record
   same : front ≡ push held last
@@ -172,7 +172,7 @@ judged_last old new query octets framed none takes known = record {
   known = known;
 }
 
--- a bad message is one of the stream
+-- a bad message makes the stream bad
 fault_in_stream : (query : AxfrQuery) (stream : List ℕ) (Fault : ReceiveError → Type 0) → ((e : ReceiveError) → Fault e → HasBadMessage query stream e)
     → ((why : QueryError) → Fault (receive_error.Query why) → ⊥) → (Fault receive_error.Unfinished → ⊥)
     → (error : ReceiveError) → IsFaultOr Fault error → IsStreamFault query stream error
@@ -195,7 +195,7 @@ fault_in_stream query stream Fault bad not_query finished receive_error.Trailing
 fault_in_stream query stream Fault bad not_query finished receive_error.Unfinished fault = finished fault
 fault_in_stream query stream Fault bad not_query finished receive_error.OutOfMemory fault = tt
 
--- the message is refused
+-- the message is bad
 pub judged_bad : (old : Intake) (query : AxfrQuery) (octets : List ℕ) (framed : IsFrame (old.open_frame.items ++ octets)) (error : ReceiveError)
     → IsFaultOr (IsMessageFault query old.records old.is_first framed.message) error → BreaksRule old octets query error
 judged_bad old query octets framed error fault stream behind is =
@@ -220,7 +220,7 @@ judged_bad old query octets framed error fault stream behind is =
     } in
     fault_in_stream query all Fault bad (λ why fault. fault.4) (λ fault. fault.4) error fault
 
--- what a call answers for the message within the frame
+-- what a call returns for the message of the frame
 pub answer_goes : (ends : Bool) (old new : Intake) (query : AxfrQuery) (octets message : List ℕ) (framed : IsFrame (old.open_frame.items ++ octets))
     → message ≡ framed.message → new.open_frame.items ≡ [] → new.is_first ≡ false
     → TakesMessage query old.records old.is_first message new.records ends → AllByRecursion (IsRecordOf query.class) new.records
@@ -245,7 +245,7 @@ answer_breaks old query octets message framed error is fault =
     let P : List ℕ → Type 0 = λ message. IsFaultOr (IsMessageFault query old.records old.is_first message) error in
     judged_bad old query octets framed error (subst P is fault)
 
--- and where its answer is handed on
+-- the same with the result returned to the caller
 pub result_goes : (result : Result Bool ReceiveError) (old new : Intake) (query : AxfrQuery) (octets message : List ℕ)
     (framed : IsFrame (old.open_frame.items ++ octets)) → message ≡ framed.message → new.open_frame.items ≡ [] → new.is_first ≡ false
     → IfOk result (TakesMessage query old.records old.is_first message new.records)

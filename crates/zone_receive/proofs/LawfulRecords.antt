@@ -1,4 +1,4 @@
--- Records of a transfer so far: each keeps the rules behind those in front of it, and nothing follows the last SOA.
+-- Records of a transfer so far: each keeps the rules after those before it, and nothing follows the last SOA.
 use Rattle.std.proofs.Common.{◌≡◌, ◌≢◌, ◌⊎◌, List, [], ◌∷◌, ◌++◌, sym, ◌∙◌, subst, arith, append-nil, inl, inr}
 use Rattle.std.specs.List.{AllByRecursion, push}
 use Rattle.dns_rdata.specs.DataOctets.{IsSpellable}
@@ -11,7 +11,7 @@ use Rattle.zone_receive.specs.Receiving.{IsOpen, IsClosed, KeepsFirstRule, Keeps
 use Rattle.zone_core.proofs.Splits.{two_splits, nil_append_cons}
 use Rattle.zone_core.proofs.Splits.Compared.{same, longer, shorter}
 
--- what holds of each element of a list holds of one in it
+-- what holds of each element of a list holds of one of them
 pub one_within : {X : Type 0} (P : X → Type 0) (front : List X) (x : X) (more : List X) → AllByRecursion P (front ++ x ∷ more) → P x
 one_within P [] x more each = each.0
 one_within P (y ∷ front) x more each = one_within P front x more each.1
@@ -42,7 +42,7 @@ closed_not_open query (r ∷ front) more closed open_ = closed_no_front query (r
 abbrev pub IsLawful : AxfrQuery → List Record → Type 0
 IsLawful query records = IsOpen query records ⊎ IsClosed query records
 
--- the record keeps the rules behind those in front of it
+-- the record keeps the rules after those before it
 pub record KeepsRecordRules (query : AxfrQuery) (front : List Record) (r : Record) : Type 0 where
   pub first : KeepsFirstRule query front r
   pub class : r.class ≡ query.class

@@ -1,4 +1,4 @@
--- A message breaks one rule first, and one that carries records of a transfer breaks none.
+-- A message has one first broken rule, and one that carries records of a transfer has none.
 use Rattle.std.proofs.Common.{◌≡◌, ◌≢◌, ◌⊎◌, ℕ, ◌+◌, ◌<◌, ◌≤◌, Bool, true, false, List, ◌∷◌, ◌++◌, length, refl, sym, ap, ◌∙◌, subst, arith, append_assoc, inl, inr}
 use Rattle.dns_header.specs.Header.{is_response, opcode_of, rcode_of, answer_count, id_of}
 use Rattle.dns_rdata.specs.DataOctets.{IsSpellable}
@@ -16,7 +16,7 @@ use Rattle.zone_receive.proofs.LawfulRecords.{IsLawful, KeepsRecordRules, lawful
 use Rattle.zone_core.proofs.OrderedRules.{Rules, FirstBroken, AllKept, broken_not_kept}
 use Rattle.zone_core.proofs.OrderedRules.Rules.{no_more, rule}
 
--- the rules of a record behind others
+-- the rules of a record after others
 abbrev pub record_rules : AxfrQuery → List Record → Record → Rules ReceiveError
 record_rules query front r =
     rule (KeepsFirstRule query front r) receive_error.FirstNotSoa
@@ -30,12 +30,12 @@ pub all_record_rules : (query : AxfrQuery) (front : List Record) (r : Record) �
     → AllKept (record_rules query front r)
 all_record_rules query front r keeps = (keeps.first, (keeps.class, (keeps.under, (keeps.last, (keeps.not_closed, (keeps.spellable, tt))))))
 
--- no record at the place is read
+-- no record is at the place
 pub record NoRecord (message : List ℕ) (place : ℕ) (n : ℕ) (e : ReceiveError) : Type 0 where
   pub is : e ≡ receive_error.Record n
   pub none : (r : Record) (next : ℕ) → ReadsRecord message place r next → ⊥
 
--- a record is read that breaks a rule
+-- the record at the place breaks a rule
 pub record BadRecord (query : AxfrQuery) (front : List Record) (message : List ℕ) (place : ℕ) (e : ReceiveError) : Type 0 where
   pub r : Record
   pub next : ℕ
@@ -97,7 +97,7 @@ pub all_head_rules : (query : AxfrQuery) (first : Bool) (message : List ℕ) (pl
 all_head_rules query first message place header asked =
     (header.long, (header.id, (header.response, (header.opcode, (header.rcode, (header.counts, ((place, asked), tt)))))))
 
--- octets are left behind the records
+-- octets follow the records
 pub record HasMore (query : AxfrQuery) (front : List Record) (first : Bool) (message : List ℕ) (e : ReceiveError) : Type 0 where
   pub group : List Record
   pub place : ℕ
@@ -162,18 +162,18 @@ message_kind query front first message e fault = at_record (record {
   bad = record_kind query (front ++ fault.0) message fault.1 e fault.4;
 })
 
--- where the head is bad nothing is read behind it
+-- if the head is bad, nothing is read after it
 pub head_is_kept : (query : AxfrQuery) (front : List Record) (first : Bool) (message : List ℕ) (group : List Record) (place : ℕ)
     → KeepsRulesTo query front first message group place → AllKept (head_rules query first message)
 head_is_kept query front first message group place keeps = all_head_rules query first message keeps.start keeps.header keeps.asked
 
--- records from one place behind the question on
+-- records from the one place after the question on
 pub same_start : (query : AxfrQuery) (first : Bool) (message : List ℕ) (start start' : ℕ) → AsksAgain query first message start
     → AsksAgain query first message start' → start' ≡ start
 same_start query first message start start' asked asked' =
     asked_one query first message start' start asked' asked
 
--- where more records are lawful, the record behind the first of them is not bad
+-- if more records are lawful, the record after the first of them is not bad
 pub bad_no_more : (query : AxfrQuery) (front : List Record) (message : List ℕ) (group all : List Record) (place : ℕ) (e : ReceiveError)
     (more : List Record) → SpelledPast message group all place → IsLawful query (front ++ (all ++ more))
     → RecordBroken query (front ++ group) message place e → ⊥

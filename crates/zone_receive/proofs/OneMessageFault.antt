@@ -1,4 +1,4 @@
--- The first rule that a message breaks is one.
+-- A message has one first broken rule.
 use Rattle.std.proofs.Common.{◌≡◌, ℕ, ◌<◌, Bool, List, [], ◌++◌, length, sym, ◌∙◌, subst, arith, append-nil, inl, inr}
 use Rattle.std.proofs.lemmas.Bool.{cases_order}
 use Rattle.zone_octets.specs.Record.{Record}
@@ -12,7 +12,7 @@ use Rattle.zone_receive.proofs.MessageFaults.{RecordBroken, HasMore, HasBadRecor
 use Rattle.zone_core.proofs.OrderedRules.{FirstBroken, first_one, broken_not_kept}
 use Rattle.zone_receive.proofs.MessageFaults.MessageBroken.{head, trailing, at_record}
 
--- of a record at a place
+-- the same for a record at a place
 bad_one : (query : AxfrQuery) (front : List Record) (message : List ℕ) (place : ℕ) (e d : ReceiveError)
     → RecordBroken query front message place e → RecordBroken query front message place d → e ≡ d
 bad_one query front message place e d (inl missing) (inl missing') = missing.is ∙ sym missing'.is
@@ -23,7 +23,7 @@ bad_one query front message place e d (inr bad) (inr bad') =
     let P : Record → Type 0 = λ r. FirstBroken (record_rules query front r) d in
     first_one (record_rules query front bad.r) e d bad.broken (subst P one.0 bad'.broken)
 
--- of two lists of records that are kept, the one that is longer goes on behind the other
+-- of two lists of records that keep the rules, the longer continues the other
 kept_no_more : (query : AxfrQuery) (front : List Record) (first : Bool) (message : List ℕ) (group all : List Record) (place next : ℕ)
     (e : ReceiveError) → KeepsRulesTo query front first message group place → KeepsRulesTo query front first message all next
     → length group < length all → RecordBroken query (front ++ group) message place e → ⊥
@@ -55,7 +55,7 @@ more_no_bad query front first message e d more bad =
     kept_no_more query front first message bad.group more.group bad.place more.place d bad.keeps more.keeps
     (omega (arith, bad.some, more.all)) bad.bad
 
--- of a message
+-- the same for a message
 pub message_fault_one : (query : AxfrQuery) (front : List Record) (first : Bool) (message : List ℕ) (e d : ReceiveError)
     → MessageBroken query front first message e → MessageBroken query front first message d → e ≡ d
 message_fault_one query front first message e d (head broken) (head broken') = first_one (head_rules query first message) e d broken broken'

@@ -1,4 +1,4 @@
--- A beginning of a stream is a transfer, or the stream is at fault, or it is begun: at most one of them.
+-- A stream has a beginning that is a transfer, or is at fault, or is begun: at most one of these.
 use Rattle.std.proofs.Common.{◌≡◌, ℕ, Bool, true, List, [], ◌∷◌, ◌++◌, refl, sym, ap, ◌∙◌, subst, append_assoc, append-nil, inl, inr}
 use Rattle.std.specs.List.{AllByRecursion}
 use Rattle.zone_octets.specs.Record.{Record}
@@ -19,7 +19,7 @@ use Rattle.zone_receive.proofs.MessageFaults.{MessageBroken, message_kind, answe
 use Rattle.zone_receive.proofs.OneMessageFault.{message_fault_one}
 use Rattle.zone_core.proofs.OneTransfer.{answers_one, transferred_and_last}
 
--- The messages at the front of the stream are answers that carry groups of records, and this is behind them.
+-- The messages at the front of the stream are answers that carry groups of records, and `rest` follows them.
 pub record Carries (query : AxfrQuery) (stream : List ℕ) (messages : List (List ℕ)) (groups : List (List Record)) (rest : List ℕ)
     : Type 0 where
   pub each : AllByRecursion IsFramable messages
@@ -33,7 +33,7 @@ same_groups query messages others groups more is answers answers' =
     let P : List (List ℕ) → Type 0 = λ messages. AreAnswers query true messages more in
     answers_one query true messages groups more answers (subst P (sym is) answers')
 
--- The answers go on behind others: the next message is one of them, with the group behind those of the others.
+-- The answers continue others: the next message is one of them, with the group after those of the others.
 pub record CarriesPast (query : AxfrQuery) (others : List (List ℕ)) (before groups : List (List Record)) (next : List ℕ) : Type 0 where
   pub group : List Record
   pub after : List (List Record)
@@ -77,7 +77,7 @@ transfer_closed query stream records transfer = record {
   closes = transfer.closed;
 }
 
--- nothing that is open goes on behind a transfer
+-- no messages without a last SOA continue a transfer
 closed_past : (query : AxfrQuery) (others : List (List ℕ)) (before groups : List (List Record)) (next : List ℕ)
     → CarriesPast query others before groups next → IsClosed query (joined before) → IsOpen query (joined groups) → ⊥
 closed_past query others before groups next past closed open_ =
@@ -90,7 +90,7 @@ closed_same query groups more is closed open_ =
     let P : List Record → Type 0 = λ records. IsOpen query records in
     closed_not_open query (joined groups) [] closed (subst P (sym (append-nil (joined groups) ∙ ap joined is)) open_)
 
--- a bad message is no answer of those that go on
+-- a bad message is not an answer of those that follow
 bad_past : (query : AxfrQuery) (stream : List ℕ) (error : ReceiveError) (bad : HasBadMessage query stream error)
     (groups : List (List Record)) (next : List ℕ) (more : List ℕ) → IsFramable next → frame bad.bad ++ bad.behind ≡ frame next ++ more
     → CarriesPast query bad.messages bad.groups groups next → IsLawful query (joined groups) → ⊥
@@ -118,7 +118,7 @@ transfer_not_bad query stream front rest records error is transfer bad =
           closed bad.still_open
     ]
 
--- and not only begun
+-- and is not only begun
 pub transfer_not_begun : (query : AxfrQuery) (stream front rest : List ℕ) (records : List Record) → stream ≡ front ++ rest
     → IsTransfer query front records → IsBegun query stream → ⊥
 transfer_not_begun query stream front rest records is transfer begun =
@@ -165,7 +165,7 @@ bad_one query stream error other a b =
           (carries_past query b.messages a.messages b.groups a.groups s.next s.behind s.front b.answers a.answers) (inl b.still_open))
     ]
 
--- No transfer goes on behind another: it would have the last SOA of the other in it.
+-- No transfer continues another: it would have the last SOA of the other in it.
 no_transfer_past : (query : AxfrQuery) (stream : List ℕ) (records : List Record) (transfer : IsTransfer query stream records)
     (before : List (List Record)) (group : List Record) (after : List (List Record)) → transfer.groups ≡ before ++ group ∷ after
     → IsClosed query (joined before) → ⊥

@@ -1,4 +1,4 @@
--- What is parsed at a place of a message is its record there.
+-- What is parsed at a place of a message is the record there.
 use Rattle.std.proofs.Common.{ℕ, List, sym, subst}
 use Rattle.dns_octets.specs.Parser.{octets_of, place_of}
 use Rattle.dns_header.specs.Head.{NoWhole}
@@ -15,7 +15,7 @@ use Rattle.zone_octets.specs.Records.{AreOctets}
 use Rattle.zone_octets.specs.Typed.{seen_of}
 use Rattle.zone_octets.proofs.ReadData.{value_of_read}
 
--- no record stands where none is parsed
+-- if nothing is parsed, no record is there
 pub none_whole : (message : List ℕ) (place : ℕ) → NoWhole message place → (r : Record) (next : ℕ) → ReadsRecord message place r next → ⊥
 none_whole message place none r next reads =
     let it = read_taken r reads in none it.taken.head it.taken.data_place next it.taken.whole
@@ -33,7 +33,7 @@ module _ {Octs N : Type 0} where
       record { owner = is.owner; class = is.class; ttl = is.ttl; rdata = is.rdata } in
       taken_read (seen_of rr) each (item_taken holds read)
 
-  -- and no record stands where its data is none of its type
+  -- if the data is not lawful for its type, no record is there
   pub none_parsed : (message : List ℕ) (place end : ℕ) (item : Parsed) → HoldsRecord message place item end → HasNoData reads_value item
       → (r : Record) (next : ℕ) → ReadsRecord message place r next → ⊥
   none_parsed message place end item holds none r next reads =

@@ -1,5 +1,10 @@
+<<<<<<< HEAD
 -- How far a receiver is.
 use Rattle.std.proofs.Common.{◌≡◌, ℕ, ◌≤◌, Bool, true, false, None, List, [], ◌++◌, length, take, refl, sym, ap, ◌∙◌, subst, arith, append-nil, inl, inr}
+=======
+-- How far a receiver has come.
+use Rattle.std.proofs.Common.{◌≡◌, ◌≢◌, ℕ, ◌≤◌, Bool, true, false, Option, Some, None, List, [], ◌++◌, ◌∷◌, length, take, refl, sym, ap, ◌∙◌, subst, arith, append-nil, inl, inr}
+>>>>>>> a5ab56371670fe94c6294c8529dc7ab8f30e6762
 use Rattle.std.proofs.lemmas.List.{take_all}
 use Rattle.zone_octets.specs.Record.{Record}
 use Rattle.zone_core.specs.Query.{AxfrQuery}
@@ -15,7 +20,7 @@ use Rattle.zone_receive.specs.declared.receiver.Progress.{Progress}
 use Rattle.zone_receive.specs.declared.receiver.Progress.TheVariants as progress
 use Rattle.zone_receive.proofs.Intakes.{goes_none, heard_is_begun, take_none}
 
--- where no last SOA has come
+-- before the last SOA
 pub stands_where : (first : Bool) (heard : Heard) (stream : List ℕ) → IsHeard heard stream → StandsIn (stage_where first) heard stream
 stands_where true heard stream is = is
 stands_where false heard stream is = is
@@ -75,7 +80,7 @@ takes_none intake query stream piece stands =
       ends = inl refl;
     }
 
--- the piece is refused, for the first time or again
+-- the piece is bad, or an earlier one was
 pub refuses_piece : (old new : Intake) (query : AxfrQuery) (stream piece : List ℕ) (error : ReceiveError)
     → ((stream : List ℕ) → IsHeard (heard_by old query) stream → IsStreamFault query (stream ++ piece) error)
     → StandsAt (heard_in progress.Begun old query) stream
@@ -110,7 +115,7 @@ not_ended_in progress.Begun first not_there is = not_ended first is
 not_ended_in progress.Done first not_there is = not_there refl
 not_ended_in (progress.Refused error) first not_there is = absurd cc
 
--- what is seen of a receiver, by how far it is
+-- what the contract sees of a receiver, by how far it has come
 pub feeds_all : (old : Heard) (at : Progress) (intake new : Intake) (query : AxfrQuery) (piece : List ℕ) (n : ℕ) → heard_in at intake query ≡ old
     → at ≡ progress.Begun → n ≡ length piece → GoesOn intake piece new query
     → (stream : List ℕ) → StandsAt old stream → Takes old stream piece (heard_in at new query) n

@@ -1,4 +1,4 @@
--- Which rules of a transfer a record keeps behind those that are held.
+-- Which rules of a transfer a record keeps after those that are held.
 use Rattle.std.proofs.Common.{◌≡◌, ◌≢◌, ℕ, ◌-◌, Bool, true, false, List, [], ◌∷◌, Some, nat_eq, length, refl, sym, ap, ◌∙◌, subst, arith, append-nil, length-append, ◌⊎◌, inl, inr}
 use Rattle.std.specs.Prelude.{not}
 use Rattle.std.specs.List.{AllByRecursion, slice_get, push}
@@ -31,7 +31,7 @@ pub some_held : (held : List Record) → (length held ≡ 0 → ⊥) → (r : Re
 some_held [] some = absurd (some refl)
 some_held (r ∷ held) some = (r, held, refl)
 
--- the next record stands behind those that are held
+-- the next record comes after those that are held
 next_at : (held : List Record) (r : Record) → slice_get (push held r) (length held) ≡ Some r
 next_at [] r = refl
 next_at (x ∷ held) r = next_at held r
@@ -55,13 +55,13 @@ next_is held r len long splits octets_are known is =
     let there = next_there held r len long splits in
     is r (known r there) (octets_are r there)
 
--- and the first of all is the first that is held, where there is one
+-- and the first of all is the first that is held, if there is one
 pub first_held : {records : List Record} (held : List Record) (r soa : Record) → records ≡ push held r → (length held ≡ 0 → ⊥)
     → slice_get records 0 ≡ Some soa → slice_get held 0 ≡ Some soa
 first_held [] r soa splits some at = absurd (some refl)
 first_held (x ∷ held) r soa splits some at = sym (ap (λ (l : List Record). slice_get l 0) splits) ∙ at
 
--- what is known of a record whose octets are octets
+-- what is known of a record whose octets are below 256
 pub known_record : (class : ℕ) (octets : List ℕ) (r : Record) → IsRecord r → IsData r.rtype r.rdata → r.class ≡ class
     → IsSpellable r.rtype r.rdata → AreOctets octets → octets ≡ record_octets r → IsRecordOf class r
 known_record class octets r lawful data_is class_is spellable each are =
@@ -75,7 +75,7 @@ known_record class octets r lawful data_is class_is spellable each are =
       data_octets = own.1;
     }
 
--- what the records in front of the next one are
+-- what holds of the records before the next one
 pub stands_so_far : {query : AxfrQuery} {records : List Record} {closed : Bool} {number : ℕ} → IsNext query records closed number
     → (held : List Record) (r : Record) → records ≡ push held r → (front : List Record) × StandsAt query held closed front
 stands_so_far {query} {closed = closed} next held r splits =
@@ -87,7 +87,7 @@ stands_so_far {query} {closed = closed} next held r splits =
 pub soa_spellable : (r : Record) → r.rtype ≡ soa_type → IsSpellable r.rtype r.rdata
 soa_spellable r soa = spellable_unless_caa r.rtype r.rdata (λ caa. absurd (omega (arith, soa, caa)))
 
--- the records of the transfer so far begin as those that are held
+-- if no record is held, the transfer has none so far
 stands_empty : {query : AxfrQuery} {held xs : List Record} {closed : Bool} → StandsAt query held closed xs → held ≡ [] → xs ≡ []
 stands_empty (begun so_far) is = is
 stands_empty {query} (ended last transferred closes) is =
@@ -165,7 +165,7 @@ last_free [] r stands either = tt
 last_free (soa ∷ others) r stands (inl empty) = let none = stands_empty stands empty in absurd cc
 last_free (soa ∷ others) r stands (inr no_soa) = λ is. absurd (no_soa is)
 
--- the records of the transfer where the last SOA has come
+-- the records of the transfer after the last SOA
 pub stands_closed : {query : AxfrQuery} {held xs : List Record} {closed : Bool} → StandsAt query held closed xs → closed ≡ true
     → IsClosed query xs
 stands_closed (begun so_far) is = absurd cc
@@ -179,7 +179,7 @@ stands_open {query} {held} (begun so_far) is closed =
     closed_not_open query held [] closed (subst P (sym (append-nil held)) so_far)
 stands_open (ended last transferred closes) is closed = cc
 
--- a record of the zone behind those that are held
+-- a record of the zone after those that are held
 still_open : {query : AxfrQuery} {xs : List Record} {closed : Bool} (held : List Record) (r : Record) → StandsAt query held closed xs
     → KeepsFirstRule query xs r → (held ≡ []) ⊎ (r.rtype ≡ soa_type → ⊥) → IsInZoneOf query r → IsOpen query (push held r)
 still_open [] r stands keeps either zone = let first = first_broken r stands refl keeps in (first.0, first.1, (zone, tt), tt)
@@ -213,7 +213,7 @@ placed_last {query} held soa r placing is stands first rtype same =
     let P : Placing → Type 0 = λ p. IsPlacing query held r p in
     subst P (sym is) (closes_here held soa r stands first rtype same)
 
--- what a comparison of numbers says
+-- what a negated test says
 pub not_false : (b : Bool) → not b ≡ false → b ≡ true
 not_false true is = refl
 not_false false is = cc

@@ -1,4 +1,4 @@
--- Records that a message spells one after another are one list, for so many of them.
+-- A message spells one list of records of a given length from a place on.
 use Rattle.std.proofs.Common.{◌≡◌, ℕ, ◌<◌, List, [], ◌∷◌, ◌++◌, length, refl, sym, subst, arith}
 use Rattle.dns_message.proofs.ReadRecords.{record_one}
 use Rattle.zone_octets.specs.Record.{Record}
@@ -10,13 +10,13 @@ use Rattle.dns_message.specs.Record.IsRead.{typed, opaque}
 use Rattle.zone_core.specs.Transfer.{SpellsRecords}
 use Rattle.zone_core.specs.Transfer.SpellsRecords.{none, one}
 
--- a record at a place is one
+-- at most one record is at a place
 pub read_one : {message : List ℕ} {place next next' : ℕ} (r other : Record) → ReadsRecord message place r next
     → ReadsRecord message place other next' → (r ≡ other) × (next ≡ next')
 read_one r other has has' =
     record_one r other has.is_record has'.is_record has.read has'.read has.spelled has'.spelled
 
--- its data is that of its type
+-- its data is lawful for its type
 data_of_read : (r : Record) (parts : Parts) → IsRecord r → IsRead r parts → IsData r.rtype r.rdata
 data_of_read r parts is (typed row is_row octets_are) = in_fields row is_row octets_are
 data_of_read r parts is (opaque no_fields) = untold no_fields is.rdata
@@ -24,7 +24,7 @@ data_of_read r parts is (opaque no_fields) = untold no_fields is.rdata
 pub read_has_data : {message : List ℕ} {place next : ℕ} (r : Record) → ReadsRecord message place r next → IsData r.rtype r.rdata
 read_has_data r has = data_of_read r has.parts has.is_record has.read
 
--- the first record that is spelled, and those behind it
+-- the first record that is spelled, and those after it
 pub record FirstSpelled (message : List ℕ) (place : ℕ) (r : Record) (records : List Record) (next : ℕ) : Type 0 where
   pub end : ℕ
   pub has : ReadsRecord message place r end
@@ -39,14 +39,14 @@ pub opened_spelled : {message : List ℕ} {place next : ℕ} {records : List Rec
 opened_spelled none = refl
 opened_spelled (one end has behind) = record { end = end; has = has; behind = behind }
 
--- one record more
+-- one more record
 pub spelled_push : {message : List ℕ} {place next : ℕ} {records : List Record} (r : Record) (end : ℕ)
     → SpellsRecords message place records next → ReadsRecord message next r end
     → SpellsRecords message place (records ++ r ∷ []) end
 spelled_push r end none has = one end has none
 spelled_push r end (one behind first rest) has = one behind first (spelled_push r end rest has)
 
--- equally many records from one place on
+-- lists of as many records from one place on are the same
 pub spelled_one : (message : List ℕ) (records others : List Record) (place next next' : ℕ) → length records ≡ length others
     → SpellsRecords message place records next → SpellsRecords message place others next'
     → (records ≡ others) × (next ≡ next')
@@ -64,7 +64,7 @@ spelled_one message (r ∷ records) (s ∷ others) place next next' many spelled
     let rest = spelled_one message records others first.end next next' (omega arith) first.behind (subst P (sym same.1) first'.behind) in
     (cc (same.0, rest.0), rest.1)
 
--- The records are others with `r` behind them, and then `more`. At the place behind the others stands `r`.
+-- The records are the others, then `r`, and then `more`. `r` is at the place after the others.
 pub record SpelledPast (message : List ℕ) (others records : List Record) (place : ℕ) : Type 0 where
   pub r : Record
   pub end : ℕ

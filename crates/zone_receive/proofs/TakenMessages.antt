@@ -15,7 +15,7 @@ use Rattle.zone_receive.specs.Intake.StandsAt.{begun, ended}
 use Rattle.zone_receive.specs.declared.error.ReceiveError.{ReceiveError}
 use Rattle.zone_receive.specs.declared.error.ReceiveError.TheVariants as receive_error
 
--- The parser stands behind the first records of a message, which keep all rules behind those in front.
+-- The parser is after the first records of a message, which keep all rules after those before them.
 pub record HasTaken (query : AxfrQuery) (front : List Record) (first : Bool) (message : List ℕ) (count : ℕ) (parser : Parser)
     (held : List Record) (closed : Bool) : Type 0 where
   pub group : List Record
@@ -24,7 +24,7 @@ pub record HasTaken (query : AxfrQuery) (front : List Record) (first : Bool) (me
   pub rules : KeepsRulesTo query front first message group (place_of parser)
   pub stands : StandsAt query held closed (front ++ group)
 
--- what stands is lawful
+-- the records so far are lawful
 stands_lawful : {query : AxfrQuery} {held front : List Record} {closed : Bool} → StandsAt query held closed front
     → IsOpen query front ⊎ IsClosed query front
 stands_lawful (begun still) = inl still
@@ -52,13 +52,13 @@ taken_none query front first message start parser header asked octets place stil
       stands = subst P (sym (append-nil front)) (begun still);
     }
 
--- one record more is spelled
+-- one more record is spelled
 spells_more : {message : List ℕ} {place here next : ℕ} {records : List Record} (r : Record) → SpellsRecords message place records here
     → ReadsRecord message here r next → SpellsRecords message place (push records r) next
 spells_more {next = next} r none has = one next has none
 spells_more r (one behind first rest) has = one behind first (spells_more r rest has)
 
--- one record more is taken
+-- one more record is taken
 pub taken_more : (query : AxfrQuery) (front : List Record) (first : Bool) (message : List ℕ) (count : ℕ) (parser next : Parser)
     (held more : List Record) (closed ends : Bool) → HasTaken query front first message count parser held closed
     → octets_of next ≡ octets_of parser
@@ -108,7 +108,7 @@ record_fault query front first message group place receive_error.Trailing rules 
 record_fault query front first message group place receive_error.Unfinished rules few fault = absurd fault
 record_fault query front first message group place receive_error.OutOfMemory rules few fault = absurd fault
 
--- a fault of either kind goes on
+-- a fault that implies another, or out of memory
 fault_on : (Fault Other : ReceiveError → Type 0) (error : ReceiveError) → ((e : ReceiveError) → Fault e → Other e) → IsFaultOr Fault error
     → IsFaultOr Other error
 fault_on Fault Other (receive_error.Query why) on fault = on _ fault
@@ -130,7 +130,7 @@ fault_on Fault Other receive_error.Trailing on fault = on _ fault
 fault_on Fault Other receive_error.Unfinished on fault = on _ fault
 fault_on Fault Other receive_error.OutOfMemory on fault = tt
 
--- a record is refused
+-- a record is bad
 pub taken_fault : (query : AxfrQuery) (front : List Record) (first : Bool) (message : List ℕ) (count : ℕ) (parser : Parser)
     (held : List Record) (closed : Bool) (error : ReceiveError) → HasTaken query front first message count parser held closed
     → count < answer_count message

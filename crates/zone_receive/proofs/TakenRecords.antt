@@ -1,4 +1,4 @@
--- The records of a transfer, one behind the other.
+-- The records of a transfer, one after another.
 use Rattle.std.proofs.Common.{◌≡◌, ℕ, ◌+◌, ◌-◌, Bool, true, false, List, [], ◌∷◌, length, take, refl, sym, ap, ◌∙◌, subst, arith, length-append}
 use mir.Val.{bool_byte}
 use Rattle.std.specs.List.{push}
@@ -13,7 +13,7 @@ use Rattle.zone_receive.specs.Intake.StandsAt.{begun, ended}
 use Rattle.zone_receive.specs.declared.error.ReceiveError.{ReceiveError}
 use Rattle.zone_receive.specs.declared.error.ReceiveError.TheVariants as receive_error
 
--- a fault of either kind
+-- a fault is one of a rule or of memory
 pub fault_or : (Fault : ReceiveError → Type 0) (error : ReceiveError) → Fault error → IsFaultOr Fault error
 fault_or Fault (receive_error.Query fault) is = is
 fault_or Fault receive_error.Short is = is
@@ -34,18 +34,18 @@ fault_or Fault receive_error.Trailing is = is
 fault_or Fault receive_error.Unfinished is = is
 fault_or Fault receive_error.OutOfMemory is = tt
 
--- how many records there are, the last SOA counted
+-- how many records there are, with the last SOA
 pub stands_counted : {query : AxfrQuery} {held front : List Record} {closed : Bool} (last : ℕ) → StandsAt query held closed front
     → last ≡ bool_byte closed → length front ≡ length held + last
 stands_counted {held = held} last (begun still) is = omega (arith, is)
 stands_counted {held = held} last (ended soa all closes) is = omega (arith, is, length-append held (soa ∷ []))
 
--- no record stands behind the last SOA
+-- no record follows the last SOA
 stands_same : {query : AxfrQuery} {held front : List Record} {closed : Bool} → StandsAt query held closed front → closed ≡ false → front ≡ held
 stands_same (begun is) not_closed = refl
 stands_same (ended last is closes) not_closed = absurd cc
 
--- the last record is taken off again
+-- the last record is removed again
 pub taken_off : {records new : List Record} (held : List Record) (r : Record) → records ≡ push held r
     → new ≡ take (length records - 1) records → new ≡ held
 taken_off held r splits is = is ∙ ap (λ (l : List Record). take (length l - 1) l) splits ∙ take_before_last held r

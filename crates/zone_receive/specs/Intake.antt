@@ -1,4 +1,4 @@
--- What a receiver holds while a stream comes in. Only contracts inside the crate speak of it.
+-- What a receiver holds while a stream arrives. Only contracts inside the crate use it.
 use Rattle.std.specs.Prelude.{◌≡◌, ◌+◌, ◌<◌, ◌≤◌, ℕ, Bool, true, false, List, [], ◌++◌, length, take, ⊤}
 use Rattle.std.specs.List.{AllByRecursion, push}
 use Rattle.dns_rdata.specs.Fields.{IsData}
@@ -16,17 +16,17 @@ use Rattle.zone_receive.specs.declared.rules.Placing.{Placing}
 use Rattle.zone_receive.specs.declared.rules.Placing.TheVariants as placing
 use Rattle.zone_receive.specs.declared.intake.Intake.{Intake}
 
--- a fault by a rule, or want of memory
+-- a fault by a rule, or out of memory
 abbrev pub IsFaultOr : (ReceiveError → Type 0) → ReceiveError → Type 0
 IsFaultOr Fault receive_error.OutOfMemory = ⊤
 IsFaultOr Fault error = Fault error
 
--- The records that are held, and the last SOA where it has come, are those of the transfer so far.
+-- The records that are held, and the last SOA if it has come, are those of the transfer so far.
 pub data StandsAt (query : AxfrQuery) (held : List spec.Record) : Bool → List spec.Record → Type 0 where
   begun : IsOpen query held → StandsAt query held false held
   ended : (last : spec.Record) → IsTransferred query held → ClosesTransfer held last → StandsAt query held true (push held last)
 
--- The last of the records is the next one of the transfer, of this number, and those in front of it are held.
+-- The last of the records is the next one of the transfer, with this number, and those before it are held.
 pub record IsNext (query : AxfrQuery) (records : List spec.Record) (closed : Bool) (number : ℕ) : Type 0 where
   pub held : List spec.Record
   pub r : spec.Record
@@ -37,19 +37,19 @@ pub record IsNext (query : AxfrQuery) (records : List spec.Record) (closed : Boo
   pub known : AllByRecursion (IsRecordOf query.class) held
   pub data_is : IsData r.rtype r.rdata
 
--- what a record that keeps all rules is behind those that are held
+-- whether a record that keeps all rules after those that are held is the last SOA
 abbrev pub IsPlacing : AxfrQuery → List spec.Record → spec.Record → Placing → Type 0
 IsPlacing query held r placing.Inner = IsOpen query (push held r)
 IsPlacing query held r placing.Last = IsTransferred query held × ClosesTransfer held r
 
--- the record at a place of the message was taken behind those in front
+-- the record at a place of the message is added after those before it
 pub record TakesRecord (query : AxfrQuery) (message : List ℕ) (place next : ℕ) (held : List spec.Record) (closed : Bool)
     (front : List spec.Record) : Type 0 where
   pub r : spec.Record
   pub has : ReadsRecord message place r next
   pub stands : StandsAt query held closed (push front r)
 
--- The message was an answer, and its records are held behind those in front.
+-- The message is an answer, and its records are held after those before it.
 pub record TakesMessage (query : AxfrQuery) (front : List spec.Record) (first : Bool) (message : List ℕ) (held : List spec.Record)
     (closed : Bool) : Type 0 where
   pub group : List spec.Record
@@ -60,7 +60,7 @@ abbrev pub stage_where : Bool → Stage
 stage_where true = Fresh
 stage_where false = Begun
 
--- what an intake is to a query, where no last SOA has come
+-- an intake as a receiver of the query's answers, before the last SOA
 abbrev pub heard_by : Intake → AxfrQuery → Heard
 heard_by intake query = record {
   query = query;
@@ -69,7 +69,7 @@ heard_by intake query = record {
   stage = stage_where intake.is_first;
 }
 
--- No last SOA has come, and the intake is what some stream makes of it.
+-- The last SOA has not come, and the intake is the result of some stream.
 pub record IsWaiting (intake : Intake) (query : AxfrQuery) : Type 0 where
   pub stream : List ℕ
   pub heard : IsHeard (heard_by intake query) stream
@@ -87,24 +87,24 @@ pub record IsFrame (octets : List ℕ) : Type 0 where
   pub fits : IsFramable message
   pub whole : octets ≡ frame message
 
--- So many of the octets that come make the open frame whole.
+-- The first `len` of the octets complete the open frame.
 pub record Completes (open_frame octets : List ℕ) (len : ℕ) : Type 0 where
   pub some : 0 < len
   pub within : len ≤ length octets
   pub framed : IsFrame (open_frame ++ take len octets)
 
--- Behind every stream that the intake heard, it hears these octets, and goes on.
+-- After every stream that the intake has heard, it takes these octets and goes on.
 pub record GoesOn (old : Intake) (octets : List ℕ) (new : Intake) (query : AxfrQuery) : Type 0 where
   pub heard : (stream : List ℕ) → IsHeard (heard_by old query) stream → IsHeard (heard_by new query) (stream ++ octets)
   pub known : AllByRecursion (IsRecordOf query.class) new.records
 
--- Behind every stream that the intake heard, these octets end the transfer.
+-- After every stream that the intake has heard, these octets end the transfer.
 pub record EndsTransfer (old : Intake) (octets : List ℕ) (new : Intake) (query : AxfrQuery) : Type 0 where
   pub whole : new.open_frame.items ≡ []
   pub transfer : (stream : List ℕ) → IsHeard (heard_by old query) stream → IsTransfer query (stream ++ octets) new.records
   pub known : AllByRecursion (IsRecordOf query.class) new.records
 
--- Behind every stream that the intake heard, these octets break the rule, whatever is behind them.
+-- After every stream that the intake has heard, these octets break the rule, whatever follows them.
 abbrev pub BreaksRule : Intake → List ℕ → AxfrQuery → ReceiveError → Type 0
 BreaksRule old octets query error =
     (stream behind : List ℕ) → IsHeard (heard_by old query) stream → IsStreamFault query (stream ++ (octets ++ behind)) error

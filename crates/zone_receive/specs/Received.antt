@@ -1,4 +1,4 @@
--- How far a receiver is. Only the receiver itself speaks of it.
+-- How far a receiver has come. Only the receiver itself uses it.
 use Rattle.std.specs.Prelude.{◌≢◌, Bool, ⊤}
 use Rattle.zone_octets.specs.Zone.{any_class}
 use Rattle.zone_core.specs.Query.{AxfrQuery}
@@ -14,7 +14,7 @@ stage_in progress.Begun is_first = stage_where is_first
 stage_in progress.Done is_first = Ended
 stage_in (progress.Refused error) is_first = Refused error
 
--- what a receiver is to who uses it
+-- the value of a receiver, as its contracts show it
 abbrev pub heard_in : Progress → Intake → AxfrQuery → Heard
 heard_in at intake query = record {
   query = query;
@@ -29,7 +29,7 @@ IsAt progress.Begun intake query = IsWaiting intake query
 IsAt progress.Done intake query = IsEnded intake query
 IsAt (progress.Refused error) intake query = ⊤
 
--- and of the query
+-- the invariant of a receiver
 pub record IsReceiver (at : Progress) (intake : Intake) (query : AxfrQuery) : Type 0 where
   pub is_at : IsAt at intake query
   pub class_known : query.class ≢ any_class

@@ -1,5 +1,5 @@
--- What a stream is to who asked for a zone's transfer and hears it from its beginning (RFC 5936 2.2): a transfer, perhaps
--- with octets behind it; only begun; or at fault, by the first rule that its first bad message breaks.
+-- What a stream is as the answer to a query for a zone's transfer (RFC 5936 2.2): a transfer, perhaps with octets after
+-- it; only begun; or at fault, by the first rule that its first bad message breaks.
 use Rattle.std.specs.Prelude.{◌≡◌, ◌≢◌, ◌+◌, ◌<◌, ◌≤◌, ◌⊎◌, ℕ, Bool, true, false, Option, Some, None, List, [], ◌∷◌, ◌++◌, length, take, ⊤}
 use Rattle.std.specs.List.{AllByRecursion, push}
 use Rattle.dns_label.specs.Name.{low}
@@ -16,12 +16,12 @@ use Rattle.zone_octets.specs.Records.{SameSoa}
 use Rattle.zone_receive.specs.declared.error.ReceiveError.{ReceiveError}
 use Rattle.zone_receive.specs.declared.error.ReceiveError.TheVariants as receive_error
 
--- the records of a transfer so far, where no last SOA has come
+-- the records of a transfer so far, before the last SOA
 abbrev pub IsOpen : AxfrQuery → List Record → Type 0
 IsOpen query [] = ⊤
 IsOpen query (soa ∷ others) = IsTransferred query (soa ∷ others)
 
--- all records of a transfer, the last SOA too
+-- all records of a transfer, with the last SOA
 pub record IsClosed (query : AxfrQuery) (records : List Record) : Type 0 where
   pub front : List Record
   pub last : Record
@@ -33,7 +33,7 @@ pub record IsClosed (query : AxfrQuery) (records : List Record) : Type 0 where
 abbrev pub IsWholeTransfer : AxfrQuery → List ℕ → Type 0
 IsWholeTransfer query stream = (records : List Record) × IsTransfer query stream records
 
--- The whole messages of the stream keep the rules of a transfer, and no last SOA has come.
+-- The whole messages of the stream keep the rules of a transfer, and the last SOA has not come.
 pub record IsBegun (query : AxfrQuery) (stream : List ℕ) : Type 0 where
   pub messages : List (List ℕ)
   pub rest : List ℕ
@@ -52,8 +52,8 @@ abbrev pub KeepsLastRule : List Record → Record → Type 0
 KeepsLastRule [] r = ⊤
 KeepsLastRule (soa ∷ others) r = r.rtype ≡ soa_type → SameSoa soa r
 
--- Which rule the record at a place of the message breaks behind those of the transfer in front of it, the first in the
--- order of the cases. Records are counted from 1.
+-- The rule that the record at a place of the message breaks after the records before it: the first in the order of the
+-- cases. Records are counted from 1.
 abbrev pub IsRecordFault : AxfrQuery → List Record → List ℕ → ℕ → ReceiveError → Type 0
 IsRecordFault query front message place (receive_error.Record n) =
     (n ≡ length front + 1) × ((r : Record) (next : ℕ) → ReadsRecord message place r next → ⊥)
@@ -88,7 +88,7 @@ IsRecordFault query front message place receive_error.Trailing = ⊥
 IsRecordFault query front message place receive_error.Unfinished = ⊥
 IsRecordFault query front message place receive_error.OutOfMemory = ⊥
 
--- The message, behind others with the records in front, keeps the rules up to a place: there its records of the group end.
+-- The message, with the records of others before it, keeps the rules up to a place: there its group of records ends.
 pub record KeepsRulesTo (query : AxfrQuery) (front : List Record) (first : Bool) (message : List ℕ) (group : List Record) (place : ℕ)
     : Type 0 where
   pub header : HasAnswerHeader query message
@@ -97,8 +97,8 @@ pub record KeepsRulesTo (query : AxfrQuery) (front : List Record) (first : Bool)
   pub spelled : SpellsRecords message start group place
   pub lawful : IsOpen query (front ++ group) ⊎ IsClosed query (front ++ group)
 
--- The first rule that the message breaks: the rules of the header and the question, then those of each record in order, and
--- then that nothing is left.
+-- The first rule that the message breaks: the rules of the header and the question, then those of each record in order,
+-- and then that nothing follows the records.
 abbrev pub IsMessageFault : AxfrQuery → List Record → Bool → List ℕ → ReceiveError → Type 0
 IsMessageFault query front first message receive_error.Short = length message < 12
 IsMessageFault query front first message receive_error.Id = (12 ≤ length message) × (id_of message ≢ query.id)
@@ -125,7 +125,7 @@ abbrev pub is_first : List (List ℕ) → Bool
 is_first [] = true
 is_first (message ∷ messages) = false
 
--- A message of the stream breaks the rule, those in front of it keep all rules, and no last SOA is among these.
+-- A message of the stream breaks the rule, those before it keep all rules, and none of them has the last SOA.
 pub record HasBadMessage (query : AxfrQuery) (stream : List ℕ) (error : ReceiveError) : Type 0 where
   pub messages : List (List ℕ)
   pub each : AllByRecursion IsFramable messages
@@ -138,7 +138,7 @@ pub record HasBadMessage (query : AxfrQuery) (stream : List ℕ) (error : Receiv
   pub still_open : IsOpen query (joined groups)
   pub fault : IsMessageFault query (joined groups) (is_first messages) bad error
 
--- Why the stream is refused. (Nothing is said of memory.)
+-- Why a stream fails. (`OutOfMemory` may come for any stream.)
 abbrev pub IsStreamFault : AxfrQuery → List ℕ → ReceiveError → Type 0
 IsStreamFault query stream (receive_error.Query fault) = ⊥
 IsStreamFault query stream receive_error.Unfinished = ⊥
@@ -147,36 +147,36 @@ IsStreamFault query stream error = HasBadMessage query stream error
 
 -- how far a stream has come
 pub data Stage : Type 0 where
-  -- no message has come whole
+  -- no whole message has come
   Fresh : Stage
-  -- a message has come whole, and no last SOA
+  -- a whole message has come, but not the last SOA
   Begun : Stage
   -- the last SOA has come
   Ended : Stage
-  -- a message broke a rule, or memory was refused
+  -- a message broke a rule, or memory ran out
   Refused : ReceiveError → Stage
 
--- where no last SOA is in the messages that have come whole
+-- the stage before the last SOA, by the whole messages so far
 abbrev pub stage_of : List (List ℕ) → Stage
 stage_of [] = Fresh
 stage_of (message ∷ messages) = Begun
 
--- the refusal that is kept
+-- the error that is kept
 abbrev pub refusal_in : Stage → Option ReceiveError
 refusal_in Fresh = None
 refusal_in Begun = None
 refusal_in Ended = None
 refusal_in (Refused error) = Some error
 
--- What a receiver is: the query, the records so far, the octets of the frame that is open, and how far the stream has come.
+-- What a receiver is: the query, the records so far, the octets of the open frame, and how far the stream has come.
 pub record Heard : Type 0 where
   pub query : AxfrQuery
   pub records : List Record
   pub open_frame : List ℕ
   pub stage : Stage
 
--- The stream is whole messages that keep the rules of a transfer, with the records so far and no last SOA, and then the
--- frame that is open.
+-- The stream is whole messages that keep the rules of a transfer, with the records so far and without the last SOA, and
+-- then the open frame.
 pub record IsHeard (heard : Heard) (stream : List ℕ) : Type 0 where
   pub messages : List (List ℕ)
   pub splits : Splits stream messages heard.open_frame
@@ -186,8 +186,8 @@ pub record IsHeard (heard : Heard) (stream : List ℕ) : Type 0 where
   pub still_open : IsOpen heard.query heard.records
   pub stage : heard.stage ≡ stage_of messages
 
--- The receiver stands at the stream: what it holds is what these octets make of it. (A refused stream has the piece in it
--- that was refused.)
+-- The receiver is at this place of the stream: it holds what these octets make of it. (A stream that failed includes
+-- the piece that failed.)
 abbrev pub StandsIn : Stage → Heard → List ℕ → Type 0
 StandsIn Fresh heard stream = IsHeard heard stream
 StandsIn Begun heard stream = IsHeard heard stream
@@ -197,7 +197,7 @@ StandsIn (Refused error) heard stream = IsStreamFault heard.query stream error
 abbrev pub StandsAt : Heard → List ℕ → Type 0
 StandsAt heard stream = StandsIn heard.stage heard stream
 
--- A piece behind the stream is taken up to the n-th octet: up to the end of the transfer, or else all of it.
+-- A piece after the stream is taken up to the n-th octet: up to the end of the transfer, otherwise all of it.
 pub record Takes (old : Heard) (stream piece : List ℕ) (new : Heard) (n : ℕ) : Type 0 where
   pub free : refusal_in old.stage ≡ None
   pub query : new.query ≡ old.query
@@ -206,14 +206,14 @@ pub record Takes (old : Heard) (stream piece : List ℕ) (new : Heard) (n : ℕ)
   pub stands : StandsAt new (stream ++ take n piece)
   pub ends : (new.stage ≡ Ended) ⊎ ((new.stage ≢ Ended) × (n ≡ length piece))
 
--- A piece behind the stream is refused: again, where a refusal is kept, and else by the rule that the stream breaks with it.
--- The refusal is kept from then on.
+-- A piece after the stream fails: with the error that is kept, or else by the rule that the stream breaks with the
+-- piece. The error is kept from then on.
 pub record Refuses (old : Heard) (stream piece : List ℕ) (new : Heard) (error : ReceiveError) : Type 0 where
   pub query : new.query ≡ old.query
   pub kept : new.stage ≡ Refused error
   pub why : ((old.stage ≡ Refused error) × (new ≡ old)) ⊎ ((refusal_in old.stage ≡ None) × IsStreamFault old.query (stream ++ piece) error)
 
--- Why there is no receiver: the query breaks a rule, or memory runs out for one that breaks none.
+-- Why there is no receiver: the query breaks a rule, or it breaks none and memory runs out.
 abbrev pub IsAskFault : List ℕ → ReceiveError → Type 0
 IsAskFault message (receive_error.Query fault) = IsQueryFault message fault
 IsAskFault message receive_error.OutOfMemory = (query : AxfrQuery) × IsQuery message query
@@ -234,7 +234,7 @@ IsAskFault message (receive_error.Unspellable n) = ⊥
 IsAskFault message receive_error.Trailing = ⊥
 IsAskFault message receive_error.Unfinished = ⊥
 
--- Why there is no zone: the refusal that is kept, or the stream is only begun.
+-- Why there is no zone: the error that is kept, or the stream is only begun.
 abbrev pub IsNoZone : Heard → List ℕ → ReceiveError → Type 0
 IsNoZone heard stream error =
     (heard.stage ≡ Refused error)

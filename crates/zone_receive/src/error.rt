@@ -1,4 +1,4 @@
-//! Why a stream is no transfer.
+//! Why a stream is not a transfer.
 ghost use Rattle.std.specs.Prelude.{◌≡◌};
 ghost use Rattle.zone_receive.specs.declared.error.ReceiveError.TheVariants.{OutOfMemory};
 
@@ -6,8 +6,9 @@ use std::alloc::AllocError;
 use thiserror::Error;
 use zone_core::QueryError;
 
-/// The first rule that is broken. A message is judged by the rules `Short` to `Question` in this order, then each of its
-/// records by the rules `Record` to `Unspellable`, and then by `Trailing`. Records are counted from 1 through all messages.
+/// The first rule that is broken. A message is checked against the rules `Short` to `Question` in this order, then each
+/// of its records against the rules `Record` to `Unspellable`, and then against `Trailing`. Records are counted from 1
+/// through all messages.
 #[derive(Clone, Copy, Debug, PartialEq, Eq, Error)]
 pub enum ReceiveError {
     /// The query breaks a rule.
@@ -16,28 +17,28 @@ pub enum ReceiveError {
     /// A message has fewer than the 12 octets of a header.
     #[error("short message")]
     Short,
-    /// The id is not the query's.
+    /// The ID is not the query's.
     #[error("wrong id")]
     Id,
-    /// It is no response: QR is clear.
+    /// The message is not a response: QR is clear.
     #[error("not a response")]
     NotResponse,
-    /// The opcode is not 0.
+    /// The opcode is not 0 (QUERY).
     #[error("wrong opcode")]
     Opcode,
-    /// The server answers with an error: the response code is this, and not 0.
+    /// The server returns an error: the response code is this, and not 0.
     #[error("rcode {0}")]
     Rcode(u8),
     /// There are authority or additional records, or more than one question.
     #[error("wrong counts")]
     Counts,
-    /// The first message has no question, or a message has one that is not read or is not the query's.
+    /// The first message has no question, or a message has one that cannot be parsed or is not the query's.
     #[error("wrong question")]
     Question,
-    /// The record is not read.
+    /// The record cannot be parsed.
     #[error("record {0}: malformed")]
     Record(usize),
-    /// The first record is no SOA of the query's name.
+    /// The first record is not an SOA of the query's name.
     #[error("first record is not the SOA")]
     FirstNotSoa,
     /// The record's class is not the query's.
@@ -52,16 +53,16 @@ pub enum ReceiveError {
     /// The record follows the last SOA in its message.
     #[error("record {0}: behind the last SOA")]
     AfterLast(usize),
-    /// The record's data cannot be spelled in text: the tag of a CAA record is empty.
+    /// The record's data has no text form: the tag of a CAA record is empty.
     #[error("record {0}: cannot be spelled")]
     Unspellable(usize),
-    /// There are octets behind the records that a message counts.
+    /// Octets follow the records that a message counts.
     #[error("trailing octets")]
     Trailing,
     /// The last SOA has not come.
     #[error("unfinished")]
     Unfinished,
-    /// A growth was refused.
+    /// Out of memory. One variant covers every allocation.
     #[error("out of memory")]
     OutOfMemory,
 }

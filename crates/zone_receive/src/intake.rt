@@ -1,4 +1,4 @@
-//! The frame that is open in a stream that comes in, and the records of its messages.
+//! The open frame of a stream that arrives, and the records of its messages.
 ghost use Rattle.std.specs.Prelude.{◌≤◌, length};
 
 use crate::error::ReceiveError;
@@ -8,16 +8,16 @@ use std::alloc::Global;
 use zone_core::owned_query::OwnedQuery;
 use zone_octets::record_list::RecordList;
 
-/// What is left of a stream whose whole messages are judged.
+/// What is kept of a stream after its whole messages are judged.
 #[derive(Debug, Drop)]
 pub(crate) struct Intake {
-    /// The octets of the frame that is open.
+    /// The octets of the open frame.
     open_frame: Vec<u8>,
-    /// Whether no message has come whole.
+    /// Whether no whole message has come.
     is_first: bool,
     /// The records of the messages, without the last SOA.
     records: RecordList,
-    // A frame has a length of two octets, and at most as many as that can say behind it.
+    // A frame has a length of two octets, and at most 65,535 octets after it.
     ghost bounded: { length open_frame.items ≤ 65537 },
 }
 
@@ -29,7 +29,7 @@ impl Intake {
     ghost use Rattle.zone_receive.specs.Receiving.{IsHeard, IsStreamFault};
     ghost use Rattle.zone_receive.specs.Intake.{BreaksRule, EndsTransfer, GoesOn, IsFrame, IsWaiting, heard_by};
 
-    /// No octets.
+    /// Returns an intake that has taken no octets.
     pub(crate) fn new(alloc: Global) -> Intake
         ensures first { result.is_first ≡ true }
         ensures heard { (query : AxfrQuery) → IsHeard (heard_by result query) [] }
@@ -42,8 +42,9 @@ impl Intake {
         }
     }
 
-    /// Takes a piece of the stream. Where the transfer ends in it, the octets behind that are not taken, and the answer is
-    /// how many were; else it is None.
+    /// Takes a piece of the stream. If the transfer ends in it, returns the number of octets up to that end, and takes
+    /// none after it. Otherwise takes all, and returns None. Fails with the first rule that the stream breaks with the
+    /// piece, or if out of memory.
     pub(crate) fn take(
         &mut self,
         query: &OwnedQuery,
@@ -68,15 +69,16 @@ impl Intake {
         Ok(None)
     }
 
-    /// The records that came.
+    /// Returns the records that have come.
     pub(crate) fn into_records(self) -> RecordList
         ensures { result ≡ self.records }
     {
         self.records
     }
 
-    /// Judges the frame that these octets make whole, and takes its records. True where it ends the transfer. A frame that
-    /// stands in these octets alone is judged where it stands.
+    /// Judges the frame that these octets complete, and takes its records. Returns true if it ends the transfer. If the
+    /// whole frame is in these octets, it is judged in place, without a copy. Fails with the first rule that the
+    /// message breaks, or if out of memory.
     fn judge(&mut self, query: &OwnedQuery, rest: &[u8]) -> Result<bool, ReceiveError>
         requires waits { IsWaiting self.old (asked_of query.now) }
         requires framed { IsFrame (self.old.open_frame.items ++ rest.now) }

@@ -1,4 +1,4 @@
-//! What holds of a stream that is received. A law is a function with an empty body, whose contract is the law.
+//! Laws of streams that are received. A law is a function with an empty body whose contract is the law.
 
 ghost use Rattle.std.specs.Prelude.{◌≡◌, ◌++◌, ◌⊎◌, ℕ, List};
 ghost use Rattle.dns_label.specs.Octets.{AreOctets};
@@ -8,8 +8,8 @@ ghost use Rattle.zone_receive.specs.Receiving.{IsBegun, HasBadMessage};
 ghost use Rattle.zone_core.specs.Transfer.{IsTransfer};
 ghost use Rattle.zone_receive.specs.declared.error.ReceiveError.{ReceiveError};
 
-/// Of a stream at most one of three things holds: a beginning of it is a transfer, or it is at fault, or it is begun. It
-/// has one beginning that is a transfer, and one fault.
+/// At most one of three things holds of a stream: a beginning of it is a transfer, or it is at fault, or it is begun.
+/// It has at most one beginning that is a transfer, and at most one fault.
 pub fn at_most_one_of_three()
     ensures transfer_or_fault { (query : AxfrQuery) (stream front rest : List ℕ) (records : List Record) (error : ReceiveError) →
         stream ≡ front ++ rest → IsTransfer query front records → HasBadMessage query stream error → ⊥ }
@@ -24,7 +24,7 @@ pub fn at_most_one_of_three()
         HasBadMessage query stream e → HasBadMessage query stream d → e ≡ d }
 {}
 
-/// Of every stream of octets one of three things holds: a beginning of it is a transfer, or it is begun, or it is at
+/// One of three things holds of every stream of octets: a beginning of it is a transfer, or it is begun, or it is at
 /// fault.
 pub fn one_of_three()
     ensures { (query : AxfrQuery) (stream : List ℕ) → AreOctets stream →

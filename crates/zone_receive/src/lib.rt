@@ -1,7 +1,7 @@
 //! A zone from the stream of its transfer (RFC 5936 2.2).
 //!
-//! A part of `zonewire`, which hands `Receiver` and its error on, over `zone_core`, which says which stream is a transfer. The
-//! `specs/` say which rule another stream breaks first, and where a receiver stands in a stream.
+//! Part of `zonewire`, which re-exports `Receiver` and its error. Builds on `zone_core`, which defines which stream is
+//! a transfer. `specs/` defines which rule another stream breaks first, and how far a receiver has come in a stream.
 #![tactic(auto)]
 
 mod error;

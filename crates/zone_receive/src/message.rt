@@ -1,4 +1,4 @@
-//! The messages of a transfer, one by one.
+//! The messages of a transfer, judged one by one.
 ghost use Rattle.std.specs.Prelude.{◌≡◌, ◌+◌, ◌++◌, ◌∷◌, [], ◌↔◌, ◌⊎◌, ◌≤◌, ℕ, Bool, List, length, IsTrue, IfOk, IfErr, OnOk, IfSome, IfNone};
 ghost use Rattle.std.specs.List.{AllByRecursion};
 ghost use Rattle.dns_octets.specs.Parser.{octets_of, place_of};
@@ -20,8 +20,8 @@ use zone_core::owned_query::OwnedQuery;
 use zone_core::question::{HEADER_OCTETS, parse_question};
 use zone_octets::record_list::RecordList;
 
-/// Judges a message behind others with these records, and adds its own to them. True where it has the last SOA, which is
-/// not added.
+/// Judges a message that follows others with these records, and adds its own to them. Returns true if it has the last
+/// SOA, which is not added. Fails with the first rule that the message breaks, or if out of memory.
 pub(crate) fn judge_message(
     query: &OwnedQuery,
     is_first: bool,
@@ -53,7 +53,7 @@ pub(crate) fn judge_message(
     Ok(closed)
 }
 
-/// Refuses a message whose header is not that of an answer to the query.
+/// Fails with the first broken rule if a message's header is not that of an answer to the query.
 fn check_header(query: &OwnedQuery, message: &[u8]) -> Result<(), ReceiveError>
     ensures ok { OnOk result (HasAnswerHeader (asked_of query.now) message.now) }
     ensures err { IfErr result (λ error. (front : List spec.Record) (first : Bool) → IsMessageFault (asked_of query.now) front first message.now error) }
@@ -80,7 +80,7 @@ fn check_header(query: &OwnedQuery, message: &[u8]) -> Result<(), ReceiveError>
     Ok(())
 }
 
-/// Returns how many questions a message counts.
+/// Returns the number of questions that a message counts.
 fn questions_in(message: &[u8]) -> u16
     requires { 12 ≤ length message.now }
     ensures { result ≡ question_count message.now }
@@ -88,7 +88,7 @@ fn questions_in(message: &[u8]) -> u16
     HeaderCounts::for_message_slice(message).qdcount()
 }
 
-/// Returns how many answers a message counts.
+/// Returns the number of answers that a message counts.
 fn answers_in(message: &[u8]) -> u16
     requires { 12 ≤ length message.now }
     ensures { result ≡ answer_count message.now }
@@ -96,7 +96,7 @@ fn answers_in(message: &[u8]) -> u16
     HeaderCounts::for_message_slice(message).ancount()
 }
 
-/// Whether a message counts at most one question, and no records but answers.
+/// Returns whether a message counts at most one question, and no records but answers.
 fn counts_answers(message: &[u8]) -> bool
     requires { 12 ≤ length message.now }
     ensures { IsTrue result ↔ CountsAnswers message.now }
@@ -105,8 +105,8 @@ fn counts_answers(message: &[u8]) -> bool
     counts.qdcount() <= 1 && counts.nscount() == 0 && counts.arcount() == 0
 }
 
-/// The place behind the message's question, which has to be the query's; or behind the header, where there is none and
-/// the message is not the first.
+/// Returns the place after the message's question, which has to be the query's. If the message has no question and is
+/// not the first, returns the place after the header. Otherwise returns None.
 fn behind_question(query: &OwnedQuery, is_first: bool, message: &[u8]) -> Option<usize>
     requires header { HasAnswerHeader (asked_of query.now) message.now }
     ensures some { IfSome result (AsksAgain (asked_of query.now) is_first message.now) }
@@ -126,8 +126,9 @@ fn behind_question(query: &OwnedQuery, is_first: bool, message: &[u8]) -> Option
     }
 }
 
-/// Reads the next record, adds it to those in front of it, and holds it against the rules. The last SOA is not added.
-/// `closed` says whether that stands in front, and the answer whether it stands in front of the next one.
+/// Parses the next record, adds it to those before it, and checks it against the rules. The last SOA is not added.
+/// `closed`: whether the closing SOA was read; returns the new value. Fails with the first rule that the record breaks,
+/// or if out of memory.
 fn take_record(
     query: &OwnedQuery,
     parser: &mut Parser<'_>,

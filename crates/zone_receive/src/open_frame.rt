@@ -1,12 +1,13 @@
-//! The frame that is open at the end of a stream.
+//! The open frame at the end of a stream.
 ghost use Rattle.std.specs.Prelude.{◌≡◌, ◌+◌, ◌++◌, ◌≤◌, length, MatchOption, IfNone, slice_get};
 ghost use Rattle.zone_core.specs.Frames.{IsPartial};
 ghost use Rattle.zone_receive.specs.Intake.{Completes};
 
-/// The octets of a message's length on a stream (RFC 1035 4.2.2).
+/// The number of octets of a message's length on a stream (RFC 1035 4.2.2).
 pub(crate) const LENGTH_OCTETS: usize = 2;
 
-/// Returns how many of these octets make the open frame whole, if they do (RFC 1035 4.2.2).
+/// Returns the number of these octets that completes the open frame, or None if they do not complete it (RFC 1035
+/// 4.2.2).
 pub(crate) fn missing(open_frame: &[u8], octets: &[u8]) -> Option<usize>
     requires { IsPartial open_frame.now }
     ensures found { MatchOption result (IsPartial (open_frame.now ++ octets.now)) (Completes open_frame.now octets.now) }
@@ -23,7 +24,7 @@ pub(crate) fn missing(open_frame: &[u8], octets: &[u8]) -> Option<usize>
     }
 }
 
-/// Returns the octet at a place of two slices, the second behind the first.
+/// Returns the octet at a place of two slices, the second after the first.
 fn octet_at(front: &[u8], back: &[u8], place: usize) -> Option<u8>
     ensures { result ≡ slice_get (front.now ++ back.now) place }
 {

@@ -1,4 +1,4 @@
-//! Who asks for a zone's transfer, and takes the stream of answers.
+//! Receiving a zone as the stream of its transfer.
 ghost use Rattle.std.specs.Prelude.{◌≡◌, ◌≤◌, ◌↔◌, ℕ, List, [], None, Ok, Err, length, IsTrue, IfOk, IfErr, MatchResult};
 ghost use Rattle.zone_core.specs.Asked.{asked_of};
 ghost use Rattle.zone_core.specs.Query.{IsQuery};
@@ -21,16 +21,16 @@ use zone_text::zone::zone_of;
 enum Progress {
     /// The last SOA has not come.
     Begun,
-    /// The last SOA has come, and the zone's records are whole.
+    /// The last SOA has come, and the zone's records are complete.
     Done,
-    /// The stream was refused.
+    /// The stream failed.
     Refused(ReceiveError),
 }
 
-/// Who asks for a zone's transfer and takes the stream of answers, in pieces of any size (RFC 5936 2.2).
+/// Receives the answers to a query for a zone's transfer, in pieces of any size (RFC 5936 2.2).
 ///
-/// It holds the records that came, and the octets of a message that is not whole: less than 65,537. A message is judged
-/// once, when it is whole.
+/// It holds the records that have come, and the octets of a message that is not complete: fewer than 65,537. A message
+/// is judged once, when it is complete.
 #[derive(Debug, Drop)]
 pub struct Receiver {
     query: OwnedQuery,
@@ -51,9 +51,9 @@ impl Model for Receiver {
 }
 
 impl Receiver {
-    /// A receiver for the answers to a query, to which no octet has come.
+    /// Returns a receiver for the answers to the query in these octets. No octet has come yet.
     ///
-    /// Fails with the first rule that the query breaks, or with `OutOfMemory` if it breaks none and its name gets no memory.
+    /// Fails with the first rule that the query breaks. Fails with `OutOfMemory` only if it breaks none.
     pub fn new(alloc: Global, query: &[u8]) -> Result<Receiver, ReceiveError>
         ensures ok { IfOk result (λ receiver. IsQuery query.now receiver.query) }
         ensures stands { IfOk result (λ receiver. (receiver.stage ≡ Fresh) × StandsAt receiver []) }
@@ -70,23 +70,23 @@ impl Receiver {
         })
     }
 
-    /// Takes the next piece of the stream, and returns how many octets of it were taken: all of them, or those up to the
-    /// end of the transfer; none once it has ended.
+    /// Takes the next piece of the stream, and returns the number of octets taken: all of them, or those up to the end
+    /// of the transfer. After the end it takes none.
     ///
-    /// Fails with the first rule that the first bad message breaks, or with `OutOfMemory`, and then with the same error at
-    /// every later call. An empty piece changes nothing, and fails only with an error that came before.
+    /// Fails with the first rule that the first bad message breaks, or with `OutOfMemory`. Every later call then fails
+    /// with the same error. An empty piece changes nothing, and fails only with an error that came before.
     pub fn feed(&mut self, piece: &[u8]) -> Result<usize, ReceiveError>
         ensures takes { (stream : List ℕ) → StandsAt self.old stream →
             MatchResult result (Takes self.old stream piece.now self.new) (Refuses self.old stream piece.now self.new) }
 
-        // Whatever the stream was, a refusal is kept, and the transfer that has come whole.
+        // For any stream, an error is kept, and so is a complete transfer.
         ensures kept { (error : ReceiveError) → self.old.stage ≡ Refused error → (result ≡ Err error) × (self.new ≡ self.old) }
         ensures ended { self.old.stage ≡ Ended → (result ≡ Ok 0) × (self.new ≡ self.old) }
 
-        // An empty piece changes nothing, and is refused only where a refusal is kept.
+        // An empty piece changes nothing, and fails only with an error that is kept.
         ensures empty { piece.now ≡ [] → refusal_in self.old.stage ≡ None → (result ≡ Ok 0) × (self.new ≡ self.old) }
 
-        // What is open of a frame is no longer than a frame can be.
+        // The open frame is no longer than a frame can be.
         ensures bounded { length self.new.open_frame ≤ 65537 }
     {
         match self.progress {
@@ -107,7 +107,7 @@ impl Receiver {
         }
     }
 
-    /// Whether the transfer has come whole.
+    /// Returns whether the transfer is complete.
     pub fn is_done(&self) -> bool
         ensures stage { IsTrue result ↔ (self.now.stage ≡ Ended) }
         ensures whole { (stream : List ℕ) → StandsAt self.now stream →
@@ -116,16 +116,15 @@ impl Receiver {
         matches!(self.progress, Progress::Done)
     }
 
-    /// The zone that came.
-    ///
-    /// Refused with the refusal that is kept, or else with `Unfinished` where the transfer has not come whole.
+    /// Returns the zone that was received. Fails with the error that is kept, otherwise with `Unfinished` if the
+    /// transfer is not complete.
     pub fn into_zone(self) -> Result<Zone, ReceiveError>
         ensures ok { IfOk result (λ zone. (stream : List ℕ) → StandsAt self stream →
             (refusal_in self.stage ≡ None) × IsTransfer self.query stream zone.records) }
         ensures class_is { IfOk result (λ zone. zone.class ≡ self.query.class) }
         ensures err { IfErr result (λ error. (stream : List ℕ) → StandsAt self stream → IsNoZone self stream error) }
 
-        // Whatever the stream was, a refusal is kept.
+        // For any stream, an error is kept.
         ensures kept { (error : ReceiveError) → self.stage ≡ Refused error → result ≡ Err error }
     {
         let Receiver {

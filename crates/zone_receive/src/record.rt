@@ -13,7 +13,8 @@ use dns_message::ParsedRecord;
 use dns_name::{ParseError, Parser};
 use zone_octets::record_list::MessageRecord;
 
-/// Reads the record at the parser's place, and leaves the parser behind it. Its names may have pointers (RFC 1035 4.1.4).
+/// Parses the record at the parser's place, and moves the parser after it. Its names may have pointers (RFC 1035
+/// 4.1.4). Fails if no record is there.
 pub(crate) fn parse_record<'a>(parser: &mut Parser<'a>) -> Result<MessageRecord<'a>, ParseError>
     requires { AreOctets (octets_of parser.old) }
     ensures ok { IfOk result (λ r. ReadsRecord (octets_of parser.old) (place_of parser.old) (record_of (seen_of (with_labels labels_of r)))

@@ -1,4 +1,4 @@
-//! The rules that the records of a transfer keep, one behind the other.
+//! The rules that the records of a transfer keep, one after another.
 ghost use Rattle.std.specs.Prelude.{◌≡◌, ◌+◌, ◌↔◌, [], ℕ, List, false, length, IsTrue, IfOk, IfErr, OnOk};
 ghost use Rattle.std.specs.List.{AllByRecursion, push};
 ghost use Rattle.zone_octets.specs.Record as spec;
@@ -24,8 +24,8 @@ pub(crate) enum Placing {
     Last,
 }
 
-/// Holds the last of these records, which has this number in the transfer, against the rules. `closed` says whether the last
-/// SOA stands between it and the records in front of it.
+/// Checks the last of these records, which has this number in the transfer, against the rules. `closed` says whether
+/// the last SOA came between it and the records before it. Fails with the first rule that the record breaks.
 pub(crate) fn place_record(
     query: &OwnedQuery,
     records: &RecordList,
@@ -71,14 +71,14 @@ pub(crate) fn place_record(
     Ok(placing)
 }
 
-/// Whether a record is an SOA of the query's name.
+/// Returns whether a record is an SOA of the query's name.
 fn is_first_soa(query: &OwnedQuery, next: &Record<'_>) -> bool
     ensures { IsTrue result ↔ KeepsFirstRule (asked_of query.now) [] next.now }
 {
     next.is_soa() && next.is_at(&query.name)
 }
 
-/// Does nothing. It says to the proof what the type does: that each of these is an octet.
+/// Does nothing. It tells the proof what the type says: that each of these is an octet.
 fn are_octets(_octets: &[u8])
     ensures { AreOctets _octets.now }
 {}

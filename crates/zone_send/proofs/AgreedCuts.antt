@@ -6,12 +6,12 @@ use Rattle.zone_octets.proofs.Each.{all_fronts, all_append}
 use Rattle.zone_core.specs.Cutting.{joined, IsFull, IsFullCut, FitsNotBehind, IsBlocked}
 
 module _ {X : Type 0} (P : X → Type 0) (size other : List X → ℕ) (agree : (group : List X) → AllByRecursion P group → size group ≡ other group) (max : ℕ) where
-  -- a group with an element behind it
+  -- a group with one more element
   too_large : (group : List X) (x : X) → AllByRecursion P group → P x → max < size (push group x) → max < other (push group x)
   too_large group x all is large =
       subst (λ (n : ℕ). max < n) (agree (push group x) (all_append P group (x ∷ []) all (is, tt))) large
 
-  -- a group with the first of the elements behind it
+  -- a group with the first of the elements after it
   too_large_behind : (group behind : List X) → AllByRecursion P group → AllByRecursion P behind
       → IfSome (slice_get behind 0) (λ x. max < size (push group x)) → IfSome (slice_get behind 0) (λ x. max < other (push group x))
   too_large_behind group [] all none large = tt
@@ -30,7 +30,7 @@ module _ {X : Type 0} (P : X → Type 0) (size other : List X → ℕ) (agree : 
       let both = all_fronts P group (joined groups) all in
       (too_large_behind group (joined groups) both.0 both.1 is.0, full groups both.1 is.1)
 
-  -- behind the last of the groups
+  -- after the last of the groups
   not_behind : (groups : List (List X)) (x : X) → AllByRecursion P (joined groups) → P x → FitsNotBehind size max groups x → FitsNotBehind other max groups x
   not_behind [] x all is large = tt
   not_behind (group ∷ []) x all is large = too_large group x (all_fronts P group [] all).0 is large

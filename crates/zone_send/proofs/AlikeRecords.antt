@@ -1,4 +1,4 @@
--- What a reader takes of a record that is written by a spelling.
+-- What a reader gets from a record that is written by a spelling.
 use Rattle.std.proofs.Common.{◌≡◌, ℕ, ◌<◌, ◌^◌, Bool, true, false, List, [], ◌∷◌, length, map, refl, sym, ap, ◌∙◌, subst, arith, length-append}
 use Rattle.std.specs.Prelude.{Some, if◌then◌else◌}
 use Rattle.std.specs.List.{AllByRecursion, AllZip}
@@ -26,7 +26,7 @@ use Rattle.zone_octets.specs.Record.{Record}
 use Rattle.zone_send.specs.SpelledSent.{IsNear, IsNearField}
 use Rattle.zone_send.specs.SpelledSent.IsNearData.{same as same_data, fields as near_fields}
 
--- Names that are the same to a spelling are equal if it does not fold, and in lower case always.
+-- Names that are the same to a spelling are equal if it does not fold case, and equal in lower case always.
 module _ (s : Spelling) (name other : List (List ℕ)) (same : map (folded s) name ≡ map (folded s) other) where
   pub exact_name : s.folds ≡ false → name ≡ other
   exact_name exact =
@@ -42,7 +42,7 @@ module _ (s : Spelling) (name other : List (List ℕ)) (same : map (folded s) na
           subst P is same
       by_case false is = ap low (exact_name is)
 
--- a row of which a reader takes another
+-- a reader gets the row `others` from the row `row`
 pub record IsTakenRow (s : Spelling) (row others : List Field) : Type 0 where
   pub kinds : map kind_of others ≡ map kind_of row
   pub each : AllByRecursion IsField others
@@ -52,7 +52,7 @@ pub record IsTakenRow (s : Spelling) (row others : List Field) : Type 0 where
   pub lower : map lowered row ≡ map lowered others
   pub tags : TagsAreSome row → TagsAreSome others
 
--- the row that a reader takes out of the parts
+-- the row that a reader gets from the parts
 record TakenRow (s : Spelling) (row : List Field) (inside : Parts) : Type 0 where
   others : List Field
   parts_are : inside ≡ written_parts others
@@ -143,14 +143,14 @@ module _ (s : Spelling) where
   taken_row (rest16 text ∷ row) each inside alike = behind_octets (rest16 text) row each.0 refl (λ p. refl) (taken_row row each.1) alike
   taken_row (rest64 text ∷ row) each inside alike = behind_octets (rest64 text) row each.0 refl (λ p. refl) (taken_row row each.1) alike
 
--- the row that the data of the other record is, for the row that the data of the first is
+-- the row of the other record's data, given the row of the first record's data
 pub record TakenAsRow (r other : Record) (row : List Field) : Type 0 where
   pub others : List Field
   pub is_row : IsRow r.rtype others
   pub octets_are : other.rdata ≡ octets others
   pub lower : map lowered row ≡ map lowered others
 
--- a record of which a reader takes another
+-- a reader gets the record `other` from the record `r`
 pub record IsTaken (s : Spelling) (r other : Record) : Type 0 where
   pub lawful : IsRecord other
   pub near : IsNear r other
@@ -158,7 +158,7 @@ pub record IsTaken (s : Spelling) (r other : Record) : Type 0 where
   pub spellable : IsSpellable r.rtype r.rdata → IsSpellable other.rtype other.rdata
   pub rows : (row : List Field) → IsRow r.rtype row → r.rdata ≡ octets row → TakenAsRow r other row
 
--- the record that a reader takes out of parts with more behind them, and what is behind
+-- the record that a reader gets from parts with more parts after it, and the parts after it
 pub record TakenParts (s : Spelling) (r : Record) (more read : Parts) : Type 0 where
   pub other : Record
   pub data_parts : Parts
@@ -168,7 +168,7 @@ pub record TakenParts (s : Spelling) (r : Record) (more read : Parts) : Type 0 w
   pub alike : AreAlike s more rest
   pub read_is : read ≡ Named other.owner (Octets (fixed_octets other.rtype other.class other.ttl) (Counted data_parts rest))
 
--- parts that have the shape of a record's
+-- parts with the shape of a record's parts
 record Headed (s : Spelling) (owner : List (List ℕ)) (text : List ℕ) (inner more read : Parts) : Type 0 where
   other : List (List ℕ)
   inside : Parts
@@ -235,7 +235,7 @@ module _ (s : Spelling) (r : Record) (is_record : IsRecord r) (owner : List (Lis
     };
   }
 
-  -- data that is not looked into
+  -- unknown data
   opaque_taken : IsTaken s r (with_data r owner r.rdata)
   opaque_taken = record {
     lawful = lawful_with r.rdata is_record.rdata;
@@ -245,7 +245,7 @@ module _ (s : Spelling) (r : Record) (is_record : IsRecord r) (owner : List (Lis
     rows = λ found is_found found_are. record { others = found; is_row = is_found; octets_are = found_are; lower = refl };
   }
 
--- A reader takes a record out of the parts that a writer gives of one.
+-- A reader gets a record from the parts that a writer gives for one.
 pub taken_parts : (s : Spelling) (r : Record) {parts : Parts} (more read : Parts) → IsRecord r → IsWritten r parts
     → AreAlike s (join_parts parts more) read → TakenParts s r more read
 taken_parts s r more read is_record (fields row is_row octets_are) alike =

@@ -1,4 +1,4 @@
--- What is sent is as good as any stream of its records.
+-- A sent stream is as good as any stream of its records.
 use Rattle.std.proofs.Common.{◌≡◌, ℕ, ◌<◌, ◌≤◌, ◌^◌, true, List, [], ◌∷◌, length, map, refl, subst, arith, inl, inr}
 use Rattle.std.specs.List.{AllByRecursion, AllZip}
 use Rattle.std.proofs.lemmas.Bool.{cases_lt}
@@ -74,7 +74,7 @@ plain_fewest query records max stream fits sent = record {
       omega (arith, fewer, length-map sent.groups (message query));
 }
 
--- by a full cut that no cutting has fewer groups than
+-- by a full cut, when no cutting has fewer groups
 spelled_fewest : (s : names.Spelling) (query : AxfrQuery) (records : List Record) (max : ℕ) (stream : List ℕ) → max < 2 ^ 16
     → (sent : IsSpelledSent s records query max stream)
     → ((groups : List (List Record)) → Fits (spelled_size s query sent.item) max (with_soa_again records) groups → length sent.groups ≤ length groups)
@@ -92,7 +92,7 @@ spelled_fewest s query records max stream fits sent fewest = record {
   };
 }
 
--- the names of what a writer gives of a zone's records
+-- the names in the parts that a writer gives for a zone's records
 named_each : (class : ℕ) (item : Record → Parts) (records : List Record) → AllByRecursion (IsRecordOf class) records
     → AllByRecursion (λ r. IsWritten r (item r)) records → AllByRecursion (λ r. HaveNames (item r)) records
 named_each class item [] each given = tt
@@ -120,7 +120,7 @@ fewest_by Hash class query records max stream fits are named sent = λ few.
     (hash_parts_fit query sent.item max few named) (with_soa_again records) sent.groups groups
     (named_again class sent.item records are.each sent.each) sent.cut other)
 
--- ---- none where a record is blocked
+-- ---- none if a record is blocked
 
 no_cutting_by : (spelling : Spelling) (class : ℕ) (query : AxfrQuery) (records : List Record) (max n : ℕ)
     → AreRecordsOf class records → IsName query.name → IsBlockedBy spelling records query max n → HasNoCuttingBy spelling records query max
@@ -143,7 +143,7 @@ no_cutting_by Hash class query records max n are named blocked = λ few. record 
       (named_again class blocked.item records are.each blocked.each) blocked.blocked fits;
 }
 
--- of what is refused by its number
+-- if the fault is a record's number
 none_of_fault : (spelling : Spelling) (class : ℕ) (query : AxfrQuery) (records : List Record) (octets : List ℕ) (max : ℕ) (error : SendError)
     → IsQuery octets query → AreRecordsOf class records → IsRefusedFor spelling records query max error
     → IfRecord error (FitsNoMessages spelling records octets max)
@@ -161,7 +161,7 @@ none_for spelling class query held records octets max error is are same refused 
 
 -- ---- best spelling
 
--- a message that a tree writes is a shortest one
+-- a message written with a tree is a shortest one
 shortest_message : (query : AxfrQuery) (item : Record → Parts) (group : List Record) → spelled_size tree_spelling query item group ≤ 16384
     → IsShortest query item (spelled_message tree_spelling query item group) group
 shortest_message query item group few = record {

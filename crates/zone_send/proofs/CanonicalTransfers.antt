@@ -1,4 +1,4 @@
--- Records that differ in case alone have the same canonical form.
+-- Records that differ only in case have the same canonical form.
 use Rattle.std.proofs.Common.{◌≡◌, ℕ, ◌<◌, ◌^◌, true, List, [], ◌∷◌, ◌++◌, refl, sym, ap, subst}
 use Rattle.std.specs.List.{AllByRecursion, AllZip}
 use Rattle.dns_label.specs.Name.{low}
@@ -55,7 +55,7 @@ near_rows (field ∷ row) [] near = absurd near
 near_rows (field ∷ row) (other ∷ others) near =
     λ i. field_octets (near_lowered field other near.0 i) ++ near_rows row others near.1 i
 
--- data has a canonical form, which data that is near has too
+-- a canonical form of data, which near data has too
 record FormOfBoth (rtype : ℕ) (one other : List ℕ) : Type 0 where
   form : List ℕ
   of_one : IsCanonicalData rtype one form

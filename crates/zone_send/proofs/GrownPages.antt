@@ -1,5 +1,5 @@
--- A page only grows as further parts are written on it, whatever the spelling and however long the page is. What a header says
--- doesn't matter to what it takes, only how long the header is.
+-- A page only grows as further parts are written on it, whatever the spelling and the length of the page. The size
+-- depends on the length of a header, not on its content.
 use Rattle.std.proofs.Common.{◌≡◌, ℕ, ◌+◌, ◌≤◌, List, [], ◌∷◌, ◌++◌, length, refl, sym, ap, ◌∙◌, arith, length-append}
 use Rattle.dns_name.specs.Spelling.{Spelling}
 use Rattle.dns_name.specs.Page.{Page, Parts, with_octets, with_name, with_count, write}
@@ -29,7 +29,7 @@ items_grow s item page (x ∷ xs) more =
     rw (write-join s page (item x) (items item xs), write-join s page (item x) (items item (xs ++ more)))
     (items_grow s item (write s page (item x)) xs more)
 
--- what a header and the parts behind it take
+-- how many octets a header and the parts after it take
 octets_after : (s : Spelling) (header : List ℕ) (parts : Parts)
     → length (written s (Octets header parts)) ≡ length header + length (tail s [] (length header) parts).octets
 unfolding write
@@ -37,7 +37,7 @@ octets_after s header parts =
     ap (λ (page : Page). length page.octets) (write_is s (page_of header []) parts)
     ∙ length-append header (tail s [] (length header) parts).octets
 
--- so a header may be another that is as long
+-- so a header of the same length takes as many
 pub other_header : (s : Spelling) (header other : List ℕ) (parts : Parts) → length header ≡ length other
     → length (written s (Octets header parts)) ≡ length (written s (Octets other parts))
 other_header s header other parts same =
@@ -45,7 +45,7 @@ other_header s header other parts same =
     ∙ ap (λ (n : ℕ). n + length (tail s [] n parts).octets) same
     ∙ sym (octets_after s other parts)
 
--- A message for more elements is no shorter, if the headers of all messages are as long.
+-- A message for more elements is no shorter, if the headers of all messages have the same length.
 pub group_grows : {X : Type 0} (s : Spelling) (header : List X → List ℕ) (behind : Parts) (item : X → Parts)
     → ((group other : List X) → length (header group) ≡ length (header other)) → (xs more : List X)
     → group_size s (λ group. Octets (header group) behind) item xs ≤ group_size s (λ group. Octets (header group) behind) item (xs ++ more)

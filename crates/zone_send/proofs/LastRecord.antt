@@ -1,5 +1,5 @@
--- Groups that aren't empty: what holds of the elements of a list holds of those of its groups, and the last element of the
--- list is the last of the last group.
+-- Groups that aren't empty: what holds of the elements of a list holds of those of its groups, and the last element of
+-- the list is the last of the last group.
 use Rattle.zone_octets.proofs.Each.{all_fronts}
 use Rattle.std.proofs.Common.{◌≡◌, List, [], ◌∷◌, ◌++◌, refl, sym, ap, ◌∙◌, append_assoc, append-nil}
 use Rattle.std.specs.List.{AllByRecursion}
@@ -20,7 +20,7 @@ pub record EndWith {X : Type 0} (groups : List (List X)) (xs : List X) (x : X) :
   pub splits : groups ≡ front ++ (last_group ++ x ∷ []) ∷ []
   pub joins : joined front ++ last_group ≡ xs
 
--- one more group in front
+-- one more group before the others
 abbrev behind_group : {X : Type 0} (group : List X) (groups : List (List X)) (xs : List X) (x : X) (all : List X) → EndWith groups xs x
     → all ≡ group ++ xs → EndWith (group ∷ groups) all x
 behind_group group groups xs x all ends is = record {

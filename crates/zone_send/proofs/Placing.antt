@@ -1,4 +1,4 @@
--- Where a record goes, and what the sender holds behind it.
+-- Where a record goes, and what the sender holds after that.
 use Rattle.std.proofs.Common.{◌≡◌, ℕ, ◌+◌, ◌-◌, ◌<◌, ◌≤◌, ◌^◌, Option, Some, None, List, [], ◌∷◌, ◌++◌, length, map, refl, sym, ap, ◌∙◌, subst, arith, append-nil, length-append}
 use Rattle.std.specs.Prelude.{flat_map}
 use Rattle.std.proofs.lemmas.List.Concat.{flat_map-append}
@@ -18,17 +18,17 @@ use Rattle.zone_send.proofs.Plain.{size_is, records_append}
 use Rattle.zone_octets.proofs.Patched.{written_over}
 use Rattle.zone_core.proofs.Greedy.{full_cut_goes_on, full_cut_opens, not_behind_last}
 
--- records take at least as many octets as they are
+-- records take at least one octet each
 pub few_records : (group : List Record) → length group ≤ length (flat_map record_octets group)
 few_records [] = omega arith
 few_records (r ∷ group) = omega (arith, few_records group, least_record r, length-append (record_octets r) (flat_map record_octets group))
 
--- a message takes the octets of one more record
+-- a message with one more record has the octets of that record more
 pub size-push : (query : AxfrQuery) (group : List Record) (r : Record) → size query (push group r) ≡ size query group + length (record_octets r)
 size-push query group r =
     omega (arith, size_is query group, size_is query (push group r), records_append group (r ∷ []), ap length (append-nil (record_octets r)))
 
--- how many octets stand from the start of the last message on
+-- how many octets there are from the start of the last message on
 pub length-stands : (sender : Sender) (query : AxfrQuery) (start : ℕ) (front : List (List Record)) (group : List Record) (mark count : List ℕ)
     → Stands sender query start front group mark count → length sender.stream.items ≡ start + size query group
 length-stands sender query start front group mark count stands =
@@ -47,7 +47,7 @@ length-stands sender query start front group mark count stands =
       length-append (question_octets (question_of query)) (flat_map record_octets group),
     )
 
--- the last message, where it begins at `start`
+-- the last message, given that it begins at `start`
 pub last_at : (sender : Sender) (query : AxfrQuery) (start : ℕ) (groups : List (List Record)) → HoldsGroups sender query groups
     → sender.last ≡ Some start → LastStands sender query start groups
 last_at sender query start groups holds is =
@@ -58,7 +58,7 @@ all_last : {X : Type 0} (P : X → Type 0) (front : List X) (x : X) → AllByRec
 all_last P [] x each = each.0
 all_last P (y ∷ front) x each = all_last P front x each.1
 
--- the last message takes no more than what a message may take
+-- the last message is no larger than a message may be
 pub last_small : (sender : Sender) (query : AxfrQuery) (records : List Record) (start : ℕ) → Holds sender query records
     → sender.last ≡ Some start → length sender.stream.items < start + 2 ^ 16
 last_small sender query records start holds is =
@@ -68,7 +68,7 @@ last_small sender query records start holds is =
     let small = all_last (λ g. size query g ≤ sender.max) last.front last.group (subst P last.are holds.cut.fits.small) in
     omega (arith, long, small, holds.holds.is_for.small)
 
--- a whole last message makes the stream one of whole messages
+-- with a whole last message, the stream is whole messages
 pub holds_last : (sender : Sender) (query : AxfrQuery) (start : ℕ) (front : List (List Record)) (group : List Record)
     → StandsWhole sender query start front group → HoldsGroups sender query (push front group)
 holds_last sender query start front group stands =
@@ -76,7 +76,7 @@ holds_last sender query start front group stands =
     let last : LastStands sender query start (push front group) = record { front = front; group = group; are = refl; stands = stands } in
     record { is_for = stands.is_for; last = subst P (sym stands.last) last }
 
--- a record that has no room in the last message does not fit behind its group
+-- a record without room in the last message does not fit after its group
 behind_last : (sender : Sender) (query : AxfrQuery) (last : Option ℕ) (groups : List (List Record)) (r : Record) (len : ℕ)
     → LastIs sender query last groups → HasNoRoom sender last len → len ≡ length (record_octets r)
     → FitsNotBehind (size query) sender.max groups r
@@ -118,7 +118,7 @@ placed_behind old new query records r start len holds is room long same whole =
       cut = full_cut_goes_on (size query) new.max records last.front last.group r cut fits;
     }
 
--- a record in a message of its own, behind the others
+-- a record in a message of its own, after the others
 pub placed_alone : (old new : Sender) (query : AxfrQuery) (records : List Record) (r : Record) (start len : ℕ) → (holds : Holds old query records)
     → HasNoRoom old old.last len → len ≡ length (record_octets r) → length old.opening.items + len ≤ old.max → new.max ≡ old.max
     → StandsWhole new query start holds.groups (r ∷ [])
@@ -144,7 +144,7 @@ placed_nowhere sender query records r len holds full long large = record {
   alone = omega (arith, size_alone sender query r holds.holds.is_for);
 }
 
--- what stands in front of the records is not long
+-- what is before the records is short
 pub opening_short : (sender : Sender) (query : AxfrQuery) → IsFor sender query → length sender.opening.items ≤ 271
 opening_short sender query is_for =
     let name : List ℕ = wire query.name in
@@ -157,7 +157,7 @@ opening_short sender query is_for =
       length-append name (0 ∷ 252 ∷ []),
     )
 
--- a record is added, and the length and the count are written over
+-- a record is added, and the length and the count are overwritten
 pub appended : (old new : Sender) (query : AxfrQuery) (start : ℕ) (front : List (List Record)) (group : List Record) (mark count : List ℕ)
     (r : Record) (longer once : List ℕ) (len answers : ℕ) → Stands old query start front group mark count → IsFor new query
     → new.last ≡ Some start → new.answers ≡ answers → answers ≡ old.answers + 1

@@ -1,4 +1,4 @@
--- How large a message with its names written out is: a group of records takes what each of them does.
+-- The size of a message with its names written out: that of the header and question, and of each record.
 use Rattle.std.proofs.Common.{◌≡◌, ℕ, ◌+◌, List, ◌++◌, length, refl, arith, length-append, ap, ◌∙◌}
 use Rattle.std.specs.Prelude.{flat_map}
 use Rattle.std.proofs.lemmas.List.Concat.{flat_map-append}
@@ -9,7 +9,7 @@ use Rattle.zone_core.specs.Cutting.{Grows}
 use Rattle.zone_core.specs.Query.{AxfrQuery, question_of}
 use Rattle.zone_send.specs.Sent.{size}
 
--- the header takes twelve octets, whatever it says
+-- the header takes twelve octets
 pub length-header : (query : AxfrQuery) (answers : ℕ) → length (answer_header query.id query.recursion answers) ≡ 12
 length-header query answers = refl
 

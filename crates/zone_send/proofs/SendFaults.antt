@@ -1,4 +1,4 @@
--- What a stream and a refusal say of a zone and a query.
+-- What a stream, and what a fault, says of a zone and a query.
 use Rattle.std.proofs.Common.{◌≡◌, ℕ, ◌<◌, ◌^◌, List, [], ◌∷◌, get_or, subst, arith}
 use Rattle.dns_header.specs.Header.{id_of}
 use Rattle.zone_octets.specs.Record.{Record}
@@ -28,12 +28,39 @@ fault_for spelling query class held records octets max error is asks are refused
     let P : List Record → Type 0 = λ rs. IsRefusedFor spelling rs query max error in
     fault_of spelling query class records octets max error is asks (subst P are refused)
 
+<<<<<<< HEAD
 -- the data of a zone's records is that of their types
+=======
+-- with every name written out
+pub plain_refused : (query : AxfrQuery) (records : List Record) (within max : ℕ) (error : SendError) → within ≡ max
+    → IsRefusedBy query within records error → IsRefusedFor Plain records query max error
+plain_refused query records within max (send_error.Query fault) same refused = absurd refused
+plain_refused query records within max send_error.WrongZone same refused = absurd refused
+plain_refused query records within max (send_error.Record n) same refused =
+    let P : ℕ → Type 0 = λ m. IsBlocked (size query) m (with_soa_again records) n in subst P same refused
+plain_refused query records within max send_error.OutOfMemory same refused = tt
+
+pub plain_sent : (query : AxfrQuery) (records : List Record) (within max : ℕ) (stream : List ℕ) → within ≡ max
+    → IsSent records query within stream → IsSent records query max stream
+plain_sent query records within max stream same sent =
+    let P : ℕ → Type 0 = λ m. IsSent records query m stream in subst P same sent
+
+-- with names by a spelling
+pub spelled_refused : (spelling : Spelling) (s : Spells) (query : AxfrQuery) (records : List Record) (max : ℕ) (error : SendError)
+    → ((n : ℕ) → IsSpelledBlocked s records query max n → IsBlockedBy spelling records query max n)
+    → IsRefusedSpelled s records query max error → IsRefusedFor spelling records query max error
+spelled_refused spelling s query records max (send_error.Query fault) same refused = absurd refused
+spelled_refused spelling s query records max send_error.WrongZone same refused = absurd refused
+spelled_refused spelling s query records max (send_error.Record n) same refused = same n refused
+spelled_refused spelling s query records max send_error.OutOfMemory same refused = tt
+
+-- the data of a zone's records is lawful for their types
+>>>>>>> a5ab56371670fe94c6294c8529dc7ab8f30e6762
 pub all_lawful : (class : ℕ) (records : List Record) → AllByRecursion (IsRecordOf class) records → AllByRecursion HasLawfulData records
 all_lawful class [] each = tt
 all_lawful class (r ∷ records) each = (each.0.data_is, all_lawful class records each.1)
 
--- the class of a zone is one that a message can say
+-- the class of a zone fits in two octets
 class_small : (class : ℕ) (records : List Record) → AreRecordsOf class records → class < 2 ^ 16
 class_small class [] are = absurd are.zone
 class_small class (soa ∷ others) are =
@@ -49,7 +76,7 @@ query_for query class records octets is small asks are = record {
   asks = asks;
 }
 
--- an id is what two octets say
+-- an ID fits in two octets
 pub id_small : (octets : List ℕ) → ((i : ℕ) → get_or octets i 0 < 256) → id_of octets < 2 ^ 16
 id_small [] each = omega arith
 id_small (a ∷ []) each = let high : a < 256 = each 0 in omega arith

@@ -1,4 +1,4 @@
--- Records have at most one stream by a spelling, or one record that is blocked.
+-- Records have at most one stream by a spelling, or one blocked record.
 use Rattle.std.proofs.Common.{◌≡◌, ℕ, ◌<◌, ◌^◌, List, [], ◌∷◌, length, map, refl, sym, ap, ◌∙◌, subst}
 use Rattle.std.specs.List.{AllByRecursion}
 use Rattle.dns_name.specs.Spelling.{static_spelling, tree_spelling, hash_spelling}
@@ -133,7 +133,7 @@ blocked_once Static records query max m n a b = spelled_blocked_once static_spel
 blocked_once Tree records query max m n a b = spelled_blocked_once tree_spelling records query max m n a b
 blocked_once Hash records query max m n a b = spelled_blocked_once hash_spelling records query max m n a b
 
--- What is sent for the records that are received is what they were received of.
+-- What is sent for the records that were received is the stream they were received from.
 pub same_again : (spelling : Spelling) (records others : List Record) (class : ℕ) (query : AxfrQuery) (max : ℕ) (stream again : List ℕ)
     → KeepsCase spelling → max < 2 ^ 16 → AreSendable class records → IsQueryFor records class query
     → IsSentBy spelling records query max stream → IsTransfer query stream others → IsSentBy spelling others query max again → again ≡ stream

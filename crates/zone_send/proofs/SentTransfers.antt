@@ -56,7 +56,7 @@ pub plain_small : (query : AxfrQuery) (max : ℕ) (groups : List (List Record)) 
 plain_small query max [] fits small = tt
 plain_small query max (group ∷ groups) fits small = (omega (arith, small.0), plain_small query max groups fits small.1)
 
--- What is sent is a transfer, of the very same records.
+-- What is sent is a transfer of exactly these records.
 pub sendable_is_transfer : (records : List Record) (class : ℕ) (query : AxfrQuery) (max : ℕ) (stream : List ℕ) → max < 2 ^ 16
     → AreSendable class records → IsQueryFor records class query
     → IsSent records query max stream → IsExactTransfer query stream records
@@ -90,7 +90,7 @@ sendable_is_transfer (soa ∷ others) class query max stream fits are asks sent 
     } in
     record { transfer = transfer; again = refl }
 
--- so it is for a zone that was read
+-- so it is for a parsed zone
 pub each_sendable : (class : ℕ) (records : List Record) → AllByRecursion (IsRecordOf class) records → AllByRecursion (IsSendable class) records
 each_sendable class [] each = tt
 each_sendable class (r ∷ records) each = (
@@ -106,7 +106,7 @@ pub sent_is_transfer : (records : List Record) (class : ℕ) (query : AxfrQuery)
 sent_is_transfer records class query max stream fits are asks sent =
     sendable_is_transfer records class query max stream fits (sendable_zone class records are) asks sent
 
--- What is sent and then received as a transfer of records is what is sent for these.
+-- What is sent, and received as a transfer of records, is also what is sent for these records.
 pub received_is_sent_again : (records others : List Record) (class : ℕ) (query : AxfrQuery) (max : ℕ) (stream : List ℕ) → max < 2 ^ 16
     → AreSendable class records → IsQueryFor records class query → IsSent records query max stream
     → IsTransfer query stream others → (records ≡ others) × IsSent others query max stream

@@ -1,4 +1,4 @@
--- A message that is sent under a spelling is an answer with the records that a reader takes.
+-- A message that is sent under a spelling is an answer with the records that a reader gets.
 use Rattle.std.proofs.Common.{◌≡◌, ℕ, ◌+◌, ◌<◌, ◌≤◌, ◌^◌, Bool, false, List, [], ◌∷◌, ◌++◌, length, map, refl, sym, ap, ◌∙◌, subst, arith, append-nil, length-append, length-drop, inr}
 use Rattle.std.specs.List.{AllByRecursion, AllZip}
 use Rattle.std.specs.Int.{to_be_bytes, w16}
@@ -41,7 +41,7 @@ use Rattle.zone_send.proofs.Plain.{length-header}
 use Rattle.zone_send.proofs.SpelledSums.{written_names}
 use Rattle.zone_send.proofs.AlikeRecords.{IsTaken, low_same, taken_parts}
 
--- lengths have room where all that is written is small
+-- lengths fit if everything that is written is small
 tails_small : (s : Spelling) (known : Known) (place : ℕ) (parts : Parts) → length (tail s known place parts).octets < 2 ^ 16
     → TailsFit s known place parts
 tails_small s known place End small = tt
@@ -109,7 +109,7 @@ few_items s item [] given known place = omega arith
 few_items s item (r ∷ group) given known place =
     omega (arith, one_more s r (items item group) known place (length group) given.0 (few_items s item group given.1))
 
--- a record's parts with more behind them
+-- a record's parts with more parts after them
 record_spelled : {message : List ℕ} {place next : ℕ} (r : Record) (inner rest : Parts)
     → Spells message place (Named r.owner (Octets (fixed_octets r.rtype r.class r.ttl) (Counted inner rest))) next
     → (behind : ℕ) × Spells message place (record_parts r inner) behind × Spells message behind rest next
@@ -123,7 +123,7 @@ record_spelled r inner rest spelled =
       held.behind,
     )
 
--- the records that a reader takes for those of a group
+-- the records that a reader gets for those of a group
 record TakenRecords (s : Spelling) (message : List ℕ) (place : ℕ) (group : List Record) (next : ℕ) : Type 0 where
   others : List Record
   taken : AllZip (IsTaken s) group others
@@ -150,7 +150,7 @@ records_taken s item class message place next (r ∷ group) read each given alik
       spelled = one first.0 (as_written_read t.other t.taken.lawful t.is_written first.1) goes.spelled;
     }
 
--- the parts of a message, as a reader takes them
+-- the parts of a message, as a reader gets them
 record AlikeMessage (s : Spelling) (header : List ℕ) (name : List (List ℕ)) (numbers : List ℕ) (more read : Parts) : Type 0 where
   other : List (List ℕ)
   rest : Parts
@@ -174,13 +174,13 @@ zip_long R [] (y ∷ ys) all = absurd all
 zip_long R (x ∷ xs) [] all = absurd all
 zip_long R (x ∷ xs) (y ∷ ys) all = omega (arith, zip_long R xs ys all.1)
 
--- the records that a reader takes of an answer's
+-- the records that a reader gets from an answer
 pub record SpelledAnswer (s : Spelling) (query : AxfrQuery) (first : Bool) (message : List ℕ) (group : List Record) : Type 0 where
   pub others : List Record
   pub taken : AllZip (IsTaken s) group others
   pub answer : IsAnswer query first message others
 
--- the octets of a message: its header, and what stands behind it
+-- the octets of a message: its header, and what follows it
 abbrev header_of : AxfrQuery → List Record → List ℕ
 header_of query group = answer_header query.id query.recursion (length group)
 
@@ -194,7 +194,7 @@ message_is : (s : Spelling) (item : Record → Parts) (query : AxfrQuery) (group
     → spelled_message s query item group ≡ header_of query group ++ behind_header s item query group
 message_is s item query group = ap (λ (p : Page). p.octets) (write_is s (page_of [] []) (group_parts (answer_head query) item group))
 
--- its records are no more than its octets
+-- its records are at most as many as its octets
 few_records : (s : Spelling) (item : Record → Parts) (query : AxfrQuery) (group : List Record)
     → AllByRecursion (λ r. IsWritten r (item r)) group → length group ≤ length (behind_header s item query group)
 few_records s item query group given =
@@ -208,7 +208,7 @@ few_records s item query group given =
       length-append (numbers_of query) u.octets,
     )
 
--- the question that a reader takes, and what is behind it
+-- the question that a reader gets, and what follows it
 record TakenQuestion (query : AxfrQuery) (message : List ℕ) (rest : Parts) (next : ℕ) : Type 0 where
   place : ℕ
   q : Question
@@ -239,7 +239,7 @@ question_taken query group message next name rest fits same spelled =
 module _ (s : Spelling) (item : Record → Parts) (query : AxfrQuery) (first : Bool) (class : ℕ) (records group : List Record)
     (asks : IsQueryFor records class query) (each : AllByRecursion (IsSendable class) group)
     (given : AllByRecursion (λ r. IsWritten r (item r)) group) where
-  -- the parts that a reader takes of the message
+  -- the parts that a reader gets from the message
   octets_read : length (header_of query group ++ behind_header s item query group) < 2 ^ 16
       → SpellsAlike s (header_of query group ++ behind_header s item query group) 0 (group_parts (answer_head query) item group)
       (length (header_of query group ++ behind_header s item query group))
@@ -291,7 +291,7 @@ module _ (s : Spelling) (item : Record → Parts) (query : AxfrQuery) (first : B
       let is = message_is s item query group in
       subst (λ m. SpelledAnswer s query first m group) (sym is) (octets_answer (subst (λ (m : List ℕ). length m < 2 ^ 16) is small))
 
--- the records that a reader takes of several answers'
+-- the records that a reader gets from several answers
 pub record SpelledAnswers (s : Spelling) (query : AxfrQuery) (first : Bool) (messages : List (List ℕ)) (groups : List (List Record)) : Type 0 where
   pub others : List (List Record)
   pub taken : AllZip (AllZip (IsTaken s)) groups others
@@ -309,7 +309,7 @@ answers_spelled s item query first class records (group ∷ groups) asks each gi
     let on = answers_spelled s item query false class records groups asks each.1 given.1 small.1 in
     record { others = own.others ∷ on.others; taken = (own.taken, on.taken); answers = (own.answer, on.answers) }
 
--- and two octets can say their lengths
+-- and their lengths fit in two octets
 pub framable_spelled : (s : Spelling) (item : Record → Parts) (query : AxfrQuery) (groups : List (List Record))
     → AllByRecursion (λ group. spelled_size s query item group < 2 ^ 16) groups
     → AllByRecursion IsFramable (map (spelled_message s query item) groups)

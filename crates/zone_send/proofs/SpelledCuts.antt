@@ -35,7 +35,7 @@ spelled_fronts_fit s query item max = λ xs more fits.
     (λ group other. refl) xs more in
     omega (arith, grows, fits)
 
--- octet for octet, nothing is asked of names
+-- octet for octet, for any names
 pub tree_parts_fit : (query : AxfrQuery) (item : Record → Parts) (max : ℕ) → max ≤ 16384 → PartsFit (spelled_size tree_spelling query item) max
 tree_parts_fit query item max few = record {
   front = λ xs more fits.
@@ -46,7 +46,7 @@ tree_parts_fit query item max few = record {
       (λ r is. any_proper (names_in (item r))) max refl few more xs (all_any (more ++ xs)) fits;
 }
 
--- up to ASCII case, names are names
+-- up to ASCII case, for names that are names
 pub hash_parts_fit : (query : AxfrQuery) (item : Record → Parts) (max : ℕ) → max ≤ 16384 → IsName query.name
     → PartsFitWhere (λ r. HaveNames (item r)) (spelled_size hash_spelling query item) max
 hash_parts_fit query item max few is_name = record {
@@ -60,14 +60,14 @@ hash_parts_fit query item max few is_name = record {
       (λ r names. names_proper true (item r) names) max refl few more xs all fits;
 }
 
--- the names of such messages are proper
+-- the names of such messages are names
 pub hash_proper : (query : AxfrQuery) (item : Record → Parts) → IsName query.name → (group : List Record) → AllByRecursion (λ r. HaveNames (item r)) group
     → AllProper true (names_in (group_parts (answer_head query) item group))
 hash_proper query item is_name group all =
     proper_group (λ r. HaveNames (item r)) hash_spelling (answer_head query) item (one_head query)
     (λ group. names_proper true (answer_head query group) (is_name, tt)) (λ r names. names_proper true (item r) names) group all
 
--- The group of a free message takes no more, whatever the message says in its header.
+-- The group of a free message takes no more, whatever the header of the message.
 pub free_takes : (query : AxfrQuery) (item : Record → Parts) (message : List ℕ) (group : List Record) → length message ≤ 16384
     → IsFreeAnswer query item message group → spelled_size tree_spelling query item group ≤ length message
 free_takes query item message group few free =
@@ -79,7 +79,7 @@ free_takes query item message group few free =
     (length-header query (length group) ∙ sym free.twelve) in
     omega (arith, less, same)
 
--- messages that spell groups freely are as many, and the groups fit
+-- messages that spell groups freely are as many as the groups, and the groups fit
 record AreSmall (query : AxfrQuery) (item : Record → Parts) (max : ℕ) (messages : List (List ℕ)) (groups : List (List Record)) : Type 0 where
   small : AllByRecursion (λ group. spelled_size tree_spelling query item group ≤ max) groups
   long : length groups ≡ length messages
@@ -101,7 +101,7 @@ free_cut : (query : AxfrQuery) (item : Record → Parts) (max : ℕ) → max ≤
 free_cut query item max few records messages groups cut spell =
     record { cut = cut; small = (are_small query item max few messages groups spell).small }
 
--- so they are no fewer than the full cut
+-- so they are no fewer than the groups of the full cut
 pub free_no_fewer : (query : AxfrQuery) (item : Record → Parts) (max : ℕ) (records : List Record) (full groups : List (List Record)) (messages : List (List ℕ)) → max ≤ 16384
     → IsFullCut (spelled_size tree_spelling query item) max records full → IsCutting records groups → SpellGroups query item max messages groups
     → length full ≤ length messages

@@ -16,7 +16,7 @@ use Rattle.zone_send.specs.declared.sending.error.SendError.{SendError}
 use Rattle.zone_send.specs.declared.sending.error.SendError.TheVariants as send_error
 use Rattle.zone_send.proofs.SpelledStreams.{blocked_alone}
 
--- a writer gives each record by its item
+-- a writer gives each record as its item
 pub each_written : (records : List Record) → AllByRecursion HasLawfulData records → AllByRecursion (λ r. IsWritten r (written_item r)) records
 each_written [] each = tt
 each_written (r ∷ records) each = (item_written r each.0, each_written records each.1)
@@ -33,7 +33,7 @@ items_again [] each = tt
 items_again (soa ∷ others) each =
     all_append (IsItem written_item) (soa ∷ others) (soa ∷ []) (each_item (soa ∷ others) each) (is_item soa each.0, tt)
 
--- why no frame is made is why the stream is refused
+-- the reason why no frame is made is the reason why the stream fails
 pub frame_refused : {s : Spelling} {query : AxfrQuery} {max start : ℕ} {stream : List ℕ} (records : List Record) (error : SendError)
     → AllByRecursion HasLawfulData records → SendsUpTo s query written_item max (with_soa_again records) start stream
     → IsFrameFault s query written_item max (with_soa_again records) start error → IsRefusedSpelled s records query max error

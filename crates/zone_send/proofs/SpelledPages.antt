@@ -44,12 +44,12 @@ pub length-items : (item : Record → Parts) (group : List Record) → length (m
 length-items item [] = refl
 length-items item (r ∷ group) = ap suc (length-items item group)
 
--- a header that counts so many answers
+-- a header that counts this number of answers
 abbrev counted_header : AxfrQuery → ℕ → List ℕ
 counted_header query answers =
     header_front query ++ (to_be_bytes w16 1 ++ to_be_bytes w16 answers ++ to_be_bytes w16 0 ++ to_be_bytes w16 0)
 
--- the query's question behind a header
+-- the query's question after a header
 abbrev asked_page : Spelling → AxfrQuery → List ℕ → Page
 asked_page s query header = write s (page_of header []) (question_parts (question_of query))
 
@@ -70,7 +70,7 @@ page_is s query item group =
     ∙ ap (λ n. (write_all s (asked_page s query (counted_header query n)) (map item group)).octets) (length-items item group)
     ∙ sym (written_message s query item group)
 
--- the answers with one more
+-- the answers and one more
 with_more : (query : AxfrQuery) (item : Record → Parts) (group : List Record) (r : Record)
     → (question_parts (question_of query) ∷ map item group ++ []) ++ item r ∷ [] ≡ question_parts (question_of query) ∷ map item (push group r) ++ []
 with_more query item group r =
@@ -78,7 +78,7 @@ with_more query item group r =
     (ap (λ (l : List Parts). l ++ item r ∷ []) (append-nil (map item group)) ∙ sym (map-append item group (r ∷ []))
     ∙ sym (append-nil (map item (push group r))))
 
--- how many octets the message has with one record more, though it does not count it yet
+-- how many octets the message has with one more record, though it does not count it yet
 pub length_more : (s : Spelling) (query : AxfrQuery) (item : Record → Parts) (group : List Record) (r : Record) (page : Page)
     → page ≡ built_page s (answer_built query (map item group))
     → length (write s page (item r)).octets ≡ spelled_size s query item (push group r)
@@ -93,7 +93,7 @@ length_more s query item group r page is =
     ap (λ (p : Page). length p.octets) one ∙ sym (same_length {front = old} {other = new} refl (same_all s all refl (same_none old new)))
     ∙ ap (length {A = ℕ}) (page_is s query item (push group r))
 
--- a message is no shorter with one record more
+-- a message is no shorter with one more record
 pub size_more : (s : Spelling) (query : AxfrQuery) (item : Record → Parts) (group : List Record) (r : Record)
     → spelled_size s query item group ≤ spelled_size s query item (push group r)
 size_more s query item group r =
@@ -105,7 +105,7 @@ size_more s query item group r =
       grown_longer (write_grows s page (item r)),
     )
 
--- how many octets the question takes behind any header
+-- how many octets the question takes after any header
 pub length_asked : (s : Spelling) (query : AxfrQuery) (item : Record → Parts) (page : Page) (header : List ℕ) → length header ≡ 12
     → page ≡ page_of header [] → length (write s page (question_parts (question_of query))).octets ≡ spelled_size s query item []
 length_asked s query item page header twelve is =
@@ -114,7 +114,7 @@ length_asked s query item page header twelve is =
     ∙ sym (same_length {front = header} {other = other} twelve (same_write s (question_parts (question_of query)) twelve (same_none header other)))
     ∙ sym (ap (length {A = ℕ}) (written_message s query item []))
 
--- a record takes more octets than eight, and than its data
+-- a record adds at least eight octets to a page, which is then no shorter than the record's data
 pub record_long : (s : Spelling) (page : Page) (w : Written) → length page.octets + 8 ≤ length (write s page (parts_of w)).octets
 unfolding write
 record_long s page w =

@@ -1,4 +1,4 @@
--- What a builder of a spelled message takes and refuses.
+-- What a builder of a spelled message accepts and what it does not.
 use Rattle.std.proofs.Common.{◌≡◌, ℕ, ◌+◌, ◌<◌, ◌^◌, Bool, true, false, Result, Ok, Err, Some, None, Option, MatchOption, List, [], ◌∷◌, ◌++◌, length, map, refl, sym, ap, ◌∙◌, subst, arith, length-append}
 use Rattle.std.specs.Prelude.{◌≢◌, IsOk, IsErrAnd, IfOk, IfErr, OnOk, OnErr}
 use Rattle.std.specs.Bool.{OnTrue, OnFalse}
@@ -34,11 +34,46 @@ long_is : (s : Spelling) (query : AxfrQuery) (item : Record → Parts) (group : 
     → IsDraftOf s (answer_built query (map item group)) draft → length draft.page.octets ≡ spelled_size s query item group
 long_is s query item group draft built = ap (λ (p : Page). length p.octets) built.page ∙ ap (length {A = ℕ}) (page_is s query item group)
 
--- a builder holds at most so many octets
+-- a builder holds at most this number of octets
 past : (bound : Option ℕ) (most long : ℕ) → bound ≡ Some most → IsPast bound long → most < long
 past bound most long is more = let P : Option ℕ → Type 0 = λ b. IsPast b long in subst P is more
 
+<<<<<<< HEAD
 -- a record that is taken is the last of the group
+=======
+-- a record whose push fails, but not with `OutOfMemory`, has no room
+refused_large : {s : Spelling} {query : AxfrQuery} {item : Record → Parts} {max : ℕ} {group : List Record} (r : Record) {draft : Draft}
+    (w : Written) (error : PushError) → HoldsGroup s query item max group draft → parts_of w ≡ item r
+    → IsRefusedBy s 1 draft (parts_of w) (65535 < data_length s draft.page w) error → error ≢ OutOfMemory
+    → max < spelled_size s query item (push group r)
+refused_large {s} {query} {item} {max} {group} r {draft} w error holds is refused other = by_error error refused other
+  where
+    more : length_with s draft (parts_of w) ≡ spelled_size s query item (push group r)
+    more = ap (length_with s draft) is ∙ length_more s query item group r draft.page holds.built.page
+
+    by_error : (error : PushError) → IsRefusedBy s 1 draft (parts_of w) (65535 < data_length s draft.page w) error → error ≢ OutOfMemory
+        → max < spelled_size s query item (push group r)
+    by_error ShortBuf refused other = omega (arith, past draft.bound 65535 _ holds.bound refused, more, holds.small)
+    by_error BadLength refused other = omega (arith, refused, data_shorter s draft.page w, more, holds.small)
+    by_error LimitExceeded refused other = omega (arith, refused.long, holds.limit, more)
+    by_error CountOverflow refused other =
+        let full : counted_at 1 draft ≡ 65535 = refused.full in
+        let counted : counted_at 1 draft ≡ length (map item group) = counted_is 1 holds.built (omega arith) in
+        absurd (omega (
+          arith,
+          refused.short,
+          full,
+          counted,
+          length-items item group,
+          holds.few,
+          record_long s draft.page w,
+          holds.limit,
+          holds.small,
+        ))
+    by_error OutOfMemory refused other = absurd (other refl)
+
+-- a record whose push succeeds is the last of the group
+>>>>>>> a5ab56371670fe94c6294c8529dc7ab8f30e6762
 taken_on : {s : Spelling} {query : AxfrQuery} {item : Record → Parts} {max : ℕ} {group : List Record} (r : Record) {old new : Draft}
     (w : Written) → HoldsGroup s query item max group old → parts_of w ≡ item r
     → IsDraftOf s (with_item (answer_built query (map item group)) (parts_of w)) new → IsTakenBy s 1 old (parts_of w) (65535 < data_length s old.page w)
@@ -64,6 +99,15 @@ taken_on {s} {query} {item} {max} {group} r {old} {new} w holds is built taken l
     built_new : IsDraftOf s (answer_built query (map item (push group r))) new
     built_new = let P : List Parts → Type 0 = λ l. IsDraftOf s (answer_built query l) new in subst P answers built
 
+<<<<<<< HEAD
+=======
+-- a builder that did not change holds the same group
+pub holds_still : {s : Spelling} {query : AxfrQuery} {item : Record → Parts} {max : ℕ} {group : List Record} {old new : Draft} → new ≡ old
+    → HoldsGroup s query item max group old → HoldsGroup s query item max group new
+holds_still {s} {query} {item} {max} {group} same holds =
+    let P : Draft → Type 0 = λ draft. HoldsGroup s query item max group draft in subst P (sym same) holds
+
+>>>>>>> a5ab56371670fe94c6294c8529dc7ab8f30e6762
 -- what a push does
 pub pushed : {A : Type 0} (s : Spelling) (query : AxfrQuery) (item : Record → Parts) (max : ℕ) (group : List Record) (r : Record) (w : Written)
     (old new : Draft) (placed : Bool) (result : Result A PushError)
@@ -114,12 +158,12 @@ unasked {s} query {max} {limit} {empty} {begun} {bounded} {headed} header none b
       small = small;
     }
 
--- the question that is pushed is the query's
+-- the pushed question is the query's
 pub question_is : (query : AxfrQuery) (q : Question) → q.name ≡ query.name → q.qtype ≡ axfr_type → q.qclass ≡ query.class
     → q ≡ question_of query
 question_is query q name qtype qclass = λ i. record { name = name i; qtype = qtype i; qclass = qclass i }
 
--- a question that is refused, and not for memory, has no room
+-- a question whose push fails, but not with `OutOfMemory`, has no room
 asked_large : {s : Spelling} {query : AxfrQuery} {max : ℕ} {draft : Draft} (item : Record → Parts) (error : PushError)
     → IsUnasked s query max draft → IsRefusedBy s 0 draft (question_parts (question_of query)) ⊥ error → error ≢ OutOfMemory
     → max < spelled_size s query item []
@@ -139,7 +183,7 @@ asked_large {s} {query} {max} {draft} item error begun refused other = by_error 
         absurd (omega (arith, full, counted))
     by_error OutOfMemory refused other = absurd (other refl)
 
--- what the push of the question does, where it is refused
+-- what the push of the question does if it fails
 pub unasked_large : {A : Type 0} {s : Spelling} {query : AxfrQuery} {max : ℕ} {draft : Draft} (item : Record → Parts) (q : Question)
     (placed : Bool) (result : Result A PushError) → IsUnasked s query max draft → q ≡ question_of query
     → IfErr result (IsRefusedBy s 0 draft (question_parts q) ⊥) → placed ≡ false
@@ -150,7 +194,7 @@ unasked_large {s = s} {draft = draft} item q false (Err e) begun is refused not_
     let P : Question → Type 0 = λ q. IsRefusedBy s 0 draft (question_parts q) ⊥ e in
     asked_large item e begun (subst P is refused) not_taken
 
--- and where it is taken, and the answers begin
+-- and if it succeeds, and the answers begin
 pub asked : {A : Type 0} {s : Spelling} {query : AxfrQuery} {max : ℕ} {draft pushed answers : Draft} (item : Record → Parts) (q : Question)
     (placed : Bool) (result : Result A PushError) → IsUnasked s query max draft → q ≡ question_of query
     → ((built : Built) → IsDraftOf s built draft → OnOk result (IsDraftOf s (with_item built (question_parts q)) pushed))
@@ -170,7 +214,7 @@ asked {s = s} {query = query} {answers = answers} item q true (Ok x) begun is bu
       few = omega arith;
     }
 
--- the same where a builder took the record or not
+-- the same, whether or not the push succeeds
 pub pushed_by : {A E : Type 0} (s : Spelling) (r : Record) (w : Written) (old new : Draft) (result : Result A PushError) (answer : Result Bool E)
     → IsWritten r (parts_of w)
     → ((built : Built) → IsDraftOf s built old → OnOk result (IsDraftOf s (with_item built (parts_of w)) new))
@@ -185,7 +229,7 @@ pushed_by s r w old new result (Ok placed) writes built taken same refused limit
     pushed s query item max group r w old new placed result items writes holds built taken same refused limits is_taken not_taken
 pushed_by s r w old new result (Err e) writes built taken same refused limits is_taken not_taken = tt
 
--- a record with its data in the fields of its type is written by its parts
+-- a record whose data is in the fields of its type is written by its parts
 typed_by : (rr : RecordOf (List (List ℕ)) Data) (rdata : Data) → rr.rdata ≡ rdata → HasFieldsOfType rdata
     → IsWritten (record_of rr) (written_parts_of rr)
 typed_by rr (in_fields number row) is row_is =
@@ -200,7 +244,7 @@ pub typed_written : (rr : RecordOf (List (List ℕ)) Data) (r : Record) → HasF
 typed_written rr r has is =
     let P : Record → Type 0 = λ other. IsWritten other (written_parts_of rr) in subst P is (typed_by rr rr.rdata refl has)
 
--- a message that is begun, or not
+-- a message that is begun, or none
 pub when_none : {A : Type 0} (begun : Option A) (P : Type 0) (Q : A → Type 0) → ((a : A) → begun ≡ Some a → ⊥) → MatchOption begun P Q → P
 when_none None P Q none_is holds = holds
 when_none (Some a) P Q none_is holds = absurd (none_is a refl)

@@ -31,7 +31,7 @@ held_first {start = start} {all = all} {r = r} there pushed = record {
   holds = pushed.0;
 }
 
--- one record more
+-- one more record
 pub held_next : {s : Spelling} {query : AxfrQuery} {item : Record → Parts} {max start next : ℕ} {all : List Record} {r : Record} {draft new : Draft}
     → (held : HoldsUpTo s query item max all start next draft) → slice_get all next ≡ Some r
     → IsPushed s query item max (held.first ∷ held.others) r true new → HoldsUpTo s query item max all start (next + 1) new
@@ -45,12 +45,12 @@ held_next {start = start} {next = next} {all = all} {r = r} held there pushed = 
   holds = pushed.0;
 }
 
--- a record that has no room even alone
+-- a record that has no room even in a message of its own
 pub no_room : {s : Spelling} {query : AxfrQuery} {item : Record → Parts} {max start : ℕ} {all : List Record} {r : Record}
     → slice_get all start ≡ Some r → max < spelled_size s query item (r ∷ []) → HasNoRoomAlone s query item max all start
 no_room {r = r} there large = record { r = r; there = there; large = large }
 
--- nor has it where the question alone has none
+-- nor has it if the question alone has no room
 pub no_room_asked : {s : Spelling} {query : AxfrQuery} {item : Record → Parts} {max start : ℕ} {all : List Record} {r : Record}
     → slice_get all start ≡ Some r → max < spelled_size s query item [] → HasNoRoomAlone s query item max all start
 no_room_asked {s} {query} {item} {r = r} there large = no_room there (omega (arith, size_more s query item [] r, large))
@@ -74,7 +74,7 @@ pub octets_of : {s : Spelling} {query : AxfrQuery} {item : Record → Parts} {ma
     → HoldsGroup s query item max group draft → draft.page.octets ≡ spelled_message s query item group
 octets_of {s} {query} {item} {group = group} holds = ap (λ p. p.octets) holds.built.page ∙ page_is s query item group
 
--- a frame is full where the next record has no room, and where there is none
+-- a frame is full if the next record has no room, and if there is no next one
 pub next_frame : {s : Spelling} {query : AxfrQuery} {item : Record → Parts} {max start next : ℕ} {all : List Record} {r : Record} {draft : Draft}
     (new : Draft) (octets : List ℕ) (held : HoldsUpTo s query item max all start next draft) → start < next → next < length all
     → slice_get all next ≡ Some r → IsPushed s query item max (held.first ∷ held.others) r false new → octets ≡ frame new.page.octets
@@ -106,7 +106,7 @@ last_frame {s} {query} {item} {max} {start} {at} {all} octets next held same lat
   framed = is ∙ ap frame (octets_of held.holds);
 }
 
--- the same stream with one frame more
+-- the same stream with one more frame
 frames-push : {X : Type 0} (message : X → List ℕ) (front : List X) (x : X)
     → frames (map message front) ++ frame (message x) ≡ frames (map message (push front x))
 frames-push message front x =
@@ -136,7 +136,7 @@ sends_next {s} {query} {item} {max} {start} {next} {all} {stream} {octets} sends
           ∙ frames-push (spelled_message s query item) sends.groups group;
     }
 
--- the record at which a message would begin, and that has no room even alone, is blocked
+-- the record that would begin a message but has no room in it is blocked
 pub blocked_alone : {s : Spelling} {query : AxfrQuery} {item : Record → Parts} {max start : ℕ} {all : List Record} {stream : List ℕ}
     → SendsUpTo s query item max all start stream → HasNoRoomAlone s query item max all start
     → IsBlocked (spelled_size s query item) max all (start + 1)

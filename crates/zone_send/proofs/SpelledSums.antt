@@ -1,4 +1,4 @@
--- How many octets a message takes, as a sum.
+-- The number of octets of a message, as a sum.
 use Rattle.std.proofs.Common.{◌≡◌, ℕ, ◌≤◌, ◌+◌, List, [], ◌∷◌, ◌++◌, length, refl, sym, ap, ◌∙◌, subst, arith, append-nil}
 use Rattle.std.specs.Prelude.{None, min, sum_by, flat_map}
 use Rattle.std.specs.List.{AllByRecursion}
@@ -21,7 +21,7 @@ use Rattle.zone_core.specs.Query.{AxfrQuery}
 use Rattle.zone_send.specs.Spelled.{answer_head, spelled_size, record_items, message_names, message_sum}
 use Rattle.zone_send.proofs.Plain.{length-header}
 
--- the names that a writer gives of a record are names
+-- the names in the parts that a writer gives for a record are names
 field_names : (field : Field) (row : List Field) → IsField field → HaveNames (written_parts row) → HaveNames (written_parts (field ∷ row))
 field_names (number8 n) row is on = on
 field_names (number16 n) row is on = on

@@ -23,7 +23,7 @@ use Rattle.zone_core.proofs.OneTransfer.{transfer_one}
 use Rattle.zone_send.proofs.SentTransfers.{behind_soa}
 use Rattle.zone_send.proofs.SpelledAnswers.{answers_spelled, framable_spelled}
 
--- what holds of the elements of groups two by two holds of those of the groups joined
+-- what holds of the elements of paired groups holds of the elements of the joined groups
 zip_append : {A B : Type 0} (R : A → B → Type 0) (xs : List A) (ys : List B) (more : List A) (others : List B) → AllZip R xs ys
     → AllZip R more others → AllZip R (xs ++ more) (ys ++ others)
 zip_append R [] [] more others all on = on
@@ -39,7 +39,7 @@ zip_joined R (group ∷ groups) [] all = absurd all
 zip_joined R (group ∷ groups) (other ∷ others) all =
     zip_append R group other (joined groups) (joined others) all.0 (zip_joined R groups others all.1)
 
--- groups that are as long are as little empty
+-- groups of the same lengths are nonempty alike
 zip_nonempty : {A B : Type 0} (R : A → B → Type 0) (groups : List (List A)) (others : List (List B)) → AllZip (AllZip R) groups others
     → AllByRecursion IsNonempty groups → AllByRecursion IsNonempty others
 zip_nonempty R [] [] all some = tt
@@ -49,7 +49,7 @@ zip_nonempty R ([] ∷ groups) (other ∷ others) all some = absurd some.0
 zip_nonempty R ((x ∷ group) ∷ groups) ([] ∷ others) all some = absurd all.0
 zip_nonempty R ((x ∷ group) ∷ groups) ((y ∷ other) ∷ others) all some = (tt, zip_nonempty R groups others all.1 some.1)
 
--- the last element of a list has one that goes with it
+-- the last element of a list has a counterpart
 record EndsAlike {A B : Type 0} (R : A → B → Type 0) (xs : List A) (x : A) (ys : List B) : Type 0 where
   others : List B
   last : B
@@ -72,7 +72,7 @@ zip_last R (w ∷ xs) x (y ∷ ys) all =
       last_is = on.last_is;
     }
 
--- two records that are taken of one SOA are equal up to ASCII case
+-- two records that a reader gets from one SOA are equal up to ASCII case
 same_soas : (s : Spelling) (soa one other : Record) → soa.rtype ≡ soa_type → IsData soa.rtype soa.rdata → IsTaken s soa one
     → IsTaken s soa other → SameSoa one other
 same_soas s soa one other is (typed row is_row octets_are) a b =
@@ -93,7 +93,7 @@ same_soas s soa one other is (opaque no_row short) a b =
     let P : ℕ → Type 0 = λ rtype. kinds_of rtype ≡ None in
     let none' : kinds_of soa_type ≡ None = subst P is no_row in absurd cc
 
--- a record that is taken of one in the zone is in it
+-- a record that a reader gets from one in the zone is in the zone
 taken_in_zone : (s : Spelling) (query : AxfrQuery) (r other : Record) → IsTaken s r other → IsInZoneOf query r → IsInZoneOf query other
 taken_in_zone s query r other t is = record {
   class = sym t.near.class ∙ is.class;
@@ -111,7 +111,7 @@ taken_behind s query (r ∷ records) (other ∷ others) taken each behind =
     let on = taken_behind s query records others taken.1 each.1 behind.1 in
     ((taken_in_zone s query r other taken.0 each.0, on.0), ((λ is. behind.0 (taken.0.near.rtype ∙ is)), on.1))
 
--- the records that are taken of a transfer's, and of the SOA again, are a transfer's
+-- the records that a reader gets from a transfer's, and from the SOA again, are a transfer's
 record TakenZone (query : AxfrQuery) (others : List Record) (last : Record) : Type 0 where
   transferred : IsTransferred query others
   closed : ClosesTransfer others last
@@ -138,7 +138,7 @@ zone_taken s class query soa records (first ∷ others) last are asks taken agai
       closed = (sym again.near.rtype ∙ are.zone.0, same_soas s soa first last are.zone.0 are.each.0.data_is taken.0 again);
     }
 
--- what is taken where the spelling does not fold
+-- what a reader gets if the spelling does not fold case
 zip_exact : (s : Spelling) (records others : List Record) → s.folds ≡ false → AllZip (IsTaken s) records others → records ≡ others
 zip_exact s [] [] exact taken = refl
 zip_exact s [] (other ∷ others) exact taken = absurd taken
@@ -151,7 +151,7 @@ first_again : (s : Spelling) (soa : Record) (records others : List Record) (last
 first_again s soa records [] last exact taken again = absurd taken
 first_again s soa records (first ∷ others) last exact taken again = sym (again.exact exact) ∙ taken.0.exact exact
 
--- what is taken, by whether the spelling folds
+-- what a reader gets, by whether the spelling folds case
 zip_as : (s : Spelling) (records others : List Record) → AllZip (IsTaken s) records others → AllZip (IsTakenAs s.folds) records others
 zip_as s [] [] taken = tt
 zip_as s [] (other ∷ others) taken = absurd taken
@@ -168,7 +168,7 @@ pub spelled_small : (s : Spelling) (item : Record → Parts) (query : AxfrQuery)
 spelled_small s item query max [] fits small = tt
 spelled_small s item query max (group ∷ groups) fits small = (omega (arith, small.0), spelled_small s item query max groups fits small.1)
 
--- the transfer that is sent, and the records that are taken of it
+-- the transfer that is sent, and the records that a reader gets from it
 record SpelledTransfer (s : Spelling) (records : List Record) (query : AxfrQuery) (stream : List ℕ) : Type 0 where
   others : List Record
   taken : AllZip (IsTaken s) records others
@@ -215,7 +215,7 @@ spelled_transfer s (soa ∷ records) class query max stream fits are asks sent =
       again = λ exact. first_again s soa records end.others end.last exact end.zipped end.last_is;
     }
 
--- of records that differ in ASCII case at most
+-- of records that differ at most in ASCII case
 pub spelled_taken : (s : Spelling) (records : List Record) (class : ℕ) (query : AxfrQuery) (max : ℕ) (stream : List ℕ) → max < 2 ^ 16
     → AreSendable class records → IsQueryFor records class query → IsSpelledSent s records query max stream
     → (others : List Record) × IsTransfer query stream others × AllZip (IsTakenAs s.folds) records others
@@ -223,7 +223,7 @@ spelled_taken s records class query max stream fits are asks sent =
     let t = spelled_transfer s records class query max stream fits are asks sent in
     (t.others, t.transfer, zip_as s records t.others t.taken)
 
--- and of the very same where the spelling does not fold
+-- and of the same records if the spelling does not fold case
 pub spelled_exact : (s : Spelling) (records : List Record) (class : ℕ) (query : AxfrQuery) (max : ℕ) (stream : List ℕ) → s.folds ≡ false
     → max < 2 ^ 16 → AreSendable class records → IsQueryFor records class query → IsSpelledSent s records query max stream
     → IsExactTransfer query stream records
@@ -232,7 +232,7 @@ spelled_exact s records class query max stream exact fits are asks sent =
     subst (IsExactTransfer query stream) (sym (zip_exact s records t.others exact t.taken))
     (record { transfer = t.transfer; again = t.again exact })
 
--- What is received of it is sent again as the very same stream.
+-- What is received from it is sent again as the same stream.
 pub spelled_again : (s : Spelling) (records others : List Record) (class : ℕ) (query : AxfrQuery) (max : ℕ) (stream : List ℕ)
     → s.folds ≡ false → max < 2 ^ 16 → AreSendable class records → IsQueryFor records class query
     → IsSpelledSent s records query max stream → IsTransfer query stream others → (records ≡ others) × IsSpelledSent s others query max stream

@@ -44,7 +44,7 @@ sent sender query records held stream max holds are same is =
       framed = is ∙ whole_stream sender query holds.groups holds.holds;
     }
 
--- a record is blocked that fits nowhere behind those before it
+-- a record that fits nowhere after those before it is blocked
 pub record_blocked : (sender : Sender) (query : AxfrQuery) (records : List Record) (i : ℕ) (r : Record) (max : ℕ)
     → FitsNowhere sender query (take i records) r → slice_get records i ≡ Some r → sender.max ≡ max
     → IsBlocked (size query) max (with_soa_again records) (i + 1)
@@ -65,7 +65,7 @@ all_again (r ∷ others) i soa all first =
     let same : soa ≡ r = cc in
     ap (λ l. push l soa) (take_all i (r ∷ others) all) ∙ ap (λ x. push (r ∷ others) x) same
 
--- the SOA is blocked that fits nowhere behind all records
+-- the SOA is blocked if it fits nowhere after all records
 pub soa_blocked : (sender : Sender) (query : AxfrQuery) (records : List Record) (i : ℕ) (soa : Record) (max : ℕ)
     → FitsNowhere sender query (take i records) soa → length records ≤ i → slice_get records 0 ≡ Some soa → sender.max ≡ max
     → IsBlocked (size query) max (with_soa_again records) (length records + 1)
@@ -78,7 +78,7 @@ soa_blocked sender query records i soa max nowhere all first same =
     let R : List Record → Type 0 = λ rs. IsBlocked (size query) max rs (length records + 1) in
     subst R again (subst Q same blocked)
 
--- where there are no records, none is sent
+-- if there are no records, none is sent
 pub none_again : (records : List Record) (i : ℕ) → length records ≡ 0 → take i records ≡ with_soa_again records
 none_again [] i empty = take_all i [] (omega arith)
 none_again (r ∷ records) i empty = absurd (omega arith)

@@ -1,4 +1,4 @@
--- The premises of what is sent, tried on a zone of two records: they hold, so its stream is a transfer.
+-- The premises of the laws of sending, tried on a zone of two records: they hold, so its stream is a transfer.
 use Rattle.std.proofs.Common.{ℕ, List, [], ◌∷◌, refl, arith, rules}
 use Rattle.dns_label.specs.Name.{IsName}
 use Rattle.dns_rdata.specs.Fields.{Field}

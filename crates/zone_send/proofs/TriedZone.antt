@@ -1,4 +1,5 @@
--- The definitions tried on the transfer of a zone of two records: `a. 60 IN SOA b. c. 1 2 3 4 5` and `a. 60 IN A 1.2.3.4`.
+-- The definitions tried on the transfer of a zone of two records: `a. 60 IN SOA b. c. 1 2 3 4 5` and `a. 60 IN A
+-- 1.2.3.4`.
 use Rattle.std.specs.Prelude.{◌≡◌, [], ◌∷◌, refl, false}
 use Rattle.zone_octets.specs.Record.{Record}
 use Rattle.zone_core.specs.Query.{AxfrQuery}
@@ -20,7 +21,7 @@ address = record { owner = (97 ∷ []) ∷ []; rtype = 1; class = 1; ttl = 60; r
 abbrev pub query : AxfrQuery
 query = record { id = 4660; recursion = false; name = (97 ∷ []) ∷ []; class = 1 }
 
--- the question takes 19 octets with the header, an SOA record 39, and an A record 17
+-- the question and the header take 19 octets, an SOA record 39, and an A record 17
 pub sizes : (size query [] ≡ 19) × (size query (soa ∷ []) ≡ 58) × (size query (address ∷ []) ≡ 36)
     × (size query (with_soa_again (soa ∷ address ∷ [])) ≡ 114)
 sizes = (refl, refl, refl, refl)

@@ -81,7 +81,7 @@ answers-written query first class records (group ∷ groups) asks each small = (
   answers-written query false class records groups asks each.1 small.1,
 )
 
--- and two octets can say their lengths
+-- and their lengths fit in two octets
 pub framable-written : (query : AxfrQuery) (groups : List (List Record)) → AllByRecursion (λ group. size query group < 2 ^ 16) groups
     → AllByRecursion IsFramable (map (message query) groups)
 framable-written query [] small = tt

@@ -1,4 +1,4 @@
--- What a sender holds while its stream grows. Only contracts inside the crate speak of it.
+-- What a sender holds while its stream grows. Only contracts inside the crate use it.
 use Rattle.std.specs.Prelude.{◌≡◌, ◌+◌, ◌<◌, ◌^◌, ℕ, Option, Some, None, List, [], ◌∷◌, ◌++◌, length, map, flat_map}
 use Rattle.std.specs.Prelude.{if◌then◌else◌}
 use Rattle.std.specs.Int.{to_be_bytes, w16}
@@ -19,26 +19,26 @@ use Rattle.zone_send.specs.declared.sending.error.SendError.TheVariants as send_
 abbrev pub header_front : AxfrQuery → List ℕ
 header_front query = to_be_bytes w16 query.id ++ (if query.recursion then 133 else 132) ∷ 0 ∷ []
 
--- a message in front of its count of answers, and what stands between that count and the records
+-- a message up to its count of answers, and what is between that count and the records
 abbrev pub before_count : AxfrQuery → List ℕ
 before_count query = to_be_bytes w16 query.id ++ (if query.recursion then 133 else 132) ∷ 0 ∷ 0 ∷ 1 ∷ []
 
 abbrev pub behind_count : AxfrQuery → List ℕ
 behind_count query = 0 ∷ 0 ∷ 0 ∷ 0 ∷ question_octets (question_of query)
 
--- a message with this group of records, where these octets stand in the place of its count of answers
+-- a message with this group of records, and these octets as its count of answers
 abbrev pub counted_message : AxfrQuery → List ℕ → List Record → List ℕ
 counted_message query count group =
     before_count query ++ (count ++ (behind_count query ++ flat_map record_octets group))
 
--- what stays the same of a sender
+-- what never changes in a sender
 pub record IsFor (sender : Sender) (query : AxfrQuery) : Type 0 where
   pub small : sender.max < 2 ^ 16
   pub name : IsName query.name
   pub opening : sender.opening.items ≡ message query []
 
--- The last message begins at `start` with this group of records, behind the frames of these groups. Its length and its
--- count of answers may still be wrong.
+-- The last message begins at `start`, has this group of records, and follows the frames of these groups. Its length and
+-- its count of answers may still be wrong.
 pub record Stands (sender : Sender) (query : AxfrQuery) (start : ℕ) (front : List (List Record)) (group : List Record)
     (mark count : List ℕ) : Type 0 where
   pub is_for : IsFor sender query
@@ -81,14 +81,14 @@ abbrev pub HasNoRoom : Sender → Option ℕ → ℕ → Type 0
 HasNoRoom sender None len = Unit {0}
 HasNoRoom sender (Some start) len = sender.max + start < length sender.stream.items + len
 
--- the record fits neither behind the others nor alone
+-- the record fits neither after the others nor alone
 pub record FitsNowhere (sender : Sender) (query : AxfrQuery) (records : List Record) (r : Record) : Type 0 where
   pub groups : List (List Record)
   pub cut : IsFullCut (size query) sender.max records groups
   pub behind : FitsNotBehind (size query) sender.max groups r
   pub alone : sender.max < size query (r ∷ [])
 
--- why the stream does not grow to its end
+-- why the stream ends early
 abbrev pub IsRefusedBy : AxfrQuery → ℕ → List Record → SendError → Type 0
 IsRefusedBy query max records (send_error.Query fault) = ⊥
 IsRefusedBy query max records send_error.WrongZone = ⊥

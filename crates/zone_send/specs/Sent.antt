@@ -15,7 +15,7 @@ abbrev pub message : AxfrQuery → List Record → List ℕ
 message query group =
     answer_header query.id query.recursion (length group) ++ question_octets (question_of query) ++ flat_map record_octets group
 
--- how many octets it takes
+-- its number of octets
 abbrev pub size : AxfrQuery → List Record → ℕ
 size query group = length (message query group)
 
@@ -35,7 +35,7 @@ pub record AsksFor (query : AxfrQuery) (apex : List (List ℕ)) (class : ℕ) : 
   pub name : low query.name ≡ low apex
   pub class_is : query.class ≡ class
 
--- A query that asks for the zone, and whose values are what a message can say.
+-- A query that asks for the zone, and whose values fit in a message.
 pub record IsQueryFor (records : List Record) (class : ℕ) (query : AxfrQuery) : Type 0 where
   pub id : query.id < 2 ^ 16
   pub name : IsName query.name

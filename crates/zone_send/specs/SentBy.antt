@@ -1,4 +1,4 @@
--- What is sent for a zone and a query, by how names are written, and why nothing is (RFC 5936 2.2).
+-- What is sent for a zone and a query under a `Spelling`, and why nothing is sent (RFC 5936 2.2).
 use Rattle.std.specs.Prelude.{ℕ, List, ⊤}
 use Rattle.dns_name.specs.Spelling.{static_spelling, tree_spelling, hash_spelling}
 use Rattle.zone_octets.specs.Record.{Record}
@@ -18,7 +18,7 @@ IsSentBy Static records query max stream = IsSpelledSent static_spelling records
 IsSentBy Tree records query max stream = IsSpelledSent tree_spelling records query max stream
 IsSentBy Hash records query max stream = IsSpelledSent hash_spelling records query max stream
 
--- names are received in the case that they have: they are written in full, or a pointer stands for the very same octets alone
+-- names are received in their own case: they are written in full, or a pointer replaces only the same octets
 abbrev pub KeepsCase : Spelling → Type 0
 KeepsCase Plain = ⊤
 KeepsCase Static = ⊥
@@ -32,8 +32,8 @@ IsBlockedBy Static records query max n = IsSpelledBlocked static_spelling record
 IsBlockedBy Tree records query max n = IsSpelledBlocked tree_spelling records query max n
 IsBlockedBy Hash records query max n = IsSpelledBlocked hash_spelling records query max n
 
--- Why nothing is sent, by the first rule in the order of the variants: the query breaks a rule, it asks for another zone,
--- or a record is blocked. Memory runs out only for a query that asks for the zone.
+-- Why nothing is sent, by the first rule in the order of the variants: the query breaks a rule, it asks for another
+-- zone, or a record is blocked. `OutOfMemory` implies that the query asks for the zone.
 abbrev pub IsSendFault : Spelling → List Record → List (List ℕ) → ℕ → List ℕ → ℕ → SendError → Type 0
 IsSendFault spelling records apex class octets max (send_error.Query fault) = IsQueryFault octets fault
 IsSendFault spelling records apex class octets max send_error.WrongZone =
@@ -43,7 +43,7 @@ IsSendFault spelling records apex class octets max (send_error.Record n) =
 IsSendFault spelling records apex class octets max send_error.OutOfMemory =
     (query : AxfrQuery) × IsQuery octets query × AsksFor query apex class
 
--- why a stream for a query that asks for the zone does not grow to its end
+-- why a stream for a query that asks for the zone ends early
 abbrev pub IsRefusedFor : Spelling → List Record → AxfrQuery → ℕ → SendError → Type 0
 IsRefusedFor spelling records query max (send_error.Query fault) = ⊥
 IsRefusedFor spelling records query max send_error.WrongZone = ⊥

@@ -1,4 +1,4 @@
--- What is kept while messages are written with names spelled in any way. Only contracts inside the crate speak of it.
+-- What holds while messages are written with names in any spelling. Only contracts inside the crate use it.
 use Rattle.std.specs.Prelude.{◌≡◌, ◌+◌, ◌<◌, ◌≤◌, ◌^◌, ℕ, Bool, true, false, Some, List, [], ◌∷◌, ◌++◌, length, map, take, slice_get, IfSome}
 use Rattle.std.specs.List.{AllByRecursion, push}
 use Rattle.dns_name.specs.Spelling.{Spelling}
@@ -16,7 +16,7 @@ use Rattle.zone_send.specs.SpelledSent.{spelled_message, IsSpelledBlocked}
 use Rattle.zone_send.specs.declared.sending.error.SendError.{SendError}
 use Rattle.zone_send.specs.declared.sending.error.SendError.TheVariants as send_error
 
--- what a writer gives of the record is this item
+-- this item is the parts that a writer gives for the record
 abbrev pub IsItem : (Record → Parts) → Record → Type 0
 IsItem item r = (parts : Parts) → IsWritten r parts → parts ≡ item r
 
@@ -30,7 +30,7 @@ answer_built query answers = record {
   sections = (question_parts (question_of query) ∷ []) ∷ answers ∷ [];
 }
 
--- a builder that holds this is one of the message for the group, and refuses what makes it longer than `max`
+-- a builder of the message for the group, whose pushes fail if they would make it longer than `max`
 pub record HoldsGroup (s : Spelling) (query : AxfrQuery) (item : Record → Parts) (max : ℕ) (group : List Record) (draft : Draft) : Type 0 where
   pub built : IsDraftOf s (answer_built query (map item group)) draft
   pub limit : draft.limit ≡ max + 1
@@ -38,7 +38,7 @@ pub record HoldsGroup (s : Spelling) (query : AxfrQuery) (item : Record → Part
   pub small : max < 2 ^ 16
   pub few : length group ≤ length draft.page.octets
 
--- the record is added where it has room, and else the builder stays one of the group
+-- the record is added if it has room, otherwise the builder keeps the group
 abbrev pub IsPushed : Spelling → AxfrQuery → (Record → Parts) → ℕ → List Record → Record → Bool → Draft → Type 0
 IsPushed s query item max group r true new =
     HoldsGroup s query item max (push group r) new × (spelled_size s query item (push group r) ≤ max)
@@ -54,7 +54,7 @@ pub record HoldsUpTo (s : Spelling) (query : AxfrQuery) (item : Record → Parts
   pub small : spelled_size s query item (first ∷ others) ≤ max
   pub holds : HoldsGroup s query item max (first ∷ others) draft
 
--- the frame has the message of the records from one index up to another, at least one, and the next has no room
+-- the frame has the message of the records from one index up to another, at least one, and the next record has no room
 pub record IsNextFrame (s : Spelling) (query : AxfrQuery) (item : Record → Parts) (max : ℕ) (all : List Record) (start next : ℕ)
     (octets : List ℕ) : Type 0 where
   pub first : Record
@@ -87,7 +87,7 @@ pub record SendsUpTo (s : Spelling) (query : AxfrQuery) (item : Record → Parts
   pub behind : IfSome (slice_get all next) (FitsNotBehind (spelled_size s query item) max groups)
   pub framed : stream ≡ frames (map (spelled_message s query item) groups)
 
--- why the stream does not grow to its end
+-- why the stream ends early
 abbrev pub IsRefusedSpelled : Spelling → List Record → AxfrQuery → ℕ → SendError → Type 0
 IsRefusedSpelled s records query max (send_error.Query fault) = ⊥
 IsRefusedSpelled s records query max send_error.WrongZone = ⊥

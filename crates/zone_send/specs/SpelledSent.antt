@@ -1,4 +1,4 @@
--- What is sent for a zone and a query where names are written by a spelling, with pointers (RFC 5936 2.2, RFC 1035 4.1.4).
+-- What is sent for a zone and a query if names are written by a spelling, with pointers (RFC 5936 2.2, RFC 1035 4.1.4).
 use Rattle.std.specs.Prelude.{◌≡◌, Bool, true, false, ℕ, List, map}
 use Rattle.std.specs.List.{AllByRecursion, AllZip}
 use Rattle.dns_label.specs.Name.{low}
@@ -20,7 +20,8 @@ use Rattle.zone_send.specs.Spelled.{answer_head, spelled_size}
 abbrev pub spelled_message : Spelling → AxfrQuery → (Record → Parts) → List Record → List ℕ
 spelled_message s query item group = written s (group_parts (answer_head query) item group)
 
--- The stream is the frames of the full cut, in messages of at most `max` octets, each record by the parts that a writer gives.
+-- The stream is the frames of the full cut, in messages of at most `max` octets, each record by the parts that a writer
+-- gives.
 pub record IsSpelledSent (s : Spelling) (records : List Record) (query : AxfrQuery) (max : ℕ) (stream : List ℕ) : Type 0 where
   pub item : Record → Parts
   pub each : AllByRecursion (λ r. IsWritten r (item r)) records
@@ -53,7 +54,8 @@ pub record IsNear (r other : Record) : Type 0 where
   pub ttl : r.ttl ≡ other.ttl
   pub rdata : IsNearData r.rtype r.rdata other.rdata
 
--- what a reader takes of a record that is written by a spelling: the same, up to ASCII case where the spelling folds it
+-- what a reader gets from a record that is written by a spelling: the same record, up to ASCII case if the spelling
+-- folds it
 abbrev pub IsTakenAs : Bool → Record → Record → Type 0
 IsTakenAs true r other = IsNear r other
 IsTakenAs false r other = r ≡ other

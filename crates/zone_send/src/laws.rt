@@ -1,4 +1,4 @@
-//! What holds of streams that are sent. A law is a function with an empty body, whose contract is the law.
+//! Laws of streams that are sent. A law is a function with an empty body whose contract is the law.
 
 mod canonical;
 mod one;

@@ -1,7 +1,7 @@
 //! The stream of a zone's transfer (RFC 5936 2.2).
 //!
-//! A part of `zonewire`, which hands `send` and its types on, over `zone_core`, which says which stream is a transfer. The `specs/`
-//! say which messages are sent, by how names are written in them.
+//! Part of `zonewire`, which re-exports `send` and its types. Builds on `zone_core`, which defines which stream is a
+//! transfer. `specs/` defines which messages are sent under each `Spelling`.
 #![tactic(auto)]
 
 pub mod laws;

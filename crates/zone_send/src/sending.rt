@@ -1,4 +1,4 @@
-//! A zone as the stream of its transfer.
+//! Sending a zone as the stream of its transfer.
 ghost use Rattle.std.specs.Prelude.{◌≡◌, ◌↔◌, [], IsTrue, IfOk, IfErr};
 ghost use Rattle.std.specs.List.{AllByRecursion};
 ghost use Rattle.zone_octets.specs.Typed.{HasLawfulData};
@@ -31,19 +31,21 @@ use zone_text::zone::records_of;
 pub enum Spelling {
     /// Every name is written out.
     Plain,
-    /// A suffix that stood before is a pointer to it, up to ASCII case; at most 24 suffixes of a message are remembered.
+    /// A suffix that occurred before is a pointer to it, up to ASCII case. At most 24 suffixes of a message are
+    /// remembered.
     Static,
-    /// A suffix that stood before is a pointer to it, octet for octet.
+    /// A suffix that occurred before is a pointer to it, octet for octet.
     Tree,
-    /// A suffix that stood before is a pointer to it, up to ASCII case.
+    /// A suffix that occurred before is a pointer to it, up to ASCII case.
     Hash,
 }
 
-/// The stream that answers a query for the zone's transfer: its records in order and the SOA again, in messages of at
-/// most `max` octets, each behind its length in two octets (RFC 5936 2.2).
+/// Returns the stream that answers a query for the zone's transfer: its records in order and the SOA again, in messages
+/// of at most `max` octets, each after its length in two octets (RFC 5936 2.2).
 ///
-/// Each message has the query's id, QR, AA and the query's RD, the query's question, and as many of the next records as
-/// have room. Fails with the first rule of `SendError` that is broken, and with `OutOfMemory` only if the query asks for the zone.
+/// Each message has the query's ID, QR, AA and the query's RD, the query's question, and as many of the next records as
+/// have room. Fails with the first rule of `SendError` that is broken, and with `OutOfMemory` only if the query asks
+/// for the zone.
 pub fn send(
     alloc: Global,
     zone: &Zone,
@@ -54,16 +56,16 @@ pub fn send(
     ensures ok { IfOk result (λ stream. IsSentFor spelling zone.now.records zone.now.class query.now max stream.items) }
     ensures err { IfErr result (IsSendFault spelling zone.now.records (apex_of zone.now.records) zone.now.class query.now max) }
 
-    // Where a record has room in no message, no messages hold the records.
+    // If a record has room in no message, no messages hold the records.
     ensures none { IfErr result (λ error. IfRecord error (FitsNoMessages spelling zone.now.records query.now max)) }
 {
     send_into(alloc, Vec::new(alloc), zone, query, max, spelling)
 }
 
-/// The stream that `send` gives (RFC 5936 2.2), in the place of the octets that a vector holds, which are no longer needed: so a
-/// zone may be sent in the memory that its text had.
+/// Returns the stream that `send` returns (RFC 5936 2.2), and reuses the memory of a vector whose octets are no longer
+/// needed. So a zone may be sent in the memory that held its text.
 ///
-/// Fails as `send` does; the vector is let go of then.
+/// Fails as `send` does. The vector is then dropped.
 pub fn send_into(
     alloc: Global,
     spare: Vec<u8>,
@@ -75,7 +77,7 @@ pub fn send_into(
     ensures ok { IfOk result (λ stream. IsSentFor spelling zone.now.records zone.now.class query.now max stream.items) }
     ensures err { IfErr result (IsSendFault spelling zone.now.records (apex_of zone.now.records) zone.now.class query.now max) }
 
-    // Where a record has room in no message, no messages hold the records.
+    // If a record has room in no message, no messages hold the records.
     ensures none { IfErr result (λ error. IfRecord error (FitsNoMessages spelling zone.now.records query.now max)) }
 {
     let query = match check_query(query) {
@@ -89,14 +91,15 @@ pub fn send_into(
     send_by(alloc, spare, &query, &name, records_of(zone), max, spelling)
 }
 
-/// Whether a query asks for the zone.
+/// Returns whether a query asks for the zone.
 fn asks_for(query: &Query<'_>, zone: &Zone) -> bool
     ensures { IsTrue result ↔ AsksFor (asked_by query.now) (apex_of zone.now.records) zone.now.class }
 {
     query.class() == zone.class() && query.name().name_eq(&zone.apex())
 }
 
-/// The stream of these records and the first of them again, in answer to a query of this name.
+/// Returns the stream of these records and the first of them again, in answer to a query of this name. Fails if a
+/// record has room in no message, or if out of memory.
 fn send_by(
     alloc: Global,
     spare: Vec<u8>,
@@ -125,7 +128,8 @@ fn send_by(
     }
 }
 
-/// The stream of these records and the first of them again.
+/// Returns the stream of these records and the first of them again, every name written out. Fails if a record has room
+/// in no message, or if out of memory.
 fn send_records(mut sender: Sender, records: &RecordList) -> Result<Vec<u8>, SendError>
     requires { (query : AxfrQuery) × Holds sender query [] }
     ensures ok { IfOk result (λ stream. (query : AxfrQuery) → Holds sender query [] →

@@ -1,4 +1,4 @@
--- Words that the command takes name one of its subcommands, with options whose values passed.
+-- Words that the command accepts name one of its subcommands, with options whose values passed their parsers.
 use Rattle.std.proofs.Common.{◌≡◌, ◌∙◌, Bool, cond, true, false, refl, sym, ap, ap₂, subst, List, [], ◌∷◌, Option, Some, None, is_some, codes, not, ◌||◌, ◌⊎◌, inl, inr}
 use Rattle.std.specs.Option.{option_map, option_map_or}
 use Rattle.std.specs.Bool.{MatchBool}
@@ -44,7 +44,7 @@ abbrev fourth : List Shape → Shape
 fourth [] = new_shape []
 fourth (s ∷ more) = third more
 
--- the options, as built
+-- the options of the command
 abbrev origin_rule : Rule
 origin_rule = filled (text_option (codes "origin"))
 
@@ -60,7 +60,7 @@ max_rule = filled (number_option (codes "max"))
 abbrev spelling_rule : Choices → Rule
 spelling_rule spellings = filled (choice_option (codes "spelling") spellings)
 
--- the name of a query may be left out, and that of a zone that is received has to be there
+-- the apex of a query may be left out, and that of a zone that is received may not
 abbrev asked_rule : Rule
 asked_rule = filled (text_option (codes "apex"))
 
@@ -70,7 +70,7 @@ apex_rule = filled (always (text_option (codes "apex")))
 abbrev layout_rule : Choices → Rule
 layout_rule layouts = filled (choice_option (codes "layout") layouts)
 
--- the rows of a level that takes the words, where it has no defaults
+-- the rows of a level that accepts the words, if its options have no defaults
 level_rows : (s : Shape) (words : List Text) → s.args_override_self ≡ false → Each (Keeps s.rules) s.rules → Each (λ a. a.defaults ≡ []) s.rules
     → level_fault s [] nothing_held words false [] ≡ [] → Each (IsPassed s.rules) (rows_at s words).1
 level_rows s words once keeps bare clear =
@@ -79,7 +79,7 @@ level_rows s words once keeps bare clear =
     [] nothing_held words false [] tt clear in
     subst (Each (IsPassed s.rules)) (sym (defaults_nothing s.rules _ bare)) kept
 
--- an option that has to be given and is not refused was given
+-- a required option is given if the words are accepted
 needs : (given : Bool) → cond (not given || false) (kind.MissingRequiredArgument ∷ []) [] ≡ [] → given ≡ true
 needs true clear = refl
 needs false clear = cc
@@ -99,24 +99,24 @@ number_of_passed a how case parser (Some t) (w, is, accepted) = (
   accepts-Accepts false (vp.Signed (pos 0) (pos 65535)) w (sym (ap₂ (λ b p. accepts b p w) case parser) ∙ accepted),
 )
 
--- the number of an option that stands by its name among the options
+-- the number of an option that is found by its name
 number_passed : (rules : List Rule) (name : Text) (a : Rule) (rows : List Row) → arg_by_id rules name ≡ Some a → reading_by a ≡ WithoutMinus
     → a.ignore_case ≡ false → parser_of_value a.parser ≡ vp.Signed (pos 0) (pos 65535) → Each (IsPassed rules) rows → HasNumber name rows
 number_passed rules name a rows own how case parser all =
     number_of_passed a how case parser (one_of name rows) (given_passed rules name a rows own all)
 
--- ---- what words that are not refused name
+-- ---- what accepted words name
 
 -- the name is that of a subcommand
 abbrev IsKnown : Text → Type 0
 IsKnown name = (name ≡ codes "send") ⊎ ((name ≡ codes "receive") ⊎ ((name ≡ codes "check") ⊎ (name ≡ codes "canon")))
 
--- what holds of the rows of the subcommand of this name
+-- what holds of the rows of the subcommand with this name
 abbrev pub Needs : Text → List Row → Type 0
 Needs name rows = MatchBool (bytes_eq name (codes "send")) (HasNumber (codes "id") rows × HasNumber (codes "max") rows)
     (MatchBool (bytes_eq name (codes "receive")) (HasNumber (codes "id") rows × (is_some (first_of (codes "apex") rows) ≡ true)) (Unit {0}))
 
--- a subcommand was met, and this holds of its rows
+-- a subcommand was found, and this holds of its rows
 abbrev IsNamed : Option (Text × List Row) → Type 0
 IsNamed met = (name : Text) × (rows : List Row) × (met ≡ Some (name, rows)) × IsKnown name × Needs name rows
 
@@ -125,7 +125,7 @@ once : (c : List Rule) (a : Rule) → action_of a ≡ Set → (unwrap_or_range a
 once c a action least most own = set_keeps c a (record { action = action; least = least; most = most; own = own })
 
 module _ (spellings layouts : Choices) where
-  -- the command and its subcommands, as built
+  -- the command and its subcommands
   abbrev whole : App
   whole = built (zonewire spellings layouts)
 
@@ -196,7 +196,7 @@ module _ (spellings layouts : Choices) where
       let id : HasNumber (codes "id") rows = number_passed receives.rules (codes "id") id_rule rows refl refl refl refl all in
       (codes "receive", rows, refl, inr (inl refl), (id, given_text receives.rules (codes "apex") rows all given))
 
-  -- the subcommand, by whether its name was met
+  -- the subcommand, by whether its name was found
   abbrev entered_by : Bool → Bool → Bool → Bool → Option Shape
   entered_by is_send is_receive is_check is_canon =
       cond is_send (Some sends) (cond is_receive (Some receives) (cond is_check (Some checks) (cond is_canon (Some canons) None)))
@@ -237,7 +237,7 @@ module _ (spellings layouts : Choices) where
 pub simple_and_free : (a : App) → IsZonewire a → is_simple_and_free a ≡ true
 simple_and_free a (spellings, layouts, spelled, laid, is) = ap is_simple_and_free is
 
--- the subcommand that the parse met has this name
+-- the subcommand that the parse found has this name
 pub record IsMetAs (name : Text) (a : App) (words : List Text) (m : ArgMatches) : Type 0 where
   pub rows : List Row
   pub met : subcommand_rows_of m ≡ Some (name, rows)
@@ -267,7 +267,7 @@ name_of_met (Some b) met is = ap (option_map (λ (q : Text × List Row). q.0)) i
 same_name : (m : ArgMatches) (met : Text × List Row) (name : Text) → subcommand_rows_of m ≡ Some met → Some name ≡ subcommand_name_of m → name ≡ met.0
 same_name m met name is named = some_is name met.0 (named ∙ name_of_met (out-ArgMatches m).subcommand met is)
 
--- the subcommand, where its name is this one
+-- the subcommand, if its name is this one
 pub met_at : (a : App) (words : List Text) (m : ArgMatches) → IsMet a words m → (name given : Text) → Some given ≡ subcommand_name_of m
     → given ≡ name → IsMetAs name a words m
 met_at a words m (met, known, s) name given named is =
@@ -286,7 +286,7 @@ one_by a words m (met, known, s) name named not-send not-receive not-check not-c
     go (inr (inr (inl is))) same = not-check (same ∙ is)
     go (inr (inr (inr is))) same = not-canon (same ∙ is)
 
--- the rows of the matches that a caller got for it
+-- the rows of the matches that a caller got for the subcommand
 pub met_rows : (m : ArgMatches) (met : Text × List Row) → subcommand_rows_of m ≡ Some met → (rows : List Row)
     → Some rows ≡ option_map (λ p. p.1) (subcommand_rows_of m) → rows ≡ met.1
 met_rows m met is rows given = some_is rows met.1 (given ∙ ap (option_map (λ (q : Text × List Row). q.1)) is)

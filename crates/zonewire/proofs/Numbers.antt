@@ -1,4 +1,4 @@
--- What `clap` reads of an option that is a number.
+-- What `clap` reads for an option that is a number.
 use Rattle.std.proofs.Common.{◌≡◌, ◌∙◌, ℕ, List, Option, Some, None, refl, ap, subst, arith}
 use Rattle.std.specs.Option.{option_map_or, unwrap_or}
 use Rattle.std.specs.Prelude.{IfSome, Ok, Result, pos}
@@ -9,7 +9,7 @@ use Rattle.clap.specs.Words.{ReadsOne}
 use Rattle.clap.proofs.CallerReads.{signed_reads}
 use Rattle.zonewire.specs.Words.{number}
 
--- `get_one` gives the number of a value that was taken for one
+-- `get_one` gives the number of a value that was accepted as one
 pub number_read : {E : Type 0} (G : List ℕ → Result ℕ E → Type 0) → ((u : List ℕ) (x : Result ℕ E) → G u x → ParsesUnsigned 16 10 u x)
     → (o : Option (List ℕ)) (r : Option ℕ) (default : ℕ) → (o ≡ None → r ≡ None) → ((t : List ℕ) → o ≡ Some t → ReadsOne G t r)
     → IfSome o (λ text. (value : List ℕ) × (text ≡ without_minus value) × IsSignedIn (pos 0) (pos 65535) value)

@@ -1,4 +1,4 @@
--- Why nothing is made of a text or a zone.
+-- Why a text or a zone has no output.
 use Rattle.std.proofs.Common.{◌≡◌, ℕ, List, subst}
 use Rattle.std.specs.Prelude.{Option}
 use Rattle.zone_octets.specs.Record.{Record}
@@ -12,7 +12,7 @@ use Rattle.zonewire.specs.Fault.{of_send}
 use Rattle.zone_core.specs.Query.{query_octets}
 use Rattle.zonewire.specs.Output.{IsNotSent, IsSendJobFault, query_of}
 
--- for the job's query nothing is sent
+-- nothing is sent for the job's query
 not-sent : (records : List Record) (origin : Option (List (List ℕ))) (zone_class class id : ℕ) (apex : Option (List (List ℕ))) (max : ℕ) (spelling : Spelling) (octets input : List ℕ) (error : SendError)
     → octets ≡ query_octets (query_of id zone_class apex records) → IsZoneText input origin class records → zone_class ≡ class
     → IsSendFault spelling records (apex_of records) zone_class octets max error → IsNotSent origin class id apex max spelling input error
@@ -21,7 +21,7 @@ not-sent records origin zone_class class id apex max spelling octets input error
     let Q : ℕ → Type 0 = λ c. IsSendFault spelling records (apex_of records) c (query_octets (query_of id c apex records)) max error in
     record { records = records; text = text; refused = subst Q same (subst P is refused) }
 
--- the job's fault for it
+-- the fault of the job for it
 pub send-fault : (records : List Record) (origin : Option (List (List ℕ))) (zone_class class id : ℕ) (apex : Option (List (List ℕ))) (max : ℕ)
     (spelling : Spelling) (octets input : List ℕ) (error : SendError) → octets ≡ query_octets (query_of id zone_class apex records) → IsZoneText input origin class records → zone_class ≡ class
     → IsSendFault spelling records (apex_of records) zone_class octets max error → IsSendJobFault origin class id apex max spelling input (of_send error)

@@ -1,4 +1,4 @@
--- What is received of an input that is fed whole.
+-- What is received from an input that is fed in one piece.
 use Rattle.std.proofs.Common.{◌≡◌, ◌≢◌, ◌∙◌, ℕ, List, [], sym, ap, subst, take, drop, length, append-nil, take-append-drop, inl, inr, Some, None, arith, ◌⊎◌}
 use Rattle.std.proofs.lemmas.List.{take_all}
 use Rattle.zone_octets.specs.Record.{Record}
@@ -12,7 +12,7 @@ use Rattle.zone_receive.proofs.OneOfThree.{transfer_not_begun}
 use Rattle.zonewire.specs.Fault.{of_receive}
 use Rattle.zonewire.specs.Output.{IsNotReceived, IsReceived, IsReceiveJobFault, asking_for}
 
--- the zone that came
+-- the zone that was received
 pub received : (asking input : List ℕ) (old new : Heard) (n : ℕ) (records : List Record) → IsQuery asking old.query
     → Takes old [] input new n → IsTransfer new.query (take n input) records → IsReceived asking input records
 received asking input old new n records asked takes transfer = record {
@@ -24,7 +24,7 @@ received asking input old new n records asked takes transfer = record {
   transfer = subst (λ query. IsTransfer query (take n input) records) takes.query transfer;
 }
 
--- no zone came: the input is only begun
+-- no zone was received: the input is only begun
 pub not_received : (asking input : List ℕ) (old new : Heard) (n : ℕ) (error : ReceiveError) → IsQuery asking old.query
     → Takes old [] input new n → IsNoZone new (take n input) error → IsNotReceived asking input error
 not_received asking input old new n error asked takes (inl kept) =
@@ -38,7 +38,7 @@ not_received asking input old new n error asked takes (inr (is, free, begun)) =
         absurd (transfer_not_begun new.query (take n input) (take n input) [] new.records (sym (append-nil (take n input))) stands.1 begun)
     whole (inr (not_there, all)) = subst (IsBegun new.query) (take_all n input (omega (arith, all))) begun
 
--- the input was refused
+-- the input breaks a rule
 not_taken : (asking input : List ℕ) (query : AxfrQuery) (error : ReceiveError) → IsQuery asking query → IsStreamFault query input error
     → IsNotReceived asking input error
 not_taken asking input query (Query why) asked fault = absurd fault
@@ -55,7 +55,7 @@ refused asking input old new error asked fresh refuses = why refuses.why
     why (inl again) = let bad : Some error ≡ None = sym (ap refusal_in again.0) ∙ ap refusal_in fresh in cc
     why (inr (free, fault)) = not_taken asking input old.query error asked fault
 
--- why nothing is made of an input that is not received
+-- why an input that is not received has no output
 pub receive-fault : (class id : ℕ) (apex : List (List ℕ)) (asking input : List ℕ) (error : ReceiveError) → asking ≡ asking_for class id apex
     → IsNotReceived asking input error → IsReceiveJobFault class id apex input (of_receive error)
 receive-fault class id apex asking input OutOfMemory is refused = tt

@@ -1,4 +1,4 @@
--- What the matches of words that are not refused hold: each value passed the parser of its option.
+-- What the matches of accepted words hold: each value passed the parser of its option.
 use Rattle.std.proofs.Common.{◌≡◌, ◌∙◌, ℕ, Bool, cond, true, false, refl, sym, ap, ap₂, subst, arith, List, [], ◌∷◌, ◌++◌, ◌&&◌, ◌||◌, ◌==◌, length, Option, Some, None, is_some}
 use Rattle.std.specs.List.{find, fold}
 use Rattle.std.specs.Option.{option_map_or, unwrap_or}
@@ -42,7 +42,7 @@ each_found {X} Q p (y ∷ ys) x all is = go (p y) refl is (each_found Q p ys x a
 
 -- ---- rows
 
--- what stands for the option passed its parser, and is read as that parser says
+-- the text passed the parser of its option, and is read as that parser says
 abbrev pub HasPassed : Rule → Text → Type 0
 HasPassed a t = (w : Text) × (t ≡ read_as (reading_by a) w) × (accepts a.ignore_case (parser_of_value a.parser) w ≡ true)
 
@@ -109,14 +109,14 @@ row_added : (c : List Rule) (a : Rule) (v : Text) (rows : List Row) → arg_by_i
 row_added c a v rows own accepted all = each_more (IsPassed c) rows (new_row a.id (reading_by a) (v ∷ [])) all
     (refl, λ b is t text. subst (λ (d : Rule). HasPassed d t) (some_is a b (sym own ∙ is)) (v, sym (some_is (read_as (reading_by a) v) t text), accepted))
 
--- the option takes one value, and stands by its name among the options
+-- the option takes one value, and is found by its name
 pub record IsSetOnce (c : List Rule) (a : Rule) : Type 0 where
   pub action : action_of a ≡ Set
   pub least : (unwrap_or_range a.range).start_inclusive ≡ 1
   pub most : most_values a ≡ 1
   pub own : arg_by_id c a.id ≡ Some a
 
--- a use that is not refused keeps that each value passed
+-- a use that is accepted keeps that each value passed
 abbrev pub Keeps : List Rule → Rule → Type 0
 Keeps c a = (values : List Text) (rows : List Row) → use_fault false a values rows ≡ [] → Each (IsPassed c) rows → Each (IsPassed c) (used a values rows)
 
@@ -151,7 +151,7 @@ defaults_nothing (a ∷ more) rows all =
 
 -- ---- what is read
 
--- where the option is given, its text passed its parser
+-- if the option is given, its text passed its parser
 pub given_passed : (c : List Rule) (name : Text) (a : Rule) (rows : List Row) → arg_by_id c name ≡ Some a → Each (IsPassed c) rows → IfSome (one_of name rows) (HasPassed a)
 given_passed c name a rows own all = go (find (λ r. bytes_eq r.id name) rows) refl
   where

@@ -1,4 +1,4 @@
--- What is read of an option that is a text.
+-- What is read for an option that is a text.
 use Rattle.std.proofs.Common.{◌≡◌, ◌∙◌, List, ◌∷◌, Option, Some, None, Bor, true, is_some, ap, sym, inl, inr}
 use Rattle.std.specs.Prelude.{option_map}
 use Rattle.clap.specs.Walk.{Row, Text, first_of, rows_of}
@@ -19,7 +19,7 @@ pub text_read : (f : Found) (option : Text) (got o : Option (Bor Text)) → opti
     → first_of option (rows_of f) ≡ option_map (λ s. s.now) o
 text_read f option got o is was = sym (first_value-rows f option) ∙ sym is ∙ ap (option_map (λ (s : Bor Text). s.now)) was
 
--- a text is there where it has to be
+-- a required text is there
 pub text_there : (option : Text) (rows : List Row) → first_of option rows ≡ None → is_some (first_of option rows) ≡ true → ⊥
 text_there option rows none there =
     let bad = sym (ap is_some none) ∙ there in cc
@@ -30,7 +30,7 @@ pub name_fault : (option : Text) (rows : List Row) (text : Text) (error : FromSt
 name_fault option rows text (Presentation error) has refused = (text, has, refused)
 name_fault option rows text ShortBuf has refused = tt
 
--- that is a fault of a subcommand of which the option is the first name
+-- that is a fault of a subcommand whose first name option is this
 pub first_fault : (option : Text) (options : List Text) (rows : List Row) (fault : WordsFault) → IsNameFault option rows fault
     → IsFaultOf (option ∷ options) rows fault
 first_fault option options rows (Line e) bad = bad
@@ -38,7 +38,7 @@ first_fault option options rows BadName bad = inl bad
 first_fault option options rows BadClass bad = absurd bad
 first_fault option options rows OutOfMemory bad = tt
 
--- or the second one
+-- or whose second is
 pub second_fault : (first option : Text) (options : List Text) (rows : List Row) (fault : WordsFault) → IsNameFault option rows fault
     → IsFaultOf (first ∷ option ∷ options) rows fault
 second_fault first option options rows (Line e) bad = bad

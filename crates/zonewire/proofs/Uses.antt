@@ -1,4 +1,4 @@
--- What each use of an option keeps of the matches, the walk over all the words keeps.
+-- What each use of an option keeps of the matches, all words keep.
 use Rattle.std.proofs.Common.{◌≡◌, ℕ, Bool, cond, true, false, zero, suc, refl, List, [], ◌∷◌, ◌&&◌, length, drop, Option, Some, None, is_some}
 use Rattle.std.specs.List.{find, fold}
 use Rattle.std.specs.Option.{option_map_or}
@@ -179,7 +179,7 @@ module _ (s : Shape) (P : List Row → Type 0)
       let parts = none_else _ _ clear in
       words_keep names rest (walked c names w word) (turn_keeps names w word ok parts.0) parts.1
 
-  -- the rows of one level, before the defaults
+  -- the rows of one level, before defaults are added
   pub level_keeps : (names : Names) (h : Held) (words : List Text) (has_subcommand : Bool) (below : Kinds) → P h.rows
       → level_fault s names h words has_subcommand below ≡ [] → P (settled c (walk c names h words).held).rows
   level_keeps names h words has_subcommand below ok clear =

@@ -5,7 +5,7 @@ use Rattle.clap.specs.Walk.{Rule, Text, texts}
 use Rattle.clap.specs.Simple.{App, new_app, new_rule, on_top, with_rule, with_subcommand}
 use Rattle.clap.specs.declared.builder.value_parser.ValueParser.TheVariants.{Names, Signed}
 
--- A list of the words that an option takes. Its fields say where it and the words lie in memory.
+-- A list of the words that an option accepts. Its fields say where the list and the words are in memory.
 abbrev pub Choices : Type 0
 Choices = Bor (List (Bor Text))
 
@@ -26,7 +26,7 @@ text_option name = record (new_rule name) { long = Some name }
 abbrev pub with_text_options : App → App
 with_text_options a = with_rule (with_rule a (text_option (codes "origin"))) (text_option (codes "class"))
 
--- an option that has to be given
+-- a required option
 abbrev pub always : Rule → Rule
 always option = record option { required = true }
 
@@ -55,11 +55,11 @@ text_app name = with_text_options (new_app name)
 abbrev pub IsChoices : List Text → Choices → Type 0
 IsChoices words choices = texts choices.now ≡ words
 
--- the spellings that there are
+-- the values of `--spelling`
 abbrev pub IsSpellings : Choices → Type 0
 IsSpellings spellings = IsChoices (codes "plain" ∷ codes "static" ∷ codes "tree" ∷ codes "hash" ∷ []) spellings
 
--- the layouts that there are
+-- the values of `--layout`
 abbrev pub IsLayouts : Choices → Type 0
 IsLayouts layouts = IsChoices (codes "simple" ∷ codes "tabbed" ∷ codes "multiline" ∷ []) layouts
 
@@ -69,7 +69,7 @@ IsSend a = (spellings : Choices) × IsSpellings spellings × (a ≡ send_app spe
 abbrev pub IsReceive : App → Type 0
 IsReceive a = (layouts : Choices) × IsLayouts layouts × (a ≡ receive_app layouts)
 
--- one of the subcommands has to be named, and there is none for help
+-- one of the subcommands is required, and there is none for help
 abbrev pub program : App
 program = on_top (λ s. record s { subcommand_required = true; disable_help_subcommand = true })
     (new_app (codes "zonewire"))
@@ -81,7 +81,7 @@ zonewire spellings layouts = with_subcommand
     (text_app (codes "check")).top)
     (text_app (codes "canon")).top
 
--- the command of the program, wherever the lists of its options' words lie
+-- the command of the program, wherever the lists of its options' words are in memory
 abbrev pub IsZonewire : App → Type 0
 IsZonewire a = (spellings : Choices) × (layouts : Choices) × IsSpellings spellings × IsLayouts layouts
     × (a ≡ zonewire spellings layouts)

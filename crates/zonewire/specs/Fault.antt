@@ -1,4 +1,4 @@
--- The program's fault for each error of a layer below: want of memory is one fault, whatever it was wanted for.
+-- The program's fault for each error of a layer below. One fault, `OutOfMemory`, covers every allocation.
 use Rattle.zone_rules.specs.declared.zone_error.ZoneError.{ZoneError}
 use Rattle.zone_rules.specs.declared.zone_error.ZoneError.TheVariants as zone_error
 use Rattle.zone_send.specs.declared.sending.error.SendError.{SendError}

@@ -1,4 +1,4 @@
--- What a job makes of its input.
+-- The output of a job for its input.
 use Rattle.std.specs.Prelude.{◌≡◌, ℕ, List, [], ◌∷◌, ◌++◌, length, false, Option, Some, unwrap_or, codes, decimal, ⊤}
 use Rattle.dns_text.specs.Layout.{layout_of}
 use Rattle.dns_text.specs.declared.layout.DisplayKind.{DisplayKind}
@@ -23,13 +23,13 @@ use Rattle.zonewire.specs.declared.jobs.Job.TheVariants as job
 use Rattle.zonewire.specs.declared.fault.Fault.{Fault}
 use Rattle.zonewire.specs.declared.fault.Fault.TheVariants as fault
 
--- the query of a job: it asks for the name that the job gives, or else for the zone's, and all its flags are clear
+-- the query of a job: it asks for the name that the job gives, or otherwise for the zone's, and all its flags are clear
 abbrev pub query_of : ℕ → ℕ → Option (List (List ℕ)) → List Record → AxfrQuery
 query_of id class apex records =
     record { id = id; recursion = false; name = unwrap_or apex (apex_of records); class = class }
 
--- The input is a zone's text, the job's query asks for that zone, and the output is what is sent for it. `query` is what is
--- read from the octets of the job's query.
+-- The input is a zone's text, the job's query asks for that zone, and the output is what is sent for it. `query` is
+-- what the octets of the job's query are read as.
 pub record IsSendOutput (origin : Option (List (List ℕ))) (class id : ℕ) (apex : Option (List (List ℕ))) (max : ℕ)
     (spelling : Spelling) (input output : List ℕ) : Type 0 where
   pub records : List Record
@@ -39,15 +39,15 @@ pub record IsSendOutput (origin : Option (List (List ℕ))) (class id : ℕ) (ap
   pub asks : AsksFor query (apex_of records) class
   pub sent : IsSentBy spelling records query max output
 
--- The input is a zone's text, and for the job's query nothing is sent.
+-- The input is a zone's text, and nothing is sent for the job's query.
 pub record IsNotSent (origin : Option (List (List ℕ))) (class id : ℕ) (apex : Option (List (List ℕ))) (max : ℕ) (spelling : Spelling)
     (input : List ℕ) (error : SendError) : Type 0 where
   pub records : List Record
   pub text : IsZoneText input origin class records
   pub refused : IsSendFault spelling records (apex_of records) class (query_octets (query_of id class apex records)) max error
 
--- Why no zone is read from the input: the first rule that the text breaks. A failed read or write is no fault of a job, and out of
--- memory is always the one fault `OutOfMemory`.
+-- Why no zone is read from the input: the first rule that the text breaks. A failed read or write is no fault of a job,
+-- and `OutOfMemory` covers every allocation.
 abbrev pub IsTextJobFault : Option (List (List ℕ)) → ℕ → List ℕ → Fault → Type 0
 IsTextJobFault origin class input (fault.Zone zone_error.OutOfMemory) = ⊥
 IsTextJobFault origin class input (fault.Zone error) = IsZoneFault input origin class error
@@ -57,17 +57,17 @@ IsTextJobFault origin class input (fault.Receive error) = ⊥
 IsTextJobFault origin class input fault.Read = ⊥
 IsTextJobFault origin class input fault.Write = ⊥
 
--- Why nothing is sent: no zone is read from the input, or for the job's query nothing is sent.
+-- Why nothing is sent: no zone is read from the input, or nothing is sent for the job's query.
 abbrev pub IsSendJobFault : Option (List (List ℕ)) → ℕ → ℕ → Option (List (List ℕ)) → ℕ → Spelling → List ℕ → Fault → Type 0
 IsSendJobFault origin class id apex max spelling input (fault.Send send_error.OutOfMemory) = ⊥
 IsSendJobFault origin class id apex max spelling input (fault.Send error) = IsNotSent origin class id apex max spelling input error
 IsSendJobFault origin class id apex max spelling input error = IsTextJobFault origin class input error
 
--- the line that says how many records there are
+-- the line with the number of records
 abbrev pub count_line : List Record → List ℕ
 count_line records = decimal (length records) ++ codes " records" ++ 10 ∷ []
 
--- The input is a zone's text, and the output says how many records the zone has.
+-- The input is a zone's text, and the output is the number of the zone's records.
 pub record IsCheckOutput (origin : Option (List (List ℕ))) (class : ℕ) (input output : List ℕ) : Type 0 where
   pub records : List Record
   pub text : IsZoneText input origin class records
@@ -79,8 +79,8 @@ pub record IsCanonOutput (origin : Option (List (List ℕ))) (class : ℕ) (inpu
   pub text : IsZoneText input origin class records
   pub canonical : IsCanonical records output
 
--- The octets are read as the query, and the input begins with a transfer of these records for it. Whatever follows is
--- ignored.
+-- The octets are read as a query, and the input begins with a transfer of these records that answers it. Whatever
+-- follows is ignored.
 pub record IsReceived (asking input : List ℕ) (records : List Record) : Type 0 where
   pub query : AxfrQuery
   pub asked : IsQuery asking query
@@ -89,24 +89,25 @@ pub record IsReceived (asking input : List ℕ) (records : List Record) : Type 0
   pub begins : input ≡ stream ++ behind
   pub transfer : IsTransfer query stream records
 
--- The octets are no query; or for the query that they are the input is only begun, or breaks this rule first.
+-- The octets are no query; or the input, as an answer to the query, is only begun, or breaks this rule first.
 abbrev pub IsNotReceived : List ℕ → List ℕ → ReceiveError → Type 0
 IsNotReceived asking input (receive_error.Query fault) = IsAskFault asking (receive_error.Query fault)
 IsNotReceived asking input receive_error.Unfinished = (query : AxfrQuery) × IsQuery asking query × IsBegun query input
 IsNotReceived asking input receive_error.OutOfMemory = ⊤
 IsNotReceived asking input error = (query : AxfrQuery) × IsQuery asking query × IsStreamFault query input error
 
--- the octets of a job's query for the zone of this name; no records are needed for it
+-- the octets of a job's query for the zone of this name, which depends on no records
 abbrev pub asking_for : ℕ → ℕ → List (List ℕ) → List ℕ
 asking_for class id apex = query_octets (query_of id class (Some apex) [])
 
--- The input begins with a transfer for the job's query, and the output is the text of the records that it transfers.
+-- The input begins with a transfer that answers the job's query, and the output is the text of the records that it
+-- transfers.
 pub record IsReceiveOutput (class id : ℕ) (apex : List (List ℕ)) (layout : DisplayKind) (input output : List ℕ) : Type 0 where
   pub records : List Record
   pub received : IsReceived (asking_for class id apex) input records
   pub text : IsPrinted (layout_of layout) records output
 
--- why nothing is made of the input, as for a job that sends
+-- why the input has no output, as for a job that sends
 abbrev pub IsReceiveJobFault : ℕ → ℕ → List (List ℕ) → List ℕ → Fault → Type 0
 IsReceiveJobFault class id apex input (fault.Receive receive_error.OutOfMemory) = ⊥
 IsReceiveJobFault class id apex input (fault.Receive error) = IsNotReceived (asking_for class id apex) input error
@@ -116,7 +117,7 @@ IsReceiveJobFault class id apex input (fault.Send error) = ⊥
 IsReceiveJobFault class id apex input fault.Read = ⊥
 IsReceiveJobFault class id apex input fault.Write = ⊥
 
--- what a job makes of its input
+-- the output of a job for its input
 abbrev pub IsOutput : Job → List ℕ → List ℕ → Type 0
 IsOutput (job.Send origin class id apex max spelling) input output = IsSendOutput origin class id apex max spelling input output
 IsOutput (job.Receive class id apex layout) input output = IsReceiveOutput class id apex layout input output

@@ -1,4 +1,4 @@
--- How the program ends: its words name no job, or a run of the job that they name ends so.
+-- How the program ends: its words name no job, or it ends as a run of the job that they name does.
 use Rattle.std.specs.Prelude.{ℕ, List, Ok, Result, ⊤}
 use Rattle.std.specs.Borrow.{Bor}
 use Rattle.clap.specs.Walk.{Text, texts}
@@ -29,7 +29,7 @@ IfFailed ending.Done Holds = ⊤
 IfFailed (ending.Failed error) Holds = Holds error
 IfFailed (ending.Refused error) Holds = ⊤
 
--- a fact of the fault if the words were refused
+-- a fact of the fault if the words name no job
 abbrev pub IfRefused : Ending → (WordsFault → Type 0) → Type 0
 IfRefused ending.Done Holds = ⊤
 IfRefused (ending.Failed error) Holds = ⊤
@@ -39,6 +39,6 @@ IfRefused (ending.Refused error) Holds = Holds error
 abbrev pub AreRead : List (Bor Text) → Result Job WordsFault → Type 0
 AreRead words named = (a : App) × IsZonewire a × Reads a (texts words) named
 
--- the words name a job of which this holds
+-- the words name a job for which this holds
 abbrev pub NameJob : List (Bor Text) → (Job → Type 0) → Type 0
 NameJob words Holds = (job : Job) × AreRead words (Ok job) × Holds job

@@ -1,4 +1,4 @@
--- The job that the words of a command line name, and why words are refused.
+-- The job that the words of a command line name, and why words name none.
 use Rattle.std.specs.Prelude.{◌≡◌, ◌⊎◌, ℕ, List, [], ◌∷◌, true, Some, None, Result, MatchResult, codes}
 use Rattle.std.specs.Prelude.{⊤, IfSome, Option, pos, if◌then◌else◌}
 use Rattle.std.specs.List.{AllByRecursion}
@@ -24,15 +24,15 @@ use Rattle.zonewire.specs.declared.jobs.Job.TheVariants.{Send, Receive, Check, C
 use Rattle.zonewire.specs.declared.command_line.WordsFault.{WordsFault}
 use Rattle.zonewire.specs.declared.command_line.WordsFault.TheVariants.{Line, BadName, BadClass, OutOfMemory}
 
--- the number of decimal digits, perhaps behind a plus sign
+-- the number of decimal digits, perhaps after a plus sign
 abbrev pub number : Text → ℕ
 number text = digits_value 10 (without_leading_plus text)
 
--- the number that the matches have for an option, or the default where the option is left out
+-- the number that the matches have for an option, or the default if the option is left out
 abbrev pub number_or : ℕ → Text → List Row → ℕ
 number_or default option rows = option_map_or number (one_of option rows) default
 
--- where the option is given, its value was taken for a number from 0 to 65535
+-- if the option is given, its value was accepted as a number from 0 to 65535
 abbrev pub HasNumber : Text → List Row → Type 0
 HasNumber option rows = IfSome (one_of option rows) (λ text. (value : Text)
     × (text ≡ without_minus value)
@@ -42,8 +42,8 @@ HasNumber option rows = IfSome (one_of option rows) (λ text. (value : Text)
 abbrev pub internet : ℕ
 internet = 1
 
--- The class that the matches have, which is IN where the option is left out: a mnemonic in any case, or `CLASS` and a
--- number (RFC 3597 5). None where the text is no class's.
+-- The class that the matches have, or IN if the option is left out: a mnemonic, up to ASCII case, or `CLASS` and a
+-- number (RFC 3597 5). None if the text is not a class.
 abbrev pub class_in : List Row → Option ℕ
 class_in rows = option_map_or class_read (first_of (codes "class") rows) (Some internet)
 
@@ -51,11 +51,11 @@ class_in rows = option_map_or class_read (first_of (codes "class") rows) (Some i
 abbrev pub HasText : Text → List Row → Text → Type 0
 HasText option rows text = first_of option rows ≡ Some text
 
--- the option's text spells the name, its last dot there or not
+-- the option's text spells the name, with or without its last dot
 abbrev pub HasName : Text → List Row → List (List ℕ) → Type 0
 HasName option rows name = (text : Text) × HasText option rows text × IsNameText text name
 
--- the name that the option gives, and none where it is left out
+-- the name that the option gives, or none if it is left out
 abbrev pub IsNameIn : Text → List Row → Option (List (List ℕ)) → Type 0
 IsNameIn option rows None = first_of option rows ≡ None
 IsNameIn option rows (Some name) = HasName option rows name
@@ -76,7 +76,7 @@ abbrev pub layout_named : Text → DisplayKind
 layout_named text = if bytes_eq text (codes "tabbed") then Tabbed
     else (if bytes_eq text (codes "multiline") then Multiline else Simple)
 
--- the layout that the matches have, which is the simple one where the option is left out
+-- the layout that the matches have, or the simple one if the option is left out
 abbrev pub layout_in : List Row → DisplayKind
 layout_in rows = option_map_or layout_named (first_of (codes "layout") rows) Simple
 
@@ -86,7 +86,7 @@ spelling_named text = if bytes_eq text (codes "plain") then Plain
     else (if bytes_eq text (codes "static") then Static
     else (if bytes_eq text (codes "hash") then Hash else Tree))
 
--- the spelling that the matches have, which is that of a tree where the option is left out
+-- the spelling that the matches have, or that of a tree if the option is left out
 abbrev pub spelling_in : List Row → Spelling
 spelling_in rows = option_map_or spelling_named (first_of (codes "spelling") rows) Tree
 
@@ -119,8 +119,8 @@ HasBadName (option ∷ options) rows = HasNoName option rows ⊎ HasBadName opti
 abbrev pub HasNames : List Text → List Row → Type 0
 HasNames options rows = AllByRecursion (λ option. (name : Option (List (List ℕ))) × IsNameIn option rows name) options
 
--- Why matches in which these options are names name no job: out of memory, or of the values that are any text to the command
--- one is wrong. The names are read before the class.
+-- Why matches with these name options name no job: out of memory, or a value that the command accepts as any text is
+-- wrong. The names are read before the class.
 abbrev pub IsFaultOf : List Text → List Row → WordsFault → Type 0
 IsFaultOf options rows (Line e) = ⊥
 IsFaultOf options rows BadName = HasBadName options rows
@@ -131,17 +131,18 @@ IsFaultOf options rows OutOfMemory = ⊤
 abbrev pub IsValueFault : Text × List Row → WordsFault → Type 0
 IsValueFault (name, rows) fault = IsFaultOf (name_options name) rows fault
 
--- the command takes the words: no kind of error may come; and this holds of the subcommand that they name and its matches
+-- the command accepts the words, no kind of error may come, and this holds of the subcommand that they name and its
+-- matches
 abbrev pub TakesAs : App → List Text → (Text × List Row → Type 0) → Type 0
 TakesAs a words Holds = (fault_of a words ≡ [])
     × ((met : Text × List Row) × (subcommand_of a words ≡ Some met) × Holds met)
 
--- the command takes the words, and the subcommand that they name is the job
+-- the command accepts the words, and the subcommand that they name is the job
 abbrev pub IsNamedJob : App → List Text → Job → Type 0
 IsNamedJob a words job = TakesAs a words (λ met. IsJobOf met job)
 
--- memory was wanting; or the command refuses the words, by its own rule; or it takes them, and a value of the subcommand that
--- they name is wrong
+-- out of memory; or the command rejects the words, by its own rule; or it accepts them, and a value of the subcommand
+-- that they name is wrong
 abbrev pub IsRefusal : App → List Text → WordsFault → Type 0
 IsRefusal a words (Line e) = HasKind (fault_of a words) e
     × (takes a words ≡ true → kind_of e ≡ kind.OutOfMemory)

@@ -18,16 +18,16 @@ use zone_send::Spelling;
 /// Why a command line names no job.
 #[derive(Debug, Drop, Error)]
 pub enum WordsFault {
-    /// It is no command line of the program, or asks for help.
+    /// The words are not a command line of the program, or ask for help.
     #[error("{0}")]
     Line(clap::Error),
-    /// The value of an option is no name.
+    /// The value of an option is not a name.
     #[error("bad name")]
     BadName,
-    /// The value of an option is no class.
+    /// The value of an option is not a class.
     #[error("bad class")]
     BadClass,
-    /// Memory was wanting.
+    /// Out of memory. One variant covers every allocation.
     #[error("out of memory")]
     OutOfMemory,
 }
@@ -65,22 +65,22 @@ static SPELLINGS: &[&str] = &["plain", "static", "tree", "hash"];
 /// The values of `--layout`.
 static LAYOUTS: &[&str] = &["simple", "tabbed", "multiline"];
 
-/// The job that the words of a command line name. The first word is the program's name.
+/// Returns the job that the words of a command line name. The first word is the program's name.
 ///
-/// The words are read by one command of `clap`, with these subcommands:
+/// One command of `clap` parses the words, with these subcommands:
 ///
-/// - `send` with `--origin`, a name; `--class`, which is IN where it is left out; `--id` and `--max`, numbers from 0 to 65535
-///   which are 0 and 65535 where they are left out; `--apex`, a name; and `--spelling`, which is `tree` where it is left out,
-///   `plain`, `static` or `hash`;
-/// - `receive` with `--apex`, a name; `--id` and `--class`, as for `send`; and `--layout`, which is `simple` where it is left out,
+/// - `send` with `--origin`, a name; `--class`, by default IN; `--id` and `--max`, numbers from 0 to 65535, by default
+///   0 and 65535; `--apex`, a name; and `--spelling`: `tree`, the default, `plain`, `static` or `hash`;
+/// - `receive` with `--apex`, a name; `--id` and `--class`, as for `send`; and `--layout`: `simple`, the default,
 ///   `tabbed` or `multiline`;
 /// - `check` and `canon` with `--origin` and `--class`, as for `send`.
 ///
-/// `receive` has to have its `--apex`. A name may stand without its last dot.
+/// `receive` requires its `--apex`. The last dot of a name may be left out.
 ///
-/// `Line` is `clap`'s error of words that the command doesn't take, a call for help too. Of words that it takes, `BadName`
-/// comes where the origin or the apex is no name, and `BadClass` where they are names and the class is none (RFC 3597 5).
-/// `OutOfMemory`, or a `Line` of that kind, comes where memory was wanting.
+/// Fails with `Line`, an error of `clap`, if the command rejects the words; a call for help is such an error too. If it
+/// accepts them, fails with `BadName` if the origin or the apex is not a name, and with `BadClass` if they are names
+/// and the class is not a class (RFC 3597 5). Fails with `OutOfMemory`, or a `Line` of that kind, only if out of
+/// memory.
 pub fn job(alloc: Global, words: &[&str]) -> Result<Job, WordsFault>
     ensures { (a : App) × IsZonewire a × Reads a (map (λ word. word.now) words.now) result }
 {
@@ -98,7 +98,7 @@ pub fn job(alloc: Global, words: &[&str]) -> Result<Job, WordsFault>
     }
 }
 
-/// The job of `send` with these options.
+/// Returns the job of `send` with these options. Fails with `BadName`, `BadClass` or `OutOfMemory`, as `job` does.
 fn send_job(alloc: Global, options: &ArgMatches<'_>) -> Result<Job, WordsFault>
     requires id { HasNumber (codes "id") (rows_of (found_of options.now)) }
     requires max { HasNumber (codes "max") (rows_of (found_of options.now)) }
@@ -120,7 +120,7 @@ fn send_job(alloc: Global, options: &ArgMatches<'_>) -> Result<Job, WordsFault>
     })
 }
 
-/// The job of `receive` with these options.
+/// Returns the job of `receive` with these options. Fails with `BadName`, `BadClass` or `OutOfMemory`, as `job` does.
 fn receive_job(alloc: Global, options: &ArgMatches<'_>) -> Result<Job, WordsFault>
     requires id { HasNumber (codes "id") (rows_of (found_of options.now)) }
     requires apex { is_some (first_of (codes "apex") (rows_of (found_of options.now))) ≡ true }
@@ -144,7 +144,7 @@ fn receive_job(alloc: Global, options: &ArgMatches<'_>) -> Result<Job, WordsFaul
     })
 }
 
-/// The job of `check` with these options.
+/// Returns the job of `check` with these options. Fails with `BadName`, `BadClass` or `OutOfMemory`, as `job` does.
 fn check_job(alloc: Global, options: &ArgMatches<'_>) -> Result<Job, WordsFault>
     ensures { MatchResult result (IsJobOf (codes "check", rows_of (found_of options.now)))
         (IsValueFault (codes "check", rows_of (found_of options.now))) }
@@ -153,7 +153,7 @@ fn check_job(alloc: Global, options: &ArgMatches<'_>) -> Result<Job, WordsFault>
     Ok(Job::Check { origin, class })
 }
 
-/// The job of `canon` with these options.
+/// Returns the job of `canon` with these options. Fails with `BadName`, `BadClass` or `OutOfMemory`, as `job` does.
 fn canon_job(alloc: Global, options: &ArgMatches<'_>) -> Result<Job, WordsFault>
     ensures { MatchResult result (IsJobOf (codes "canon", rows_of (found_of options.now)))
         (IsValueFault (codes "canon", rows_of (found_of options.now))) }
@@ -162,7 +162,8 @@ fn canon_job(alloc: Global, options: &ArgMatches<'_>) -> Result<Job, WordsFault>
     Ok(Job::Canon { origin, class })
 }
 
-/// The origin and the class that the options give for a zone's text.
+/// Returns the origin and the class that the options give for a zone's text. Fails with `BadName` if the origin is not
+/// a name, with `BadClass` if the class is not a class, or if out of memory.
 fn text_options(
     alloc: Global,
     options: &ArgMatches<'_>,
@@ -178,7 +179,8 @@ fn text_options(
     Ok((origin, class))
 }
 
-/// The name that an option gives, if it is given.
+/// Returns the name that an option gives, or None if the option is left out. Fails with `BadName` if its text is not a
+/// name, or if out of memory.
 fn name_or_none(
     alloc: Global,
     options: &ArgMatches<'_>,
@@ -194,7 +196,7 @@ fn name_or_none(
     Ok(Some(name))
 }
 
-/// The layout that the options give, or the simple one where it is left out.
+/// Returns the layout that the options give, or the simple one if the option is left out.
 fn layout(options: &ArgMatches<'_>) -> DisplayKind
     ensures { result ≡ layout_in (rows_of (found_of options.now)) }
 {
@@ -204,7 +206,7 @@ fn layout(options: &ArgMatches<'_>) -> DisplayKind
     }
 }
 
-/// The layout of a word.
+/// Returns the layout of a word.
 fn layout_named(word: &str) -> DisplayKind
     ensures { result ≡ layout_named word.now }
 {
@@ -215,7 +217,7 @@ fn layout_named(word: &str) -> DisplayKind
     }
 }
 
-/// The spelling that the options give, or that of a tree where it is left out.
+/// Returns the spelling that the options give, or that of a tree if the option is left out.
 fn spelling(options: &ArgMatches<'_>) -> Spelling
     ensures { result ≡ spelling_in (rows_of (found_of options.now)) }
 {
@@ -225,7 +227,7 @@ fn spelling(options: &ArgMatches<'_>) -> Spelling
     }
 }
 
-/// The spelling of a word.
+/// Returns the spelling of a word.
 fn spelling_named(word: &str) -> Spelling
     ensures { result ≡ spelling_named word.now }
 {
@@ -237,7 +239,7 @@ fn spelling_named(word: &str) -> Spelling
     }
 }
 
-/// The class that the options give, or IN where it is left out.
+/// Returns the class that the options give, or IN if the option is left out. Returns None if the text is not a class.
 fn class(options: &ArgMatches<'_>) -> Option<Class>
     ensures { result ≡ class_in (rows_of (found_of options.now)) }
 {
@@ -247,7 +249,7 @@ fn class(options: &ArgMatches<'_>) -> Option<Class>
     }
 }
 
-/// The number of an option, or the default where it is left out.
+/// Returns the number of an option, or the default if the option is left out.
 fn number_or(options: &ArgMatches<'_>, name: &str, default: u16) -> u16
     requires { HasNumber name.now (rows_of (found_of options.now)) }
     ensures { result ≡ number_or default name.now (rows_of (found_of options.now)) }
@@ -289,7 +291,7 @@ fn send_command<'a>(alloc: Global) -> Result<Command<'a>, AllocError>
     Ok(send)
 }
 
-/// The subcommand of this name that reads zone text and has no further options.
+/// Returns the subcommand of this name, which reads zone text and has no further options. Fails if out of memory.
 fn text_command<'a>(alloc: Global, name: &'a str, about: &'a str) -> Result<Command<'a>, AllocError>
     ensures { IfOk result (λ c. (app_of c ≡ text_app name.entry.now) × ((fields_of c).has_globals ≡ false)) }
 {
@@ -298,7 +300,7 @@ fn text_command<'a>(alloc: Global, name: &'a str, about: &'a str) -> Result<Comm
     Ok(text)
 }
 
-/// Adds the options that say how zone text is read.
+/// Adds the options for reading zone text. Fails if out of memory.
 fn with_text_options<'a>(alloc: Global, command: Command<'a>) -> Result<Command<'a>, AllocError>
     requires { (fields_of command).has_globals ≡ false }
     ensures { IfOk result (λ c. (app_of c ≡ with_text_options (app_of command.entry)) × ((fields_of c).has_globals ≡ false)) }

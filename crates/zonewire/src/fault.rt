@@ -11,25 +11,25 @@ use zone_receive::ReceiveError;
 use zone_rules::ZoneError;
 use zone_send::SendError;
 
-/// Why a run failed. What memory was wanting for is not told apart.
+/// Why a run failed. One variant, `OutOfMemory`, covers every allocation.
 #[derive(Clone, Copy, Debug, PartialEq, Eq, Error)]
 pub enum Fault {
-    /// A read of the input was refused.
+    /// A read of the input failed.
     #[error("read failed")]
     Read,
-    /// A write of the output was refused.
+    /// A write of the output failed.
     #[error("write failed")]
     Write,
-    /// The input is no zone's text.
+    /// The input is not the text of a zone.
     #[error("{0}")]
     Zone(ZoneError),
     /// The zone is not sent.
     #[error("{0}")]
     Send(SendError),
-    /// The input is no zone's transfer.
+    /// The input is not the transfer of a zone.
     #[error("{0}")]
     Receive(ReceiveError),
-    /// A growth was refused.
+    /// Out of memory.
     #[error("out of memory")]
     OutOfMemory,
 }

@@ -1,4 +1,4 @@
-//! What holds of the definitions that the contracts of zones and their transfers stand on. A law is a function with an empty body,
+//! Laws of the definitions that the contracts of zones and their transfers use. A law is a function with an empty body
 //! whose contract is the law.
 
 pub use zone_canonical::laws::{

@@ -1,7 +1,7 @@
 //! What the program `zonewire` does: its command line, its input and its output.
 //!
-//! The face of the topmost layer. Its parts are `zone_text` (zones and their text), `zone_core` (queries), `zone_send` and
-//! `zone_receive` (the stream of a transfer), and it hands on what they are for.
+//! This crate re-exports what the crates below it are for: `zone_text` (zones and their text), `zone_core` (queries),
+//! `zone_send` and `zone_receive` (the stream of a transfer).
 #![tactic(auto)]
 
 mod command_line;

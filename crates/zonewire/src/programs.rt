@@ -16,7 +16,7 @@ use std::alloc::Global;
 /// How the program ends.
 #[derive(Debug, Drop)]
 pub enum Ending {
-    /// The job was done: its whole output was written.
+    /// The job was done, and its whole output was written.
     Done,
     /// The job failed.
     Failed(Fault),
@@ -39,20 +39,20 @@ impl Ending {
 
 /// Runs the job that the words of a command line name, as `run` does. The first word is the program's name.
 ///
-/// Ends with `Refused` if `job` refuses the words, and then nothing is read or written, and with `Failed` if `run` fails.
+/// Returns `Refused` if `job` fails on the words, and then reads and writes nothing. Returns `Failed` if `run` fails.
 pub fn program<R: Source, W: Sink>(
     alloc: Global,
     words: &[&str],
     source: &mut R,
     sink: &mut W,
 ) -> Ending
-    // `Done`: the words name a job, and what is written is what it makes of all that was read.
+    // `Done`: the words name a job, and its output for all the input was written.
     ensures done { OnDone result (NameJob words.now (λ job. IfSome (R.remaining source.old) (λ input.
         (output : List ℕ) × IsOutput job input output × Appends (W.written sink.old) (W.written sink.new) output))) }
     ensures ended { OnDone result (IsAtEnd (R.remaining source.new)) }
 
-    // `Failed`: the words name a job. The fault is the job's own, of all that was read, unless a read or a write fails. Nothing is
-    // written unless a write fails, and then a beginning of the output.
+    // `Failed`: the words name a job. Unless a read or a write fails, the fault is the job's own for all the input.
+    // Nothing is written unless a write fails, and then a front of the output.
     ensures faults { IfFailed result (λ error. NameJob words.now (λ job. error ≢ fault.Read → error ≢ fault.Write →
         IfSome (R.remaining source.old) (λ input. IsJobFault job input error))) }
     ensures drained { IfFailed result (λ error. error ≢ fault.Read → error ≢ fault.OutOfMemory → IsAtEnd (R.remaining source.new)) }
@@ -64,7 +64,7 @@ pub fn program<R: Source, W: Sink>(
     ensures refused { IfRefused result (λ error. AreRead words.now (Err error)) }
     ensures untouched { IfRefused result (λ _. (source.new ≡ source.old) × (sink.new ≡ sink.old)) }
 
-    // `Read` comes exactly where the source failed, and `Write` exactly where the sink did.
+    // `Read` exactly if the source fails, and `Write` exactly if the sink fails, provided it had not failed before.
     ensures read { R.failed source.old ≡ false → ((result ≡ Ending.Failed fault.Read) ↔ IsTrue (R.failed source.new)) }
     ensures write { W.failed sink.old ≡ false → ((result ≡ Ending.Failed fault.Write) ↔ IsTrue (W.failed sink.new)) }
 {

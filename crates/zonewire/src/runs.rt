@@ -21,18 +21,18 @@ use zone_rules::ZoneError;
 use zone_send::{Spelling, send};
 use zone_text::Zone;
 
-/// Reads all the input, and writes what the job makes of it.
+/// Reads all the input, and writes the output of the job for it.
 ///
-/// Fails with `Read` if a read fails, with `Write` if a write fails, and else with the job's own fault. Nothing is written
-/// before the whole output is there: after any fault but `Write` the sink is as it was, and after `Write` it holds a
-/// beginning of the output.
+/// Fails with `Read` if a read fails, with `Write` if a write fails, and otherwise with the job's own fault. Nothing is
+/// written before the whole output is there: after any fault but `Write` the sink is as it was, and after `Write` it
+/// holds a front of the output.
 pub fn run<R: Source, W: Sink>(
     alloc: Global,
     source: &mut R,
     sink: &mut W,
     job: Job,
 ) -> Result<(), Fault>
-    // What is written is what the job makes of all that was read.
+    // The octets written are the output of the job for all the input.
     ensures written { OnOk result (IfSome (R.remaining source.old) (λ input.
         (output : List ℕ) × IsOutput job input output × Appends (W.written sink.old) (W.written sink.new) output)) }
 
@@ -40,12 +40,13 @@ pub fn run<R: Source, W: Sink>(
     ensures ended { OnOk result (IsAtEnd (R.remaining source.new)) }
     ensures drained { IfErr result (λ error. error ≢ fault.Read → error ≢ fault.OutOfMemory → IsAtEnd (R.remaining source.new)) }
 
-    // A fault of the job is the one of all that was read, and nothing is written unless a write fails.
+    // A fault of the job is its fault for all the input, and nothing is written unless a write fails.
     ensures faults { IfErr result (λ error. error ≢ fault.Read → error ≢ fault.Write →
         IfSome (R.remaining source.old) (λ input. IsJobFault job input error)) }
     ensures silent { IfErr result (λ error. error ≢ fault.Write → sink.new ≡ sink.old) }
 
-    // `Read` comes exactly where the source failed, and `Write` exactly where the sink did, after a beginning of the output.
+    // `Read` exactly if the source fails, and `Write` exactly if the sink fails, provided it had not failed before.
+    // After `Write` a front of the output is written.
     ensures read { R.failed source.old ≡ false → (IsErrOf result fault.Read ↔ IsTrue (R.failed source.new)) }
     ensures write { W.failed sink.old ≡ false → (IsErrOf result fault.Write ↔ IsTrue (W.failed sink.new)) }
     ensures part { IfErr result (λ error. error ≡ fault.Write → IfSome (R.remaining source.old) (λ input.
@@ -57,7 +58,8 @@ pub fn run<R: Source, W: Sink>(
     Ok(())
 }
 
-/// Returns what the job makes of the input. A zone may be large, so the input is dropped once it is read.
+/// Returns the output of the job for the input, or fails with its fault. A zone may be large, so the input is dropped
+/// once it is read.
 fn output(alloc: Global, input: Vec<u8>, job: &Job) -> Result<Vec<u8>, Fault>
     ensures ok { IfOk result (λ output. IsOutput job.now input.items output.items) }
     ensures err { IfErr result (IsJobFault job.now input.items) }
@@ -93,7 +95,7 @@ fn output(alloc: Global, input: Vec<u8>, job: &Job) -> Result<Vec<u8>, Fault>
     }
 }
 
-/// Returns the line that says how many records a zone has.
+/// Returns the line with the number of a zone's records. Fails if out of memory.
 fn count_line(alloc: Global, count: usize) -> Result<Vec<u8>, AllocError>
     ensures { IfOk result (λ line. (records : List Record) → count ≡ length records → line.items ≡ count_line records) }
 {
@@ -101,7 +103,7 @@ fn count_line(alloc: Global, count: usize) -> Result<Vec<u8>, AllocError>
     Ok(line.into_bytes())
 }
 
-/// Returns the stream of the zone for the job's query.
+/// Returns the stream of the zone for the job's query. Fails if nothing is sent for it, or if out of memory.
 fn send_zone(
     alloc: Global,
     zone: &Zone,
@@ -124,7 +126,8 @@ fn send_zone(
     }
 }
 
-/// Reads the zone of the text, with the job's origin.
+/// Parses the zone of the text, with the job's origin and class. Fails with the first rule that the text breaks, or if
+/// out of memory.
 fn read_zone(
     alloc: Global,
     input: Vec<u8>,
@@ -144,7 +147,8 @@ fn read_zone(
     }
 }
 
-/// Counts the records of the zone of the text, with the job's origin. Not all of them are kept in memory.
+/// Counts the records of the zone of the text, with the job's origin and class. Not all of them are kept in memory.
+/// Fails with the first rule that the text breaks, or if out of memory.
 fn count_zone(
     alloc: Global,
     input: Vec<u8>,
@@ -163,7 +167,8 @@ fn count_zone(
     }
 }
 
-/// Returns the text of the zone whose transfer the input begins with, for the job's query.
+/// Returns the text of the zone whose transfer the input begins with, for the job's query. Fails if it begins with no
+/// such transfer, or if out of memory.
 fn receive_text(
     alloc: Global,
     input: Vec<u8>,
@@ -182,7 +187,8 @@ fn receive_text(
     Ok(text)
 }
 
-/// Reads the zone whose transfer the input begins with, for the query.
+/// Receives the zone whose transfer the input begins with, for the query. Fails if it begins with no such transfer, or
+/// if out of memory.
 fn receive_zone(alloc: Global, input: &[u8], query: &[u8]) -> Result<Zone, ReceiveError>
     ensures ok { IfOk result (λ zone. IsReceived query.now input.now zone.records) }
     ensures err { IfErr result (IsNotReceived query.now input.now) }
@@ -192,7 +198,8 @@ fn receive_zone(alloc: Global, input: &[u8], query: &[u8]) -> Result<Zone, Recei
     receiver.into_zone()
 }
 
-/// Returns the query for the zone's transfer, by the job's name or else by the zone's own.
+/// Returns the query for the zone's transfer, by the job's name, or by the zone's own if the job gives none. Fails if
+/// out of memory.
 fn zone_query(
     alloc: Global,
     id: u16,

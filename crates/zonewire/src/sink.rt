@@ -1,4 +1,4 @@
-//! Where the program's output goes.
+//! Sinks for the program's output.
 ghost use Rattle.std.specs.Prelude.{◌≡◌, ◌<◌, ◌≤◌, ℕ, Bool, List, Option, false, true, length, IfOk, OnOk, OnErr};
 ghost use Rattle.std.specs.Io.KnownBytes.{Appends, WriteAppends};
 ghost use Rattle.zonewire.specs.Stream.{AppendsBeginning, MarksFailure};
@@ -6,22 +6,22 @@ ghost use Rattle.zonewire.specs.Stream.{AppendsBeginning, MarksFailure};
 use std::io::Write;
 use thiserror::Error;
 
-/// A write was refused.
+/// A write failed.
 #[derive(Clone, Copy, Debug, PartialEq, Eq, Error)]
 #[error("write failed")]
 pub struct SinkError;
 
-/// What octets are written to.
+/// Octets are written to a sink.
 ///
-/// `written` is the octets that it took, where the sink knows them. `failed` is false until a write
-/// is refused, and true from then on.
+/// `written` is the octets that it took, if the sink knows them. `failed` is false until a write fails, and true from
+/// then on.
 pub trait Sink {
     ghost written: { Self → Option (List ℕ) };
 
     ghost failed: { Self → Bool };
 
-    /// Takes at least one octet from the front of a piece that is not empty, and answers how many.
-    /// `SinkError` comes where the write was refused; nothing was taken then.
+    /// Takes at least one octet from the front of a piece that is not empty, and returns how many. Fails with
+    /// `SinkError` if the write fails, and then takes nothing.
     fn write_some(&mut self, piece: &[u8]) -> Result<usize, SinkError>
         requires { 0 < length piece.now }
         ensures some { IfOk result (λ n. 0 < n) }
@@ -30,7 +30,7 @@ pub trait Sink {
         ensures marks { MarksFailure (failed self.old) (failed self.new) result };
 }
 
-/// A writer of std as a sink.
+/// A `Write` of `std` as a sink.
 #[derive(Debug, Drop)]
 pub struct StdSink<W: Write> {
     writer: W,
@@ -38,7 +38,7 @@ pub struct StdSink<W: Write> {
 }
 
 impl<W: Write> StdSink<W> {
-    /// A sink over this writer, of which no write has failed.
+    /// Returns a sink over this writer. No write has failed.
     pub fn new(writer: W) -> StdSink<W>
         ensures { result ≡ record { writer = writer; has_failed = false } }
     {
@@ -54,7 +54,7 @@ impl<W: Write> Sink for StdSink<W> {
 
     ghost failed = { λ s. s.has_failed };
 
-    /// An interruption and a write that takes nothing are refused writes too.
+    /// An interruption, and a write that takes nothing, are failed writes too.
     fn write_some(&mut self, piece: &[u8]) -> Result<usize, SinkError> {
         match self.writer.write(piece) {
             Ok(count) if count > 0 => Ok(count),
@@ -66,7 +66,7 @@ impl<W: Write> Sink for StdSink<W> {
     }
 }
 
-/// Writes all the octets. Where a write is refused, a beginning of them is written.
+/// Writes all the octets. If a write fails, a front of them is written.
 pub(crate) fn write_all<S: Sink>(sink: &mut S, octets: &[u8]) -> Result<(), SinkError>
     ensures whole { OnOk result (Appends (S.written sink.old) (S.written sink.new) octets.now) }
     ensures part { OnErr result

@@ -1,4 +1,4 @@
-//! Where the program's input comes from.
+//! Sources of the program's input.
 ghost use Rattle.std.specs.Prelude.{◌≡◌, ◌↔◌, ◌<◌, ◌≤◌, ℕ, Bool, List, Option, false, true, length, vec_len, IfOk, OnOk, IsTrue, IsErrOf};
 ghost use Rattle.std.specs.Io.KnownBytes.{IsAtEnd, ReadConsumes};
 ghost use Rattle.zonewire.specs.Stream.{MarksFailure, WereLeft};
@@ -8,22 +8,22 @@ use std::alloc::{AllocError, Global};
 use std::io::Read;
 use thiserror::Error;
 
-/// A read was refused.
+/// A read failed.
 #[derive(Clone, Copy, Debug, PartialEq, Eq, Error)]
 #[error("read failed")]
 pub struct SourceError;
 
-/// What octets are read from.
+/// Octets are read from a source.
 ///
-/// `remaining` is the octets that are left, where the source knows them. `failed` is false until a
-/// read is refused, and true from then on.
+/// `remaining` is the octets that are left, if the source knows them. `failed` is false until a read fails, and true
+/// from then on.
 pub trait Source {
     ghost remaining: { Self → Option (List ℕ) };
 
     ghost failed: { Self → Bool };
 
-    /// Reads at least one octet into a piece that is not empty, or none at the end, and answers how
-    /// many. `SourceError` comes where the read was refused; no octet is lost then.
+    /// Reads at least one octet into a piece that is not empty, or none at the end, and returns how many. Fails with
+    /// `SourceError` if the read fails, and then loses no octet.
     fn read_some(&mut self, piece: &mut [u8]) -> Result<usize, SourceError>
         requires { 0 < length piece.old }
         ensures within { IfOk result (λ n. n ≤ length piece.new) }
@@ -31,7 +31,7 @@ pub trait Source {
         ensures marks { MarksFailure (failed self.old) (failed self.new) result };
 }
 
-/// A reader of std as a source.
+/// A `Read` of `std` as a source.
 #[derive(Debug, Drop)]
 pub struct StdSource<R: Read> {
     reader: R,
@@ -39,7 +39,7 @@ pub struct StdSource<R: Read> {
 }
 
 impl<R: Read> StdSource<R> {
-    /// A source over this reader, of which no read has failed.
+    /// Returns a source over this reader. No read has failed.
     pub fn new(reader: R) -> StdSource<R>
         ensures { result ≡ record { reader = reader; has_failed = false } }
     {
@@ -55,7 +55,7 @@ impl<R: Read> Source for StdSource<R> {
 
     ghost failed = { λ s. s.has_failed };
 
-    /// An interruption is a refused read too.
+    /// An interruption is a failed read too.
     fn read_some(&mut self, piece: &mut [u8]) -> Result<usize, SourceError> {
         match self.reader.read(piece) {
             Ok(count) => Ok(count),
@@ -67,13 +67,13 @@ impl<R: Read> Source for StdSource<R> {
     }
 }
 
-/// Why `read_all` gave up.
+/// Why `read_all` failed.
 #[derive(Clone, Copy, Debug, PartialEq, Eq, Error)]
 pub(crate) enum ReadAllError {
-    /// A read was refused.
+    /// A read failed.
     #[error("read failed")]
     Read,
-    /// Memory was wanting.
+    /// Out of memory.
     #[error("out of memory")]
     OutOfMemory,
 }
@@ -94,20 +94,19 @@ impl From<AllocError> for ReadAllError {
     }
 }
 
-/// How many octets are asked for at a time.
+/// The number of octets that are asked for at a time.
 const PIECE_LEN: usize = 65536;
 
-/// A piece to read into.
+/// Returns a piece to read into. Fails if out of memory.
 fn new_piece(alloc: Global) -> Result<Vec<u8>, AllocError>
     ensures { IfOk result (λ piece. 0 < vec_len piece) }
 {
     vec![in alloc; 0u8; PIECE_LEN]
 }
 
-/// Reads a source to its end: all the octets that were left.
+/// Reads a source to its end, and returns all the octets that were left.
 ///
-/// `Read` comes where a read was refused, and `OutOfMemory` where a growth was, so that a source
-/// that never ends gives that.
+/// Fails with `Read` if a read fails, and with `OutOfMemory` if out of memory, as for a source that never ends.
 pub(crate) fn read_all<S: Source>(alloc: Global, source: &mut S) -> Result<Vec<u8>, ReadAllError>
     ensures octets { IfOk result (λ v. WereLeft (S.remaining source.old) v.items) }
     ensures ended { OnOk result (IsAtEnd (S.remaining source.new)) }

@@ -1,4 +1,4 @@
-//! A sink in memory of which one write fails.
+//! A sink in memory with one write that may fail.
 ghost use Rattle.std.specs.Prelude.{◌≡◌, ◌<◌, ◌≤◌, Some, [], false, length, IfOk, IsErr};
 ghost use Rattle.std.specs.Io.KnownBytes.{WriteAppends};
 ghost use Rattle.zonewire.specs.Steps.{less_one};
@@ -8,7 +8,7 @@ use crate::sink::{Sink, SinkError};
 use std::alloc::Global;
 use std::marker::Model;
 
-/// A sink in memory. Each call takes one octet; one call may fail, and so does a call that gets no memory.
+/// A sink in memory. Each call takes one octet. One call may fail, and so does a call that runs out of memory.
 #[derive(Debug, Drop)]
 pub struct StepSink {
     written: Vec<u8>,
@@ -25,7 +25,7 @@ impl Model for StepSink {
 }
 
 impl StepSink {
-    /// Returns a sink that took nothing. The call with the number `fails_at` fails, counted from 1.
+    /// Returns a sink that has taken nothing. The call with the number `fails_at`, counted from 1, fails.
     pub fn new(alloc: Global, fails_at: Option<usize>) -> StepSink
         ensures { result ≡ record { octets = []; fails_at = fails_at; failed = false } }
     {
@@ -54,7 +54,7 @@ impl Sink for StepSink {
         ensures octets { WriteAppends (Some self.old.octets) (Some self.new.octets) result piece.now }
         ensures marks { MarksFailure self.old.failed self.new.failed result }
 
-        // One octet is taken. The call with the number fails.
+        // Each call takes one octet. The call with the number fails.
         ensures one { IfOk result (λ n. n ≡ 1) }
         ensures fails { self.old.fails_at ≡ Some 1 → IsErr result }
         ensures counts { self.new.fails_at ≡ less_one self.old.fails_at }

@@ -1,4 +1,4 @@
-//! A source in memory of which one read fails.
+//! A source in memory with one read that may fail.
 ghost use Rattle.std.specs.Prelude.{◌≡◌, ◌<◌, ◌≤◌, ◌↔◌, Some, false, length, IfOk, IsErr};
 ghost use Rattle.std.specs.Io.KnownBytes.{ReadConsumes};
 ghost use Rattle.zonewire.specs.Steps.{less_one};
@@ -7,7 +7,7 @@ ghost use Rattle.zonewire.specs.Stream.{MarksFailure};
 use crate::source::{Source, SourceError};
 use std::marker::Model;
 
-/// A source in memory. Each call reads one octet, or none at the end; one call may fail.
+/// A source in memory. Each call reads one octet, or none at the end. One call may fail.
 #[derive(Debug, Drop)]
 pub struct StepSource<'a> {
     left: &'a [u8],
@@ -24,7 +24,7 @@ impl<'a> Model for StepSource<'a> {
 }
 
 impl<'a> StepSource<'a> {
-    /// Returns a source of these octets. The call with the number `fails_at` fails, counted from 1.
+    /// Returns a source of these octets. The call with the number `fails_at`, counted from 1, fails.
     pub fn new(octets: &'a [u8], fails_at: Option<usize>) -> StepSource<'a>
         ensures { result ≡ record { octets = octets.now; fails_at = fails_at; failed = false } }
     {
@@ -54,7 +54,7 @@ impl<'a> Source for StepSource<'a> {
         ensures octets { ReadConsumes (Some self.old.octets) (Some self.new.octets) result piece.new }
         ensures marks { MarksFailure self.old.failed self.new.failed result }
 
-        // One octet comes at most. The call with the number fails, and no other.
+        // Each call reads at most one octet. The call with the number fails, and no other.
         ensures one { IfOk result (λ n. n ≤ 1) }
         ensures fails { IsErr result ↔ (self.old.fails_at ≡ Some 1) }
         ensures counts { self.new.fails_at ≡ less_one self.old.fails_at }

@@ -1,7 +1,8 @@
-//! Streams whose names are spelled freely: a pointer may go to any place where a suffix of an earlier name of its message
-//! stands, however it was chosen (RFC 1035 4.1.4).
+//! Streams with freely spelled names: a pointer may go to any place of a suffix of an earlier name in its message,
+//! however it was chosen (RFC 1035 4.1.4).
 //!
-//! Nothing here follows a compressor or the receiver. What a message has to say is known, so that it is read by comparing.
+//! Nothing here depends on a compressor or on the receiver. The content of each message is known, so it is read by
+//! comparing.
 ghost use Rattle.std.specs.Prelude.{◌<◌, length, IfSome};
 ghost use Rattle.std.specs.Iterator.{at_most};
 
@@ -9,24 +10,24 @@ use dns_name::{Class, Name, ParseError, Parser, Rtype, ShortInput};
 use std::alloc::{AllocError, AllocFailed, Global};
 use zonewire::ZoneRecord;
 
-/// Why a stream is not one of free messages of the records.
+/// Why a stream is not made of free messages of the records.
 #[derive(Clone, Copy, Debug, PartialEq, Eq)]
 pub enum Flaw {
     /// The stream ends within a message.
     Frame,
     /// A message is longer than the limit.
     Long,
-    /// A header is not one of an answer to the query, with one question and with answers alone.
+    /// The header is not one of an answer to the query, with one question and only answers.
     Header,
-    /// A pointer goes to this place, where no suffix of an earlier name stands, or another suffix.
+    /// A pointer goes to this place, but no suffix of an earlier name is there, or another suffix.
     Pointer(usize),
     /// The octets are not those of the question or of the record.
     Octets,
     /// Octets follow the last record of a message.
     Trailing,
-    /// A message carries no record, or the messages carry fewer or more than there are.
+    /// A message has no record, or the messages have fewer or more records than there are.
     Count,
-    /// There is no memory left.
+    /// Out of memory.
     OutOfMemory,
 }
 
@@ -62,11 +63,11 @@ pub struct Transfer<'a> {
     pub name: &'a [u8],
     pub class: Class,
     pub records: &'a [ZoneRecord<'a>],
-    /// How many octets a message may have.
+    /// The largest number of octets that a message may have.
     pub max: usize,
 }
 
-/// What a message carries: so many records, behind so many of earlier messages. It has so many octets.
+/// A message: it has `count` records from index `first` on, and takes `len` octets.
 #[derive(Clone, Copy)]
 pub struct Carried {
     pub first: usize,
@@ -75,7 +76,8 @@ pub struct Carried {
 }
 
 impl<'a> Transfer<'a> {
-    /// What each message of the stream carries. Fails with the first flaw of a message, or if the records are not all there.
+    /// Returns what each message of the stream carries. Fails with the first flaw of a message, or if records are
+    /// missing.
     pub fn messages(&self, alloc: Global, stream: &'a [u8]) -> Result<Vec<Carried>, Flaw> {
         let mut messages = Vec::new(alloc);
         let mut first = 0usize;
@@ -96,7 +98,7 @@ impl<'a> Transfer<'a> {
         }
     }
 
-    /// Reads a message, and returns how many records it carries behind those of earlier messages.
+    /// Reads a message, and returns the number of its records, which begin at index `first`.
     fn read(&self, alloc: Global, message: &'a [u8], first: usize) -> Result<usize, Flaw> {
         if message.len() > self.max {
             return Err(Flaw::Long);
@@ -119,7 +121,7 @@ impl<'a> Transfer<'a> {
     }
 }
 
-/// The messages of a stream, each of which follows its length in two octets (RFC 1035 4.2.2).
+/// The messages of a stream, each after its length in two octets (RFC 1035 4.2.2).
 #[derive(Drop)]
 struct Frames<'a>(&'a [u8]);
 
@@ -145,7 +147,7 @@ impl<'a> Iterator for Frames<'a> {
     }
 }
 
-/// The first message of a stream, and what follows it.
+/// Returns the first message of a stream, and what follows it. Returns None if the message is not whole.
 fn split_frame(stream: &[u8]) -> Option<(&[u8], &[u8])>
     ensures shorter { IfSome result (λ it. length it.1.now < length stream.now) }
 {
@@ -156,7 +158,8 @@ fn split_frame(stream: &[u8]) -> Option<(&[u8], &[u8])>
     behind.split_at_checked(usize::from(*high) * 256 + usize::from(*low))
 }
 
-/// The suffixes of a name's octets, the whole first and the root last, each with its first label and that label's length.
+/// The suffixes of a name's octets, the whole name first and the root last, each with its first label and the label's
+/// length.
 #[derive(Drop)]
 struct Suffixes<'a>(&'a [u8]);
 
@@ -174,14 +177,14 @@ impl<'a> Iterator for Suffixes<'a> {
     }
 }
 
-/// A suffix that stands at a place: its octets, with every label written out.
+/// A suffix and its place: its octets, with every label written out.
 #[derive(Clone, Copy)]
 struct Suffix<'a> {
     place: usize,
     octets: &'a [u8],
 }
 
-/// A message that is read from its first octet on, and the suffixes of the names that were read, where they stand.
+/// A message that is read from its first octet on, and the suffixes of the names that were read, with their places.
 #[derive(Drop)]
 struct Reading<'a> {
     parser: Parser<'a>,
@@ -189,7 +192,8 @@ struct Reading<'a> {
 }
 
 impl<'a> Reading<'a> {
-    /// Reads the header of an answer to the query of this id, and returns how many records it counts (RFC 1035 4.1.1).
+    /// Reads the header of an answer to the query with this ID, and returns the number of records that it counts (RFC
+    /// 1035 4.1.1).
     fn header(&mut self, id: u16) -> Result<usize, Flaw> {
         let same_id = self.parser.parse_u16_be()? == id;
         let flags = self.parser.parse_u16_be()?;
@@ -228,7 +232,7 @@ impl<'a> Reading<'a> {
         }
     }
 
-    /// Reads the data of a record, of which these are the octets with every name written out.
+    /// Reads the data of a record. These are its octets with every name written out.
     fn data(&mut self, rtype: Rtype, octets: &'a [u8]) -> Result<(), Flaw> {
         let mut data = Parser::from_ref(octets);
         let (front, names) = names_in(rtype);
@@ -248,7 +252,7 @@ impl<'a> Reading<'a> {
         }
     }
 
-    /// Reads this name, label by label up to a pointer or the root, and notes where its suffixes stand.
+    /// Reads this name, label by label up to a pointer or the root, and notes the places of its suffixes.
     fn name(&mut self, name: &'a [u8]) -> Result<(), Flaw> {
         let earlier = self.suffixes.len();
         for (suffix, label) in Suffixes(name) {
@@ -267,7 +271,7 @@ impl<'a> Reading<'a> {
         Ok(())
     }
 
-    /// Reads the pointer that comes next, and returns its place. Reads nothing if none comes next.
+    /// Reads the pointer that comes next, and returns its place. Reads nothing if no pointer comes next.
     fn pointer(&mut self) -> Result<Option<usize>, Flaw> {
         match self.parser.peek(1)? {
             [head] if *head >= POINTER => {
@@ -277,7 +281,7 @@ impl<'a> Reading<'a> {
         }
     }
 
-    /// Checks that one of the earlier suffixes is this one and stands at the place that a pointer goes to.
+    /// Checks that one of the earlier suffixes is this one, at the place that a pointer goes to.
     fn pointed(&self, earlier: usize, place: usize, octets: &[u8]) -> Result<(), Flaw> {
         let mut known = self.suffixes.iter().take(earlier);
         if known.any(|it| it.place == place && it.octets == octets) {
@@ -294,16 +298,17 @@ const KIND: u16 = 0xf80f;
 /// A response to a query, with no error.
 const RESPONSE: u16 = 0x8000;
 
-/// The root's octets.
+/// The octets of the root.
 const ROOT: &[u8] = &[0];
 
-/// The least octet that begins a pointer, and how many places a pointer may go to.
+/// The least octet that begins a pointer, and the number of places that a pointer may go to.
 const POINTER: u8 = 0xc0;
 
 const REACHED: u16 = 0x4000;
 
-/// How many octets data of a type begins with, and how many names then follow that may be spelled by pointers: of NS, MD, MF,
-/// CNAME, MB, MG, MR and PTR, of SOA and MINFO, and of MX. Other data has none (RFC 3597 4).
+/// Returns the number of octets that data of a type begins with, and the number of names after them that may be
+/// compressed: of NS, MD, MF, CNAME, MB, MG, MR and PTR, of SOA and MINFO, and of MX. Other data has no such names (RFC
+/// 3597 4).
 fn names_in(rtype: Rtype) -> (usize, usize) {
     match rtype.to_int() {
         2..=5 | 7..=9 | 12 => (0, 1),

@@ -1,10 +1,10 @@
-//! Rows of the calls of `zonewire`: what each call returns for the values that stand in `stdin`.
+//! Answers rows of the calls of `zonewire`: what each call returns for the values in `stdin`.
 //!
-//! A zone's text, and a text that is printed, is one word: `%20` stands for a space, `%0a` for a line feed. Where a class or
-//! a limit is not named, it is IN or 512 octets. An origin and a layout may be left out: there is none, and it is `Simple`. A row of
-//! `run` or `program` has the input, and then the words of a command line of the program, as a row of `job` has. A spelling may be
-//! left out: names are written in full.
-//! `sent_again` and `rival` hold what several calls return against one another.
+//! A zone's text, and a printed text, is one word: `%20` is a space, `%0a` a line feed. A class that is not given is
+//! IN, and a limit 512 octets. An origin and a layout may be left out: then there is no origin, and the layout is
+//! `Simple`. A row of `run` or `program` has the input, and then the words of a command line of the program, as a row
+//! of `job` has. A spelling may be left out: then names are written in full. `sent_again` and `rival` compare what
+//! several calls return.
 #![tactic(auto)]
 
 mod free;

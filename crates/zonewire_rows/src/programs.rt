@@ -4,7 +4,8 @@ use rows::{Answer, Row, RowError};
 use std::alloc::Global;
 use zonewire::{Ending, Job, StdSink, StdSource, WordsFault, job, program, run};
 
-/// `job WORD..`: the job that the program's words name, by its command and its fields in order, names as octets.
+/// Answers `job WORD..`: the job that the program's words name, by its command and its fields in order, names as
+/// octets.
 pub fn answer_job(alloc: Global, row: &mut Row<'_>, out: &mut Answer) -> Result<(), RowError> {
     match job_of_words(alloc, row)? {
         Ok(job) => show_job(&job, out),
@@ -12,8 +13,8 @@ pub fn answer_job(alloc: Global, row: &mut Row<'_>, out: &mut Answer) -> Result<
     }
 }
 
-/// `run text TEXT WORD..` and `run octets OCTETS WORD..`: what the job that the program's words name writes for the input, as
-/// octets where it sends or gives canonical octets, and else as text.
+/// Answers `run text TEXT WORD..` and `run octets OCTETS WORD..`: what the job that the program's words name writes for
+/// the input, as octets for `send` and `canon`, otherwise as text.
 pub fn answer(alloc: Global, row: &mut Row<'_>, out: &mut Answer) -> Result<(), RowError> {
     let input = input_of(alloc, row)?;
     match job_of_words(alloc, row)? {
@@ -22,8 +23,8 @@ pub fn answer(alloc: Global, row: &mut Row<'_>, out: &mut Answer) -> Result<(), 
     }
 }
 
-/// `program text TEXT WORD..` and `program octets OCTETS WORD..`: the exit status of the program with these words and this
-/// input, the text that it writes to standard error behind its name, and its output as text.
+/// Answers `program text TEXT WORD..` and `program octets OCTETS WORD..`: the exit status of the program with these
+/// words and this input, the text that it writes to standard error after its name, and its output as text.
 pub fn answer_program(alloc: Global, row: &mut Row<'_>, out: &mut Answer) -> Result<(), RowError> {
     let input = input_of(alloc, row)?;
     let owned = words_of(alloc, row)?;
@@ -41,7 +42,8 @@ pub fn answer_program(alloc: Global, row: &mut Row<'_>, out: &mut Answer) -> Res
     out.text(output.as_slice())
 }
 
-/// Returns the text of the program's failure, none if it was done. The texts of `clap` are no part of an answer.
+/// Returns the text of the program's failure, or no text if the job was done. The texts of `clap` are left out of
+/// answers.
 fn error_text(alloc: Global, ending: &Ending) -> Result<String, RowError> {
     let text = match ending {
         Ending::Done => String::new(alloc),
@@ -52,7 +54,7 @@ fn error_text(alloc: Global, ending: &Ending) -> Result<String, RowError> {
     Ok(text)
 }
 
-/// Returns the input of a run, as the row has it.
+/// Takes the input of a run.
 fn input_of(alloc: Global, row: &mut Row<'_>) -> Result<Vec<u8>, RowError> {
     match row.word()? {
         "text" => row.text_octets(alloc),
@@ -61,7 +63,7 @@ fn input_of(alloc: Global, row: &mut Row<'_>) -> Result<Vec<u8>, RowError> {
     }
 }
 
-/// Returns the job that the rest of the row's words name, or why they name none.
+/// Takes the rest of the row's words, and returns the job that they name, or why they name none.
 fn job_of_words(alloc: Global, row: &mut Row<'_>) -> Result<Result<Job, WordsFault>, RowError> {
     let owned = words_of(alloc, row)?;
     let mut words = Vec::new(alloc);
@@ -71,7 +73,7 @@ fn job_of_words(alloc: Global, row: &mut Row<'_>) -> Result<Result<Job, WordsFau
     Ok(job(alloc, words.as_slice()))
 }
 
-/// Returns the rest of the row's words.
+/// Takes the rest of the row's words.
 fn words_of(alloc: Global, row: &mut Row<'_>) -> Result<Vec<String>, RowError> {
     let mut words = Vec::new(alloc);
     for _ in 0..u32::MAX {
@@ -83,7 +85,7 @@ fn words_of(alloc: Global, row: &mut Row<'_>) -> Result<Vec<String>, RowError> {
     Ok(words)
 }
 
-/// Shows why words name no job. The texts of `clap` are no part of an answer.
+/// Writes why words name no job. The texts of `clap` are left out of answers.
 fn show_fault(fault: &WordsFault, out: &mut Answer) -> Result<(), RowError> {
     match fault {
         WordsFault::Line(_) => out.shown(&"refused Line"),
@@ -91,7 +93,7 @@ fn show_fault(fault: &WordsFault, out: &mut Answer) -> Result<(), RowError> {
     }
 }
 
-/// Shows a job's command and fields.
+/// Writes a job's command and fields.
 fn show_job(job: &Job, out: &mut Answer) -> Result<(), RowError> {
     match job {
         Job::Send {
@@ -127,7 +129,7 @@ fn show_job(job: &Job, out: &mut Answer) -> Result<(), RowError> {
     }
 }
 
-/// Shows a job that reads a zone's text alone.
+/// Writes a job that only reads a zone's text.
 fn show_text_job(
     command: &str,
     origin: &Option<Name<Vec<u8>>>,
@@ -139,7 +141,7 @@ fn show_text_job(
     out.shown(&class)
 }
 
-/// Returns the octets of a name, none if there is none.
+/// Returns the octets of a name, or none if there is no name.
 fn octets_of(name: &Option<Name<Vec<u8>>>) -> &[u8] {
     match name {
         Some(name) => name.as_slice(),
@@ -147,7 +149,7 @@ fn octets_of(name: &Option<Name<Vec<u8>>>) -> &[u8] {
     }
 }
 
-/// What the job writes for the input. A fault leaves nothing written.
+/// Writes the output of the job for the input. The row has no answer if a run that fails has written something.
 fn answer_run(alloc: Global, job: Job, input: &[u8], out: &mut Answer) -> Result<(), RowError> {
     let is_octets = matches!(&job, Job::Send { .. } | Job::Canon { .. });
     let mut output = Vec::new(alloc);

@@ -4,7 +4,7 @@ use rows::{Answer, Row, RowError};
 use std::alloc::Global;
 use zonewire::{axfr_query, check_query};
 
-/// `check_query OCTETS`: the id, whether recursion is desired, the name and the class.
+/// Answers `check_query OCTETS`: the ID, whether recursion is desired, the name and the class.
 pub fn answer(alloc: Global, row: &mut Row<'_>, out: &mut Answer) -> Result<(), RowError> {
     let octets = row.octets(alloc)?;
     match check_query(octets.as_slice()) {
@@ -18,7 +18,7 @@ pub fn answer(alloc: Global, row: &mut Row<'_>, out: &mut Answer) -> Result<(), 
     }
 }
 
-/// `axfr_query ID CLASS NAME`: the octets of the query.
+/// Answers `axfr_query ID CLASS NAME`: the octets of the query.
 pub fn answer_axfr(alloc: Global, row: &mut Row<'_>, out: &mut Answer) -> Result<(), RowError> {
     let id = row.value()?;
     let Some(class) = Class::from_bytes(row.word()?.as_bytes()) else {

@@ -6,11 +6,12 @@ use rows::{Answer, Row, RowError};
 use std::alloc::Global;
 use zonewire::{Spelling, Zone, ZoneRecord, check_query, send};
 
-/// `rival MAX QUERY TEXT STREAM`: whether a receiver makes of the stream the records of the text's zone, octet for octet (`same`
-/// or `other`); how many free messages the stream has; how many are sent for the zone under `tree`; whether the stream has fewer;
-/// and how many of its messages are shorter than the sent message of the same records.
+/// Answers `rival MAX QUERY TEXT STREAM`: whether a receiver gets from the stream the records of the text's zone, octet
+/// for octet (`same` or `other`); the number of free messages in the stream; the number of messages that are sent for
+/// the zone under `tree`; whether the stream has fewer; and how many of its messages are shorter than the sent message
+/// of the same records.
 ///
-/// The row ends where the zone is not sent, or with the flaw of a stream that is not free.
+/// The answer ends early with the error if the zone is not sent, or with the flaw of a stream that is not free.
 pub fn answer(alloc: Global, row: &mut Row<'_>, out: &mut Answer) -> Result<(), RowError> {
     let max = row.value()?;
     let query = row.octets(alloc)?;
@@ -29,7 +30,7 @@ pub fn answer(alloc: Global, row: &mut Row<'_>, out: &mut Answer) -> Result<(), 
     }
 }
 
-/// Whether the records that a receiver takes of the stream are the zone's.
+/// Writes whether the records that a receiver gets from the stream are the zone's.
 fn show_received(
     alloc: Global,
     query: &[u8],
@@ -44,7 +45,7 @@ fn show_received(
     }
 }
 
-/// Whether both zones have the same records in order, octet for octet.
+/// Returns whether both zones have the same records in order, octet for octet.
 fn has_same_records(left: &Zone, right: &Zone) -> bool {
     let mut others = right.records();
     for record in left.records() {
@@ -56,7 +57,7 @@ fn has_same_records(left: &Zone, right: &Zone) -> bool {
     others.next().is_none()
 }
 
-/// Whether both records are the same octet for octet.
+/// Returns whether both records are the same octet for octet.
 fn is_same(left: &ZoneRecord<'_>, right: &ZoneRecord<'_>) -> bool {
     left.owner().as_slice() == right.owner().as_slice()
         && left.rtype() == right.rtype()
@@ -65,7 +66,7 @@ fn is_same(left: &ZoneRecord<'_>, right: &ZoneRecord<'_>) -> bool {
         && left.data() == right.data()
 }
 
-/// Holds the messages of the first stream, a rival's, against those of the second, which was sent.
+/// Compares the messages of the first stream, a rival's, with those of the second, which was sent.
 fn show_messages(
     alloc: Global,
     query: &[u8],
@@ -100,7 +101,7 @@ fn show_messages(
     }
 }
 
-/// Why a stream is not free.
+/// Writes why a stream is not free.
 fn show_flaw(flaw: Flaw, out: &mut Answer) -> Result<(), RowError> {
     if flaw == Flaw::OutOfMemory {
         return Err(RowError::OutOfMemory);
@@ -108,7 +109,7 @@ fn show_flaw(flaw: Flaw, out: &mut Answer) -> Result<(), RowError> {
     out.named(&flaw)
 }
 
-/// How many messages there are, and how many of the rival's are shorter than a sent one of the same records.
+/// Writes the numbers of messages, and how many of the rival's are shorter than a sent one of the same records.
 fn show_lengths(rival: &[Carried], sent: &[Carried], out: &mut Answer) -> Result<(), RowError> {
     out.shown(&"free")?;
     out.shown(&rival.len())?;
@@ -120,7 +121,7 @@ fn show_lengths(rival: &[Carried], sent: &[Carried], out: &mut Answer) -> Result
     out.shown(&rival.iter().filter(|it| is_shorter(it, sent)).count())
 }
 
-/// Whether a sent message carries the same records in more octets.
+/// Returns whether a sent message has the same records in more octets.
 fn is_shorter(rival: &Carried, sent: &[Carried]) -> bool {
     sent.iter().any(|it| it.first == rival.first && it.count == rival.count && it.len > rival.len)
 }

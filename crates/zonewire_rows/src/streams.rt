@@ -1,10 +1,10 @@
-//! Streams that go out and come in.
+//! Streams that are sent and received.
 use dns_name::Class;
 use rows::{Answer, Row, RowError};
 use std::alloc::Global;
 use zonewire::{DisplayKind, ReceiveError, Receiver, Spelling, Zone, send};
 
-/// `send TEXT QUERY MAX [SPELLING]`: the stream that answers the query for the zone of the text.
+/// Answers `send TEXT QUERY MAX [SPELLING]`: the stream that answers the query for the zone of the text.
 pub fn answer_send(alloc: Global, row: &mut Row<'_>, out: &mut Answer) -> Result<(), RowError> {
     let text = row.text_octets(alloc)?;
     let query = row.octets(alloc)?;
@@ -23,8 +23,8 @@ pub fn answer_send(alloc: Global, row: &mut Row<'_>, out: &mut Answer) -> Result
     }
 }
 
-/// `sent_again TEXT QUERY MAX SPELLING`: the stream that answers the query for the zone of the text, the zone that is received of
-/// it, printed, and whether that zone is sent as the same octets.
+/// Answers `sent_again TEXT QUERY MAX SPELLING`: the stream that answers the query for the zone of the text, the
+/// printed text of the zone that is received from it, and whether that zone is sent as the same octets.
 pub fn answer_sent_again(
     alloc: Global,
     row: &mut Row<'_>,
@@ -54,7 +54,7 @@ pub fn answer_sent_again(
     }
 }
 
-/// `Receiver::canonical QUERY STREAM`: the canonical octets of the zone that is received.
+/// Answers `Receiver::canonical QUERY STREAM`: the canonical octets of the zone that is received.
 pub fn answer_received_canonical(
     alloc: Global,
     row: &mut Row<'_>,
@@ -68,14 +68,14 @@ pub fn answer_received_canonical(
     }
 }
 
-/// The zone that is received of a stream that comes octet by octet.
+/// Returns the zone that is received from a stream that is fed octet by octet.
 pub fn received(alloc: Global, query: &[u8], stream: &[u8]) -> Result<Zone, ReceiveError> {
     let mut receiver = Receiver::new(alloc, query)?;
     fed(&mut receiver, stream, 0, 1)?;
     receiver.into_zone()
 }
 
-/// The spelling of a word.
+/// Returns the spelling of a word.
 fn spelling_of(word: &str) -> Result<Spelling, RowError> {
     match word {
         "plain" => Ok(Spelling::Plain),
@@ -86,7 +86,7 @@ fn spelling_of(word: &str) -> Result<Spelling, RowError> {
     }
 }
 
-/// What a receiver makes of a stream: how many octets it takes, whether it is done, and the zone that it gives, printed.
+/// What a receiver makes of a stream: how many octets it takes, whether it is done, and the printed text of its zone.
 #[derive(PartialEq, Drop)]
 struct Heard {
     taken: usize,
@@ -94,10 +94,10 @@ struct Heard {
     printed: Vec<u8>,
 }
 
-/// `Receiver QUERY STREAM`: how many octets are taken, whether that is a transfer, and its zone.
+/// Answers `Receiver QUERY STREAM`: the number of octets that are taken, whether they are a transfer, and its zone.
 ///
-/// The stream comes whole, octet by octet, and cut once at each place, with empty pieces between. A row whose answers differ
-/// has none.
+/// The stream is fed whole, octet by octet, and cut once at each place, with empty pieces between. A row has no answer
+/// if these results differ.
 pub fn answer_receiver(alloc: Global, row: &mut Row<'_>, out: &mut Answer) -> Result<(), RowError> {
     let query = row.octets(alloc)?;
     let stream = row.octets(alloc)?;
@@ -122,7 +122,7 @@ pub fn answer_receiver(alloc: Global, row: &mut Row<'_>, out: &mut Answer) -> Re
     }
 }
 
-/// What a receiver makes of the stream in these pieces, or the error that it keeps.
+/// Returns what a receiver makes of the stream in these pieces, or the error that it keeps.
 fn heard_in(
     alloc: Global,
     query: &[u8],
@@ -140,8 +140,8 @@ fn heard_in(
     }
 }
 
-/// Feeds the octets up to the cut and then the others in pieces of `len`, each piece between empty ones, and returns how many
-/// octets are taken.
+/// Feeds the octets up to the cut, and then the others in pieces of `len`, each between two empty pieces. Returns the
+/// number of octets that are taken.
 fn fed(
     receiver: &mut Receiver,
     stream: &[u8],
@@ -158,7 +158,7 @@ fn fed(
     Ok(taken)
 }
 
-/// The zone of a receiver that refused nothing.
+/// Returns the zone of a receiver that has not failed.
 fn heard_of(
     alloc: Global,
     receiver: Receiver,
@@ -175,7 +175,7 @@ fn heard_of(
     }
 }
 
-/// The error, if the receiver keeps it, is not done, and gives no zone but the error.
+/// Returns the error, if the receiver keeps it, is not done, and returns it instead of a zone.
 fn kept(
     mut receiver: Receiver,
     error: ReceiveError,

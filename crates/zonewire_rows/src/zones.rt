@@ -1,11 +1,12 @@
-//! Zones that are read from text, printed, and given as canonical octets.
+//! Zones that are read from text, printed, and written as canonical octets.
 use dns_name::{Class, Name, RecordData};
 use rows::{Answer, Row, RowError};
 use std::alloc::Global;
 use zonewire::{DisplayKind, Zone, ZoneError, ZoneRecord};
 
-/// `Zone::read CLASS TEXT` and `Zone::read CLASS TEXT ORIGIN`: the apex, the class, the number of records as `Zone::count_records` has it,
-/// and each record. Why the text is refused, by both calls if they differ.
+/// Answers `Zone::read CLASS TEXT` and `Zone::read CLASS TEXT ORIGIN`: the apex, the class, the number of records that
+/// `Zone::count_records` returns, and each record. If the text is not a zone, writes the error, or those of both calls
+/// if they differ.
 pub fn answer_read(alloc: Global, row: &mut Row<'_>, out: &mut Answer) -> Result<(), RowError> {
     let class = row.value()?;
     let text = row.text_octets(alloc)?;
@@ -30,7 +31,7 @@ pub fn answer_read(alloc: Global, row: &mut Row<'_>, out: &mut Answer) -> Result
     }
 }
 
-/// The origin that the next word is, if there is one.
+/// Takes the origin, if another word is there.
 fn read_origin(alloc: Global, row: &mut Row<'_>) -> Result<Option<Name<Vec<u8>>>, RowError> {
     if !row.has_more() {
         return Ok(None);
@@ -41,7 +42,7 @@ fn read_origin(alloc: Global, row: &mut Row<'_>) -> Result<Option<Name<Vec<u8>>>
     }
 }
 
-/// The zone of a text under the origin, if there is one.
+/// Returns the zone of a text, with the origin if there is one.
 fn read_zone(
     alloc: Global,
     text: &[u8],
@@ -54,7 +55,7 @@ fn read_zone(
     }
 }
 
-/// How many records that zone has.
+/// Returns the number of records of that zone.
 fn count_records(
     alloc: Global,
     text: &[u8],
@@ -68,7 +69,7 @@ fn count_records(
     })
 }
 
-/// How many records there are, or why they are not counted.
+/// Writes the number of records, or why they are not counted.
 fn show_count(counted: Result<usize, ZoneError>, out: &mut Answer) -> Result<(), RowError> {
     match counted {
         Ok(count) => out.shown(&count),
@@ -76,7 +77,7 @@ fn show_count(counted: Result<usize, ZoneError>, out: &mut Answer) -> Result<(),
     }
 }
 
-/// The owner, TTL, class and type of a record, and the octets of its data.
+/// Writes the owner, TTL, class and type of a record, and the octets of its data.
 fn show_record(record: &ZoneRecord<'_>, out: &mut Answer) -> Result<(), RowError> {
     out.shown(&record.owner())?;
     out.shown(&record.ttl().as_secs())?;
@@ -85,7 +86,7 @@ fn show_record(record: &ZoneRecord<'_>, out: &mut Answer) -> Result<(), RowError
     out.octets(record.data())
 }
 
-/// `ZoneRecord::parse_data CLASS TEXT`: the type of each record, and its data as it is read.
+/// Answers `ZoneRecord::parse_data CLASS TEXT`: the type of each record, and its data once it is parsed.
 pub fn answer_parse_data(
     alloc: Global,
     row: &mut Row<'_>,
@@ -106,7 +107,7 @@ pub fn answer_parse_data(
     }
 }
 
-/// `Zone::print CLASS TEXT` and `Zone::print CLASS TEXT LAYOUT`: the zone of the text, printed.
+/// Answers `Zone::print CLASS TEXT` and `Zone::print CLASS TEXT LAYOUT`: the printed text of the zone of the text.
 pub fn answer_print(alloc: Global, row: &mut Row<'_>, out: &mut Answer) -> Result<(), RowError> {
     let class = row.value()?;
     let text = row.text_octets(alloc)?;
@@ -117,7 +118,7 @@ pub fn answer_print(alloc: Global, row: &mut Row<'_>, out: &mut Answer) -> Resul
     }
 }
 
-/// The layout that the next word names, if there is one.
+/// Takes the layout, if another word is there.
 fn read_layout(row: &mut Row<'_>) -> Result<DisplayKind, RowError> {
     if !row.has_more() {
         return Ok(DisplayKind::Simple);
@@ -130,7 +131,7 @@ fn read_layout(row: &mut Row<'_>) -> Result<DisplayKind, RowError> {
     }
 }
 
-/// `Zone::canonical CLASS TEXT`: the canonical octets of the zone of the text.
+/// Answers `Zone::canonical CLASS TEXT`: the canonical octets of the zone of the text.
 pub fn answer_canonical(
     alloc: Global,
     row: &mut Row<'_>,

@@ -1,4 +1,4 @@
-//! Labels that are changed where they stand.
+//! Labels that are changed in place.
 ghost use Rattle.std.specs.Prelude.{◌≡◌, ◌≤◌, length};
 ghost use Rattle.dns_label.specs.Composed.{low_label};
 
@@ -39,7 +39,7 @@ fn a_label_is_split_off_and_lowered(rt: HostRuntime) -> Result<(), Fail> {
     Ok(())
 }
 
-/// What the octets are when the label ends follows from its contracts.
+/// The contracts say what the octets are when the label's borrow ends.
 fn lower(octets: &mut [u8])
     requires { length octets.old ≤ 63 }
     ensures { octets.new ≡ low_label octets.old }

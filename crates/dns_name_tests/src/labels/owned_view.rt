@@ -1,4 +1,4 @@
-//! Labels that hold their octets, changed where they stand.
+//! Labels that own their octets, changed in place.
 ghost use Rattle.std.specs.Prelude.{◌≡◌};
 ghost use Rattle.dns_label.specs.OwnedLabel.{octets_owned};
 ghost use Rattle.dns_label.specs.Composed.{low_label};
@@ -15,7 +15,7 @@ fn a_label_that_holds_its_octets_is_lowered_by_a_view(rt: HostRuntime) -> Result
     Ok(())
 }
 
-/// What the label is when its view ends follows from the contracts.
+/// The contracts say what the label is when its view's borrow ends.
 fn lower(label: &mut OwnedLabel)
     ensures { octets_owned label.new ≡ low_label (octets_owned label.old) }
 {

@@ -1,4 +1,4 @@
-//! The symbols that characters spell, in a closure.
+//! The symbols of characters, in a closure.
 use dns_label::{Symbol, SymbolCharsError, Symbols};
 
 #[test]

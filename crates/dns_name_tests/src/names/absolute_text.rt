@@ -1,13 +1,13 @@
-//! Names with their last dot in octets of text (RFC 1035 5.1).
+//! Absolute names in octets of text (RFC 1035 5.1).
 use dns_name::{FromStrError, Name};
 use std::alloc::{AllocError, Global};
 use std::str;
 use std::test::Fail;
 
-/// What stands in the vector before a name is appended.
+/// The octets of the vector before a name is appended.
 const BEFORE: &[u8] = b"\x09\x09";
 
-/// The octets and after them those of the name that a text spells, or why it spells none.
+/// Returns the octets with those of the name that a text spells after them, or why it spells none.
 fn appended(alloc: Global, text: &[u8]) -> Result<(Vec<u8>, Option<FromStrError>), AllocError> {
     let mut octets = Vec::new(alloc);
     octets.extend_from_slice(BEFORE)?;
@@ -15,7 +15,8 @@ fn appended(alloc: Global, text: &[u8]) -> Result<(Vec<u8>, Option<FromStrError>
     Ok((octets, error))
 }
 
-/// Whether octets of text spell what their characters do, and nothing is appended where these spell nothing.
+/// Returns whether octets of text spell the same name as their characters, and whether nothing is appended if they
+/// spell none.
 fn is_read_alike(alloc: Global, text: &[u8]) -> Result<bool, Fail> {
     let (octets, error) = appended(alloc, text)?;
     let spelled = match str::from_utf8(text) {
@@ -30,7 +31,7 @@ fn is_read_alike(alloc: Global, text: &[u8]) -> Result<bool, Fail> {
     })
 }
 
-/// A label of so many octets, one of which is another, and another label after it.
+/// Returns a label of `len` octets, with the one at `place` replaced, and another label after it.
 fn label_with(alloc: Global, len: usize, place: usize, octet: u8) -> Result<Vec<u8>, AllocError> {
     let mut text = vec![in alloc; b'a'; len]?;
     if let Some(there) = text.get_mut(place) {

@@ -1,4 +1,4 @@
-//! Names of two parts, and names made flat or lower case in octets of each kind.
+//! Chains of two names, and names made flat or lower case in octets of each kind.
 use super::www;
 use arrayvec::ArrayVec;
 use dns_name::{

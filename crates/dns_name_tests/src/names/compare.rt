@@ -1,4 +1,4 @@
-//! Names of both kinds: how they begin and end, and composed and made flat (RFC 4034 6.2; RFC 4343).
+//! Absolute and relative names: how they begin and end, composed and made flat (RFC 4034 6.2; RFC 4343).
 use super::www;
 use arrayvec::ArrayVec;
 use dns_name::{AppendError, Name, RelativeName, ToLabelIter, ToName};

@@ -1,4 +1,4 @@
-//! Labels of names from both ends, and names in other octets.
+//! Labels of names from both ends, and names in octets of other kinds.
 use super::WWW;
 use arrayvec::ArrayVec;
 use dns_name::{

@@ -1,4 +1,4 @@
-//! Data that is one name (RFC 1035 3.3.11).
+//! Data of one name (RFC 1035 3.3.11).
 ghost use Rattle.std.specs.Prelude.{◌≡◌};
 ghost use Rattle.dns_label.specs.Name.{low, wire};
 ghost use Rattle.dns_name.specs.Page.Parts.{End, Named};
@@ -13,7 +13,7 @@ pub struct Server<N> {
 }
 
 impl<N: ToName> Server<N> {
-    /// The server of this name.
+    /// Returns the server of this name.
     pub fn new(name: N) -> Self
         ensures { result ≡ record { name = name } }
     {
@@ -29,7 +29,7 @@ impl<N: ToName> RecordData for Server<N> {
     }
 }
 
-/// The name may be written with a pointer.
+/// The name may be compressed.
 impl<N: ToName> ComposeRecordData for Server<N> {
     ghost parts = { λ rdata. Named (N.name rdata.name) End };
 

@@ -1,11 +1,11 @@
-//! Scanners: closures, builders, and the texts of errors that no token gives.
+//! Scanners: closures, builders, and the texts of errors that no token causes.
 use dns_text::{
     DecodeError, FromStrError, IterScanner, Scanner, ScannerError, StrError, base16, base32, base64,
 };
 use std::alloc::Global;
 use std::test::Fail;
 
-/// A scanner over the words between white space.
+/// Returns a scanner of the words between white space.
 pub fn over(alloc: Global, words: &str) -> Result<IterScanner<'_>, StrError> {
     match IterScanner::new(alloc, words.split_whitespace()) {
         Ok(scanner) => Ok(scanner),

@@ -1,10 +1,10 @@
-//! The symbols of tokens, handed to closures and to converters (RFC 1035 5.1, RFC 4648 8).
+//! The symbols of tokens, passed to closures and to converters (RFC 1035 5.1, RFC 4648 8).
 use super::scanners::over;
 use dns_name::{Octets, Symbol};
 use dns_text::{ConvertSymbols, DecodedOctet, EntrySymbol, Scanner, StrError, base16};
 use std::test::Fail;
 
-/// The octet of a symbol that was read, and 0 for any other.
+/// Returns the octet of a symbol that was read, or 0 for any other symbol.
 fn octet(symbol: Symbol) -> u32 {
     match symbol.into_octet() {
         Ok(octet) => u32::from(octet),
@@ -52,7 +52,7 @@ fn a_closure_is_handed_an_entry(rt: HostRuntime) -> Result<(), Fail> {
     Ok(())
 }
 
-/// What the converter gives for a symbol that it takes.
+/// Returns the output of the converter for a symbol that it accepts.
 fn given<C: ConvertSymbols<Symbol, StrError, Converted = DecodedOctet>>(
     converter: &mut C,
     character: char,

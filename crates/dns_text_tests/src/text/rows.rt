@@ -10,7 +10,7 @@ use std::alloc::{AllocError, Global};
 use std::fmt::{self, Write};
 use std::test::Fail;
 
-/// The text of a value under a layout.
+/// Returns the text of a value in a layout.
 fn shown<T: ZonefileFmt + Drop>(
     alloc: Global,
     value: &T,
@@ -19,7 +19,7 @@ fn shown<T: ZonefileFmt + Drop>(
     value.display_zonefile(kind).to_string(alloc)
 }
 
-/// A block inside a block, a line end inside one, a token behind one, and a line that begins with one.
+/// A block inside a block, a line end inside one, a token after one, and a line that begins with one.
 #[derive(Drop)]
 struct Nested;
 
@@ -75,7 +75,7 @@ impl ZonefileFmt for Bare {
     }
 }
 
-/// The marks of blocks one by one, of which the last closes none.
+/// The marks of blocks one by one; the last closes no block.
 #[derive(Drop)]
 struct Marks;
 
@@ -132,7 +132,7 @@ fn marks_one_by_one(rt: HostRuntime) -> Result<(), Fail> {
     Ok(())
 }
 
-/// A target that takes so many texts.
+/// A target that takes a limited number of texts.
 #[derive(Drop)]
 struct Room {
     left: usize,
@@ -148,7 +148,7 @@ impl fmt::Write for Room {
     }
 }
 
-/// What is refused in the middle of a document is told, whichever text it is.
+/// An error in the middle of a document is returned, whichever text causes it.
 #[test]
 fn refusals_of_the_target_are_told(rt: HostRuntime) -> Result<(), Fail> {
     for kind in [

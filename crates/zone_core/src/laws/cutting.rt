@@ -1,5 +1,5 @@
-//! What holds of every way to cut records into messages. `size` is what a group of records takes as a message, and
-//! `max` is the most that a message may take.
+//! Laws of cutting records into messages. `size` is the size of a group of records, and `max` is the largest size that
+//! a message may have.
 
 ghost use Rattle.std.specs.Prelude.{◌≡◌, ℕ, ◌+◌, ◌≤◌, List, length, sum_by};
 ghost use Rattle.zone_octets.specs.Record.{Record};
@@ -21,7 +21,7 @@ pub fn full_cut_is_one()
         full ≡ others }
 {}
 
-/// Where a record is blocked, no cutting of the records fits at all.
+/// If a record is blocked, no cutting of the records fits.
 pub fn blocked_record_fits_no_cutting()
     ensures { (size : List Record → ℕ) (max : ℕ) (records : List Record) (n : ℕ)
         (groups : List (List Record)) →
@@ -34,8 +34,8 @@ pub fn blocked_record_is_one()
         FrontsFit size max → IsBlocked size max records m → IsBlocked size max records n → m ≡ n }
 {}
 
-/// Any records have a full cut or a blocked record, and never both: a sender that answers with the one or the other
-/// has an answer for all records, and only one.
+/// Any records have a full cut or a blocked record, and never both: a sender that returns the one or the other has
+/// exactly one result.
 pub fn cut_or_blocked()
     ensures one_of_them { (size : List Record → ℕ) (max : ℕ) (records : List Record) →
         CutOrBlocked size max records }
@@ -44,12 +44,12 @@ pub fn cut_or_blocked()
         FrontsFit size max → IsFullCut size max records groups → IsBlocked size max records n → ⊥ }
 {}
 
-/// Where a size grows, each part of what fits fits.
+/// If a size grows, each front and each back of what fits fits.
 pub fn parts_fit_where_size_grows()
     ensures { (size : List Record → ℕ) (max : ℕ) → Grows size → PartsFit size max }
 {}
 
-/// A size that adds up what each record takes, and something for the rest of the message, grows.
+/// A size that sums up the sizes of the records, plus a constant for the rest of the message, grows.
 pub fn sum_of_sizes_grows()
     ensures { (base : ℕ) (f : Record → ℕ) → Grows (λ group. base + sum_by f group) }
 {}

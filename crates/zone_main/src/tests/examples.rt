@@ -1,4 +1,4 @@
-//! The zone of two records, the query for it and its streams, by octets that were written out by hand; and runs over them.
+//! The zone of two records, the query for it and its streams, as octets written out by hand; and runs over them.
 
 use dns_name::{Class, Name};
 use std::alloc::{AllocError, Global};
@@ -12,7 +12,7 @@ pub(crate) const SOA_ROW: &[u8] = b"a. 60 IN SOA b. c. 1 2 3 4 5\n";
 
 pub(crate) const ZONE: &[u8] = b"a. 60 IN SOA b. c. 1 2 3 4 5\na. 60 IN A 1.2.3.4\n";
 
-/// The query `a. IN AXFR` of id 0x1234.
+/// The query `a. IN AXFR` with ID 0x1234.
 pub(crate) const QUERY: &[u8] =
     b"\x12\x34\x00\x00\x00\x01\x00\x00\x00\x00\x00\x00\x01a\x00\x00\xfc\x00\x01";
 
@@ -23,7 +23,8 @@ const SOA: &[u8] =
 
 const ADDRESS: &[u8] = b"\x01a\x00\x00\x01\x00\x01\x00\x00\x00\x3c\x00\x04\x01\x02\x03\x04";
 
-/// A frame: the length, the header of an answer to the query with so many records, the question, and the records.
+/// Appends a frame: the length, the header of an answer to the query that counts `answers` records, the question, and
+/// the records.
 fn append_frame(
     stream: &mut Vec<u8>,
     length: u8,
@@ -39,14 +40,14 @@ fn append_frame(
     Ok(())
 }
 
-/// The two records in one message.
+/// Returns the stream of the two records in one message.
 pub(crate) fn one_message(alloc: Global) -> Result<Vec<u8>, AllocError> {
     let mut stream = Vec::new(alloc);
     append_frame(&mut stream, 114, 3, &[SOA, ADDRESS, SOA])?;
     Ok(stream)
 }
 
-/// The two records, a message for each.
+/// Returns the stream of the two records with one record in each message.
 pub(crate) fn three_messages(alloc: Global) -> Result<Vec<u8>, AllocError> {
     let mut stream = Vec::new(alloc);
     append_frame(&mut stream, 58, 1, &[SOA])?;
@@ -55,7 +56,7 @@ pub(crate) fn three_messages(alloc: Global) -> Result<Vec<u8>, AllocError> {
     Ok(stream)
 }
 
-/// The octets with another one at a place.
+/// Returns the octets with the one at `place` replaced.
 pub(crate) fn changed(
     alloc: Global,
     octets: &[u8],
@@ -69,19 +70,19 @@ pub(crate) fn changed(
     Ok(other)
 }
 
-/// The row behind that of the SOA.
+/// Returns the text of the SOA and the row after it.
 pub(crate) fn behind_soa(alloc: Global, row: &[u8]) -> Result<Vec<u8>, AllocError> {
     let mut text = Vec::from_slice(alloc, SOA_ROW)?;
     text.extend_from_slice(row)?;
     Ok(text)
 }
 
-/// The zone of class IN of the text.
+/// Parses the zone of class IN of the text.
 pub(crate) fn zone_of(alloc: Global, text: &[u8]) -> Result<Zone, ZoneError> {
     Zone::read(alloc, text, None, Class::IN)
 }
 
-/// The stream of the zone for the query, in messages of at most so many octets.
+/// Returns the stream of the zone for the query, in messages of at most `max` octets.
 pub(crate) fn sent(
     alloc: Global,
     zone: &Zone,
@@ -91,7 +92,7 @@ pub(crate) fn sent(
     send(alloc, zone, query, max, Spelling::Plain)
 }
 
-/// The job of sending a zone of class IN in messages of at most so many octets.
+/// Returns the job of sending a zone of class IN in messages of at most `max` octets.
 pub(crate) fn send_job(max: u16) -> Job {
     Job::Send {
         origin: None,
@@ -103,7 +104,7 @@ pub(crate) fn send_job(max: u16) -> Job {
     }
 }
 
-/// The job of receiving the zone of this name and class.
+/// Returns the job of receiving the zone of this name and class.
 pub(crate) fn receive_job(alloc: Global, apex: &str, class: Class) -> Result<Job, WordsFault> {
     Ok(Job::Receive {
         class,
@@ -113,7 +114,7 @@ pub(crate) fn receive_job(alloc: Global, apex: &str, class: Class) -> Result<Job
     })
 }
 
-/// What a run of the job writes for an input, and its fault, but want of memory.
+/// Returns what a run of the job writes for an input, and its fault. Fails if out of memory.
 pub(crate) fn run_over(
     alloc: Global,
     input: &[u8],

@@ -1,4 +1,4 @@
-//! Streams that come in: those that are cut short anywhere, and zones that go both ways.
+//! Streams that are received: cut short at every place, and sent again.
 
 use super::examples::{
     QUERY, ZONE, one_message, receive_job, run_over, sent, three_messages, zone_of,
@@ -8,14 +8,14 @@ use std::alloc::Global;
 use std::test::Fail;
 use zonewire::{DisplayKind, Fault, ReceiveError, Receiver};
 
-/// Whether a run for the zone `a.` is refused by the error, with nothing written.
+/// Returns whether a run for the zone `a.` fails with the error and writes nothing.
 fn run_refuses(alloc: Global, input: &[u8], error: ReceiveError) -> Result<bool, Fail> {
     let job = receive_job(alloc, "a.", Class::IN)?;
     let (output, fault) = run_over(alloc, input, job)?;
     Ok(output.is_empty() && fault == Some(Fault::Receive(error)))
 }
 
-/// Whether a receiver takes the whole stream, and has no zone yet.
+/// Returns whether a receiver takes the whole stream and has no zone yet.
 fn is_begun(alloc: Global, stream: &[u8]) -> Result<bool, Fail> {
     let mut receiver = Receiver::new(alloc, QUERY)?;
     let taken = receiver.feed(stream)?;
@@ -27,7 +27,7 @@ fn is_begun(alloc: Global, stream: &[u8]) -> Result<bool, Fail> {
     )
 }
 
-/// Without any octet, too.
+/// Each proper front of a stream is only begun, also the empty one.
 #[test]
 fn streams_that_are_only_begun(rt: HostRuntime) -> Result<(), Fail> {
     let alloc = rt.alloc();
@@ -41,7 +41,7 @@ fn streams_that_are_only_begun(rt: HostRuntime) -> Result<(), Fail> {
     Ok(())
 }
 
-/// The stream of the zone's text is received as a zone with the same text, and is sent again as it was.
+/// The stream of the zone's text is received as a zone with the same text, and is sent again as the same stream.
 #[test]
 fn zones_that_go_both_ways(rt: HostRuntime) -> Result<(), Fail> {
     let alloc = rt.alloc();

@@ -1,4 +1,4 @@
-//! Runs over readers and writers that give and take few octets, and what faults show.
+//! Runs over readers and writers that take few octets at a time, and the texts of faults.
 
 use super::examples::{QUERY, SOA_ROW, ZONE, one_message, receive_job, send_job, sent, zone_of};
 use dns_name::Class;
@@ -9,7 +9,7 @@ use zonewire::{
     ZoneError, run,
 };
 
-/// More than a reader is asked for at a time.
+/// The input is longer than what is asked of a reader at a time.
 #[test]
 fn input_is_read_to_its_end(rt: HostRuntime) -> Result<(), Fail> {
     let alloc = rt.alloc();
@@ -30,7 +30,7 @@ fn input_is_read_to_its_end(rt: HostRuntime) -> Result<(), Fail> {
     Ok(())
 }
 
-/// A reader of `left` octets, at most `most` a call, whose next call is interrupted.
+/// A reader of `left` octets, at most `most` a call. After them each call is interrupted.
 #[derive(Drop)]
 struct Breaking {
     left: usize,
@@ -96,7 +96,7 @@ fn output_is_written_by_threes(rt: HostRuntime) -> Result<(), Fail> {
     Ok(())
 }
 
-/// It makes a run fail that has output, and no other.
+/// Only a run with output fails.
 #[test]
 fn a_write_that_takes_nothing(rt: HostRuntime) -> Result<(), Fail> {
     let alloc = rt.alloc();

@@ -1,10 +1,10 @@
-//! Streams that go out, by octets that were written out by hand.
+//! Streams that are sent, compared with octets written out by hand.
 
 use super::examples::{QUERY, ZONE, one_message, zone_of};
 use std::test::Fail;
 use zonewire::{SendError, Spelling, send_into};
 
-/// The memory may have held anything, and have too little room.
+/// The spare vector may hold any octets, and may be too small.
 #[test]
 fn zones_are_sent_in_memory_that_is_there(rt: HostRuntime) -> Result<(), Fail> {
     let alloc = rt.alloc();

@@ -5,7 +5,8 @@ use std::alloc::Global;
 use std::test::Fail;
 use zonewire::{Fault, StepSink, StepSource, run};
 
-/// Returns what a run over the zone of two records wrote, and its fault. These calls of its source and its sink fail.
+/// Returns what a run over the zone of two records writes, and its fault. The calls of the source and the sink with
+/// these numbers fail.
 fn run_by_steps(
     alloc: Global,
     read: Option<usize>,
@@ -28,7 +29,7 @@ fn each_read_fails_in_turn(rt: HostRuntime) -> Result<(), Fail> {
     Ok(())
 }
 
-/// What was written before is written still. A run in which no call fails reads and writes all octets.
+/// The octets before the failed write stay written. A run without a failed call reads and writes all octets.
 #[test]
 fn each_write_fails_in_turn(rt: HostRuntime) -> Result<(), Fail> {
     let alloc = rt.alloc();

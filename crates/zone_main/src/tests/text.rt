@@ -8,13 +8,13 @@ use zonewire::ZoneError;
 /// A row whose first word is long.
 const LONG_ROW: &[u8] = b"bbbbbbbbbbbbbbbbbb.a. 5 IN A 1.2.3.4\n";
 
-/// The long row with another octet at a place, behind the row of an SOA.
+/// Returns the text of the SOA and then the long row with the octet at `place` replaced.
 fn long_row_with(alloc: Global, place: usize, octet: u8) -> Result<Vec<u8>, AllocError> {
     let row = changed(alloc, LONG_ROW, place, octet)?;
     behind_soa(alloc, row.as_slice())
 }
 
-/// Whether the second record of the text has this owner.
+/// Returns whether the second record of the text has this owner.
 fn has_owner(alloc: Global, text: &[u8], owner: &[u8]) -> Result<bool, ZoneError> {
     let zone = zone_of(alloc, text)?;
     let mut records = zone.records();
@@ -24,7 +24,7 @@ fn has_owner(alloc: Global, text: &[u8], owner: &[u8]) -> Result<bool, ZoneError
     Ok(second.owner().as_slice() == owner)
 }
 
-/// Of the places, some are in the first eight octets of the word, some in the next, and one is behind these.
+/// The places are in the first eight octets of the word, in the next eight, and one after these.
 #[test]
 fn octets_that_stand_in_words(rt: HostRuntime) -> Result<(), Fail> {
     let alloc = rt.alloc();
@@ -45,7 +45,7 @@ fn octets_that_stand_in_words(rt: HostRuntime) -> Result<(), Fail> {
 fn octets_that_stand_in_no_word(rt: HostRuntime) -> Result<(), Fail> {
     let alloc = rt.alloc();
     for &octet in b"\x00\t\r\x1f \"();\x7f\x80\xff" {
-        // In front of a row a semicolon begins a comment.
+        // A semicolon at the start of a row begins a comment.
         let first = if octet == b';' { 1 } else { 0 };
         for place in first..17 {
             let text = long_row_with(alloc, place, octet)?;
@@ -63,7 +63,7 @@ fn a_word_of_a_megabyte_is_refused(rt: HostRuntime) -> Result<(), Fail> {
     Ok(())
 }
 
-/// The row of an SOA, and behind it one of opaque data, whose length is written so and which has so many digits.
+/// Returns the text of the SOA and then a row of unknown data with this length field and this number of digits.
 fn opaque_data(alloc: Global, length: &[u8], digits: usize) -> Result<Vec<u8>, AllocError> {
     let mut text = behind_soa(alloc, b"a. 5 IN TYPE65280 \\# ")?;
     text.extend_from_slice(length)?;
@@ -74,7 +74,7 @@ fn opaque_data(alloc: Global, length: &[u8], digits: usize) -> Result<Vec<u8>, A
     Ok(text)
 }
 
-/// How many octets of data the second record of the text has.
+/// Returns the number of octets of the second record's data.
 fn second_data_len(alloc: Global, text: &[u8]) -> Result<usize, ZoneError> {
     let zone = zone_of(alloc, text)?;
     let mut records = zone.records();
@@ -84,7 +84,7 @@ fn second_data_len(alloc: Global, text: &[u8]) -> Result<usize, ZoneError> {
     Ok(second.data().len())
 }
 
-/// A record counts the octets of its data in two octets (RFC 1035 3.2.1).
+/// The length of a record's data has two octets (RFC 1035 3.2.1).
 #[test]
 fn data_has_at_most_65535_octets(rt: HostRuntime) -> Result<(), Fail> {
     let alloc = rt.alloc();

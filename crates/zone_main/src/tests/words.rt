@@ -1,4 +1,5 @@
-//! What a refused command line shows. The fields of jobs are rows of `zonewire_rows`.
+//! The text of a command line that fails, and layouts that are compared. The fields of jobs are tested by rows of
+//! `zonewire_rows`.
 
 use std::process::Abort;
 use std::test::Fail;

@@ -1,4 +1,4 @@
-//! What holds of the canonical octets of zones that are sent.
+//! Laws of the canonical octets of zones that are sent.
 
 ghost use Rattle.std.specs.Prelude.{◌↔◌, ℕ, ◌<◌, ◌^◌, List};
 ghost use Rattle.zone_canonical.specs.Canonical.{IsCanonical};
@@ -13,13 +13,13 @@ ghost use Rattle.zone_send.specs.declared.sending.Spelling.{Spelling};
 ghost use Rattle.std.specs.List.{AllByRecursion, AllZip};
 ghost use Rattle.zone_canonical.specs.Canonical.{HasCanonicalForm};
 
-/// Records that differ in the ASCII case of owners and compressible names alone have the same canonical octets.
+/// Records that differ only in the ASCII case of owners and compressible names have the same canonical octets.
 pub fn near_records_have_the_same_canonical_octets()
     ensures { (records others : List Record) (octets : List ℕ) → AllByRecursion HasCanonicalForm records → AllZip IsNear records others →
         IsCanonical records octets ↔ IsCanonical others octets }
 {}
 
-/// What is received of what is sent has the canonical octets of the zone, however names were written.
+/// What is received from a sent stream has the canonical octets of the zone, whichever way names were written.
 pub fn transfers_keep_canonical_octets()
     ensures { (spelling : Spelling) (records others : List Record) (class : ℕ) (query : AxfrQuery) (max : ℕ) (stream octets : List ℕ) →
         max < 2 ^ 16 → AreSendable class records → IsQueryFor records class query → IsSentBy spelling records query max stream →

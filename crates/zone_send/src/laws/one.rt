@@ -1,4 +1,4 @@
-//! What is sent for records is one stream, or nothing is for one reason.
+//! For records and a query one stream is sent, or none for one reason.
 
 ghost use Rattle.std.specs.Prelude.{◌≡◌, ◌<◌, ◌^◌, ℕ, List};
 ghost use Rattle.zone_octets.specs.Record.{Record};
@@ -9,8 +9,8 @@ ghost use Rattle.zone_send.specs.Sent.{IsQueryFor};
 ghost use Rattle.zone_send.specs.SentBy.{IsSentBy, IsBlockedBy, KeepsCase};
 ghost use Rattle.zone_send.specs.declared.sending.Spelling.{Spelling};
 
-/// However names are written and whatever the limit, at most one stream is sent for records and a query, octet for octet, and at most
-/// one record is blocked. Where one is, nothing is sent.
+/// For any spelling and limit, at most one stream is sent for records and a query, octet for octet, and at most one
+/// record is blocked. If one is blocked, nothing is sent.
 pub fn one_stream_or_one_blocked_record()
     ensures one_stream { (spelling : Spelling) (records : List Record) (query : AxfrQuery) (max : ℕ) (stream other : List ℕ) →
         IsSentBy spelling records query max stream → IsSentBy spelling records query max other → stream ≡ other }
@@ -20,7 +20,7 @@ pub fn one_stream_or_one_blocked_record()
         IsBlockedBy spelling records query max m → IsBlockedBy spelling records query max n → m ≡ n }
 {}
 
-/// Where names keep their case, whatever is sent under the same spelling for the records that are received of a stream is that
+/// If names keep their case, whatever is sent under the same spelling for the records received from a stream is that
 /// stream again, octet for octet.
 pub fn sent_again_is_the_same()
     ensures { (spelling : Spelling) (records others : List Record) (class : ℕ) (query : AxfrQuery) (max : ℕ) (stream again : List ℕ) →

@@ -6,7 +6,7 @@ use std::alloc::AllocError;
 use thiserror::Error;
 use zone_core::QueryError;
 
-/// The first rule that is broken, in this order.
+/// The first rule that is broken, in the order of the variants.
 #[derive(Clone, Copy, Debug, PartialEq, Eq, Error)]
 pub enum SendError {
     /// The query breaks a rule.
@@ -18,7 +18,7 @@ pub enum SendError {
     /// The record with this number, counted from 1 with the SOA again as the last, fits in no message.
     #[error("record {0} does not fit")]
     Record(usize),
-    /// Out of memory. The query asks for the zone.
+    /// Out of memory; the query asks for the zone.
     #[error("out of memory")]
     OutOfMemory,
 }

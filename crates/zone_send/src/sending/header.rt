@@ -7,7 +7,7 @@ use dns_message::Header;
 use dns_message::laws::header_is_its_fields;
 use zone_core::Query;
 
-/// Returns the header of each message but for its counts: the query's id and RD, QR and AA (RFC 5936 2.2.1).
+/// Returns the header of each message without its counts: the query's ID and RD, with QR and AA set (RFC 5936 2.2.1).
 pub(crate) fn header_of(query: &Query<'_>) -> Header
     ensures { result ≡ header_front (asked_by query.now) }
 {
@@ -16,7 +16,7 @@ pub(crate) fn header_of(query: &Query<'_>) -> Header
     header.set_qr(true);
     header.set_aa(true);
     header.set_rd(query.rd());
-    // The proof reads the octets off the fields.
+    // For the proof: the header's octets are its fields.
     header_is_its_fields(header);
     header
 }

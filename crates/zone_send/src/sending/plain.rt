@@ -15,22 +15,22 @@ use zone_core::Query;
 use zone_core::question::compose_opening;
 use zone_octets::header::put_number;
 
-/// The octets of a message's length on a stream.
+/// The number of octets of a message's length on a stream.
 const LENGTH_OCTETS: usize = 2;
 
-/// The place of the count of answers in a message (RFC 1035 4.1.1).
+/// The place of the count of answers in a message, in octets (RFC 1035 4.1.1).
 const ANSWER_COUNT: usize = 6;
 
-/// A stream of whole frames, to whose last message records are still added.
+/// A stream of whole frames. Records are still added to its last message.
 #[derive(Debug, Drop)]
 pub(crate) struct Sender {
     stream: Vec<u8>,
     /// A message without answers: header and question.
     opening: Vec<u8>,
     max: usize,
-    /// Where the last message begins, behind its length; None before the first.
+    /// The place in the stream where the last message begins, after its length. None before the first message.
     last: Option<usize>,
-    /// How many answers the last message has.
+    /// The number of answers in the last message.
     answers: u16,
 }
 
@@ -40,7 +40,8 @@ impl Sender {
     ghost use Rattle.zone_send.specs.Sent.{size};
     ghost use Rattle.zone_send.specs.Sending.{Stands, StandsWhole, HoldsGroups, Holds, HasNoRoom, FitsNowhere};
 
-    /// A stream without a message, for the answers to a query of this name, in the place of what the spare vector holds.
+    /// Returns a stream without a message, for the answers to a query of this name. It reuses the memory of the spare
+    /// vector and drops its octets. Fails if out of memory.
     pub(crate) fn new(
         alloc: Global,
         spare: Vec<u8>,
@@ -63,8 +64,8 @@ impl Sender {
         })
     }
 
-    /// Adds a record, written out, to the last message, or where it has no room there to a new one. False where it has none
-    /// there either.
+    /// Adds a written record to the last message, or to a new one if it has no room there. Returns false if it has no
+    /// room in a new message either. Fails if out of memory.
     pub(crate) fn put(&mut self, record: &[u8]) -> Result<bool, AllocError>
         requires holds { (query : AxfrQuery) × (records : List spec.Record) × Holds self.old query records }
         requires is_record { (r : spec.Record) × («record».now ≡ record_octets r) }
@@ -87,14 +88,14 @@ impl Sender {
         Ok(true)
     }
 
-    /// The stream.
+    /// Returns the octets of the stream.
     pub(crate) fn into_stream(self) -> Vec<u8>
         ensures { result.items ≡ self.stream.items }
     {
         self.stream
     }
 
-    /// Where the last message begins, if there is one with room for so many octets.
+    /// Returns the place where the last message begins, if there is one with room for `len` octets.
     fn last_with_room(&self, len: usize) -> Option<usize>
         requires holds { (query : AxfrQuery) × (records : List spec.Record) × Holds self.now query records }
         requires small { len < 2 ^ 63 + 2 ^ 16 }
@@ -109,7 +110,7 @@ impl Sender {
         }
     }
 
-    /// Begins a message, and answers where.
+    /// Begins a message, and returns the place where it begins. Fails if out of memory.
     fn open(&mut self) -> Result<usize, AllocError>
         ensures stands { IfOk result (λ start. (query : AxfrQuery) (groups : List (List spec.Record)) →
             HoldsGroups self.old query groups → Stands self.new query start groups [] (0 ∷ 0 ∷ []) (0 ∷ 0 ∷ [])) }
@@ -123,7 +124,8 @@ impl Sender {
         Ok(start)
     }
 
-    /// Adds a record to the last message, which begins at `start` and has room, and counts it.
+    /// Adds a record to the last message, which begins at `start` and has room for it, and counts it. Fails if out of
+    /// memory.
     fn append(&mut self, start: usize, record: &[u8]) -> Result<(), AllocError>
         requires { (query : AxfrQuery) × (front : List (List spec.Record)) × (group : List spec.Record) × (mark count : List ℕ) ×
             Stands self.old query start front group mark count × (size query group + length «record».now ≤ self.old.max)
@@ -142,7 +144,8 @@ impl Sender {
     }
 }
 
-/// The header and the question of each message (RFC 1035 4.1.1, 4.1.2), without answers yet.
+/// Composes the header and the question of each message (RFC 1035 4.1.1, 4.1.2), without answers. Fails if out of
+/// memory.
 fn opening(alloc: Global, query: &Query<'_>, name: &Name<Vec<u8>>) -> Result<Vec<u8>, AllocError>
     requires { name.now ≡ (asked_by query.now).name }
     ensures octets { IfOk result (λ opening. opening.items ≡ message (asked_by query.now) []) }

@@ -1,4 +1,4 @@
-//! The stream of a transfer in which names are written with pointers (RFC 1035 4.1.4).
+//! The stream of a transfer whose names are written with pointers (RFC 1035 4.1.4).
 ghost use Rattle.std.specs.Prelude.{◌≡◌, ◌≢◌, ◌<◌, ◌≤◌, ◌^◌, [], ℕ, List, Some, length, slice_get, IsOk, IsErrAnd, IfOk, IfErr, MatchOption};
 ghost use Rattle.std.specs.Bool.{OnTrue, OnFalse};
 ghost use Rattle.std.specs.List.{AllByRecursion};
@@ -29,13 +29,13 @@ use zone_octets::record::Record;
 use zone_octets::record_list::RecordList;
 use zone_octets::typed::typed_record;
 
-/// A target of messages, each behind its length in two octets (RFC 1035 4.2.2), in which names are written by one spelling.
+/// A target of one message after its length in two octets (RFC 1035 4.2.2). It writes names by one spelling.
 pub(crate) trait FrameTarget: Composer + Drop {
-    /// A target without octets, in the place of what the vector holds.
+    /// Returns an empty target that reuses the memory of the vector, whose octets it drops. Fails if out of memory.
     fn over(alloc: Global, frame: Vec<u8>) -> Result<Self, AllocError>
         ensures bound { IfOk result (λ target. Self.bound target ≡ Some 65535) };
 
-    /// The length and then the message.
+    /// Returns the octets of the length and then the message.
     fn into_frame(self) -> Vec<u8>
         ensures { result.items ≡ frame (Self.list self) };
 }
@@ -70,7 +70,7 @@ impl FrameTarget for HashCompressor<StreamTarget<Vec<u8>>> {
     }
 }
 
-/// What is sent, in answer to what, and in messages of how many octets at most.
+/// The records to send, the query they answer, and the most octets that a message may have.
 #[derive(Drop)]
 pub(crate) struct Answer<'a> {
     pub(crate) query: &'a Query<'a>,
@@ -83,7 +83,8 @@ pub(crate) struct Answer<'a> {
 }
 
 impl Answer<'_> {
-    /// The stream of the records and the first of them again, in the place of what the spare vector holds.
+    /// Returns the stream of the records and the first of them again. It reuses the memory of the spare vector. Fails
+    /// if a record has room in no message, or if out of memory.
     pub(crate) fn send<Target: FrameTarget>(
         &self,
         alloc: Global,
@@ -108,8 +109,9 @@ impl Answer<'_> {
         Ok(stream)
     }
 
-    /// The frame whose first record is the one at this index, with as many of those behind it as have room, in the place of what
-    /// a vector holds; and the index of the first that has none.
+    /// Returns the frame that begins with the record at index `start` and has as many of the next records as fit, and
+    /// the index of the first record that does not. Reuses the memory of a vector. Fails if the first record has no
+    /// room even alone, or if out of memory.
     fn next_frame<Target: FrameTarget>(
         &self,
         alloc: Global,
@@ -140,7 +142,8 @@ impl Answer<'_> {
         Ok((builder.into_target().into_frame(), count))
     }
 
-    /// A message without answers: header and question. None if that alone has more octets than a message may have.
+    /// Begins a message without answers: header and question. Returns None if these alone are larger than a message may
+    /// be. Fails if out of memory.
     fn begin<Target: FrameTarget>(
         &self,
         alloc: Global,
@@ -160,7 +163,7 @@ impl Answer<'_> {
         Ok(Some(builder.answer()))
     }
 
-    /// How many records are sent: those of the zone and the SOA again.
+    /// Returns the number of records that are sent: those of the zone and the SOA again.
     fn len(&self) -> usize
         ensures count { result ≡ length (with_soa_again self.now.records.now) }
         ensures few { result ≤ 2 ^ 63 }
@@ -172,7 +175,7 @@ impl Answer<'_> {
         }
     }
 
-    /// The record at an index of those that are sent.
+    /// Returns the record at an index of those that are sent.
     fn record_at(&self, index: usize) -> Record<'_>
         requires within { index < length (with_soa_again self.now.records.now) }
         requires lawful { AllByRecursion HasLawfulData self.now.records.now }
@@ -187,7 +190,8 @@ impl Answer<'_> {
     }
 }
 
-/// A target of one message behind its length, in the place of what the vector holds.
+/// Returns an empty target of one message after its length, which reuses the memory of the vector. Fails if out of
+/// memory.
 fn stream_over(frame: Vec<u8>) -> Result<StreamTarget<Vec<u8>>, AllocError> {
     match StreamTarget::new(frame) {
         Ok(target) => Ok(target),
@@ -196,7 +200,7 @@ fn stream_over(frame: Vec<u8>) -> Result<StreamTarget<Vec<u8>>, AllocError> {
     }
 }
 
-/// A builder of a message whose header is clear.
+/// Returns a builder of a message whose header is clear. Fails if out of memory.
 fn builder_over<Target: FrameTarget>(target: Target) -> Result<MessageBuilder<Target>, AllocError>
     requires { Target.bound target ≡ Some 65535 }
     ensures built { IfOk result (λ builder. IsDraftOf Target.spelling nothing_built (draft_of builder)) }
@@ -209,7 +213,8 @@ fn builder_over<Target: FrameTarget>(target: Target) -> Result<MessageBuilder<Ta
     }
 }
 
-/// Adds a record to a message, its names written by the target's spelling. False where it has no room.
+/// Adds a record to a message, with its names written by the target's spelling. Returns false if it has no room. Fails
+/// if out of memory.
 fn push_record<Target: FrameTarget>(
     builder: &mut AnswerBuilder<Target>,
     next: &Record<'_>,
@@ -222,7 +227,7 @@ fn push_record<Target: FrameTarget>(
     was_taken(builder.push_ref(&typed_record(next)))
 }
 
-/// Whether a builder took what was pushed. It refuses no lawful record that has room, unless memory is lacking.
+/// Returns whether a push succeeded. Fails if out of memory. So a lawful record is not taken only if it has no room.
 fn was_taken(pushed: Result<(), PushError>) -> Result<bool, AllocError>
     ensures yes { IfOk result (λ taken. OnTrue taken (IsOk pushed)) }
     ensures no { IfOk result (λ taken. OnFalse taken (IsErrAnd pushed (λ error. error ≢ OutOfMemory))) }

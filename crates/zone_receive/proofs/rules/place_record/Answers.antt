@@ -29,13 +29,13 @@ from_octets-next-requires c =
     let there = next_there it.held it.r c.len-last.result c.len-last.ensures.count it.splits in
     (it.r, c.octets_at-octets.ensures.known it.r there, c.octets_at-octets.ensures.octets it.r there)
 
--- the record that is looked at is the last one
+-- the record that is checked is the last one
 here : (c : After-from_octets-next) (held : List spec.Record) (r : spec.Record) → c.args.records.now ≡ held ++ r ∷ [] → c.from_octets-next.result ≡ r
 here c held r splits =
     let octets = c.octets_at-octets.ensures in
     next_is held r c.len-last.result c.len-last.ensures.count splits octets.octets octets.known c.from_octets-next.ensures
 
--- so it is read where that is
+-- so it is the record at its place in the message
 read_here : (c : After-from_octets-next) (held : List spec.Record) (r : spec.Record) (message : List ℕ) (place end : ℕ)
     → c.args.records.now ≡ held ++ r ∷ [] → ReadsRecord message place r end → ReadsRecord message place c.from_octets-next.result end
 read_here c held r message place end splits has = subst (λ r. ReadsRecord message place r end) (sym (here c held r splits)) has
@@ -69,7 +69,7 @@ returns-then-not-is_first_soa-clause-err c =
           let told = c.is_first_soa.ensures.1 (first_broken c.from_octets-next.result stands empty keeps) in cc,
     )
 
--- the rule of the first record is kept from there on
+-- the first rule is kept from there on
 first_rule : (c : After-class) (held : List spec.Record) (r : spec.Record) (front : List spec.Record) → c.args.records.now ≡ held ++ r ∷ []
     → StandsAt (asked_of c.args.query.now) held c.args.closed front → KeepsFirstRule (asked_of c.args.query.now) front c.from_octets-next.result
 first_rule c held r front splits stands =
@@ -191,7 +191,7 @@ returns-then-not-is_same_soa-clause-err c =
           let told = c.is_same_soa.ensures.1 (last_broken held c.record_at.result r' stands first keeps soa.1) in cc,
     )
 
--- the rule of a later SOA is kept behind its test
+-- the rule of a later SOA is kept after its test
 last_rule : (c : Joined-not-is_soa)
     → ((held : List spec.Record) → c.len-last.result - 1 ≡ length held → c.if-last-eq0-2.value ≡ true
     → (held ≡ []) ⊎ (c.from_octets-next.result.rtype ≡ soa_type → ⊥))

@@ -32,7 +32,7 @@ returns-in_err-matches c =
     let words = map (λ (w : Bor (List ℕ)). w.now) c.args.words.now in
     (a, c.in_ok-command.ensures, subst (Reads a words) (sym (is ∙ ap Err line)) (parse.kinds (simple_and_free a c.in_ok-command.ensures), parse.passes))
 
--- the words name the subcommand with these rows, and this holds of what they give
+-- the words name the subcommand with these rows, and this holds of the result
 reads : (a : App) (words : List Text) (name : Text) (rows options : List Row) (r : Result Job WordsFault) → fault_of a words ≡ []
     → subcommand_of a words ≡ Some (name, rows) → options ≡ rows → MatchResult r (IsJobOf (name, options)) (IsValueFault (name, options)) → Reads a words r
 reads a words name rows options (Ok job) clear names same holds = (clear, ((name, rows), names, subst (λ l. IsJobOf (name, l) job) same holds))

@@ -1,4 +1,4 @@
--- What is gone from `rest` was appended.
+-- What has left `rest` was appended.
 use Rattle.std.proofs.Common.{◌≡◌, ℕ, List, ◌++◌, length}
 use Rattle.std.specs.Io.KnownBytes.{Appends}
 use Rattle.zonewire.proofs.sink.write_all.Given as goal

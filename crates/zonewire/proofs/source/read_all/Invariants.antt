@@ -1,4 +1,4 @@
--- What was gathered is what the source lost. Each turn makes the vector longer, and its length has a bound.
+-- The octets read are those that the source lost. Each turn makes the vector longer, and its length has a bound.
 use Rattle.std.proofs.Common.{◌≡◌, ◌<◌, ◌-◌, ◌^◌, vec_len}
 use Rattle.std.specs.Io.KnownBytes.{Consumes}
 use Rattle.zonewire.proofs.source.read_all.Given as goal

@@ -1,4 +1,5 @@
 use Rattle.std.proofs.Common.{◌∙◌, ◌<◌, ℕ, length, ap, subst, refl, arith}
+use Rattle.dns_octets.specs.Builder.{IsWithin}
 use Rattle.dns_name.specs.Page.{Page}
 use Rattle.dns_name.specs.RecordData.{page_of}
 use Rattle.dns_name.proofs.Soundness.{merely-within}
@@ -72,6 +73,12 @@ returns-clause-ok g c =
       builds = w.builds;
       taken = record {
         counted = opt_short g.F.FnOnce (opt_in g.Target.Octets.list) c.args.op g.Target.Composer.spelling (draft_in c.args.self.now).page c.in_ok-header.header w.opt w.builds;
+        fits = subst (λ (d : Draft). IsWithin d.bound (length d.page.octets)) (λ i. record {
+          page = w.written i;
+          bound = c.append_opt.ensures.same_bound i;
+          starts = c.args.self.now.starts.items;
+          limit = c.args.self.now.limit;
+        }) taken.fits;
         short = subst (λ (p : Page). length p.octets < c.args.self.now.limit) w.written taken.short;
         few = subst (λ n. n < 65535) (number_grown 10 c.append_opt.ensures.grows (omega (arith, c.args.self.now.header))) taken.few;
       };
