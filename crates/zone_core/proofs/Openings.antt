@@ -34,12 +34,3 @@ pub counts_one : (clear counts : List ℕ) → clear ≡ 0 ∷ 0 ∷ 0 ∷ 0 ∷
     → counts ≡ counts_octets (counts_of counts) → counts ≡ one_question
 counts_one clear counts clear_is set is =
     is ∙ ap counts_octets (set ∙ ap (λ (l : List ℕ). record (counts_of l) { qd = 1 }) clear_is)
-<<<<<<< HEAD
-=======
-
--- a header with an ID and no other field set
-pub id_alone : (id : ℕ) (clear header : List ℕ) → clear ≡ 0 ∷ 0 ∷ 0 ∷ 0 ∷ [] → fields_of header ≡ record (fields_of clear) { id = id }
-    → header ≡ header_octets (fields_of header) → header ≡ to_be_bytes w16 id ++ 0 ∷ 0 ∷ []
-id_alone id clear header clear_is set is =
-    is ∙ ap header_octets (set ∙ ap (λ (l : List ℕ). record (fields_of l) { id = id }) clear_is)
->>>>>>> a5ab56371670fe94c6294c8529dc7ab8f30e6762

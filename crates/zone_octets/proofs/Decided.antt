@@ -6,11 +6,6 @@ use Rattle.dns_wire.specs.Suffix.{EndsWith}
 abbrev pub Decided : Type 0 → Type 0
 Decided P = P ⊎ (P → ⊥)
 
-pub decided_both : {P Q : Type 0} → Decided P → Decided Q → Decided (P × Q)
-decided_both (inl p) (inl q) = inl (p, q)
-decided_both (inl p) (inr no_q) = inr (λ both. no_q both.1)
-decided_both (inr no_p) q = inr (λ both. no_p both.0)
-
 -- lists of what can be compared
 decided_more : {X : Type 0} (x y : X) (xs ys : List X) → Decided (x ≡ y) → Decided (xs ≡ ys) → Decided (x ∷ xs ≡ y ∷ ys)
 decided_more x y xs ys (inl same) (inl rest) = inl (cc (same, rest))

@@ -28,34 +28,7 @@ fault_for spelling query class held records octets max error is asks are refused
     let P : List Record → Type 0 = λ rs. IsRefusedFor spelling rs query max error in
     fault_of spelling query class records octets max error is asks (subst P are refused)
 
-<<<<<<< HEAD
--- the data of a zone's records is that of their types
-=======
--- with every name written out
-pub plain_refused : (query : AxfrQuery) (records : List Record) (within max : ℕ) (error : SendError) → within ≡ max
-    → IsRefusedBy query within records error → IsRefusedFor Plain records query max error
-plain_refused query records within max (send_error.Query fault) same refused = absurd refused
-plain_refused query records within max send_error.WrongZone same refused = absurd refused
-plain_refused query records within max (send_error.Record n) same refused =
-    let P : ℕ → Type 0 = λ m. IsBlocked (size query) m (with_soa_again records) n in subst P same refused
-plain_refused query records within max send_error.OutOfMemory same refused = tt
-
-pub plain_sent : (query : AxfrQuery) (records : List Record) (within max : ℕ) (stream : List ℕ) → within ≡ max
-    → IsSent records query within stream → IsSent records query max stream
-plain_sent query records within max stream same sent =
-    let P : ℕ → Type 0 = λ m. IsSent records query m stream in subst P same sent
-
--- with names by a spelling
-pub spelled_refused : (spelling : Spelling) (s : Spells) (query : AxfrQuery) (records : List Record) (max : ℕ) (error : SendError)
-    → ((n : ℕ) → IsSpelledBlocked s records query max n → IsBlockedBy spelling records query max n)
-    → IsRefusedSpelled s records query max error → IsRefusedFor spelling records query max error
-spelled_refused spelling s query records max (send_error.Query fault) same refused = absurd refused
-spelled_refused spelling s query records max send_error.WrongZone same refused = absurd refused
-spelled_refused spelling s query records max (send_error.Record n) same refused = same n refused
-spelled_refused spelling s query records max send_error.OutOfMemory same refused = tt
-
 -- the data of a zone's records is lawful for their types
->>>>>>> a5ab56371670fe94c6294c8529dc7ab8f30e6762
 pub all_lawful : (class : ℕ) (records : List Record) → AllByRecursion (IsRecordOf class) records → AllByRecursion HasLawfulData records
 all_lawful class [] each = tt
 all_lawful class (r ∷ records) each = (each.0.data_is, all_lawful class records each.1)
