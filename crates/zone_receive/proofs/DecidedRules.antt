@@ -1,5 +1,5 @@
 -- Each rule of a message is kept or broken, so the first broken one is found.
-use Rattle.std.proofs.Common.{◌≡◌, ◌⊎◌, ℕ, Bool, true, false, List, [], ◌∷◌, map, Some, None, refl, sym, ap, ◌∙◌, subst, arith, append-nil, inl, inr}
+use Rattle.std.proofs.Common.{◌≡◌, ◌⊎◌, ℕ, ◌≤◌, Bool, true, false, List, [], ◌∷◌, length, map, Some, None, refl, sym, ap, ◌∙◌, subst, arith, append-nil, inl, inr}
 use Rattle.std.specs.Prelude.{⊤}
 use Rattle.std.specs.List.{AllByRecursion}
 use Rattle.std.proofs.lemmas.Bool.{cases_lt, cases_eq}
@@ -14,7 +14,7 @@ use Rattle.zone_octets.specs.Zone.{IsUnder, soa_type, axfr_type}
 use Rattle.zone_core.specs.Query.{AxfrQuery}
 use Rattle.zone_core.specs.Transfer.{AsksAgain, CountsAnswers, IsQuestionOf}
 use Rattle.zone_octets.specs.Records.{SameSoa}
-use Rattle.zone_receive.specs.Receiving.{IsOpen, IsClosed, KeepsLastRule}
+use Rattle.zone_receive.specs.Receiving.{IsOpen, IsClosed, KeepsFirstRule, KeepsLastRule}
 use Rattle.zone_receive.specs.declared.error.ReceiveError.{ReceiveError}
 use Rattle.zone_octets.proofs.Decided.{Decided, decided_names, decided_end}
 use Rattle.zone_octets.proofs.RowFronts.{row_one, are_plain, ArePlain, lowered_decided}
@@ -112,6 +112,16 @@ same_soa_decided soa other is is' =
     same_by_parts soa other a b (parts_decided (decided_names (low soa.owner) (low other.owner)) (cases_eq soa.class other.class)
     (cases_eq soa.ttl other.ttl) (lowered_decided a.row b.row (plain_soa a.row a.is) (plain_soa b.row b.is)))
 
+decided_both : {P Q : Type 0} → Decided P → Decided Q → Decided (P × Q)
+decided_both (inl p) (inl q) = inl (p, q)
+decided_both (inl p) (inr no_q) = inr (λ both. no_q both.1)
+decided_both (inr no_p) q = inr (λ both. no_p both.0)
+
+-- the rules of a record
+first_decided : (query : AxfrQuery) (front : List Record) (r : Record) → Decided (KeepsFirstRule query front r)
+first_decided query [] r = decided_both (cases_eq r.rtype soa_type) (decided_names (low r.owner) (low query.name))
+first_decided query (soa ∷ others) r = inl tt
+
 under_decided : (query : AxfrQuery) (r : Record) → Decided (IsUnder query.name r.owner)
 under_decided query r = decided_end (low r.owner) (low query.name)
 
@@ -152,6 +162,9 @@ bool_decided true true = inl refl
 bool_decided false false = inl refl
 bool_decided true false = inr (λ e. cc)
 bool_decided false true = inr (λ e. cc)
+
+long_decided : (message : List ℕ) → Decided (12 ≤ length message)
+long_decided message = elim (cases_lt (length message) 12) [ inl short ↦ inr (λ long. omega arith) | inr long ↦ inl long ]
 
 counts_decided : (message : List ℕ) → Decided (CountsAnswers message)
 counts_decided message = elim (cases_lt 1 (question_count message)) [

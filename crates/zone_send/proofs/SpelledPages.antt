@@ -10,10 +10,11 @@ use Rattle.dns_name.specs.RecordData.{page_of}
 use Rattle.dns_header.specs.Head.{fixed_octets}
 use Rattle.dns_header.specs.Header.{answer_header}
 use Rattle.dns_header.specs.Question.{question_parts}
-use Rattle.dns_header.specs.Written.{Written, parts_of}
+use Rattle.dns_header.specs.Written.{Written, parts_of, data_length}
 use Rattle.dns_size.specs.Joined.{join_parts}
 use Rattle.dns_size.specs.Groups.{items}
 use Rattle.dns_builder.specs.Built.{header_octets, built_page, write_all}
+use Rattle.dns_builder.proofs.Cleared.{patched-long}
 use Rattle.dns_builder.proofs.Grown.{grown_longer, write_grows}
 use Rattle.dns_builder.proofs.SameBehind.{same_write, same_all, same_none, same_length}
 use Rattle.dns_builder.proofs.Sections.{write_all-append}
@@ -126,4 +127,23 @@ record_long s page w =
       grown_longer (write_grows s (with_octets named fixed) (Counted w.rdata End)),
       length-append named.octets fixed,
       eight,
+    )
+
+pub data_shorter : (s : Spelling) (page : Page) (w : Written) → data_length s page w ≤ length (write s page (parts_of w)).octets
+unfolding write
+data_shorter s page w =
+    let front : Page = with_octets (with_name s page w.owner) (fixed_octets w.rtype w.class w.ttl) in
+    let marked : Page = with_octets front (0 ∷ 0 ∷ []) in
+    let inner : Page = write s marked w.rdata in
+    let count : List ℕ = to_be_bytes w16 (length inner.octets - (length front.octets + 2)) in
+    let whole : List ℕ = (write s page (parts_of w)).octets in
+    omega (
+      arith,
+      grown_longer (write_grows s marked w.rdata),
+      length-append front.octets (0 ∷ 0 ∷ []),
+      patched-long (length front.octets) inner.octets count whole refl (omega (
+        arith,
+        grown_longer (write_grows s marked w.rdata),
+        length-append front.octets (0 ∷ 0 ∷ []),
+      )),
     )

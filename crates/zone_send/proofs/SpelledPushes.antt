@@ -27,7 +27,7 @@ use Rattle.zone_core.specs.Query.{AxfrQuery, question_of}
 use Rattle.zone_send.specs.Spelled.{spelled_size}
 use Rattle.zone_send.specs.Sending.{header_front}
 use Rattle.zone_send.specs.SpelledSending.{IsItem, answer_built, HoldsGroup, IsPushed}
-use Rattle.zone_send.proofs.SpelledPages.{page_is, length_more, length_asked, record_long}
+use Rattle.zone_send.proofs.SpelledPages.{page_is, length_more, length_asked, length-items, record_long, data_shorter}
 
 -- how many octets a message has
 long_is : (s : Spelling) (query : AxfrQuery) (item : Record → Parts) (group : List Record) (draft : Draft)
@@ -37,6 +37,37 @@ long_is s query item group draft built = ap (λ (p : Page). length p.octets) bui
 -- a builder holds at most this number of octets
 past : (bound : Option ℕ) (most long : ℕ) → bound ≡ Some most → IsPast bound long → most < long
 past bound most long is more = let P : Option ℕ → Type 0 = λ b. IsPast b long in subst P is more
+
+-- a record whose push fails, but not with `OutOfMemory`, has no room
+refused_large : {s : Spelling} {query : AxfrQuery} {item : Record → Parts} {max : ℕ} {group : List Record} (r : Record) {draft : Draft}
+    (w : Written) (error : PushError) → HoldsGroup s query item max group draft → parts_of w ≡ item r
+    → IsRefusedBy s 1 draft (parts_of w) (65535 < data_length s draft.page w) error → error ≢ OutOfMemory
+    → max < spelled_size s query item (push group r)
+refused_large {s} {query} {item} {max} {group} r {draft} w error holds is refused other = by_error error refused other
+  where
+    more : length_with s draft (parts_of w) ≡ spelled_size s query item (push group r)
+    more = ap (length_with s draft) is ∙ length_more s query item group r draft.page holds.built.page
+
+    by_error : (error : PushError) → IsRefusedBy s 1 draft (parts_of w) (65535 < data_length s draft.page w) error → error ≢ OutOfMemory
+        → max < spelled_size s query item (push group r)
+    by_error ShortBuf refused other = omega (arith, past draft.bound 65535 _ holds.bound refused, more, holds.small)
+    by_error BadLength refused other = omega (arith, refused, data_shorter s draft.page w, more, holds.small)
+    by_error LimitExceeded refused other = omega (arith, refused.long, holds.limit, more)
+    by_error CountOverflow refused other =
+        let full : counted_at 1 draft ≡ 65535 = refused.full in
+        let counted : counted_at 1 draft ≡ length (map item group) = counted_is 1 holds.built (omega arith) in
+        absurd (omega (
+          arith,
+          refused.short,
+          full,
+          counted,
+          length-items item group,
+          holds.few,
+          record_long s draft.page w,
+          holds.limit,
+          holds.small,
+        ))
+    by_error OutOfMemory refused other = absurd (other refl)
 
 -- a record whose push succeeds is the last of the group
 taken_on : {s : Spelling} {query : AxfrQuery} {item : Record → Parts} {max : ℕ} {group : List Record} (r : Record) {old new : Draft}
@@ -63,6 +94,12 @@ taken_on {s} {query} {item} {max} {group} r {old} {new} w holds is built taken l
 
     built_new : IsDraftOf s (answer_built query (map item (push group r))) new
     built_new = let P : List Parts → Type 0 = λ l. IsDraftOf s (answer_built query l) new in subst P answers built
+
+-- a builder that did not change holds the same
+pub holds_still : {s : Spelling} {query : AxfrQuery} {item : Record → Parts} {max : ℕ} {group : List Record} {old new : Draft} → new ≡ old
+    → HoldsGroup s query item max group old → HoldsGroup s query item max group new
+holds_still {s} {query} {item} {max} {group} same holds =
+    let P : Draft → Type 0 = λ draft. HoldsGroup s query item max group draft in subst P (sym same) holds
 
 -- what a push does
 pub pushed : {A : Type 0} (s : Spelling) (query : AxfrQuery) (item : Record → Parts) (max : ℕ) (group : List Record) (r : Record) (w : Written)
