@@ -50,7 +50,7 @@ module _ (front rest : List ℕ) where
   field_stands (rest16 text) is = record { is_field = is; spelled = octets_stand text }
   field_stands (rest64 text) is = record { is_field = is; spelled = octets_stand text }
 
--- what holds of the octets behind a field, with it in front, holds there
+-- what holds of the octets after a field, with the field before them, holds there
 behind : (P : List ℕ → ℕ → Type 0) (front first rest : List ℕ) → P ((front ++ first) ++ rest) (length (front ++ first))
     → P (front ++ (first ++ rest)) (length front + length first)
 behind P front first rest there =
@@ -95,7 +95,7 @@ fits = fits_in table (search rules)
 all_left : {message text : List ℕ} {place : ℕ} → Spells message place (Octets text End) (length message) → text ≡ drop place message
 all_left {message} {text} {place} spelled = all_one message (drop place message) text place refl spelled
 
--- Fields that stand in a message, pointers in names followed, are alone of their kinds where only the last may take all that is left.
+-- Fields of a message, pointers in names followed, are the only ones of their kinds if only the last may take all that is left.
 pub sole_fields : (message : List ℕ) (row : List Field) (place : ℕ) → EndWell (map kind_of row) → ReadsFields message place row
     → AreSoleFields message place row
 sole_fields message [] place well reads = sole_nothing
@@ -135,7 +135,7 @@ sole_fields message (tag text ∷ row) place well reads =
     let both = split_row reads in
     sole_row (tag_sole both.first.spelled) (sole_fields message row both.middle well both.others)
 
--- Data of a type stands at a place of a message as one row.
+-- Data of a type is at a place of a message as one row.
 pub row_read_once : (rtype : ℕ) (message : List ℕ) (place : ℕ) (row other : List Field) → ReadsRow rtype message place row
     → ReadsRow rtype message place other → row ≡ other
 row_read_once rtype message place row other reads also =

@@ -1,4 +1,4 @@
--- Octets end too early for no field that stands in them.
+-- Octets end too early for no field that is in them.
 use Rattle.std.proofs.Common.{◌≡◌, ◌+◌, ◌-◌, ◌↔◌, ℕ, List, [], ◌∷◌, length, inl, inr, refl, subst, arith}
 use Rattle.std.specs.Prelude.{Ok, IsErrOf}
 use Rattle.dns_label.specs.Spelled as names

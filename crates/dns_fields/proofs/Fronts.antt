@@ -1,4 +1,4 @@
--- What octets begin with, and what decides how they stand to others.
+-- What octets begin with, and what decides how they compare with others.
 use Rattle.std.proofs.Common.{◌≡◌, ℕ, List, [], ◌∷◌, ◌++◌, map, refl, sym, ◌∙◌, ap, subst, append_assoc, append-nil}
 use Rattle.std.specs.Prelude.{◌≢◌}
 use Rattle.std.specs.declared.cmp.Ordering.{Ordering}
@@ -35,7 +35,7 @@ same_front (x ∷ front) rest others =
     ap (λ o. ordering_then o (slice_cmp nat_cmp (front ++ rest) (front ++ others))) (sym (nat_cmp_is x x Equal refl))
     ∙ same_front front rest others
 
--- what decides goes on deciding where more stands behind it, and behind a front that is the same
+-- what decides still does if more follows it, and after a front that is the same
 pub decides_longer : (front more others : List ℕ) (order : Ordering) → Decides front others order → Decides (front ++ more) others order
 decides_longer front more others order by = record {
   decides = λ behind. ap (λ l. slice_cmp nat_cmp l others) (append_assoc front more behind) ∙ by.decides (more ++ behind);
@@ -56,7 +56,7 @@ pub record IsBegun (front left octets rest : List ℕ) : Type 0 where
   pub front_is : front ≡ done ++ left
   pub octets_are : octets ≡ done ++ rest
 
--- so they do before a name's labels are gone through, one label later, and behind the last
+-- so they do before the first label of a name, one label later, and after the last
 pub begun_none : (name labels : List (List ℕ)) (octets : List ℕ) → labels ≡ with_root name
     → IsBegun (wire (low name)) (labels_wire (low labels)) octets octets
 begun_none name labels octets are = record {

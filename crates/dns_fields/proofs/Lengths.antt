@@ -145,7 +145,7 @@ untold_named compress row asks named = (
   (λ untold. refl),
 )
 
--- else it is there exactly where it is not too long
+-- otherwise there is one exactly if it is not too long
 pub untold_long : (compress : Bool) (row : List Field) (result : Option ℕ)
     → (compress ≡ true → list_any may_point (map kind_of row) ≡ false)
     → IfSome result (λ len. len ≡ length (octets row))

@@ -45,7 +45,7 @@ text_seam text text' rest rest' more more' long on =
     ∙ sym (then_assoc (slice_cmp nat_cmp text text') (slice_cmp nat_cmp rest rest') (slice_cmp nat_cmp more more'))
     ∙ ap (λ o. ordering_then o (slice_cmp nat_cmp more more')) (sym (cmp_seam nat_cmp text text' rest rest' long))
 
--- the octets of names in lower case decide before what stands behind them, or are the same
+-- the octets of names in lower case decide before what follows them, or are the same
 pub wire_seam : (name other : List (List ℕ)) → AllByRecursion IsLabel name → AllByRecursion IsLabel other → (more more' : List ℕ)
     → slice_cmp nat_cmp (wire (low name) ++ more) (wire (low other) ++ more')
     ≡ ordering_then (slice_cmp nat_cmp (wire (low name)) (wire (low other))) (slice_cmp nat_cmp more more')

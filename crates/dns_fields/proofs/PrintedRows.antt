@@ -35,7 +35,7 @@ wire_octets [] each = tt
 wire_octets (label ∷ parent) each =
     let both = each_split IsOctet label (wire parent) each.1 in (both.0, wire_octets parent both.1)
 
--- no name is printed with a quote in front
+-- no name is printed with a quote first
 label_first : (special visible : Bool) (c : ℕ) (rest : List ℕ) → (special ≡ false → c ≢ 34)
     → NoQuote (spelled (if special then SimpleEscape c else (if visible then Char c else DecimalEscape c)) ++ rest)
 label_first true visible c rest other behind is = let e : ◌≡◌ {A = ℕ} 92 34 = cc in omega (arith, e)
@@ -62,7 +62,7 @@ tag_first true true c rest other behind is = let e : ◌≡◌ {A = ℕ} 92 34 =
 tag_first true false c rest other behind is = let e : c ≡ 34 = cc in other refl e
 tag_first false escaped c rest other behind is = let e : ◌≡◌ {A = ℕ} 92 34 = cc in omega (arith, e)
 
--- what a word has behind a backslash
+-- what a word has after a backslash
 abbrev pub escaped_in_words : ℕ → Bool
 escaped_in_words octet =
     (octet == 32) || ((octet == 34) || ((octet == 40) || ((octet == 41) || ((octet == 59) || (octet == 92)))))
@@ -115,7 +115,7 @@ safe_64 octets each =
     (subst (λ l. Decodes64 l octets) (chars-encoded SixtyFour octets) (text_decodes_only SixtyFour octets each).decodes)
 
 module _ (names : List ℕ → List (List ℕ) → Type 0) where
-  -- a field of one token, and a row behind it
+  -- a field of one token, and a row after it
   next : (field : Field) (row : List Field) (text : List ℕ) (tokens : List Token) → AllZip WritesToken tokens (text ∷ row_tokens row)
       → ((token : Token) (behind : List Token) → WritesToken token text → ScansField names field (token ∷ behind) behind)
       → ((behind : List Token) → AllZip WritesToken behind (row_tokens row) → ScansRow names row behind [])

@@ -22,7 +22,7 @@ use Rattle.dns_text.specs.Tokens.{IsIn, stands_plain}
 use Rattle.dns_text.specs.DocumentRows.{WritesToken, quoted as between, unquoted as bare}
 use Rattle.dns_text.proofs.TokenSymbols.{symbol_first}
 
--- a character that stands plain in a word
+-- a character that is plain in a word
 abbrev pub IsSafe : ℕ → Type 0
 IsSafe c = IsPrintable c × (c ≢ 92) × (stands_plain false c ≡ true)
 
@@ -56,7 +56,7 @@ bare_token (bare are some) none = refl
 pub word_token : {token : Token} {text : List ℕ} → WritesToken token text → AllByRecursion IsSafe text → IsWord text token
 word_token {text = text} writes each = (bare_token writes (safe_no_quote text each), safe_plain text each)
 
--- one that does is a quoted one, of what stands between its quotes
+-- one that does is a quoted one, of what is between its quotes
 same_behind : (a b : List ℕ) (x : ℕ) → a ++ x ∷ [] ≡ b ++ x ∷ [] → a ≡ b
 same_behind [] [] x same = refl
 same_behind [] (n ∷ b) x same =

@@ -36,7 +36,7 @@ bare_written text are some = record { token = _; writes = bare are some }
 between_written : (text : List ℕ) → AreSymbols true text → IsWritten (34 ∷ text ++ 34 ∷ [])
 between_written text are = record { token = _; writes = between are }
 
--- symbols one behind the other
+-- symbols, one after the other
 pub no_symbols : {quoted : Bool} → AreSymbols quoted []
 no_symbols = record { symbols = []; each = tt; written = refl }
 
@@ -47,7 +47,7 @@ one_more symbol is are = record {
   written = ap (λ l. spelled symbol ++ l) are.written;
 }
 
--- a text of octets, each by its symbol, in front of another
+-- a text of octets, each by its symbol, before another
 each_more : {quoted : Bool} (by : ℕ → Symbol) (text : List ℕ) {rest : List ℕ} → ((octet : ℕ) → octet < 256 → IsIn quoted (by octet))
     → AllByRecursion IsOctet text → AreSymbols quoted rest → AreSymbols quoted (flat_map (λ octet. spelled (by octet)) text ++ rest)
 each_more by [] each small are = are

@@ -1,4 +1,4 @@
--- A field of a kind that stands at a place, and that it alone does.
+-- A field of a kind that is at a place, and that no other is.
 use Rattle.std.proofs.Common.{◌≡◌, ◌+◌, ◌≤◌, ◌<◌, ℕ, w16, w32, List, ◌++◌, length, take, drop, refl, sym, ◌∙◌, ap, subst, arith, length-drop, length-append, length-take}
 use Rattle.std.specs.Int.{from_be_bytes}
 use Rattle.std.proofs.lemmas.List.{take-append-drop}
@@ -36,7 +36,7 @@ octets_read message place next size text is fits ends =
     (octets (drop size (drop place message)) (sym (take-append-drop size (drop place message)) ∙ ap (λ l. l ++ drop size (drop place message)) (sym is))
     (nothing (omega (arith, long))))
 
--- fields of the kind have so many octets, and are told apart by them
+-- fields of the kind have that number of octets, and differ in them
 pub record IsFixed (its : Kind) (size : ℕ) : Type 0 where
   pub some : 0 < size
   pub read : (field : Field) → kind_of field ≡ its → read_field field End ≡ Octets (field_octets field) End

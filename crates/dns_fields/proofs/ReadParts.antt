@@ -8,7 +8,7 @@ use Rattle.dns_name.specs.SpelledParts.{Spells, nothing, octets, named, counted}
 use Rattle.dns_fields.specs.Fields.{Kind, Field, number8, number16, number32, ipv4, ipv6, compressible, uncompressed, string, strings, tag, rest_text, rest16, rest64, kind_of, field_octets}
 use Rattle.dns_fields.specs.Reading.{read_field, ReadsField, ReadsFields, IsSoleField, AreSoleFields, NoField, NoFields}
 
--- octets in front of a list are a place in front of its end
+-- octets before a list are a place before its end
 pub some_left : (message : List ℕ) (place : ℕ) {first : ℕ} {rest : List ℕ} → drop place message ≡ first ∷ rest → place < length message
 some_left message place at = omega (arith, ap (length {A = ℕ}) at, length-drop place message)
 
@@ -51,7 +51,7 @@ join_name : {message : List ℕ} {place middle next : ℕ} {name : List (List �
     → Spells message middle parts next → Spells message place (Named name parts) next
 join_name (named behind reads (nothing fits)) on = named behind reads on
 
--- a field in front, and parts behind it
+-- a field, and parts after it
 join : {message : List ℕ} {place middle next : ℕ} {parts : Parts} (field : Field) → Spells message place (read_field field End) middle
     → Spells message middle parts next → Spells message place (read_field field parts) next
 join {message} {place} {middle} {next} {parts} field first on = by (reads_as field)

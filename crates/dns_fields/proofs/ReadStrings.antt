@@ -1,4 +1,4 @@
--- Strings and rests that stand at a place, and that they alone do.
+-- Strings and rests that are at a place, and that no others are.
 use Rattle.std.proofs.Common.{◌≡◌, ◌+◌, ◌≤◌, ℕ, List, [], ◌∷◌, ◌++◌, length, drop, map, refl, sym, ◌∙◌, ap, subst, arith, length-drop, length-append}
 use Rattle.std.proofs.lemmas.List.{append-nil}
 use Rattle.dns_name.specs.Page.{Parts}

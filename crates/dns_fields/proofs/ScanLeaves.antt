@@ -1,4 +1,4 @@
--- Fields that don't stand in front of tokens.
+-- Fields that tokens do not begin with.
 use Rattle.std.proofs.Common.{◌∷◌, [], ℕ, List}
 use Rattle.std.specs.Str.{chars}
 use Rattle.std.specs.Prelude.{Result, Ok, Err, IfNone}

@@ -5,7 +5,7 @@ use Rattle.dns_fields.specs.Fields.{Kind, Number8, Number16, Number32, Ipv4, Ipv
 use Rattle.dns_fields.specs.Fields.{Field, number8, number16, number32, ipv4, ipv6, compressible, uncompressed, string, strings, tag, rest_text, rest16, rest64, kind_of}
 use Rattle.dns_fields.specs.Scanned.{ScansField, ScansRow, NoFieldScans, NoRowScans}
 
--- what is left behind a field of the kind
+-- what is left after a field of the kind
 abbrev pub left_behind : Kind → List Token → List Token
 left_behind Number8 tokens = drop 1 tokens
 left_behind Number16 tokens = drop 1 tokens
@@ -62,7 +62,7 @@ ends RestText tokens = dropped tokens
 ends Rest16 tokens = all_taken tokens
 ends Rest64 tokens = all_taken tokens
 
--- the tokens left of those behind a field are an ending of all
+-- the tokens left of those after a field are an ending of all
 pub left_of_row : (names : List ℕ → List (List ℕ) → Type 0) (field : Field) (tokens behind left : List Token) → ScansField names field tokens behind
     → IsEnding left behind → IsEnding left tokens
 left_of_row names field tokens behind left scans ending =
@@ -72,7 +72,7 @@ left_of_row names field tokens behind left scans ending =
       is = first.is ∙ ap (λ l. first.taken ++ l) ending.is ∙ sym (append_assoc first.taken ending.taken left);
     }
 
--- and those left behind a row
+-- and those left after a row
 pub left_of_fields : (names : List ℕ → List (List ℕ) → Type 0) (row : List Field) (tokens left : List Token) → ScansRow names row tokens left
     → IsEnding left tokens
 left_of_fields names [] tokens left scans = record { taken = []; is = sym scans }
@@ -100,7 +100,7 @@ module _ (old new : List ℕ → List (List ℕ) → Type 0) (into : (text : Lis
   row_there [] tokens left scans = scans
   row_there (field ∷ row) tokens left scans = (scans.0, field_there field tokens scans.0 scans.1, row_there row scans.0 left scans.2)
 
--- a field, and a row behind it where names are the same
+-- a field, and a row after it where names are the same
 pub row_scanned : (old new : List ℕ → List (List ℕ) → Type 0) → SameNames old new → (field : Field) (row : List Field) (tokens behind left : List Token)
     → ScansField old field tokens behind → ScansRow new row behind left → ScansRow old (field ∷ row) tokens left
 row_scanned old new same field row tokens behind left first others =

@@ -62,6 +62,6 @@ rest16_pieces octets some = one_token (encoded_16 octets) (text_some _ _ 4 octet
 pub rest64_pieces : (octets : List ℕ) → 0 < length octets → field_pieces (rest64 octets) ≡ Token (encoded_64 octets) ∷ []
 rest64_pieces octets some = one_token (encoded_64 octets) (text_some _ _ 6 octets _ some)
 
--- an octet in front of others between quotes
+-- an octet before others between quotes
 pub between_quotes-first : (octet : ℕ) (octets : List ℕ) → between_quotes (octet ∷ octets) ≡ between_quotes (octet ∷ []) ++ between_quotes octets
 between_quotes-first octet octets = ap (λ l. l ++ between_quotes octets) (sym (append-nil _))

@@ -43,7 +43,7 @@ made_cut octets made =
 pub cut_made : (octets : List ℕ) → AreCut octets → AreMade octets
 cut_made octets cut = record { each = strings_of octets; short = cut.short; written = sym cut.written }
 
--- a string in front of others
+-- a string before others
 pub made_more : (octets string behind : List ℕ) → StartsWithString octets string behind → AreMade behind → AreMade octets
 made_more octets string behind starts made = record {
   each = string ∷ made.each;
@@ -88,7 +88,7 @@ no_first octets none [] short written = refl
 no_first octets none (first ∷ others) short written =
     absurd (none first (flat_map string_wire others) (record { spelled = written; short = short.0 }))
 
--- where no string stands in front there is none
+-- if octets begin with no string there is none
 pub cut_none : (octets : List ℕ) → ((string rest : List ℕ) → StartsWithString octets string rest → ⊥) → AreCut octets → strings_of octets ≡ []
 cut_none octets none cut = no_first octets none (strings_of octets) cut.short (sym cut.written)
 

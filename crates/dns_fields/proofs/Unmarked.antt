@@ -83,7 +83,7 @@ tag_text (c ∷ text) is =
     (λ escaped. apart escaped_in_words c 35 (λ same. let bad : true ≡ false = sym escaped ∙ same in cc))
     (λ plain. apart escaped_in_words c 92 (λ same. let bad : false ≡ true = sym plain ∙ same in cc)) is
 
--- texts that may be none, in front of others
+-- texts that may be none, before others
 strings_first : (each others : List (List ℕ)) → FirstNoMark others → FirstNoMark (map quoted_text each ++ others)
 strings_first [] others none = none
 strings_first (text ∷ each) others none = between_quotes text

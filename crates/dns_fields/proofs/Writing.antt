@@ -10,7 +10,7 @@ use Rattle.dns_name.proofs.WrittenParts.{write-long}
 use Rattle.dns_fields.specs.Fields.{Field, number8, number16, number32, ipv4, ipv6, compressible, uncompressed, string, strings, tag, rest_text, rest16, rest64}
 use Rattle.dns_fields.specs.Written.{written_field, written_parts}
 
--- what is written in front is there before what is written behind
+-- what is written first is there before what is written after it
 pub write-field : (s : Spelling) (page : Page) (field : Field) (behind : Parts)
     → write s page (written_field field behind) ≡ write s (write s page (written_field field End)) behind
 unfolding write
@@ -28,7 +28,7 @@ write-field s page (rest_text octets) behind = refl
 write-field s page (rest16 octets) behind = refl
 write-field s page (rest64 octets) behind = refl
 
--- a field, and the row behind it
+-- a field, and the row after it
 pub write-row : (s : Spelling) (page middle : Page) (field : Field) (row : List Field) → middle ≡ write s page (written_field field End)
     → write s middle (written_parts row) ≡ write s page (written_parts (field ∷ row))
 write-row s page middle field row is =
@@ -38,7 +38,7 @@ pub on_ok : {T E P Q : Type 0} (result : Result T E) → (P → Q) → OnOk resu
 on_ok (Ok value) then fact = then fact
 on_ok (Err error) then fact = tt
 
--- what is past a bound behind the first field is past it behind the row
+-- what is past a bound after the first field is past it after the row
 pub past_first : (s : Spelling) (page : Page) (field : Field) (row : List Field) (bound : Option ℕ)
     → IsPast bound (length (write s page (written_field field End)).octets)
     → IsPast bound (length (write s page (written_parts (field ∷ row))).octets)

@@ -1,4 +1,4 @@
--- How rows of one type stand to one another: up to the ASCII case of names (RFC 4343) and of tags (RFC 8659 4.1), and of single
+-- How rows of one type compare: up to the ASCII case of names (RFC 4343) and of tags (RFC 8659 4.1), and of single
 -- strings, which no standard asks for; and canonically, by their canonical octets (RFC 4034 6.3).
 use Rattle.std.specs.Prelude.{ℕ, Bool, List, map, nat_eq}
 use Rattle.std.specs.Char.{to_ascii_lowercase}

@@ -1,4 +1,4 @@
--- The laws of how rows stand to one another: an equivalence, a total order that ties exactly the rows that are equal, and
+-- The laws of how rows compare: an equivalence, a total order that ties exactly the rows that are equal, and
 -- equal rows have the same keys.
 use Rattle.std.specs.Prelude.{◌≡◌, List, nat_eq, IsTrue}
 use Rattle.std.specs.Cmp.{IsPartialEquivalence, IsEquivalence, IsPartialOrder, IsTotalOrder, on_equiv, on_total, nat_eq_equiv, partial_equiv_from_equiv, partial_order_from_total, partial_order_from_own_ties}

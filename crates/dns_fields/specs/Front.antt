@@ -1,9 +1,9 @@
--- The octets of a field beside those that data begins with.
+-- The octets of a field, and those that data begins with.
 use Rattle.std.specs.Prelude.{◌≡◌, ℕ, List, ◌++◌}
 use Rattle.std.specs.Ordering.{nat_cmp}
 use Rattle.std.specs.Cmp.Lexicographic.{slice_cmp}
 use Rattle.std.specs.declared.cmp.Ordering.{Ordering}
 
--- octets that begin with the front stand in this order to the others, whatever is behind it
+-- octets that begin with the front have this order to the others, whatever follows it
 pub record Decides (front others : List ℕ) (order : Ordering) : Type 0 where
   pub decides : (behind : List ℕ) → slice_cmp nat_cmp (front ++ behind) others ≡ order

@@ -60,7 +60,7 @@ pub record ScansLong (names : List ℕ → List (List ℕ) → Type 0) (rtype : 
   pub scanned : ScansRow names row tokens left
   pub long : 65535 < length (octets row)
 
--- no text of a field of the kind stands in front, none of fields of the kinds
+-- the tokens begin with no text of a field of the kind, none of fields of the kinds
 abbrev pub NoFieldScans : (List ℕ → List (List ℕ) → Type 0) → Kind → List Token → Type 0
 NoFieldScans names kind tokens = (field : Field) (left : List Token) → kind_of field ≡ kind → ScansField names field tokens left → ⊥
 
@@ -68,7 +68,7 @@ abbrev pub NoRowScans : (List ℕ → List (List ℕ) → Type 0) → List Kind 
 NoRowScans names kinds tokens =
     (row : List Field) (left : List Token) → map kind_of row ≡ kinds → ScansRow names row tokens left → ⊥
 
--- Where such a text of too many octets does not stand in front, none of data of the type does.
+-- If the tokens do not begin with such a text of too many octets, they begin with none of data of the type.
 abbrev pub NoDataScans : (List ℕ → List (List ℕ) → Type 0) → ℕ → List Token → Type 0
 NoDataScans names rtype tokens =
     (ScansLong names rtype tokens → ⊥) → (row : List Field) (left : List Token) → ScansData names rtype row tokens left → ⊥

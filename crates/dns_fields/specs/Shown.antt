@@ -44,7 +44,7 @@ field_pieces field = map Token (field_tokens field)
 abbrev pub row_pieces : List Field → List Piece
 row_pieces row = map Token (row_tokens row)
 
--- the comments behind the fields of a type, from the left; None behind a field without one
+-- the comments after the fields of a type, from the left; None after a field without one
 abbrev pub comments_of : ℕ → List (Option (List ℕ))
 comments_of rtype =
     if rtype == 6 then
@@ -52,7 +52,7 @@ comments_of rtype =
     ∷ Some (codes "minimum") ∷ []
     else []
 
--- the pieces of a row, each comment behind its field
+-- the pieces of a row, each comment after its field
 abbrev pub commented : List (Option (List ℕ)) → List Field → List Piece
 commented [] row = row_pieces row
 commented (comment ∷ comments) [] = []

@@ -10,13 +10,13 @@ pub record AreStringOctets (octets : List ℕ) : Type 0 where
   pub is_field : IsField (strings each)
   pub written : octets ≡ field_octets (strings each)
 
--- the first strings that octets are cut into, so many at most
+-- the first strings that octets are cut into, at most that number
 abbrev pub first_strings : ℕ → List ℕ → List (List ℕ)
 first_strings zero octets = []
 first_strings (suc count) [] = []
 first_strings (suc count) (number ∷ octets) = take number octets ∷ first_strings count (drop number octets)
 
--- the strings that octets are cut into: each has as many octets as the one in front of it says
+-- the strings that octets are cut into: each has as many octets as the one before it says
 abbrev pub strings_of : List ℕ → List (List ℕ)
 strings_of octets = first_strings (length octets) octets
 

@@ -21,7 +21,7 @@ may_point RestText = false
 may_point Rest16 = false
 may_point Rest64 = false
 
--- a field in front of parts, as a writer gives it: only a compressible name may have a pointer (RFC 3597 4)
+-- a field before parts, as a writer gives it: only a compressible name may have a pointer (RFC 3597 4)
 abbrev pub written_field : Field → Parts → Parts
 written_field (compressible name) behind = Named name behind
 written_field field behind = Octets (field_octets field) behind

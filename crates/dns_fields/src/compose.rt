@@ -1,4 +1,4 @@
-//! Rows of fields as a whole: written all or nothing, and how long they are.
+//! Rows of fields as a whole: written all or nothing, and their length.
 ghost use Rattle.std.specs.Prelude.{◌≡◌, ◌++◌, ◌↔◌, List, Err, length, IfSome, IsNone, OnOk, OnErr};
 ghost use Rattle.dns_octets.specs.Builder.{GrowsTo, IsPast};
 ghost use Rattle.dns_octets.specs.declared.error.AppendError.TheVariants.{ShortBuf, BadLength};
@@ -10,8 +10,8 @@ ghost use Rattle.dns_fields.specs.Written.{written_parts};
 use crate::Row;
 use dns_name::{AppendError, Composer};
 
-/// How many octets the row has in a message. None exactly where a name may be written with a pointer, and past 65,535
-/// octets with every name in full.
+/// Returns the number of octets that the row has in a message. None exactly if a name may be written with a pointer, or
+/// there are more than 65,535 octets with every name in full.
 pub fn row_len<R: Row>(row: &R, compress: bool) -> Option<u16>
     ensures some { IfSome result (λ len. IsComposedLength compress (written_parts (R.fields row.now)) len) }
     ensures none { IsNone result ↔ IsUntold compress (written_parts (R.fields row.now)) }
@@ -22,8 +22,8 @@ pub fn row_len<R: Row>(row: &R, compress: bool) -> Option<u16>
     row.fields_len()
 }
 
-/// Appends the row, all or nothing. Refused with `ShortBuf` only where the target would then hold more octets than it may,
-/// and with `OutOfMemory` where a growth was refused.
+/// Appends the row, all or nothing. Fails with `ShortBuf` only if the target is too full, and with `OutOfMemory` only if out
+/// of memory.
 pub fn compose_row<R: Row, Target: Composer>(
     row: &R,
     target: &mut Target,
@@ -52,7 +52,7 @@ pub fn compose_row<R: Row, Target: Composer>(
     }
 }
 
-/// Appends the canonical form of the row, all or nothing (RFC 4034 6.2). Refused as `compose_row` is.
+/// Appends the canonical form of the row, all or nothing (RFC 4034 6.2). Fails as `compose_row` does.
 pub fn compose_canonical_row<R: Row, Target: Composer>(
     row: &R,
     target: &mut Target,

@@ -9,13 +9,13 @@ mod leaves;
 mod rests;
 mod strings;
 
-use crate::{FieldValue, Row};
+use crate::{HasField, HasFields};
 use dns_name::{AppendError, EmptyBuilder, FromBuilder};
 pub use held::OverOctets;
 use std::alloc::Global;
 
 /// A field that is converted to one over octets of this kind.
-pub trait ConvertField<T: FieldValue, Octs: FromBuilder>: FieldValue
+pub trait ConvertField<T: HasField, Octs: FromBuilder>: HasField
 where
     Octs::Builder: EmptyBuilder + Drop,
 {
@@ -29,7 +29,7 @@ where
 }
 
 /// A row that is converted to one over octets of this kind.
-pub trait ConvertRow<T: Row, Octs: FromBuilder>: Row
+pub trait ConvertRow<T: HasFields, Octs: FromBuilder>: HasFields
 where
     Octs::Builder: EmptyBuilder + Drop,
 {
@@ -55,8 +55,8 @@ impl<A, B, C, D, Octs: FromBuilder> ConvertRow<(C, D), Octs> for (A, B)
 where
     A: ConvertField<C, Octs>,
     B: ConvertRow<D, Octs>,
-    C: FieldValue + Drop,
-    D: Row,
+    C: HasField + Drop,
+    D: HasFields,
     Octs::Builder: EmptyBuilder + Drop,
 {
     fn convert_fields(&self, alloc: Global) -> Result<(C, D), AppendError> {

@@ -1,4 +1,4 @@
-//! Rows beside data of the same type that is held as octets (RFC 3597): they are compared canonically, field by field.
+//! Rows against data of the same type that is held as octets (RFC 3597): they are compared canonically, field by field.
 ghost use Rattle.std.specs.Prelude.{◌≡◌, ◌++◌, IfOk, IfErr};
 ghost use Rattle.std.specs.Ordering.{nat_cmp};
 ghost use Rattle.std.specs.Cmp.Lexicographic.{slice_cmp};
@@ -9,22 +9,22 @@ mod leaves;
 mod names;
 mod split;
 
-use crate::{FieldValue, Last, LastValue, Row};
+use crate::{HasField, HasFields, Last, LastValue};
 use dns_name::{ComposeRecordData, Octets, UnknownRecordData};
 use std::cmp::Ordering;
 
 /// A field that is compared with what octets begin with.
-pub trait FrontField: FieldValue {
-    /// What stands behind the field's canonical octets, where the octets begin with these. Else how they stand to the
-    /// octets, whatever would stand behind them.
+pub trait FrontField: HasField {
+    /// Returns what follows the field's canonical octets, if the octets begin with these, and otherwise how they compare,
+    /// whatever follows them.
     fn split_canonical_field<'a>(&self, octets: &'a [u8]) -> Result<&'a [u8], Ordering>
         ensures ok { IfOk result (λ behind. octets.now ≡ field_octets (lowered (Self.field self.now)) ++ behind.now) }
         ensures err { IfErr result (Decides (field_octets (lowered (Self.field self.now))) octets.now) };
 }
 
 /// A row that is compared with octets.
-pub trait FrontRow: Row {
-    /// How the row's canonical octets stand to the octets.
+pub trait FrontRow: HasFields {
+    /// Compares the row's canonical octets with the octets.
     fn canonical_fields_cmp_octets(&self, octets: &[u8]) -> Ordering
         ensures { result ≡ slice_cmp nat_cmp (canonical_octets (Self.fields self.now)) octets.now };
 }
@@ -57,19 +57,19 @@ impl<V: LastValue> FrontRow for Last<V> {
 
 /// Data that is compared canonically with data of the same type that is held as octets (RFC 3597).
 pub trait CanonicalOctetsOrd: ComposeRecordData {
-    /// How the canonical form of the data stands to the octets, in the order of RFC 4034 6.3.
+    /// Compares the canonical form of the data with the octets, in the order of RFC 4034 6.3.
     fn canonical_octets_cmp(&self, octets: &[u8]) -> Ordering
         ensures { result ≡ slice_cmp nat_cmp (Self.canonical_octets self.now) octets.now };
 }
 
-/// Data that is not looked into is its own canonical form.
+/// Opaque data is its own canonical form.
 impl<Octs: Octets> CanonicalOctetsOrd for UnknownRecordData<Octs> {
     fn canonical_octets_cmp(&self, octets: &[u8]) -> Ordering {
         self.data().octets().cmp(octets)
     }
 }
 
-/// How the canonical form of the row (RFC 4034 6.2) stands to the octets, in the order of RFC 4034 6.3.
+/// Compares the canonical form of the row (RFC 4034 6.2) with the octets, in the order of RFC 4034 6.3.
 pub fn canonical_row_cmp_octets<R: FrontRow>(row: &R, octets: &[u8]) -> Ordering
     ensures { result ≡ slice_cmp nat_cmp (canonical_octets (R.fields row.now)) octets.now }
 {

@@ -28,7 +28,7 @@ pub fn composed_data_parses_back()
         → (row : List Field) × ReadsRow rtype (front ++ all) (length front) row × (octets row ≡ all) }
 {}
 
-/// Data of a type stands at a place of a message in one way, pointers in its names followed: it is read as one row.
+/// Data of a type is at a place of a message in one way, pointers in its names followed: it is read as one row.
 pub fn data_is_read_as_one_row()
     ensures { (rtype : ℕ) (message : List ℕ) (place : ℕ) (row other : List Field) → ReadsRow rtype message place row
         → ReadsRow rtype message place other → row ≡ other }
@@ -69,7 +69,7 @@ pub fn iter_scanner_spells_names()
     text_spells_one_name();
 }
 
-/// Rows are equal exactly where their order ties them, and rows that are equal are hashed alike.
+/// Rows are equal exactly if their order ties them, and rows that are equal are hashed alike.
 pub fn data_equality_order_and_hash_agree()
     ensures order { (row other : List Field) → rows_eq row other ≡ is_eq (rows_cmp row other) }
     ensures hash { (row other : List Field) → IsTrue (rows_eq row other) → keys row ≡ keys other }

@@ -10,15 +10,15 @@ mod error;
 mod leaves;
 mod rests;
 
-use crate::{FieldValue, Row};
+use crate::{HasField, HasFields};
 use dns_name::Parser;
 pub use error::ReadError;
 
 /// A field that is parsed from a message.
-pub trait ReadField<'a>: FieldValue + Sized + Drop {
+pub trait ReadField<'a>: HasField + Sized + Drop {
     /// Parses the field at the parser's place, and leaves the parser after it.
     ///
-    /// Fails if no such field stands there: with `ShortInput` exactly if the octets end too early for it, and never with
+    /// Fails if no such field is there: with `ShortInput` exactly if the octets end too early for it, and never with
     /// `LongRecordData`. The parser then stays where it is.
     fn read_field(parser: &mut Parser<'a>) -> Result<Self, ReadError>
         ensures ok { IfOk result (λ value. ReadsField (octets_of parser.old) (place_of parser.old) (Self.field value)
@@ -33,10 +33,10 @@ pub trait ReadField<'a>: FieldValue + Sized + Drop {
 }
 
 /// A row that is parsed from a message.
-pub trait ReadRow<'a>: Row + Sized + Drop {
+pub trait ReadRow<'a>: HasFields + Sized + Drop {
     /// Parses the fields up to the end of the parser.
     ///
-    /// Fails if no such fields stand there, or more than they: with `ShortInput` exactly if the octets end too early for them,
+    /// Fails if no such fields are there, or more than they: with `ShortInput` exactly if the octets end too early for them,
     /// and never with `LongRecordData`.
     fn read_fields(parser: &mut Parser<'a>) -> Result<Self, ReadError>
         ensures ok { IfOk result (λ row. ReadsFields (octets_of parser.old) (place_of parser.old) (Self.fields row)) }

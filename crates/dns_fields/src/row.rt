@@ -1,4 +1,4 @@
-//! Rows of fields: the empty one, and a field in front of a row.
+//! Rows of fields: the empty one, and a field before a row.
 ghost use Rattle.std.specs.Prelude.{◌≡◌, ◌≤◌, ◌<◌, ◌++◌, ◌∷◌, [], ℕ, List, Err, length, map, fold, OnOk, IfSome, IfNone};
 ghost use Rattle.std.specs.List.{list_any};
 ghost use Rattle.std.specs.Ordering.{nat_cmp};
@@ -15,7 +15,7 @@ mod last;
 mod rests;
 mod strings;
 
-use crate::FieldValue;
+use crate::{FieldValue, HasField};
 use dns_name::{AppendError, Composer, LongRecordData};
 pub use last::{Last, LastValue};
 pub use rests::{Rest16, Rest64, RestText};
@@ -23,83 +23,91 @@ use std::cmp::Ordering;
 use std::hash::Hasher;
 pub use strings::{Strings, StringsIter};
 
-/// The fields of record data, of fixed kinds: a pair of the first field and the others, or `()` where there are none.
-pub trait Row {
+/// The fields of record data, of fixed kinds: a pair of the first field and the others, or `()` if there are none. All that
+/// their parsing, scanning, printing and conversion say of them.
+pub trait HasFields {
     ghost kinds: { List Kind };
 
     ghost fields: { Self → List Field };
 
-    /// Whether a field may be written with a pointer (RFC 3597 4).
-    fn may_point() -> bool
-        ensures { result ≡ list_any may_point kinds };
-
-    /// How many octets the fields have where no name is written with a pointer, or None past 65,535.
+    /// Returns the number of octets that the fields have without pointers, or None if there are more than 65,535.
     fn fields_len(&self) -> Option<u16>
         ensures some { IfSome result (λ len. len ≡ length (octets (fields self.now))) }
         ensures none { IfNone result (65535 < length (octets (fields self.now))) };
 
-    /// Appends the fields, or some of them where one is refused. Refused with `ShortBuf` only where the target would then
-    /// hold more octets than it may, and with `OutOfMemory` where a growth was refused.
+    ghost of_kinds: { (x : Self) → map kind_of (fields x) ≡ kinds };
+}
+
+/// A row of fields that is written, compared and hashed.
+pub trait Row: HasFields {
+    /// Whether a field may be written with a pointer (RFC 3597 4).
+    fn may_point() -> bool
+        ensures { result ≡ list_any may_point Self.kinds };
+
+    /// Appends the fields, or some of them on an error. Fails with `ShortBuf` only if the target is too full, and with
+    /// `OutOfMemory` only if out of memory.
     fn compose_fields<Target: Composer>(&self, target: &mut Target) -> Result<(), AppendError>
         ensures ok { OnOk result (page_of (Target.list target.new) (Target.known target.new)
             ≡ write Target.spelling (page_of (Target.list target.old) (Target.known target.old))
-            (written_parts (fields self.now))) }
+            (written_parts (Self.fields self.now))) }
         ensures grows { GrowsTo (Target.list target.old) (Target.known target.old) (Target.list target.new)
             (Target.known target.new) }
         ensures short { result ≡ Err ShortBuf → IsPast (Target.bound target.old)
             (length (write Target.spelling (page_of (Target.list target.old) (Target.known target.old))
-            (written_parts (fields self.now))).octets) }
+            (written_parts (Self.fields self.now))).octets) }
         ensures not_bad { result ≡ Err BadLength → ⊥ }
         ensures same_bound { Target.bound target.new ≡ Target.bound target.old }
         ensures stays { Target.stays target.old target.new };
 
-    /// Appends the canonical form of the fields, refused as `compose_fields` is.
+    /// Appends the canonical form of the fields. Fails as `compose_fields` does.
     fn compose_canonical_fields<Target: Composer>(
         &self,
         target: &mut Target,
     ) -> Result<(), AppendError>
         ensures ok { OnOk result (Target.list target.new
-            ≡ Target.list target.old ++ canonical_octets (fields self.now)) }
+            ≡ Target.list target.old ++ canonical_octets (Self.fields self.now)) }
         ensures known { Target.known target.new ≡ Target.known target.old }
         ensures grows { GrowsTo (Target.list target.old) (Target.known target.old) (Target.list target.new)
             (Target.known target.new) }
         ensures short { result ≡ Err ShortBuf → IsPast (Target.bound target.old)
-            (length (Target.list target.old ++ canonical_octets (fields self.now))) }
+            (length (Target.list target.old ++ canonical_octets (Self.fields self.now))) }
         ensures not_bad { result ≡ Err BadLength → ⊥ }
         ensures same_bound { Target.bound target.new ≡ Target.bound target.old }
         ensures stays { Target.stays target.old target.new };
 
-    /// Whether two rows are the same up to the case that doesn't count.
+    /// Whether two rows are equal, up to ASCII case where it doesn't count.
     fn fields_eq(&self, other: &Self) -> bool
-        ensures { result ≡ rows_eq (fields self.now) (fields other.now) };
+        ensures { result ≡ rows_eq (Self.fields self.now) (Self.fields other.now) };
 
-    /// How the row stands to another one, field by field and up to the case that doesn't count.
+    /// Compares two rows field by field, up to ASCII case where it doesn't count.
     fn fields_cmp(&self, other: &Self) -> Ordering
-        ensures { result ≡ rows_cmp (fields self.now) (fields other.now) };
+        ensures { result ≡ rows_cmp (Self.fields self.now) (Self.fields other.now) };
 
-    /// How the row's canonical octets stand to those of another one.
+    /// Compares the canonical octets of two rows.
     fn canonical_fields_cmp(&self, other: &Self) -> Ordering
-        ensures { result ≡ canonical_rows_cmp (fields self.now) (fields other.now) };
+        ensures { result ≡ canonical_rows_cmp (Self.fields self.now) (Self.fields other.now) };
 
-    /// Hashes the fields up to the case that doesn't count.
+    /// Hashes the fields, up to ASCII case where it doesn't count.
     fn hash_fields<H: Hasher>(&self, state: &mut H)
-        ensures { state.new ≡ fold H.write state.old (keys (fields self.now)) };
-
-    ghost of_kinds: { (x : Self) → map kind_of (fields x) ≡ kinds };
+        ensures { state.new ≡ fold H.write state.old (keys (Self.fields self.now)) };
 }
 
 /// No fields.
-impl Row for () {
+impl HasFields for () {
     ghost kinds = { [] };
 
     ghost fields = { λ _. [] };
 
-    fn may_point() -> bool {
-        false
-    }
-
     fn fields_len(&self) -> Option<u16> {
         Some(0)
+    }
+
+    ghost of_kinds = { λ _. refl };
+}
+
+impl Row for () {
+    fn may_point() -> bool {
+        false
     }
 
     fn compose_fields<Target: Composer>(&self, target: &mut Target) -> Result<(), AppendError> {
@@ -129,19 +137,13 @@ impl Row for () {
     }
 
     fn hash_fields<H: Hasher>(&self, state: &mut H) {}
-
-    ghost of_kinds = { λ _. refl };
 }
 
-/// A field in front of others.
-impl<A: FieldValue, B: Row> Row for (A, B) {
+/// A field before others.
+impl<A: HasField, B: HasFields> HasFields for (A, B) {
     ghost kinds = { A.kind ∷ B.kinds };
 
     ghost fields = { λ row. A.field row.0 ∷ B.fields row.1 };
-
-    fn may_point() -> bool {
-        A::may_point() || B::may_point()
-    }
 
     fn fields_len(&self) -> Option<u16> {
         let (first, others) = self;
@@ -151,6 +153,14 @@ impl<A: FieldValue, B: Row> Row for (A, B) {
             return None;
         }
         Some((len + behind) as u16)
+    }
+
+    ghost of_kinds = { λ row i. A.of_kind row.0 i ∷ B.of_kinds row.1 i };
+}
+
+impl<A: FieldValue, B: Row> Row for (A, B) {
+    fn may_point() -> bool {
+        A::may_point() || B::may_point()
     }
 
     fn compose_fields<Target: Composer>(&self, target: &mut Target) -> Result<(), AppendError> {
@@ -194,6 +204,4 @@ impl<A: FieldValue, B: Row> Row for (A, B) {
         first.hash_field(state);
         others.hash_fields(state);
     }
-
-    ghost of_kinds = { λ row i. A.of_kind row.0 i ∷ B.of_kinds row.1 i };
 }

@@ -7,16 +7,16 @@ ghost use Rattle.dns_fields.specs.Scanned.{ScansField, ScansRow, ScansData, NoFi
 mod leaves;
 mod rests;
 
-use crate::{FieldValue, Row};
+use crate::{HasField, HasFields};
 use dns_name::LongRecordData;
 use dns_text::{Scanner, ScannerError};
 
 /// A field that is read from tokens.
-pub trait ScanField<S: Scanner>: FieldValue + Sized + Drop {
-    /// Reads the field, and takes its tokens.
+pub trait ScanField<S: Scanner>: HasField + Sized + Drop {
+    /// Scans the field, and takes its tokens.
     ///
-    /// Refused with an error other than `short_buf` only where there is no such field in front; the tokens left are then an
-    /// ending of those left before.
+    /// Fails with an error other than `short_buf` only if the tokens begin with no such field. The tokens left are then the
+    /// last of those left before.
     fn scan_field(scanner: &mut S) -> Result<Self, S::Error>
         ensures ok { IfOk result (λ value. ScansField (S.names scanner.old) (Self.field value) (S.tokens scanner.old)
             (S.tokens scanner.new)) }
@@ -27,8 +27,8 @@ pub trait ScanField<S: Scanner>: FieldValue + Sized + Drop {
 }
 
 /// A row that is read from tokens.
-pub trait ScanRow<S: Scanner>: Row + Sized + Drop {
-    /// Reads the fields, and takes their tokens. Refused as `scan_row` does.
+pub trait ScanRow<S: Scanner>: HasFields + Sized + Drop {
+    /// Scans the fields, and takes their tokens. Fails as `scan_row` does, but not for their length.
     fn scan_fields(scanner: &mut S) -> Result<Self, S::Error>
         ensures ok { IfOk result (λ row. ScansRow (S.names scanner.old) (Self.fields row) (S.tokens scanner.old)
             (S.tokens scanner.new)) }
@@ -85,8 +85,8 @@ pub fn scan_row_of<S: Scanner, R: ScanRow<S>>(rtype: u16, scanner: &mut S) -> Re
     }
 }
 
-/// The row, where its fields fit into a record: they have at most 65,535 octets (RFC 1035 3.2.1).
-fn fitting<R: Row + Drop>(row: R) -> Option<R>
+/// Returns the row if its fields fit into a record: they have at most 65,535 octets (RFC 1035 3.2.1).
+fn fitting<R: HasFields + Drop>(row: R) -> Option<R>
     ensures same { IfSome result (λ it. it ≡ row) }
     ensures fits { IfSome result (λ _. length (octets (R.fields row)) ≤ 65535) }
     ensures none { IfNone result (65535 < length (octets (R.fields row))) }

@@ -10,13 +10,13 @@ mod leaves;
 mod quoted;
 mod rests;
 
-use crate::{FieldValue, Last, LastValue, Row};
+use crate::{HasField, HasFields, Last, LastValue};
 use comments::comments_of;
 use dns_text::Formatter;
 use std::fmt;
 
 /// A field that is printed.
-pub trait ShowField: FieldValue {
+pub trait ShowField: HasField {
     /// Writes the tokens of the field. An error is one of the formatter.
     fn show_field<F: Formatter>(&self, formatter: &mut F) -> fmt::Result
         ensures { OnOk result (Adds F.writes formatter.old (field_pieces (Self.field self.now)) formatter.new) };
@@ -30,7 +30,7 @@ pub trait ShowLast: LastValue {
 }
 
 /// A row that is printed.
-pub trait ShowRow: Row {
+pub trait ShowRow: HasFields {
     /// Writes the tokens of the fields, and each comment after the field at its place. An error is one of the formatter.
     fn show_fields<F: Formatter>(
         &self,

@@ -3,7 +3,7 @@ ghost use Rattle.std.specs.Prelude.{◌≡◌, ℕ, Some};
 ghost use Rattle.std.proofs.Common.{refl};
 ghost use Rattle.dns_fields.specs.Fields.{kinds_of};
 
-use crate::{Compressible, Last, Rest16, Rest64, RestText, Row, Strings, Tag, Uncompressed};
+use crate::{Compressible, HasFields, Last, Rest16, Rest64, RestText, Strings, Tag, Uncompressed};
 use dns_name::{Octets, ToName};
 use dns_text::CharStr;
 use std::net::{Ipv4Addr, Ipv6Addr};
@@ -30,7 +30,7 @@ impl<const RTYPE: u16> DataType for Number<RTYPE> {
 }
 
 /// A row of the fields that data of the type has.
-pub trait RowOf<T: DataType>: Row {
+pub trait RowOf<T: DataType>: HasFields {
     ghost of_type: { kinds_of T.number ≡ Some Self.kinds };
 }
 

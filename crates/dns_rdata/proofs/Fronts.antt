@@ -1,9 +1,9 @@
--- What stands at the front of octets: lists of one length, and numbers.
+-- What octets begin with: lists of one length, and numbers.
 use Rattle.std.proofs.Common.{◌≡◌, ℕ, ◌<◌, ◌^◌, List, [], ◌∷◌, ◌++◌, length, refl, sym, ap, ◌∙◌, arith}
 use Rattle.std.specs.Int.{to_be_bytes, from_be_bytes, w16, w32}
 use Rattle.std.proofs.lemmas.Nat.{from_be_bytes-to_be_bytes_2, from_be_bytes-to_be_bytes_4}
 
--- fronts of one length, with something behind each
+-- fronts of one length, with something after each
 pub same_fronts : {X : Type 0} (a b more rest : List X) → length a ≡ length b → a ++ more ≡ b ++ rest → (a ≡ b) × (more ≡ rest)
 same_fronts [] [] more rest long e = (refl, e)
 same_fronts [] (y ∷ b) more rest long e = absurd (omega arith)

@@ -1,4 +1,4 @@
--- How two values of data stand to each other: of one type, both opaque, or of two kinds.
+-- How two values of data compare: of one type, both opaque, or of two kinds.
 use Rattle.std.proofs.Common.{◌≡◌, ℕ, Bool, true, false, List, nat_eq, ◌&&◌, refl, sym, ◌∙◌, ap, rules}
 use Rattle.std.proofs.lemmas.Bool.Decides.{Decides-eqb}
 use Rattle.std.specs.Cmp.{nat_cmp_is}

@@ -63,7 +63,7 @@ data_written row_written (untyped unknown) is some =
     collected (tokens_of (untyped unknown))
     (marker_written, (number_written (length unknown.octets) (omega (arith, is.0)), words_written unknown.octets is.1))
 
--- tokens in front of the first row
+-- tokens before the first row
 tokens_more : (texts : List (List ℕ)) (front : List Token) {depth : ℕ} {pieces : List Piece} {row : List Token} → AllZip WritesToken front texts
     → HasRows depth pieces (row ∷ []) → HasRows depth (map token_piece texts ++ pieces) ((front ++ row) ∷ [])
 tokens_more [] [] writes rows = rows
@@ -71,7 +71,7 @@ tokens_more [] (first ∷ front) writes rows = absurd writes
 tokens_more (text ∷ texts) [] writes rows = absurd writes
 tokens_more (text ∷ texts) (first ∷ front) writes rows = token writes.0 (tokens_more texts front writes.1 rows)
 
--- tokens of texts and of others behind them
+-- tokens of texts and of others after them
 record Split (texts others : List (List ℕ)) (tokens : List Token) : Type 0 where
   front : List Token
   back : List Token
@@ -130,7 +130,7 @@ commented_row (Some text ∷ comments) (field ∷ row) tokens none' writes =
     (subst P (sym (append_assoc pieces (Comment text ∷ commented comments row) ends))
     (tokens_more (field_tokens field) both.front both.first (comment none'.0 (commented_row comments row both.back none'.1 both.behind))))
 
--- The document of data, with a line end behind it, is one row of these tokens.
+-- The document of data, with a line end after it, is one row of these tokens.
 pub data_row : (rdata : Data) (tokens : List Token) → AllZip WritesToken tokens (tokens_of rdata)
     → HasRows 0 (document_of rdata ++ Newline ∷ []) (tokens ∷ [])
 data_row (typed number row) tokens writes =

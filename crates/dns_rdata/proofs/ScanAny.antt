@@ -13,7 +13,7 @@ is_false is has = cc
 behind : {tokens words : List Token} → marker ∷ tokens ≡ marker ∷ words → words ≡ tokens
 behind is = sym (ap (drop {A = Token} 1) is)
 
--- untyped data behind the marker is the only text of data there
+-- untyped data after the marker is the only text of data there
 pub none_untyped : (names : List ℕ → List (List ℕ) → Type 0) (rtype : ℕ) (tokens : List Token)
     → ((octets : List ℕ) → IsUnknownData tokens octets → ⊥)
     → (rdata : Data) (left : List Token) → ScansAnyData names rtype rdata (marker ∷ tokens) left → ⊥

@@ -55,7 +55,7 @@ abbrev pub counted : Data → List (List ℕ)
 counted (typed number row) = keys row
 counted (untyped unknown) = unknown.octets ∷ []
 
--- data is equal of the same type, with fields or opaque alike, of which the same counts
+-- data is equal if of the same type, with fields or opaque alike, and the same counts of it
 unfoldable pub data_eq : Data → Data → Bool
 data_eq = eq_of_both (on number_of nat_eq) (eq_of_both (on is_untyped beq) (on counted (pointwise (pointwise nat_eq))))
 

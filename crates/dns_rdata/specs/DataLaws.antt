@@ -1,4 +1,4 @@
--- The laws of how data stands to other data: an equivalence, a total order that ties exactly the data that is equal, and equal
+-- The laws of how data compares: an equivalence, a total order that ties exactly the data that is equal, and equal
 -- data is hashed alike.
 use Rattle.std.proofs.Common.{◌≡◌, ℕ, Bool, true, false, List, [], ◌∷◌, ◌++◌, nat_eq, refl, rules}
 use Rattle.std.proofs.lemmas.Bool.{and_parts}

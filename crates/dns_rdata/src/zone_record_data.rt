@@ -43,7 +43,7 @@ pub enum ZoneRecordData<Octs: Octets, N: ToName> {
     Md(Md<N>),
     /// A mail forwarder (RFC 1035 3.3.5).
     Mf(Mf<N>),
-    /// The name of which the owner is an alias (RFC 1035 3.3.1).
+    /// The name that the owner is an alias of (RFC 1035 3.3.1).
     Cname(Cname<N>),
     /// The start of a zone (RFC 1035 3.3.13).
     Soa(Soa<N>),

@@ -82,7 +82,7 @@ impl<N: ToName> RowData<Number<6>, SoaRow<N>> {
         Ttl::from_secs(*retry)
     }
 
-    /// Returns how long a copy stands that cannot be refreshed.
+    /// Returns how long a copy that cannot be refreshed stays valid.
     pub fn expire(&self) -> Ttl
         ensures { field_at 5 self.now ≡ Some (number32 result) }
     {

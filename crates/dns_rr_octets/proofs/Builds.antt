@@ -15,7 +15,7 @@ use Rattle.dns_rr_octets.specs.Built.{Built, GoesOn, IsCut, StandsFor, AddsText,
 abbrev pub IsFull : List ℕ → Type 0
 IsFull string = length string ≡ 255
 
--- what is in front of the rest of a text is appended as full strings
+-- what is before the rest of a text is appended as full strings
 pub record Taken (text rest old now : List ℕ) : Type 0 where
   pub full : List (List ℕ)
   pub whole : text ≡ concat full ++ rest
@@ -40,7 +40,7 @@ taken_more {text = text} {old = old} {behind = behind} string taken is long on =
       ∙ ap (λ l. old ++ l) (sym (flat_map-append string_wire taken.full (string ∷ []) ∙ ap (λ l. flat_map string_wire taken.full ++ l) (append-nil (string_wire string))));
 }
 
--- the octets in front stay
+-- the octets before stay
 pub taken_kept : {text rest old now : List ℕ} → Taken text rest old now → take (length old) now ≡ old
 taken_kept {old = old} taken = ap (take (length old)) taken.written ∙ take-append_seam old (flat_map string_wire taken.full)
 
@@ -74,7 +74,7 @@ taken_rest {rest = rest} {old = old} place taken some short on at = record {
       ∙ sym (open_at (length old + strings_len taken.full) rest some);
 }
 
--- an octet is changed where it stands
+-- an octet is changed at its place
 set_parts : (octets more : List ℕ) (place octet : ℕ) → place < length octets
     → set (octets ++ more) place octet ≡ take place octets ++ octet ∷ (drop (place + 1) octets ++ more)
 set_parts [] more place octet within = absurd (omega arith)

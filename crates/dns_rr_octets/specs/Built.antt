@@ -26,11 +26,11 @@ strings_built built = built.closed ++ open_string built.begun
 abbrev pub all_closed : Built → Built
 all_closed built = record { closed = strings_built built; begun = [] }
 
--- a whole string behind them
+-- a whole string after them
 abbrev pub with_string : Built → List ℕ → Built
 with_string built string = record { closed = strings_built built ++ string ∷ []; begun = [] }
 
--- text is strings of 255 octets, and fewer octets behind them
+-- text is strings of 255 octets, and fewer octets after them
 pub record IsCut (text : List ℕ) (full : List (List ℕ)) (rest : List ℕ) : Type 0 where
   pub whole : text ≡ concat full ++ rest
   pub each : AllByRecursion (λ string. length string ≡ 255) full
@@ -42,7 +42,7 @@ pub record GoesOn (old : Built) (text : List ℕ) (new : Built) : Type 0 where
   pub cut : IsCut (old.begun ++ text) full new.begun
   pub closed : new.closed ≡ old.closed ++ full
 
--- how many octets so many octets of text have as strings: one more for each 255, begun or whole
+-- the number of octets that text of this number of octets has as strings: one more for each 255, begun or whole
 abbrev pub text_len : ℕ → ℕ
 text_len count = count + (count + 254) / 255
 
@@ -62,12 +62,12 @@ pub record AreTextStrings (text : List ℕ) (each : List (List ℕ)) : Type 0 wh
   pub cut : IsCut text full rest
   pub is : each ≡ some_strings (full ++ open_string rest)
 
--- where the length of the open string stands, given where the closed ones end
+-- the place of the open string's length, given where the closed ones end
 abbrev pub open_place : ℕ → List ℕ → Option ℕ
 open_place place [] = None
 open_place place (octet ∷ octets) = Some place
 
--- These octets hold what is built, of which the open string's length stands at a place.
+-- These octets hold what is built, and the open string's length is at a place.
 pub record StandsFor (octets : List ℕ) (head : Option ℕ) (built : Built) : Type 0 where
   pub each : AllByRecursion IsString built.closed
   pub short : length built.begun < 255
@@ -80,7 +80,7 @@ abbrev pub built_of : List ℕ → Option ℕ → Built
 built_of octets None = record { closed = strings_of octets; begun = [] }
 built_of octets (Some place) = record { closed = strings_of (take place octets); begun = drop (place + 1) octets }
 
--- the strings of a text stand behind octets, the length of the last at a place if it has fewer than 255 octets
+-- the strings of a text follow octets, the length of the last at a place if it has fewer than 255 octets
 pub record AddsText (old text new : List ℕ) (head : Option ℕ) : Type 0 where
   pub full : List (List ℕ)
   pub rest : List ℕ

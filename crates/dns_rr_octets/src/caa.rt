@@ -4,7 +4,7 @@ ghost use Rattle.dns_fields.specs.Fields as fields;
 ghost use Rattle.dns_fields.specs.Fields.{number8, rest_text, octets, field_at};
 
 use crate::RowData;
-use dns_fields::{CaaRow, Last, Number, RestText, Row, Tag};
+use dns_fields::{CaaRow, HasFields, Last, Number, RestText, Tag};
 use dns_name::{LongRecordData, Octets};
 use dns_text::CharStr;
 use std::marker::PhantomData;

@@ -3,7 +3,7 @@ ghost use Rattle.std.specs.Prelude.{◌≡◌, ◌≤◌, ◌↔◌, length, [],
 ghost use Rattle.dns_fields.specs.Fields.{number8, number16, rest64, octets, field_at};
 
 use crate::RowData;
-use dns_fields::{DnskeyRow, Last, Number, Rest64, Row};
+use dns_fields::{DnskeyRow, HasFields, Last, Number, Rest64};
 use dns_name::{LongRecordData, Octets};
 use std::marker::PhantomData;
 

@@ -3,7 +3,7 @@ ghost use Rattle.std.specs.Prelude.{◌≡◌, ◌≤◌, ◌↔◌, length, [],
 ghost use Rattle.dns_fields.specs.Fields.{number8, number16, rest16, octets, field_at};
 
 use crate::RowData;
-use dns_fields::{DsRow, Last, Number, Rest16, Row};
+use dns_fields::{DsRow, HasFields, Last, Number, Rest16};
 use dns_name::{LongRecordData, Octets};
 use std::marker::PhantomData;
 

@@ -20,9 +20,9 @@ ghost use Rattle.dns_text.specs.Document.Layout.{Simple};
 ghost use Rattle.dns_text.specs.Documents.{block_of};
 
 use dns_fields::{
-    CanonicalOctetsOrd, ConvertRow, DataType, FrontRow, OverOctets, ReadRow, Row, RowOf, ScanRow,
-    ShowRow, canonical_row_cmp_octets, compose_canonical_row, compose_row, read_row, row_len,
-    scan_row_of, show_row,
+    CanonicalOctetsOrd, ConvertRow, DataType, FrontRow, HasFields, OverOctets, ReadRow, Row, RowOf,
+    ScanRow, ShowRow, canonical_row_cmp_octets, compose_canonical_row, compose_row, read_row,
+    row_len, scan_row_of, show_row,
 };
 use dns_name::{
     AppendError, CanonicalOrd, ComposeRecordData, Composer, EmptyBuilder, FlattenInto, FromBuilder,
@@ -39,12 +39,12 @@ use std::marker::{Model, PhantomData};
 ///
 /// A contract sees it as its row. A row with a field of any length has at most 65,535 octets.
 #[derive(Debug, Drop)]
-pub struct RowData<T, R: Row> {
+pub struct RowData<T, R: HasFields> {
     pub(crate) row: R,
     pub(crate) rtype: PhantomData<T>,
 }
 
-impl<T, R: Row> Model for RowData<T, R> {
+impl<T, R: HasFields> Model for RowData<T, R> {
     ghost Value = { List Field };
 
     ghost view = { λ rdata. R.fields rdata.row };
@@ -52,7 +52,7 @@ impl<T, R: Row> Model for RowData<T, R> {
     ghost invariant = { λ rdata. FitsRecord (R.fields rdata.row) };
 }
 
-impl<T, R: Row> RowData<T, R> {
+impl<T, R: HasFields> RowData<T, R> {
     /// Returns the row.
     pub fn as_row(&self) -> &R
         ensures { R.fields result.now ≡ self.now }
@@ -156,7 +156,7 @@ where
     }
 }
 
-impl<T: DataType, R: Row> RecordData for RowData<T, R> {
+impl<T: DataType, R: HasFields> RecordData for RowData<T, R> {
     ghost rtype = { λ _. T.number };
 
     fn rtype(&self) -> Rtype {
@@ -234,7 +234,7 @@ impl<T, R: Row> CanonicalOrd for RowData<T, R> {
 }
 
 /// The same order, against data that is held as octets.
-impl<T: DataType, R: FrontRow> CanonicalOctetsOrd for RowData<T, R> {
+impl<T: DataType, R: Row + FrontRow> CanonicalOctetsOrd for RowData<T, R> {
     fn canonical_octets_cmp(&self, octets: &[u8]) -> Ordering {
         canonical_row_cmp_octets(&self.row, octets)
     }

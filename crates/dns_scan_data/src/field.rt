@@ -5,13 +5,13 @@ ghost use Rattle.dns_scan.specs.Token.{SameNames};
 ghost use Rattle.dns_scan_data.specs.Appended.{AppendsField, GoesOn};
 
 use dns_name::{FromBuilder, ToName};
-use dns_rdata::rows::{Compressible, FieldValue, ScanField, Tag, Uncompressed};
+use dns_rdata::rows::{Compressible, FieldValue, HasField, ScanField, Tag, Uncompressed};
 use dns_row_scanner::OctetsScanner;
 use dns_text::{CharStr, Scanner, ScannerError};
 use std::net::{Ipv4Addr, Ipv6Addr};
 
 /// A field that is scanned into octets.
-pub trait ScanFieldInto<S: Scanner>: FieldValue {
+pub trait ScanFieldInto<S: Scanner>: HasField {
     /// Scans the field, takes its tokens, and appends its octets, every name in full.
     ///
     /// Fails with an error other than `short_buf` only if the tokens do not begin with such a field. It may then have
@@ -96,7 +96,7 @@ impl<Octs: FromBuilder + Drop, S: OctetsScanner<Octets = Octs>> ScanFieldInto<S>
 }
 
 /// Scans a field and appends its octets.
-fn scan_and_append<S: Scanner, A: ScanField<S>>(
+fn scan_and_append<S: Scanner, A: FieldValue + ScanField<S>>(
     scanner: &mut S,
     octets: &mut Vec<u8>,
 ) -> Result<(), S::Error>

@@ -6,12 +6,12 @@ ghost use Rattle.dns_scan_data.specs.Appended.{AppendsRow, GoesOn};
 
 use crate::ScanFieldInto;
 use dns_name::FromBuilder;
-use dns_rdata::rows::{Last, Rest16, Rest64, RestText, Row, ScanRow, Strings};
+use dns_rdata::rows::{HasFields, Last, Rest16, Rest64, RestText, Row, ScanRow, Strings};
 use dns_row_scanner::OctetsScanner;
 use dns_text::{Scanner, ScannerError};
 
 /// A row that is scanned into octets.
-pub trait ScanRowInto<S: Scanner>: Row {
+pub trait ScanRowInto<S: Scanner>: HasFields {
     /// Scans the fields one after another, takes their tokens, and appends their octets, every name in full.
     ///
     /// Fails with an error other than `short_buf` only if the tokens do not begin with such fields. It may then have
@@ -81,7 +81,7 @@ impl<Octs: FromBuilder + Drop, S: OctetsScanner<Octets = Octs>> ScanRowInto<S>
 }
 
 /// Scans a row as a value and appends its octets.
-fn scan_and_append<S: Scanner, R: ScanRow<S>>(
+fn scan_and_append<S: Scanner, R: Row + ScanRow<S>>(
     scanner: &mut S,
     octets: &mut Vec<u8>,
 ) -> Result<(), S::Error>

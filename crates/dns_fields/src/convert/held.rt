@@ -1,11 +1,11 @@
 //! What octets a row holds: those of its first field that holds some.
-use crate::{Compressible, Last, Rest16, Rest64, RestText, Row, Strings, Tag, Uncompressed};
+use crate::{Compressible, HasFields, Last, Rest16, Rest64, RestText, Strings, Tag, Uncompressed};
 use dns_name::{FromBuilder, Name};
 use dns_text::CharStr;
 use std::net::{Ipv4Addr, Ipv6Addr};
 
 /// A row whose fields are held in octets of one kind.
-pub trait OverOctets: Row {
+pub trait OverOctets: HasFields {
     type Octets: FromBuilder;
 }
 
@@ -34,19 +34,19 @@ impl<B: OverOctets> OverOctets for (Ipv6Addr, B) {
     type Octets = B::Octets;
 }
 
-impl<Octs: FromBuilder, B: Row> OverOctets for (Compressible<Name<Octs>>, B) {
+impl<Octs: FromBuilder, B: HasFields> OverOctets for (Compressible<Name<Octs>>, B) {
     type Octets = Octs;
 }
 
-impl<Octs: FromBuilder, B: Row> OverOctets for (Uncompressed<Name<Octs>>, B) {
+impl<Octs: FromBuilder, B: HasFields> OverOctets for (Uncompressed<Name<Octs>>, B) {
     type Octets = Octs;
 }
 
-impl<Octs: FromBuilder, B: Row> OverOctets for (CharStr<Octs>, B) {
+impl<Octs: FromBuilder, B: HasFields> OverOctets for (CharStr<Octs>, B) {
     type Octets = Octs;
 }
 
-impl<Octs: FromBuilder, B: Row> OverOctets for (Tag<Octs>, B) {
+impl<Octs: FromBuilder, B: HasFields> OverOctets for (Tag<Octs>, B) {
     type Octets = Octs;
 }
 

@@ -6,13 +6,13 @@ ghost use Rattle.std.proofs.Common.{refl};
 ghost use Rattle.std.specs.Net.Addr.{ipv4_octets, ipv6_octets};
 ghost use Rattle.dns_fields.specs.Fields.{Ipv4, Ipv6, ipv4, ipv6};
 
-use super::FieldValue;
+use super::{FieldValue, HasField};
 use dns_name::{AppendError, Compose, Composer};
 use std::cmp::Ordering;
 use std::hash::Hasher;
 use std::net::{Ipv4Addr, Ipv6Addr};
 
-/// How octets stand to as many others, whatever stands behind both.
+/// Compares octets with as many others, whatever follows both.
 fn level_cmp(octets: &[u8], others: &[u8]) -> Ordering
     requires { length octets.now ≡ length others.now }
     ensures { (behind beyond : List ℕ) → slice_cmp nat_cmp (octets.now ++ behind) (others.now ++ beyond)
@@ -21,17 +21,21 @@ fn level_cmp(octets: &[u8], others: &[u8]) -> Ordering
     octets.cmp(others)
 }
 
-impl FieldValue for Ipv4Addr {
+impl HasField for Ipv4Addr {
     ghost kind = { Ipv4 };
 
     ghost field = { λ address. ipv4 (ipv4_octets address) };
 
-    fn may_point() -> bool {
-        false
-    }
-
     fn field_len(&self) -> usize {
         self.octets().len()
+    }
+
+    ghost of_kind = { λ _. refl };
+}
+
+impl FieldValue for Ipv4Addr {
+    fn may_point() -> bool {
+        false
     }
 
     #[tactic(auto, using(crate::proofs::Leaves::leaf_rules), unfolding(dns_name::specs::Page::write))]
@@ -60,22 +64,24 @@ impl FieldValue for Ipv4Addr {
 
     fn hash_field<H: Hasher>(&self, state: &mut H) {
         state.write(&self.octets());
+    }
+}
+
+impl HasField for Ipv6Addr {
+    ghost kind = { Ipv6 };
+
+    ghost field = { λ address. ipv6 (ipv6_octets address) };
+
+    fn field_len(&self) -> usize {
+        self.octets().len()
     }
 
     ghost of_kind = { λ _. refl };
 }
 
 impl FieldValue for Ipv6Addr {
-    ghost kind = { Ipv6 };
-
-    ghost field = { λ address. ipv6 (ipv6_octets address) };
-
     fn may_point() -> bool {
         false
-    }
-
-    fn field_len(&self) -> usize {
-        self.octets().len()
     }
 
     #[tactic(auto, using(crate::proofs::Leaves::leaf_rules), unfolding(dns_name::specs::Page::write))]
@@ -105,6 +111,4 @@ impl FieldValue for Ipv6Addr {
     fn hash_field<H: Hasher>(&self, state: &mut H) {
         state.write(&self.octets());
     }
-
-    ghost of_kind = { λ _. refl };
 }

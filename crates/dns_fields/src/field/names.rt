@@ -6,7 +6,7 @@ ghost use Rattle.std.proofs.Common.{refl};
 ghost use Rattle.dns_label.specs.Name.{wire, low};
 ghost use Rattle.dns_fields.specs.Fields as fields;
 
-use super::FieldValue;
+use super::{FieldValue, HasField};
 use dns_name::{AppendError, Composer, ToName};
 use std::cmp::Ordering;
 use std::hash::Hasher;
@@ -15,17 +15,21 @@ use std::hash::Hasher;
 #[derive(Clone, Copy, Debug, Drop)]
 pub struct Compressible<N>(pub N);
 
-impl<N: ToName> FieldValue for Compressible<N> {
+impl<N: ToName> HasField for Compressible<N> {
     ghost kind = { fields.Compressible };
 
     ghost field = { λ x. fields.compressible (N.name x.0) };
 
-    fn may_point() -> bool {
-        true
-    }
-
     fn field_len(&self) -> usize {
         usize::from(self.0.compose_len())
+    }
+
+    ghost of_kind = { λ _. refl };
+}
+
+impl<N: ToName> FieldValue for Compressible<N> {
+    fn may_point() -> bool {
+        true
     }
 
     #[tactic(auto, using(crate::proofs::Leaves::leaf_rules), unfolding(dns_name::specs::Page::write))]
@@ -55,25 +59,27 @@ impl<N: ToName> FieldValue for Compressible<N> {
     fn hash_field<H: Hasher>(&self, state: &mut H) {
         self.0.name_hash(state);
     }
-
-    ghost of_kind = { λ _. refl };
 }
 
 /// A name that is never written with a pointer: that of a later type (RFC 3597 4).
 #[derive(Clone, Copy, Debug, Drop)]
 pub struct Uncompressed<N>(pub N);
 
-impl<N: ToName> FieldValue for Uncompressed<N> {
+impl<N: ToName> HasField for Uncompressed<N> {
     ghost kind = { fields.Uncompressed };
 
     ghost field = { λ x. fields.uncompressed (N.name x.0) };
 
-    fn may_point() -> bool {
-        false
-    }
-
     fn field_len(&self) -> usize {
         usize::from(self.0.compose_len())
+    }
+
+    ghost of_kind = { λ _. refl };
+}
+
+impl<N: ToName> FieldValue for Uncompressed<N> {
+    fn may_point() -> bool {
+        false
     }
 
     #[tactic(auto, using(crate::proofs::Leaves::leaf_rules), unfolding(dns_name::specs::Page::write))]
@@ -103,11 +109,9 @@ impl<N: ToName> FieldValue for Uncompressed<N> {
     fn hash_field<H: Hasher>(&self, state: &mut H) {
         self.0.name_hash(state);
     }
-
-    ghost of_kind = { λ _. refl };
 }
 
-/// How the octets of two names in lower case stand to one another. Those of different names differ before either ends.
+/// Compares the octets of two names in lower case. Those of different names differ before either ends.
 fn canonical_names_cmp<N: ToName>(name: &N, other: &N) -> Ordering
     ensures { (behind beyond : List ℕ) → slice_cmp nat_cmp (wire (low (N.name name.now)) ++ behind)
         (wire (low (N.name other.now)) ++ beyond)

@@ -2,22 +2,26 @@
 ghost use Rattle.std.proofs.Common.{refl};
 ghost use Rattle.dns_fields.specs.Fields.{Number8, Number16, Number32, number8, number16, number32};
 
-use super::FieldValue;
+use super::{FieldValue, HasField};
 use dns_name::{AppendError, Compose, Composer};
 use std::cmp::Ordering;
 use std::hash::Hasher;
 
-impl FieldValue for u8 {
+impl HasField for u8 {
     ghost kind = { Number8 };
 
     ghost field = { number8 };
 
-    fn may_point() -> bool {
-        false
-    }
-
     fn field_len(&self) -> usize {
         1
+    }
+
+    ghost of_kind = { λ _. refl };
+}
+
+impl FieldValue for u8 {
+    fn may_point() -> bool {
+        false
     }
 
     #[tactic(auto, using(crate::proofs::Leaves::leaf_rules), unfolding(dns_name::specs::Page::write))]
@@ -46,22 +50,24 @@ impl FieldValue for u8 {
 
     fn hash_field<H: Hasher>(&self, state: &mut H) {
         state.write(&self.to_be_bytes());
+    }
+}
+
+impl HasField for u16 {
+    ghost kind = { Number16 };
+
+    ghost field = { number16 };
+
+    fn field_len(&self) -> usize {
+        2
     }
 
     ghost of_kind = { λ _. refl };
 }
 
 impl FieldValue for u16 {
-    ghost kind = { Number16 };
-
-    ghost field = { number16 };
-
     fn may_point() -> bool {
         false
-    }
-
-    fn field_len(&self) -> usize {
-        2
     }
 
     #[tactic(auto, using(crate::proofs::Leaves::leaf_rules), unfolding(dns_name::specs::Page::write))]
@@ -90,22 +96,24 @@ impl FieldValue for u16 {
 
     fn hash_field<H: Hasher>(&self, state: &mut H) {
         state.write(&self.to_be_bytes());
+    }
+}
+
+impl HasField for u32 {
+    ghost kind = { Number32 };
+
+    ghost field = { number32 };
+
+    fn field_len(&self) -> usize {
+        4
     }
 
     ghost of_kind = { λ _. refl };
 }
 
 impl FieldValue for u32 {
-    ghost kind = { Number32 };
-
-    ghost field = { number32 };
-
     fn may_point() -> bool {
         false
-    }
-
-    fn field_len(&self) -> usize {
-        4
     }
 
     #[tactic(auto, using(crate::proofs::Leaves::leaf_rules), unfolding(dns_name::specs::Page::write))]
@@ -135,6 +143,4 @@ impl FieldValue for u32 {
     fn hash_field<H: Hasher>(&self, state: &mut H) {
         state.write(&self.to_be_bytes());
     }
-
-    ghost of_kind = { λ _. refl };
 }

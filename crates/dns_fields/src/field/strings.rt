@@ -4,7 +4,7 @@ ghost use Rattle.std.specs.Char.{to_ascii_lowercase};
 ghost use Rattle.std.proofs.Common.{refl};
 ghost use Rattle.dns_fields.specs.Fields as fields;
 
-use super::FieldValue;
+use super::{FieldValue, HasField};
 use dns_name::{AppendError, CanonicalOrd, Compose, Composer, Octets};
 use dns_text::CharStr;
 use std::cmp::Ordering;
@@ -14,18 +14,22 @@ use std::hash::Hasher;
 #[derive(Debug, Drop)]
 pub struct Tag<Octs: Octets>(pub CharStr<Octs>);
 
-/// Compared up to ASCII case, though canonically it keeps its case.
-impl<Octs: Octets> FieldValue for CharStr<Octs> {
+impl<Octs: Octets> HasField for CharStr<Octs> {
     ghost kind = { fields.String };
 
     ghost field = { fields.string };
 
-    fn may_point() -> bool {
-        false
-    }
-
     fn field_len(&self) -> usize {
         1 + self.len()
+    }
+
+    ghost of_kind = { λ _. refl };
+}
+
+/// Compared up to ASCII case, though canonically it keeps its case.
+impl<Octs: Octets> FieldValue for CharStr<Octs> {
+    fn may_point() -> bool {
+        false
     }
 
     #[tactic(auto, using(crate::proofs::Leaves::leaf_rules), unfolding(dns_name::specs::Page::write))]
@@ -59,11 +63,9 @@ impl<Octs: Octets> FieldValue for CharStr<Octs> {
         let octets = lowered_behind_number(self.as_slice());
         state.write(&octets[..1 + self.len()]);
     }
-
-    ghost of_kind = { λ _. refl };
 }
 
-/// The octets in lower case behind their number, and zeros behind them.
+/// Returns the number of the octets, the octets in lower case, and zeros.
 fn lowered_behind_number(octets: &[u8]) -> [u8; 256]
     requires { length octets.now ≤ 255 }
     ensures front { take (1 + length octets.now) result ≡ length octets.now ∷ map to_ascii_lowercase octets.now }
@@ -76,17 +78,21 @@ fn lowered_behind_number(octets: &[u8]) -> [u8; 256]
     wire
 }
 
-impl<Octs: Octets> FieldValue for Tag<Octs> {
+impl<Octs: Octets> HasField for Tag<Octs> {
     ghost kind = { fields.Tag };
 
     ghost field = { λ x. fields.tag x.0 };
 
-    fn may_point() -> bool {
-        false
-    }
-
     fn field_len(&self) -> usize {
         self.0.field_len()
+    }
+
+    ghost of_kind = { λ _. refl };
+}
+
+impl<Octs: Octets> FieldValue for Tag<Octs> {
+    fn may_point() -> bool {
+        false
     }
 
     #[tactic(auto, using(crate::proofs::Leaves::leaf_rules), unfolding(dns_name::specs::Page::write))]
@@ -116,6 +122,4 @@ impl<Octs: Octets> FieldValue for Tag<Octs> {
     fn hash_field<H: Hasher>(&self, state: &mut H) {
         self.0.hash_field(state);
     }
-
-    ghost of_kind = { λ _. refl };
 }

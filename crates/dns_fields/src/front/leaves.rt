@@ -1,4 +1,4 @@
-//! Numbers, addresses, strings and tags beside what octets begin with.
+//! Numbers, addresses, strings and tags, and what octets begin with.
 use super::FrontField;
 use super::split::split_front;
 use crate::Tag;
@@ -37,7 +37,7 @@ impl FrontField for Ipv6Addr {
     }
 }
 
-/// With its case, behind its length.
+/// With its case, after its length.
 impl<Octs: Octets> FrontField for CharStr<Octs> {
     fn split_canonical_field<'a>(&self, octets: &'a [u8]) -> Result<&'a [u8], Ordering> {
         let behind = split_front(&[self.len() as u8], octets)?;

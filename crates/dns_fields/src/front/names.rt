@@ -1,4 +1,4 @@
-//! Names beside what octets begin with, in lower case and label by label.
+//! Names, and what octets begin with, in lower case and label by label.
 ghost use Rattle.std.specs.Prelude.{◌≡◌, ◌++◌, IfOk, IfErr};
 ghost use Rattle.dns_label.specs.Composed.{label_wire, low_label};
 ghost use Rattle.dns_label.specs.Label.{octets_of};
@@ -35,7 +35,7 @@ fn split_name<'a, N: ToName>(name: &N, octets: &'a [u8]) -> Result<&'a [u8], Ord
     Ok(rest)
 }
 
-/// `split_front` of the label's octets in lower case, behind their length.
+/// `split_front` of the label's octets in lower case, after their length.
 fn split_label<'a>(label: Label<'_>, octets: &'a [u8]) -> Result<&'a [u8], Ordering>
     ensures ok { IfOk result (λ behind. octets.now ≡ label_wire (low_label (octets_of label.entry)) ++ behind.now) }
     ensures err { IfErr result (Decides (label_wire (low_label (octets_of label.entry))) octets.now) }

@@ -4,7 +4,7 @@ ghost use Rattle.dns_fields.specs.Front.{Decides};
 
 use std::cmp::Ordering;
 
-/// What stands behind the front, where the octets begin with it. Else how it stands to them, whatever would stand behind it.
+/// Returns what follows the front, if the octets begin with it, and otherwise how it compares, whatever follows it.
 pub fn split_front<'a>(front: &[u8], octets: &'a [u8]) -> Result<&'a [u8], Ordering>
     ensures ok { IfOk result (λ behind. octets.now ≡ front.now ++ behind.now) }
     ensures err { IfErr result (Decides front.now octets.now) }

@@ -5,7 +5,7 @@ ghost use Rattle.dns_fields.specs.Fields.{Kind, Field, field_octets};
 ghost use Rattle.dns_fields.specs.Last.{IsLast};
 ghost use Rattle.dns_fields.specs.Written.{may_point};
 
-use super::Row;
+use super::{HasFields, Row};
 use dns_name::{AppendError, Composer, LongRecordData};
 use std::cmp::Ordering;
 use std::hash::Hasher;
@@ -25,18 +25,14 @@ pub trait LastValue {
     ghost is_last: { (x : Self) → IsLast kind (field x) };
 }
 
-/// A row of one field, with nothing behind it.
+/// A row of one field, which is the last.
 #[derive(Clone, Copy, Debug, Drop)]
 pub struct Last<V>(pub V);
 
-impl<V: LastValue> Row for Last<V> {
+impl<V: LastValue> HasFields for Last<V> {
     ghost kinds = { V.kind ∷ [] };
 
     ghost fields = { λ row. V.field row.0 ∷ [] };
-
-    fn may_point() -> bool {
-        false
-    }
 
     fn fields_len(&self) -> Option<u16> {
         let len = self.0.last_octets().len();
@@ -44,6 +40,14 @@ impl<V: LastValue> Row for Last<V> {
             return None;
         }
         Some(len as u16)
+    }
+
+    ghost of_kinds = { λ row i. (V.is_last row.0).kind i ∷ [] };
+}
+
+impl<V: LastValue> Row for Last<V> {
+    fn may_point() -> bool {
+        false
     }
 
     fn compose_fields<Target: Composer>(&self, target: &mut Target) -> Result<(), AppendError> {
@@ -75,6 +79,4 @@ impl<V: LastValue> Row for Last<V> {
     fn hash_fields<H: Hasher>(&self, state: &mut H) {
         state.write(self.0.last_octets());
     }
-
-    ghost of_kinds = { λ row i. (V.is_last row.0).kind i ∷ [] };
 }

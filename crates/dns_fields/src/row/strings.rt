@@ -11,7 +11,7 @@ use dns_name::{Octets, Parser};
 use dns_text::CharStr;
 use std::marker::Model;
 
-/// One or more strings, which have all octets that are left. They are held as on the wire, each behind its length.
+/// One or more strings, which have all octets that are left. They are held as on the wire, each after its length.
 ///
 /// A contract sees the list of the strings.
 #[derive(Debug, Drop)]
@@ -28,7 +28,7 @@ impl<Octs: Octets> Model for Strings<Octs> {
 }
 
 impl<Octs: Octets> Strings<Octs> {
-    /// The strings that the octets are. None where they are not one or more strings.
+    /// Returns the strings that the octets are, or None if they are not one or more strings.
     pub fn from_octets(octets: Octs) -> Option<Self>
     where
         Octs: Drop,
@@ -50,7 +50,7 @@ impl<Octs: Octets> Strings<Octs> {
         Strings { octets }
     }
 
-    /// The octets of the strings, each behind its length.
+    /// Returns the octets of the strings, each after its length.
     pub fn as_slice(&self) -> &[u8]
         ensures octets { result.now ≡ field_octets (fields.strings self.now) }
         ensures are { IsField (fields.strings self.now) }
@@ -58,7 +58,7 @@ impl<Octs: Octets> Strings<Octs> {
         self.octets.octets()
     }
 
-    /// The strings, one after another.
+    /// Returns the strings, one after another.
     pub fn iter(&self) -> StringsIter<'_>
         ensures { result ≡ self.now }
     {
@@ -114,7 +114,7 @@ impl<'a> Iterator for StringsIter<'a> {
     }
 }
 
-/// The string in front of the octets, and what stands behind it. None where there is none.
+/// Returns the string that the octets begin with, and what follows it, or None if there is none.
 fn split_string(octets: &[u8]) -> Option<(CharStr<&[u8]>, &[u8])>
     ensures some { IfSome result (λ found. StartsWithString octets.now found.0 found.1.now) }
     ensures none { IfNone result ((string rest : List ℕ) → StartsWithString octets.now string rest → ⊥) }

@@ -38,7 +38,7 @@ impl fmt::Display for Quoted<'_> {
     }
 }
 
-/// Writes the octets as they stand between quotes.
+/// Writes the octets as they are between quotes.
 fn write_octets<W: fmt::Write>(f: &mut fmt::Formatter<W>, octets: &[u8]) -> fmt::Result
     ensures { DisplaysOnOk W.write_str_gives f.old result (Some (between_quotes octets.now)) f.new }
 {
@@ -48,7 +48,7 @@ fn write_octets<W: fmt::Write>(f: &mut fmt::Formatter<W>, octets: &[u8]) -> fmt:
     Ok(())
 }
 
-/// Writes an octet as it stands between quotes.
+/// Writes an octet as it is between quotes.
 fn write_octet<W: fmt::Write>(f: &mut fmt::Formatter<W>, octet: u8) -> fmt::Result
     ensures { DisplaysOnOk W.write_str_gives f.old result (Some (between_quotes (octet ∷ []))) f.new }
 {

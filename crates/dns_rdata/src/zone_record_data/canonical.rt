@@ -6,7 +6,7 @@ ghost use Rattle.dns_rdata.specs.Data.{number_of, canonical_of, canonical_data_c
 ghost use Rattle.dns_rdata.specs.ZoneData.{data_of};
 
 use super::ZoneRecordData;
-use super::visit::{TypedData, Visit, VisitBoth};
+use super::visit::{ComparedData, TypedData, Visit, VisitBoth};
 use crate::rows::{Row, canonical_row_cmp_octets};
 use dns_fields::CanonicalOctetsOrd;
 use dns_name::{CanonicalOrd, Octets, RecordData, ToName, UnknownRecordData};
@@ -26,7 +26,7 @@ impl<Octs: Octets, N: ToName> CanonicalOrd for ZoneRecordData<Octs, N> {
 }
 
 impl<Octs: Octets, N: ToName> ZoneRecordData<Octs, N> {
-    /// Returns how data stands to other data of the same type.
+    /// Compares data with other data of the same type.
     #[tactic(auto, using(crate::proofs::Pairs::turned))]
     fn canonical_cmp_within(&self, other: &Self) -> Ordering
         requires { number_of (data_of self.now) ≡ number_of (data_of other.now) }
@@ -45,7 +45,7 @@ impl<Octs: Octets, N: ToName> ZoneRecordData<Octs, N> {
     }
 }
 
-/// How two values of data of one type stand to each other canonically.
+/// How two values of data of one type compare canonically.
 pub struct InCanonicalOrder;
 
 impl VisitBoth for InCanonicalOrder {
@@ -54,8 +54,8 @@ impl VisitBoth for InCanonicalOrder {
     ghost answers = { λ one two result. result ≡ slice_cmp nat_cmp (canonical_of one) (canonical_of two) };
 
     #[tactic(auto, unfolding(dns_fields::specs::Alike::canonical_rows_cmp))]
-    fn fields<D: TypedData>(one: &D, two: &D) -> Ordering {
-        one.as_row().canonical_fields_cmp(two.as_row())
+    fn fields<D: ComparedData>(one: &D, two: &D) -> Ordering {
+        one.row().canonical_fields_cmp(two.row())
     }
 
     fn opaque<Octs: Octets>(
@@ -74,7 +74,7 @@ impl<Octs: Octets, N: ToName> CanonicalOctetsOrd for ZoneRecordData<Octs, N> {
     }
 }
 
-/// How the canonical form of the data stands to octets.
+/// How the canonical form of the data compares with octets.
 pub struct AgainstOctets;
 
 impl<'a> Visit<&'a [u8]> for AgainstOctets {

@@ -8,7 +8,7 @@ ghost use Rattle.dns_rdata.specs.DataLaws.{data_equivalent, data_total, data_tie
 ghost use Rattle.dns_rdata.specs.ZoneData.{data_of};
 
 use super::ZoneRecordData;
-use super::visit::{TypedData, Visit, VisitBoth};
+use super::visit::{ComparedData, TypedData, Visit, VisitBoth};
 use crate::rows::Row;
 use dns_name::{Octets, RecordData, ToName, UnknownRecordData};
 use std::cmp::Ordering;
@@ -38,8 +38,8 @@ impl VisitBoth for AreEqual {
     ghost answers = { λ one two result. result ≡ data_eq one two };
 
     #[tactic(auto, using(crate::proofs::Pairs::same_eq))]
-    fn fields<D: TypedData>(one: &D, two: &D) -> bool {
-        one.as_row().fields_eq(two.as_row())
+    fn fields<D: ComparedData>(one: &D, two: &D) -> bool {
+        one.row().fields_eq(two.row())
     }
 
     #[tactic(auto, using(crate::proofs::Pairs::opaque_eq))]
@@ -85,7 +85,7 @@ impl<Octs: Octets, N: ToName> Ord for ZoneRecordData<Octs, N> {
     }
 }
 
-/// How two values of data of one type stand to each other.
+/// How two values of data of one type compare.
 pub struct InOrder;
 
 impl VisitBoth for InOrder {
@@ -94,8 +94,8 @@ impl VisitBoth for InOrder {
     ghost answers = { λ one two result. result ≡ data_cmp one two };
 
     #[tactic(auto, using(crate::proofs::Pairs::same_cmp))]
-    fn fields<D: TypedData>(one: &D, two: &D) -> Ordering {
-        one.as_row().fields_cmp(two.as_row())
+    fn fields<D: ComparedData>(one: &D, two: &D) -> Ordering {
+        one.row().fields_cmp(two.row())
     }
 
     #[tactic(auto, using(crate::proofs::Pairs::opaque_cmp))]

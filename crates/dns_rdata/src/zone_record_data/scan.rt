@@ -1,15 +1,16 @@
 //! Data of any type, scanned from text.
-ghost use Rattle.std.specs.Prelude.{◌≡◌, ◌∷◌, false, IfOk, IfErr, OnErr};
+ghost use Rattle.std.specs.Prelude.{◌≡◌, ◌∷◌, [], Some, false, IfOk, IfErr, OnErr};
+ghost use Rattle.dns_fields.specs.Fields.{Compressible as one_name, kinds_of};
+ghost use Rattle.dns_fields.specs.Scanned.{NoDataScans, ScansData};
 ghost use Rattle.dns_scan.specs.Token.{IsEnding, SameNames, marker};
 ghost use Rattle.dns_rdata.specs.Data.{IsUnmarked, NoAnyDataScans, ScansAnyData};
 ghost use Rattle.dns_rdata.specs.ZoneData.{data_of};
 
 use super::ZoneRecordData;
-use crate::{
-    A, Aaaa, Caa, Cname, Dnskey, Ds, Hinfo, Mb, Md, Mf, Mg, Minfo, Mr, Mx, Ns, Ptr, Rp, Soa, Srv,
-    Txt,
-};
+use crate::rows::{NameRow, scan_row_of};
+use crate::{A, Aaaa, Caa, Dnskey, Ds, Hinfo, Minfo, Mx, Rp, Soa, Srv, Txt};
 use dns_name::{FromBuilder, Octets, Rtype, ToName};
+use dns_rr_names::RowData;
 use dns_text::{Scanner, ScannerError, scan_without_marker};
 
 impl<Octs: FromBuilder + Drop, N: ToName + Drop> ZoneRecordData<Octs, N> {
@@ -68,28 +69,66 @@ impl<Octs: FromBuilder + Drop, N: ToName + Drop> ZoneRecordData<Octs, N> {
         ensures left { OnErr result (IsEnding (S.tokens scanner.new) (S.tokens scanner.old)) }
         ensures names { SameNames (S.names scanner.old) (S.names scanner.new) }
     {
+        match ZoneRecordData::scan_row(rtype, scanner) {
+            Ok(rdata) => Ok(rdata),
+            Err(error) => Err(error),
+        }
+    }
+
+    /// Scans the row of the type, if it has one.
+    fn scan_row<S: Scanner<Octets = Octs, Name = N>>(
+        rtype: Rtype,
+        scanner: &mut S,
+    ) -> Result<Self, S::Error>
+        requires { IsUnmarked (S.tokens scanner.old) }
+        ensures ok { IfOk result (λ rdata. ScansAnyData (S.names scanner.old) rtype (data_of rdata) (S.tokens scanner.old)
+            (S.tokens scanner.new)) }
+        ensures err { IfErr result (λ error. S.Error.is_short error ≡ false
+            → NoDataScans (S.names scanner.old) rtype (S.tokens scanner.old)) }
+        ensures left { OnErr result (IsEnding (S.tokens scanner.new) (S.tokens scanner.old)) }
+        ensures names { SameNames (S.names scanner.old) (S.names scanner.new) }
+    {
         match rtype {
-            Rtype::A => Ok(ZoneRecordData::A(A::scan(scanner)?)),
-            Rtype::NS => Ok(ZoneRecordData::Ns(Ns::scan(scanner)?)),
-            Rtype::MD => Ok(ZoneRecordData::Md(Md::scan(scanner)?)),
-            Rtype::MF => Ok(ZoneRecordData::Mf(Mf::scan(scanner)?)),
-            Rtype::CNAME => Ok(ZoneRecordData::Cname(Cname::scan(scanner)?)),
-            Rtype::SOA => Ok(ZoneRecordData::Soa(Soa::scan(scanner)?)),
-            Rtype::MB => Ok(ZoneRecordData::Mb(Mb::scan(scanner)?)),
-            Rtype::MG => Ok(ZoneRecordData::Mg(Mg::scan(scanner)?)),
-            Rtype::MR => Ok(ZoneRecordData::Mr(Mr::scan(scanner)?)),
-            Rtype::PTR => Ok(ZoneRecordData::Ptr(Ptr::scan(scanner)?)),
-            Rtype::HINFO => Ok(ZoneRecordData::Hinfo(Hinfo::scan(scanner)?)),
-            Rtype::MINFO => Ok(ZoneRecordData::Minfo(Minfo::scan(scanner)?)),
-            Rtype::MX => Ok(ZoneRecordData::Mx(Mx::scan(scanner)?)),
-            Rtype::TXT => Ok(ZoneRecordData::Txt(Txt::scan(scanner)?)),
-            Rtype::RP => Ok(ZoneRecordData::Rp(Rp::scan(scanner)?)),
-            Rtype::AAAA => Ok(ZoneRecordData::Aaaa(Aaaa::scan(scanner)?)),
-            Rtype::SRV => Ok(ZoneRecordData::Srv(Srv::scan(scanner)?)),
-            Rtype::DS => Ok(ZoneRecordData::Ds(Ds::scan(scanner)?)),
-            Rtype::DNSKEY => Ok(ZoneRecordData::Dnskey(Dnskey::scan(scanner)?)),
-            Rtype::CAA => Ok(ZoneRecordData::Caa(Caa::scan(scanner)?)),
+            Rtype::A => held!(A, A::scan(scanner)),
+            Rtype::NS => held!(Ns, scan_one_name(rtype, scanner)),
+            Rtype::MD => held!(Md, scan_one_name(rtype, scanner)),
+            Rtype::MF => held!(Mf, scan_one_name(rtype, scanner)),
+            Rtype::CNAME => held!(Cname, scan_one_name(rtype, scanner)),
+            Rtype::SOA => held!(Soa, Soa::scan(scanner)),
+            Rtype::MB => held!(Mb, scan_one_name(rtype, scanner)),
+            Rtype::MG => held!(Mg, scan_one_name(rtype, scanner)),
+            Rtype::MR => held!(Mr, scan_one_name(rtype, scanner)),
+            Rtype::PTR => held!(Ptr, scan_one_name(rtype, scanner)),
+            Rtype::HINFO => held!(Hinfo, Hinfo::scan(scanner)),
+            Rtype::MINFO => held!(Minfo, Minfo::scan(scanner)),
+            Rtype::MX => held!(Mx, Mx::scan(scanner)),
+            Rtype::TXT => held!(Txt, Txt::scan(scanner)),
+            Rtype::RP => held!(Rp, Rp::scan(scanner)),
+            Rtype::AAAA => held!(Aaaa, Aaaa::scan(scanner)),
+            Rtype::SRV => held!(Srv, Srv::scan(scanner)),
+            Rtype::DS => held!(Ds, Ds::scan(scanner)),
+            Rtype::DNSKEY => held!(Dnskey, Dnskey::scan(scanner)),
+            Rtype::CAA => held!(Caa, Caa::scan(scanner)),
             _ => Err(S::Error::custom("'\\#' expected")),
         }
+    }
+}
+
+/// Scans data of a type that is one name of RFC 1035. One for the eight types.
+fn scan_one_name<T, N: ToName + Drop, S: Scanner<Name = N>>(
+    rtype: Rtype,
+    scanner: &mut S,
+) -> Result<RowData<T, NameRow<N>>, S::Error>
+    requires { kinds_of rtype ≡ Some (one_name ∷ []) }
+    ensures ok { IfOk result (λ rdata. ScansData (S.names scanner.old) rtype rdata (S.tokens scanner.old)
+        (S.tokens scanner.new)) }
+    ensures err { IfErr result (λ error. S.Error.is_short error ≡ false
+        → NoDataScans (S.names scanner.old) rtype (S.tokens scanner.old)) }
+    ensures left { OnErr result (IsEnding (S.tokens scanner.new) (S.tokens scanner.old)) }
+    ensures names { SameNames (S.names scanner.old) (S.names scanner.new) }
+{
+    match scan_row_of::<S, NameRow<N>>(rtype.to_int(), scanner) {
+        Ok((name, ())) => Ok(RowData::<T, NameRow<N>>::new(name.0)),
+        Err(error) => Err(error),
     }
 }

@@ -8,14 +8,14 @@ ghost use Rattle.dns_text.specs.Documents.{block_of};
 ghost use Rattle.dns_text.specs.Writing.{Adds};
 
 use super::ZoneRecordData;
-use crate::rows::{DataType, FrontRow, ShowRow};
+use crate::rows::{DataType, FrontRow, Row, ShowRow};
 use dns_name::{Octets, ToName, UnknownRecordData};
 use dns_text::{Formatter, ZonefileFmt};
 use std::fmt;
 
 /// Data of a type that has fields.
 pub trait TypedData {
-    type Row: FrontRow;
+    type Row: Row + FrontRow;
 
     ghost number: { ℕ };
 
@@ -34,7 +34,7 @@ pub trait TypedData {
         ensures { OnOk result (Adds F.writes formatter.old (block_of (data_pieces number (held self.now))) formatter.new) };
 }
 
-impl<T: DataType, R: FrontRow + ShowRow> TypedData for dns_rr_names::RowData<T, R> {
+impl<T: DataType, R: Row + FrontRow + ShowRow> TypedData for dns_rr_names::RowData<T, R> {
     type Row = R;
 
     ghost number = { T.number };
@@ -54,7 +54,7 @@ impl<T: DataType, R: FrontRow + ShowRow> TypedData for dns_rr_names::RowData<T, 
     }
 }
 
-impl<T: DataType, R: FrontRow + ShowRow> TypedData for dns_rr_octets::RowData<T, R> {
+impl<T: DataType, R: Row + FrontRow + ShowRow> TypedData for dns_rr_octets::RowData<T, R> {
     type Row = R;
 
     ghost number = { T.number };
@@ -71,6 +71,43 @@ impl<T: DataType, R: FrontRow + ShowRow> TypedData for dns_rr_octets::RowData<T,
 
     fn show<F: Formatter>(&self, formatter: &mut F) -> fmt::Result {
         ZonefileFmt::fmt(self, formatter)
+    }
+}
+
+/// Data of a type that has fields, which is compared with data of the same type.
+pub trait ComparedData {
+    type Row: Row;
+
+    ghost number: { ℕ };
+
+    ghost held: { Self → List Field };
+
+    /// Returns the row of its fields.
+    fn row(&self) -> &Self::Row
+        ensures { Self.Row.fields result.now ≡ held self.now };
+}
+
+impl<T: DataType, R: Row> ComparedData for dns_rr_names::RowData<T, R> {
+    type Row = R;
+
+    ghost number = { T.number };
+
+    ghost held = { λ rdata. rdata };
+
+    fn row(&self) -> &R {
+        dns_rr_names::RowData::as_row(self)
+    }
+}
+
+impl<T: DataType, R: Row> ComparedData for dns_rr_octets::RowData<T, R> {
+    type Row = R;
+
+    ghost number = { T.number };
+
+    ghost held = { λ rdata. rdata };
+
+    fn row(&self) -> &R {
+        dns_rr_octets::RowData::as_row(self)
     }
 }
 
@@ -96,7 +133,7 @@ pub trait VisitBoth {
     ghost answers: { Data → Data → Self.Answer → Type 0 };
 
     /// Does it with data that has fields.
-    fn fields<D: TypedData>(one: &D, two: &D) -> Self::Answer
+    fn fields<D: ComparedData>(one: &D, two: &D) -> Self::Answer
         ensures { answers (typed D.number (D.held one.now)) (typed D.number (D.held two.now)) result };
 
     /// Does it with opaque data.

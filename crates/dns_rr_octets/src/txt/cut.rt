@@ -12,7 +12,7 @@ use super::iter::TxtIter;
 use dns_name::{AppendError, Compose, OctetsBuilder, Truncate, WriteOctets};
 use dns_text::CharStr;
 
-/// Whether so many octets of text, as strings after other data, make more than 65,535 octets.
+/// Whether this number of octets of text, as strings after other data, make more than 65,535 octets.
 pub(super) fn is_long(len: usize, count: usize) -> bool
     requires { len ≤ 65535 }
     ensures { IsTrue result ↔ (65535 < len + text_len count) }

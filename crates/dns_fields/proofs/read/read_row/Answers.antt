@@ -6,6 +6,6 @@ use Rattle.dns_fields.proofs.read.read_row.Goals as goal
 
 pub returns-clause-long : goal.returns-clause-long
 returns-clause-long g c =
-    let row = g.R.Row.fields c.in_ok-row.row in
+    let row = g.R.HasFields.fields c.in_ok-row.row in
     let short : length (octets row) < 2 ^ 16 = search rules in
-    row_read row (c.requires ∙ ap Some (sym (g.met.R.Row.of_kinds c.in_ok-row.row))) c.in_ok-row.ensures.sole short
+    row_read row (c.requires ∙ ap Some (sym (g.met.R.HasFields.of_kinds c.in_ok-row.row))) c.in_ok-row.ensures.sole short

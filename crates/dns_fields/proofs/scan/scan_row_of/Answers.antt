@@ -12,10 +12,10 @@ pub returns-in-Some-clause-ok : goal.returns-in-Some-clause-ok
 returns-in-Some-clause-ok g c =
     let same = sym c.in-Some.ensures.same in
     let Scans = λ (row : g.row.R.Denot).
-    ScansRow (g.S.Scanner.names c.args.scanner.now) (g.R.Row.fields row) (g.S.Scanner.tokens c.args.scanner.now)
+    ScansRow (g.S.Scanner.names c.args.scanner.now) (g.R.HasFields.fields row) (g.S.Scanner.tokens c.args.scanner.now)
     (g.S.Scanner.tokens c.scan_fields.new.scanner) in
     record {
-      kinds = c.requires ∙ ap (λ (kinds : List Kind). Some kinds) (sym (g.met.R.Row.of_kinds c.in-Some.row));
+      kinds = c.requires ∙ ap (λ (kinds : List Kind). Some kinds) (sym (g.met.R.HasFields.of_kinds c.in-Some.row));
       scanned = subst Scans same c.in_ok-row.ensures.ok;
-      short = subst (λ (row : g.row.R.Denot). length (octets (g.R.Row.fields row)) ≤ 65535) same c.in-Some.ensures.fits;
+      short = subst (λ (row : g.row.R.Denot). length (octets (g.R.HasFields.fields row)) ≤ 65535) same c.in-Some.ensures.fits;
     }

@@ -7,7 +7,7 @@ use Rattle.dns_fields.proofs.front.Tuple2FrontRow.canonical_fields_cmp_octets.Go
 
 pub returns-in-Ok : goal.returns-in-Ok
 returns-in-Ok g c =
-    let first = field_octets (lowered (g.A.FieldValue.field c.args.self.now.0)) in
-    let others = canonical_octets (g.B.Row.fields c.args.self.now.1) in
+    let first = field_octets (lowered (g.A.HasField.field c.args.self.now.0)) in
+    let others = canonical_octets (g.B.HasFields.fields c.args.self.now.1) in
     c.canonical_fields_cmp_octets.ensures ∙ sym (same_front first others c.in-Ok.behind.now)
     ∙ ap (slice_cmp nat_cmp (first ++ others)) (sym c.in-Ok.ensures.ok)

@@ -16,8 +16,8 @@ returns-in_err-others-clause-err g c =
     let p = err_from_is_err_and c.from_residual-in_err-others.result c.from_residual-in_err-others.ensures.1 in
     rw (p.1, p.2)
     (λ short.
-    subst (λ (k : Kind). NoRowScans (g.S.Scanner.names c.args.scanner.now) (k ∷ g.B.Row.kinds) (g.S.Scanner.tokens c.args.scanner.now))
-    (g.met.A.FieldValue.of_kind c.in_ok-first.first)
+    subst (λ (k : Kind). NoRowScans (g.S.Scanner.names c.args.scanner.now) (k ∷ g.B.HasFields.kinds) (g.S.Scanner.tokens c.args.scanner.now))
+    (g.met.A.HasField.of_kind c.in_ok-first.first)
     (no_others _ _ c.scan_field.ensures.names _ _ _ _ c.in_ok-first.ensures.ok (c.in_err-others.ensures.err short)))
 
 pub returns-in_err-others-clause-left : goal.returns-in_err-others-clause-left

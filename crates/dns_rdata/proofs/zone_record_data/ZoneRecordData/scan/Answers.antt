@@ -3,7 +3,7 @@ use Rattle.dns_rdata.specs.ZoneData.{data_of}
 use Rattle.dns_rdata.proofs.ScanAny.{is_false, same_back, ok_same, err_same, left_behind_marker}
 use Rattle.dns_rdata.proofs.zone_record_data.ZoneRecordData.scan.Goals as goal
 
--- the marker stood in front, and is taken
+-- the marker was first, and is taken
 pub returns-in-Ok-true-clause-err : goal.returns-in-Ok-true-clause-err
 returns-in-Ok-true-clause-err g c = err_same _ (λ error. g.S.Error.ScannerError.is_short error ≡ false) _ _ c.in-Ok-true.ensures.names
     _ _ _ (c.in-Ok-true.ensures.marked c.in-Ok-true.field-0-test) c.scan_octets.ensures.err
