@@ -152,7 +152,7 @@ fn append_name<C: Comparison, N: ToName>(
     ensures name { IsName (N.name name.now) }
 {
     let _flat = name.as_flat_slice();
-    let place = octets.len();
+    let place = (*octets).len();
     name.compose(octets)?;
     match between {
         Some(at) => {
@@ -163,7 +163,7 @@ fn append_name<C: Comparison, N: ToName>(
             Ok(between)
         }
         None => {
-            let stop = octets.len();
+            let stop = (*octets).len();
             Ok(whole_name(place, stop))
         }
     }
