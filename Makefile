@@ -13,9 +13,10 @@ run: | toolchain
 	@echo; echo "and writes these octets:"; echo; od -An -v -tx1 build/run.out
 
 # Every test without a proof: test functions, rows, the stored run of the program; and first that docs/crates.svg is the picture of
-# crates.txt. JOBS=N runs so many crates at once, CRATES="a b" these alone.
+# crates.txt, and that the man page has every option and fault text. JOBS=N runs so many crates at once, CRATES="a b" these alone.
 test: | toolchain
 	@python3 tools/crates_picture.py --check
+	@python3 tools/man_page.py
 	@python3 tools/test.py $(if $(JOBS),--jobs $(JOBS)) $(if $(CRATES),--only $(CRATES))
 
 # The gate: every proof from nothing, the must-fail edits, the tests, the programs as two compilers build them.
