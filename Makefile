@@ -1,6 +1,7 @@
 SHELL := bash
 .SHELLFLAGS := -eu -o pipefail -c
 ZONE := crates/zone_main
+PREFIX ?= /usr/local
 # What the program is made of.
 SOURCES := crates.txt HANDLES $(shell find crates -name out -prune -o \( -name '*.rt' -o -name '*.antt' \) -print)
 
@@ -38,6 +39,13 @@ build: build/zonewire
 build/zonewire: $(SOURCES) | toolchain
 	@python3 tools/build.py
 
+# Copies the program and its man page to bin/ and share/man/man1/ of PREFIX. DESTDIR comes before PREFIX, as packages want it.
+install:
+	@test -x build/zonewire || { echo "There is no build/zonewire to install yet: run 'make build' first, which proves the program." >&2; exit 1; }
+	install -d "$(DESTDIR)$(PREFIX)/bin" "$(DESTDIR)$(PREFIX)/share/man/man1"
+	install -m 755 build/zonewire "$(DESTDIR)$(PREFIX)/bin/zonewire"
+	install -m 644 docs/zonewire.1 "$(DESTDIR)$(PREFIX)/share/man/man1/zonewire.1"
+
 # Processor time and memory of the proved program, beside other zone readers that are installed (an idle machine, please).
 bench: build/zonewire
 	@python3 bench/measure.py build/zonewire
@@ -50,4 +58,4 @@ rows:
 toolchain:
 	@command -v rt > /dev/null || { echo "The Rattle toolchain is missing: no command 'rt' is on the PATH." >&2; exit 1; }
 
-.PHONY: run test prove edits picture build bench rows toolchain
+.PHONY: run test prove edits picture build install bench rows toolchain
