@@ -13,10 +13,12 @@ run: | toolchain
 	@echo; echo "'zonewire $$(paste -sd' ' $(ZONE)/args)' reads this zone:"; echo; cat $(ZONE)/stdin
 	@echo; echo "and writes these octets:"; echo; od -An -v -tx1 build/run.out
 
-# Every test without a proof: test functions, rows, the stored run of the program; and first that docs/crates.svg is the picture of
-# crates.txt, and that the man page has every option and fault text. JOBS=N runs so many crates at once, CRATES="a b" these alone.
+# Every test without a proof: test functions, rows, the stored run of the program; and first that the two pictures are those of
+# crates.txt and docs/PERFORMANCE.md, and that the man page has every option and fault text. JOBS=N runs so many crates at once,
+# CRATES="a b" these alone.
 test: | toolchain
 	@python3 tools/crates_picture.py --check
+	@python3 bench/picture.py --check
 	@python3 tools/man_page.py
 	@python3 tools/test.py $(if $(JOBS),--jobs $(JOBS)) $(if $(CRATES),--only $(CRATES))
 
@@ -28,9 +30,10 @@ prove: | toolchain
 edits: | toolchain
 	@python3 tools/edits.py $(if $(JOBS),--jobs $(JOBS)) $(CRATES)
 
-# The picture of the crates, docs/crates.svg, from crates.txt.
+# The picture of the crates, docs/crates.svg, from crates.txt, and that of the times, docs/performance.svg, from docs/PERFORMANCE.md.
 picture:
 	@python3 tools/crates_picture.py
+	@python3 bench/picture.py
 
 # The proved program, at build/zonewire.
 build: build/zonewire
