@@ -1,6 +1,7 @@
 SHELL := bash
 .SHELLFLAGS := -eu -o pipefail -c
 ZONE := crates/zone_main
+PREFIX ?= /usr/local
 # What the program is made of.
 SOURCES := crates.txt HANDLES $(shell find crates -name out -prune -o \( -name '*.rt' -o -name '*.antt' \) -print)
 
@@ -12,10 +13,13 @@ run: | toolchain
 	@echo; echo "'zonewire $$(paste -sd' ' $(ZONE)/args)' reads this zone:"; echo; cat $(ZONE)/stdin
 	@echo; echo "and writes these octets:"; echo; od -An -v -tx1 build/run.out
 
-# Every test without a proof: test functions, rows, the stored run of the program; and first that docs/crates.svg is the picture of
-# crates.txt. JOBS=N runs so many crates at once, CRATES="a b" these alone.
+# Every test without a proof: test functions, rows, the stored run of the program; and first that the two pictures are those of
+# crates.txt and docs/PERFORMANCE.md, and that the man page has every option and fault text. JOBS=N runs so many crates at once,
+# CRATES="a b" these alone.
 test: | toolchain
 	@python3 tools/crates_picture.py --check
+	@python3 bench/picture.py --check
+	@python3 tools/man_page.py
 	@python3 tools/test.py $(if $(JOBS),--jobs $(JOBS)) $(if $(CRATES),--only $(CRATES))
 
 # The gate: every proof from nothing, the must-fail edits, the tests, the programs as two compilers build them.
@@ -26,9 +30,10 @@ prove: | toolchain
 edits: | toolchain
 	@python3 tools/edits.py $(if $(JOBS),--jobs $(JOBS)) $(CRATES)
 
-# The picture of the crates, docs/crates.svg, from crates.txt.
+# The picture of the crates, docs/crates.svg, from crates.txt, and that of the times, docs/performance.svg, from docs/PERFORMANCE.md.
 picture:
 	@python3 tools/crates_picture.py
+	@python3 bench/picture.py
 
 # The proved program, at build/zonewire.
 build: build/zonewire
@@ -36,6 +41,13 @@ build: build/zonewire
 
 build/zonewire: $(SOURCES) | toolchain
 	@python3 tools/build.py
+
+# Copies the program and its man page to bin/ and share/man/man1/ of PREFIX. DESTDIR comes before PREFIX, as packages want it.
+install:
+	@test -x build/zonewire || { echo "There is no build/zonewire to install yet: run 'make build' first, which proves the program." >&2; exit 1; }
+	install -d "$(DESTDIR)$(PREFIX)/bin" "$(DESTDIR)$(PREFIX)/share/man/man1"
+	install -m 755 build/zonewire "$(DESTDIR)$(PREFIX)/bin/zonewire"
+	install -m 644 docs/zonewire.1 "$(DESTDIR)$(PREFIX)/share/man/man1/zonewire.1"
 
 # Processor time and memory of the proved program, beside other zone readers that are installed (an idle machine, please).
 bench: build/zonewire
@@ -49,4 +61,4 @@ rows:
 toolchain:
 	@command -v rt > /dev/null || { echo "The Rattle toolchain is missing: no command 'rt' is on the PATH." >&2; exit 1; }
 
-.PHONY: run test prove edits picture build bench rows toolchain
+.PHONY: run test prove edits picture build install bench rows toolchain

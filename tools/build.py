@@ -2,9 +2,11 @@
 """build.py [CRATE]: builds the proved program, at build/zonewire; or the program of another crate, at build/CRATE.
 
 The program is built by the gate, since only what is proved is built: `rt ci` runs in a copy of the crates that the program
-stands on, without the crates of tests and the edits that must fail. The exit status is 1 where the gate refuses the copy;
-what stood in build/ is then as it was."""
+uses, without the crates of tests and the edits that must fail. It counts the crates as the gate is done with each. The gate
+keeps what it has proved, so a build that was stopped goes on from there. The exit status is 1 if the gate refuses the copy;
+what was in build/ is then as it was."""
 import os
+import re
 import shutil
 import subprocess
 import sys
@@ -14,6 +16,8 @@ from pathlib import Path
 from crates import ROOT, lines_for, lower, needs_of
 
 PROGRAM = "zone_main"
+# What the gate says of a crate that it has proved, in this run or an earlier one.
+DONE = re.compile(r"rt: (\w+) (proved|is kept: .*)\n")
 
 
 def copy_to(room, program):
@@ -27,13 +31,18 @@ def copy_to(room, program):
     return len(wanted)
 
 
-def run_gate(room):
-    """Runs the gate in the copy, and shows each line in which it says how far it is. Returns whether all passed."""
+def run_gate(room, count):
+    """Runs the gate in the copy, and shows how far it is: how many of its crates are done, and each other line that the gate
+    says to its reader. Returns whether all passed."""
     gate = subprocess.Popen(["rt", "ci"], cwd=room, stdout=subprocess.PIPE, stderr=subprocess.STDOUT, text=True)
-    said = []
+    said, done = [], 0
     for line in gate.stdout:
         said.append(line)
-        if line.startswith("rt: "):
+        crate = DONE.fullmatch(line)
+        if crate:
+            done += 1
+            print(f"  {done} of {count} crates: {crate[1]} {'proved' if crate[2] == 'proved' else 'was proved before'}", flush=True)
+        elif line.startswith("rt: "):
             print("  " + line, end="", flush=True)
     if gate.wait() != 0:
         print("".join(said), file=sys.stderr)
@@ -46,9 +55,9 @@ def main():
     with tempfile.TemporaryDirectory(prefix="zonewire-") as name:
         room = Path(name)
         count = copy_to(room, program)
-        print(f"The gate builds the program in a copy of {count} crates. It proves each crate first, for an hour or more; a")
-        print("toolchain that keeps what it has proved on this machine takes over what `make prove` proved.", flush=True)
-        if not run_gate(room):
+        print(f"The gate builds the program from {count} crates, and proves each of them first: an hour or more from nothing. It keeps what it")
+        print("has proved on this machine. If you stop it, the next run goes on from there, and so it does after `make prove`.", flush=True)
+        if not run_gate(room, count):
             return 1
         to.parent.mkdir(exist_ok=True)
         shutil.copy(room / "crates" / program / "out" / program, to.with_suffix(".new"))

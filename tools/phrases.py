@@ -1,8 +1,8 @@
 #!/usr/bin/env python3
 """phrases.py [--list] [--most N]: counts the phrases that docs/STYLE.md does not want, in comments and docs.
 
-It reads the comments of all .rt and .antt files of each crate, README.md, CONTRIBUTING.md and docs/*.md but for docs/STYLE.md, which
-names the phrases. Code in backticks or fences does not count. A phrase counts also if it goes on in the next line of its comment.
+It reads the comments of all .rt and .antt files of each crate, README.md, CONTRIBUTING.md, CHANGELOG.md and docs/*.md but for
+docs/STYLE.md, which names the phrases. Code in backticks or fences does not count. A phrase counts also if it goes on in the next line of its comment.
 `stand` is counted in its forms as a verb of place: not `stands for`, which means something else, nor `a standing`, which is a noun.
 
 It prints a line for each crate that has some, one for the docs, and the sum. `--list` shows each place before. The exit status is 0, but
@@ -98,7 +98,7 @@ def of_crate(name):
 
 
 def of_docs():
-    paths = [ROOT / "README.md", ROOT / "CONTRIBUTING.md", *sorted((ROOT / "docs").glob("*.md"))]
+    paths = [ROOT / "README.md", ROOT / "CONTRIBUTING.md", ROOT / "CHANGELOG.md", *sorted((ROOT / "docs").glob("*.md"))]
     return [place for path in paths if path.name != "STYLE.md" for place in places_in(path, text_in(path))]
 
 
