@@ -2,12 +2,17 @@
 """rival_rows.py: streams of a zone's records that are no sender's, and what is to be found when they are held against the sent one.
 
 It prints the rows of `crates/zonewire_rows/stdin` that begin with `rival`, with their titles, and behind each, after a tab, what it
-has to answer. A message is spelled in the plainest way: names are lists of labels, and where suffixes stand is a list of pairs.
+has to answer. What the `let` lines of that file name is written by its name; those lines are not printed. A message is spelled in the
+plainest way: names are lists of labels, and where suffixes stand is a list of pairs.
 Nothing here follows the code. How many messages the sender takes is worked out from its rule: a pointer goes to the first place
 where a suffix was written out, and a record goes behind the others of its message if the message then is no longer than the limit.
 The answers to streams that are not free are worked out by hand."""
 
+import ast
+import re
 from collections import namedtuple
+
+from crates import ROOT
 
 # A question is of type AXFR and class IN, and so is a record's class (RFC 1035 3.2.4, RFC 5936 2.1). A TTL is a minute.
 TRANSFER, TTL = "00fc0001", 60
@@ -127,15 +132,52 @@ def stream_of(messages):
     return b"".join(len(octets).to_bytes(2, "big") + octets for octets in messages)
 
 
-def escaped(text):
-    return "".join(it if "!" <= it <= "~" and it != "%" else "%%%02x" % ord(it) for it in text)
-
-
 QUERY = "12340000000100000000000001610000fc0001"
+# A piece of an argument; and a name of a record of MIXED, or of all of them, as no other zone has them.
+PIECE = re.compile(r'"(?:[^"\\]|\\.)*"|[^+]+')
+OF_MIXED = re.compile(r"(?!HEAD)[A-Z]+\d+|EACH")
+
+
+def names_in_rows():
+    """What the `let` lines of the rows name: texts, and octets."""
+    texts, octets = {}, {}
+    for line in (ROOT / "crates/zonewire_rows/stdin").read_text().splitlines():
+        if line.startswith("let "):
+            name, argument = line[len("let "):].split(" = ", 1)
+            pieces = PIECE.findall(argument)
+            if pieces[0].startswith('"') or pieces[0][1:] in texts:
+                texts[name] = "".join(texts[it[1:]] if it[0] == "$" else ast.literal_eval(it) for it in pieces)
+            else:
+                octets[name] = b"".join(octets[it[1:]] if it[0] == "$" else bytes.fromhex(it) for it in pieces)
+    return texts, octets
+
+
+TEXTS, OCTETS = names_in_rows()
+
+
+def text_word(text):
+    """A text: the longest name that it begins with, and the rest in quotes."""
+    name = max((it for it in TEXTS if text.startswith(TEXTS[it])), key=lambda it: len(TEXTS[it]), default=None)
+    rest = text[len(TEXTS[name]):] if name else text
+    quoted = ['"' + rest.replace("\\", "\\\\").replace("\n", "\\n") + '"'] if rest else []
+    return "+".join([f"${name}"] * bool(name) + quoted)
+
+
+def octets_word(octets, names):
+    """The shortest word for octets: digits, and names."""
+    starts = {at: [it for it in names if octets.startswith(names[it], at)] for at in range(len(octets))}
+    ends = [at for at in starts if starts[at]] + [len(octets)]
+    words = {len(octets): []}
+    for at in reversed(starts):
+        options = [[f"${it}", *words[at + len(names[it])]] for it in starts[at]]
+        options += [[octets[at:end].hex(), *words[end]] for end in ends if end > at]
+        words[at] = min(options, key=lambda it: (len("+".join(it)), len(it)))
+    return "+".join(words[0]) or "-"
 
 
 def row(limit, text, stream, query=QUERY):
-    return f"rival {limit} {query} {escaped(text)} {stream.hex() or '-'}"
+    names = {it: OCTETS[it] for it in OCTETS if text == MIXED[0] or not OF_MIXED.fullmatch(it)}
+    return f"rival {limit} {octets_word(bytes.fromhex(query), names)} {text_word(text)} {octets_word(stream, names)}"
 
 
 def rival_row(zone, spelling, limit):

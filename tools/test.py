@@ -7,8 +7,8 @@ them: no `stdout` is no output, no `status` is 0). All run by `rt try`, which co
 the crates, and runs the same tests and programs as two compilers build them.
 
 A run has ten minutes, since it is compiled with checks and a machine may be busy. Rows are run in parts, since a run has 1 MiB of
-output at most. The rows of a part that stops early are run again one by one, so that the row that stopped it is named. `--jobs` runs
-so many crates at once; without it there are as many as processors.
+output at most, and each part begins with the `let` lines before it. The rows of a part that stops early are run again one by one, so
+that the row that stopped it is named. `--jobs` runs so many crates at once; without it there are as many as processors.
 
 It prints a line for each of them as it ends, with its seconds and processor seconds, and after one that failed the first rows that
 differ, or what else is wrong. The last line counts rows and test functions, and a stored run as one: `N passed, M failed`. The exit
@@ -49,8 +49,19 @@ class Row:
     asked: str
     wanted: str
 
-    def is_title(self):
-        return not self.asked or self.asked.startswith("#")
+    def is_let(self):
+        return self.asked.startswith("let ")
+
+    def is_test(self):
+        return bool(self.asked) and not self.asked.startswith("#") and not self.is_let()
+
+
+@dataclass(frozen=True)
+class Part:
+    """Rows that run together, after the `let` lines before them."""
+
+    lets: list
+    rows: list
 
 
 @dataclass(frozen=True)
@@ -140,17 +151,17 @@ def rows_of(folder):
 
 
 def answers_to_parts(folder, parts):
-    """What a program writes for each part of its rows, and what was said in all."""
+    """What a program writes for the rows of each part, and what was said in all."""
     with tempfile.TemporaryDirectory(prefix="rows-") as room:
         for number, part in enumerate(parts):
-            text = "".join(f"{row.asked}\n" for row in part)
+            text = "".join(f"{row.asked}\n" for row in part.lets + part.rows)
             (Path(room) / f"{number:06}").write_bytes(text.encode(errors="surrogateescape"))
         # (one step: the interpreter would say again what the compiled program says)
         written, said = tried(folder, ["--steps", "1", "--cases", room])
     texts = texts_of_cases(lines_of(written), len(parts))
     found = {number: Answers(None, said) for number in range(len(parts))}
     for note, name, run, status in CASE.findall(said):
-        lines = texts.get(int(name), []) if (run, status) == ("ended", "0") else None
+        lines = texts.get(int(name), [])[len(parts[int(name)].lets) :] if (run, status) == ("ended", "0") else None
         found[int(name)] = Answers(lines, INTERPRETER.sub("", note).strip(), run == "no-answer")
     return [found[number] for number in range(len(parts))], said
 
@@ -169,7 +180,7 @@ def texts_of_cases(lines, count):
 def judge_part(part, answers):
     """The differences between what a part has to answer and what it answers, and how many of its rows differ."""
     notes, failed = [], 0
-    for row, given in zip_longest(part, answers):
+    for row, given in zip_longest(part.rows, answers):
         wanted = row and row.wanted
         if given != wanted:
             notes.append(difference(row.asked if row else "(no row)", wanted, given))
@@ -177,24 +188,32 @@ def judge_part(part, answers):
     return notes, failed
 
 
+def part_of(rows, first, end):
+    """The rows from one to another, and the `let` lines before them."""
+    return Part([row for row in rows[:first] if row.is_let()], rows[first:end])
+
+
 def run_rows(folder):
     """Runs the rows of a program in parts, and those of a part that ends early one by one."""
     rows = rows_of(folder)
-    counted = [row for row in rows if not row.is_title()]
-    parts = [rows[at : at + PART] for at in range(0, len(rows), PART)]
+    counted = sum(row.is_test() for row in rows)
+    firsts = range(0, len(rows), PART)
+    parts = [part_of(rows, first, first + PART) for first in firsts]
     found, said = answers_to_parts(folder, parts)
     if not CASE.search(said):
-        return Outcome(0, max(len(counted), 1), last_lines(said))
-    alone = [[row] for part, it in zip(parts, found) if it.lines is None for row in part if not row.is_title()]
+        return Outcome(0, max(counted, 1), last_lines(said))
+    stopped = [at for first, it in zip(firsts, found) if it.lines is None for at in range(first, min(first + PART, len(rows)))]
+    alone = [part_of(rows, at, at + 1) for at in stopped if rows[at].is_test()]
     judged = [judge_part(part, it.lines) for part, it in zip(parts, found) if it.lines is not None]
     for part, it in zip(alone, answers_to_parts(folder, alone)[0] if alone else ()):
-        stopped = ([difference(part[0].asked, part[0].wanted, it.note or "(it ended early)")], 1)
-        judged.append(stopped if it.lines is None else judge_part(part, it.lines))
+        row = part.rows[0]
+        ended = ([difference(row.asked, row.wanted, it.note or "(it ended early)")], 1)
+        judged.append(ended if it.lines is None else judge_part(part, it.lines))
     notes = [it for some, _ in judged for it in some]
     failed = sum(count for _, count in judged)
     if not failed and any(it.lines is None and not it.is_over_limit for it in found):
         notes, failed = [("the rows pass one by one, and a part of them together ends early:", *last_lines(said))], 1
-    return Outcome(max(len(counted) - failed, 0), failed, shown(notes))
+    return Outcome(max(counted - failed, 0), failed, shown(notes))
 
 
 def shown(notes):

@@ -56,8 +56,8 @@ impl Answer {
         Ok(())
     }
 
-    /// Writes a text as in a row: printable ASCII as it is, but `%` and any other octet as `%` and two hexadecimal
-    /// digits; `-` for the empty text.
+    /// Writes a text as an argument without quotes: printable ASCII as it is, but `%` and any other octet as `%` and two
+    /// hexadecimal digits; `-` for the empty text.
     pub fn text(&mut self, octets: &[u8]) -> Result<(), RowError> {
         self.separate()?;
         if octets.is_empty() {

@@ -1,4 +1,6 @@
 //! Answers the rows of standard input one after another.
+use crate::names::Names;
+use crate::words::{Words, is_plain};
 use crate::{Answer, Row, RowError};
 use std::alloc::Global;
 use std::io;
@@ -24,6 +26,7 @@ pub fn answer_rows<C: Calls>(rt: &HostRuntime, calls: &C) -> ExitCode {
 /// Prints titles, and the answer to each row, up to the first row that has none.
 fn answer_lines<C: Calls>(rt: &HostRuntime, calls: &C) -> io::Result<()> {
     let text = io::read_to_string(rt.alloc(), rt.stdin())?;
+    let mut names = Names::new(rt.alloc());
     let mut number = 0u64;
     for line in text.lines() {
         number = number.saturating_add(1);
@@ -31,7 +34,7 @@ fn answer_lines<C: Calls>(rt: &HostRuntime, calls: &C) -> io::Result<()> {
             println!(rt; "{line}")?;
             continue;
         }
-        match answer_line(rt.alloc(), calls, line) {
+        match answer_line(rt.alloc(), calls, &mut names, line) {
             Ok(answer) => println!(rt; "{answer}")?,
             Err(error) => {
                 eprintln!(rt; "row {number}: {error}: {line}")?;
@@ -42,8 +45,26 @@ fn answer_lines<C: Calls>(rt: &HostRuntime, calls: &C) -> io::Result<()> {
     Ok(())
 }
 
-/// Returns the answer to a row.
-fn answer_line<C: Calls>(alloc: Global, calls: &C, line: &str) -> Result<String, RowError> {
+/// Returns the answer to a row. That of a `let` line is empty.
+fn answer_line<C: Calls>(
+    alloc: Global,
+    calls: &C,
+    names: &mut Names,
+    line: &str,
+) -> Result<String, RowError> {
+    if let Some(named) = line.strip_prefix("let ") {
+        names.add(alloc, named)?;
+        return Ok(String::new(alloc));
+    }
+    if is_plain(line) {
+        return answer_call(alloc, calls, line);
+    }
+    let line = Words::read(alloc, names, line)?.into_line()?;
+    answer_call(alloc, calls, line.as_str())
+}
+
+/// Returns the answer to a call.
+fn answer_call<C: Calls>(alloc: Global, calls: &C, line: &str) -> Result<String, RowError> {
     let (says_why, line) = match line.strip_prefix("why ") {
         Some(rest) => (true, rest),
         None => (false, line),

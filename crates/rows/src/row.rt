@@ -19,6 +19,18 @@ pub enum RowError {
     /// Words follow the last argument.
     #[error("trailing argument")]
     TrailingWord,
+    /// A quoted text does not end.
+    #[error("unclosed quote")]
+    OpenQuote,
+    /// No `let` line before gives this name.
+    #[error("unknown name")]
+    UnknownName,
+    /// An earlier `let` line gives this name.
+    #[error("name given twice")]
+    NamedTwice,
+    /// A `let` line is not `let NAME = ARGUMENT`.
+    #[error("bad let line")]
+    BadLet,
     /// Out of memory.
     #[error("out of memory")]
     OutOfMemory,

@@ -1,9 +1,9 @@
 //! Answers rows of the calls of `zonewire`: what each call returns for the values in `stdin`.
 //!
-//! A zone's text, and a printed text, is one word: `%20` is a space, `%0a` a line feed. A class that is not given is
-//! IN, and a limit 512 octets. An origin and a layout may be left out: then there is no origin, and the layout is
-//! `Simple`. A row of `run` or `program` has the input, and then the words of a command line of the program, as a row
-//! of `job` has. A spelling may be left out: then names are written in full. `sent_again` and `rival` compare what
+//! A zone's text is one argument. A printed text is one word: `%20` is a space, `%0a` a line feed. A class that is not
+//! given is IN, and a limit 512 octets. An origin and a layout may be left out: then there is no origin, and the layout
+//! is `Simple`. A row of `run` or `program` has the input, and then the words of a command line of the program, as a
+//! row of `job` has. A spelling may be left out: then names are written in full. `sent_again` and `rival` compare what
 //! several calls return.
 #![tactic(auto)]
 
