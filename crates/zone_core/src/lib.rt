@@ -5,6 +5,7 @@
 //! messages. The functions of the other modules are for these two crates.
 #![tactic(auto)]
 
+pub mod frames;
 pub mod laws;
 pub mod owned_query;
 mod query;

@@ -3,8 +3,9 @@ ghost use Rattle.std.specs.Prelude.{◌≤◌, length};
 
 use crate::error::ReceiveError;
 use crate::message::judge_message;
-use crate::open_frame::{LENGTH_OCTETS, missing};
+use crate::open_frame::missing;
 use std::alloc::Global;
+use zone_core::frames::LENGTH_OCTETS;
 use zone_core::owned_query::OwnedQuery;
 use zone_octets::record_list::RecordList;
 
