@@ -3,7 +3,7 @@ ghost use Rattle.std.specs.Prelude.{◌≡◌, ◌+◌, ◌↔◌, [], ℕ, List
 ghost use Rattle.std.specs.List.{AllByRecursion, push};
 ghost use Rattle.zone_octets.specs.Record as spec;
 ghost use Rattle.zone_core.specs.Asked.{asked_of};
-ghost use Rattle.zone_octets.specs.Records.{AreOctets, IsRecordOf};
+ghost use Rattle.zone_octets.specs.Records.{IsRecordOf};
 ghost use Rattle.dns_message.specs.Record.{ReadsRecord};
 ghost use Rattle.zone_receive.specs.Receiving.{IsRecordFault, KeepsFirstRule};
 ghost use Rattle.zone_receive.specs.Intake.{IsNext, IsPlacing, StandsAt};
@@ -11,6 +11,7 @@ ghost use Rattle.zone_receive.specs.Intake.{IsNext, IsPlacing, StandsAt};
 use crate::error::ReceiveError;
 use zone_core::owned_query::OwnedQuery;
 use zone_octets::checks::is_spellable;
+use zone_octets::octets::are_octets;
 use zone_octets::record::Record;
 use zone_octets::record_data::is_same_soa;
 use zone_octets::record_list::RecordList;
@@ -77,8 +78,3 @@ fn is_first_soa(query: &OwnedQuery, next: &Record<'_>) -> bool
 {
     next.is_soa() && next.is_at(&query.name)
 }
-
-/// Does nothing. It tells the proof what the type says: that each of these is an octet.
-fn are_octets(_octets: &[u8])
-    ensures { AreOctets _octets.now }
-{}
