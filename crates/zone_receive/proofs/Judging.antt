@@ -13,8 +13,8 @@ use Rattle.zone_core.specs.Cutting.{joined}
 use Rattle.zone_core.specs.Transfer.{IsAnswer, AreAnswers, IsTransferred, ClosesTransfer}
 use Rattle.zone_receive.specs.Receiving.{is_first, Heard, IsHeard, IsOpen, IsClosed, IsMessageFault, HasBadMessage, IsStreamFault, stage_of}
 use Rattle.zone_receive.specs.Receiving.Stage.{Begun}
-use Rattle.zone_receive.specs.Intake.{BreaksRule, EndsTransfer, GoesOn, IsFaultOr, IsFrame, StandsAt, TakesMessage, heard_by, stage_where}
-use Rattle.zone_receive.specs.Intake.StandsAt.{begun, ended}
+use Rattle.zone_receive.specs.Intake.{BreaksRule, EndsTransfer, GoesOn, HoldsFront, IsFaultOr, IsFrame, TakesMessage, heard_by, stage_where}
+use Rattle.zone_receive.specs.Intake.HoldsFront.{begun, ended}
 use Rattle.zone_receive.specs.declared.intake.Intake.{Intake}
 use Rattle.zone_core.specs.declared.query_error.QueryError.{QueryError}
 use Rattle.zone_receive.specs.declared.error.ReceiveError.{ReceiveError}
@@ -75,10 +75,10 @@ record StandsOpen (query : AxfrQuery) (held front : List Record) : Type 0 where
   same : front ≡ held
   still : IsOpen query held
 
-stands_open : {query : AxfrQuery} {held front : List Record} {closed : Bool} → StandsAt query held closed front → closed ≡ false
+holds_open : {query : AxfrQuery} {held front : List Record} {closed : Bool} → HoldsFront query held closed front → closed ≡ false
     → StandsOpen query held front
-stands_open (begun still) is = record { same = refl; still = still }
-stands_open (ended last all closes) is = absurd cc
+holds_open (begun still) is = record { same = refl; still = still }
+holds_open (ended last all closes) is = absurd cc
 
 -- the message is judged, and the transfer goes on
 pub judged_on : (old new : Intake) (query : AxfrQuery) (octets : List ℕ) (framed : IsFrame (old.open_frame.items ++ octets))
@@ -87,7 +87,7 @@ pub judged_on : (old new : Intake) (query : AxfrQuery) (octets : List ℕ) (fram
 judged_on old new query octets framed none first takes known = record {
   heard = λ stream is.
       let next = next_heard stream octets is framed in
-      let open' = stands_open takes.stands refl in
+      let open' = holds_open takes.holds refl in
       let messages : List (List ℕ) = push is.messages framed.message in
       record {
         messages = messages;
@@ -112,10 +112,10 @@ record StandsClosed (query : AxfrQuery) (held front : List Record) : Type 0 wher
   transferred : IsTransferred query held
   closes : ClosesTransfer held last
 
-stands_closed : {query : AxfrQuery} {held front : List Record} {closed : Bool} → StandsAt query held closed front → closed ≡ true
+holds_closed : {query : AxfrQuery} {held front : List Record} {closed : Bool} → HoldsFront query held closed front → closed ≡ true
     → StandsClosed query held front
-stands_closed (begun still) is = absurd cc
-stands_closed (ended last all closes) is = record { last = last; same = refl; transferred = all; closes = closes }
+holds_closed (begun still) is = absurd cc
+holds_closed (ended last all closes) is = record { last = last; same = refl; transferred = all; closes = closes }
 
 -- the last record of a list that isn't empty
 record Ended (group : List Record) : Type 0 where
@@ -153,7 +153,7 @@ judged_last old new query octets framed none takes known = record {
   whole = none;
   transfer = λ stream is.
       let next = next_heard stream octets is framed in
-      let closed = stands_closed takes.stands refl in
+      let closed = holds_closed takes.holds refl in
       let group = last_group query new.records old.records takes.group closed.last is.still_open closed.same closed.transferred closed.closes in
       record {
         messages = push is.messages framed.message;

@@ -8,7 +8,7 @@ ghost use Rattle.zone_core.specs.Asked.{asked_of};
 ghost use Rattle.zone_octets.specs.Records.{AreOctets, IsRecordOf};
 ghost use Rattle.zone_core.specs.Transfer.{AsksAgain, CountsAnswers, HasAnswerHeader};
 ghost use Rattle.zone_receive.specs.Receiving.{IsOpen, IsMessageFault, IsRecordFault};
-ghost use Rattle.zone_receive.specs.Intake.{IsFaultOr, StandsAt, TakesMessage, TakesRecord};
+ghost use Rattle.zone_receive.specs.Intake.{HoldsFront, IsFaultOr, TakesMessage, TakesRecord};
 
 use crate::error::ReceiveError;
 use crate::question::is_question_of;
@@ -136,14 +136,14 @@ fn take_record(
     closed: bool,
 ) -> Result<bool, ReceiveError>
     requires octets { AreOctets (octets_of parser.old) }
-    requires stands { (front : List spec.Record) × StandsAt (asked_of query.now) records.old closed front }
+    requires holds { (front : List spec.Record) × HoldsFront (asked_of query.now) records.old closed front }
     requires known { AllByRecursion (IsRecordOf query.now.class) records.old }
-    ensures ok { IfOk result (λ ends. (front : List spec.Record) → StandsAt (asked_of query.now) records.old closed front
+    ensures ok { IfOk result (λ ends. (front : List spec.Record) → HoldsFront (asked_of query.now) records.old closed front
         → TakesRecord (asked_of query.now) (octets_of parser.old) (place_of parser.old) (place_of parser.new) records.new ends front) }
     ensures same { OnOk result (octets_of parser.new ≡ octets_of parser.old) }
     ensures known { OnOk result (AllByRecursion (IsRecordOf query.now.class) records.new) }
     ensures err { IfErr result (IsFaultOr (λ error. (front : List spec.Record)
-        → StandsAt (asked_of query.now) records.old closed front
+        → HoldsFront (asked_of query.now) records.old closed front
         → IsRecordFault (asked_of query.now) front (octets_of parser.old) (place_of parser.old) error)) }
 {
     let number = records.len() + usize::from(closed) + 1;

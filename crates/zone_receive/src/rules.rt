@@ -6,7 +6,7 @@ ghost use Rattle.zone_core.specs.Asked.{asked_of};
 ghost use Rattle.zone_octets.specs.Records.{IsRecordOf};
 ghost use Rattle.dns_message.specs.Record.{ReadsRecord};
 ghost use Rattle.zone_receive.specs.Receiving.{IsRecordFault, KeepsFirstRule};
-ghost use Rattle.zone_receive.specs.Intake.{IsNext, IsPlacing, StandsAt};
+ghost use Rattle.zone_receive.specs.Intake.{HoldsFront, IsNext, IsPlacing};
 
 use crate::error::ReceiveError;
 use zone_core::owned_query::OwnedQuery;
@@ -39,7 +39,7 @@ pub(crate) fn place_record(
     ensures known { OnOk result (AllByRecursion (IsRecordOf query.now.class) records.now) }
     ensures open { OnOk result (closed ≡ false) }
     ensures err { IfErr result (λ error. (held front : List spec.Record) (r : spec.Record) (message : List ℕ) (place end : ℕ)
-        → records.now ≡ push held r → StandsAt (asked_of query.now) held closed front → number ≡ length front + 1
+        → records.now ≡ push held r → HoldsFront (asked_of query.now) held closed front → number ≡ length front + 1
         → ReadsRecord message place r end → IsRecordFault (asked_of query.now) front message place error) }
 {
     let last = records.len() - 1;
