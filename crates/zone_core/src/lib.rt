@@ -7,7 +7,6 @@
 
 pub mod frames;
 pub mod laws;
-pub mod owned_query;
 mod query;
 mod query_error;
 pub mod question;

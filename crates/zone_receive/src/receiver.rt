@@ -1,6 +1,6 @@
 //! Receiving a zone as the stream of its transfer.
 ghost use Rattle.std.specs.Prelude.{◌≡◌, ◌≤◌, ◌↔◌, ℕ, List, [], None, Ok, Err, length, IsTrue, IfOk, IfErr, MatchResult};
-ghost use Rattle.zone_core.specs.Asked.{asked_of};
+ghost use Rattle.zone_receive.specs.Asked.{asked_of};
 ghost use Rattle.zone_core.specs.Query.{IsQuery};
 ghost use Rattle.zone_receive.specs.Receiving.{IsAfter, IsAskFault, IsNoZone, IsWholeTransfer, Refuses, Takes, refusal_in};
 ghost use Rattle.zone_receive.specs.Receiving.Stage.{Ended, Fresh, Refused};
@@ -9,10 +9,10 @@ ghost use Rattle.zone_core.specs.Transfer.{IsTransfer};
 
 use crate::error::ReceiveError;
 use crate::intake::Intake;
+use crate::owned_query::OwnedQuery;
 use std::alloc::Global;
 use std::marker::Model;
 use zone_core::check_query;
-use zone_core::owned_query::OwnedQuery;
 use zone_text::Zone;
 use zone_text::zone::zone_of;
 
@@ -41,7 +41,7 @@ pub struct Receiver {
 impl Model for Receiver {
     ghost use Rattle.zone_receive.specs.Receiving.{Heard};
     ghost use Rattle.zone_receive.specs.Received.{IsReceiver, heard_in};
-    ghost use Rattle.zone_core.specs.Asked.{asked_of};
+    ghost use Rattle.zone_receive.specs.Asked.{asked_of};
 
     ghost Value = { Heard };
 

@@ -2,14 +2,14 @@
 ghost use Rattle.std.specs.Prelude.{◌≡◌, ◌+◌, ◌↔◌, [], ℕ, List, false, length, IsTrue, IfOk, IfErr, OnOk};
 ghost use Rattle.std.specs.List.{AllByRecursion, push};
 ghost use Rattle.zone_octets.specs.Record as spec;
-ghost use Rattle.zone_core.specs.Asked.{asked_of};
+ghost use Rattle.zone_receive.specs.Asked.{asked_of};
 ghost use Rattle.zone_octets.specs.Records.{IsRecordOf};
 ghost use Rattle.dns_message.specs.Record.{ReadsRecord};
 ghost use Rattle.zone_receive.specs.Receiving.{IsRecordFault, KeepsFirstRule};
 ghost use Rattle.zone_receive.specs.Intake.{HoldsFront, IsNext, IsPlacing};
 
 use crate::error::ReceiveError;
-use zone_core::owned_query::OwnedQuery;
+use crate::owned_query::OwnedQuery;
 use zone_octets::checks::is_spellable;
 use zone_octets::octets::are_octets;
 use zone_octets::record::Record;

@@ -9,7 +9,7 @@ use Rattle.zone_octets.specs.Record as spec
 use Rattle.zone_octets.specs.Records.{IsRecordOf}
 use Rattle.zone_octets.specs.Typed.{seen_of}
 use Rattle.zone_receive.specs.declared.error.ReceiveError.{ReceiveError}
-use Rattle.zone_core.specs.Asked.{asked_of}
+use Rattle.zone_receive.specs.Asked.{asked_of}
 use Rattle.zone_receive.specs.Receiving.{IsRecordFault}
 use Rattle.zone_receive.specs.Intake.{HoldsFront}
 use Rattle.zone_receive.proofs.SpelledRecords.{read_has_data}

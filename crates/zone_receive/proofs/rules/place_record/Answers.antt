@@ -7,7 +7,7 @@ use Rattle.zone_octets.specs.Record as spec
 use Rattle.zone_octets.specs.Records.{IsRecordOf}
 use Rattle.zone_octets.specs.Zone.{soa_type}
 use Rattle.zone_octets.proofs.Each.{all_append}
-use Rattle.zone_core.specs.Asked.{asked_of}
+use Rattle.zone_receive.specs.Asked.{asked_of}
 use Rattle.zone_receive.specs.Receiving.{KeepsFirstRule, KeepsLastRule}
 use Rattle.zone_receive.specs.Intake.{HoldsFront, IsPlacing}
 use Rattle.zone_receive.proofs.RulesKept.{held_long, next_there, next_is, first_held, known_record, soa_spellable, none_held, some_held, first_known, first_is_soa, first_kept, first_broken, first_behind, last_kept, last_broken, last_free, holds_closed, holds_open, holds_so_far, placed_inner, placed_last, not_false, not_true, told_equal, told_other, told_no}

@@ -1,5 +1,5 @@
 use Rattle.std.proofs.Common.{List, sym, ap, ◌∙◌, subst}
-use Rattle.zone_core.specs.Asked.{asked_of}
+use Rattle.zone_receive.specs.Asked.{asked_of}
 use Rattle.zone_receive.specs.Receiving.{Heard}
 use Rattle.zone_text.specs.View.{Contents}
 use Rattle.zone_octets.specs.Record.{Record}

@@ -1,5 +1,5 @@
 use Rattle.std.proofs.Common.{refl}
-use Rattle.zone_core.specs.Asked.{asked_of}
+use Rattle.zone_receive.specs.Asked.{asked_of}
 use Rattle.zone_receive.proofs.DoneReceivers.{not_done}
 use Rattle.zone_receive.proofs.Receivers.{done_stage, has_transfer, other_stage}
 use Rattle.zone_receive.proofs.receiver.Receiver.is_done.Goals as goal
