@@ -1,7 +1,6 @@
 -- A frame is judged after those before it.
 use Rattle.std.proofs.Common.{◌≡◌, ℕ, Bool, true, false, List, [], ◌∷◌, ◌++◌, drop, refl, sym, ap, ◌∙◌, subst, append_assoc, append-nil}
 use Rattle.std.proofs.lemmas.List.{same_from_push}
-use Rattle.std.proofs.lemmas.List.Concat.{flat_map-append}
 use Rattle.std.specs.Prelude.{Result, Ok, Err, IfOk, IfErr, OnOk}
 use Rattle.std.specs.Bool.{OnTrue, OnFalse}
 use Rattle.std.specs.List.{AllByRecursion, push}
@@ -21,7 +20,8 @@ use Rattle.zone_receive.specs.declared.error.ReceiveError.{ReceiveError}
 use Rattle.zone_receive.specs.declared.error.ReceiveError.TheVariants as receive_error
 use Rattle.zone_octets.proofs.Each.{all_append}
 use Rattle.zone_receive.proofs.LawfulRecords.{closed_not_open}
-use Rattle.zone_receive.proofs.AnswerGroups.{answers_push, first_of_stream}
+use Rattle.zone_core.proofs.Framing.{frames_push}
+use Rattle.zone_receive.proofs.AnswerGroups.{answers_push, first_of_stream, joined_push}
 
 -- the message of a frame that is in the octets alone
 pub framed_message : (octets : List ℕ) (framed : IsFrame octets) → drop 2 octets ≡ framed.message
@@ -29,14 +29,6 @@ framed_message octets framed = ap (drop 2) framed.whole
 
 pub framed_alone : (open_frame octets : List ℕ) (framed : IsFrame (open_frame ++ octets)) → open_frame ≡ [] → drop 2 octets ≡ framed.message
 framed_alone open_frame octets framed none = ap (λ l. drop 2 (l ++ octets)) (sym none) ∙ framed_message (open_frame ++ octets) framed
-
--- frames with one more
-frames_push : (messages : List (List ℕ)) (message : List ℕ) → frames messages ++ frame message ≡ frames (push messages message)
-frames_push messages message =
-    ap (λ l. frames messages ++ l) (sym (append-nil (frame message))) ∙ sym (flat_map-append frame messages (message ∷ []))
-
-joined_push : (groups : List (List Record)) (group : List Record) → joined (push groups group) ≡ joined groups ++ group
-joined_push groups group = flat_map-append (λ g. g) groups (group ∷ []) ∙ ap (λ l. joined groups ++ l) (append-nil group)
 
 -- whether the message is the first
 first_by : (messages : List (List ℕ)) (first : Bool) → stage_where first ≡ stage_of messages → first ≡ is_first messages
