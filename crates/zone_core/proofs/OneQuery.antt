@@ -1,5 +1,5 @@
 -- Octets are one query, or first break one rule.
-use Rattle.std.proofs.Common.{◌≡◌, ◌≢◌, ◌≤◌, ℕ, false, List, length, refl, sym, ap, ◌∙◌, subst, arith, inl, inr}
+use Rattle.std.proofs.Common.{◌≡◌, ◌≢◌, ◌≤◌, ℕ, false, List, length, refl, sym, ◌∙◌, subst, arith, inl, inr}
 use Rattle.dns_header.specs.Header.{is_response, opcode_of}
 use Rattle.dns_header.specs.Question.{Question, ReadsQuestion}
 use Rattle.dns_message.proofs.DecidedRecords.{question_one as some_question_one}

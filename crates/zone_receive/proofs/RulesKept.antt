@@ -67,10 +67,7 @@ pub known_record : (class : ℕ) (octets : List ℕ) (r : Record) → IsRecord r
 known_record class octets r lawful data_is class_is spellable each are =
     let own = octets_of_record r (subst AreOctets are each) in
     record {
-      lawful = lawful;
-      data_is = data_is;
-      class_is = class_is;
-      spellable = spellable;
+      sendable = record { lawful = lawful; data_is = data_is; class_is = class_is; spellable = spellable };
       owner_octets = own.0;
       data_octets = own.1;
     }

@@ -30,7 +30,7 @@ fault_for spelling query class held records octets max error is asks are refused
 class_small : (class : ℕ) (records : List Record) → AreRecordsOf class records → class < 2 ^ 16
 class_small class [] are = absurd are.zone
 class_small class (soa ∷ others) are =
-    let first = are.each.0 in
+    let first = are.each.0.sendable in
     omega (arith, first.lawful.class, first.class_is)
 
 pub query_for : (query : AxfrQuery) (class : ℕ) (records : List Record) (octets : List ℕ) → IsQuery octets query → query.id < 2 ^ 16

@@ -165,7 +165,7 @@ is_same_soa-requires-clause-class c =
     let long' = held_long it.held it.r c.len-last.result c.len-last.ensures.count it.splits in
     let first = first_held it.held it.r c.record_at.result it.splits (λ none. some (long' ∙ none)) c.record_at.ensures in
     let same = sym c.class.ensures ∙ told_equal c.class.result c.args.query.now.class c.ne.result c.ne.ensures c.if-ne.false in
-    (first_known c.args.query.now.class it.held c.record_at.result first it.known).class_is ∙ sym same
+    (first_known c.args.query.now.class it.held c.record_at.result first it.known).sendable.class_is ∙ sym same
 
 pub returns-then-not-is_same_soa-clause-err : goal.returns-then-not-is_same_soa-clause-err
 returns-then-not-is_same_soa-clause-err c =
