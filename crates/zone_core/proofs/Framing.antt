@@ -1,7 +1,8 @@
 -- A stream splits in one way into whole messages, each after its length, and less than a whole one.
-use Rattle.std.proofs.Common.{◌≡◌, ℕ, ◌<◌, List, [], ◌∷◌, ◌++◌, length, refl, sym, ◌∙◌, subst, arith, append_assoc, append-nil, length-append}
+use Rattle.std.proofs.Common.{◌≡◌, ℕ, ◌<◌, List, [], ◌∷◌, ◌++◌, length, refl, sym, ap, ◌∙◌, subst, arith, append_assoc, append-nil, length-append}
 use Rattle.std.specs.Int.{to_be_bytes, from_be_bytes, w16}
-use Rattle.std.specs.List.{AllByRecursion}
+use Rattle.std.specs.List.{AllByRecursion, push}
+use Rattle.std.proofs.lemmas.List.Concat.{flat_map-append}
 use Rattle.std.proofs.lemmas.Nat.{from_be_bytes-to_be_bytes_2}
 use Rattle.dns_rdata.proofs.Fronts.{same_fronts, same_number16}
 use Rattle.zone_core.specs.Frames.{frame, frames, IsFramable, IsPartial, Splits}
@@ -40,6 +41,11 @@ pub splits_one : (stream : List ℕ) (messages others : List (List ℕ)) (rest r
     → Splits stream others rest' → (messages ≡ others) × (rest ≡ rest')
 splits_one stream messages others rest rest' a b =
     frames_one messages others rest rest' a.each b.each a.partial b.partial (sym a.whole ∙ b.whole)
+
+-- frames with one more
+pub frames_push : (messages : List (List ℕ)) (message : List ℕ) → frames messages ++ frame message ≡ frames (push messages message)
+frames_push messages message =
+    ap (λ l. frames messages ++ l) (sym (append-nil (frame message))) ∙ sym (flat_map-append frame messages (message ∷ []))
 
 -- whole frames determine the list of messages
 pub whole_frames_one : (messages others : List (List ℕ)) → AllByRecursion IsFramable messages

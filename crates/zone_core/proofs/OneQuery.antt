@@ -1,8 +1,8 @@
 -- Octets are one query, or first break one rule.
-use Rattle.std.proofs.Common.{◌≡◌, ◌≢◌, ◌+◌, ◌≤◌, ℕ, false, List, length, refl, sym, ap, ◌∙◌, subst, arith, inl, inr}
-use Rattle.dns_label.proofs.Spelling.{reads_one}
-use Rattle.dns_header.specs.Header.{number_at, is_response, opcode_of}
+use Rattle.std.proofs.Common.{◌≡◌, ◌≢◌, ◌≤◌, ℕ, false, List, length, refl, sym, ◌∙◌, subst, arith, inl, inr}
+use Rattle.dns_header.specs.Header.{is_response, opcode_of}
 use Rattle.dns_header.specs.Question.{Question, ReadsQuestion}
+use Rattle.dns_message.proofs.DecidedRecords.{question_one as some_question_one}
 use Rattle.zone_core.specs.Query.{AxfrQuery, AsksOne, IsQuery, IsQueryFault, question_of}
 use Rattle.zone_octets.specs.Zone.{any_class, axfr_type}
 use Rattle.zone_core.specs.declared.query_error.QueryError.{QueryError}
@@ -13,11 +13,8 @@ use Rattle.zone_core.proofs.OrderedRules.Rules.{no_more, rule}
 -- one question is at a place, with one place after it
 pub question_one : {message : List ℕ} {place next end : ℕ} {q other : Question} → ReadsQuestion message place q next
     → ReadsQuestion message place other end → (q ≡ other) × (next ≡ end)
-question_one {message} reads reads' =
-    let one = reads_one reads.name reads'.name in
-    let qtype = reads.qtype ∙ ap (number_at message) one.1 ∙ sym reads'.qtype in
-    let qclass = reads.qclass ∙ ap (λ place. number_at message (place + 2)) one.1 ∙ sym reads'.qclass in
-    (λ i. record { name = one.0 i; qtype = qtype i; qclass = qclass i }, omega (arith, one.1, reads.ends, reads'.ends))
+question_one {message} {place} {next} {end} {q} {other} reads reads' =
+    some_question_one {message} {place} (record { q = q; next = next; has = reads }) (record { q = other; next = end; has = reads' })
 
 -- a message has a question for which this holds
 abbrev AsksWith : List ℕ → (Question → ℕ → Type 0) → Type 0

@@ -2,8 +2,6 @@
 use Rattle.std.proofs.Common.{◌≡◌, ℕ, Bool, true, false, List, [], ◌∷◌, ◌++◌, length, refl, sym, ap, ◌∙◌, subst, arith, append_assoc, append-nil, inl, inr}
 use Rattle.std.proofs.lemmas.List.{same_from_push}
 use Rattle.std.proofs.lemmas.List.Concat.{flat_map-append}
-use Rattle.dns_label.proofs.Spelling.{reads_one}
-use Rattle.dns_header.specs.Question.{Question, ReadsQuestion}
 use Rattle.dns_message.proofs.ReadRecords.{record_one}
 use Rattle.zone_octets.specs.Record.{Record}
 use Rattle.zone_core.specs.Query.{AxfrQuery}
@@ -12,6 +10,7 @@ use Rattle.dns_message.specs.Record.{ReadsRecord}
 use Rattle.zone_core.specs.Transfer.{AsksAgain, SpellsRecords, IsAnswer, AreAnswers, IsTransfer}
 use Rattle.zone_core.specs.Transfer.SpellsRecords.{none, one}
 use Rattle.zone_core.proofs.Framing.{whole_frames_one}
+use Rattle.zone_core.proofs.OneQuery.{question_one}
 
 -- the first record that is spelled, and those after it
 record FirstRecord (message : List ℕ) (place : ℕ) (r : Record) (records : List Record) (next : ℕ) : Type 0 where
@@ -43,17 +42,12 @@ records_one message (r ∷ records) (s ∷ others) place next next' many spelled
     cc (same.0, rest)
 
 -- the place after the question
-question_one : {message : List ℕ} {place next next' : ℕ} {q other : Question} → ReadsQuestion message place q next
-    → ReadsQuestion message place other next' → next ≡ next'
-question_one reads reads' =
-    let one = reads_one reads.name reads'.name in omega (arith, one.1, reads.ends, reads'.ends)
-
 pub asked_one : (query : AxfrQuery) (first : Bool) (message : List ℕ) (place place' : ℕ) → AsksAgain query first message place
     → AsksAgain query first message place' → place ≡ place'
 asked_one query first message place place' (inl bare) (inl bare') = bare.2 ∙ sym bare'.2
 asked_one query first message place place' (inl bare) (inr asks) = absurd (omega (arith, bare.1, asks.0))
 asked_one query first message place place' (inr asks) (inl bare) = absurd (omega (arith, bare.1, asks.0))
-asked_one query first message place place' (inr asks) (inr asks') = question_one asks.2 asks'.2
+asked_one query first message place place' (inr asks) (inr asks') = (question_one asks.2 asks'.2).1
 
 -- an answer has one list of records
 pub answer_one : (query : AxfrQuery) (first : Bool) (message : List ℕ) (records others : List Record)

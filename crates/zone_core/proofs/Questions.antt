@@ -1,19 +1,10 @@
 -- The questions of messages: when there is none, and which one a message has.
-use Rattle.std.proofs.Common.{◌≡◌, ℕ, ◌+◌, Bool, List, sym, ap, ◌∙◌, subst, arith, inl, inr}
-use Rattle.dns_label.proofs.Spelling.{reads_one}
-use Rattle.dns_header.specs.Header.{number_at, question_count}
+use Rattle.std.proofs.Common.{◌≡◌, ℕ, Bool, List, sym, subst, arith, inl, inr}
+use Rattle.dns_header.specs.Header.{question_count}
 use Rattle.dns_header.specs.Question.{Question, ReadsQuestion}
 use Rattle.zone_core.specs.Query.{AxfrQuery}
 use Rattle.zone_core.specs.Transfer.{AsksAgain, HasAnswerHeader, IsQuestionOf}
-
--- at most one question is at a place
-question_one : {message : List ℕ} {place next next' : ℕ} {q other : Question} → ReadsQuestion message place q next
-    → ReadsQuestion message place other next' → q ≡ other
-question_one {message} {q = q} {other} reads reads' =
-    let one = reads_one reads.name reads'.name in
-    let qtype : q.qtype ≡ other.qtype = reads.qtype ∙ ap (number_at message) one.1 ∙ sym reads'.qtype in
-    let qclass : q.qclass ≡ other.qclass = reads.qclass ∙ ap (λ n. number_at message (n + 2)) one.1 ∙ sym reads'.qclass in
-    λ i. record { name = one.0 i; qtype = qtype i; qclass = qclass i }
+use Rattle.zone_core.proofs.OneQuery.{question_one}
 
 -- the question of a message
 pub asks_once : (query : AxfrQuery) (first : Bool) (message : List ℕ) (place : ℕ) (q : Question) → HasAnswerHeader query message
@@ -30,4 +21,4 @@ asks_not query first message some none place (inr asks) = none asks.1 place asks
 pub asks_other : (query : AxfrQuery) (first : Bool) (message : List ℕ) (end : ℕ) (q : Question) → (question_count message ≡ 0 → ⊥)
     → ReadsQuestion message 12 q end → (IsQuestionOf query q → ⊥) → (place : ℕ) → AsksAgain query first message place → ⊥
 asks_other query first message end q some reads not_asked =
-    asks_not query first message some (λ other next reads' is. not_asked (subst (IsQuestionOf query) (sym (question_one reads reads')) is))
+    asks_not query first message some (λ other next reads' is. not_asked (subst (IsQuestionOf query) (sym (question_one reads reads').0) is))

@@ -5,8 +5,8 @@
 //! messages. The functions of the other modules are for these two crates.
 #![tactic(auto)]
 
+pub mod frames;
 pub mod laws;
-pub mod owned_query;
 mod query;
 mod query_error;
 pub mod question;

@@ -10,6 +10,7 @@ use dns_message::laws::header_is_its_fields;
 use dns_message::{Header, HeaderCounts};
 use dns_name::{Class, Name, Opcode, ParsedName, Rtype};
 use std::alloc::{AllocError, Global};
+use zone_octets::record::ANY;
 
 /// A query for the transfer of a zone (RFC 5936 2.1): the values that an answer depends on.
 #[derive(Debug, Drop)]
@@ -90,9 +91,6 @@ pub fn check_query(octets: &[u8]) -> Result<Query<'_>, QueryError>
         class: question.qclass(),
     })
 }
-
-/// The class ANY (RFC 1035 3.2.5), which no zone has.
-const ANY: u16 = 255;
 
 /// Composes the query for the transfer of the zone with this name and class, with all flags clear (RFC 5936 2.1).
 /// Returns its octets. Fails if out of memory.

@@ -11,6 +11,7 @@ mod SameSoas
 pub mod ReadData
 pub mod StoredRecords
 pub mod SpellableData
+pub mod DecidedData
 pub mod WrittenData
 pub mod WrittenRecords
 pub mod RecordOctets

@@ -32,12 +32,9 @@ pub record AreSendable (class : ℕ) (records : List Record) : Type 0 where
   pub each : AllByRecursion (IsSendable class) records
   pub zone : IsZone records
 
--- The same of a record that is made of octets.
+-- A sendable record that is made of octets.
 pub record IsRecordOf (class : ℕ) (r : Record) : Type 0 where
-  pub lawful : IsRecord r
-  pub data_is : IsData r.rtype r.rdata
-  pub class_is : r.class ≡ class
-  pub spellable : IsSpellable r.rtype r.rdata
+  pub sendable : IsSendable class r
   pub owner_octets : AllByRecursion AreOctets r.owner
   pub data_octets : AreOctets r.rdata
 

@@ -7,6 +7,7 @@
 pub mod checks;
 pub mod front;
 pub mod header;
+pub mod octets;
 pub mod record;
 pub mod record_data;
 pub mod record_list;

@@ -14,6 +14,9 @@ use std::marker::Model;
 /// The length of a record without its owner and its data: type, class, TTL and RDLENGTH (RFC 1035 3.2.1).
 const FIXED_OCTETS: usize = 10;
 
+/// The class ANY (RFC 1035 3.2.5), which no record of a zone has.
+pub const ANY: u16 = 255;
+
 /// A record that borrows its octets (RFC 1035 3.2.1).
 #[derive(Debug, Drop)]
 pub struct Record<'a> {

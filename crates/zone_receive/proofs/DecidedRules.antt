@@ -10,6 +10,7 @@ use Rattle.dns_rdata.specs.Fields.IsData.{typed, opaque}
 use Rattle.dns_header.specs.Header.{is_response, opcode_of, rcode_of, question_count, authority_count, additional_count, id_of}
 use Rattle.dns_header.specs.Question.{Question}
 use Rattle.zone_octets.specs.Record.{Record}
+use Rattle.zone_octets.specs.Typed.{HasLawfulData}
 use Rattle.zone_octets.specs.Zone.{IsUnder, soa_type, axfr_type}
 use Rattle.zone_core.specs.Query.{AxfrQuery}
 use Rattle.zone_core.specs.Transfer.{AsksAgain, CountsAnswers, IsQuestionOf}
@@ -42,10 +43,6 @@ judged_more P error rules (inl kept) (inr rest) = inr (kept, rest)
 pub judged : (rules : Rules ReceiveError) → DecidedRules rules → Judged rules
 judged no_more decided = inr tt
 judged (rule P error rules) decided = judged_more P error rules decided.0 (judged rules decided.1)
-
--- a record whose data is lawful for its type
-abbrev pub HasData : Record → Type 0
-HasData r = IsData r.rtype r.rdata
 
 -- the row of an SOA's data
 record SoaRow (text : List ℕ) : Type 0 where
@@ -132,7 +129,7 @@ if_decided (inl a) b = elim (b a) [ inl holds ↦ inl (λ x. holds) | inr no_b �
 data_of_type : (rtype : ℕ) (text : List ℕ) → IsData rtype text → rtype ≡ soa_type → IsData soa_type text
 data_of_type rtype text is same = let P : ℕ → Type 0 = λ rtype. IsData rtype text in subst P same is
 
-last_decided : (query : AxfrQuery) (front : List Record) (r : Record) → AllByRecursion HasData front → IsLawful query front → HasData r
+last_decided : (query : AxfrQuery) (front : List Record) (r : Record) → AllByRecursion HasLawfulData front → IsLawful query front → HasLawfulData r
     → Decided (KeepsLastRule front r)
 last_decided query [] r data' lawful is = inl tt
 last_decided query (soa ∷ others) r data' lawful is =
@@ -146,8 +143,8 @@ closed_decided query front (inl open_) =
     inl (λ closed. closed_not_open query front [] closed (subst P (sym (append-nil front)) open_))
 closed_decided query front (inr closed) = inr (λ none. none closed)
 
-pub record_rules_decided : (query : AxfrQuery) (front : List Record) (r : Record) → AllByRecursion HasData front → IsLawful query front
-    → HasData r → DecidedRules (record_rules query front r)
+pub record_rules_decided : (query : AxfrQuery) (front : List Record) (r : Record) → AllByRecursion HasLawfulData front → IsLawful query front
+    → HasLawfulData r → DecidedRules (record_rules query front r)
 record_rules_decided query front r data' lawful is = (
   first_decided query front r,
   (

@@ -1,9 +1,8 @@
 -- Two lists of messages in frames at the front of one stream: they are equal, or one continues the other.
-use Rattle.std.proofs.Common.{◌≡◌, ℕ, List, [], ◌∷◌, ◌++◌, refl, sym, ap, ◌∙◌, append_assoc, append-nil}
+use Rattle.std.proofs.Common.{◌≡◌, ℕ, List, [], ◌∷◌, ◌++◌, refl, sym, ap, ◌∙◌, append_assoc}
 use Rattle.std.specs.List.{AllByRecursion}
-use Rattle.std.proofs.lemmas.List.Concat.{flat_map-append}
 use Rattle.zone_core.specs.Frames.{frame, frames, IsFramable}
-use Rattle.zone_core.proofs.Framing.{same_message}
+use Rattle.zone_core.proofs.Framing.{frames_push, same_message}
 
 pub record SameFrames (messages others : List (List ℕ)) (more rest : List ℕ) : Type 0 where
   pub same : messages ≡ others
@@ -51,9 +50,7 @@ two_fronts (m ∷ messages) (n ∷ others) more rest each each' e =
     ]
 
 -- one more message in frames
-pub frames_push : (messages : List (List ℕ)) (message behind : List ℕ)
+pub frames_more : (messages : List (List ℕ)) (message behind : List ℕ)
     → frames messages ++ (frame message ++ behind) ≡ frames (messages ++ message ∷ []) ++ behind
-frames_push messages message behind =
-    sym (append_assoc (frames messages) (frame message) behind)
-    ∙ ap (λ l. (frames messages ++ l) ++ behind) (sym (append-nil (frame message)))
-    ∙ ap (λ l. l ++ behind) (sym (flat_map-append frame messages (message ∷ [])))
+frames_more messages message behind =
+    sym (append_assoc (frames messages) (frame message) behind) ∙ ap (λ l. l ++ behind) (frames_push messages message)

@@ -20,13 +20,14 @@ use Rattle.zone_receive.proofs.MessageFaults.{record_rules, head_rules}
 use Rattle.zone_core.proofs.OrderedRules.{FirstBroken, AllKept}
 use Rattle.dns_message.proofs.DecidedRecords.{record_decided}
 use Rattle.zone_receive.proofs.SpelledRecords.{read_has_data}
-use Rattle.zone_receive.proofs.DecidedRules.{HasData, judged, record_rules_decided, head_rules_decided}
+use Rattle.zone_octets.specs.Typed.{HasLawfulData}
+use Rattle.zone_receive.proofs.DecidedRules.{judged, record_rules_decided, head_rules_decided}
 
 -- the verdict on a message, given the records before it
 pub data Verdict (query : AxfrQuery) (front : List Record) (first : Bool) (message : List ℕ) : Type 0 where
   at_fault : (e : ReceiveError) → IsMessageFault query front first message e → Verdict query front first message
   answers : (group : List Record) → IsAnswer query first message group → IsLawful query (front ++ group)
-      → AllByRecursion HasData group → Verdict query front first message
+      → AllByRecursion HasLawfulData group → Verdict query front first message
 
 -- the first broken rule of the head is the fault
 head_fault : (query : AxfrQuery) (front : List Record) (first : Bool) (message : List ℕ) (e : ReceiveError)
@@ -124,7 +125,7 @@ lawful_push query (soa ∷ others) r open_ (first, (class, (under, (last, (not_c
 
 -- all records are judged
 all_judged : (query : AxfrQuery) (front : List Record) (first : Bool) (message : List ℕ) (group : List Record) (place : ℕ)
-    → KeepsRulesTo query front first message group place → AllByRecursion HasData group → length group ≡ answer_count message
+    → KeepsRulesTo query front first message group place → AllByRecursion HasLawfulData group → length group ≡ answer_count message
     → Verdict query front first message
 all_judged query front first message group place keeps data' all = elim (cases_eq place (length message)) [
   | inl ends ↦ (
@@ -158,8 +159,8 @@ keeps_push query front first message group place next r keeps has kept =
     }
 
 -- the verdict, by the number of records that are left
-judged_from : (query : AxfrQuery) (front : List Record) (first : Bool) (message : List ℕ) → AreOctets message → AllByRecursion HasData front
-    → (left : ℕ) (group : List Record) (place : ℕ) → KeepsRulesTo query front first message group place → AllByRecursion HasData group
+judged_from : (query : AxfrQuery) (front : List Record) (first : Bool) (message : List ℕ) → AreOctets message → AllByRecursion HasLawfulData front
+    → (left : ℕ) (group : List Record) (place : ℕ) → KeepsRulesTo query front first message group place → AllByRecursion HasLawfulData group
     → length group + left ≡ answer_count message → Verdict query front first message
 judged_from query front first message each data' zero group place keeps group_data all =
     all_judged query front first message group place keeps group_data (omega arith)
@@ -169,19 +170,19 @@ judged_from query front first message each data' (suc left) group place keeps gr
   | inl some ↦ (
       let r : Record = some.r in
       let data_is = read_has_data r some.has in
-      let decided = record_rules_decided query (front ++ group) r (all_append HasData front group data' group_data) keeps.lawful data_is in
+      let decided = record_rules_decided query (front ++ group) r (all_append HasLawfulData front group data' group_data) keeps.lawful data_is in
       elim (judged (record_rules query (front ++ group) r) decided) [
         | inl broken ↦ at_fault broken.0
             (record_fault query front first message group place some.next r broken.0 keeps (omega arith) some.has broken.1)
         | inr kept ↦ judged_from query front first message each data' left (group ++ r ∷ []) some.next
             (keeps_push query front first message group place some.next r keeps some.has kept)
-            (all_append HasData group (r ∷ []) group_data (data_is, tt))
+            (all_append HasLawfulData group (r ∷ []) group_data (data_is, tt))
             (omega (arith, length-append group (r ∷ [])))
       ])
 ]
 
 pub message_judged : (query : AxfrQuery) (front : List Record) (first : Bool) (message : List ℕ) → AreOctets message
-    → AllByRecursion HasData front → IsOpen query front → Verdict query front first message
+    → AllByRecursion HasLawfulData front → IsOpen query front → Verdict query front first message
 message_judged query front first message each data' open_ =
     elim (judged (head_rules query first message) (head_rules_decided query first message)) [
       | inl broken ↦ at_fault broken.0 (head_fault query front first message broken.0 broken.1)

@@ -15,11 +15,11 @@ use Rattle.zone_core.proofs.Splits.{two_splits}
 use Rattle.zone_core.proofs.Splits.Compared.{same, longer, shorter}
 use Rattle.zone_octets.proofs.Each.{all_append}
 use Rattle.zone_receive.proofs.AnswerGroups.{answers_push, first_of_stream, joined_push}
-use Rattle.zone_receive.proofs.FrontFrames.{frames_push}
+use Rattle.zone_receive.proofs.FrontFrames.{frames_more}
 use Rattle.zone_receive.proofs.LawfulRecords.{closed_not_open}
 use Rattle.dns_message.proofs.Numbers.{octet_at}
 use Rattle.zone_octets.proofs.NameFronts.{AreOctets, front_of, octets_front, octets_behind}
-use Rattle.zone_receive.proofs.DecidedRules.{HasData}
+use Rattle.zone_octets.specs.Typed.{HasLawfulData}
 use Rattle.zone_receive.proofs.JudgedMessages.{message_judged}
 use Rattle.zone_receive.proofs.JudgedMessages.Verdict.{at_fault, answers}
 
@@ -38,7 +38,7 @@ record Heard (query : AxfrQuery) (stream : List ℕ) (messages : List (List ℕ)
   whole : stream ≡ frames messages ++ rest
   answered : AreAnswers query true messages groups
   still_open : IsOpen query (joined groups)
-  data_are : AllByRecursion HasData (joined groups)
+  data_are : AllByRecursion HasLawfulData (joined groups)
 
 -- less than a whole frame is left
 begun : (query : AxfrQuery) (stream : List ℕ) (messages : List (List ℕ)) (groups : List (List Record)) (rest : List ℕ)
@@ -129,7 +129,7 @@ goes_on query stream messages groups rest heard next group answer =
     let P : Bool → Type 0 = λ first. IsAnswer query first next.message group in
     record {
       each = all_append IsFramable messages (next.message ∷ []) heard.each (next.fits, tt);
-      whole = heard.whole ∙ ap (λ l. frames messages ++ l) next.at ∙ frames_push messages next.message next.behind;
+      whole = heard.whole ∙ ap (λ l. frames messages ++ l) next.at ∙ frames_more messages next.message next.behind;
       answered = answers_push query true messages groups next.message group heard.answered
           (subst P (sym (first_of_stream messages)) answer);
     }
@@ -193,18 +193,18 @@ transfer_of query stream messages groups group behind goes still_open closed =
 
 heard_more : (query : AxfrQuery) (stream : List ℕ) (messages : List (List ℕ)) (groups : List (List Record)) (group : List Record)
     (behind : List ℕ) → Goes query stream messages (groups ++ group ∷ []) behind → IsOpen query (joined groups ++ group)
-    → AllByRecursion HasData (joined groups) → AllByRecursion HasData group
+    → AllByRecursion HasLawfulData (joined groups) → AllByRecursion HasLawfulData group
     → Heard query stream messages (groups ++ group ∷ []) behind
 heard_more query stream messages groups group behind goes still_open data' more_data =
     let P : List Record → Type 0 = λ records. IsOpen query records in
-    let Q : List Record → Type 0 = λ records. AllByRecursion HasData records in
+    let Q : List Record → Type 0 = λ records. AllByRecursion HasLawfulData records in
     let is = sym (joined_push groups group) in
     record {
       each = goes.each;
       whole = goes.whole;
       answered = goes.answered;
       still_open = subst P is still_open;
-      data_are = subst Q is (all_append HasData (joined groups) group data' more_data);
+      data_are = subst Q is (all_append HasLawfulData (joined groups) group data' more_data);
     }
 
 judged_rest : (query : AxfrQuery) (stream : List ℕ) (fuel : ℕ) (messages : List (List ℕ)) (groups : List (List Record)) (rest : List ℕ)

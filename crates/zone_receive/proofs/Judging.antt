@@ -1,7 +1,6 @@
 -- A frame is judged after those before it.
 use Rattle.std.proofs.Common.{◌≡◌, ℕ, Bool, true, false, List, [], ◌∷◌, ◌++◌, drop, refl, sym, ap, ◌∙◌, subst, append_assoc, append-nil}
 use Rattle.std.proofs.lemmas.List.{same_from_push}
-use Rattle.std.proofs.lemmas.List.Concat.{flat_map-append}
 use Rattle.std.specs.Prelude.{Result, Ok, Err, IfOk, IfErr, OnOk}
 use Rattle.std.specs.Bool.{OnTrue, OnFalse}
 use Rattle.std.specs.List.{AllByRecursion, push}
@@ -13,15 +12,16 @@ use Rattle.zone_core.specs.Cutting.{joined}
 use Rattle.zone_core.specs.Transfer.{IsAnswer, AreAnswers, IsTransferred, ClosesTransfer}
 use Rattle.zone_receive.specs.Receiving.{is_first, Heard, IsHeard, IsOpen, IsClosed, IsMessageFault, HasBadMessage, IsStreamFault, stage_of}
 use Rattle.zone_receive.specs.Receiving.Stage.{Begun}
-use Rattle.zone_receive.specs.Intake.{BreaksRule, EndsTransfer, GoesOn, IsFaultOr, IsFrame, StandsAt, TakesMessage, heard_by, stage_where}
-use Rattle.zone_receive.specs.Intake.StandsAt.{begun, ended}
+use Rattle.zone_receive.specs.Intake.{BreaksRule, EndsTransfer, GoesOn, HoldsFront, IsFaultOr, IsFrame, TakesMessage, heard_by, stage_where}
+use Rattle.zone_receive.specs.Intake.HoldsFront.{begun, ended}
 use Rattle.zone_receive.specs.declared.intake.Intake.{Intake}
 use Rattle.zone_core.specs.declared.query_error.QueryError.{QueryError}
 use Rattle.zone_receive.specs.declared.error.ReceiveError.{ReceiveError}
 use Rattle.zone_receive.specs.declared.error.ReceiveError.TheVariants as receive_error
 use Rattle.zone_octets.proofs.Each.{all_append}
 use Rattle.zone_receive.proofs.LawfulRecords.{closed_not_open}
-use Rattle.zone_receive.proofs.AnswerGroups.{answers_push, first_of_stream}
+use Rattle.zone_core.proofs.Framing.{frames_push}
+use Rattle.zone_receive.proofs.AnswerGroups.{answers_push, first_of_stream, joined_push}
 
 -- the message of a frame that is in the octets alone
 pub framed_message : (octets : List ℕ) (framed : IsFrame octets) → drop 2 octets ≡ framed.message
@@ -29,14 +29,6 @@ framed_message octets framed = ap (drop 2) framed.whole
 
 pub framed_alone : (open_frame octets : List ℕ) (framed : IsFrame (open_frame ++ octets)) → open_frame ≡ [] → drop 2 octets ≡ framed.message
 framed_alone open_frame octets framed none = ap (λ l. drop 2 (l ++ octets)) (sym none) ∙ framed_message (open_frame ++ octets) framed
-
--- frames with one more
-frames_push : (messages : List (List ℕ)) (message : List ℕ) → frames messages ++ frame message ≡ frames (push messages message)
-frames_push messages message =
-    ap (λ l. frames messages ++ l) (sym (append-nil (frame message))) ∙ sym (flat_map-append frame messages (message ∷ []))
-
-joined_push : (groups : List (List Record)) (group : List Record) → joined (push groups group) ≡ joined groups ++ group
-joined_push groups group = flat_map-append (λ g. g) groups (group ∷ []) ∙ ap (λ l. joined groups ++ l) (append-nil group)
 
 -- whether the message is the first
 first_by : (messages : List (List ℕ)) (first : Bool) → stage_where first ≡ stage_of messages → first ≡ is_first messages
@@ -75,10 +67,10 @@ record StandsOpen (query : AxfrQuery) (held front : List Record) : Type 0 where
   same : front ≡ held
   still : IsOpen query held
 
-stands_open : {query : AxfrQuery} {held front : List Record} {closed : Bool} → StandsAt query held closed front → closed ≡ false
+holds_open : {query : AxfrQuery} {held front : List Record} {closed : Bool} → HoldsFront query held closed front → closed ≡ false
     → StandsOpen query held front
-stands_open (begun still) is = record { same = refl; still = still }
-stands_open (ended last all closes) is = absurd cc
+holds_open (begun still) is = record { same = refl; still = still }
+holds_open (ended last all closes) is = absurd cc
 
 -- the message is judged, and the transfer goes on
 pub judged_on : (old new : Intake) (query : AxfrQuery) (octets : List ℕ) (framed : IsFrame (old.open_frame.items ++ octets))
@@ -87,7 +79,7 @@ pub judged_on : (old new : Intake) (query : AxfrQuery) (octets : List ℕ) (fram
 judged_on old new query octets framed none first takes known = record {
   heard = λ stream is.
       let next = next_heard stream octets is framed in
-      let open' = stands_open takes.stands refl in
+      let open' = holds_open takes.holds refl in
       let messages : List (List ℕ) = push is.messages framed.message in
       record {
         messages = messages;
@@ -112,10 +104,10 @@ record StandsClosed (query : AxfrQuery) (held front : List Record) : Type 0 wher
   transferred : IsTransferred query held
   closes : ClosesTransfer held last
 
-stands_closed : {query : AxfrQuery} {held front : List Record} {closed : Bool} → StandsAt query held closed front → closed ≡ true
+holds_closed : {query : AxfrQuery} {held front : List Record} {closed : Bool} → HoldsFront query held closed front → closed ≡ true
     → StandsClosed query held front
-stands_closed (begun still) is = absurd cc
-stands_closed (ended last all closes) is = record { last = last; same = refl; transferred = all; closes = closes }
+holds_closed (begun still) is = absurd cc
+holds_closed (ended last all closes) is = record { last = last; same = refl; transferred = all; closes = closes }
 
 -- the last record of a list that isn't empty
 record Ended (group : List Record) : Type 0 where
@@ -153,7 +145,7 @@ judged_last old new query octets framed none takes known = record {
   whole = none;
   transfer = λ stream is.
       let next = next_heard stream octets is framed in
-      let closed = stands_closed takes.stands refl in
+      let closed = holds_closed takes.holds refl in
       let group = last_group query new.records old.records takes.group closed.last is.still_open closed.same closed.transferred closed.closes in
       record {
         messages = push is.messages framed.message;

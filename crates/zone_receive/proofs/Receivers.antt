@@ -4,7 +4,7 @@ use Rattle.std.proofs.lemmas.List.{take_all}
 use Rattle.zone_octets.specs.Record.{Record}
 use Rattle.zone_core.specs.Query.{AxfrQuery}
 use Rattle.zone_core.specs.Transfer.{IsTransfer}
-use Rattle.zone_receive.specs.Receiving.{Heard, IsHeard, IsNoZone, IsStreamFault, Refuses, Stage, StandsAt, StandsIn, Takes, refusal_in}
+use Rattle.zone_receive.specs.Receiving.{Heard, IsAfter, IsAfterAt, IsHeard, IsNoZone, IsStreamFault, Refuses, Stage, Takes, refusal_in}
 use Rattle.zone_receive.specs.Receiving.Stage.{Begun, Ended, Refused}
 use Rattle.zone_receive.specs.Intake.{EndsTransfer, GoesOn, IsEnded, IsWaiting, heard_by, stage_where}
 use Rattle.zone_receive.specs.Received.{heard_in, stage_in}
@@ -16,13 +16,13 @@ use Rattle.zone_receive.specs.declared.receiver.Progress.TheVariants as progress
 use Rattle.zone_receive.proofs.Intakes.{goes_none, heard_is_begun, take_none}
 
 -- before the last SOA
-pub stands_where : (first : Bool) (heard : Heard) (stream : List ℕ) → IsHeard heard stream → StandsIn (stage_where first) heard stream
-stands_where true heard stream is = is
-stands_where false heard stream is = is
+pub after_where : (first : Bool) (heard : Heard) (stream : List ℕ) → IsHeard heard stream → IsAfterAt (stage_where first) heard stream
+after_where true heard stream is = is
+after_where false heard stream is = is
 
-pub heard_where : (first : Bool) (heard : Heard) (stream : List ℕ) → StandsIn (stage_where first) heard stream → IsHeard heard stream
-heard_where true heard stream stands = stands
-heard_where false heard stream stands = stands
+pub heard_where : (first : Bool) (heard : Heard) (stream : List ℕ) → IsAfterAt (stage_where first) heard stream → IsHeard heard stream
+heard_where true heard stream after = after
+heard_where false heard stream after = after
 
 not_refused : (first : Bool) → refusal_in (stage_where first) ≡ None
 not_refused true = refl
@@ -34,56 +34,56 @@ not_ended false is = absurd cc
 
 -- the whole piece is taken
 pub takes_all : (old new : Intake) (query : AxfrQuery) (stream piece : List ℕ) (n : ℕ) → n ≡ length piece → GoesOn old piece new query
-    → StandsAt (heard_in progress.Begun old query) stream → Takes (heard_in progress.Begun old query) stream piece (heard_in progress.Begun new query) n
-takes_all old new query stream piece n all goes stands =
-    let heard = goes.heard stream (heard_where old.is_first (heard_in progress.Begun old query) stream stands) in
+    → IsAfter (heard_in progress.Begun old query) stream → Takes (heard_in progress.Begun old query) stream piece (heard_in progress.Begun new query) n
+takes_all old new query stream piece n all goes after =
+    let heard = goes.heard stream (heard_where old.is_first (heard_in progress.Begun old query) stream after) in
     let P : List ℕ → Type 0 = λ octets. IsHeard (heard_in progress.Begun new query) (stream ++ octets) in
     record {
       free = not_refused old.is_first;
       query = refl;
       kept = not_refused new.is_first;
       within = omega (arith, all);
-      stands = stands_where new.is_first (heard_in progress.Begun new query) (stream ++ take n piece)
+      after = after_where new.is_first (heard_in progress.Begun new query) (stream ++ take n piece)
           (subst P (sym (take_all n piece (omega (arith, all)))) heard);
       ends = inr (not_ended new.is_first, all);
     }
 
 -- the transfer ends in the piece
 pub takes_end : (old new : Intake) (query : AxfrQuery) (stream piece : List ℕ) (n : ℕ) → n ≤ length piece
-    → EndsTransfer old (take n piece) new query → StandsAt (heard_in progress.Begun old query) stream
+    → EndsTransfer old (take n piece) new query → IsAfter (heard_in progress.Begun old query) stream
     → Takes (heard_in progress.Begun old query) stream piece (heard_in progress.Done new query) n
-takes_end old new query stream piece n within ends stands = record {
+takes_end old new query stream piece n within ends after = record {
   free = not_refused old.is_first;
   query = refl;
   kept = refl;
   within = within;
-  stands = (ends.whole, ends.transfer stream (heard_where old.is_first (heard_in progress.Begun old query) stream stands));
+  after = (ends.whole, ends.transfer stream (heard_where old.is_first (heard_in progress.Begun old query) stream after));
   ends = inl refl;
 }
 
 -- it has ended
-pub takes_none : (intake : Intake) (query : AxfrQuery) (stream piece : List ℕ) → StandsAt (heard_in progress.Done intake query) stream
+pub takes_none : (intake : Intake) (query : AxfrQuery) (stream piece : List ℕ) → IsAfter (heard_in progress.Done intake query) stream
     → Takes (heard_in progress.Done intake query) stream piece (heard_in progress.Done intake query) 0
-takes_none intake query stream piece stands =
+takes_none intake query stream piece after =
     let P : List ℕ → Type 0 = λ octets. IsTransfer query octets intake.records in
     record {
       free = refl;
       query = refl;
       kept = refl;
       within = omega arith;
-      stands = (stands.0, subst P (sym (append-nil stream) ∙ ap (λ octets. stream ++ octets) (sym (take_none piece))) stands.1);
+      after = (after.0, subst P (sym (append-nil stream) ∙ ap (λ octets. stream ++ octets) (sym (take_none piece))) after.1);
       ends = inl refl;
     }
 
 -- the piece is bad, or an earlier one was
 pub refuses_piece : (old new : Intake) (query : AxfrQuery) (stream piece : List ℕ) (error : ReceiveError)
     → ((stream : List ℕ) → IsHeard (heard_by old query) stream → IsStreamFault query (stream ++ piece) error)
-    → StandsAt (heard_in progress.Begun old query) stream
+    → IsAfter (heard_in progress.Begun old query) stream
     → Refuses (heard_in progress.Begun old query) stream piece (heard_in (progress.Refused error) new query) error
-refuses_piece old new query stream piece error breaks stands = record {
+refuses_piece old new query stream piece error breaks after = record {
   query = refl;
   kept = refl;
-  why = inr (not_refused old.is_first, breaks stream (heard_where old.is_first (heard_in progress.Begun old query) stream stands));
+  why = inr (not_refused old.is_first, breaks stream (heard_where old.is_first (heard_in progress.Begun old query) stream after));
 }
 
 pub refuses_again : (intake : Intake) (query : AxfrQuery) (stream piece : List ℕ) (error : ReceiveError)
@@ -98,11 +98,11 @@ ends_ended octets waits ends =
 
 -- a receiver that is done has the transfer, with its records
 pub has_transfer : (heard : Heard) (records : List Record) (stream : List ℕ) → heard.stage ≡ Ended → records ≡ heard.records
-    → StandsAt heard stream → (refusal_in heard.stage ≡ None) × IsTransfer heard.query stream records
-has_transfer heard records stream is same stands =
-    let P : Stage → Type 0 = λ at. StandsIn at heard stream in
+    → IsAfter heard stream → (refusal_in heard.stage ≡ None) × IsTransfer heard.query stream records
+has_transfer heard records stream is same after =
+    let P : Stage → Type 0 = λ at. IsAfterAt at heard stream in
     let Q : List Record → Type 0 = λ records. IsTransfer heard.query stream records in
-    let here = subst P is stands in
+    let here = subst P is after in
     (ap refusal_in is, subst Q (sym same) here.1)
 
 pub not_ended_in : (at : Progress) (first : Bool) → (at ≡ progress.Done → ⊥) → stage_in at first ≡ Ended → ⊥
@@ -113,58 +113,58 @@ not_ended_in (progress.Refused error) first not_there is = absurd cc
 -- what the contract sees of a receiver, by how far it has come
 pub feeds_all : (old : Heard) (at : Progress) (intake new : Intake) (query : AxfrQuery) (piece : List ℕ) (n : ℕ) → heard_in at intake query ≡ old
     → at ≡ progress.Begun → n ≡ length piece → GoesOn intake piece new query
-    → (stream : List ℕ) → StandsAt old stream → Takes old stream piece (heard_in at new query) n
+    → (stream : List ℕ) → IsAfter old stream → Takes old stream piece (heard_in at new query) n
 feeds_all old at intake new query piece n view is all goes =
-    let P : Progress → Type 0 = λ at. (stream : List ℕ) → StandsAt (heard_in at intake query) stream
+    let P : Progress → Type 0 = λ at. (stream : List ℕ) → IsAfter (heard_in at intake query) stream
     → Takes (heard_in at intake query) stream piece (heard_in at new query) n in
-    let Q : Heard → Type 0 = λ old. (stream : List ℕ) → StandsAt old stream → Takes old stream piece (heard_in at new query) n in
-    subst Q view (subst P (sym is) (λ stream stands. takes_all intake new query stream piece n all goes stands))
+    let Q : Heard → Type 0 = λ old. (stream : List ℕ) → IsAfter old stream → Takes old stream piece (heard_in at new query) n in
+    subst Q view (subst P (sym is) (λ stream after. takes_all intake new query stream piece n all goes after))
 
 -- an empty piece
 pub feeds_empty : (old : Heard) (at : Progress) (intake : Intake) (query : AxfrQuery) (piece : List ℕ) → heard_in at intake query ≡ old
-    → at ≡ progress.Begun → piece ≡ [] → IsWaiting intake query → (stream : List ℕ) → StandsAt old stream → Takes old stream piece old 0
-feeds_empty old at intake query piece view is none waits stream stands =
+    → at ≡ progress.Begun → piece ≡ [] → IsWaiting intake query → (stream : List ℕ) → IsAfter old stream → Takes old stream piece old 0
+feeds_empty old at intake query piece view is none waits stream after =
     let P : List ℕ → Type 0 = λ octets. GoesOn intake octets intake query in
     let Q : Heard → Type 0 = λ heard. Takes old stream piece heard 0 in
     let goes = subst P (take_none piece ∙ sym none) (goes_none intake query piece waits.known) in
-    subst Q view (feeds_all old at intake intake query piece 0 view is (sym (ap (length {A = ℕ}) none)) goes stream stands)
+    subst Q view (feeds_all old at intake intake query piece 0 view is (sym (ap (length {A = ℕ}) none)) goes stream after)
 
 pub feeds_end : (old : Heard) (at : Progress) (intake new : Intake) (query : AxfrQuery) (piece : List ℕ) (n : ℕ) → heard_in at intake query ≡ old
     → at ≡ progress.Begun → n ≤ length piece → EndsTransfer intake (take n piece) new query
-    → (stream : List ℕ) → StandsAt old stream → Takes old stream piece (heard_in progress.Done new query) n
+    → (stream : List ℕ) → IsAfter old stream → Takes old stream piece (heard_in progress.Done new query) n
 feeds_end old at intake new query piece n view is within ends =
-    let P : Progress → Type 0 = λ at. (stream : List ℕ) → StandsAt (heard_in at intake query) stream
+    let P : Progress → Type 0 = λ at. (stream : List ℕ) → IsAfter (heard_in at intake query) stream
     → Takes (heard_in at intake query) stream piece (heard_in progress.Done new query) n in
-    let Q : Heard → Type 0 = λ old. (stream : List ℕ) → StandsAt old stream → Takes old stream piece (heard_in progress.Done new query) n in
-    subst Q view (subst P (sym is) (λ stream stands. takes_end intake new query stream piece n within ends stands))
+    let Q : Heard → Type 0 = λ old. (stream : List ℕ) → IsAfter old stream → Takes old stream piece (heard_in progress.Done new query) n in
+    subst Q view (subst P (sym is) (λ stream after. takes_end intake new query stream piece n within ends after))
 
 pub feeds_none : (old : Heard) (at : Progress) (intake : Intake) (query : AxfrQuery) (piece : List ℕ) → heard_in at intake query ≡ old
-    → at ≡ progress.Done → (stream : List ℕ) → StandsAt old stream → Takes old stream piece old 0
+    → at ≡ progress.Done → (stream : List ℕ) → IsAfter old stream → Takes old stream piece old 0
 feeds_none old at intake query piece view is =
-    let P : Progress → Type 0 = λ at. (stream : List ℕ) → StandsAt (heard_in at intake query) stream
+    let P : Progress → Type 0 = λ at. (stream : List ℕ) → IsAfter (heard_in at intake query) stream
     → Takes (heard_in at intake query) stream piece (heard_in at intake query) 0 in
-    let Q : Heard → Type 0 = λ old. (stream : List ℕ) → StandsAt old stream → Takes old stream piece old 0 in
-    subst Q view (subst P (sym is) (λ stream stands. takes_none intake query stream piece stands))
+    let Q : Heard → Type 0 = λ old. (stream : List ℕ) → IsAfter old stream → Takes old stream piece old 0 in
+    subst Q view (subst P (sym is) (λ stream after. takes_none intake query stream piece after))
 
 pub feeds_bad : (old : Heard) (at : Progress) (intake new : Intake) (query : AxfrQuery) (piece : List ℕ) (error : ReceiveError)
     → heard_in at intake query ≡ old → at ≡ progress.Begun
     → ((stream : List ℕ) → IsHeard (heard_by intake query) stream → IsStreamFault query (stream ++ piece) error)
-    → (stream : List ℕ) → StandsAt old stream → Refuses old stream piece (heard_in (progress.Refused error) new query) error
+    → (stream : List ℕ) → IsAfter old stream → Refuses old stream piece (heard_in (progress.Refused error) new query) error
 feeds_bad old at intake new query piece error view is breaks =
-    let P : Progress → Type 0 = λ at. (stream : List ℕ) → StandsAt (heard_in at intake query) stream
+    let P : Progress → Type 0 = λ at. (stream : List ℕ) → IsAfter (heard_in at intake query) stream
     → Refuses (heard_in at intake query) stream piece (heard_in (progress.Refused error) new query) error in
-    let Q : Heard → Type 0 = λ old. (stream : List ℕ) → StandsAt old stream
+    let Q : Heard → Type 0 = λ old. (stream : List ℕ) → IsAfter old stream
     → Refuses old stream piece (heard_in (progress.Refused error) new query) error in
-    subst Q view (subst P (sym is) (λ stream stands. refuses_piece intake new query stream piece error breaks stands))
+    subst Q view (subst P (sym is) (λ stream after. refuses_piece intake new query stream piece error breaks after))
 
 pub feeds_again : (old : Heard) (at : Progress) (intake : Intake) (query : AxfrQuery) (piece : List ℕ) (error : ReceiveError)
     → heard_in at intake query ≡ old → at ≡ progress.Refused error
-    → (stream : List ℕ) → StandsAt old stream → Refuses old stream piece old error
+    → (stream : List ℕ) → IsAfter old stream → Refuses old stream piece old error
 feeds_again old at intake query piece error view is =
-    let P : Progress → Type 0 = λ at. (stream : List ℕ) → StandsAt (heard_in at intake query) stream
+    let P : Progress → Type 0 = λ at. (stream : List ℕ) → IsAfter (heard_in at intake query) stream
     → Refuses (heard_in at intake query) stream piece (heard_in at intake query) error in
-    let Q : Heard → Type 0 = λ old. (stream : List ℕ) → StandsAt old stream → Refuses old stream piece old error in
-    subst Q view (subst P (sym is) (λ stream stands. refuses_again intake query stream piece error))
+    let Q : Heard → Type 0 = λ old. (stream : List ℕ) → IsAfter old stream → Refuses old stream piece old error in
+    subst Q view (subst P (sym is) (λ stream after. refuses_again intake query stream piece error))
 
 pub done_stage : (heard : Heard) (at : Progress) (intake : Intake) (query : AxfrQuery) → heard_in at intake query ≡ heard → at ≡ progress.Done
     → heard.stage ≡ Ended
@@ -177,15 +177,15 @@ other_stage heard at intake query view not_there ended =
     not_ended_in at intake.is_first not_there (ap (λ (h : Heard). h.stage) view ∙ ended)
 
 -- why there is no zone
-no_zone_yet : (intake : Intake) (query : AxfrQuery) (stream : List ℕ) → StandsAt (heard_in progress.Begun intake query) stream
+no_zone_yet : (intake : Intake) (query : AxfrQuery) (stream : List ℕ) → IsAfter (heard_in progress.Begun intake query) stream
     → IsNoZone (heard_in progress.Begun intake query) stream receive_error.Unfinished
-no_zone_yet intake query stream stands =
-    inr (refl, not_refused intake.is_first, heard_is_begun (heard_where intake.is_first (heard_in progress.Begun intake query) stream stands))
+no_zone_yet intake query stream after =
+    inr (refl, not_refused intake.is_first, heard_is_begun (heard_where intake.is_first (heard_in progress.Begun intake query) stream after))
 
 pub no_zone : (heard : Heard) (at : Progress) (intake : Intake) (query : AxfrQuery) → heard_in at intake query ≡ heard → at ≡ progress.Begun
-    → (stream : List ℕ) → StandsAt heard stream → IsNoZone heard stream receive_error.Unfinished
+    → (stream : List ℕ) → IsAfter heard stream → IsNoZone heard stream receive_error.Unfinished
 no_zone heard at intake query view is =
-    let P : Progress → Type 0 = λ at. (stream : List ℕ) → StandsAt (heard_in at intake query) stream
+    let P : Progress → Type 0 = λ at. (stream : List ℕ) → IsAfter (heard_in at intake query) stream
     → IsNoZone (heard_in at intake query) stream receive_error.Unfinished in
-    let Q : Heard → Type 0 = λ heard. (stream : List ℕ) → StandsAt heard stream → IsNoZone heard stream receive_error.Unfinished in
-    subst Q view (subst P (sym is) (λ stream stands. no_zone_yet intake query stream stands))
+    let Q : Heard → Type 0 = λ heard. (stream : List ℕ) → IsAfter heard stream → IsNoZone heard stream receive_error.Unfinished in
+    subst Q view (subst P (sym is) (λ stream after. no_zone_yet intake query stream after))

@@ -14,8 +14,8 @@ use Rattle.zone_core.specs.Query.{AxfrQuery}
 use Rattle.zone_octets.specs.Records.{AreOctets, IsRecordOf, SameSoa}
 use Rattle.zone_core.specs.Transfer.{IsInZoneOf, IsTransferred, ClosesTransfer}
 use Rattle.zone_receive.specs.Receiving.{IsOpen, IsClosed, KeepsFirstRule, KeepsLastRule}
-use Rattle.zone_receive.specs.Intake.{IsNext, IsPlacing, StandsAt}
-use Rattle.zone_receive.specs.Intake.StandsAt.{begun, ended}
+use Rattle.zone_receive.specs.Intake.{HoldsFront, IsNext, IsPlacing}
+use Rattle.zone_receive.specs.Intake.HoldsFront.{begun, ended}
 use Rattle.zone_receive.specs.declared.rules.Placing.{Placing}
 use Rattle.zone_receive.specs.declared.rules.Placing.TheVariants.{Inner, Last}
 use Rattle.zone_octets.proofs.Each.{all_append}
@@ -67,42 +67,39 @@ pub known_record : (class : ℕ) (octets : List ℕ) (r : Record) → IsRecord r
 known_record class octets r lawful data_is class_is spellable each are =
     let own = octets_of_record r (subst AreOctets are each) in
     record {
-      lawful = lawful;
-      data_is = data_is;
-      class_is = class_is;
-      spellable = spellable;
+      sendable = record { lawful = lawful; data_is = data_is; class_is = class_is; spellable = spellable };
       owner_octets = own.0;
       data_octets = own.1;
     }
 
 -- what holds of the records before the next one
-pub stands_so_far : {query : AxfrQuery} {records : List Record} {closed : Bool} {number : ℕ} → IsNext query records closed number
-    → (held : List Record) (r : Record) → records ≡ push held r → (front : List Record) × StandsAt query held closed front
-stands_so_far {query} {closed = closed} next held r splits =
+pub holds_so_far : {query : AxfrQuery} {records : List Record} {closed : Bool} {number : ℕ} → IsNext query records closed number
+    → (held : List Record) (r : Record) → records ≡ push held r → (front : List Record) × HoldsFront query held closed front
+holds_so_far {query} {closed = closed} next held r splits =
     let same = same_from_push next.held held next.r r (sym next.splits ∙ splits) in
-    let P : List Record → Type 0 = λ held. StandsAt query held closed next.front in
-    (next.front, subst P same.0 next.stands)
+    let P : List Record → Type 0 = λ held. HoldsFront query held closed next.front in
+    (next.front, subst P same.0 next.holds)
 
 -- text can spell an SOA
 pub soa_spellable : (r : Record) → r.rtype ≡ soa_type → IsSpellable r.rtype r.rdata
 soa_spellable r soa = spellable_unless_caa r.rtype r.rdata (λ caa. absurd (omega (arith, soa, caa)))
 
 -- if no record is held, the transfer has none so far
-stands_empty : {query : AxfrQuery} {held xs : List Record} {closed : Bool} → StandsAt query held closed xs → held ≡ [] → xs ≡ []
-stands_empty (begun so_far) is = is
-stands_empty {query} (ended last transferred closes) is =
+holds_empty : {query : AxfrQuery} {held xs : List Record} {closed : Bool} → HoldsFront query held closed xs → held ≡ [] → xs ≡ []
+holds_empty (begun so_far) is = is
+holds_empty {query} (ended last transferred closes) is =
     let P : List Record → Type 0 = λ l. IsTransferred query l in absurd (subst P is transferred)
 
-stands_behind : {query : AxfrQuery} {held xs : List Record} {closed : Bool} (soa : Record) (others : List Record)
-    → StandsAt query held closed xs → held ≡ soa ∷ others → (rest : List Record) × (xs ≡ soa ∷ rest)
-stands_behind soa others (begun so_far) is = (others, is)
-stands_behind soa others (ended last transferred closes) is = (push others last, ap (λ l. push l last) is)
+holds_behind : {query : AxfrQuery} {held xs : List Record} {closed : Bool} (soa : Record) (others : List Record)
+    → HoldsFront query held closed xs → held ≡ soa ∷ others → (rest : List Record) × (xs ≡ soa ∷ rest)
+holds_behind soa others (begun so_far) is = (others, is)
+holds_behind soa others (ended last transferred closes) is = (push others last, ap (λ l. push l last) is)
 
-stands_transferred : {query : AxfrQuery} {held xs : List Record} {closed : Bool} (soa : Record) (others : List Record)
-    → StandsAt query held closed xs → held ≡ soa ∷ others → IsTransferred query (soa ∷ others)
-stands_transferred {query} soa others (begun so_far) is =
+holds_transferred : {query : AxfrQuery} {held xs : List Record} {closed : Bool} (soa : Record) (others : List Record)
+    → HoldsFront query held closed xs → held ≡ soa ∷ others → IsTransferred query (soa ∷ others)
+holds_transferred {query} soa others (begun so_far) is =
     let P : List Record → Type 0 = λ l. IsOpen query l in subst P is so_far
-stands_transferred {query} soa others (ended last transferred closes) is =
+holds_transferred {query} soa others (ended last transferred closes) is =
     let P : List Record → Type 0 = λ l. IsTransferred query l in subst P is transferred
 
 -- the first record that is held is an SOA of the class
@@ -114,104 +111,104 @@ first_known class (r ∷ held) soa first each =
     let P : Record → Type 0 = λ x. IsRecordOf class x in
     subst P there each.0
 
-pub first_is_soa : {query : AxfrQuery} {xs : List Record} {closed : Bool} (held : List Record) (soa : Record) → StandsAt query held closed xs
+pub first_is_soa : {query : AxfrQuery} {xs : List Record} {closed : Bool} (held : List Record) (soa : Record) → HoldsFront query held closed xs
     → slice_get held 0 ≡ Some soa → soa.rtype ≡ soa_type
-first_is_soa [] soa stands first = absurd cc
-first_is_soa (r ∷ held) soa stands first =
-    let there : soa ≡ r = cc in ap (λ (x : Record). x.rtype) there ∙ (stands_transferred r held stands refl).0
+first_is_soa [] soa holds first = absurd cc
+first_is_soa (r ∷ held) soa holds first =
+    let there : soa ≡ r = cc in ap (λ (x : Record). x.rtype) there ∙ (holds_transferred r held holds refl).0
 
 -- the rule of the first record
-pub first_kept : {query : AxfrQuery} {held xs : List Record} {closed : Bool} (r : Record) → StandsAt query held closed xs → held ≡ []
+pub first_kept : {query : AxfrQuery} {held xs : List Record} {closed : Bool} (r : Record) → HoldsFront query held closed xs → held ≡ []
     → KeepsFirstRule query [] r → KeepsFirstRule query xs r
-first_kept {query} r stands empty keeps =
-    let P : List Record → Type 0 = λ l. KeepsFirstRule query l r in subst P (sym (stands_empty stands empty)) keeps
+first_kept {query} r holds empty keeps =
+    let P : List Record → Type 0 = λ l. KeepsFirstRule query l r in subst P (sym (holds_empty holds empty)) keeps
 
-pub first_broken : {query : AxfrQuery} {held xs : List Record} {closed : Bool} (r : Record) → StandsAt query held closed xs → held ≡ []
+pub first_broken : {query : AxfrQuery} {held xs : List Record} {closed : Bool} (r : Record) → HoldsFront query held closed xs → held ≡ []
     → KeepsFirstRule query xs r → KeepsFirstRule query [] r
-first_broken {query} r stands empty keeps =
-    let P : List Record → Type 0 = λ l. KeepsFirstRule query l r in subst P (stands_empty stands empty) keeps
+first_broken {query} r holds empty keeps =
+    let P : List Record → Type 0 = λ l. KeepsFirstRule query l r in subst P (holds_empty holds empty) keeps
 
 pub first_behind : {query : AxfrQuery} {held xs : List Record} {closed : Bool} (r soa : Record) (others : List Record)
-    → StandsAt query held closed xs → held ≡ soa ∷ others → KeepsFirstRule query xs r
-first_behind {query} r soa others stands is =
-    let behind = stands_behind soa others stands is in
+    → HoldsFront query held closed xs → held ≡ soa ∷ others → KeepsFirstRule query xs r
+first_behind {query} r soa others holds is =
+    let behind = holds_behind soa others holds is in
     let P : List Record → Type 0 = λ l. KeepsFirstRule query l r in
     subst P (sym behind.1) tt
 
 -- the rule of a later SOA
-pub last_kept : {query : AxfrQuery} {xs : List Record} {closed : Bool} (held : List Record) (soa r : Record) → StandsAt query held closed xs
+pub last_kept : {query : AxfrQuery} {xs : List Record} {closed : Bool} (held : List Record) (soa r : Record) → HoldsFront query held closed xs
     → slice_get held 0 ≡ Some soa → SameSoa soa r → KeepsLastRule xs r
-last_kept [] soa r stands first same = absurd cc
-last_kept (x ∷ held) soa r stands first same =
+last_kept [] soa r holds first same = absurd cc
+last_kept (x ∷ held) soa r holds first same =
     let there : soa ≡ x = cc in
-    let behind = stands_behind x held stands refl in
+    let behind = holds_behind x held holds refl in
     let P : List Record → Type 0 = λ l. KeepsLastRule l r in
     let Q : Record → Type 0 = λ y. SameSoa y r in
     subst P (sym behind.1) (λ is. subst Q there same)
 
-pub last_broken : {query : AxfrQuery} {xs : List Record} {closed : Bool} (held : List Record) (soa r : Record) → StandsAt query held closed xs
+pub last_broken : {query : AxfrQuery} {xs : List Record} {closed : Bool} (held : List Record) (soa r : Record) → HoldsFront query held closed xs
     → slice_get held 0 ≡ Some soa → KeepsLastRule xs r → r.rtype ≡ soa_type → SameSoa soa r
-last_broken [] soa r stands first keeps is = absurd cc
-last_broken (x ∷ held) soa r stands first keeps is =
+last_broken [] soa r holds first keeps is = absurd cc
+last_broken (x ∷ held) soa r holds first keeps is =
     let there : x ≡ soa = cc in
-    let behind = stands_behind x held stands refl in
+    let behind = holds_behind x held holds refl in
     let P : List Record → Type 0 = λ l. KeepsLastRule l r in
     let Q : Record → Type 0 = λ y. SameSoa y r in
     subst Q there (subst P behind.1 keeps is)
 
-pub last_free : {query : AxfrQuery} {held : List Record} {closed : Bool} (xs : List Record) (r : Record) → StandsAt query held closed xs
+pub last_free : {query : AxfrQuery} {held : List Record} {closed : Bool} (xs : List Record) (r : Record) → HoldsFront query held closed xs
     → (held ≡ []) ⊎ (r.rtype ≡ soa_type → ⊥) → KeepsLastRule xs r
-last_free [] r stands either = tt
-last_free (soa ∷ others) r stands (inl empty) = let none = stands_empty stands empty in absurd cc
-last_free (soa ∷ others) r stands (inr no_soa) = λ is. absurd (no_soa is)
+last_free [] r holds either = tt
+last_free (soa ∷ others) r holds (inl empty) = let none = holds_empty holds empty in absurd cc
+last_free (soa ∷ others) r holds (inr no_soa) = λ is. absurd (no_soa is)
 
 -- the records of the transfer after the last SOA
-pub stands_closed : {query : AxfrQuery} {held xs : List Record} {closed : Bool} → StandsAt query held closed xs → closed ≡ true
+pub holds_closed : {query : AxfrQuery} {held xs : List Record} {closed : Bool} → HoldsFront query held closed xs → closed ≡ true
     → IsClosed query xs
-stands_closed (begun so_far) is = absurd cc
-stands_closed {held = held} (ended last transferred closes) is =
+holds_closed (begun so_far) is = absurd cc
+holds_closed {held = held} (ended last transferred closes) is =
     record { front = held; last = last; splits = refl; transferred = transferred; closes = closes }
 
-pub stands_open : {query : AxfrQuery} {held xs : List Record} {closed : Bool} → StandsAt query held closed xs → closed ≡ false
+pub holds_open : {query : AxfrQuery} {held xs : List Record} {closed : Bool} → HoldsFront query held closed xs → closed ≡ false
     → IsClosed query xs → ⊥
-stands_open {query} {held} (begun so_far) is closed =
+holds_open {query} {held} (begun so_far) is closed =
     let P : List Record → Type 0 = λ records. IsOpen query records in
     closed_not_open query held [] closed (subst P (sym (append-nil held)) so_far)
-stands_open (ended last transferred closes) is closed = cc
+holds_open (ended last transferred closes) is closed = cc
 
 -- a record of the zone after those that are held
-still_open : {query : AxfrQuery} {xs : List Record} {closed : Bool} (held : List Record) (r : Record) → StandsAt query held closed xs
+still_open : {query : AxfrQuery} {xs : List Record} {closed : Bool} (held : List Record) (r : Record) → HoldsFront query held closed xs
     → KeepsFirstRule query xs r → (held ≡ []) ⊎ (r.rtype ≡ soa_type → ⊥) → IsInZoneOf query r → IsOpen query (push held r)
-still_open [] r stands keeps either zone = let first = first_broken r stands refl keeps in (first.0, first.1, (zone, tt), tt)
-still_open (soa ∷ others) r stands keeps (inl empty) zone = absurd cc
-still_open {query} (soa ∷ others) r stands keeps (inr no_soa) zone =
-    let transferred = stands_transferred soa others stands refl in
+still_open [] r holds keeps either zone = let first = first_broken r holds refl keeps in (first.0, first.1, (zone, tt), tt)
+still_open (soa ∷ others) r holds keeps (inl empty) zone = absurd cc
+still_open {query} (soa ∷ others) r holds keeps (inr no_soa) zone =
+    let transferred = holds_transferred soa others holds refl in
     let each = all_append (IsInZoneOf query) (soa ∷ others) (r ∷ []) transferred.2 (zone, tt) in
     let no_others = all_append (λ x. x.rtype ≢ soa_type) others (r ∷ []) transferred.3 (no_soa, tt) in
     (transferred.0, transferred.1, each, no_others)
 
 pub placed_inner : {query : AxfrQuery} {xs : List Record} {closed : Bool} (held : List Record) (r : Record) (placing : Placing)
-    → placing ≡ Inner → StandsAt query held closed xs → KeepsFirstRule query xs r → (held ≡ []) ⊎ (r.rtype ≡ soa_type → ⊥)
+    → placing ≡ Inner → HoldsFront query held closed xs → KeepsFirstRule query xs r → (held ≡ []) ⊎ (r.rtype ≡ soa_type → ⊥)
     → IsInZoneOf query r → IsPlacing query held r placing
-placed_inner {query} held r placing is stands keeps either zone =
+placed_inner {query} held r placing is holds keeps either zone =
     let P : Placing → Type 0 = λ p. IsPlacing query held r p in
-    subst P (sym is) (still_open held r stands keeps either zone)
+    subst P (sym is) (still_open held r holds keeps either zone)
 
 -- and the last SOA
-closes_here : {query : AxfrQuery} {xs : List Record} {closed : Bool} (held : List Record) (soa r : Record) → StandsAt query held closed xs
+closes_here : {query : AxfrQuery} {xs : List Record} {closed : Bool} (held : List Record) (soa r : Record) → HoldsFront query held closed xs
     → slice_get held 0 ≡ Some soa → r.rtype ≡ soa_type → SameSoa soa r → IsTransferred query held × ClosesTransfer held r
-closes_here [] soa r stands first rtype same = absurd cc
-closes_here (x ∷ held) soa r stands first rtype same =
+closes_here [] soa r holds first rtype same = absurd cc
+closes_here (x ∷ held) soa r holds first rtype same =
     let there : soa ≡ x = cc in
     let P : Record → Type 0 = λ y. SameSoa y r in
-    (stands_transferred x held stands refl, (rtype, subst P there same))
+    (holds_transferred x held holds refl, (rtype, subst P there same))
 
 pub placed_last : {query : AxfrQuery} {xs : List Record} {closed : Bool} (held : List Record) (soa r : Record) (placing : Placing)
-    → placing ≡ Last → StandsAt query held closed xs → slice_get held 0 ≡ Some soa → r.rtype ≡ soa_type → SameSoa soa r
+    → placing ≡ Last → HoldsFront query held closed xs → slice_get held 0 ≡ Some soa → r.rtype ≡ soa_type → SameSoa soa r
     → IsPlacing query held r placing
-placed_last {query} held soa r placing is stands first rtype same =
+placed_last {query} held soa r placing is holds first rtype same =
     let P : Placing → Type 0 = λ p. IsPlacing query held r p in
-    subst P (sym is) (closes_here held soa r stands first rtype same)
+    subst P (sym is) (closes_here held soa r holds first rtype same)
 
 -- what a negated test says
 pub not_false : (b : Bool) → not b ≡ false → b ≡ true

@@ -10,8 +10,8 @@ use Rattle.dns_message.specs.Record.{ReadsRecord}
 use Rattle.zone_core.specs.Transfer.{AsksAgain, HasAnswerHeader, SpellsRecords}
 use Rattle.zone_core.specs.Transfer.SpellsRecords.{none, one}
 use Rattle.zone_receive.specs.Receiving.{IsOpen, IsClosed, IsRecordFault, IsMessageFault, KeepsRulesTo}
-use Rattle.zone_receive.specs.Intake.{IsFaultOr, StandsAt, TakesRecord}
-use Rattle.zone_receive.specs.Intake.StandsAt.{begun, ended}
+use Rattle.zone_receive.specs.Intake.{HoldsFront, IsFaultOr, TakesRecord}
+use Rattle.zone_receive.specs.Intake.HoldsFront.{begun, ended}
 use Rattle.zone_receive.specs.declared.error.ReceiveError.{ReceiveError}
 use Rattle.zone_receive.specs.declared.error.ReceiveError.TheVariants as receive_error
 
@@ -22,20 +22,20 @@ pub record HasTaken (query : AxfrQuery) (front : List Record) (first : Bool) (me
   pub octets : octets_of parser ≡ message
   pub counted : length group ≡ count
   pub rules : KeepsRulesTo query front first message group (place_of parser)
-  pub stands : StandsAt query held closed (front ++ group)
+  pub holds : HoldsFront query held closed (front ++ group)
 
 -- the records so far are lawful
-stands_lawful : {query : AxfrQuery} {held front : List Record} {closed : Bool} → StandsAt query held closed front
+holds_lawful : {query : AxfrQuery} {held front : List Record} {closed : Bool} → HoldsFront query held closed front
     → IsOpen query front ⊎ IsClosed query front
-stands_lawful (begun still) = inl still
-stands_lawful {held = held} (ended last all closes) = inr (record { front = held; last = last; splits = refl; transferred = all; closes = closes })
+holds_lawful (begun still) = inl still
+holds_lawful {held = held} (ended last all closes) = inr (record { front = held; last = last; splits = refl; transferred = all; closes = closes })
 
 -- before the first record
 pub taken_none : (query : AxfrQuery) (front : List Record) (first : Bool) (message : List ℕ) (start : ℕ) (parser : Parser)
     → HasAnswerHeader query message → AsksAgain query first message start → octets_of parser ≡ message → place_of parser ≡ start
     → IsOpen query front → HasTaken query front first message 0 parser front false
 taken_none query front first message start parser header asked octets place still =
-    let P : List Record → Type 0 = λ all. StandsAt query front false all in
+    let P : List Record → Type 0 = λ all. HoldsFront query front false all in
     let Q : List Record → Type 0 = λ all. IsOpen query all ⊎ IsClosed query all in
     let R : ℕ → Type 0 = λ here. SpellsRecords message start [] here in
     record {
@@ -49,7 +49,7 @@ taken_none query front first message start parser header asked octets place stil
         spelled = subst R (sym place) none;
         lawful = subst Q (sym (append-nil front)) (inl still);
       };
-      stands = subst P (sym (append-nil front)) (begun still);
+      holds = subst P (sym (append-nil front)) (begun still);
     }
 
 -- one more record is spelled
@@ -62,15 +62,15 @@ spells_more r (one behind first rest) has = one behind first (spells_more r rest
 pub taken_more : (query : AxfrQuery) (front : List Record) (first : Bool) (message : List ℕ) (count : ℕ) (parser next : Parser)
     (held more : List Record) (closed ends : Bool) → HasTaken query front first message count parser held closed
     → octets_of next ≡ octets_of parser
-    → ((xs : List Record) → StandsAt query held closed xs → TakesRecord query (octets_of parser) (place_of parser) (place_of next) more ends xs)
+    → ((xs : List Record) → HoldsFront query held closed xs → TakesRecord query (octets_of parser) (place_of parser) (place_of next) more ends xs)
     → HasTaken query front first message (count + 1) next more ends
 taken_more query front first message count parser next held more closed ends taken same takes =
-    let one = takes (front ++ taken.group) taken.stands in
+    let one = takes (front ++ taken.group) taken.holds in
     let P : List ℕ → Type 0 = λ octets. ReadsRecord octets (place_of parser) one.r (place_of next) in
-    let Q : List Record → Type 0 = λ all. StandsAt query more ends all in
+    let Q : List Record → Type 0 = λ all. HoldsFront query more ends all in
     let R : List Record → Type 0 = λ all. IsOpen query all ⊎ IsClosed query all in
     let joined : (front ++ taken.group) ++ one.r ∷ [] ≡ front ++ (taken.group ++ one.r ∷ []) = append_assoc front taken.group (one.r ∷ []) in
-    let stands = subst Q joined one.stands in
+    let holds = subst Q joined one.holds in
     record {
       group = push taken.group one.r;
       octets = same ∙ taken.octets;
@@ -80,9 +80,9 @@ taken_more query front first message count parser next held more closed ends tak
         start = taken.rules.start;
         asked = taken.rules.asked;
         spelled = spells_more one.r taken.rules.spelled (subst P taken.octets one.has);
-        lawful = stands_lawful stands;
+        lawful = holds_lawful holds;
       };
-      stands = stands;
+      holds = holds;
     }
 
 -- a fault of a record is one of its message
@@ -134,12 +134,12 @@ fault_on Fault Other receive_error.OutOfMemory on fault = tt
 pub taken_fault : (query : AxfrQuery) (front : List Record) (first : Bool) (message : List ℕ) (count : ℕ) (parser : Parser)
     (held : List Record) (closed : Bool) (error : ReceiveError) → HasTaken query front first message count parser held closed
     → count < answer_count message
-    → IsFaultOr (λ e. (xs : List Record) → StandsAt query held closed xs → IsRecordFault query xs (octets_of parser) (place_of parser) e) error
+    → IsFaultOr (λ e. (xs : List Record) → HoldsFront query held closed xs → IsRecordFault query xs (octets_of parser) (place_of parser) e) error
     → IsFaultOr (IsMessageFault query front first message) error
 taken_fault query front first message count parser held closed error taken few fault =
-    let Fault : ReceiveError → Type 0 = λ e. (xs : List Record) → StandsAt query held closed xs → IsRecordFault query xs (octets_of parser) (place_of parser) e in
+    let Fault : ReceiveError → Type 0 = λ e. (xs : List Record) → HoldsFront query held closed xs → IsRecordFault query xs (octets_of parser) (place_of parser) e in
     let here : (e : ReceiveError) → Fault e → IsMessageFault query front first message e = λ e why.
     let P : List ℕ → Type 0 = λ octets. IsRecordFault query (front ++ taken.group) octets (place_of parser) e in
     record_fault query front first message taken.group (place_of parser) e taken.rules (omega (arith, few, taken.counted))
-    (subst P taken.octets (why (front ++ taken.group) taken.stands)) in
+    (subst P taken.octets (why (front ++ taken.group) taken.holds)) in
     fault_on Fault (IsMessageFault query front first message) error here fault

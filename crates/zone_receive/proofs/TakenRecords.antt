@@ -8,8 +8,8 @@ use Rattle.zone_core.specs.Query.{AxfrQuery}
 use Rattle.dns_message.specs.Record.{ReadsRecord}
 use Rattle.zone_core.specs.Transfer.{IsTransferred, ClosesTransfer}
 use Rattle.zone_receive.specs.Receiving.{IsOpen}
-use Rattle.zone_receive.specs.Intake.{IsFaultOr, StandsAt, TakesRecord}
-use Rattle.zone_receive.specs.Intake.StandsAt.{begun, ended}
+use Rattle.zone_receive.specs.Intake.{HoldsFront, IsFaultOr, TakesRecord}
+use Rattle.zone_receive.specs.Intake.HoldsFront.{begun, ended}
 use Rattle.zone_receive.specs.declared.error.ReceiveError.{ReceiveError}
 use Rattle.zone_receive.specs.declared.error.ReceiveError.TheVariants as receive_error
 
@@ -35,15 +35,15 @@ fault_or Fault receive_error.Unfinished is = is
 fault_or Fault receive_error.OutOfMemory is = tt
 
 -- how many records there are, with the last SOA
-pub stands_counted : {query : AxfrQuery} {held front : List Record} {closed : Bool} (last : ℕ) → StandsAt query held closed front
+pub holds_counted : {query : AxfrQuery} {held front : List Record} {closed : Bool} (last : ℕ) → HoldsFront query held closed front
     → last ≡ bool_byte closed → length front ≡ length held + last
-stands_counted {held = held} last (begun still) is = omega (arith, is)
-stands_counted {held = held} last (ended soa all closes) is = omega (arith, is, length-append held (soa ∷ []))
+holds_counted {held = held} last (begun still) is = omega (arith, is)
+holds_counted {held = held} last (ended soa all closes) is = omega (arith, is, length-append held (soa ∷ []))
 
 -- no record follows the last SOA
-stands_same : {query : AxfrQuery} {held front : List Record} {closed : Bool} → StandsAt query held closed front → closed ≡ false → front ≡ held
-stands_same (begun is) not_closed = refl
-stands_same (ended last is closes) not_closed = absurd cc
+holds_same : {query : AxfrQuery} {held front : List Record} {closed : Bool} → HoldsFront query held closed front → closed ≡ false → front ≡ held
+holds_same (begun is) not_closed = refl
+holds_same (ended last is closes) not_closed = absurd cc
 
 -- the last record is removed again
 pub taken_off : {records new : List Record} (held : List Record) (r : Record) → records ≡ push held r
@@ -53,17 +53,17 @@ taken_off held r splits is = is ∙ ap (λ (l : List Record). take (length l - 1
 -- the last SOA
 pub takes_last : {query : AxfrQuery} {message : List ℕ} {place next : ℕ} {held new front : List Record} {closed : Bool} (r : Record)
     → ReadsRecord message place r next → closed ≡ false → new ≡ held → IsTransferred query held × ClosesTransfer held r
-    → StandsAt query held closed front → TakesRecord query message place next new true front
-takes_last {query} {held = held} {new} {front} r has not_closed same closes stands =
-    let P : List Record → Type 0 = λ front. StandsAt query new true (push front r) in
-    let Q : List Record → Type 0 = λ new. StandsAt query new true (push held r) in
-    record { r = r; has = has; stands = subst P (sym (stands_same stands not_closed)) (subst Q (sym same) (ended r closes.0 closes.1)) }
+    → HoldsFront query held closed front → TakesRecord query message place next new true front
+takes_last {query} {held = held} {new} {front} r has not_closed same closes holds =
+    let P : List Record → Type 0 = λ front. HoldsFront query new true (push front r) in
+    let Q : List Record → Type 0 = λ new. HoldsFront query new true (push held r) in
+    record { r = r; has = has; holds = subst P (sym (holds_same holds not_closed)) (subst Q (sym same) (ended r closes.0 closes.1)) }
 
 -- a record of the zone
 pub takes_inner : {query : AxfrQuery} {message : List ℕ} {place next : ℕ} {held new front : List Record} {closed : Bool} (r : Record)
     → ReadsRecord message place r next → closed ≡ false → new ≡ push held r → IsOpen query (push held r)
-    → StandsAt query held closed front → TakesRecord query message place next new false front
-takes_inner {query} {held = held} {new} {front} r has not_closed is still stands =
-    let P : List Record → Type 0 = λ new. StandsAt query new false (push held r) in
-    let Q : List Record → Type 0 = λ front. StandsAt query new false (push front r) in
-    record { r = r; has = has; stands = subst Q (sym (stands_same stands not_closed)) (subst P (sym is) (begun still)) }
+    → HoldsFront query held closed front → TakesRecord query message place next new false front
+takes_inner {query} {held = held} {new} {front} r has not_closed is still holds =
+    let P : List Record → Type 0 = λ new. HoldsFront query new false (push held r) in
+    let Q : List Record → Type 0 = λ front. HoldsFront query new false (push front r) in
+    record { r = r; has = has; holds = subst Q (sym (holds_same holds not_closed)) (subst P (sym is) (begun still)) }

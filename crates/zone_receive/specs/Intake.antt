@@ -21,10 +21,10 @@ abbrev pub IsFaultOr : (ReceiveError → Type 0) → ReceiveError → Type 0
 IsFaultOr Fault receive_error.OutOfMemory = ⊤
 IsFaultOr Fault error = Fault error
 
--- The records that are held, and the last SOA if it has come, are those of the transfer so far.
-pub data StandsAt (query : AxfrQuery) (held : List spec.Record) : Bool → List spec.Record → Type 0 where
-  begun : IsOpen query held → StandsAt query held false held
-  ended : (last : spec.Record) → IsTransferred query held → ClosesTransfer held last → StandsAt query held true (push held last)
+-- These are the first records of a transfer: those that are held, and then the last SOA if it has come.
+pub data HoldsFront (query : AxfrQuery) (held : List spec.Record) : Bool → List spec.Record → Type 0 where
+  begun : IsOpen query held → HoldsFront query held false held
+  ended : (last : spec.Record) → IsTransferred query held → ClosesTransfer held last → HoldsFront query held true (push held last)
 
 -- The last of the records is the next one of the transfer, with this number, and those before it are held.
 pub record IsNext (query : AxfrQuery) (records : List spec.Record) (closed : Bool) (number : ℕ) : Type 0 where
@@ -32,7 +32,7 @@ pub record IsNext (query : AxfrQuery) (records : List spec.Record) (closed : Boo
   pub r : spec.Record
   pub splits : records ≡ push held r
   pub front : List spec.Record
-  pub stands : StandsAt query held closed front
+  pub holds : HoldsFront query held closed front
   pub numbered : number ≡ length front + 1
   pub known : AllByRecursion (IsRecordOf query.class) held
   pub data_is : IsData r.rtype r.rdata
@@ -47,14 +47,14 @@ pub record TakesRecord (query : AxfrQuery) (message : List ℕ) (place next : �
     (front : List spec.Record) : Type 0 where
   pub r : spec.Record
   pub has : ReadsRecord message place r next
-  pub stands : StandsAt query held closed (push front r)
+  pub holds : HoldsFront query held closed (push front r)
 
 -- The message is an answer, and its records are held after those before it.
 pub record TakesMessage (query : AxfrQuery) (front : List spec.Record) (first : Bool) (message : List ℕ) (held : List spec.Record)
     (closed : Bool) : Type 0 where
   pub group : List spec.Record
   pub answer : IsAnswer query first message group
-  pub stands : StandsAt query held closed (front ++ group)
+  pub holds : HoldsFront query held closed (front ++ group)
 
 abbrev pub stage_where : Bool → Stage
 stage_where true = Fresh

@@ -186,16 +186,16 @@ pub record IsHeard (heard : Heard) (stream : List ℕ) : Type 0 where
   pub still_open : IsOpen heard.query heard.records
   pub stage : heard.stage ≡ stage_of messages
 
--- The receiver is at this place of the stream: it holds what these octets make of it. (A stream that failed includes
+-- The receiver is as it is after this stream: it holds what these octets make of it. (A stream that failed includes
 -- the piece that failed.)
-abbrev pub StandsIn : Stage → Heard → List ℕ → Type 0
-StandsIn Fresh heard stream = IsHeard heard stream
-StandsIn Begun heard stream = IsHeard heard stream
-StandsIn Ended heard stream = (heard.open_frame ≡ []) × IsTransfer heard.query stream heard.records
-StandsIn (Refused error) heard stream = IsStreamFault heard.query stream error
+abbrev pub IsAfterAt : Stage → Heard → List ℕ → Type 0
+IsAfterAt Fresh heard stream = IsHeard heard stream
+IsAfterAt Begun heard stream = IsHeard heard stream
+IsAfterAt Ended heard stream = (heard.open_frame ≡ []) × IsTransfer heard.query stream heard.records
+IsAfterAt (Refused error) heard stream = IsStreamFault heard.query stream error
 
-abbrev pub StandsAt : Heard → List ℕ → Type 0
-StandsAt heard stream = StandsIn heard.stage heard stream
+abbrev pub IsAfter : Heard → List ℕ → Type 0
+IsAfter heard stream = IsAfterAt heard.stage heard stream
 
 -- A piece after the stream is taken up to the n-th octet: up to the end of the transfer, otherwise all of it.
 pub record Takes (old : Heard) (stream piece : List ℕ) (new : Heard) (n : ℕ) : Type 0 where
@@ -203,7 +203,7 @@ pub record Takes (old : Heard) (stream piece : List ℕ) (new : Heard) (n : ℕ)
   pub query : new.query ≡ old.query
   pub kept : refusal_in new.stage ≡ None
   pub within : n ≤ length piece
-  pub stands : StandsAt new (stream ++ take n piece)
+  pub after : IsAfter new (stream ++ take n piece)
   pub ends : (new.stage ≡ Ended) ⊎ ((new.stage ≢ Ended) × (n ≡ length piece))
 
 -- A piece after the stream fails: with the error that is kept, or else by the rule that the stream breaks with the

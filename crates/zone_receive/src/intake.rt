@@ -3,9 +3,10 @@ ghost use Rattle.std.specs.Prelude.{◌≤◌, length};
 
 use crate::error::ReceiveError;
 use crate::message::judge_message;
-use crate::open_frame::{LENGTH_OCTETS, missing};
+use crate::open_frame::missing;
+use crate::owned_query::OwnedQuery;
 use std::alloc::Global;
-use zone_core::owned_query::OwnedQuery;
+use zone_core::frames::LENGTH_OCTETS;
 use zone_octets::record_list::RecordList;
 
 /// What is kept of a stream after its whole messages are judged.
@@ -24,7 +25,7 @@ pub(crate) struct Intake {
 impl Intake {
     ghost use Rattle.std.specs.Prelude.{◌≡◌, ◌++◌, [], ℕ, List, take, true, IfOk, IfErr, IfSome, IfNone};
     ghost use Rattle.std.specs.Bool.{OnTrue, OnFalse};
-    ghost use Rattle.zone_core.specs.Asked.{asked_of};
+    ghost use Rattle.zone_receive.specs.Asked.{asked_of};
     ghost use Rattle.zone_core.specs.Query.{AxfrQuery};
     ghost use Rattle.zone_receive.specs.Receiving.{IsHeard, IsStreamFault};
     ghost use Rattle.zone_receive.specs.Intake.{BreaksRule, EndsTransfer, GoesOn, IsFrame, IsWaiting, heard_by};

@@ -9,6 +9,7 @@ mod intake;
 pub mod laws;
 mod message;
 mod open_frame;
+mod owned_query;
 mod question;
 mod receiver;
 mod record;

@@ -4,19 +4,19 @@ ghost use Rattle.std.specs.List.{AllByRecursion};
 ghost use Rattle.dns_octets.specs.Parser.{octets_of, place_of};
 ghost use Rattle.dns_header.specs.Header.{answer_count, question_count};
 ghost use Rattle.zone_octets.specs.Record as spec;
-ghost use Rattle.zone_core.specs.Asked.{asked_of};
+ghost use Rattle.zone_receive.specs.Asked.{asked_of};
 ghost use Rattle.zone_octets.specs.Records.{AreOctets, IsRecordOf};
 ghost use Rattle.zone_core.specs.Transfer.{AsksAgain, CountsAnswers, HasAnswerHeader};
 ghost use Rattle.zone_receive.specs.Receiving.{IsOpen, IsMessageFault, IsRecordFault};
-ghost use Rattle.zone_receive.specs.Intake.{IsFaultOr, StandsAt, TakesMessage, TakesRecord};
+ghost use Rattle.zone_receive.specs.Intake.{HoldsFront, IsFaultOr, TakesMessage, TakesRecord};
 
 use crate::error::ReceiveError;
+use crate::owned_query::OwnedQuery;
 use crate::question::is_question_of;
 use crate::record::parse_record;
 use crate::rules::{Placing, place_record};
 use dns_message::{Header, HeaderCounts};
 use dns_name::{Opcode, Parser, Rcode};
-use zone_core::owned_query::OwnedQuery;
 use zone_core::question::{HEADER_OCTETS, parse_question};
 use zone_octets::record_list::RecordList;
 
@@ -136,14 +136,14 @@ fn take_record(
     closed: bool,
 ) -> Result<bool, ReceiveError>
     requires octets { AreOctets (octets_of parser.old) }
-    requires stands { (front : List spec.Record) × StandsAt (asked_of query.now) records.old closed front }
+    requires holds { (front : List spec.Record) × HoldsFront (asked_of query.now) records.old closed front }
     requires known { AllByRecursion (IsRecordOf query.now.class) records.old }
-    ensures ok { IfOk result (λ ends. (front : List spec.Record) → StandsAt (asked_of query.now) records.old closed front
+    ensures ok { IfOk result (λ ends. (front : List spec.Record) → HoldsFront (asked_of query.now) records.old closed front
         → TakesRecord (asked_of query.now) (octets_of parser.old) (place_of parser.old) (place_of parser.new) records.new ends front) }
     ensures same { OnOk result (octets_of parser.new ≡ octets_of parser.old) }
     ensures known { OnOk result (AllByRecursion (IsRecordOf query.now.class) records.new) }
     ensures err { IfErr result (IsFaultOr (λ error. (front : List spec.Record)
-        → StandsAt (asked_of query.now) records.old closed front
+        → HoldsFront (asked_of query.now) records.old closed front
         → IsRecordFault (asked_of query.now) front (octets_of parser.old) (place_of parser.old) error)) }
 {
     let number = records.len() + usize::from(closed) + 1;

@@ -3,8 +3,7 @@ ghost use Rattle.std.specs.Prelude.{◌≡◌, ◌+◌, ◌++◌, ◌≤◌, len
 ghost use Rattle.zone_core.specs.Frames.{IsPartial};
 ghost use Rattle.zone_receive.specs.Intake.{Completes};
 
-/// The number of octets of a message's length on a stream (RFC 1035 4.2.2).
-pub(crate) const LENGTH_OCTETS: usize = 2;
+use zone_core::frames::LENGTH_OCTETS;
 
 /// Returns the number of these octets that completes the open frame, or None if they do not complete it (RFC 1035
 /// 4.2.2).

@@ -1,18 +1,18 @@
 //! Receiving a zone as the stream of its transfer.
 ghost use Rattle.std.specs.Prelude.{◌≡◌, ◌≤◌, ◌↔◌, ℕ, List, [], None, Ok, Err, length, IsTrue, IfOk, IfErr, MatchResult};
-ghost use Rattle.zone_core.specs.Asked.{asked_of};
+ghost use Rattle.zone_receive.specs.Asked.{asked_of};
 ghost use Rattle.zone_core.specs.Query.{IsQuery};
-ghost use Rattle.zone_receive.specs.Receiving.{IsAskFault, IsNoZone, IsWholeTransfer, Refuses, StandsAt, Takes, refusal_in};
+ghost use Rattle.zone_receive.specs.Receiving.{IsAfter, IsAskFault, IsNoZone, IsWholeTransfer, Refuses, Takes, refusal_in};
 ghost use Rattle.zone_receive.specs.Receiving.Stage.{Ended, Fresh, Refused};
 ghost use Rattle.zone_receive.specs.declared.error.ReceiveError.{ReceiveError};
 ghost use Rattle.zone_core.specs.Transfer.{IsTransfer};
 
 use crate::error::ReceiveError;
 use crate::intake::Intake;
+use crate::owned_query::OwnedQuery;
 use std::alloc::Global;
 use std::marker::Model;
 use zone_core::check_query;
-use zone_core::owned_query::OwnedQuery;
 use zone_text::Zone;
 use zone_text::zone::zone_of;
 
@@ -41,7 +41,7 @@ pub struct Receiver {
 impl Model for Receiver {
     ghost use Rattle.zone_receive.specs.Receiving.{Heard};
     ghost use Rattle.zone_receive.specs.Received.{IsReceiver, heard_in};
-    ghost use Rattle.zone_core.specs.Asked.{asked_of};
+    ghost use Rattle.zone_receive.specs.Asked.{asked_of};
 
     ghost Value = { Heard };
 
@@ -56,7 +56,7 @@ impl Receiver {
     /// Fails with the first rule that the query breaks. Fails with `OutOfMemory` only if it breaks none.
     pub fn new(alloc: Global, query: &[u8]) -> Result<Receiver, ReceiveError>
         ensures ok { IfOk result (λ receiver. IsQuery query.now receiver.query) }
-        ensures stands { IfOk result (λ receiver. (receiver.stage ≡ Fresh) × StandsAt receiver []) }
+        ensures fresh { IfOk result (λ receiver. (receiver.stage ≡ Fresh) × IsAfter receiver []) }
         ensures err { IfErr result (IsAskFault query.now) }
     {
         let query = match check_query(query) {
@@ -76,7 +76,7 @@ impl Receiver {
     /// Fails with the first rule that the first bad message breaks, or with `OutOfMemory`. Every later call then fails
     /// with the same error. An empty piece changes nothing, and fails only with an error that came before.
     pub fn feed(&mut self, piece: &[u8]) -> Result<usize, ReceiveError>
-        ensures takes { (stream : List ℕ) → StandsAt self.old stream →
+        ensures takes { (stream : List ℕ) → IsAfter self.old stream →
             MatchResult result (Takes self.old stream piece.now self.new) (Refuses self.old stream piece.now self.new) }
 
         // For any stream, an error is kept, and so is a complete transfer.
@@ -110,7 +110,7 @@ impl Receiver {
     /// Returns whether the transfer is complete.
     pub fn is_done(&self) -> bool
         ensures stage { IsTrue result ↔ (self.now.stage ≡ Ended) }
-        ensures whole { (stream : List ℕ) → StandsAt self.now stream →
+        ensures whole { (stream : List ℕ) → IsAfter self.now stream →
             (IsTrue result ↔ ((refusal_in self.now.stage ≡ None) × IsWholeTransfer self.now.query stream)) }
     {
         matches!(self.progress, Progress::Done)
@@ -119,10 +119,10 @@ impl Receiver {
     /// Returns the zone that was received. Fails with the error that is kept, otherwise with `Unfinished` if the
     /// transfer is not complete.
     pub fn into_zone(self) -> Result<Zone, ReceiveError>
-        ensures ok { IfOk result (λ zone. (stream : List ℕ) → StandsAt self stream →
+        ensures ok { IfOk result (λ zone. (stream : List ℕ) → IsAfter self stream →
             (refusal_in self.stage ≡ None) × IsTransfer self.query stream zone.records) }
         ensures class_is { IfOk result (λ zone. zone.class ≡ self.query.class) }
-        ensures err { IfErr result (λ error. (stream : List ℕ) → StandsAt self stream → IsNoZone self stream error) }
+        ensures err { IfErr result (λ error. (stream : List ℕ) → IsAfter self stream → IsNoZone self stream error) }
 
         // For any stream, an error is kept.
         ensures kept { (error : ReceiveError) → self.stage ≡ Refused error → result ≡ Err error }

@@ -2,15 +2,16 @@
 ghost use Rattle.std.specs.Prelude.{◌≡◌, ◌+◌, ◌↔◌, [], ℕ, List, false, length, IsTrue, IfOk, IfErr, OnOk};
 ghost use Rattle.std.specs.List.{AllByRecursion, push};
 ghost use Rattle.zone_octets.specs.Record as spec;
-ghost use Rattle.zone_core.specs.Asked.{asked_of};
-ghost use Rattle.zone_octets.specs.Records.{AreOctets, IsRecordOf};
+ghost use Rattle.zone_receive.specs.Asked.{asked_of};
+ghost use Rattle.zone_octets.specs.Records.{IsRecordOf};
 ghost use Rattle.dns_message.specs.Record.{ReadsRecord};
 ghost use Rattle.zone_receive.specs.Receiving.{IsRecordFault, KeepsFirstRule};
-ghost use Rattle.zone_receive.specs.Intake.{IsNext, IsPlacing, StandsAt};
+ghost use Rattle.zone_receive.specs.Intake.{HoldsFront, IsNext, IsPlacing};
 
 use crate::error::ReceiveError;
-use zone_core::owned_query::OwnedQuery;
+use crate::owned_query::OwnedQuery;
 use zone_octets::checks::is_spellable;
+use zone_octets::octets::are_octets;
 use zone_octets::record::Record;
 use zone_octets::record_data::is_same_soa;
 use zone_octets::record_list::RecordList;
@@ -38,7 +39,7 @@ pub(crate) fn place_record(
     ensures known { OnOk result (AllByRecursion (IsRecordOf query.now.class) records.now) }
     ensures open { OnOk result (closed ≡ false) }
     ensures err { IfErr result (λ error. (held front : List spec.Record) (r : spec.Record) (message : List ℕ) (place end : ℕ)
-        → records.now ≡ push held r → StandsAt (asked_of query.now) held closed front → number ≡ length front + 1
+        → records.now ≡ push held r → HoldsFront (asked_of query.now) held closed front → number ≡ length front + 1
         → ReadsRecord message place r end → IsRecordFault (asked_of query.now) front message place error) }
 {
     let last = records.len() - 1;
@@ -77,8 +78,3 @@ fn is_first_soa(query: &OwnedQuery, next: &Record<'_>) -> bool
 {
     next.is_soa() && next.is_at(&query.name)
 }
-
-/// Does nothing. It tells the proof what the type says: that each of these is an octet.
-fn are_octets(_octets: &[u8])
-    ensures { AreOctets _octets.now }
-{}

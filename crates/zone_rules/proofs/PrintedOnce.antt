@@ -49,7 +49,7 @@ data_document rtype data' (opaque none short) = (document_of (untyped (record { 
 
 document_made : (class : ℕ) (r : Record) → IsRecordOf class r → (document : List Piece) × IsDocument r document
 document_made class r is =
-    let made = data_document r.rtype r.rdata is.data_is in
+    let made = data_document r.rtype r.rdata is.sendable.data_is in
     (record_document r.owner r.ttl r.class r.rtype made.0, record { data_document = made.0; data_is = made.1; is = refl })
 
 pub some_printed : (layout : Layout) (class : ℕ) (records : List Record) → AllByRecursion (IsRecordOf class) records

@@ -57,14 +57,14 @@ data_shown : (class : ℕ) (r : Record) (document : List Piece) → IsRecordOf c
 data_shown class r document is (fields shown) = record {
   rdata = typed r.rtype shown.row;
   is_any = (shown.is_row, subst AreOctets shown.octets_are is.data_octets);
-  tags = is.spellable shown.row shown.is_row shown.octets_are;
+  tags = is.sendable.spellable shown.row shown.is_row shown.octets_are;
   number = refl;
   octets_are = sym shown.octets_are;
   is = shown.is;
 }
 data_shown class r document is (untold none shown) = record {
   rdata = untyped (record { number = r.rtype; octets = r.rdata });
-  is_any = (is.lawful.rdata, is.data_octets);
+  is_any = (is.sendable.lawful.rdata, is.data_octets);
   tags = tt;
   number = refl;
   octets_are = refl;
@@ -142,7 +142,7 @@ module _ (in_quotes : (text : List ℕ) → AreOctets text → SpellsOnly (betwe
 
   pub record_stated : (class : ℕ) (r : Record) (document : List Piece) → IsRecordOf class r → IsDocument r document → IsStated r document
   record_stated class r document is printed =
-      let lawful = is.lawful in
+      let lawful = is.sendable.lawful in
       let shown = data_shown class r printed.data_document is printed.data_is in
       let ttl = number_written r.ttl (omega (arith, lawful.ttl)) in
       let class' = head_written (class_written r.class) (class_word r.class lawful.class) in

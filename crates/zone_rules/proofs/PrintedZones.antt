@@ -38,7 +38,7 @@ record AreStated (layout : Layout) (context : Context) (records : List Record) (
 each_well_typed : (class : ℕ) (records : List Record) → AllByRecursion (IsRecordOf class) records → AllByRecursion IsWellTyped records
 each_well_typed class [] each = tt
 each_well_typed class (r ∷ records) each =
-    (record { data_is = each.0.data_is; spellable = each.0.spellable }, each_well_typed class records each.1)
+    (record { data_is = each.0.sendable.data_is; spellable = each.0.sendable.spellable }, each_well_typed class records each.1)
 
 zone_front : (records : List Record) → IsZone records → IsZoneFront records
 zone_front [] is = absurd is
@@ -62,7 +62,7 @@ module _ (in_quotes : (text : List ℕ) → AreOctets text → SpellsOnly (betwe
     one_file = tt;
   }
   records_stated layout class context each (more_records {r = r} {rest = rest} document shown printed whole) at =
-      let class_is : r.class ≡ class = each.0.class_is in
+      let class_is : r.class ≡ class = each.0.sendable.class_is in
       let first = record_stated in_quotes in_words class r document each.0 shown in
       let others = records_stated layout class (behind context r) each.1 printed (ap Some class_is) in
       record {

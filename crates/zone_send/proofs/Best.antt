@@ -96,7 +96,7 @@ spelled_fewest s query records max stream fits sent fewest = record {
 named_each : (class : ℕ) (item : Record → Parts) (records : List Record) → AllByRecursion (IsRecordOf class) records
     → AllByRecursion (λ r. IsWritten r (item r)) records → AllByRecursion (λ r. HaveNames (item r)) records
 named_each class item [] each given = tt
-named_each class item (r ∷ records) each given = (written_names r (item r) each.0.lawful given.0, named_each class item records each.1 given.1)
+named_each class item (r ∷ records) each given = (written_names r (item r) each.0.sendable.lawful given.0, named_each class item records each.1 given.1)
 
 named_again : (class : ℕ) (item : Record → Parts) (records : List Record) → AllByRecursion (IsRecordOf class) records
     → AllByRecursion (λ r. IsWritten r (item r)) records → AllByRecursion (λ r. HaveNames (item r)) (with_soa_again records)

@@ -12,7 +12,7 @@ use Rattle.dns_size.specs.Joined.{join_parts}
 use Rattle.dns_size.specs.Groups.{items, group_size}
 
 -- parts that are joined are written one after another
-write-join : (s : Spelling) (page : Page) (parts more : Parts) → write s page (join_parts parts more) ≡ write s (write s page parts) more
+pub write-join : (s : Spelling) (page : Page) (parts more : Parts) → write s page (join_parts parts more) ≡ write s (write s page parts) more
 unfolding write
 write-join s page End more = refl
 write-join s page (Octets text parts) more = write-join s (with_octets page text) parts more

@@ -5,9 +5,7 @@ use Rattle.zone_octets.specs.Record.{Record}
 use Rattle.zone_send.specs.declared.sending.error.SendError.{SendError}
 use Rattle.zone_send.specs.declared.sending.error.SendError.TheVariants as send_error
 use Rattle.zone_core.specs.Query.{AxfrQuery, IsQuery}
-use Rattle.std.specs.List.{AllByRecursion}
-use Rattle.zone_octets.specs.Records.{AreRecordsOf, IsRecordOf}
-use Rattle.zone_octets.specs.Typed.{HasLawfulData}
+use Rattle.zone_octets.specs.Records.{AreRecordsOf}
 use Rattle.zone_send.specs.Sent.{IsQueryFor, AsksFor}
 use Rattle.zone_send.specs.SentBy.{IsSendFault, IsRefusedFor}
 use Rattle.zone_send.specs.declared.sending.Spelling.{Spelling}
@@ -28,16 +26,11 @@ fault_for spelling query class held records octets max error is asks are refused
     let P : List Record → Type 0 = λ rs. IsRefusedFor spelling rs query max error in
     fault_of spelling query class records octets max error is asks (subst P are refused)
 
--- the data of a zone's records is lawful for their types
-pub all_lawful : (class : ℕ) (records : List Record) → AllByRecursion (IsRecordOf class) records → AllByRecursion HasLawfulData records
-all_lawful class [] each = tt
-all_lawful class (r ∷ records) each = (each.0.data_is, all_lawful class records each.1)
-
 -- the class of a zone fits in two octets
 class_small : (class : ℕ) (records : List Record) → AreRecordsOf class records → class < 2 ^ 16
 class_small class [] are = absurd are.zone
 class_small class (soa ∷ others) are =
-    let first = are.each.0 in
+    let first = are.each.0.sendable in
     omega (arith, first.lawful.class, first.class_is)
 
 pub query_for : (query : AxfrQuery) (class : ℕ) (records : List Record) (octets : List ℕ) → IsQuery octets query → query.id < 2 ^ 16

@@ -93,10 +93,7 @@ sendable_is_transfer (soa ∷ others) class query max stream fits are asks sent 
 -- so it is for a parsed zone
 pub each_sendable : (class : ℕ) (records : List Record) → AllByRecursion (IsRecordOf class) records → AllByRecursion (IsSendable class) records
 each_sendable class [] each = tt
-each_sendable class (r ∷ records) each = (
-  record { lawful = each.0.lawful; data_is = each.0.data_is; class_is = each.0.class_is; spellable = each.0.spellable },
-  each_sendable class records each.1,
-)
+each_sendable class (r ∷ records) each = (each.0.sendable, each_sendable class records each.1)
 
 pub sendable_zone : (class : ℕ) (records : List Record) → AreRecordsOf class records → AreSendable class records
 sendable_zone class records are = record { each = each_sendable class records are.each; zone = are.zone }

@@ -4,14 +4,13 @@ use Rattle.std.specs.Int.{to_be_bytes, w16}
 use Rattle.std.specs.List.{push}
 use Rattle.std.proofs.lemmas.List.{map-append}
 use Rattle.dns_name.specs.Spelling.{Spelling}
-use Rattle.dns_name.specs.Page.{Page, Parts, with_octets, with_name, with_count, write}
-use Rattle.dns_name.specs.Page.Parts.{End, Octets, Named, Counted}
+use Rattle.dns_name.specs.Page.{Page, Parts, with_octets, with_name, write}
+use Rattle.dns_name.specs.Page.Parts.{End, Named, Counted}
 use Rattle.dns_name.specs.RecordData.{page_of}
 use Rattle.dns_header.specs.Head.{fixed_octets}
 use Rattle.dns_header.specs.Header.{answer_header}
 use Rattle.dns_header.specs.Question.{question_parts}
 use Rattle.dns_header.specs.Written.{Written, parts_of, data_length}
-use Rattle.dns_size.specs.Joined.{join_parts}
 use Rattle.dns_size.specs.Groups.{items}
 use Rattle.dns_builder.specs.Built.{header_octets, built_page, write_all}
 use Rattle.dns_builder.proofs.Cleared.{patched-long}
@@ -24,16 +23,9 @@ use Rattle.zone_send.specs.Spelled.{spelled_size}
 use Rattle.zone_send.specs.SpelledSent.{spelled_message}
 use Rattle.zone_send.specs.Sending.{header_front}
 use Rattle.zone_send.specs.SpelledSending.{answer_built}
+use Rattle.zone_send.proofs.GrownPages.{write-join}
 
--- parts are written one after another
-write-join : (s : Spelling) (page : Page) (a b : Parts) → write s page (join_parts a b) ≡ write s (write s page a) b
-unfolding write
-write-join s page End b = refl
-write-join s page (Octets more a) b = write-join s (with_octets page more) a b
-write-join s page (Named name a) b = write-join s (with_name s page name) a b
-write-join s page (Counted inner a) b =
-    write-join s (with_count (length page.octets) (write s (with_octets page (0 ∷ 0 ∷ [])) inner)) a b
-
+-- the items of a group are written one after another
 write-items : (s : Spelling) (item : Record → Parts) (page : Page) (group : List Record)
     → write s page (items item group) ≡ write_all s page (map item group)
 unfolding write

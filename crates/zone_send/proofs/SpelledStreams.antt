@@ -1,9 +1,8 @@
 -- A stream of spelled messages while it grows.
-use Rattle.std.proofs.Common.{◌≡◌, ℕ, ◌+◌, ◌<◌, ◌≤◌, zero, suc, true, false, Option, Some, None, List, [], ◌∷◌, ◌++◌, length, map, take, refl, sym, ap, ◌∙◌, subst, arith, append_assoc, append-nil, length-append}
+use Rattle.std.proofs.Common.{◌≡◌, ℕ, ◌+◌, ◌<◌, ◌≤◌, zero, suc, true, false, Option, Some, None, List, [], ◌∷◌, ◌++◌, length, map, take, refl, sym, ap, ◌∙◌, subst, arith, append_assoc, length-append}
 use Rattle.std.specs.Prelude.{slice_get, IfSome}
 use Rattle.std.specs.List.{push}
-use Rattle.std.proofs.lemmas.List.{map-append, take_all}
-use Rattle.std.proofs.lemmas.List.Concat.{flat_map-append}
+use Rattle.std.proofs.lemmas.List.{take_all}
 use Rattle.dns_name.specs.Spelling.{Spelling}
 use Rattle.dns_name.specs.Page.{Parts}
 use Rattle.dns_builder.specs.Built.{Draft}
@@ -18,6 +17,7 @@ use Rattle.zone_send.specs.SpelledSent.{spelled_message}
 use Rattle.zone_send.specs.SpelledSending.{HoldsGroup, IsPushed, HoldsUpTo, IsNextFrame, HasNoRoomAlone, SendsUpTo}
 use Rattle.zone_core.proofs.Greedy.{blocked_at, full_cut_closes, not_behind_last}
 use Rattle.zone_send.proofs.SpelledPages.{page_is, size_more}
+use Rattle.zone_send.proofs.Streams.{frames-push}
 
 -- the first record of a message
 pub held_first : {s : Spelling} {query : AxfrQuery} {item : Record → Parts} {max start : ℕ} {all : List Record} {r : Record} {draft : Draft}
@@ -107,13 +107,6 @@ last_frame {s} {query} {item} {max} {start} {at} {all} octets next held same lat
 }
 
 -- the same stream with one more frame
-frames-push : {X : Type 0} (message : X → List ℕ) (front : List X) (x : X)
-    → frames (map message front) ++ frame (message x) ≡ frames (map message (push front x))
-frames-push message front x =
-    ap (λ l. frames (map message front) ++ l) (sym (append-nil (frame (message x))))
-    ∙ sym (flat_map-append frame (map message front) (message x ∷ []))
-    ∙ ap frames (sym (map-append message front (x ∷ [])))
-
 behind_last : {X : Type 0} (size : List X → ℕ) (max : ℕ) (groups : List (List X)) (group all : List X) (next : ℕ)
     → IfSome (slice_get all next) (λ x. max < size (push group x)) → IfSome (slice_get all next) (FitsNotBehind size max (push groups group))
 behind_last size max groups group [] next full = tt

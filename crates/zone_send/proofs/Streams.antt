@@ -1,9 +1,8 @@
 -- The stream of all records of a zone.
-use Rattle.std.proofs.Common.{◌≡◌, ℕ, ◌+◌, ◌<◌, ◌≤◌, zero, suc, Bool, false, Option, Some, None, List, [], ◌∷◌, ◌++◌, length, map, take, sym, ap, ◌∙◌, subst, arith, append-nil}
+use Rattle.std.proofs.Common.{◌≡◌, ℕ, ◌+◌, ◌<◌, ◌≤◌, zero, suc, Bool, false, Option, Some, None, List, [], ◌∷◌, ◌++◌, length, map, take, sym, ap, ◌∙◌, subst, arith}
 use Rattle.std.specs.Prelude.{slice_get, ◌==◌}
 use Rattle.std.specs.List.{push}
 use Rattle.std.proofs.lemmas.List.{map-append, take_all, take-append-le}
-use Rattle.std.proofs.lemmas.List.Concat.{flat_map-append}
 use Rattle.std.proofs.lemmas.Option.{slice_get_within}
 use Rattle.zone_octets.specs.Record.{Record}
 use Rattle.zone_send.specs.declared.sending.plain.Sender.{Sender}
@@ -12,21 +11,21 @@ use Rattle.zone_core.specs.Frames.{frame, frames}
 use Rattle.zone_core.specs.Cutting.{IsFullCut, IsBlocked}
 use Rattle.zone_send.specs.Sent.{message, size, with_soa_again, IsSent}
 use Rattle.zone_send.specs.Sending.{LastIs, HoldsGroups, Holds, FitsNowhere}
+use Rattle.zone_core.proofs.Framing.{frames_push}
 use Rattle.zone_core.proofs.Greedy.{blocked_at, next_is_blocked}
 use Rattle.zone_octets.proofs.Indexed.{slice_get-front}
 
-frames-push : (query : AxfrQuery) (front : List (List Record)) (group : List Record)
-    → frames (map (message query) front) ++ frame (message query group) ≡ frames (map (message query) (push front group))
-frames-push query front group =
-    ap (λ l. frames (map (message query) front) ++ l) (sym (append-nil (frame (message query group))))
-    ∙ sym (flat_map-append frame (map (message query) front) (message query group ∷ []))
-    ∙ ap frames (sym (map-append (message query) front (group ∷ [])))
+-- the frames of the messages of some groups, and one more
+pub frames-push : {X : Type 0} (message : X → List ℕ) (front : List X) (x : X)
+    → frames (map message front) ++ frame (message x) ≡ frames (map message (push front x))
+frames-push message front x =
+    frames_push (map message front) (message x) ∙ ap frames (sym (map-append message front (x ∷ [])))
 
 whole_from : (sender : Sender) (query : AxfrQuery) (last : Option ℕ) (groups : List (List Record)) → LastIs sender query last groups
     → sender.stream.items ≡ frames (map (message query) groups)
 whole_from sender query None groups last = last.1 ∙ ap (λ gs. frames (map (message query) gs)) (sym last.0)
 whole_from sender query (Some start) groups last =
-    last.stands.octets ∙ frames-push query last.front last.group ∙ ap (λ gs. frames (map (message query) gs)) (sym last.are)
+    last.stands.octets ∙ frames-push (message query) last.front last.group ∙ ap (λ gs. frames (map (message query) gs)) (sym last.are)
 
 -- the stream is whole messages
 whole_stream : (sender : Sender) (query : AxfrQuery) (groups : List (List Record)) → HoldsGroups sender query groups

@@ -23,19 +23,23 @@ unfolding soa_row
 are_records = record {
   each = (
     record {
-      lawful = record { owner = one_label 97; rtype = omega arith; class = omega arith; ttl = omega arith; rdata = omega arith };
-      data_is = typed soa_row (record { kinds = refl; each = (one_label 98, (one_label 99, (omega arith, (omega arith, (omega arith, (omega arith, (omega arith, tt))))))); short = omega arith }) refl;
-      class_is = refl;
-      spellable = spellable_unless_caa 6 soa.rdata (λ caa. omega (arith, caa));
+      sendable = record {
+        lawful = record { owner = one_label 97; rtype = omega arith; class = omega arith; ttl = omega arith; rdata = omega arith };
+        data_is = typed soa_row (record { kinds = refl; each = (one_label 98, (one_label 99, (omega arith, (omega arith, (omega arith, (omega arith, (omega arith, tt))))))); short = omega arith }) refl;
+        class_is = refl;
+        spellable = spellable_unless_caa 6 soa.rdata (λ caa. omega (arith, caa));
+      };
       owner_octets = ((omega arith, tt), tt);
       data_octets = search rules;
     },
     (
       record {
-        lawful = record { owner = one_label 97; rtype = omega arith; class = omega arith; ttl = omega arith; rdata = omega arith };
-        data_is = typed (ipv4 (1 ∷ 2 ∷ 3 ∷ 4 ∷ []) ∷ []) (record { kinds = refl; each = (refl, tt); short = omega arith }) refl;
-        class_is = refl;
-        spellable = spellable_unless_caa 1 address.rdata (λ caa. omega (arith, caa));
+        sendable = record {
+          lawful = record { owner = one_label 97; rtype = omega arith; class = omega arith; ttl = omega arith; rdata = omega arith };
+          data_is = typed (ipv4 (1 ∷ 2 ∷ 3 ∷ 4 ∷ []) ∷ []) (record { kinds = refl; each = (refl, tt); short = omega arith }) refl;
+          class_is = refl;
+          spellable = spellable_unless_caa 1 address.rdata (λ caa. omega (arith, caa));
+        };
         owner_octets = ((omega arith, tt), tt);
         data_octets = (omega arith, (omega arith, (omega arith, (omega arith, tt))));
       },

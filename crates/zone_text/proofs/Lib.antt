@@ -1,5 +1,5 @@
 mod LastRecord
 mod ReadRecords
 mod CountRecords
-mod ZoneForms
+pub mod ZoneForms
 mod ReadZoneData

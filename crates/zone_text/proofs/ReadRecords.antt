@@ -216,10 +216,7 @@ each_known class (r ∷ records) lawful well classes octets_are =
     let behind = all_fronts P (fixed_octets r.rtype r.class r.ttl) (after_length r.rdata) owner.1 in
     let rdata = all_fronts P (to_be_bytes w16 (length r.rdata)) r.rdata behind.1 in (
       record {
-        lawful = lawful.0;
-        data_is = well.0.data_is;
-        class_is = classes.0;
-        spellable = well.0.spellable;
+        sendable = record { lawful = lawful.0; data_is = well.0.data_is; class_is = classes.0; spellable = well.0.spellable };
         owner_octets = wire_back r.owner owner.0;
         data_octets = rdata.1;
       },

@@ -1,7 +1,6 @@
 //! The records of a zone's text, parsed in place (RFC 1035 5).
 ghost use Rattle.std.specs.Prelude.{◌≡◌, ◌≢◌, ◌<◌, ◌++◌, [], ℕ, List, Option, Some, None, Ok, true, false, length, option_copied, IfOk, IfErr, IfSome, OnOk};
 ghost use Rattle.dns_label.specs.Name.{IsName};
-ghost use Rattle.dns_label.specs.Octets.{AreOctets};
 ghost use Rattle.dns_zonefile.specs.Reader.{left_of};
 ghost use Rattle.dns_zonefile.specs.ReaderSeen.{reader_of, refused_in};
 ghost use Rattle.dns_message.specs.Record.{IsRecord, record_octets};
@@ -17,6 +16,7 @@ use dns_zonefile::{ComposedEntry, Zonefile};
 use std::alloc::{AllocError, Global};
 use zone_octets::checks::{is_data_of_type, is_spellable};
 use zone_octets::front::first_name;
+use zone_octets::octets::are_octets;
 use zone_octets::record::Record;
 use zone_octets::record_list::RecordList;
 use zone_rules::ZoneError;
@@ -45,11 +45,6 @@ pub(crate) fn read_records(
     are_octets(&octets);
     Ok(RecordList::from_octets(octets, places))
 }
-
-/// Does nothing. It tells the proof what the type guarantees: that each of these is an octet.
-fn are_octets(_octets: &[u8])
-    ensures { AreOctets _octets.now }
-{}
 
 /// Returns a reader of the text of a zone of the class. Names are relative to the origin, if there is one. Fails if out
 /// of memory.

@@ -16,6 +16,7 @@ use dns_name::{Class, Name};
 use dns_text::DisplayKind;
 use std::alloc::{AllocError, Global};
 use std::marker::Model;
+use zone_octets::record::ANY;
 use zone_octets::record_list::RecordList;
 use zone_rules::ZoneError;
 
@@ -140,9 +141,6 @@ impl Zone {
         zone_print::print_records(alloc, &self.records, kind)
     }
 }
-
-/// The class ANY (RFC 1035 3.2.5), which no zone has.
-const ANY: u16 = 255;
 
 /// Returns the zone with these records. The caller guarantees that they are a zone of the class.
 pub fn zone_of(records: RecordList, class: Class) -> Zone

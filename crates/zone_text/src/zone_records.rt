@@ -3,10 +3,11 @@ ghost use Rattle.std.specs.Prelude.{◌<◌, length};
 ghost use Rattle.std.specs.List.{AllByRecursion};
 ghost use Rattle.zone_octets.specs.Typed.{HasLawfulData};
 
-use dns_name::{Class, Name, ParseAnyRecordData, ParsedName, Parser, Rtype, Ttl};
+use dns_name::{Class, Name, ParsedName, Rtype, Ttl};
 use dns_rdata::ZoneRecordData;
 use std::marker::Model;
 use zone_octets::record_list::RecordList;
+use zone_octets::typed::parse_data;
 
 /// An iterator over the records of a zone, in order.
 #[derive(Debug, Drop)]
@@ -120,10 +121,6 @@ impl<'a> ZoneRecord<'a> {
         ensures octets { data_octets (data_of result) ≡ (seen_record self.now).rdata }
         ensures fields { HasFieldsOfType (data_of result) }
     {
-        let mut parser = Parser::from_ref(self.data());
-        match ZoneRecordData::parse_any_rdata(self.rtype(), &mut parser) {
-            Ok(data) => data,
-            Err(_) => unreachable!(),
-        }
+        parse_data(self.rtype(), self.data())
     }
 }

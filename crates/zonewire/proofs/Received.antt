@@ -4,7 +4,7 @@ use Rattle.std.proofs.lemmas.List.{take_all}
 use Rattle.zone_octets.specs.Record.{Record}
 use Rattle.zone_core.specs.Query.{AxfrQuery, IsQuery}
 use Rattle.zone_core.specs.Transfer.{IsTransfer}
-use Rattle.zone_receive.specs.Receiving.{Heard, IsBegun, IsNoZone, IsStreamFault, Refuses, Stage, StandsIn, Takes, refusal_in}
+use Rattle.zone_receive.specs.Receiving.{Heard, IsAfterAt, IsBegun, IsNoZone, IsStreamFault, Refuses, Stage, Takes, refusal_in}
 use Rattle.zone_receive.specs.Receiving.Stage.{Ended, Fresh, Refused}
 use Rattle.zone_receive.specs.declared.error.ReceiveError.{ReceiveError}
 use Rattle.zone_receive.specs.declared.error.ReceiveError.TheVariants.{OutOfMemory, Query, Unfinished}
@@ -34,8 +34,8 @@ not_received asking input old new n error asked takes (inr (is, free, begun)) =
   where
     whole : (new.stage ≡ Ended) ⊎ ((new.stage ≢ Ended) × (n ≡ length input)) → IsBegun new.query input
     whole (inl ended) =
-        let stands : StandsIn Ended new (take n input) = subst (λ (at : Stage). StandsIn at new (take n input)) ended takes.stands in
-        absurd (transfer_not_begun new.query (take n input) (take n input) [] new.records (sym (append-nil (take n input))) stands.1 begun)
+        let after : IsAfterAt Ended new (take n input) = subst (λ (at : Stage). IsAfterAt at new (take n input)) ended takes.after in
+        absurd (transfer_not_begun new.query (take n input) (take n input) [] new.records (sym (append-nil (take n input))) after.1 begun)
     whole (inr (not_there, all)) = subst (IsBegun new.query) (take_all n input (omega (arith, all))) begun
 
 -- the input breaks a rule

@@ -12,11 +12,9 @@ use super::header::header_of;
 use dns_name::Name;
 use std::alloc::{AllocError, Global};
 use zone_core::Query;
+use zone_core::frames::LENGTH_OCTETS;
 use zone_core::question::compose_opening;
 use zone_octets::header::put_number;
-
-/// The number of octets of a message's length on a stream.
-const LENGTH_OCTETS: usize = 2;
 
 /// The place of the count of answers in a message, in octets (RFC 1035 4.1.1).
 const ANSWER_COUNT: usize = 6;

@@ -7,10 +7,10 @@ use Rattle.zone_octets.proofs.record_data.is_same_soa.Goals.{then-is_at, else-is
 use Rattle.zone_octets.proofs.record_data.is_same_soa.Goals as goal
 
 pub parse_data-data-requires : goal.parse_data-data-requires
-parse_data-data-requires c = data_as _ _ _ _ c.rtype.ensures c.data.ensures c.requires.first.1.data_is
+parse_data-data-requires c = data_as _ _ _ _ c.rtype.ensures c.data.ensures c.requires.first.1.sendable.data_is
 
 pub parse_data-other_data-requires : goal.parse_data-other_data-requires
-parse_data-other_data-requires c = data_as _ _ _ _ c.rtype-2.ensures c.data-2.ensures c.requires.second.1.data_is
+parse_data-other_data-requires c = data_as _ _ _ _ c.rtype-2.ensures c.data-2.ensures c.requires.second.1.sendable.data_is
 
 pub returns-then-eq : goal.returns-then-eq
 returns-then-eq c =

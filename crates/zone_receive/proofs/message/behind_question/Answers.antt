@@ -1,7 +1,7 @@
 use Rattle.std.proofs.Common.{◌∙◌, arith}
 use Rattle.dns_name.specs.ParsedName.{labels_of}
 use Rattle.dns_header.specs.QuestionParts.{question_of}
-use Rattle.zone_core.specs.Asked.{asked_of}
+use Rattle.zone_receive.specs.Asked.{asked_of}
 use Rattle.zone_core.proofs.Questions.{asks_not, asks_once, asks_other}
 use Rattle.zone_receive.proofs.message.behind_question.Goals as goal
 

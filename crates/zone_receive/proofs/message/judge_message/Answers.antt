@@ -1,7 +1,7 @@
 use Rattle.std.proofs.Common.{◌≡◌, arith, ap, sym, ◌∙◌, subst}
 use Rattle.std.proofs.lemmas.Result.{err_from_is_err_and}
 use Rattle.dns_octets.specs.Parser.{octets_of}
-use Rattle.zone_core.specs.Asked.{asked_of}
+use Rattle.zone_receive.specs.Asked.{asked_of}
 use Rattle.zone_receive.specs.Receiving.{IsMessageFault}
 use Rattle.zone_octets.specs.Records.{AreOctets}
 use Rattle.zone_octets.proofs.NameFronts.{octets_by_place}

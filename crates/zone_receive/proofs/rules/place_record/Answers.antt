@@ -7,10 +7,10 @@ use Rattle.zone_octets.specs.Record as spec
 use Rattle.zone_octets.specs.Records.{IsRecordOf}
 use Rattle.zone_octets.specs.Zone.{soa_type}
 use Rattle.zone_octets.proofs.Each.{all_append}
-use Rattle.zone_core.specs.Asked.{asked_of}
+use Rattle.zone_receive.specs.Asked.{asked_of}
 use Rattle.zone_receive.specs.Receiving.{KeepsFirstRule, KeepsLastRule}
-use Rattle.zone_receive.specs.Intake.{IsPlacing, StandsAt}
-use Rattle.zone_receive.proofs.RulesKept.{held_long, next_there, next_is, first_held, known_record, soa_spellable, none_held, some_held, first_known, first_is_soa, first_kept, first_broken, first_behind, last_kept, last_broken, last_free, stands_closed, stands_open, stands_so_far, placed_inner, placed_last, not_false, not_true, told_equal, told_other, told_no}
+use Rattle.zone_receive.specs.Intake.{HoldsFront, IsPlacing}
+use Rattle.zone_receive.proofs.RulesKept.{held_long, next_there, next_is, first_held, known_record, soa_spellable, none_held, some_held, first_known, first_is_soa, first_kept, first_broken, first_behind, last_kept, last_broken, last_free, holds_closed, holds_open, holds_so_far, placed_inner, placed_last, not_false, not_true, told_equal, told_other, told_no}
 use Rattle.zone_receive.proofs.rules.place_record.Goals.{else-last-eq0-via-then-last-eq0+else-not-is_first_soa, else-last-eq0-via-else-last-eq0, then-last-eq0-2, else-last-eq0-2, then-not-is_soa, else-not-is_soa+else-not-is_same_soa, After-class, After-from_octets-next, Joined-last-eq0-2, Joined-not-is_soa}
 use Rattle.zone_receive.proofs.rules.place_record.Goals as goal
 
@@ -59,40 +59,40 @@ pub returns-then-not-is_first_soa-clause-err : goal.returns-then-not-is_first_so
 returns-then-not-is_first_soa-clause-err c =
     let there = (goal.at.returns-then-not-is_first_soa-clause-err c).After-from_octets-next in
     let refused = c.if-not-is_first_soa.true in
-    λ held front r message place end splits stands number has. (
+    λ held front r message place end splits holds number has. (
       c.from_octets-next.result,
       end,
       read_here there held r message place end splits has,
       λ keeps.
           let long' = held_long held r c.len-last.result c.len-last.ensures.count splits in
           let empty = none_held held (sym long' ∙ c.if-last-eq0.true) in
-          let told = c.is_first_soa.ensures.1 (first_broken c.from_octets-next.result stands empty keeps) in cc,
+          let told = c.is_first_soa.ensures.1 (first_broken c.from_octets-next.result holds empty keeps) in cc,
     )
 
 -- the first rule is kept from there on
 first_rule : (c : After-class) (held : List spec.Record) (r : spec.Record) (front : List spec.Record) → c.args.records.now ≡ held ++ r ∷ []
-    → StandsAt (asked_of c.args.query.now) held c.args.closed front → KeepsFirstRule (asked_of c.args.query.now) front c.from_octets-next.result
-first_rule c held r front splits stands =
+    → HoldsFront (asked_of c.args.query.now) held c.args.closed front → KeepsFirstRule (asked_of c.args.query.now) front c.from_octets-next.result
+first_rule c held r front splits holds =
     let long' = held_long held r c.len-last.result c.len-last.ensures.count splits in
     elim c.else-last-eq0.branch [
       | else-last-eq0-via-then-last-eq0+else-not-is_first_soa w ↦
-          first_kept c.from_octets-next.result stands (none_held held (sym long' ∙ w.if-last-eq0.true))
+          first_kept c.from_octets-next.result holds (none_held held (sym long' ∙ w.if-last-eq0.true))
           (w.is_first_soa.ensures.0 w.if-not-is_first_soa.false)
       | else-last-eq0-via-else-last-eq0 w ↦
           let some = some_held held (λ none. w.if-last-eq0.false (long' ∙ none)) in
-          first_behind c.from_octets-next.result some.0 some.1 stands some.2
+          first_behind c.from_octets-next.result some.0 some.1 holds some.2
     ]
 
 pub returns-then-ne-clause-err : goal.returns-then-ne-clause-err
 returns-then-ne-clause-err c =
     let there = (goal.at.returns-then-ne-clause-err c).After-class in
     let next = (goal.at.returns-then-ne-clause-err c).After-from_octets-next in
-    λ held front r message place end splits stands number has. (
+    λ held front r message place end splits holds number has. (
       number,
       c.from_octets-next.result,
       end,
       read_here next held r message place end splits has,
-      first_rule there held r front splits stands,
+      first_rule there held r front splits holds,
       λ same. told_other c.class.result c.args.query.now.class c.ne.result c.ne.ensures c.if-ne.true (c.class.ensures ∙ same),
     )
 
@@ -102,12 +102,12 @@ returns-then-not-is_under-clause-err c =
     let next = (goal.at.returns-then-not-is_under-clause-err c).After-from_octets-next in
     let same = sym c.class.ensures ∙ told_equal c.class.result c.args.query.now.class c.ne.result c.ne.ensures c.if-ne.false in
     let refused = c.if-not-is_under.true in
-    λ held front r message place end splits stands number has. (
+    λ held front r message place end splits holds number has. (
       number,
       c.from_octets-next.result,
       end,
       read_here next held r message place end splits has,
-      first_rule there held r front splits stands,
+      first_rule there held r front splits holds,
       same,
       λ under. let told = c.is_under.ensures.1 under in cc,
     )
@@ -142,7 +142,7 @@ is_same_soa-requires-clause-first c =
     let some = (later joined c.if-not-is_soa.false).0 in
     let long' = held_long it.held it.r c.len-last.result c.len-last.ensures.count it.splits in
     let first = first_held it.held it.r soa it.splits (λ none. some (long' ∙ none)) c.record_at.ensures in
-    (c.args.query.now.class, first_known c.args.query.now.class it.held soa first it.known, first_is_soa it.held soa it.stands first)
+    (c.args.query.now.class, first_known c.args.query.now.class it.held soa first it.known, first_is_soa it.held soa it.holds first)
 
 pub is_same_soa-requires-clause-second : goal.is_same_soa-requires-clause-second
 is_same_soa-requires-clause-second c =
@@ -165,7 +165,7 @@ is_same_soa-requires-clause-class c =
     let long' = held_long it.held it.r c.len-last.result c.len-last.ensures.count it.splits in
     let first = first_held it.held it.r c.record_at.result it.splits (λ none. some (long' ∙ none)) c.record_at.ensures in
     let same = sym c.class.ensures ∙ told_equal c.class.result c.args.query.now.class c.ne.result c.ne.ensures c.if-ne.false in
-    (first_known c.args.query.now.class it.held c.record_at.result first it.known).class_is ∙ sym same
+    (first_known c.args.query.now.class it.held c.record_at.result first it.known).sendable.class_is ∙ sym same
 
 pub returns-then-not-is_same_soa-clause-err : goal.returns-then-not-is_same_soa-clause-err
 returns-then-not-is_same_soa-clause-err c =
@@ -177,18 +177,18 @@ returns-then-not-is_same_soa-clause-err c =
     let under = c.is_under.ensures.0 c.if-not-is_under.false in
     let soa = later joined c.if-not-is_soa.false in
     let refused = c.if-not-is_same_soa.true in
-    λ held front r message place end splits stands number has. (
+    λ held front r message place end splits holds number has. (
       number,
       r',
       end,
       read_here next held r message place end splits has,
-      first_rule there held r front splits stands,
+      first_rule there held r front splits holds,
       same,
       under,
       λ keeps.
           let long' = held_long held r c.len-last.result c.len-last.ensures.count splits in
           let first = first_held held r c.record_at.result splits (λ none. soa.0 (long' ∙ none)) c.record_at.ensures in
-          let told = c.is_same_soa.ensures.1 (last_broken held c.record_at.result r' stands first keeps soa.1) in cc,
+          let told = c.is_same_soa.ensures.1 (last_broken held c.record_at.result r' holds first keeps soa.1) in cc,
     )
 
 -- the rule of a later SOA is kept after its test
@@ -197,15 +197,15 @@ last_rule : (c : Joined-not-is_soa)
     → (held ≡ []) ⊎ (c.from_octets-next.result.rtype ≡ soa_type → ⊥))
     → (c.if-last-eq0-2.value ≡ false → (c.len-last.result - 1 ≡ 0 → ⊥) × (c.from_octets-next.result.rtype ≡ soa_type))
     → (held : List spec.Record) (r : spec.Record) (front : List spec.Record) → c.args.records.now ≡ held ++ r ∷ []
-    → StandsAt (asked_of c.args.query.now) held c.args.closed front → KeepsLastRule front c.from_octets-next.result
-last_rule c no_soa soa held r front splits stands =
+    → HoldsFront (asked_of c.args.query.now) held c.args.closed front → KeepsLastRule front c.from_octets-next.result
+last_rule c no_soa soa held r front splits holds =
     let long' = held_long held r c.len-last.result c.len-last.ensures.count splits in
     elim c.if-not-is_soa.branch [
-      | then-not-is_soa w ↦ last_free front c.from_octets-next.result stands (no_soa held long' w.if-not-is_soa.true)
+      | then-not-is_soa w ↦ last_free front c.from_octets-next.result holds (no_soa held long' w.if-not-is_soa.true)
       | else-not-is_soa+else-not-is_same_soa w ↦ (
           let some = (soa w.if-not-is_soa.false).0 in
           let first = first_held held r w.record_at.result splits (λ none. some (long' ∙ none)) w.record_at.ensures in
-          last_kept held w.record_at.result c.from_octets-next.result stands first (w.is_same_soa.ensures.0 w.if-not-is_same_soa.false))
+          last_kept held w.record_at.result c.from_octets-next.result holds first (w.is_same_soa.ensures.0 w.if-not-is_same_soa.false))
     ]
 
 pub returns-then-closed-clause-err : goal.returns-then-closed-clause-err
@@ -213,16 +213,16 @@ returns-then-closed-clause-err c =
     let at = goal.at.returns-then-closed-clause-err c in
     let same = sym c.class.ensures ∙ told_equal c.class.result c.args.query.now.class c.ne.result c.ne.ensures c.if-ne.false in
     let under = c.is_under.ensures.0 c.if-not-is_under.false in
-    λ held front r message place end splits stands number has. (
+    λ held front r message place end splits holds number has. (
       number,
       c.from_octets-next.result,
       end,
       read_here at.After-from_octets-next held r message place end splits has,
-      first_rule at.After-class held r front splits stands,
+      first_rule at.After-class held r front splits holds,
       same,
       under,
-      last_rule at.Joined-not-is_soa (no_later at.Joined-last-eq0-2) (later at.Joined-last-eq0-2) held r front splits stands,
-      stands_closed stands c.if-closed.true,
+      last_rule at.Joined-not-is_soa (no_later at.Joined-last-eq0-2) (later at.Joined-last-eq0-2) held r front splits holds,
+      holds_closed holds c.if-closed.true,
     )
 
 pub is_spellable-requires : goal.is_spellable-requires
@@ -234,16 +234,16 @@ returns-then-not-is_spellable-clause-err c =
     let same = sym c.class.ensures ∙ told_equal c.class.result c.args.query.now.class c.ne.result c.ne.ensures c.if-ne.false in
     let under = c.is_under.ensures.0 c.if-not-is_under.false in
     let refused = c.if-not-is_spellable.true in
-    λ held front r message place end splits stands number has. (
+    λ held front r message place end splits holds number has. (
       number,
       c.from_octets-next.result,
       end,
       read_here at.After-from_octets-next held r message place end splits has,
-      first_rule at.After-class held r front splits stands,
+      first_rule at.After-class held r front splits holds,
       same,
       under,
-      last_rule at.Joined-not-is_soa (no_later at.Joined-last-eq0-2) (later at.Joined-last-eq0-2) held r front splits stands,
-      λ closed. stands_open stands c.if-closed.false closed,
+      last_rule at.Joined-not-is_soa (no_later at.Joined-last-eq0-2) (later at.Joined-last-eq0-2) held r front splits holds,
+      λ closed. holds_open holds c.if-closed.false closed,
       λ is. let told = c.is_spellable.ensures.1 is in cc,
     )
 
@@ -255,17 +255,17 @@ returns-clause-ok c =
     let under = c.is_under.ensures.0 c.if-not-is_under.false in
     let spellable = c.is_spellable.ensures.0 c.if-not-is_spellable.false in
     λ held r splits.
-    let stands = stands_so_far c.requires held r splits in
+    let holds = holds_so_far c.requires held r splits in
     let long' = held_long held r c.len-last.result c.len-last.ensures.count splits in
     let placed : IsPlacing (asked_of c.args.query.now) held next c.if-not-is_soa.placing = elim c.if-not-is_soa.branch [
       | then-not-is_soa w ↦
-          placed_inner held next c.if-not-is_soa.placing w.placing-is stands.1
-          (first_rule at.After-class held r stands.0 splits stands.1) (no_later at.Joined-last-eq0-2 held long' w.if-not-is_soa.true)
+          placed_inner held next c.if-not-is_soa.placing w.placing-is holds.1
+          (first_rule at.After-class held r holds.0 splits holds.1) (no_later at.Joined-last-eq0-2 held long' w.if-not-is_soa.true)
           (record { class = same; under = under; spellable = spellable })
       | else-not-is_soa+else-not-is_same_soa w ↦ (
           let soa = later at.Joined-last-eq0-2 w.if-not-is_soa.false in
           let first = first_held held r w.record_at.result splits (λ none. soa.0 (long' ∙ none)) w.record_at.ensures in
-          placed_last held w.record_at.result next c.if-not-is_soa.placing w.placing-is stands.1 first soa.1
+          placed_last held w.record_at.result next c.if-not-is_soa.placing w.placing-is holds.1 first soa.1
           (w.is_same_soa.ensures.0 w.if-not-is_same_soa.false))
     ] in
     subst (λ r. IsPlacing (asked_of c.args.query.now) held r c.if-not-is_soa.placing) (here at.After-from_octets-next held r splits) placed

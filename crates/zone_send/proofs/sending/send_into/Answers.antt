@@ -9,7 +9,8 @@ use Rattle.zone_send.specs.Sent.{AsksFor}
 use Rattle.zone_send.specs.SentBy.{IsSendFault}
 use Rattle.zone_send.specs.declared.sending.error.SendError.TheVariants.{OutOfMemory}
 use Rattle.zone_text.specs.View.{apex_of}
-use Rattle.zone_send.proofs.SendFaults.{fault_for, id_small, all_lawful}
+use Rattle.zone_text.proofs.ZoneForms.{zone_data}
+use Rattle.zone_send.proofs.SendFaults.{fault_for, id_small}
 use Rattle.zone_send.proofs.Best.{sent_for, none_for}
 use Rattle.zone_send.proofs.sending.send_into.Goals as goal
 
@@ -29,7 +30,7 @@ send_by-requires c = record {
   asked = c.in_ok-name.ensures ∙ c.name.ensures;
   lawful =
       let P : List Record → Type 0 = λ rs. AllByRecursion HasLawfulData rs in
-      subst P (sym c.records_of.ensures.records) (all_lawful c.args.zone.now.class c.args.zone.now.records c.records_of.ensures.known.each);
+      subst P (sym c.records_of.ensures.records) (zone_data c.args.zone.now.class c.args.zone.now.records c.records_of.ensures.known);
 }
 
 pub returns-clause-ok : goal.returns-clause-ok

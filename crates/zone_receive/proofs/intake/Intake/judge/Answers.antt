@@ -1,7 +1,7 @@
 use Rattle.std.proofs.Common.{◌≡◌, ℕ, ◌++◌, List, length, drop, refl, sym, ap, ◌∙◌, subst}
 use Rattle.std.proofs.lemmas.List.{nil_from_length, take_rest}
 use Rattle.std.proofs.lemmas.Result.{err_from_is_err_and}
-use Rattle.zone_core.specs.Asked.{asked_of}
+use Rattle.zone_receive.specs.Asked.{asked_of}
 use Rattle.zone_core.proofs.Flags.{none_of}
 use Rattle.zone_receive.proofs.Judging.{answer_breaks, answer_ends, answer_goes, framed_alone, framed_message, result_breaks, result_ends, result_goes}
 use Rattle.zone_receive.proofs.intake.Intake.judge.Goals as goal

@@ -1,7 +1,7 @@
 use Rattle.std.proofs.Common.{◌+◌, ◌-◌, ℕ, List, ◌++◌, length, take, drop, refl, sym, ap, ◌∙◌, subst, arith, length-drop}
 use Rattle.std.proofs.lemmas.List.{take-append-drop, take_rest}
 use Rattle.std.proofs.lemmas.Result.{err_from_is_err_and}
-use Rattle.zone_core.specs.Asked.{asked_of}
+use Rattle.zone_receive.specs.Asked.{asked_of}
 use Rattle.zone_core.specs.Frames.{IsPartial}
 use Rattle.zone_receive.proofs.Intakes.{breaks_more, ends_more, framed_next, goes_more, goes_none, goes_waits, opens_more, piece_is, piece_next}
 use Rattle.zone_core.proofs.Flags.{at_false, at_true}

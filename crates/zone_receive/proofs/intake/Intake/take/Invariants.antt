@@ -1,5 +1,5 @@
 use Rattle.std.proofs.Common.{◌-◌, ◌≤◌, length, take}
-use Rattle.zone_core.specs.Asked.{asked_of}
+use Rattle.zone_receive.specs.Asked.{asked_of}
 use Rattle.zone_receive.specs.Intake.{GoesOn}
 use Rattle.zone_receive.proofs.intake.Intake.take.Given as given
 

@@ -1,6 +1,6 @@
 use Rattle.std.proofs.Common.{refl, sym, subst}
 use Rattle.std.proofs.lemmas.List.{nil_from_length}
-use Rattle.zone_core.specs.Asked.{asked_of}
+use Rattle.zone_receive.specs.Asked.{asked_of}
 use Rattle.zone_core.proofs.Flags.{none_of}
 use Rattle.zone_receive.specs.Received.{IsAt}
 use Rattle.zone_receive.specs.declared.receiver.Progress.{Progress}

@@ -1,5 +1,5 @@
 use Rattle.std.proofs.Common.{List, sym, ap, ◌∙◌, subst}
-use Rattle.zone_core.specs.Asked.{asked_of}
+use Rattle.zone_receive.specs.Asked.{asked_of}
 use Rattle.zone_receive.specs.Receiving.{Heard}
 use Rattle.zone_text.specs.View.{Contents}
 use Rattle.zone_octets.specs.Record.{Record}
@@ -22,7 +22,7 @@ pub returns-in-Done-clause-ok : goal.returns-in-Done-clause-ok
 returns-in-Done-clause-ok c =
     let ended = done_stage _ c.self.inside.progress c.self.inside.intake (asked_of c.self.inside.query) c.self.view_is c.in-Done.is in
     let records = ap (λ (zone : Contents). zone.records) c.zone_of.ensures ∙ c.into_records.ensures ∙ ap (λ (heard : Heard). heard.records) c.self.view_is in
-    λ stream stands. has_transfer c.args.self _ stream ended records stands
+    λ stream after. has_transfer c.args.self _ stream ended records after
 
 pub returns-in-Begun-clause-err : goal.returns-in-Begun-clause-err
 returns-in-Begun-clause-err c =
