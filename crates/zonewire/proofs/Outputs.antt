@@ -3,14 +3,28 @@ use Rattle.std.proofs.Common.{◌≡◌, ℕ, List, subst}
 use Rattle.std.specs.Prelude.{Option}
 use Rattle.zone_octets.specs.Record.{Record}
 use Rattle.zone_text.specs.View.{apex_of}
-use Rattle.zone_rules.specs.ZoneText.{IsZoneText}
+use Rattle.zone_rules.specs.ZoneText.{IsZoneFault, IsZoneText}
+use Rattle.zone_rules.specs.declared.zone_error.ZoneError.{ZoneError}
+use Rattle.zone_rules.specs.declared.zone_error.ZoneError.TheVariants.{OutOfMemory as NoMemory}
 use Rattle.zone_send.specs.SentBy.{IsSendFault}
 use Rattle.zone_send.specs.declared.sending.Spelling.{Spelling}
 use Rattle.zone_send.specs.declared.sending.error.SendError.{SendError}
 use Rattle.zone_send.specs.declared.sending.error.SendError.TheVariants.{Query, WrongZone, Record as Blocked, OutOfMemory}
-use Rattle.zonewire.specs.Fault.{of_send}
+use Rattle.zonewire.specs.Fault.{of_send, of_zone}
 use Rattle.zone_core.specs.Query.{query_octets}
-use Rattle.zonewire.specs.Output.{IsNotSent, IsSendJobFault, query_of}
+use Rattle.zonewire.specs.Output.{IsNotSent, IsSendJobFault, IsTextJobFault, query_of}
+
+-- why no zone is read from the input
+pub text-fault : (origin : Option (List (List ℕ))) (class : ℕ) (input : List ℕ) (error : ZoneError) → IsZoneFault input origin class error
+    → IsTextJobFault origin class input (of_zone error)
+text-fault origin class input NoMemory refused = tt
+text-fault origin class input error refused = refused
+
+-- the same for a job that sends
+pub send-text-fault : (origin : Option (List (List ℕ))) (class id : ℕ) (apex : Option (List (List ℕ))) (max : ℕ) (spelling : Spelling)
+    (input : List ℕ) (error : ZoneError) → IsZoneFault input origin class error → IsSendJobFault origin class id apex max spelling input (of_zone error)
+send-text-fault origin class id apex max spelling input NoMemory refused = tt
+send-text-fault origin class id apex max spelling input error refused = refused
 
 -- nothing is sent for the job's query
 not-sent : (records : List Record) (origin : Option (List (List ℕ))) (zone_class class id : ℕ) (apex : Option (List (List ℕ))) (max : ℕ) (spelling : Spelling) (octets input : List ℕ) (error : SendError)
