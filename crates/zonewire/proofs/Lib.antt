@@ -6,3 +6,4 @@ mod Numbers
 mod Texts
 pub mod Outputs
 mod Received
+mod OneOutput

@@ -1,6 +1,9 @@
 //! Laws of the definitions that the contracts of zones and their transfers use. A law is a function with an empty body
 //! whose contract is the law.
 
+mod jobs;
+
+pub use jobs::one_output_or_fault;
 pub use zone_canonical::laws::{
     canonical_octets_are_one, canonical_octets_tell_records_apart, case_is_not_in_canonical_octets,
 };
