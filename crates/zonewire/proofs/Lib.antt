@@ -7,3 +7,5 @@ mod Texts
 pub mod Outputs
 mod Received
 mod OneOutput
+mod SpelledOctets
+mod Passed
