@@ -9,3 +9,7 @@ mod Received
 mod OneOutput
 mod SpelledOctets
 mod Passed
+mod SpelledNumbers
+mod SendableTexts
+mod AskedNames
+mod JobsPassed
