@@ -6,3 +6,10 @@ mod Numbers
 mod Texts
 pub mod Outputs
 mod Received
+mod OneOutput
+mod SpelledOctets
+mod Passed
+mod SpelledNumbers
+mod SendableTexts
+mod AskedNames
+mod JobsPassed

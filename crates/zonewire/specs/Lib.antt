@@ -5,3 +5,4 @@ pub mod Stream
 pub mod Fault
 pub mod Output
 pub mod Program
+pub mod Passed

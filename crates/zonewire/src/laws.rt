@@ -1,6 +1,11 @@
 //! Laws of the definitions that the contracts of zones and their transfers use. A law is a function with an empty body
 //! whose contract is the law.
 
+mod jobs;
+mod passed;
+
+pub use jobs::one_output_or_fault;
+pub use passed::{sent_by_a_job_is_received, sent_received_and_printed_is_the_zone};
 pub use zone_canonical::laws::{
     canonical_octets_are_one, canonical_octets_tell_records_apart, case_is_not_in_canonical_octets,
 };
