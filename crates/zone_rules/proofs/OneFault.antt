@@ -170,7 +170,7 @@ one_fault_at {e = e} {d = d} a b = by (place a.finds b.finds)
 -- each fault is of the class, of memory, or at a place
 data Kinds (origin : Option (List (List ℕ))) (class : ℕ) (given : List ℕ) (e : ZoneError) : Type 0 where
   of_class : class ≡ any_class → e ≡ zone_error.ClassAny → Kinds origin class given e
-  of_memory : e ≡ zone_error.OutOfMemory → Kinds origin class given e
+  of_memory : class ≢ any_class → e ≡ zone_error.OutOfMemory → Kinds origin class given e
   at_place : class ≢ any_class → FaultAt (start_of origin class) given e → Kinds origin class given e
 
 reached : {given : List ℕ} {origin : Option (List (List ℕ))} {class n : ℕ} {before : List Entry} {entry : Entry} {e : ZoneError}
@@ -218,22 +218,31 @@ kinds_of given origin class zone_error.NoSoa fault = at_place fault.class_known 
   keep = fault.keep;
   breaks = nothing fault.none;
 })
-kinds_of given origin class zone_error.OutOfMemory fault = of_memory refl
+kinds_of given origin class zone_error.OutOfMemory fault = of_memory fault refl
 
 one_kind : {origin : Option (List (List ℕ))} {class : ℕ} {given : List ℕ} {e d : ZoneError} → e ≢ zone_error.OutOfMemory
     → d ≢ zone_error.OutOfMemory → Kinds origin class given e → Kinds origin class given d → e ≡ d
-one_kind real real' (of_memory is) other = absurd (real is)
+one_kind real real' (of_memory known is) other = absurd (real is)
 one_kind real real' (of_class any is) (of_class any' is') = is ∙ sym is'
-one_kind real real' (of_class any is) (of_memory is') = absurd (real' is')
+one_kind real real' (of_class any is) (of_memory known is') = absurd (real' is')
 one_kind real real' (of_class any is) (at_place known at) = absurd (known any)
 one_kind real real' (at_place known at) (of_class any is) = absurd (known any)
-one_kind real real' (at_place known at) (of_memory is') = absurd (real' is')
+one_kind real real' (at_place known at) (of_memory known' is') = absurd (real' is')
 one_kind real real' (at_place known at) (at_place known' at') = one_fault_at at at'
 
 pub one_fault : (given : List ℕ) (origin : Option (List (List ℕ))) (class : ℕ) (e d : ZoneError) → e ≢ zone_error.OutOfMemory
     → d ≢ zone_error.OutOfMemory → IsZoneFault given origin class e → IsZoneFault given origin class d → e ≡ d
 one_fault given origin class e d real real' fault fault' =
     one_kind real real' (kinds_of given origin class e fault) (kinds_of given origin class d fault')
+
+-- the fault of the class is the only one of class ANY
+pub any_fault : (given : List ℕ) (origin : Option (List (List ℕ))) (e : ZoneError) → IsZoneFault given origin any_class e
+    → e ≡ zone_error.ClassAny
+any_fault given origin e fault = elim (kinds_of given origin any_class e fault) [
+  | of_class any is ↦ is
+  | of_memory known is ↦ absurd (known refl)
+  | at_place known at ↦ absurd (known refl)
+]
 
 -- a zone's text has no fault
 no_break_at_end : {before : List Entry} {e : ZoneError} → IsZone (records_in before) → Breaks before Ends e → ⊥
@@ -253,7 +262,7 @@ zone_no_fault_at {e = e} zone at = by (place at.finds (ends zone.has))
 zone_no_kind : {given : List ℕ} {origin : Option (List (List ℕ))} {class : ℕ} {records : List Record} {e : ZoneError}
     → IsZoneText given origin class records → Kinds origin class given e → e ≡ zone_error.OutOfMemory
 zone_no_kind zone (of_class any is) = absurd (zone.class_known any)
-zone_no_kind zone (of_memory is) = is
+zone_no_kind zone (of_memory known is) = is
 zone_no_kind zone (at_place known at) = absurd (zone_no_fault_at zone at)
 
 pub zone_no_fault : (given : List ℕ) (origin : Option (List (List ℕ))) (class : ℕ) (records : List Record) (e : ZoneError)

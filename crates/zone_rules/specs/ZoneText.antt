@@ -92,7 +92,7 @@ pub record HasNoRecord (text : List ℕ) (origin : Option (List (List ℕ))) (cl
   pub none : records_in entries ≡ []
 
 -- The first rule that the text breaks: the class; then, of the first entry that breaks one, the first in the order of
--- the variants; then that there is a record. `OutOfMemory` holds of any text.
+-- the variants; then that there is a record. `OutOfMemory` holds of any text, if the class is not ANY.
 abbrev pub IsZoneFault : List ℕ → Option (List (List ℕ)) → ℕ → ZoneError → Type 0
 IsZoneFault text origin class zone_error.ClassAny = class ≡ any_class
 IsZoneFault text origin class (zone_error.Text n) = StopsAt text origin class n
@@ -113,4 +113,4 @@ IsZoneFault text origin class (zone_error.Unspellable n) =
     (records : List Record) × (r : Record) × ReachesRecord text origin class n records r × IsData r.rtype r.rdata
     × MayFollow records r × (IsSpellable r.rtype r.rdata → ⊥)
 IsZoneFault text origin class zone_error.NoSoa = HasNoRecord text origin class
-IsZoneFault text origin class zone_error.OutOfMemory = ⊤
+IsZoneFault text origin class zone_error.OutOfMemory = class ≢ any_class

@@ -37,7 +37,7 @@ pub enum ZoneError {
     /// The text has no record.
     #[error("no SOA")]
     NoSoa,
-    /// Out of memory. One variant covers every allocation.
+    /// Out of memory. One variant covers every allocation; none is made for class ANY.
     #[error("out of memory")]
     OutOfMemory,
 }

@@ -37,7 +37,7 @@ use Rattle.zone_rules.proofs.KeptContexts.{IsFitting, IsRowed, entries_fit}
 use Rattle.zone_rules.proofs.KeptRules.{keeps_directives, keeps_none, records_behind}
 use Rattle.zone_rules.proofs.RecordClasses.{zone_text_class}
 use Rattle.zone_rules.proofs.ReaderSteps.{HasKept, MeetsRecord, ended_behind, first_fault, kept_record, meets, next_read, out_fault, second_fault, unspellable_fault, untyped_fault}
-use Rattle.zone_text.specs.Reading.{BeginWith, BreaksRule, HasRead, IsHanded, HasReadAll, MayStandUnder, StandsLast, reader_at}
+use Rattle.zone_text.specs.Reading.{BeginWith, BreaksRule, HasRead, IsCheckFault, IsHanded, HasReadAll, MayStandUnder, StandsLast, reader_at}
 
 -- in the words of the rules
 pub kept_of : {text : List ℕ} {origin : Option (List (List ℕ))} {class : ℕ} {reader : Reader} {octets places : List ℕ} → class ≢ any_class
@@ -107,33 +107,39 @@ follows (soa ∷ others) (Some apex) r same front may =
     let under : IsBehindSoa soa r = record { no_soa = may.0; under = subst (λ a. IsUnder a r.owner) alike may.1 } in
     (front.0, all_append (IsBehindSoa soa) others (r ∷ []) front.1 (under, tt))
 
--- and one that breaks a rule is the text's fault
-pub breaks : {text : List ℕ} {origin : Option (List (List ℕ))} {class number : ℕ} {new : Reader} (records : List Record) (apex : Option (List (List ℕ)))
-    (r : Record) (error : ZoneError) → apex ≡ apex_in records → IsZoneFront records → MeetsRecord text origin class number records r new
-    → BreaksRule number apex r error → IsZoneFault text origin class error
-breaks {text} {origin} {class} records apex r (zone_error.Untyped n) same front met broken =
+-- a broken rule is a fault of the checks
+pub check_fault : (untyped : Bool) (number : ℕ) (apex : Option (List (List ℕ))) (r : Record) (error : ZoneError)
+    → BreaksRule number apex r error → IsCheckFault untyped number apex r error
+check_fault untyped number apex r zone_error.OutOfMemory broken = absurd broken
+check_fault untyped number apex r error broken = broken
+
+-- and a fault of the checks is the text's
+pub breaks : {text : List ℕ} {origin : Option (List (List ℕ))} {class number : ℕ} {new : Reader} {untyped : Bool} (records : List Record)
+    (apex : Option (List (List ℕ))) (r : Record) (error : ZoneError) → class ≢ any_class → apex ≡ apex_in records → IsZoneFront records
+    → MeetsRecord text origin class number records r new → IsCheckFault untyped number apex r error → IsZoneFault text origin class error
+breaks {text} {origin} {class} records apex r (zone_error.Untyped n) known same front met broken =
     subst (λ m. IsZoneFault text origin class (zone_error.Untyped m)) (sym broken.0) (untyped_fault met broken.1)
-breaks {text} {origin} {class} [] None r (zone_error.FirstNotSoa n) same front met broken =
+breaks {text} {origin} {class} [] None r (zone_error.FirstNotSoa n) known same front met broken =
     subst (λ m. IsZoneFault text origin class (zone_error.FirstNotSoa m)) (sym broken.0) (first_fault met broken.1 refl broken.2)
-breaks {text} {origin} {class} (soa ∷ others) (Some apex) r (zone_error.SecondSoa n) same front met broken =
+breaks {text} {origin} {class} (soa ∷ others) (Some apex) r (zone_error.SecondSoa n) known same front met broken =
     subst (λ m. IsZoneFault text origin class (zone_error.SecondSoa m)) (sym broken.0) (second_fault soa others met broken.1 refl broken.2)
-breaks {text} {origin} {class} (soa ∷ others) (Some apex) r (zone_error.OutOfZone n) same front met broken =
+breaks {text} {origin} {class} (soa ∷ others) (Some apex) r (zone_error.OutOfZone n) known same front met broken =
     let alike : apex ≡ soa.owner = cc in
     subst (λ m. IsZoneFault text origin class (zone_error.OutOfZone m)) (sym broken.0)
     (out_fault soa others met broken.1 refl broken.2 (λ under. broken.3 (subst (λ a. IsUnder a r.owner) (sym alike) under)))
-breaks {text} {origin} {class} records apex r (zone_error.Unspellable n) same front met broken =
+breaks {text} {origin} {class} records apex r (zone_error.Unspellable n) known same front met broken =
     subst (λ m. IsZoneFault text origin class (zone_error.Unspellable m)) (sym broken.0)
     (unspellable_fault met broken.1 (follows records apex r same front broken.2) broken.3)
-breaks records apex r zone_error.OutOfMemory same front met broken = tt
-breaks [] (Some apex) r error same front met broken = absurd cc
-breaks (soa ∷ others) None r error same front met broken = absurd cc
-breaks records apex r zone_error.ClassAny same front met broken = absurd broken
-breaks records apex r (zone_error.Text n) same front met broken = absurd broken
-breaks records apex r (zone_error.Include n) same front met broken = absurd broken
-breaks [] None r (zone_error.SecondSoa n) same front met broken = absurd broken
-breaks [] None r (zone_error.OutOfZone n) same front met broken = absurd broken
-breaks (soa ∷ others) (Some apex) r (zone_error.FirstNotSoa n) same front met broken = absurd broken
-breaks records apex r zone_error.NoSoa same front met broken = absurd broken
+breaks records apex r zone_error.OutOfMemory known same front met broken = known
+breaks [] (Some apex) r error known same front met broken = absurd cc
+breaks (soa ∷ others) None r error known same front met broken = absurd cc
+breaks records apex r zone_error.ClassAny known same front met broken = absurd broken
+breaks records apex r (zone_error.Text n) known same front met broken = absurd broken
+breaks records apex r (zone_error.Include n) known same front met broken = absurd broken
+breaks [] None r (zone_error.SecondSoa n) known same front met broken = absurd broken
+breaks [] None r (zone_error.OutOfZone n) known same front met broken = absurd broken
+breaks (soa ∷ others) (Some apex) r (zone_error.FirstNotSoa n) known same front met broken = absurd broken
+breaks records apex r zone_error.NoSoa known same front met broken = absurd broken
 
 -- one record more
 pub more_read : {text : List ℕ} {origin : Option (List (List ℕ))} {class number : ℕ} {reader new : Reader} {octets places octets' places' : List ℕ}

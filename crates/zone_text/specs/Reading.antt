@@ -1,5 +1,5 @@
 -- How far a zone's text has been read. Only contracts inside the crate name it.
-use Rattle.std.specs.Prelude.{◌≡◌, ◌≢◌, ◌++◌, ℕ, Bool, Option, Some, None, Result, Ok, List, [], ◌∷◌, length, ⊤, IfSome}
+use Rattle.std.specs.Prelude.{◌≡◌, ◌≢◌, ◌++◌, ℕ, Bool, true, Option, Some, None, Result, Ok, List, [], ◌∷◌, length, IfSome}
 use Rattle.dns_label.specs.Name.{IsName}
 use Rattle.dns_header.specs.Record.{RecordOf}
 use Rattle.dns_rdata.specs.Data.{Data, is_untyped}
@@ -103,5 +103,9 @@ BreaksRule number (Some apex) r (zone_error.OutOfZone n) =
     (n ≡ number) × IsData r.rtype r.rdata × (r.rtype ≢ soa_type) × (IsUnder apex r.owner → ⊥)
 BreaksRule number apex r (zone_error.Unspellable n) =
     (n ≡ number) × IsData r.rtype r.rdata × MayStandUnder apex r × (IsSpellable r.rtype r.rdata → ⊥)
-BreaksRule number apex r zone_error.OutOfMemory = ⊤
 BreaksRule number apex r error = ⊥
+
+-- the same, or out of memory, if the text writes the data in the form of unknown data
+abbrev pub IsCheckFault : Bool → ℕ → Option (List (List ℕ)) → Record → ZoneError → Type 0
+IsCheckFault untyped number apex r zone_error.OutOfMemory = untyped ≡ true
+IsCheckFault untyped number apex r error = BreaksRule number apex r error

@@ -10,7 +10,7 @@ ghost use Rattle.zone_octets.specs.Record as spec;
 ghost use Rattle.zone_octets.specs.Records.{AreRecordsOf};
 ghost use Rattle.zone_octets.specs.Zone.{any_class};
 ghost use Rattle.zone_rules.specs.ZoneText.{IsWellTyped, IsZoneFault, IsZoneText};
-ghost use Rattle.zone_text.specs.Reading.{BreaksRule, HasMet, HasRead, HasReadAll, MayStandUnder, StandsLast, reader_at};
+ghost use Rattle.zone_text.specs.Reading.{BreaksRule, IsCheckFault, HasMet, HasRead, HasReadAll, MayStandUnder, StandsLast, reader_at};
 
 use dns_name::{Class, Name, ToName};
 use dns_zonefile::{ComposedEntry, Zonefile};
@@ -134,7 +134,7 @@ pub(crate) fn meet_record(
 }
 
 /// Checks the record at the place, with the number of its entry. Fails if it breaks a rule of the zone whose records
-/// come before it.
+/// come before it, or if out of memory, which only unknown data takes.
 pub(crate) fn check_last(
     alloc: Global,
     octets: &[u8],
@@ -147,7 +147,7 @@ pub(crate) fn check_last(
     ensures ok { OnOk result ((apex : Option (List (List ℕ))) (r : spec.Record) → StandsLast octets.now place apex r
         → IsWellTyped r × MayStandUnder apex r) }
     ensures err { IfErr result (λ error. (apex : Option (List (List ℕ))) (r : spec.Record) → StandsLast octets.now place apex r
-        → BreaksRule number apex r error) }
+        → IsCheckFault untyped number apex r error) }
 {
     let (before, record) = octets.split_at(place);
     let record = Record::from_octets(record);
@@ -155,8 +155,8 @@ pub(crate) fn check_last(
 }
 
 /// Checks a record, with the number of its entry. Fails if it breaks a rule of the zone with this apex, or cannot be a
-/// zone's first record if there is no apex yet. The text may write its data in the form of unknown data although its
-/// type has fields.
+/// zone's first record if there is no apex yet; or if out of memory. The text may write its data in the form of unknown
+/// data although its type has fields.
 fn check_record(
     alloc: Global,
     apex: Option<Name<&[u8]>>,
@@ -166,7 +166,7 @@ fn check_record(
 ) -> Result<(), ZoneError>
     requires { untyped ≡ false → IsData «record».now.rtype «record».now.rdata }
     ensures ok { OnOk result (IsWellTyped «record».now × MayStandUnder apex.entry «record».now) }
-    ensures err { IfErr result (BreaksRule number apex.entry «record».now) }
+    ensures err { IfErr result (IsCheckFault untyped number apex.entry «record».now) }
 {
     check_data(alloc, record, untyped, number)?;
     check_place(apex, record, number)?;
@@ -177,7 +177,7 @@ fn check_record(
 }
 
 /// Checks the data of a record. Fails with `Untyped` if the text writes it in the form of unknown data and it is not
-/// data of its type.
+/// data of its type. Takes memory only for data in that form, and fails with `OutOfMemory` if there is none.
 fn check_data(
     alloc: Global,
     record: &Record<'_>,
@@ -186,7 +186,7 @@ fn check_data(
 ) -> Result<(), ZoneError>
     requires { untyped ≡ false → IsData «record».now.rtype «record».now.rdata }
     ensures ok { OnOk result (IsData «record».now.rtype «record».now.rdata) }
-    ensures err { IfErr result (λ error. (apex : Option (List (List ℕ))) → BreaksRule number apex «record».now error) }
+    ensures err { IfErr result (λ error. (apex : Option (List (List ℕ))) → IsCheckFault untyped number apex «record».now error) }
 {
     if !untyped {
         return Ok(());

@@ -1,6 +1,7 @@
 //! Laws of a zone's text: it has one reading, or one fault.
 ghost use Rattle.std.specs.Prelude.{◌≡◌, ◌≢◌, ℕ, List, Option};
 ghost use Rattle.zone_octets.specs.Record.{Record};
+ghost use Rattle.zone_octets.specs.Zone.{any_class};
 ghost use Rattle.zone_rules.specs.ZoneText.{IsZoneFault, IsZoneText};
 ghost use Rattle.zone_rules.specs.declared.zone_error.ZoneError.{ZoneError};
 ghost use Rattle.zone_rules.specs.declared.zone_error.ZoneError.TheVariants as zone_error;
@@ -22,6 +23,12 @@ pub fn one_zone_fault()
     ensures { (text : List ℕ) (origin : Option (List (List ℕ))) (class : ℕ) (e d : ZoneError) →
         e ≢ zone_error.OutOfMemory → d ≢ zone_error.OutOfMemory →
         IsZoneFault text origin class e → IsZoneFault text origin class d → e ≡ d }
+{}
+
+/// A text of class ANY has one fault, `ClassAny`.
+pub fn class_any_has_one_fault()
+    ensures { (text : List ℕ) (origin : Option (List (List ℕ))) (e : ZoneError) →
+        IsZoneFault text origin any_class e → e ≡ zone_error.ClassAny }
 {}
 
 /// A text is a zone's, or it has a fault other than `OutOfMemory`: it cannot be neither.

@@ -4,7 +4,7 @@ use Rattle.dns_rdata.specs.Fields.{IsData}
 use Rattle.dns_message.specs.Record.{IsRecord, record_octets}
 use Rattle.zone_octets.specs.Record as spec
 use Rattle.zone_rules.specs.ZoneText.{IsWellTyped}
-use Rattle.zone_text.specs.Reading.{BeginWith, BreaksRule, MayStandUnder}
+use Rattle.zone_text.specs.Reading.{BeginWith, IsCheckFault, MayStandUnder}
 use Rattle.zone_text.proofs.LastRecord.{apex_found, back_is, begin_some, front_is, place_within}
 use Rattle.zone_text.proofs.read.check_last.Goals as goal
 
@@ -44,5 +44,5 @@ returns-clause-err c =
     let begin = subst (BeginWith apex) (sym front) stands.begin in
     let found = apex_found apex c.apex_of.result _ begin c.apex_of.ensures.none c.apex_of.ensures.some in
     let same = c.from_octets-record.ensures r stands.is (back_is _ stands c.split_at.ensures.back) in
-    subst (λ a. BreaksRule c.args.number a r error) found
-    (subst (λ x. BreaksRule c.args.number c.apex_of.result x error) same broken)) c.check_record.ensures.err
+    subst (λ a. IsCheckFault c.args.untyped c.args.number a r error) found
+    (subst (λ x. IsCheckFault c.args.untyped c.args.number c.apex_of.result x error) same broken)) c.check_record.ensures.err
