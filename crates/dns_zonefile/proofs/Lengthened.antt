@@ -174,10 +174,10 @@ parted {context} (row ∷ front) {others} same (AreEntries.entry {row = one} {ro
       goes_on = at.goes_on;
     }
 
-pub lengthened : {start after : Context} {text more : List ℕ} {rows : List TokenRow} {entries all : List Entry} → BeginsWithRows text rows []
-    → AreEntries start rows entries after → HasEntries start (text ++ more) all
-    → (behind : List Entry) × (all ≡ entries ++ behind) × HasEntries after more behind
-lengthened {after = after} {more = more} {rows = rows} {entries = entries} begins are has =
+pub lengthened : {start after : Context} {text rest : List ℕ} {rows : List TokenRow} {entries all : List Entry} (more : List ℕ)
+    → BeginsWithRows text rows rest → AreEntries start rows entries after → HasEntries start (text ++ more) all
+    → (behind : List Entry) × (all ≡ entries ++ behind) × HasEntries after (rest ++ more) behind
+lengthened {after = after} {rows = rows} {entries = entries} more begins are has =
     let there = all_rows has.is_text.begins (λ tokens behind. no_row_at_end has.is_text.ends) (rows-on more begins) in
     let at = parted rows there.is has.are in
     let one = one_list refl refl at.begins are in (

@@ -10,6 +10,7 @@ mod Entering
 pub mod Going
 pub mod GivenEntries
 pub mod Lengthened
+pub mod Rests
 mod Forms
 mod ComposedRows
 mod LastOwners

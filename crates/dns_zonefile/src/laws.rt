@@ -1,9 +1,11 @@
 //! Laws of zone files. Each function does nothing; its contract is the law.
-ghost use Rattle.std.specs.Prelude.{◌≡◌, ◌+◌, ◌++◌, ℕ, suc, [], false, List, None, Ok, Err, length};
+ghost use Rattle.std.specs.Prelude.{◌≡◌, ◌≢◌, ◌↔◌, ◌+◌, ◌++◌, ℕ, suc, [], ◌∷◌, true, false, List, None, Ok, Err, length};
+ghost use Rattle.std.specs.List.{list_all};
 ghost use Rattle.dns_row_scanner.specs.EntryError.{is_memory};
 ghost use Rattle.dns_row_scanner.specs.declared.entry_error.EntryError.{EntryError};
 ghost use Rattle.dns_zonefile.specs.Entry.{Context, Entry};
 ghost use Rattle.dns_text.specs.Rows.{BeginsWithRows, TokenRow};
+ghost use Rattle.dns_text.specs.Tokens.{from_feed, is_end, is_gap};
 ghost use Rattle.dns_zonefile.specs.Entries.{AreEntries, HasEntries, IsRefusedAfter, refused_number};
 ghost use Rattle.dns_zonefile.specs.Reader.{Gives, GivesEach, Reader, left_of, without_directives};
 
@@ -24,6 +26,19 @@ pub fn longer_texts_have_more_entries()
     ensures { (start after : Context) (text more : List ℕ) (rows : List TokenRow) (entries all : List Entry) → BeginsWithRows text rows []
         → AreEntries start rows entries after → HasEntries start (text ++ more) all
         → (behind : List Entry) × (all ≡ entries ++ behind) × HasEntries after more behind }
+{}
+
+/// A text that goes on has the entries of its whole rows, and then those of the rest after them, with what follows.
+///
+/// `space`: a rest of white space is to them one space. `comment`: a rest with a comment goes on to the next line feed.
+pub fn longer_texts_go_on_after_their_rest()
+    ensures rest { (start after : Context) (text rest more : List ℕ) (rows : List TokenRow) (entries all : List Entry)
+        → BeginsWithRows text rows rest → AreEntries start rows entries after → HasEntries start (text ++ more) all
+        → (behind : List Entry) × (all ≡ entries ++ behind) × HasEntries after (rest ++ more) behind }
+    ensures space { (start : Context) (rest more : List ℕ) (entries : List Entry) → rest ≢ [] → list_all is_gap rest ≡ true
+        → (HasEntries start (rest ++ more) entries ↔ HasEntries start (32 ∷ more) entries) }
+    ensures comment { (start : Context) (rest more : List ℕ) (entries : List Entry) → is_end rest ≡ true → list_all is_gap rest ≡ false
+        → (HasEntries start (rest ++ more) entries ↔ HasEntries start (from_feed more) entries) }
 {}
 
 /// The results of a reader, called repeatedly, are the records and includes of its text, in order (RFC 1035 5.1).
