@@ -6,3 +6,5 @@ mod Numbers
 mod Texts
 pub mod Outputs
 mod Received
+mod Tried
+mod TriedWords
