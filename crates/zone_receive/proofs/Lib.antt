@@ -18,3 +18,4 @@ pub mod RulesKept
 pub mod SpelledRecords
 pub mod TakenMessages
 pub mod TakenRecords
+pub mod Tried

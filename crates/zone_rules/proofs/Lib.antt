@@ -15,3 +15,4 @@ pub mod PrintedZones
 pub mod RecordClasses
 pub mod Judged
 pub mod ShortData
+pub mod Tried

@@ -180,7 +180,7 @@ shortest_each query item max [] few small = tt
 shortest_each query item max (group ∷ groups) few small =
     (shortest_message query item group (omega (arith, small.0)), shortest_each query item max groups few small.1)
 
-tree_best : (query : AxfrQuery) (records : List Record) (max : ℕ) (stream : List ℕ) → max ≤ 16384
+pub tree_best : (query : AxfrQuery) (records : List Record) (max : ℕ) (stream : List ℕ) → max ≤ 16384
     → IsSpelledSent tree_spelling records query max stream → IsBest records query max stream
 tree_best query records max stream few sent = record {
   item = sent.item;

@@ -19,6 +19,7 @@ pub mod SpelledStreams
 pub mod SpelledSums
 pub mod SpelledTransfers
 pub mod Streams
+pub mod TriedSpelled
 pub mod TriedTransfer
 pub mod TriedZone
 pub mod WrittenAnswers

@@ -13,3 +13,5 @@ mod SpelledNumbers
 mod SendableTexts
 mod AskedNames
 mod JobsPassed
+mod Tried
+mod TriedWords
