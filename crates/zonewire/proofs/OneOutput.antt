@@ -227,7 +227,7 @@ received_no_fault asking input records e a (bad error query is asked b) =
     (subst (λ (q : AxfrQuery). HasBadMessage q input error) (query_one asking query a.query asked a.asked) b)
 
 -- an input begins with a transfer of one list of records
-pub one_received : (asking input : List ℕ) (records others : List Record) → IsReceived asking input records → IsReceived asking input others
+one_received : (asking input : List ℕ) (records others : List Record) → IsReceived asking input records → IsReceived asking input others
     → records ≡ others
 one_received asking input records others a b =
     let query : b.query ≡ a.query = query_one asking b.query a.query b.asked a.asked in

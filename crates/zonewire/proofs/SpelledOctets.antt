@@ -1,5 +1,5 @@
 -- The records that a stream of octets transfers are a zone of octets.
-use Rattle.std.proofs.Common.{ℕ, ◌+◌, Bool, true, false, List, [], ◌∷◌, length, take, drop, refl, sym, subst, arith, take-append-drop}
+use Rattle.std.proofs.Common.{ℕ, ◌+◌, Bool, true, false, List, [], ◌∷◌, ◌++◌, length, take, drop, refl, sym, subst, arith, take-append-drop}
 use Rattle.std.specs.Prelude.{⊤}
 use Rattle.std.specs.Int.{to_be_bytes, w16}
 use Rattle.std.specs.List.{AllByRecursion}
@@ -13,7 +13,8 @@ use Rattle.dns_name.specs.SpelledParts.{Spells}
 use Rattle.dns_name.specs.SpelledParts.Spells.{counted, named, nothing, octets}
 use Rattle.dns_rdata.specs.Fields.{Field, IsData, IsField, compressible, field_octets, uncompressed}
 use Rattle.dns_rdata.specs.Fields as fields
-use Rattle.dns_message.specs.Record.{IsRead, IsRecord, read_parts}
+use Rattle.dns_header.specs.Head.{after_length, fixed_octets}
+use Rattle.dns_message.specs.Record.{IsRead, IsRecord, read_parts, record_octets}
 use Rattle.dns_message.specs.Record.IsRead.{opaque, typed}
 use Rattle.dns_message.proofs.Numbers.{octets_from}
 use Rattle.zone_octets.specs.Record.{Record}
@@ -27,6 +28,7 @@ use Rattle.zone_core.specs.Transfer.{AreAnswers, IsInZoneOf, IsTransfer, IsTrans
 use Rattle.zone_core.specs.Transfer.SpellsRecords.{none, one}
 use Rattle.zone_core.proofs.OneTransfer.{transferred_and_last}
 use Rattle.zone_receive.proofs.ReceivedZones.{transferred_is_zone}
+use Rattle.zone_receive.proofs.RulesKept.{known_record}
 use Rattle.zone_receive.proofs.SpelledRecords.{read_has_data}
 
 -- ---- names and parts
@@ -73,34 +75,39 @@ row_octets (uncompressed name ∷ row) each parts =
     all_append IsOctet (wire name) (fields.octets row) (wire_octets name each.0.labels parts.0) (row_octets row each.1 parts.1)
 row_octets (field ∷ row) each parts = all_append IsOctet (field_octets field) (fields.octets row) parts.0 (row_octets row each.1 parts.1)
 
--- the owner and the data are octets
+number_octets : (n : ℕ) → AreOctets (to_be_bytes w16 n)
+number_octets n = (omega arith, (omega arith, tt))
+
+-- a record, every name of it written out
+record_octets_are : (r : Record) → IsRecord r → AllByRecursion AreOctets r.owner → AreOctets (fixed_octets r.rtype r.class r.ttl) → AreOctets r.rdata
+    → AreOctets (record_octets r)
+record_octets_are r lawful owner fixed rdata =
+    let named = wire_octets r.owner lawful.owner.labels owner in
+    let front = all_append IsOctet (wire r.owner) (fixed_octets r.rtype r.class r.ttl) named fixed in
+    let counted = all_append IsOctet (to_be_bytes w16 (length r.rdata)) r.rdata (number_octets (length r.rdata)) rdata in
+    all_append IsOctet (wire r.owner ++ fixed_octets r.rtype r.class r.ttl) (after_length r.rdata) front counted
+
 record IsOfOctets (r : Record) : Type 0 where
   lawful : IsRecord r
   data_is : IsData r.rtype r.rdata
-  owner : AllByRecursion AreOctets r.owner
-  rdata : AreOctets r.rdata
+  written : AreOctets (record_octets r)
 
-read_owner : (r : Record) {parts : Parts} → IsRead r parts → HaveOctets parts → AllByRecursion AreOctets r.owner
-read_owner r (typed row is_row same) parts = parts.0
-read_owner r (opaque no_fields) parts = parts.0
-
-read_data : (r : Record) {parts : Parts} → IsRead r parts → HaveOctets parts → AreOctets r.rdata
-read_data r (typed row is_row same) parts = subst AreOctets (sym same) (row_octets row is_row.each parts.1.1.0)
-read_data r (opaque no_fields) parts = parts.1.1.0.0
+read_octets : (r : Record) {parts : Parts} → IsRecord r → IsRead r parts → HaveOctets parts → AreOctets (record_octets r)
+read_octets r lawful (typed row is_row same) parts =
+    record_octets_are r lawful parts.0 parts.1.0 (subst AreOctets (sym same) (row_octets row is_row.each parts.1.1.0))
+read_octets r lawful (opaque no_fields) parts = record_octets_are r lawful parts.0 parts.1.0 parts.1.1.0.0
 
 spelled_octets : {message : List ℕ} {place next : ℕ} {records : List Record} → AreOctets message
     → SpellsRecords message place records next → AllByRecursion IsOfOctets records
 spelled_octets each none = tt
-spelled_octets each (one {r = r} behind has more) =
-    let parts = parts_octets each has.spelled in (
-      record {
-        lawful = has.is_record;
-        data_is = read_has_data r has;
-        owner = read_owner r has.read parts;
-        rdata = read_data r has.read parts;
-      },
-      spelled_octets each more,
-    )
+spelled_octets each (one {r = r} behind has more) = (
+  record {
+    lawful = has.is_record;
+    data_is = read_has_data r has;
+    written = read_octets r has.is_record has.read (parts_octets each has.spelled);
+  },
+  spelled_octets each more,
+)
 
 -- ---- streams
 
@@ -123,14 +130,7 @@ each_known : (query : AxfrQuery) (records : List Record) → AllByRecursion (IsI
     → AllByRecursion (IsRecordOf query.class) records
 each_known query [] inside each = tt
 each_known query (r ∷ records) inside each = (
-  record {
-    lawful = each.0.lawful;
-    data_is = each.0.data_is;
-    class_is = inside.0.class;
-    spellable = inside.0.spellable;
-    owner_octets = each.0.owner;
-    data_octets = each.0.rdata;
-  },
+  known_record query.class (record_octets r) r each.0.lawful each.0.data_is inside.0.class inside.0.spellable each.0.written refl,
   each_known query records inside.1 each.1,
 )
 
