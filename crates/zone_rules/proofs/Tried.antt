@@ -7,7 +7,6 @@ use Rattle.dns_label.specs.Name.{IsName}
 use Rattle.dns_label.specs.declared.symbol.Symbol.TheVariants.{Char}
 use Rattle.dns_values.specs.Mnemonic.{classes, text_of, text_written, types}
 use Rattle.dns_scan.specs.Token.{unquoted}
-use Rattle.dns_scan.specs.declared.char_str.text.Style.TheVariants.{Quoted, Unquoted}
 use Rattle.dns_scan.proofs.TextsBack.{text_spells_only}
 use Rattle.dns_text.specs.Document.Layout.{Simple}
 use Rattle.dns_text.specs.Rows.{TokenRow, unled}
@@ -115,10 +114,11 @@ zone_printed =
     no_record refl)
     refl
 
--- `a. 60 IN SOA b. c. 1 2 3 4 5` and `a. 60 IN A 1.2.3.4` are a zone's text, whatever the origin: their names are absolute.
+-- `a. 60 IN SOA b. c. 1 2 3 4 5` and `a. 60 IN A 1.2.3.4`, a line each, are a zone's text, whatever the origin: their
+-- names are absolute.
 pub zone_is_text : (origin : Option (List (List ℕ))) → IsZoneText zone origin 1 (soa ∷ address ∷ [])
 zone_is_text origin =
-    zone_text_made (text_spells_only Quoted) (text_spells_only Unquoted) Simple origin 1 (soa ∷ address ∷ []) zone
+    zone_text_made (search text_spells_only) (search text_spells_only) Simple origin 1 (soa ∷ address ∷ []) zone
     (λ any. absurd (omega (arith, any))) are_records zone_printed
 
 -- Its records are not the SOA alone.
