@@ -12,6 +12,10 @@ use Rattle.dns_message.specs.Record.{IsWritten, record_parts, written_parts}
 use Rattle.dns_message.specs.Record.IsWritten.{fields}
 use Rattle.dns_message.proofs.WrittenItems.{written_one}
 use Rattle.dns_size.specs.Cost.{written}
+use Rattle.dns_size.specs.Free.{IsFree, Stand}
+use Rattle.dns_size.specs.Free.IsOneOf.{first, later}
+use Rattle.dns_size.specs.Free.SpellsFreely.{counted, named, nothing, octets}
+use Rattle.dns_size.specs.Free.SpellsNameFreely.{label, pointer, root}
 use Rattle.dns_size.specs.Groups.{group_parts}
 use Rattle.dns_size.specs.Joined.{join_parts}
 use Rattle.dns_size.proofs.OwnSpelling.{own_is_free}
@@ -104,6 +108,34 @@ no_two_messages other =
 pub is_best : IsBest (soa ∷ []) query 512 (frame shortest)
 is_best = tree_best query (soa ∷ []) 512 (frame shortest) (omega arith) sent
 
+-- a suffix of one label, at its place
+abbrev stand : ℕ → ℕ → Stand
+stand octet place = record { label = octet ∷ []; parent = []; place = place }
+
+-- `longer` spells the same parts: each of its pointers goes to the same suffix, written before.
+longer_is_free : IsFree longer (group_parts (answer_head query) (λ r. soa_parts) (soa ∷ soa ∷ []))
+unfolding soa_parts
+longer_is_free = record {
+  after = _;
+  spelled =
+      octets _ _ refl
+      (named (stand 97 12 ∷ []) 15 (label (97 ∷ []) _ refl (root _ refl))
+      (octets _ _ refl
+      (named (stand 97 19 ∷ []) 21 (pointer 192 12 _ (stand 97 12) refl (omega arith) refl first)
+      (octets _ _ refl
+      (counted 26 _ _ refl (omega arith)
+      (named (stand 98 31 ∷ []) 34 (label (98 ∷ []) _ refl (root _ refl))
+      (named (stand 99 34 ∷ []) 37 (label (99 ∷ []) _ refl (root _ refl))
+      (octets _ _ refl (octets _ _ refl (octets _ _ refl (octets _ _ refl (octets _ _ refl (nothing (omega arith)))))))))
+      (named (stand 97 57 ∷ []) 59 (pointer 192 12 _ (stand 97 12) refl (omega arith) refl (later (later (later first))))
+      (octets _ _ refl
+      (counted 25 _ _ refl (omega arith)
+      (named (stand 98 69 ∷ []) 71 (pointer 192 31 _ (stand 98 31) refl (omega arith) refl (later (later first)))
+      (named (stand 99 71 ∷ []) 74 (label (99 ∷ []) _ refl (root _ refl))
+      (octets _ _ refl (octets _ _ refl (octets _ _ refl (octets _ _ refl (octets _ _ refl (nothing (omega arith)))))))))
+      (nothing (omega arith))))))))));
+}
+
 beaten : (item : Record → Parts) → IsWritten soa (item soa) → IsShortest query item longer (soa ∷ soa ∷ []) → ⊥
 unfolding message_with
 beaten item given is =
@@ -124,7 +156,7 @@ one_group item (group ∷ []) given joins each =
     beaten item given (subst (λ (g : List Record). IsShortest query item longer g) (sym (append-nil group) ∙ joins) each.0)
 one_group item (group ∷ (next ∷ groups)) given joins each = absurd each.1
 
--- The message of 94 octets is not a best one.
+-- A stream of the message of 94 octets is not a best one: the one of 93 is shorter.
 pub no_longer_message : IsBest (soa ∷ []) query 512 (frame longer) → ⊥
 no_longer_message is =
     let one : is.messages ≡ longer ∷ [] =
