@@ -14,7 +14,7 @@ use Rattle.zone_core.proofs.OrderedRules.Rules.{no_more, rule}
 pub question_one : {message : List ℕ} {place next end : ℕ} {q other : Question} → ReadsQuestion message place q next
     → ReadsQuestion message place other end → (q ≡ other) × (next ≡ end)
 question_one {message} {place} {next} {end} {q} {other} reads reads' =
-    some_question_one {message} {place} (record { q = q; next = next; has = reads }) (record { q = other; next = end; has = reads' })
+    some_question_one {message = message} {place = place} (record { q = q; next = next; has = reads }) (record { q = other; next = end; has = reads' })
 
 -- a message has a question for which this holds
 abbrev AsksWith : List ℕ → (Question → ℕ → Type 0) → Type 0
