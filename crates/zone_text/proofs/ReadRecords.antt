@@ -108,38 +108,38 @@ follows (soa ∷ others) (Some apex) r same front may =
     (front.0, all_append (IsBehindSoa soa) others (r ∷ []) front.1 (under, tt))
 
 -- a broken rule is a fault of the checks
-pub check_fault : (untyped : Bool) (number : ℕ) (apex : Option (List (List ℕ))) (r : Record) (error : ZoneError)
-    → BreaksRule number apex r error → IsCheckFault untyped number apex r error
-check_fault untyped number apex r zone_error.OutOfMemory broken = absurd broken
-check_fault untyped number apex r error broken = broken
+pub check_fault : (unknown : Bool) (number : ℕ) (apex : Option (List (List ℕ))) (r : Record) (error : ZoneError)
+    → BreaksRule number apex r error → IsCheckFault unknown number apex r error
+check_fault unknown number apex r zone_error.OutOfMemory broken = absurd broken
+check_fault unknown number apex r error broken = broken
 
 -- and a fault of the checks is the text's
-pub breaks : {text : List ℕ} {origin : Option (List (List ℕ))} {class number : ℕ} {new : Reader} {untyped : Bool} (records : List Record)
+pub breaks : {text : List ℕ} {origin : Option (List (List ℕ))} {class number : ℕ} {new : Reader} (unknown : Bool) (records : List Record)
     (apex : Option (List (List ℕ))) (r : Record) (error : ZoneError) → class ≢ any_class → apex ≡ apex_in records → IsZoneFront records
-    → MeetsRecord text origin class number records r new → IsCheckFault untyped number apex r error → IsZoneFault text origin class error
-breaks {text} {origin} {class} records apex r (zone_error.Untyped n) known same front met broken =
+    → MeetsRecord text origin class number records r new → IsCheckFault unknown number apex r error → IsZoneFault text origin class error
+breaks {text} {origin} {class} unknown records apex r (zone_error.Untyped n) known same front met broken =
     subst (λ m. IsZoneFault text origin class (zone_error.Untyped m)) (sym broken.0) (untyped_fault met broken.1)
-breaks {text} {origin} {class} [] None r (zone_error.FirstNotSoa n) known same front met broken =
+breaks {text} {origin} {class} unknown [] None r (zone_error.FirstNotSoa n) known same front met broken =
     subst (λ m. IsZoneFault text origin class (zone_error.FirstNotSoa m)) (sym broken.0) (first_fault met broken.1 refl broken.2)
-breaks {text} {origin} {class} (soa ∷ others) (Some apex) r (zone_error.SecondSoa n) known same front met broken =
+breaks {text} {origin} {class} unknown (soa ∷ others) (Some apex) r (zone_error.SecondSoa n) known same front met broken =
     subst (λ m. IsZoneFault text origin class (zone_error.SecondSoa m)) (sym broken.0) (second_fault soa others met broken.1 refl broken.2)
-breaks {text} {origin} {class} (soa ∷ others) (Some apex) r (zone_error.OutOfZone n) known same front met broken =
+breaks {text} {origin} {class} unknown (soa ∷ others) (Some apex) r (zone_error.OutOfZone n) known same front met broken =
     let alike : apex ≡ soa.owner = cc in
     subst (λ m. IsZoneFault text origin class (zone_error.OutOfZone m)) (sym broken.0)
     (out_fault soa others met broken.1 refl broken.2 (λ under. broken.3 (subst (λ a. IsUnder a r.owner) (sym alike) under)))
-breaks {text} {origin} {class} records apex r (zone_error.Unspellable n) known same front met broken =
+breaks {text} {origin} {class} unknown records apex r (zone_error.Unspellable n) known same front met broken =
     subst (λ m. IsZoneFault text origin class (zone_error.Unspellable m)) (sym broken.0)
     (unspellable_fault met broken.1 (follows records apex r same front broken.2) broken.3)
-breaks records apex r zone_error.OutOfMemory known same front met broken = known
-breaks [] (Some apex) r error known same front met broken = absurd cc
-breaks (soa ∷ others) None r error known same front met broken = absurd cc
-breaks records apex r zone_error.ClassAny known same front met broken = absurd broken
-breaks records apex r (zone_error.Text n) known same front met broken = absurd broken
-breaks records apex r (zone_error.Include n) known same front met broken = absurd broken
-breaks [] None r (zone_error.SecondSoa n) known same front met broken = absurd broken
-breaks [] None r (zone_error.OutOfZone n) known same front met broken = absurd broken
-breaks (soa ∷ others) (Some apex) r (zone_error.FirstNotSoa n) known same front met broken = absurd broken
-breaks records apex r zone_error.NoSoa known same front met broken = absurd broken
+breaks unknown records apex r zone_error.OutOfMemory known same front met broken = known
+breaks unknown [] (Some apex) r error known same front met broken = absurd cc
+breaks unknown (soa ∷ others) None r error known same front met broken = absurd cc
+breaks unknown records apex r zone_error.ClassAny known same front met broken = absurd broken
+breaks unknown records apex r (zone_error.Text n) known same front met broken = absurd broken
+breaks unknown records apex r (zone_error.Include n) known same front met broken = absurd broken
+breaks unknown [] None r (zone_error.SecondSoa n) known same front met broken = absurd broken
+breaks unknown [] None r (zone_error.OutOfZone n) known same front met broken = absurd broken
+breaks unknown (soa ∷ others) (Some apex) r (zone_error.FirstNotSoa n) known same front met broken = absurd broken
+breaks unknown records apex r zone_error.NoSoa known same front met broken = absurd broken
 
 -- one record more
 pub more_read : {text : List ℕ} {origin : Option (List (List ℕ))} {class number : ℕ} {reader new : Reader} {octets places octets' places' : List ℕ}

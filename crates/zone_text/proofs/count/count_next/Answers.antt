@@ -38,7 +38,7 @@ returns-in_err-check_last-clause-err c =
     let begin = begin_first c.args.octets.now.items records counted.read.stored.each counted.first in
     let stands = stands_last (apex_in records) c.len-place.result c.deref.result.now begin met.2 place c.deref.ensures.value in
     let number = c.entry_number.ensures ∙ number_given c.meet_record.new.zonefile c.in_ok-untyped.ensures.unrefused in
-    breaks records (apex_in records) (record_of met.2.rr) c.in_err-check_last.field-0.0 known refl counted.read.keep.front
+    breaks _ records (apex_in records) (record_of met.2.rr) c.in_err-check_last.field-0.0 known refl counted.read.keep.front
     (record_met known counted.read met.1 met.2.is number) (c.in_err-check_last.ensures.err (apex_in records) (record_of met.2.rr) stands))
 
 pub returns-then-place-gt0-clause-more : goal.returns-then-place-gt0-clause-more

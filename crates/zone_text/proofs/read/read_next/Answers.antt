@@ -37,7 +37,7 @@ returns-in_err-check_last-clause-err c =
     let records = records_in read.entries in
     let stands = stands_last (apex_in records) c.len-place.result c.deref.result.now (begin_stored records read.stored) met.2 place c.deref.ensures.value in
     let counted = c.entry_number.ensures ∙ number_given c.meet_record.new.zonefile c.in_ok-untyped.ensures.unrefused in
-    breaks records (apex_in records) (record_of met.2.rr) c.in_err-check_last.field-0.0 known refl read.keep.front
+    breaks _ records (apex_in records) (record_of met.2.rr) c.in_err-check_last.field-0.0 known refl read.keep.front
     (record_met known read met.1 met.2.is counted) (c.in_err-check_last.ensures.err (apex_in records) (record_of met.2.rr) stands))
 
 pub returns-in-Ok-clause-more : goal.returns-in-Ok-clause-more
