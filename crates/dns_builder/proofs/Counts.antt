@@ -5,7 +5,7 @@ use Rattle.std.specs.Int.{from_be_bytes, to_be_bytes, w16}
 use Rattle.std.proofs.Math.Seq.{drop-append-add}
 use Rattle.std.proofs.lemmas.Nat.{from_be_bytes-to_be_bytes_2}
 use Rattle.dns_name.specs.Remembered.{patched}
-use Rattle.dns_header.specs.Header.{number_at}
+use Rattle.dns_octets.specs.Numbers.{number_at}
 use Rattle.dns_builder.proofs.Patches.{patched_behind}
 
 -- four counts, two octets each

@@ -6,7 +6,7 @@ use Rattle.dns_octets.specs.Builder.{Known, GrowsTo}
 use Rattle.dns_name.specs.Spelling.{Spelling}
 use Rattle.dns_name.specs.Page.{Page, Parts, write}
 use Rattle.dns_name.specs.RecordData.{page_of}
-use Rattle.dns_header.specs.Header.{number_at}
+use Rattle.dns_octets.specs.Numbers.{number_at}
 use Rattle.dns_builder.specs.Built.{Built, Draft, IsDraftOf, count_at, counts_octets, header_octets, built_page, write_all, starts_behind}
 use Rattle.dns_builder.specs.Steps.{counted_at}
 use Rattle.dns_builder.proofs.SameBehind.{SameBehind, same_all, same_starts, same_none}

@@ -5,7 +5,7 @@ use Rattle.dns_name.specs.Spelling.{Spelling}
 use Rattle.dns_name.specs.Page.{Page, Parts, write}
 use Rattle.dns_name.specs.RecordData.{page_of}
 use Rattle.dns_name.specs.Remembered.{patched}
-use Rattle.dns_header.specs.Header.{number_at}
+use Rattle.dns_octets.specs.Numbers.{number_at}
 use Rattle.dns_builder.specs.Built.{Built, Draft, IsDraftOf, count_at, counts_octets, header_octets, write_all, starts_behind}
 use Rattle.dns_builder.specs.Steps.{with_item, onto_last, counted_at}
 use Rattle.dns_builder.proofs.Counts.{patched_count}

@@ -3,7 +3,7 @@ use Rattle.std.specs.Prelude.{⊤, true, ◌≡◌, ◌≤◌, ◌<◌, ◌+◌,
 use Rattle.dns_octets.specs.Builder.{IsWithin, IsPast}
 use Rattle.dns_name.specs.Spelling.{Spelling}
 use Rattle.dns_name.specs.Page.{Parts, write}
-use Rattle.dns_header.specs.Header.{number_at}
+use Rattle.dns_octets.specs.Numbers.{number_at}
 use Rattle.dns_header.specs.HeaderFields.{fields_of}
 use Rattle.dns_builder.specs.Built.{Built, Draft}
 use Rattle.dns_sections.specs.declared.error.PushError.{PushError}

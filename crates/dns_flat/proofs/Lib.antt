@@ -9,6 +9,7 @@ pub mod Standing
 pub mod RelativeForms
 pub mod PartForms
 pub mod NameParts
+mod FirstNames
 mod Putting
 pub mod Chains
 pub mod Constants

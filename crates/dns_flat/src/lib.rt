@@ -18,7 +18,7 @@ pub mod wire_form;
 
 pub use builder::{NameBuilder, PushNameError};
 pub use chain::{Chain, LongChainError};
-pub use name::{Name, NameError, SuffixIter};
+pub use name::{Name, NameError, SuffixIter, first_name};
 pub use name_iter::NameIter;
 pub use print::DisplayWithDot;
 pub use relative::{RelativeName, RelativeNameError, StripSuffixError};

@@ -16,6 +16,7 @@ ghost use Rattle.dns_octets.specs.Parser.{GoesOn, octets_of, place_of, rest_of};
 ghost use Rattle.dns_octets.specs.declared.error.ParseError.TheVariants.{ShortInput};
 
 mod canonical;
+mod first;
 mod makes;
 mod order;
 mod parts;
@@ -28,6 +29,7 @@ use dns_wire::ToLabelIter;
 use dns_wire::compare::{ends_with, flat_ends_with};
 use dns_wire::skip::skip_name;
 use dns_wire::walk::split_label;
+pub use first::first_name;
 pub(crate) use makes::copied_name;
 use std::alloc::{AllocError, Global};
 use std::marker::Model;

@@ -7,7 +7,7 @@ use Rattle.dns_octets.specs.declared.error.ParseError.{ParseError}
 use Rattle.dns_octets.specs.declared.error.ParseError.TheVariants.{ShortInput}
 use Rattle.dns_label.specs.Spelled.{Reads}
 use Rattle.dns_label.proofs.Spelling.{reads_one}
-use Rattle.dns_header.specs.Header.{number_at}
+use Rattle.dns_octets.specs.Numbers.{number_at}
 use Rattle.dns_header.specs.Head.{Head, ReadsHead, NoHead, NoWhole, HeadIsCut, WholeIsCut}
 use Rattle.dns_header.specs.Head.WholeIsCut.{in_head, in_data}
 use Rattle.dns_header.specs.Record.{NoData, DataIsRefused}

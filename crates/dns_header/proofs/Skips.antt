@@ -2,7 +2,7 @@
 use Rattle.std.proofs.Common.{◌≡◌, ◌+◌, ◌<◌, ℕ, List, length, refl, ap, arith}
 use Rattle.dns_wire.specs.Skip.{Skips}
 use Rattle.dns_wire.proofs.Skipping.{skips-one}
-use Rattle.dns_header.specs.Header.{number_at}
+use Rattle.dns_octets.specs.Numbers.{number_at}
 use Rattle.dns_header.specs.SkipsRecord.{SkipsRecord}
 
 pub skips_short : {message : List ℕ} {place behind : ℕ} → Skips message 254 place behind → length message < behind + 10

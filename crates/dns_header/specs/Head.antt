@@ -6,7 +6,7 @@ use Rattle.dns_label.specs.Spelled.{Reads}
 use Rattle.dns_wire.specs.Cut.{IsCut}
 use Rattle.dns_name.specs.Page.{Parts}
 use Rattle.dns_name.specs.Page.Parts.{End, Octets, Named, Counted}
-use Rattle.dns_header.specs.Header.{number_at}
+use Rattle.dns_octets.specs.Numbers.{number_at}
 
 -- the fields, for any type of owner
 pub record Head (Owner : Type 0) : Type 0 where

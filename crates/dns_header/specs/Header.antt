@@ -1,11 +1,8 @@
 -- The header of a message: its first twelve octets (RFC 1035 4.1.1).
-use Rattle.std.specs.Prelude.{◌/◌, ◌%◌, ◌==◌, ℕ, Bool, List, ◌∷◌, ◌++◌, take, drop, slice_index, nat_lt}
+use Rattle.std.specs.Prelude.{◌/◌, ◌%◌, ◌==◌, ℕ, Bool, List, ◌∷◌, ◌++◌, slice_index, nat_lt}
 use Rattle.std.specs.Prelude.{if◌then◌else◌}
-use Rattle.std.specs.Int.{from_be_bytes, to_be_bytes, w16}
-
--- the number in two octets at a place
-abbrev pub number_at : List ℕ → ℕ → ℕ
-number_at message place = from_be_bytes w16 (take 2 (drop place message))
+use Rattle.std.specs.Int.{to_be_bytes, w16}
+use Rattle.dns_octets.specs.Numbers.{number_at}
 
 abbrev pub id_of : List ℕ → ℕ
 id_of message = number_at message 0

@@ -1,7 +1,8 @@
 -- The counts of questions and records in a message (RFC 1035 4.1.1), as eight octets.
 use Rattle.std.specs.Prelude.{◌≡◌, ◌+◌, ℕ, List, ◌++◌, length, slice_index, slice_set}
 use Rattle.std.specs.Int.{to_be_bytes, w16}
-use Rattle.dns_header.specs.Header.{number_at, question_count, answer_count, authority_count, additional_count}
+use Rattle.dns_header.specs.Header.{question_count, answer_count, authority_count, additional_count}
+use Rattle.dns_octets.specs.Numbers.{number_at}
 
 -- the questions, answers, authority and additional records
 pub record Counts : Type 0 where

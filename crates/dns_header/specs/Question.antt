@@ -6,7 +6,7 @@ use Rattle.dns_label.specs.Spelled.{Reads}
 use Rattle.dns_name.specs.Page.{Parts}
 use Rattle.dns_name.specs.Page.Parts.{End, Octets, Named}
 use Rattle.dns_wire.specs.Skip.{Skips}
-use Rattle.dns_header.specs.Header.{number_at}
+use Rattle.dns_octets.specs.Numbers.{number_at}
 
 pub record Question : Type 0 where
   pub name : List (List ℕ)

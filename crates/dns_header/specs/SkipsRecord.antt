@@ -2,7 +2,7 @@
 use Rattle.std.specs.Prelude.{◌≡◌, ◌+◌, ◌≤◌, ◌<◌, ℕ, List, length}
 use Rattle.dns_wire.specs.Cut.{IsCut}
 use Rattle.dns_wire.specs.Skip.{Skips}
-use Rattle.dns_header.specs.Header.{number_at}
+use Rattle.dns_octets.specs.Numbers.{number_at}
 
 -- An owner, ten octets after it, and as many octets of data as the last two of them tell; `next` is the place after
 -- these.

@@ -1,6 +1,6 @@
 //! The counts of questions and records in a message (RFC 1035 4.1.1; in updates RFC 2136 2.2).
 ghost use Rattle.std.specs.Prelude.{◌≡◌, ◌+◌, ◌-◌, ◌<◌, ◌≤◌, ◌↔◌, ℕ, [], ◌∷◌, length, take, drop, slice_index, IsErr, OnOk, OnErr};
-ghost use Rattle.dns_header.specs.Header.{number_at};
+ghost use Rattle.dns_octets.specs.Numbers.{number_at};
 ghost use Rattle.dns_header.specs.HeaderCounts.{counts_of, counts_in, ChangesNumber};
 
 use std::marker::Model;

@@ -6,7 +6,7 @@ ghost use Rattle.dns_octets.specs.declared.error.AppendError.TheVariants.{ShortB
 ghost use Rattle.dns_octets.specs.declared.error.ParseError.TheVariants as parse_error;
 ghost use Rattle.dns_name.specs.Page.{write};
 ghost use Rattle.dns_name.specs.RecordData.{page_of};
-ghost use Rattle.dns_header.specs.Header.{number_at};
+ghost use Rattle.dns_octets.specs.Numbers.{number_at};
 ghost use Rattle.dns_octets.specs.Parser.{GoesOn, octets_of, place_of};
 ghost use Rattle.dns_name.specs.ParsedName.{labels_of};
 ghost use Rattle.dns_header.specs.Head.{Head, labelled, fixed_octets, head_parts, canonical_head, ReadsHead, ReadsWhole, NoHead, NoWhole, HeadIsCut, WholeIsCut};

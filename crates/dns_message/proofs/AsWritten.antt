@@ -1,5 +1,5 @@
 -- A record that is spelled as it is written is read.
-use Rattle.std.proofs.Common.{◌≡◌, ℕ, ◌+◌, ◌≤◌, List, [], ◌∷◌, ◌++◌, length, drop, sym, ap, subst, arith, length-append, length-drop}
+use Rattle.std.proofs.Common.{◌≡◌, ℕ, ◌+◌, ◌≤◌, List, [], ◌∷◌, ◌++◌, length, drop, ap, arith, length-append, length-drop}
 use Rattle.std.specs.Int.{to_be_bytes, w16}
 use Rattle.std.specs.List.{AllByRecursion}
 use Rattle.dns_label.specs.Name.{wire}
@@ -7,11 +7,11 @@ use Rattle.dns_name.specs.SpelledParts.{Spells}
 use Rattle.dns_name.specs.SpelledParts.Spells.{octets, named, counted}
 use Rattle.dns_name.specs.Page.{Parts}
 use Rattle.dns_name.specs.Page.Parts.{End, Octets, Named, Counted}
-use Rattle.dns_rdata.specs.Fields.{Field, IsField}
+use Rattle.dns_rdata.specs.Fields.{Field, IsData, IsField}
 use Rattle.dns_rdata.specs.Fields.Field.{number8, number16, number32, ipv4, ipv6, compressible, uncompressed, string, strings, tag, rest_text, rest16, rest64}
 use Rattle.dns_header.specs.Head.{fixed_octets}
 use Rattle.dns_header.proofs.WrittenQuestions.{reads-written}
-use Rattle.dns_message.specs.Record.{Record, IsRecord, IsWritten, ReadsRecord, ReadsPlainRecord, read_parts, written_parts, record_octets}
+use Rattle.dns_message.specs.Record.{Record, IsRecord, IsWritten, ReadsRecord, read_parts, written_parts, record_octets}
 use Rattle.dns_message.specs.Record.IsRead.{typed, opaque}
 use Rattle.dns_message.specs.Record.IsWritten.{fields, untold}
 use Rattle.dns_message.proofs.WrittenRecords.{record-written}
@@ -92,8 +92,8 @@ place_within message place front rest at some =
     omega (arith, length-drop place message, ap (length {A = ℕ}) at, length-append front rest)
 
 -- a record that is written out, at a place
-pub plain_read : {message : List ℕ} {place next : ℕ} {r : Record} → ReadsPlainRecord message place r next → ReadsRecord message place r next
-plain_read {message} {place} {r = r} plain =
-    let within = place_within message place (record_octets r) plain.rest plain.at (omega (arith, least_record r)) in
-    let P : ℕ → Type 0 = λ next. ReadsRecord message place r next in
-    subst P (sym plain.ends) (record-written message place r plain.rest plain.at within plain.is_record plain.data_is)
+pub plain_read : {message : List ℕ} {place : ℕ} (r : Record) (rest : List ℕ) → IsRecord r → IsData r.rtype r.rdata
+    → drop place message ≡ record_octets r ++ rest → ReadsRecord message place r (place + length (record_octets r))
+plain_read {message} {place} r rest is_record data_is at =
+    let within = place_within message place (record_octets r) rest at (omega (arith, least_record r)) in
+    record-written message place r rest at within is_record data_is

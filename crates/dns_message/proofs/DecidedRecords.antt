@@ -9,7 +9,7 @@ use Rattle.dns_rdata.specs.Fields.{Kind, kind_of, kinds_of}
 use Rattle.dns_rdata.specs.Data as data_specs
 use Rattle.dns_rdata.specs.Data.{Data}
 use Rattle.dns_rdata.specs.Data.Data.{typed as in_fields, untyped}
-use Rattle.dns_header.specs.Header.{number_at}
+use Rattle.dns_octets.specs.Numbers.{number_at}
 use Rattle.dns_header.specs.Head.{Head, ReadsHead, ReadsWhole}
 use Rattle.dns_header.specs.Question.{Question, ReadsQuestion}
 use Rattle.dns_header.specs.Record.{RecordOf}

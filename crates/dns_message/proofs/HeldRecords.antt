@@ -13,7 +13,7 @@ use Rattle.dns_rdata.specs.Data as data_specs
 use Rattle.dns_rdata.specs.Data.{Data, number_of}
 use Rattle.dns_rdata.specs.Data.Data.{typed as in_fields, untyped}
 use Rattle.dns_rdata.specs.DataOctets.{data_octets}
-use Rattle.dns_header.specs.Header.{number_at}
+use Rattle.dns_octets.specs.Numbers.{number_at}
 use Rattle.dns_header.specs.Head as head_specs
 use Rattle.dns_header.specs.Head.{Head, ReadsHead, ReadsWhole, fixed_octets}
 use Rattle.dns_header.specs.Record.{RecordOf}

@@ -4,7 +4,7 @@ use Rattle.std.specs.Int.{to_be_bytes, from_be_bytes, w16, w32}
 use Rattle.std.proofs.lemmas.List.{drop-drop}
 use Rattle.std.proofs.lemmas.Nat.{be_bytes_2, be_bytes_4}
 pub use Rattle.dns_label.specs.Octets.{AreOctets}
-use Rattle.dns_header.specs.Header.{number_at}
+use Rattle.dns_octets.specs.Numbers.{number_at}
 
 pub octet_at : (text : List ℕ) → AreOctets text → (i : ℕ) → get_or text i 0 < 256
 octet_at [] each i = omega arith

@@ -5,7 +5,7 @@ use Rattle.dns_label.proofs.Spelling.{reads_one}
 use Rattle.dns_rdata.specs.Fields.{Field, kind_of, kinds_of, octets, IsRow}
 use Rattle.std.proofs.lemmas.List.{length-take-le}
 use Rattle.dns_rdata.proofs.ComposedRows.{row_read_once}
-use Rattle.dns_rdata.proofs.Fronts.{same_fronts, same_number16, same_number32}
+use Rattle.dns_octets.proofs.Fronts.{same_fronts, same_number16, same_number32}
 use Rattle.dns_name.specs.SpelledParts.{Spells}
 use Rattle.dns_name.specs.Page.{Parts}
 use Rattle.dns_name.specs.Page.Parts.{End, Octets, Counted}

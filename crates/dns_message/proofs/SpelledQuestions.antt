@@ -6,7 +6,7 @@ use Rattle.dns_label.proofs.Spelling.{drop_behind}
 use Rattle.dns_name.specs.SpelledParts.{Spells}
 use Rattle.dns_name.specs.SpelledParts.Spells.{nothing, octets, named}
 use Rattle.dns_name.specs.Page.Parts.{End}
-use Rattle.dns_header.specs.Header.{number_at}
+use Rattle.dns_octets.specs.Numbers.{number_at}
 use Rattle.dns_header.specs.Question.{Question, ReadsQuestion, question_parts}
 use Rattle.dns_message.proofs.Numbers.{AreOctets, number16}
 use Rattle.dns_message.proofs.Opened.{opened}

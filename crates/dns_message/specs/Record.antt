@@ -1,7 +1,7 @@
 -- Resource records (RFC 1035 3.2.1), and the parts by which a message spells them.
-use Rattle.std.specs.Prelude.{◌≡◌, ◌+◌, ◌<◌, ◌^◌, ℕ, List, ◌++◌, length, drop, None}
+use Rattle.std.specs.Prelude.{◌≡◌, ◌<◌, ◌^◌, ℕ, List, length, None}
 use Rattle.dns_label.specs.Name.{IsName}
-use Rattle.dns_rdata.specs.Fields.{Field, octets, IsRow, IsData, kinds_of}
+use Rattle.dns_rdata.specs.Fields.{Field, octets, IsRow, kinds_of}
 use Rattle.dns_name.specs.SpelledParts.{Spells}
 pub use Rattle.dns_rdata.specs.Reading.{read_parts}
 pub use Rattle.dns_rdata.specs.Written.{written_parts}
@@ -50,11 +50,3 @@ pub record ReadsRecord (message : List ℕ) (place : ℕ) (r : Record) (next : �
   pub parts : Parts
   pub read : IsRead r parts
   pub spelled : Spells message place parts next
-
--- The same, with every name in the record written out.
-pub record ReadsPlainRecord (message : List ℕ) (place : ℕ) (r : Record) (next : ℕ) : Type 0 where
-  pub is_record : IsRecord r
-  pub data_is : IsData r.rtype r.rdata
-  pub rest : List ℕ
-  pub at : drop place message ≡ record_octets r ++ rest
-  pub ends : next ≡ place + length (record_octets r)

@@ -16,7 +16,7 @@ ghost use Rattle.dns_header.specs.Record.{RecordOf};
 ghost use Rattle.dns_header.specs.ParsedRecord.{Parsed, HoldsRecord, IsRecordOf};
 ghost use Rattle.dns_message.specs.Answer.{answer_fields, answer_counts};
 ghost use Rattle.dns_message.specs.Held.{TakesRecord, record_of, written_parts_of};
-ghost use Rattle.dns_message.specs.Record.{Record, IsRecord, IsWritten, ReadsPlainRecord, ReadsRecord, record_octets};
+ghost use Rattle.dns_message.specs.Record.{Record, IsRecord, IsWritten, ReadsRecord, record_octets};
 
 pub use dns_builder::laws::{
     built_messages_are_read_back, other_headers_are_readable, other_sections_are_readable,
@@ -81,8 +81,6 @@ pub fn written_records_are_read()
     ensures in_full { (message front rest : List ℕ) (r : Record) → IsRecord r → IsData r.rtype r.rdata
         → message ≡ front ++ (record_octets r ++ rest)
         → ReadsRecord message (length front) r (length front + length (record_octets r)) }
-    ensures plain { (message : List ℕ) (place next : ℕ) (r : Record) → ReadsPlainRecord message place r next
-        → ReadsRecord message place r next }
 {}
 
 /// Text can spell data of a type exactly if it is not that of CAA, or its second octet, which is the length of the tag,

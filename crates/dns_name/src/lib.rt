@@ -19,7 +19,7 @@ pub use composer::Composer;
 pub use dns_flat::{
     Chain, DisplayWithDot, LongChainError, Name, NameBuilder, NameError, NameIter, PushNameError,
     RelativeFromStrError, RelativeName, RelativeNameError, SpelledName, StripSuffixError,
-    SuffixIter, ToName, ToRelativeName,
+    SuffixIter, ToName, ToRelativeName, first_name,
 };
 pub use dns_label::{
     BadSymbol, Label, LabelFromStrError, LabelMut, LabelTypeError, LongLabelError, OctetKind,

@@ -227,15 +227,6 @@ module _ (folds : Bool) where
   kept_take {octets} new len (Some (place, stop)) is sound =
       rw is (take_by len place stop (nat_le stop len) refl sound)
 
-  pub sound_within : {octets : List ℕ} (len : ℕ) (between : Option (ℕ × ℕ)) → ∥ IsSound (one_suffix folds) (remembered folds octets between) octets ∥₁
-      → ∥ IsSound (one_suffix folds) (remembered folds octets (within len between)) octets ∥₁
-  sound_within len None sound = sound
-  sound_within {octets} len (Some (place, stop)) sound = by_test (nat_le stop len)
-    where
-      by_test : (test : Bool) → ∥ IsSound (one_suffix folds) (remembered folds octets (if test then Some (place, stop) else None)) octets ∥₁
-      by_test true = sound
-      by_test false = ∣ sound_none (one_suffix folds) octets ∣₁
-
   pub sound_take : {octets : List ℕ} (new : List ℕ) (len : ℕ) (between after : Option (ℕ × ℕ)) → new ≡ take len octets
       → remembered folds new after ≡ before len (remembered folds octets between)
       → ∥ IsSound (one_suffix folds) (remembered folds octets between) octets ∥₁ → ∥ IsSound (one_suffix folds) (remembered folds new after) new ∥₁

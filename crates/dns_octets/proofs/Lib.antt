@@ -1,3 +1,5 @@
 pub mod Grows
 pub mod Addresses
 pub mod BothWays
+pub mod Fronts
+mod Patched

@@ -1,3 +1,4 @@
 pub mod Builder
+pub mod Numbers
 pub mod Parser
 pub mod ErrorText

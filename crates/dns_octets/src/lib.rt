@@ -8,6 +8,7 @@ mod builder;
 mod compose;
 mod error;
 pub mod laws;
+mod numbers;
 mod octets;
 mod parse;
 mod parser;
@@ -18,6 +19,7 @@ pub use builder::{
 };
 pub use compose::Compose;
 pub use error::{AppendError, FormError, ParseError, ShortInput};
+pub use numbers::{number_at, put_number};
 pub use octets::Octets;
 pub use parse::Parse;
 pub use parser::Parser;

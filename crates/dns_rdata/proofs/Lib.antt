@@ -1,5 +1,4 @@
 pub use Rattle.dns_fields.proofs.ComposedRows
-pub mod Fronts
 pub mod Pairs
 pub mod ScanAny
 pub mod PrintedData

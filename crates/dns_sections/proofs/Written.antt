@@ -5,7 +5,7 @@ use Rattle.std.proofs.lemmas.List.{set-append_right, take-append-le, drop-take, 
 use Rattle.std.proofs.lemmas.Nat.{from_be_bytes-to_be_bytes_2}
 use Rattle.std.specs.Int.{to_be_bytes, from_be_bytes, w16}
 use Rattle.dns_name.specs.Remembered.{patched}
-use Rattle.dns_header.specs.Header.{number_at}
+use Rattle.dns_octets.specs.Numbers.{number_at}
 use Rattle.dns_header.specs.HeaderCounts.{counts_in}
 
 -- one octet more

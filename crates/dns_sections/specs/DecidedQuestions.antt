@@ -7,7 +7,7 @@ use Rattle.std.proofs.Common.{◌∙◌, inl, inr, refl, sym, arith}
 use Rattle.std.proofs.lemmas.Bool.{false≢true}
 use Rattle.dns_label.proofs.Spelling.{reads_one}
 use Rattle.dns_octets.specs.declared.error.ParseError.{ParseError}
-use Rattle.dns_header.specs.Header.{number_at}
+use Rattle.dns_octets.specs.Numbers.{number_at}
 use Rattle.dns_header.specs.Question.{Question, ReadsQuestion}
 use Rattle.dns_header.specs.QuestionLaws.{questions_equivalence}
 use Rattle.dns_header.specs.QuestionOrder.{questions_eq}

@@ -2,7 +2,7 @@
 use Rattle.std.specs.Prelude.{◌≡◌, ◌+◌, ℕ, List, ◌∷◌, Some, Ok}
 use Rattle.std.proofs.Common.{◌∙◌, refl, ap, subst, sym, arith}
 use Rattle.dns_label.proofs.Spelling.{reads_one}
-use Rattle.dns_header.specs.Header.{number_at}
+use Rattle.dns_octets.specs.Numbers.{number_at}
 use Rattle.dns_header.specs.Question.{Question, ReadsQuestion}
 use Rattle.dns_sections.specs.Answers.{HasQuestions}
 use Rattle.dns_sections.specs.Cursor.{Cursor}

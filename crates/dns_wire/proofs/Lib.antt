@@ -22,3 +22,4 @@ pub mod Orders
 pub mod LowNames
 pub mod FlatEnds
 pub mod FlatForms
+pub mod NameFronts

@@ -1,7 +1,7 @@
 -- Records that are written as the same octets are the same.
 use Rattle.std.proofs.Common.{◌≡◌, ◌<◌, ℕ, List, [], ◌∷◌, ◌++◌, length, refl, sym, ap, ◌∙◌, arith, length-append}
 use Rattle.std.specs.List.{AllByRecursion, flat_map}
-use Rattle.dns_rdata.proofs.Fronts.{same_fronts}
+use Rattle.dns_octets.proofs.Fronts.{same_fronts}
 use Rattle.dns_message.specs.Record.{IsRecord, record_octets}
 use Rattle.zone_octets.specs.Record.{Record}
 use Rattle.zone_octets.proofs.StoredRecords.{record_in_written}

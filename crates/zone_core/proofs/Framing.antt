@@ -4,7 +4,7 @@ use Rattle.std.specs.Int.{to_be_bytes, from_be_bytes, w16}
 use Rattle.std.specs.List.{AllByRecursion, push}
 use Rattle.std.proofs.lemmas.List.Concat.{flat_map-append}
 use Rattle.std.proofs.lemmas.Nat.{from_be_bytes-to_be_bytes_2}
-use Rattle.dns_rdata.proofs.Fronts.{same_fronts, same_number16}
+use Rattle.dns_octets.proofs.Fronts.{same_fronts, same_number16}
 use Rattle.zone_core.specs.Frames.{frame, frames, IsFramable, IsPartial, Splits}
 
 -- first messages of two streams that are equal

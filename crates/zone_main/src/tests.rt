@@ -5,7 +5,6 @@
 mod examples;
 mod received;
 mod runs;
-mod sent;
 mod steps;
 mod text;
 mod words;

@@ -1,11 +1,9 @@
 pub mod Decided
 pub mod Each
-pub mod NameFronts
-mod FirstNames
+pub mod OctetFronts
 pub mod RowFronts
 pub mod RecordFronts
 pub mod Indexed
-pub mod Patched
 mod SoaRows
 mod SameSoas
 pub mod ReadData

@@ -8,7 +8,7 @@ use Rattle.dns_header.specs.Head.{after_length, fixed_octets}
 use Rattle.dns_message.specs.Record.{record_octets}
 use Rattle.zone_octets.specs.Record.{Record}
 use Rattle.zone_octets.proofs.Each.{wire_back}
-use Rattle.zone_octets.proofs.NameFronts.{octets_behind, octets_front}
+use Rattle.zone_octets.proofs.OctetFronts.{octets_behind, octets_front}
 
 pub octets_of_record : (r : Record) → AreOctets (record_octets r) → AllByRecursion AreOctets r.owner × AreOctets r.rdata
 octets_of_record r each =

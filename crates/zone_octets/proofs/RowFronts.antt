@@ -9,9 +9,9 @@ use Rattle.dns_label.specs.Name.{low}
 use Rattle.dns_rdata.specs.Fields.{Kind, Field, IsField, kind_of, field_octets, octets, lowered}
 use Rattle.dns_rdata.specs.Fields.Kind.{Ipv4, Compressible, Number32}
 use Rattle.dns_rdata.specs.Fields.Field.{number32, ipv4, compressible}
-use Rattle.dns_rdata.proofs.Fronts.{same_fronts, same_number32}
+use Rattle.dns_octets.proofs.Fronts.{same_fronts, same_number32}
 use Rattle.zone_octets.proofs.Decided.{Decided, decided_names, decided_octets}
-use Rattle.zone_octets.proofs.NameFronts.{wire_fronts}
+use Rattle.dns_wire.proofs.NameFronts.{wire_fronts}
 
 -- the kinds of this file
 abbrev pub IsPlainKind : Kind → Type 0

@@ -13,7 +13,7 @@ use Rattle.dns_rdata.specs.Data.{Data, data_eq, number_of, typed, untyped}
 use Rattle.dns_rdata.specs.DataOctets.{data_octets}
 use Rattle.dns_rdata.specs.Reading.{ReadsRow}
 use Rattle.dns_rdata.proofs.ComposedRows.{row_parses, row_parses_only}
-use Rattle.dns_rdata.proofs.Fronts.{same_number32}
+use Rattle.dns_octets.proofs.Fronts.{same_number32}
 use Rattle.zone_octets.specs.Record.{Record}
 use Rattle.zone_octets.specs.Records.{SameSoa}
 use Rattle.zone_octets.specs.Typed.{HasFieldsOfType}

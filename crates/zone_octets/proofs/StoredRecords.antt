@@ -11,11 +11,11 @@ use Rattle.dns_label.specs.Labels.{labels_at}
 use Rattle.dns_label.proofs.Spelling.{labels_at-reads, spelled-written}
 use Rattle.dns_wire.specs.Flat.{IsWritten}
 use Rattle.dns_wire.proofs.Flat.{flat-written}
-use Rattle.dns_header.specs.Header.{number_at}
+use Rattle.dns_octets.specs.Numbers.{number_at}
 use Rattle.dns_message.specs.Record.{IsRecord, record_octets}
 use Rattle.zone_octets.specs.Record.{Record}
 use Rattle.zone_octets.specs.Stored.{IsStored, AreStored, record_in, record_with, records_at, starts}
-use Rattle.dns_rdata.proofs.Fronts.{same_fronts}
+use Rattle.dns_octets.proofs.Fronts.{same_fronts}
 use Rattle.zone_octets.proofs.Each.{all_fronts}
 use Rattle.zone_octets.proofs.Indexed.{element_at}
 use Rattle.zone_octets.proofs.RecordFronts.{behind_owner, record_regrouped}

@@ -5,7 +5,7 @@ use Rattle.std.specs.List.{AllByRecursion}
 use Rattle.std.specs.Int.{from_be_bytes, w32}
 use Rattle.dns_label.specs.Name.{wire}
 use Rattle.dns_label.specs.Labels.{labels_at}
-use Rattle.dns_header.specs.Header.{number_at}
+use Rattle.dns_octets.specs.Numbers.{number_at}
 use Rattle.dns_message.specs.Record.{IsRecord, record_octets}
 use Rattle.zone_octets.specs.Record.{Record}
 

@@ -5,8 +5,6 @@
 #![tactic(auto)]
 
 pub mod checks;
-pub mod front;
-pub mod header;
 pub mod octets;
 pub mod record;
 pub mod record_data;

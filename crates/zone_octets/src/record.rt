@@ -6,9 +6,8 @@ ghost use Rattle.dns_wire.specs.Suffix.{EndsWith};
 ghost use Rattle.zone_octets.specs.Record as spec;
 ghost use Rattle.zone_octets.specs.Zone.{soa_type};
 
-use crate::front::first_name;
-use crate::header::number_at;
-use dns_name::{Class, Name, Rtype, ToName, Ttl};
+use dns_name::{Class, Name, Rtype, ToName, Ttl, first_name};
+use dns_octets::number_at;
 use std::marker::Model;
 
 /// The length of a record without its owner and its data: type, class, TTL and RDLENGTH (RFC 1035 3.2.1).

@@ -13,7 +13,7 @@ use Rattle.zone_receive.specs.Receiving.{IsOpen, IsClosed, KeepsRulesTo, IsMessa
 use Rattle.zone_receive.specs.declared.error.ReceiveError.{ReceiveError}
 use Rattle.zone_receive.specs.declared.error.ReceiveError.TheVariants as receive_error
 use Rattle.zone_octets.proofs.Each.{all_append}
-use Rattle.zone_octets.proofs.NameFronts.{AreOctets}
+use Rattle.zone_octets.proofs.OctetFronts.{AreOctets}
 use Rattle.zone_receive.proofs.SpelledRecords.{spelled_push}
 use Rattle.zone_receive.proofs.LawfulRecords.{IsLawful, closed_not_open}
 use Rattle.zone_receive.proofs.MessageFaults.{record_rules, head_rules}

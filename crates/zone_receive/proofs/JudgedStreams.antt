@@ -18,7 +18,7 @@ use Rattle.zone_receive.proofs.AnswerGroups.{answers_push, first_of_stream, join
 use Rattle.zone_receive.proofs.FrontFrames.{frames_more}
 use Rattle.zone_receive.proofs.LawfulRecords.{closed_not_open}
 use Rattle.dns_message.proofs.Numbers.{octet_at}
-use Rattle.zone_octets.proofs.NameFronts.{AreOctets, front_of, octets_front, octets_behind}
+use Rattle.zone_octets.proofs.OctetFronts.{AreOctets, front_of, octets_front, octets_behind}
 use Rattle.zone_octets.specs.Typed.{HasLawfulData}
 use Rattle.zone_receive.proofs.JudgedMessages.{message_judged}
 use Rattle.zone_receive.proofs.JudgedMessages.Verdict.{at_fault, answers}

@@ -58,13 +58,13 @@ asks = record {
 }
 
 has_soa : ReadsRecord answer 19 soa 58
-has_soa = plain_read (record {
-  is_record = record { owner = one_label 97; rtype = omega arith; class = omega arith; ttl = omega arith; rdata = omega arith };
-  data_is = typed soa_row soa_is_row refl;
-  rest = [];
-  at = refl;
-  ends = refl;
-})
+has_soa = plain_read soa [] (record {
+  owner = one_label 97;
+  rtype = omega arith;
+  class = omega arith;
+  ttl = omega arith;
+  rdata = omega arith;
+}) (typed soa_row soa_is_row refl) refl
 
 is_answer : IsAnswer query true answer (soa ∷ [])
 is_answer = record {

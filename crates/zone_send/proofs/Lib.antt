@@ -5,6 +5,7 @@ pub mod CanonicalTransfers
 pub mod GrownPages
 pub mod HeaderFronts
 pub mod LastRecord
+mod Patched
 pub mod Placing
 pub mod Plain
 pub mod SendFaults

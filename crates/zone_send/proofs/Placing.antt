@@ -15,7 +15,7 @@ use Rattle.zone_send.specs.Sending.{IsFor, Stands, StandsWhole, LastStands, Last
 use Rattle.zone_send.specs.declared.sending.plain.Sender.{Sender}
 use Rattle.dns_message.proofs.AsWritten.{least_record}
 use Rattle.zone_send.proofs.Plain.{size_is, records_append}
-use Rattle.zone_octets.proofs.Patched.{written_over}
+use Rattle.zone_send.proofs.Patched.{written_over}
 use Rattle.zone_core.proofs.Greedy.{full_cut_goes_on, full_cut_opens, not_behind_last}
 
 -- records take at least one octet each

@@ -7,4 +7,4 @@
 pub mod laws;
 mod sending;
 
-pub use sending::{SendError, Spelling, send, send_into};
+pub use sending::{SendError, Spelling, send};

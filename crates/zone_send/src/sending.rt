@@ -59,27 +59,6 @@ pub fn send(
     // If a record has room in no message, no messages hold the records.
     ensures none { IfErr result (λ error. IfRecord error (FitsNoMessages spelling zone.now.records query.now max)) }
 {
-    send_into(alloc, Vec::new(alloc), zone, query, max, spelling)
-}
-
-/// Returns the stream that `send` returns (RFC 5936 2.2), and reuses the memory of a vector whose octets are no longer
-/// needed. So a zone may be sent in the memory that held its text.
-///
-/// Fails as `send` does. The vector is then dropped.
-pub fn send_into(
-    alloc: Global,
-    spare: Vec<u8>,
-    zone: &Zone,
-    query: &[u8],
-    max: u16,
-    spelling: Spelling,
-) -> Result<Vec<u8>, SendError>
-    ensures ok { IfOk result (λ stream. IsSentFor spelling zone.now.records zone.now.class query.now max stream.items) }
-    ensures err { IfErr result (IsSendFault spelling zone.now.records (apex_of zone.now.records) zone.now.class query.now max) }
-
-    // If a record has room in no message, no messages hold the records.
-    ensures none { IfErr result (λ error. IfRecord error (FitsNoMessages spelling zone.now.records query.now max)) }
-{
     let query = match check_query(query) {
         Ok(query) => query,
         Err(fault) => return Err(SendError::Query(fault)),
@@ -88,7 +67,7 @@ pub fn send_into(
         return Err(SendError::WrongZone);
     }
     let name = query.name().to_vec(alloc)?;
-    send_by(alloc, spare, &query, &name, records_of(zone), max, spelling)
+    send_by(alloc, &query, &name, records_of(zone), max, spelling)
 }
 
 /// Returns whether a query asks for the zone.
@@ -102,7 +81,6 @@ fn asks_for(query: &Query<'_>, zone: &Zone) -> bool
 /// record has room in no message, or if out of memory.
 fn send_by(
     alloc: Global,
-    spare: Vec<u8>,
     query: &Query<'_>,
     name: &Name<Vec<u8>>,
     records: &RecordList,
@@ -121,10 +99,10 @@ fn send_by(
         max,
     };
     match spelling {
-        Spelling::Plain => send_records(Sender::new(alloc, spare, query, name, max)?, records),
-        Spelling::Static => answer.send::<StaticCompressor<StreamTarget<Vec<u8>>>>(alloc, spare),
-        Spelling::Tree => answer.send::<TreeCompressor<StreamTarget<Vec<u8>>>>(alloc, spare),
-        Spelling::Hash => answer.send::<HashCompressor<StreamTarget<Vec<u8>>>>(alloc, spare),
+        Spelling::Plain => send_records(Sender::new(alloc, query, name, max)?, records),
+        Spelling::Static => answer.send::<StaticCompressor<StreamTarget<Vec<u8>>>>(alloc),
+        Spelling::Tree => answer.send::<TreeCompressor<StreamTarget<Vec<u8>>>>(alloc),
+        Spelling::Hash => answer.send::<HashCompressor<StreamTarget<Vec<u8>>>>(alloc),
     }
 }
 

@@ -11,11 +11,10 @@ ghost use Rattle.zone_octets.specs.Zone.{any_class};
 ghost use Rattle.zone_rules.specs.ZoneText.{IsWellTyped, IsZoneFault, IsZoneText};
 ghost use Rattle.zone_text.specs.Reading.{BreaksRule, IsCheckFault, HasMet, HasRead, HasReadAll, MayStandUnder, StandsLast, reader_at};
 
-use dns_name::{Class, Name, ToName};
+use dns_name::{Class, Name, ToName, first_name};
 use dns_zonefile::{ComposedEntry, Zonefile};
 use std::alloc::{AllocError, Global};
 use zone_octets::checks::{is_data_of_type, is_spellable};
-use zone_octets::front::first_name;
 use zone_octets::octets::are_octets;
 use zone_octets::record::Record;
 use zone_octets::record_list::RecordList;

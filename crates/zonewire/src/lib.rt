@@ -28,5 +28,5 @@ pub use step_source::StepSource;
 pub use zone_core::{Query, QueryError, axfr_query, check_query};
 pub use zone_receive::{ReceiveError, Receiver};
 pub use zone_rules::ZoneError;
-pub use zone_send::{SendError, Spelling, send, send_into};
+pub use zone_send::{SendError, Spelling, send};
 pub use zone_text::{Zone, ZoneRecord, ZoneRecords};

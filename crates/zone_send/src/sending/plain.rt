@@ -10,11 +10,11 @@ ghost use Rattle.zone_send.specs.Sent.{message};
 
 use super::header::header_of;
 use dns_name::Name;
+use dns_octets::put_number;
 use std::alloc::{AllocError, Global};
 use zone_core::Query;
 use zone_core::frames::LENGTH_OCTETS;
 use zone_core::question::compose_opening;
-use zone_octets::header::put_number;
 
 /// The place of the count of answers in a message, in octets (RFC 1035 4.1.1).
 const ANSWER_COUNT: usize = 6;
@@ -38,11 +38,9 @@ impl Sender {
     ghost use Rattle.zone_send.specs.Sent.{size};
     ghost use Rattle.zone_send.specs.Sending.{Stands, StandsWhole, HoldsGroups, Holds, HasNoRoom, FitsNowhere};
 
-    /// Returns a stream without a message, for the answers to a query of this name. It reuses the memory of the spare
-    /// vector and drops its octets. Fails if out of memory.
+    /// Returns a stream without a message, for the answers to a query of this name. Fails if out of memory.
     pub(crate) fn new(
         alloc: Global,
-        spare: Vec<u8>,
         query: &Query<'_>,
         name: &Name<Vec<u8>>,
         max: u16,
@@ -51,10 +49,8 @@ impl Sender {
         ensures holds { IfOk result (λ sender. Holds sender (asked_by query.now) []) }
         ensures max { IfOk result (λ sender. sender.max ≡ max) }
     {
-        let mut stream = spare;
-        stream.clear();
         Ok(Sender {
-            stream,
+            stream: Vec::new(alloc),
             opening: opening(alloc, query, name)?,
             max: usize::from(max),
             last: None,

@@ -83,21 +83,16 @@ pub(crate) struct Answer<'a> {
 }
 
 impl Answer<'_> {
-    /// Returns the stream of the records and the first of them again. It reuses the memory of the spare vector. Fails
-    /// if a record has room in no message, or if out of memory.
-    pub(crate) fn send<Target: FrameTarget>(
-        &self,
-        alloc: Global,
-        spare: Vec<u8>,
-    ) -> Result<Vec<u8>, SendError>
+    /// Returns the stream of the records and the first of them again. Fails if a record has room in no message, or if
+    /// out of memory.
+    pub(crate) fn send<Target: FrameTarget>(&self, alloc: Global) -> Result<Vec<u8>, SendError>
         requires { AllByRecursion HasLawfulData self.now.records.now }
         ensures ok { IfOk result (λ stream.
             IsSpelledSent Target.spelling self.now.records.now (asked_by self.now.query.now) self.now.max stream.items) }
         ensures err { IfErr result
             (IsRefusedSpelled Target.spelling self.now.records.now (asked_by self.now.query.now) self.now.max) }
     {
-        let mut stream = spare;
-        stream.clear();
+        let mut stream = Vec::new(alloc);
         let mut frame = Vec::new(alloc);
         let mut next = 0;
         while next < self.len() {

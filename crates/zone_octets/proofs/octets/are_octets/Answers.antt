@@ -1,5 +1,5 @@
 use Rattle.std.proofs.Common.{arith}
-use Rattle.zone_octets.proofs.NameFronts.{octets_by_place}
+use Rattle.zone_octets.proofs.OctetFronts.{octets_by_place}
 use Rattle.zone_octets.proofs.octets.are_octets.Goals as goal
 
 pub returns : goal.returns

@@ -1,7 +1,7 @@
 use Rattle.std.proofs.Common.{◌≡◌, ◌+◌, ◌<◌, ◌≤◌, ◌∙◌, ℕ, length, refl, ap, arith, rules}
 use Rattle.dns_octets.specs.declared.error.ParseError.TheVariants.{ShortInput}
 use Rattle.dns_octets.specs.Parser.{octets_of, place_of}
-use Rattle.dns_header.specs.Header.{number_at}
+use Rattle.dns_octets.specs.Numbers.{number_at}
 use Rattle.dns_header.specs.SkipsRecord.SkipIsCut.{behind_owner, in_data}
 use Rattle.dns_header.proofs.Heads.{on_err, told_of}
 use Rattle.dns_header.proofs.Skips.{skips_short, skips_cut}

@@ -1,9 +1,9 @@
--- Octets at the start of others, and a name in full there.
+-- Octets at the start of others.
 use Rattle.std.proofs.Common.{◌≡◌, ℕ, ◌<◌, ◌≤◌, ◌^◌, suc, List, [], ◌∷◌, ◌++◌, length, get_or, take, drop, refl, sym, ◌∙◌, subst, arith, append_assoc, length-take-le}
 use Rattle.std.specs.List.{AllByRecursion}
 use Rattle.std.proofs.lemmas.List.{take-append-drop}
 use Rattle.dns_label.specs.Name.{IsLabel, wire}
-use Rattle.dns_rdata.proofs.Fronts.{same_fronts}
+use Rattle.dns_octets.proofs.Fronts.{same_fronts}
 use Rattle.zone_octets.proofs.Each.{all_fronts}
 pub use Rattle.zone_octets.specs.Records.{AreOctets}
 
@@ -31,23 +31,6 @@ front_of text n enough = record {
   at = sym (take-append-drop n text);
   long = length-take-le n text enough;
 }
-
--- only one name is at the start
-pub wire_fronts : (name other : List (List ℕ)) (more rest : List ℕ) → AllByRecursion IsLabel name → AllByRecursion IsLabel other
-    → wire name ++ more ≡ wire other ++ rest → (name ≡ other) × (more ≡ rest)
-wire_fronts [] [] more rest each each' e = (refl, cc)
-wire_fronts [] (text ∷ other) more rest each each' e =
-    let none : 0 ≡ length text = cc in absurd (omega (arith, each'.0.some))
-wire_fronts (text ∷ name) [] more rest each each' e =
-    let none : length text ≡ 0 = cc in absurd (omega (arith, each.0.some))
-wire_fronts (text ∷ name) (text' ∷ other) more rest each each' e =
-    let here : length text ∷ text ++ (wire name ++ more) ≡ length text' ∷ text' ++ (wire other ++ rest) =
-    sym (append_assoc (length text ∷ text) (wire name) more) ∙ e ∙ append_assoc (length text' ∷ text') (wire other) rest in
-    let long : length text ≡ length text' = cc (here) in
-    let behind : text ++ (wire name ++ more) ≡ text' ++ (wire other ++ rest) = cc (here) in
-    let labels = same_fronts text text' (wire name ++ more) (wire other ++ rest) long behind in
-    let parents = wire_fronts name other more rest each.1 each'.1 labels.1 in
-    (cc (labels.0, parents.0), parents.1)
 
 -- octets by their places
 pub octets_by_place : (text : List ℕ) → ((i : ℕ) → get_or text i 0 < 256) → AreOctets text

@@ -1,6 +1,6 @@
 use Rattle.std.proofs.Common.{◌+◌, length-take-le, sym, subst, arith}
-use Rattle.zone_octets.proofs.FirstNames.{Walked, walked_here, walked_name, walked_on, walked_within, walked_written}
-use Rattle.zone_octets.proofs.front.first_name.Goals as goal
+use Rattle.dns_flat.proofs.FirstNames.{Walked, walked_here, walked_name, walked_on, walked_within, walked_written}
+use Rattle.dns_flat.proofs.name.first.first_name.Goals as goal
 
 pub loop-end-init : goal.loop-end-init
 loop-end-init c = walked_here c.requires

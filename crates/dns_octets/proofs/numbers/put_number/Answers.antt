@@ -1,5 +1,5 @@
-use Rattle.zone_octets.proofs.Patched.{set_both}
-use Rattle.zone_octets.proofs.header.put_number.Goals as goal
+use Rattle.dns_octets.proofs.Patched.{set_both}
+use Rattle.dns_octets.proofs.numbers.put_number.Goals as goal
 
 pub returns : goal.returns
 returns c = λ front octets behind is at long. rw c.to_be_bytes.ensures (set_both _ front octets behind _ _ _ is at long)

@@ -12,7 +12,7 @@ use Rattle.zone_text.specs.View.{apex_of}
 use Rattle.zone_text.proofs.ZoneForms.{zone_data}
 use Rattle.zone_send.proofs.SendFaults.{fault_for, id_small}
 use Rattle.zone_send.proofs.Best.{sent_for, none_for}
-use Rattle.zone_send.proofs.sending.send_into.Goals as goal
+use Rattle.zone_send.proofs.sending.send.Goals as goal
 
 pub returns-then-not-asks_for-clause-err : goal.returns-then-not-asks_for-clause-err
 returns-then-not-asks_for-clause-err c = (asked_by c.in-Ok.query, c.in-Ok.ensures.ok, λ asks. let yes = c.if-not-asks_for.ensures.1 asks in absurd cc)

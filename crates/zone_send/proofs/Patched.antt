@@ -1,22 +1,7 @@
--- Octets that are written over others.
-use Rattle.std.proofs.Common.{◌≡◌, ℕ, ◌+◌, ◌-◌, suc, List, [], ◌∷◌, ◌++◌, length, refl, sym, ap, ◌∙◌, arith, append_assoc, add-one, length-append}
-use Rattle.std.proofs.Math.ListN.{set}
+-- A message whose length and whose count of answers are overwritten.
+use Rattle.std.proofs.Common.{◌≡◌, ℕ, ◌+◌, ◌-◌, List, ◌++◌, length, sym, ap, ◌∙◌, arith, append_assoc, length-append}
 
-set_two : (front : List ℕ) (a b high low : ℕ) (behind : List ℕ)
-    → set (set (front ++ a ∷ b ∷ behind) (length front) high) (suc (length front)) low ≡ front ++ high ∷ low ∷ behind
-set_two [] a b high low behind = refl
-set_two (x ∷ front) a b high low behind = ap (λ l. x ∷ l) (set_two front a b high low behind)
-
--- two octets, one after the other, over the two at a place
-pub set_both : (items front octets behind : List ℕ) (place high low : ℕ) → items ≡ front ++ (octets ++ behind) → length front ≡ place
-    → length octets ≡ 2 → set (set items place high) (place + 1) low ≡ front ++ high ∷ low ∷ behind
-set_both items front [] behind place high low is at long = absurd cc
-set_both items front (a ∷ []) behind place high low is at long = absurd cc
-set_both items front (a ∷ (b ∷ (x ∷ octets))) behind place high low is at long = absurd (omega arith)
-set_both items front (a ∷ (b ∷ [])) behind place high low is at long =
-    rw (is, ← at, add-one) (set_two front a b high low behind)
-
--- A message whose length and whose count of answers are overwritten, after octets were appended to it.
+-- its octets, if others were appended before
 pub written_over : (front mark head count tail records added length_octets count_octets : List ℕ) (old longer once twice : List ℕ) (start : ℕ)
     → start ≡ length front + 2 → length head ≡ 6 → length mark ≡ 2 → length count ≡ 2 → length length_octets ≡ 2
     → old ≡ front ++ (mark ++ (head ++ (count ++ (tail ++ records)))) → longer ≡ old ++ added

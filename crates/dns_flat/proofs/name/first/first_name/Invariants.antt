@@ -1,6 +1,6 @@
 use Rattle.std.proofs.Common.{◌-◌, length}
-use Rattle.zone_octets.proofs.FirstNames.{Walked}
-use Rattle.zone_octets.proofs.front.first_name.Given as goal
+use Rattle.dns_flat.proofs.FirstNames.{Walked}
+use Rattle.dns_flat.proofs.name.first.first_name.Given as goal
 
 abbrev pub invariant-loop-end : goal.invariant-loop-end
 invariant-loop-end l = Walked l.octets l.end

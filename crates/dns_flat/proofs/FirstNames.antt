@@ -7,7 +7,7 @@ use Rattle.dns_label.specs.Name.{IsLabel, IsName, wire}
 use Rattle.dns_wire.specs.Flat.{IsWritten}
 use Rattle.dns_wire.proofs.Case.{wire_one}
 use Rattle.dns_wire.proofs.Flat.{flat-written}
-use Rattle.zone_octets.proofs.NameFronts.{wire_fronts}
+use Rattle.dns_wire.proofs.NameFronts.{wire_fronts}
 
 -- from the place on, the octets are the remaining labels of the name that they begin with
 pub record Walked (octets : List ℕ) (place : ℕ) : Type 0 where

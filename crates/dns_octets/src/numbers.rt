@@ -1,12 +1,12 @@
-//! Numbers of two octets, most significant first, in the header and the records of a message (RFC 1035 2.3.2, 4.1.1).
+//! Numbers of two octets, the most significant octet first (RFC 1035 2.3.2).
 ghost use Rattle.std.specs.Prelude.{◌≡◌, ◌+◌, ◌++◌, ◌≤◌, List, ℕ, length};
 ghost use Rattle.std.specs.Int.{to_be_bytes, w16};
-ghost use Rattle.dns_header.specs.Header as header;
+ghost use Rattle.dns_octets.specs.Numbers as spec;
 
 /// Returns the number in the two octets at `place`.
 pub fn number_at(octets: &[u8], place: usize) -> u16
     requires { place + 2 ≤ length octets.now }
-    ensures { result ≡ header.number_at octets.now place }
+    ensures { result ≡ spec.number_at octets.now place }
 {
     let number = &octets[place..place + 2];
     u16::from_be_bytes([number[0], number[1]])

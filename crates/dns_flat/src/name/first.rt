@@ -2,7 +2,7 @@
 ghost use Rattle.std.specs.Prelude.{◌≡◌, ◌++◌, List, ℕ};
 ghost use Rattle.dns_label.specs.Name.{IsName, wire};
 
-use dns_name::Name;
+use crate::Name;
 
 /// Returns the name at the start of the octets, without compression pointers. The caller guarantees that there is one,
 /// so only the lengths of its labels are read.
