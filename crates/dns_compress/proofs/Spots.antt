@@ -7,7 +7,7 @@ use Rattle.std.proofs.lemmas.List.{map-append, length-map}
 use mathlib.Core.Logic.{∥∥₁_elim}
 use Rattle.dns_octets.specs.Builder.{Standing, Known, before}
 use Rattle.dns_label.specs.Name.{IsName, wire, low}
-use Rattle.dns_label.specs.Spelled.{Reads}
+use Rattle.dns_label.specs.Spelled.{DecodesName}
 use Rattle.dns_wire.proofs.Case.{same_bool}
 use Rattle.dns_name.specs.Spelling.{static_spelling, is_same}
 use Rattle.dns_name.specs.Remembered.{IsKnown, IsSound}
@@ -52,7 +52,7 @@ few_spots {octets} spots added sound =
 -- a name is compared with the suffix at the place
 pub same_there : (known : Known) (octets : List ℕ) (standing : Standing) (name : List (List ℕ)) (result : Bool) → ∥ IsSound static_spelling known octets ∥₁
     → IsKnown standing known → IsName name
-    → ((read : List (List ℕ)) (next : ℕ) → Reads octets standing.place read next → IsTrue result ↔ (low read ≡ low name))
+    → ((read : List (List ℕ)) (next : ℕ) → DecodesName octets standing.place read next → IsTrue result ↔ (low read ≡ low name))
     → is_same static_spelling standing.suffix (wire name) ≡ result
 same_there known octets standing name result sound is is_name told =
     ∥∥₁_elim sound (Coded-set coded_bool _ _) (λ sound.

@@ -4,8 +4,8 @@ use Rattle.std.proofs.Math.Seq.{drop-cons}
 use Rattle.std.proofs.lemmas.List.{drop_all}
 use Rattle.dns_octets.specs.Builder.{Known}
 use Rattle.std.proofs.lemmas.List.{length-drop}
-use Rattle.dns_label.specs.Spelled.{Reads, Spells}
-use Rattle.dns_label.specs.Spelled.Spells.{root, label as labelled, pointer}
+use Rattle.dns_label.specs.Spelled.{DecodesName, EncodesName}
+use Rattle.dns_label.specs.Spelled.EncodesName.{root, label as labelled, pointer}
 use Rattle.dns_label.proofs.Spelling.{labels_at-reads}
 use Rattle.dns_name.specs.Spelling.{static_spelling, is_same, place_in}
 use Rattle.dns_name.specs.Remembered.{IsKnown}
@@ -71,19 +71,19 @@ module _ (count more place next stop : ℕ) (name : List (List ℕ)) (label : Li
       ∙ ap (λ n. suc (length (added static_spelling count n stop parent))) (sym nexts)
 
 -- a place at which a name is read is within the octets
-within_by : (octets : List ℕ) (pointers place : ℕ) (name : List (List ℕ)) (next : ℕ) → Spells octets pointers place name next → place ≤ length octets
+within_by : (octets : List ℕ) (pointers place : ℕ) (name : List (List ℕ)) (next : ℕ) → EncodesName octets pointers place name next → place ≤ length octets
 within_by octets pointers place name next (root rest at) = omega (arith, ap (length {A = ℕ}) at, length-drop place octets)
 within_by octets pointers place name next (labelled rest at is on) = omega (arith, ap (length {A = ℕ}) at, length-drop place octets)
 within_by octets pointers place name next (pointer high low after rest at both back on) =
     omega (arith, ap (length {A = ℕ}) at, length-drop place octets)
 
-pub reads_within : {octets : List ℕ} {place next : ℕ} {name : List (List ℕ)} → Reads octets place name next → place ≤ length octets
+pub reads_within : {octets : List ℕ} {place next : ℕ} {name : List (List ℕ)} → DecodesName octets place name next → place ≤ length octets
 reads_within {octets} {place} {next} {name} reads = within_by octets 255 place name next reads.spelled
 
 -- one name is read there
 module _ {octets message : List ℕ} {place at : ℕ} (same : message ≡ octets) (here : at ≡ place) where
-  pub reads_at : {name : List (List ℕ)} {next : ℕ} → Reads octets place name next → Reads message at name next
-  reads_at {name} {next} reads = subst (λ l. Reads l at name next) (sym same) (subst (λ n. Reads octets n name next) (sym here) reads)
+  pub reads_at : {name : List (List ℕ)} {next : ℕ} → DecodesName octets place name next → DecodesName message at name next
+  reads_at {name} {next} reads = subst (λ l. DecodesName l at name next) (sym same) (subst (λ n. DecodesName octets n name next) (sym here) reads)
 
-  pub read_one : {name other : List (List ℕ)} {next end : ℕ} → Reads message at name next → Reads octets place other end → name ≡ other
+  pub read_one : {name other : List (List ℕ)} {next end : ℕ} → DecodesName message at name next → DecodesName octets place other end → name ≡ other
   read_one reads read = sym (labels_at-reads reads) ∙ labels_at-reads (reads_at read)

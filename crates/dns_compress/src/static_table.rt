@@ -3,7 +3,7 @@ ghost use Rattle.std.specs.Prelude.{◌≡◌, ⊤, false, ◌≤◌, ◌<◌, �
 ghost use Rattle.dns_name.specs.ParsedName.{labels_of};
 ghost use Rattle.dns_name.specs.Remembered.{IsSound};
 ghost use Rattle.dns_label.specs.Name.{low, wire};
-ghost use Rattle.dns_label.specs.Spelled.{Reads};
+ghost use Rattle.dns_label.specs.Spelled.{DecodesName};
 ghost use Rattle.dns_name.specs.Spelling.{static_spelling, place_in};
 ghost use Rattle.dns_compress.specs.Tables.{added};
 ghost use Rattle.dns_compress.specs.Spots.{read_again, read_all, spots_of};
@@ -65,7 +65,7 @@ fn find_among(octets: &[u8], written: &[Spot], suffix: &Name<&[u8]>) -> Option<u
 
 /// Returns whether the name that is read at the place equals the suffix, up to ASCII case.
 fn is_same_at(octets: &[u8], place: usize, suffix: &Name<&[u8]>) -> bool
-    ensures { (name : List (List ℕ)) (next : ℕ) → Reads octets.now place name next → IsTrue result ↔ (low name ≡ low suffix.now) }
+    ensures { (name : List (List ℕ)) (next : ℕ) → DecodesName octets.now place name next → IsTrue result ↔ (low name ≡ low suffix.now) }
 {
     match name_at(octets, place) {
         Ok(name) => name.name_eq(suffix),
@@ -75,8 +75,8 @@ fn is_same_at(octets: &[u8], place: usize, suffix: &Name<&[u8]>) -> bool
 
 /// Parses the name at the place. Fails if no name is spelled there.
 fn name_at(octets: &[u8], place: usize) -> Result<ParsedName<&[u8]>, ParseError>
-    ensures ok { IfOk result (λ read. (name : List (List ℕ)) (next : ℕ) → Reads octets.now place name next → labels_of read ≡ name) }
-    ensures err { OnErr result ((name : List (List ℕ)) (next : ℕ) → Reads octets.now place name next → ⊥) }
+    ensures ok { IfOk result (λ read. (name : List (List ℕ)) (next : ℕ) → DecodesName octets.now place name next → labels_of read ≡ name) }
+    ensures err { OnErr result ((name : List (List ℕ)) (next : ℕ) → DecodesName octets.now place name next → ⊥) }
 {
     let mut parser = Parser::from_ref(octets);
     parser.seek(place)?;

@@ -4,14 +4,14 @@ use Rattle.std.specs.Prelude.{Option, Some, None, if◌then◌else◌, ⊤}
 use Rattle.std.specs.List.{AllByRecursion}
 use Rattle.std.proofs.Math.Seq.{drop-append_seam}
 use Rattle.dns_label.specs.Name.{IsName, wire}
-use Rattle.dns_label.specs.Spelled.{Reads}
+use Rattle.dns_label.specs.Spelled.{DecodesName}
 use Rattle.dns_label.proofs.Spelling.{spelled-written}
 use Rattle.dns_name.specs.Page.Parts.{End, Octets}
-use Rattle.dns_name.specs.SpelledParts.{Spells, nothing, octets}
+use Rattle.dns_name.specs.SpelledParts.{SpellsParts, nothing, octets}
 use Rattle.dns_fields.specs.Fields as fields
 use Rattle.dns_fields.specs.Fields.{Kind, Number8, Number16, Number32, Ipv4, Ipv6, Compressible, Uncompressed, String, Strings, Tag, RestText, Rest16, Rest64}
 use Rattle.dns_scan.specs.CharStr.{string_wire}
-use Rattle.dns_fields.specs.Fields.{Field, number8, number16, number32, ipv4, ipv6, compressible, uncompressed, string, strings, tag, rest_text, rest16, rest64, kind_of, table, kinds_in, kinds_of, field_octets, IsField, IsRow, IsData, typed, opaque}
+use Rattle.dns_fields.specs.Fields.{Field, number8, number16, number32, ipv4, ipv6, compressible, uncompressed, string, strings, tag, rest_text, rest16, rest64, kind_of, table, kinds_in, kinds_of, field_octets, IsField, IsRow, IsData, typed, unknown}
 use Rattle.dns_fields.specs.Reading.{ReadsField, ReadsFields, ReadsRow, AreSoleFields}
 use Rattle.dns_fields.proofs.ReadFields.{fixed_sole, number8_fixed, number16_fixed, number32_fixed, ipv4_fixed, ipv6_fixed, compressible_sole, uncompressed_sole, name_opened, name_read}
 use Rattle.dns_fields.proofs.ReadParts.{row_read, split_row, nothing_read, sole_row, sole_nothing}
@@ -19,12 +19,12 @@ use Rattle.dns_fields.proofs.ReadStrings.{all_one, string_sole, tag_sole, rest_t
 use Rattle.dns_fields.proofs.ReadEach.{strings_sole}
 
 module _ (front rest : List ℕ) where
-  octets_stand : (text : List ℕ) → Spells (front ++ (text ++ rest)) (length front) (Octets text End) (length front + length text)
+  octets_stand : (text : List ℕ) → SpellsParts (front ++ (text ++ rest)) (length front) (Octets text End) (length front + length text)
   octets_stand text =
       octets rest (drop-append_seam front (text ++ rest))
       (nothing (omega (arith, length-append front (text ++ rest), length-append text rest)))
 
-  name_stands : (name : List (List ℕ)) → IsName name → Reads (front ++ (wire name ++ rest)) (length front) name (length front + length (wire name))
+  name_stands : (name : List (List ℕ)) → IsName name → DecodesName (front ++ (wire name ++ rest)) (length front) name (length front + length (wire name))
   name_stands name is_name = record {
     spelled = spelled-written (front ++ (wire name ++ rest)) 255 (length front) name rest (drop-append_seam front (wire name ++ rest)) is_name.labels;
     is_name = is_name;
@@ -92,7 +92,7 @@ pub fits : (rtype : ℕ) → Fit (kinds_of rtype)
 fits = fits_in table (search rules)
 
 -- text up to the end of a message is all that is left of it
-all_left : {message text : List ℕ} {place : ℕ} → Spells message place (Octets text End) (length message) → text ≡ drop place message
+all_left : {message text : List ℕ} {place : ℕ} → SpellsParts message place (Octets text End) (length message) → text ≡ drop place message
 all_left {message} {text} {place} spelled = all_one message (drop place message) text place refl spelled
 
 -- Fields of a message, pointers in names followed, are the only ones of their kinds if only the last may take all that is left.
@@ -156,7 +156,7 @@ pub data_parses : (rtype : ℕ) (front data' : List ℕ) (kinds : List Kind) →
     → (row : List Field) × ReadsRow rtype (front ++ data') (length front) row × (fields.octets row ≡ data')
 data_parses rtype front data' kinds has (typed row is same) =
     (row, subst (λ d. ReadsRow rtype (front ++ d) (length front) row) (sym same) (row_parses rtype front row is), sym same)
-data_parses rtype front data' kinds has (opaque none short) = absurd (let both : None ≡ Some kinds = sym none ∙ has in cc)
+data_parses rtype front data' kinds has (unknown none short) = absurd (let both : None ≡ Some kinds = sym none ∙ has in cc)
 
 -- rows of a type that take the same octets are one
 pub same_octets : (rtype : ℕ) (row other : List Field) → IsRow rtype row → IsRow rtype other → fields.octets row ≡ fields.octets other

@@ -2,14 +2,14 @@
 use Rattle.std.proofs.Common.{◌≡◌, ◌+◌, ◌-◌, ◌↔◌, ℕ, List, [], ◌∷◌, length, inl, inr, refl, subst, arith}
 use Rattle.std.specs.Prelude.{Ok, IsErrOf}
 use Rattle.dns_label.specs.Spelled as names
-use Rattle.dns_label.specs.Spelled.{Reads}
+use Rattle.dns_label.specs.Spelled.{DecodesName}
 use Rattle.dns_wire.specs.Cut.{IsCut}
 use Rattle.dns_wire.proofs.Cuts.{cut-root, cut-behind, cut-led_on}
 use Rattle.dns_fields.specs.Fields.{Kind, Field, kind_of}
 use Rattle.dns_fields.specs.Reading.{ReadsField, NoField, IsCutField, AreCutFields}
 
 cut_spelled : {message : List ℕ} {pointers room place next : ℕ} {name : List (List ℕ)} → IsCut message pointers room place
-    → names.Spells message pointers place name next → ⊥
+    → names.EncodesName message pointers place name next → ⊥
 cut_spelled cut (names.root rest at) = cut-root rest cut at
 cut_spelled {message} {pointers} {room} {place} cut (names.label {label = text} rest at is_label parent) =
     let behind = (cut-behind text rest (length text + 1) cut (record { spelled = at; short = is_label.short }) is_label.some refl).1 in
@@ -20,7 +20,7 @@ cut_spelled cut (names.pointer first second after rest at both back name) =
     cut_spelled (cut-led_on _ _ cut (record { first = first; second = second; rest = rest; spelled = at; both_bits = both; is = refl }) refl) name
 
 -- a name that is read, and a field of another kind
-pub name_whole : {message : List ℕ} {place next : ℕ} {name : List (List ℕ)} {T E : Type 0} {value : T} {error : E} → Reads message place name next
+pub name_whole : {message : List ℕ} {place next : ℕ} {name : List (List ℕ)} {T E : Type 0} {value : T} {error : E} → DecodesName message place name next
     → IsErrOf (Ok value) error ↔ IsCut message 255 254 place
 name_whole reads = (λ other. absurd (cc), λ cut. absurd (cut_spelled cut reads.spelled))
 

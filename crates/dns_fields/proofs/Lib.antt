@@ -1,7 +1,7 @@
 pub mod Writing
 pub mod Lengths
 pub mod NameOctets
-pub mod Fronts
+pub mod Prefixes
 pub mod Leaves
 pub mod FieldKinds
 pub mod ReadParts

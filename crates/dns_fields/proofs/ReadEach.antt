@@ -2,7 +2,7 @@
 use Rattle.std.proofs.Common.{◌≡◌, ◌∷◌, [], ℕ, List, length, drop, map, refl, sym, ap}
 use Rattle.std.specs.List.{flat_map}
 use Rattle.dns_name.specs.Page.Parts.{End}
-use Rattle.dns_name.specs.SpelledParts.{Spells}
+use Rattle.dns_name.specs.SpelledParts.{SpellsParts}
 use Rattle.dns_scan.specs.CharStr.{string_wire}
 use Rattle.dns_fields.specs.Fields.{Strings, Field, strings, kind_of}
 use Rattle.dns_fields.specs.Reading.{read_field, ReadsFields, AreSoleFields, NoFields}
@@ -15,8 +15,8 @@ pub strings_sole : (message : List ℕ) (each : List (List ℕ)) (place : ℕ) �
     → AreSoleFields message place (strings each ∷ [])
 strings_sole message each place is = record { sole = by }
   where
-    one : (f : Field) → kind_of f ≡ Strings → Spells message place (read_field f End) (length message) → f ≡ strings each
-    one f same = of_strings (λ f. Spells message place (read_field f End) (length message) → f ≡ strings each) f
+    one : (f : Field) → kind_of f ≡ Strings → SpellsParts message place (read_field f End) (length message) → f ≡ strings each
+    one f same = of_strings (λ f. SpellsParts message place (read_field f End) (length message) → f ≡ strings each) f
         (λ found that. ap strings (strings_one found each (all_one message (flat_map string_wire each) (flat_map string_wire found) place is that))) same
 
     by : (others : List Field) → map kind_of others ≡ map kind_of (strings each ∷ []) → ReadsFields message place others → others ≡ strings each ∷ []

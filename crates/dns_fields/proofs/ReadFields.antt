@@ -3,11 +3,11 @@ use Rattle.std.proofs.Common.{◌≡◌, ◌+◌, ◌≤◌, ◌<◌, ℕ, w16, 
 use Rattle.std.specs.Int.{from_be_bytes}
 use Rattle.std.proofs.lemmas.List.{take-append-drop}
 use Rattle.std.proofs.lemmas.Nat.{from_be_bytes-to_be_bytes_2, from_be_bytes-to_be_bytes_4}
-use Rattle.dns_label.specs.Spelled.{Reads}
+use Rattle.dns_label.specs.Spelled.{DecodesName}
 use Rattle.dns_label.proofs.Spelling.{reads_one}
 use Rattle.dns_name.specs.Page.{Parts}
 use Rattle.dns_name.specs.Page.Parts.{End, Octets, Named}
-use Rattle.dns_name.specs.SpelledParts.{Spells, nothing, octets, named}
+use Rattle.dns_name.specs.SpelledParts.{SpellsParts, nothing, octets, named}
 use Rattle.dns_wire.proofs.Flat.{same_front}
 use Rattle.dns_fields.specs.Fields.{Kind, Number8, Number16, Number32, Ipv4, Ipv6, Compressible, Uncompressed, Field, number8, number16, number32, ipv4, ipv6, compressible, uncompressed, kind_of, field_octets, IsField}
 use Rattle.dns_fields.specs.Reading.{read_field, ReadsField, IsSoleField, NoField}
@@ -19,7 +19,7 @@ pub record Stands (message : List ℕ) (place : ℕ) (text : List ℕ) (next : �
   pub at : drop place message ≡ text ++ rest
   pub ends : next ≡ place + length text
 
-pub opened : {message : List ℕ} {place : ℕ} {text : List ℕ} {next : ℕ} → Spells message place (Octets text End) next → Stands message place text next
+pub opened : {message : List ℕ} {place : ℕ} {text : List ℕ} {next : ℕ} → SpellsParts message place (Octets text End) next → Stands message place text next
 opened (octets rest at (nothing fits)) = record { rest = rest; at = at; ends = refl }
 
 pub long_take : (message : List ℕ) (place size : ℕ) (text : List ℕ) → text ≡ take size (drop place message) → place + size ≤ length message
@@ -29,10 +29,10 @@ long_take message place size text is fits =
 
 -- the octets from the place on
 pub octets_read : (message : List ℕ) (place next size : ℕ) (text : List ℕ) → text ≡ take size (drop place message)
-    → place + size ≤ length message → next ≡ place + size → Spells message place (Octets text End) next
+    → place + size ≤ length message → next ≡ place + size → SpellsParts message place (Octets text End) next
 octets_read message place next size text is fits ends =
     let long = long_take message place size text is fits in
-    subst (λ n. Spells message place (Octets text End) n) (omega (arith, long, ends))
+    subst (λ n. SpellsParts message place (Octets text End) n) (omega (arith, long, ends))
     (octets (drop size (drop place message)) (sym (take-append-drop size (drop place message)) ∙ ap (λ l. l ++ drop size (drop place message)) (sym is))
     (nothing (omega (arith, long))))
 
@@ -47,7 +47,7 @@ pub record IsFixed (its : Kind) (size : ℕ) : Type 0 where
 fixed_stands : {its : Kind} {size : ℕ} {message : List ℕ} {place next : ℕ} {field : Field} → IsFixed its size → kind_of field ≡ its
     → ReadsField message place field next → Stands message place (field_octets field) next
 fixed_stands {message = message} {place} {next} {field} fixed is reads =
-    opened (subst (λ (p : Parts). Spells message place p next) (fixed.read field is) reads.spelled)
+    opened (subst (λ (p : Parts). SpellsParts message place p next) (fixed.read field is) reads.spelled)
 
 pub fixed_sole : {its : Kind} {size : ℕ} {message : List ℕ} {place next : ℕ} {field : Field} → IsFixed its size → kind_of field ≡ its
     → ReadsField message place field next → IsSoleField message place field next
@@ -124,33 +124,33 @@ ipv6_fixed = record {
 }
 
 -- names
-pub name_opened : {message : List ℕ} {place next : ℕ} {name : List (List ℕ)} → Spells message place (Named name End) next → Reads message place name next
+pub name_opened : {message : List ℕ} {place next : ℕ} {name : List (List ℕ)} → SpellsParts message place (Named name End) next → DecodesName message place name next
 name_opened (named behind reads (nothing fits)) = reads
 
-pub name_read : {message : List ℕ} {place next : ℕ} {name : List (List ℕ)} → Reads message place name next → next ≤ length message
-    → Spells message place (Named name End) next
+pub name_read : {message : List ℕ} {place next : ℕ} {name : List (List ℕ)} → DecodesName message place name next → next ≤ length message
+    → SpellsParts message place (Named name End) next
 name_read {next = next} reads fits = named next reads (nothing fits)
 
-pub compressible_sole : {message : List ℕ} {place next : ℕ} {name : List (List ℕ)} → Reads message place name next
+pub compressible_sole : {message : List ℕ} {place next : ℕ} {name : List (List ℕ)} → DecodesName message place name next
     → IsSoleField message place (compressible name) next
 compressible_sole {message} {place} {next} {name} reads = record {
   sole = λ other end same. of_compressible (λ f. ReadsField message place f end → (f ≡ compressible name) × (end ≡ next)) other
       (λ found there. let one = reads_one (name_opened there.spelled) reads in (ap compressible one.0, one.1)) same;
 }
 
-pub uncompressed_sole : {message : List ℕ} {place next : ℕ} {name : List (List ℕ)} → Reads message place name next
+pub uncompressed_sole : {message : List ℕ} {place next : ℕ} {name : List (List ℕ)} → DecodesName message place name next
     → IsSoleField message place (uncompressed name) next
 uncompressed_sole {message} {place} {next} {name} reads = record {
   sole = λ other end same. of_uncompressed (λ f. ReadsField message place f end → (f ≡ uncompressed name) × (end ≡ next)) other
       (λ found there. let one = reads_one (name_opened there.spelled) reads in (ap uncompressed one.0, one.1)) same;
 }
 
-pub no_compressible : {message : List ℕ} {place : ℕ} → ((name : List (List ℕ)) (next : ℕ) → Reads message place name next → ⊥)
+pub no_compressible : {message : List ℕ} {place : ℕ} → ((name : List (List ℕ)) (next : ℕ) → DecodesName message place name next → ⊥)
     → NoField message place Compressible
 no_compressible {message} {place} none field next is =
     of_compressible (λ f. ReadsField message place f next → ⊥) field (λ name there. none name next (name_opened there.spelled)) is
 
-pub no_uncompressed : {message : List ℕ} {place : ℕ} → ((name : List (List ℕ)) (next : ℕ) → Reads message place name next → ⊥)
+pub no_uncompressed : {message : List ℕ} {place : ℕ} → ((name : List (List ℕ)) (next : ℕ) → DecodesName message place name next → ⊥)
     → NoField message place Uncompressed
 no_uncompressed {message} {place} none field next is =
     of_uncompressed (λ f. ReadsField message place f next → ⊥) field (λ name there. none name next (name_opened there.spelled)) is

@@ -4,7 +4,7 @@ use Rattle.std.specs.Prelude.{Result, Ok, Err, OnErr}
 use Rattle.dns_label.specs.Spelled as names
 use Rattle.dns_name.specs.Page.{Parts}
 use Rattle.dns_name.specs.Page.Parts.{End, Octets, Named}
-use Rattle.dns_name.specs.SpelledParts.{Spells, nothing, octets, named, counted}
+use Rattle.dns_name.specs.SpelledParts.{SpellsParts, nothing, octets, named, counted}
 use Rattle.dns_fields.specs.Fields.{Kind, Field, number8, number16, number32, ipv4, ipv6, compressible, uncompressed, string, strings, tag, rest_text, rest16, rest64, kind_of, field_octets}
 use Rattle.dns_fields.specs.Reading.{read_field, ReadsField, ReadsFields, IsSoleField, AreSoleFields, NoField, NoFields}
 
@@ -12,12 +12,12 @@ use Rattle.dns_fields.specs.Reading.{read_field, ReadsField, ReadsFields, IsSole
 pub some_left : (message : List ℕ) (place : ℕ) {first : ℕ} {rest : List ℕ} → drop place message ≡ first ∷ rest → place < length message
 some_left message place at = omega (arith, ap (length {A = ℕ}) at, length-drop place message)
 
-name_within : {message : List ℕ} {pointers place next : ℕ} {name : List (List ℕ)} → names.Spells message pointers place name next → place ≤ length message
+name_within : {message : List ℕ} {pointers place next : ℕ} {name : List (List ℕ)} → names.EncodesName message pointers place name next → place ≤ length message
 name_within {message} {place = place} (names.root rest at) = let some = some_left message place at in omega arith
 name_within {message} {place = place} (names.label rest at is_label parent) = let some = some_left message place at in omega arith
 name_within {message} {place = place} (names.pointer first second after rest at both back name) = let some = some_left message place at in omega arith
 
-pub within : {message : List ℕ} {place next : ℕ} {parts : Parts} → Spells message place parts next → place ≤ length message
+pub within : {message : List ℕ} {place next : ℕ} {parts : Parts} → SpellsParts message place parts next → place ≤ length message
 within (nothing fits) = fits
 within (octets rest at on) = let front = within on in omega arith
 within (named behind reads on) = name_within reads.spelled
@@ -43,52 +43,52 @@ reads_as (rest_text text) = as_octets text (λ _. refl)
 reads_as (rest16 text) = as_octets text (λ _. refl)
 reads_as (rest64 text) = as_octets text (λ _. refl)
 
-join_octets : {message : List ℕ} {place : ℕ} {text : List ℕ} {middle next : ℕ} {parts : Parts} → Spells message place (Octets text End) middle
-    → Spells message middle parts next → Spells message place (Octets text parts) next
+join_octets : {message : List ℕ} {place : ℕ} {text : List ℕ} {middle next : ℕ} {parts : Parts} → SpellsParts message place (Octets text End) middle
+    → SpellsParts message middle parts next → SpellsParts message place (Octets text parts) next
 join_octets (octets rest at (nothing fits)) on = octets rest at on
 
-join_name : {message : List ℕ} {place middle next : ℕ} {name : List (List ℕ)} {parts : Parts} → Spells message place (Named name End) middle
-    → Spells message middle parts next → Spells message place (Named name parts) next
+join_name : {message : List ℕ} {place middle next : ℕ} {name : List (List ℕ)} {parts : Parts} → SpellsParts message place (Named name End) middle
+    → SpellsParts message middle parts next → SpellsParts message place (Named name parts) next
 join_name (named behind reads (nothing fits)) on = named behind reads on
 
 -- a field, and parts after it
-join : {message : List ℕ} {place middle next : ℕ} {parts : Parts} (field : Field) → Spells message place (read_field field End) middle
-    → Spells message middle parts next → Spells message place (read_field field parts) next
+join : {message : List ℕ} {place middle next : ℕ} {parts : Parts} (field : Field) → SpellsParts message place (read_field field End) middle
+    → SpellsParts message middle parts next → SpellsParts message place (read_field field parts) next
 join {message} {place} {middle} {next} {parts} field first on = by (reads_as field)
   where
-    by : ReadsAs field → Spells message place (read_field field parts) next
+    by : ReadsAs field → SpellsParts message place (read_field field parts) next
     by (as_octets text is) =
-        subst (λ (p : Parts). Spells message place p next) (sym (is parts))
-        (join_octets (subst (λ (p : Parts). Spells message place p middle) (is End) first) on)
+        subst (λ (p : Parts). SpellsParts message place p next) (sym (is parts))
+        (join_octets (subst (λ (p : Parts). SpellsParts message place p middle) (is End) first) on)
     by (as_name name is) =
-        subst (λ (p : Parts). Spells message place p next) (sym (is parts))
-        (join_name (subst (λ (p : Parts). Spells message place p middle) (is End) first) on)
+        subst (λ (p : Parts). SpellsParts message place p next) (sym (is parts))
+        (join_name (subst (λ (p : Parts). SpellsParts message place p middle) (is End) first) on)
 
 record Split (message : List ℕ) (place : ℕ) (first behind : Parts) (next : ℕ) : Type 0 where
   middle : ℕ
-  front : Spells message place first middle
-  on : Spells message middle behind next
+  front : SpellsParts message place first middle
+  on : SpellsParts message middle behind next
 
-split_octets : {message : List ℕ} {place next : ℕ} {text : List ℕ} {parts : Parts} → Spells message place (Octets text parts) next
+split_octets : {message : List ℕ} {place next : ℕ} {text : List ℕ} {parts : Parts} → SpellsParts message place (Octets text parts) next
     → Split message place (Octets text End) parts next
 split_octets (octets {place = place} {text = text} rest at on) =
     record { middle = place + length text; front = octets rest at (nothing (within on)); on = on }
 
-split_name : {message : List ℕ} {place next : ℕ} {name : List (List ℕ)} {parts : Parts} → Spells message place (Named name parts) next
+split_name : {message : List ℕ} {place next : ℕ} {name : List (List ℕ)} {parts : Parts} → SpellsParts message place (Named name parts) next
     → Split message place (Named name End) parts next
 split_name (named behind reads on) = record { middle = behind; front = named behind reads (nothing (within on)); on = on }
 
-split : {message : List ℕ} {place next : ℕ} {parts : Parts} (field : Field) → Spells message place (read_field field parts) next
+split : {message : List ℕ} {place next : ℕ} {parts : Parts} (field : Field) → SpellsParts message place (read_field field parts) next
     → Split message place (read_field field End) parts next
 split {message} {place} {next} {parts} field whole = by (reads_as field)
   where
     by : ReadsAs field → Split message place (read_field field End) parts next
     by (as_octets text is) =
         subst (λ (p : Parts). Split message place p parts next) (sym (is End))
-        (split_octets (subst (λ (p : Parts). Spells message place p next) (is parts) whole))
+        (split_octets (subst (λ (p : Parts). SpellsParts message place p next) (is parts) whole))
     by (as_name name is) =
         subst (λ (p : Parts). Split message place p parts next) (sym (is End))
-        (split_name (subst (λ (p : Parts). Spells message place p next) (is parts) whole))
+        (split_name (subst (λ (p : Parts). SpellsParts message place p next) (is parts) whole))
 
 -- a row is read field by field
 pub row_read : {message : List ℕ} {place middle : ℕ} {field : Field} {row : List Field} → ReadsField message place field middle
@@ -141,9 +141,9 @@ sole_row {message} {place} {next} {field} {row} first behind = record { sole = b
 -- nothing is left, and only then
 pub nothing_read : {message : List ℕ} {place : ℕ} → place ≡ length message → ReadsFields message place []
 nothing_read {message} {place} ends =
-    record { each = tt; spelled = subst (λ n. Spells message place End n) ends (nothing (omega arith)) }
+    record { each = tt; spelled = subst (λ n. SpellsParts message place End n) ends (nothing (omega arith)) }
 
-end_read : {message : List ℕ} {place next : ℕ} → Spells message place End next → place ≡ next
+end_read : {message : List ℕ} {place next : ℕ} → SpellsParts message place End next → place ≡ next
 end_read (nothing fits) = refl
 
 pub none_left : {message : List ℕ} {place : ℕ} → place < length message → NoFields message place []

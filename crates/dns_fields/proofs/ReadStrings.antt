@@ -3,7 +3,7 @@ use Rattle.std.proofs.Common.{◌≡◌, ◌+◌, ◌≤◌, ℕ, List, [], ◌�
 use Rattle.std.proofs.lemmas.List.{append-nil}
 use Rattle.dns_name.specs.Page.{Parts}
 use Rattle.dns_name.specs.Page.Parts.{End, Octets}
-use Rattle.dns_name.specs.SpelledParts.{Spells, nothing, octets}
+use Rattle.dns_name.specs.SpelledParts.{SpellsParts, nothing, octets}
 use Rattle.dns_wire.proofs.Flat.{same_front}
 use Rattle.dns_scan.specs.CharStr.{StartsWithString, string_wire}
 use Rattle.dns_fields.specs.Fields.{Kind, String, Tag, RestText, Rest16, Rest64, Field, string, tag, rest_text, rest16, rest64, kind_of}
@@ -12,14 +12,14 @@ use Rattle.dns_fields.proofs.FieldKinds.{of_string, of_tag, of_rest_text, of_res
 use Rattle.dns_fields.proofs.ReadFields.{opened}
 
 pub string_read : {message text rest : List ℕ} {place next : ℕ} → StartsWithString (drop place message) text rest
-    → next ≡ place + length (string_wire text) → next ≤ length message → Spells message place (Octets (string_wire text) End) next
+    → next ≡ place + length (string_wire text) → next ≤ length message → SpellsParts message place (Octets (string_wire text) End) next
 string_read {message} {text} {rest} {place} {next} starts ends fits =
-    subst (λ n. Spells message place (Octets (string_wire text) End) n) (sym ends)
+    subst (λ n. SpellsParts message place (Octets (string_wire text) End) n) (sym ends)
     (octets rest starts.spelled (nothing (omega (arith, ends, fits))))
 
 -- a string ends at one place
-string_one : (message text other : List ℕ) (place next end : ℕ) → Spells message place (Octets (string_wire text) End) next
-    → Spells message place (Octets (string_wire other) End) end → (other ≡ text) × (end ≡ next)
+string_one : (message text other : List ℕ) (place next end : ℕ) → SpellsParts message place (Octets (string_wire text) End) next
+    → SpellsParts message place (Octets (string_wire other) End) end → (other ≡ text) × (end ≡ next)
 string_one message text other place next end this that =
     let here = opened this in
     let there = opened that in
@@ -29,14 +29,14 @@ string_one message text other place next end this that =
     let fronts = same_front other text there.rest here.rest tails long in
     (fronts.0, omega (arith, here.ends, there.ends, long))
 
-pub string_sole : {message text : List ℕ} {place next : ℕ} → Spells message place (Octets (string_wire text) End) next
+pub string_sole : {message text : List ℕ} {place next : ℕ} → SpellsParts message place (Octets (string_wire text) End) next
     → IsSoleField message place (string text) next
 string_sole {message} {text} {place} {next} this = record {
   sole = λ other end same. of_string (λ f. ReadsField message place f end → (f ≡ string text) × (end ≡ next)) other
       (λ found there. let one = string_one message text found place next end this there.spelled in (ap string one.0, one.1)) same;
 }
 
-pub tag_sole : {message text : List ℕ} {place next : ℕ} → Spells message place (Octets (string_wire text) End) next
+pub tag_sole : {message text : List ℕ} {place next : ℕ} → SpellsParts message place (Octets (string_wire text) End) next
     → IsSoleField message place (tag text) next
 tag_sole {message} {text} {place} {next} this = record {
   sole = λ other end same. of_tag (λ f. ReadsField message place f end → (f ≡ tag text) × (end ≡ next)) other
@@ -57,14 +57,14 @@ no_tag {message} {place} none field next is =
 
 -- all that is left
 pub all_read : {message text : List ℕ} {place : ℕ} → text ≡ drop place message → place ≤ length message
-    → Spells message place (Octets text End) (length message)
+    → SpellsParts message place (Octets text End) (length message)
 all_read {message} {text} {place} is fits =
     let long : place + length text ≡ length message = omega (arith, ap (length {A = ℕ}) is, length-drop place message) in
-    subst (λ n. Spells message place (Octets text End) n) long
+    subst (λ n. SpellsParts message place (Octets text End) n) long
     (octets [] (sym is ∙ sym (append-nil text)) (nothing (omega (arith, long))))
 
 -- is one
-pub all_one : (message text other : List ℕ) (place : ℕ) → text ≡ drop place message → Spells message place (Octets other End) (length message)
+pub all_one : (message text other : List ℕ) (place : ℕ) → text ≡ drop place message → SpellsParts message place (Octets other End) (length message)
     → other ≡ text
 all_one message text other place is that =
     let there = opened that in
@@ -80,9 +80,9 @@ rest_sole : (its : Kind) (rest : List ℕ → Field)
     → AreSoleFields message place (rest text ∷ [])
 rest_sole its rest known reads message text place kind is = record { sole = by }
   where
-    one : (f : Field) → kind_of f ≡ its → Spells message place (read_field f End) (length message) → f ≡ rest text
-    one f same = known (λ f. Spells message place (read_field f End) (length message) → f ≡ rest text) f
-        (λ found that. ap rest (all_one message text found place is (subst (λ (p : Parts). Spells message place p (length message)) (reads found) that))) same
+    one : (f : Field) → kind_of f ≡ its → SpellsParts message place (read_field f End) (length message) → f ≡ rest text
+    one f same = known (λ f. SpellsParts message place (read_field f End) (length message) → f ≡ rest text) f
+        (λ found that. ap rest (all_one message text found place is (subst (λ (p : Parts). SpellsParts message place p (length message)) (reads found) that))) same
 
     by : (others : List Field) → map kind_of others ≡ map kind_of (rest text ∷ []) → ReadsFields message place others → others ≡ rest text ∷ []
     by [] are that = absurd (cc)

@@ -59,7 +59,7 @@ kind_of (rest16 octets) = Rest16
 kind_of (rest64 octets) = Rest64
 
 -- The table: which fields the data of a type has, from the left (RFC 1035 3.3 and 3.4, RFC 3596 2.2, RFC 1183 2.2,
--- RFC 2782, RFC 8659 4.1, RFC 4034 2.1 and 5.1). A type that is not in it has opaque data. The rows are A, NS, MD, MF, CNAME,
+-- RFC 2782, RFC 8659 4.1, RFC 4034 2.1 and 5.1). A type that is not in it has unknown data. The rows are A, NS, MD, MF, CNAME,
 -- SOA, MB, MG, MR, PTR, HINFO, MINFO, MX, TXT, RP, AAAA, SRV, DS, DNSKEY and CAA.
 abbrev pub table : List (ℕ × List Kind)
 table =
@@ -141,7 +141,7 @@ pub record IsRow (rtype : ℕ) (row : List Field) : Type 0 where
 -- The octets are data of the type: those of a row of it, or any where the type has no fields of its own.
 pub data IsData (rtype : ℕ) (data' : List ℕ) : Type 0 where
   typed : (row : List Field) → IsRow rtype row → data' ≡ octets row → IsData rtype data'
-  opaque : kinds_of rtype ≡ None → length data' < 2 ^ 16 → IsData rtype data'
+  unknown : kinds_of rtype ≡ None → length data' < 2 ^ 16 → IsData rtype data'
 
 -- the field with the ASCII letters of its name in lower case (RFC 4034 6.2)
 abbrev pub lowered : Field → Field

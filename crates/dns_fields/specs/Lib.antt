@@ -1,6 +1,6 @@
 pub mod Fields
 pub mod Alike
-pub mod Front
+pub mod Prefix
 pub mod AlikeLaws
 pub mod Last
 pub mod Written

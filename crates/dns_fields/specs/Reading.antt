@@ -4,7 +4,7 @@ use Rattle.std.specs.List.{AllByRecursion}
 use Rattle.dns_wire.specs.Cut.{IsCut}
 use Rattle.dns_name.specs.Page.{Parts}
 use Rattle.dns_name.specs.Page.Parts.{End, Octets, Named}
-use Rattle.dns_name.specs.SpelledParts.{Spells}
+use Rattle.dns_name.specs.SpelledParts.{SpellsParts}
 use Rattle.dns_fields.specs.Fields.{Kind, Compressible, Uncompressed, Strings, Field, compressible, uncompressed, kind_of, kinds_of, field_octets, octets, IsField, IsRow}
 
 -- a field before parts: any name may have a pointer (RFC 3597 4 asks readers for that)
@@ -21,17 +21,17 @@ read_parts (field ∷ row) = read_field field (read_parts row)
 -- the field is at the place, and `next` is the place after it
 pub record ReadsField (message : List ℕ) (place : ℕ) (field : Field) (next : ℕ) : Type 0 where
   pub is_field : IsField field
-  pub spelled : Spells message place (read_field field End) next
+  pub spelled : SpellsParts message place (read_field field End) next
 
 -- the fields are from the place on, with nothing after them
 pub record ReadsFields (message : List ℕ) (place : ℕ) (row : List Field) : Type 0 where
   pub each : AllByRecursion IsField row
-  pub spelled : Spells message place (read_parts row) (length message)
+  pub spelled : SpellsParts message place (read_parts row) (length message)
 
 -- the octets from the place on are this data of the type
 pub record ReadsRow (rtype : ℕ) (message : List ℕ) (place : ℕ) (row : List Field) : Type 0 where
   pub is_row : IsRow rtype row
-  pub spelled : Spells message place (read_parts row) (length message)
+  pub spelled : SpellsParts message place (read_parts row) (length message)
 
 -- this field is the only one of its kind at the place
 pub record IsSoleField (message : List ℕ) (place : ℕ) (field : Field) (next : ℕ) : Type 0 where

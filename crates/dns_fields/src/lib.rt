@@ -7,7 +7,7 @@
 mod compose;
 mod convert;
 mod field;
-mod front;
+mod octets_ord;
 pub mod laws;
 mod read;
 mod row;
@@ -18,7 +18,7 @@ mod table;
 pub use compose::{compose_canonical_row, compose_row, row_len};
 pub use convert::{ConvertField, ConvertRow, OverOctets};
 pub use field::{Compressible, FieldValue, HasField, Tag, Uncompressed};
-pub use front::{CanonicalOctetsOrd, FrontField, FrontRow, canonical_row_cmp_octets};
+pub use octets_ord::{CanonicalOctetsOrd, FieldOctetsOrd, RowOctetsOrd, canonical_row_cmp_octets};
 pub use read::{ReadError, ReadField, ReadRow, parse_row, read_row};
 pub use row::{HasFields, Last, LastValue, Rest16, Rest64, RestText, Row, Strings, StringsIter};
 pub use scan::{ScanField, ScanRow, scan_row, scan_row_of};

@@ -3,7 +3,7 @@ use Rattle.std.proofs.Common.{◌≡◌, ℕ, ◌+◌, ◌≤◌, zero, suc, Lis
 use Rattle.std.specs.Prelude.{Option, Some, None, slice_get}
 use Rattle.dns_label.specs.Name.{IsName, labels_wire, with_root}
 use Rattle.dns_label.specs.Labels.{labels_at}
-use Rattle.dns_wire.specs.Parsed.{IsLeft, labels_left, StandsAt}
+use Rattle.dns_wire.specs.Parsed.{IsLeft, labels_left, LabelsStandAt}
 use Rattle.dns_wire.proofs.Wire.{labels_wire-with_root}
 
 -- the first item of what is left, and what is left after it
@@ -31,7 +31,7 @@ no_item (first ∷ items) (suc index) is = no_item items index is
 
 -- what the label that is split off at the place says
 pub stands-left : {message octets : List ℕ} {labels : List (List ℕ)} {index : ℕ} {place : Option ℕ} {here : ℕ} {text : List ℕ} (next : Option ℕ)
-    → StandsAt message labels index place → place ≡ Some here → octets ≡ message
+    → LabelsStandAt message labels index place → place ≡ Some here → octets ≡ message
     → with_root (labels_at octets here) ≡ text ∷ labels_left octets next
     → drop index labels ≡ text ∷ labels_left message next
 stands-left {message} {here = here} {text = text} next stands is same labels =
@@ -39,16 +39,16 @@ stands-left {message} {here = here} {text = text} next stands is same labels =
     stands.is ∙ ap (labels_left message) is ∙ subst P same labels
 
 pub stands-label : {message octets : List ℕ} {labels : List (List ℕ)} {index : ℕ} {place : Option ℕ} {here : ℕ} {text : List ℕ} (next : Option ℕ)
-    → StandsAt message labels index place → place ≡ Some here → octets ≡ message
+    → LabelsStandAt message labels index place → place ≡ Some here → octets ≡ message
     → with_root (labels_at octets here) ≡ text ∷ labels_left octets next
     → Some text ≡ slice_get labels index
 stands-label {labels = labels} {index = index} {text = text} next stands is same behind =
     front_item labels index text _ (stands-left next stands is same behind)
 
 pub stands-next : {message octets : List ℕ} {labels : List (List ℕ)} {index : ℕ} {place : Option ℕ} {here : ℕ} {text : List ℕ} (next : Option ℕ)
-    → StandsAt message labels index place → place ≡ Some here → octets ≡ message
+    → LabelsStandAt message labels index place → place ≡ Some here → octets ≡ message
     → with_root (labels_at octets here) ≡ text ∷ labels_left octets next → IsLeft octets next
-    → StandsAt message labels (index + 1) next
+    → LabelsStandAt message labels (index + 1) next
 stands-next {labels = labels} {index = index} {text = text} next stands is same behind left =
     let P : List ℕ → Type 0 = λ o. IsLeft o next in
     record {
@@ -57,7 +57,7 @@ stands-next {labels = labels} {index = index} {text = text} next stands is same 
     }
 
 pub stands-none : {message : List ℕ} {labels : List (List ℕ)} {index : ℕ} {place : Option ℕ}
-    → StandsAt message labels index place → place ≡ None → None ≡ slice_get labels index
+    → LabelsStandAt message labels index place → place ≡ None → None ≡ slice_get labels index
 stands-none {message} {labels} {index} stands none = no_item labels index (stands.is ∙ ap (labels_left message) none)
 
 -- the octets of the labels of a name

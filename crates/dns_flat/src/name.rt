@@ -8,7 +8,7 @@ ghost use Rattle.dns_label.specs.Name.{IsName, wire, with_root, low};
 ghost use Rattle.dns_wire.specs.Flat.{IsWritten, StartsWithName};
 ghost use Rattle.dns_wire.specs.Suffix.{EndsWith};
 ghost use Rattle.dns_label.specs.Labels.{labels_at};
-ghost use Rattle.dns_wire.specs.Parsed.{StandsAt};
+ghost use Rattle.dns_wire.specs.Parsed.{LabelsStandAt};
 ghost use Rattle.dns_wire.specs.Cut.{IsCut};
 ghost use Rattle.dns_flat.specs.NoName.{IsNoName};
 ghost use Rattle.dns_flat.specs.declared.name.NameError.TheVariants.{LongName};
@@ -232,7 +232,7 @@ impl<Octs: Octets> Eq for Name<Octs> {
 impl<Octs: Octets> ToLabelIter for Name<Octs> {
     ghost labels = { with_root };
 
-    ghost stands = { λ name index place. StandsAt (wire name) (with_root name) index place };
+    ghost stands = { λ name index place. LabelsStandAt (wire name) (with_root name) index place };
 
     fn label(&self, index: usize) -> Option<Label<'_>> {
         self.iter().label(index)

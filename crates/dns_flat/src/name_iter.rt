@@ -1,6 +1,6 @@
 //! The labels of flat names, one after another.
 ghost use Rattle.std.specs.Prelude.{◌≡◌, ◌∷◌, ◌++◌, List, ℕ, [], option_map, slice_get, IfSome, IfNone};
-ghost use Rattle.dns_label.specs.Label.{octets_of};
+ghost use Rattle.dns_label.specs.Label.{label_octets};
 ghost use Rattle.dns_wire.specs.FlatLabels.{AreLabels, flat_labels};
 
 use dns_label::Label;
@@ -31,7 +31,7 @@ impl<'a> NameIter<'a> {
 
     /// Returns the label with this number, counted from 0.
     pub(crate) fn label(mut self, index: usize) -> Option<Label<'a>>
-        ensures { option_map octets_of result ≡ slice_get self.entry index }
+        ensures { option_map label_octets result ≡ slice_get self.entry index }
     {
         self.nth(index)
     }
@@ -42,7 +42,7 @@ impl<'a> Iterator for NameIter<'a> {
 
     type Item = Label<'a>;
 
-    ghost next_gives = { YieldsFirstBy octets_of (λ labels. labels) };
+    ghost next_gives = { YieldsFirstBy label_octets (λ labels. labels) };
 
     ghost remaining = { item_count (λ labels. labels) };
 
@@ -56,7 +56,7 @@ impl<'a> Iterator for NameIter<'a> {
 impl<'a> DoubleEndedIterator for NameIter<'a> {
     ghost use Rattle.std.specs.Iterator.{YieldsLastBy};
 
-    ghost next_back_gives = { YieldsLastBy octets_of (λ labels. labels) };
+    ghost next_back_gives = { YieldsLastBy label_octets (λ labels. labels) };
 
     /// Returns the last label. It is found from the left, so this takes time linear in the number of labels.
     fn next_back(&mut self) -> Option<Label<'a>> {
@@ -69,7 +69,7 @@ impl<'a> DoubleEndedIterator for NameIter<'a> {
 /// Returns the first label, and the octets after it, or `None` if there are no octets.
 pub(crate) fn split_first(octets: &[u8]) -> Option<(Label<'_>, &[u8])>
     requires { AreLabels octets.now }
-    ensures some { IfSome result (λ found. flat_labels octets.now ≡ octets_of found.0 ∷ flat_labels found.1.now) }
+    ensures some { IfSome result (λ found. flat_labels octets.now ≡ label_octets found.0 ∷ flat_labels found.1.now) }
     ensures left { IfSome result (λ found. AreLabels found.1.now) }
     ensures none { IfNone result (flat_labels octets.now ≡ []) }
 {
@@ -85,7 +85,7 @@ pub(crate) fn split_first(octets: &[u8]) -> Option<(Label<'_>, &[u8])>
 /// Returns the last label, and the octets before it, or `None` if there are no octets.
 fn split_last(octets: &[u8]) -> Option<(Label<'_>, &[u8])>
     requires { AreLabels octets.now }
-    ensures some { IfSome result (λ found. flat_labels octets.now ≡ flat_labels found.1.now ++ octets_of found.0 ∷ []) }
+    ensures some { IfSome result (λ found. flat_labels octets.now ≡ flat_labels found.1.now ++ label_octets found.0 ∷ []) }
     ensures left { IfSome result (λ found. AreLabels found.1.now) }
     ensures none { IfNone result (flat_labels octets.now ≡ []) }
 {

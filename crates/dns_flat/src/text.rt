@@ -15,7 +15,7 @@ use crate::Name;
 use dns_label::Symbol;
 use dns_octets::{EmptyBuilder, FromBuilder};
 use dns_wire::FromStrError;
-use dns_wire::text::{Spelling, append_absolute_text};
+use dns_wire::text::{NameDraft, append_absolute_text};
 use finish::finish;
 pub use relative::RelativeFromStrError;
 pub use spelled::SpelledName;
@@ -43,7 +43,7 @@ where
         ensures err { IfErr result (IsRefusedBy C.next_gives chars IsNameText) }
         ensures other { result ≡ Err (Presentation presentation.RelativeName) → ⊥ }
     {
-        Name::of_read(alloc, Spelling::read_chars(chars)?)
+        Name::of_read(alloc, NameDraft::read_chars(chars)?)
     }
 
     /// Reads the name that symbols spell, as their text does, with or without its last dot.
@@ -60,7 +60,7 @@ where
         ensures err { IfErr result (IsRefusedBy S.next_gives symbols SpellName) }
         ensures other { result ≡ Err (Presentation presentation.RelativeName) → ⊥ }
     {
-        Name::of_read(alloc, Spelling::read(&mut symbols)?)
+        Name::of_read(alloc, NameDraft::read(&mut symbols)?)
     }
 
     /// Reads the name that a text spells, with or without its last dot.
@@ -72,23 +72,23 @@ where
         ensures err { IfErr result (IsRefused IsNameText text.now) }
         ensures other { result ≡ Err (Presentation presentation.RelativeName) → ⊥ }
     {
-        Name::of_read(alloc, Spelling::read_text(text.as_bytes())?)
+        Name::of_read(alloc, NameDraft::read_text(text.as_bytes())?)
     }
 
     /// Makes the name that was read. Its last label may be open.
-    fn of_read(alloc: Global, read: Option<Spelling>) -> Result<Self, FromStrError>
+    fn of_read(alloc: Global, read: Option<NameDraft>) -> Result<Self, FromStrError>
         requires { (text : List ℕ) × IsReadBy text read }
         ensures ok { IfOk result (λ name. (text : List ℕ) → IsReadBy text read → IsNameText text name) }
         ensures err { IfErr result (λ error. (text : List ℕ) → IsReadBy text read → IsRefused IsNameText text error) }
         ensures other { result ≡ Err (Presentation presentation.RelativeName) → ⊥ }
     {
-        let Some(mut spelling) = read else {
+        let Some(mut draft) = read else {
             return Ok(Name::root(alloc)?);
         };
-        if spelling.has_open_label() {
-            spelling.end_label()?;
+        if draft.has_open_label() {
+            draft.end_label()?;
         }
-        finish(alloc, spelling)
+        finish(alloc, draft)
     }
 }
 

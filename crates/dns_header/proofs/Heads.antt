@@ -5,7 +5,7 @@ use Rattle.std.specs.Prelude.{◌↔◌, Result, Ok, Err, OnErr, IfErr}
 use Rattle.std.specs.Result.{IsErrAnd}
 use Rattle.dns_octets.specs.declared.error.ParseError.{ParseError}
 use Rattle.dns_octets.specs.declared.error.ParseError.TheVariants.{ShortInput}
-use Rattle.dns_label.specs.Spelled.{Reads}
+use Rattle.dns_label.specs.Spelled.{DecodesName}
 use Rattle.dns_label.proofs.Spelling.{reads_one}
 use Rattle.dns_octets.specs.Numbers.{number_at}
 use Rattle.dns_header.specs.Head.{Head, ReadsHead, NoHead, NoWhole, HeadIsCut, WholeIsCut}
@@ -20,7 +20,7 @@ on_err (Err error) is = is
 
 -- fewer than ten octets follow the owner
 pub no_head : {message : List ℕ} {place behind : ℕ} {name : List (List ℕ)}
-    → Reads message place name behind → length message < behind + 10 → NoHead message place
+    → DecodesName message place name behind → length message < behind + 10 → NoHead message place
 no_head owner short head next is = omega (arith, short, is.whole, (reads_one owner is.owner).1)
 
 -- without a record header there is no record

@@ -10,7 +10,7 @@ use Rattle.dns_name.proofs.Growth.{IsPast-more, IsPast-from}
 use Rattle.dns_name.proofs.WrittenParts.{page_same}
 use Rattle.dns_wire.specs.Skip.{Skips}
 use Rattle.dns_wire.proofs.Skipping.{skips-one}
-use Rattle.dns_label.specs.Spelled.{Reads}
+use Rattle.dns_label.specs.Spelled.{DecodesName}
 use Rattle.dns_label.proofs.Spelling.{reads_one}
 use Rattle.dns_header.specs.Question.{Question, ReadsQuestion, SkipsQuestion}
 
@@ -38,7 +38,7 @@ past_four bound other s old known name four octets mid same named is past =
     IsPast-from bound other _ _ same (omega (arith, ap (λ l. length (l ++ four)) named, ap (λ l. length (mid ++ l)) is)) past
 
 -- a question is read only with the name at its place
-pub no_question : (message text : List ℕ) (place here there : ℕ) (name : List (List ℕ)) → Reads message place name here → text ≡ message
+pub no_question : (message text : List ℕ) (place here there : ℕ) (name : List (List ℕ)) → DecodesName message place name here → text ≡ message
     → there ≤ here + 2 → (there + 2 ≤ length text → false ≡ true) → (q : Question) (next : ℕ) → ReadsQuestion message place q next → ⊥
 no_question message text place here there name reads same near short q next asks =
     let ends = (reads_one asks.name reads).1 in

@@ -3,13 +3,13 @@ use Rattle.std.proofs.Common.{◌≡◌, ℕ, ◌+◌, ◌<◌, ◌≤◌, ◌^�
 use Rattle.std.specs.Int.{to_be_bytes, from_be_bytes, w16}
 use Rattle.std.proofs.lemmas.Nat.{from_be_bytes-to_be_bytes_2}
 use Rattle.dns_label.specs.Name.{IsName, wire}
-use Rattle.dns_label.specs.Spelled.{Reads}
+use Rattle.dns_label.specs.Spelled.{DecodesName}
 use Rattle.dns_label.proofs.Spelling.{drop_behind, spelled-written}
 use Rattle.dns_header.specs.Question.{Question, ReadsQuestion, question_octets}
 
 -- a name that is written out is read
 pub reads-written : (message : List ℕ) (place : ℕ) (name : List (List ℕ)) (rest : List ℕ) → drop place message ≡ wire name ++ rest
-    → IsName name → Reads message place name (place + length (wire name))
+    → IsName name → DecodesName message place name (place + length (wire name))
 reads-written message place name rest at is = record {
   spelled = spelled-written message 255 place name rest at is.labels;
   is_name = is;

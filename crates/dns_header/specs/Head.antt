@@ -2,7 +2,7 @@
 use Rattle.std.specs.Prelude.{◌≡◌, ◌+◌, ◌<◌, ◌≤◌, ℕ, List, ◌++◌, length, take, drop}
 use Rattle.std.specs.Int.{from_be_bytes, to_be_bytes, w16, w32}
 use Rattle.dns_label.specs.Name.{wire, low}
-use Rattle.dns_label.specs.Spelled.{Reads}
+use Rattle.dns_label.specs.Spelled.{DecodesName}
 use Rattle.dns_wire.specs.Cut.{IsCut}
 use Rattle.dns_name.specs.Page.{Parts}
 use Rattle.dns_name.specs.Page.Parts.{End, Octets, Named, Counted}
@@ -29,7 +29,7 @@ labelled labels head = record {
 -- The message has this header at the place, and `next` is the place after it.
 pub record ReadsHead (message : List ℕ) (place : ℕ) (head : Head (List (List ℕ))) (next : ℕ) : Type 0 where
   pub behind : ℕ
-  pub owner : Reads message place head.owner behind
+  pub owner : DecodesName message place head.owner behind
   pub whole : behind + 10 ≤ length message
   pub rtype : head.rtype ≡ number_at message behind
   pub class : head.class ≡ number_at message (behind + 2)
@@ -47,7 +47,7 @@ pub record ReadsWhole (message : List ℕ) (place : ℕ) (head : Head (List (Lis
 -- The message ends too early for a record header: in the owner, or after it.
 pub data HeadIsCut (message : List ℕ) (place : ℕ) : Type 0 where
   in_owner : IsCut message 255 254 place → HeadIsCut message place
-  behind_owner : (name : List (List ℕ)) (behind : ℕ) → Reads message place name behind → length message < behind + 10 → HeadIsCut message place
+  behind_owner : (name : List (List ℕ)) (behind : ℕ) → DecodesName message place name behind → length message < behind + 10 → HeadIsCut message place
 
 -- The same, or in the data.
 pub data WholeIsCut (message : List ℕ) (place : ℕ) : Type 0 where

@@ -2,7 +2,7 @@
 use Rattle.std.specs.Prelude.{◌≡◌, ◌+◌, ◌<◌, ◌≤◌, ℕ, List, ◌++◌, length}
 use Rattle.std.specs.Int.{to_be_bytes, w16}
 use Rattle.dns_label.specs.Name.{wire}
-use Rattle.dns_label.specs.Spelled.{Reads}
+use Rattle.dns_label.specs.Spelled.{DecodesName}
 use Rattle.dns_name.specs.Page.{Parts}
 use Rattle.dns_name.specs.Page.Parts.{End, Octets, Named}
 use Rattle.dns_wire.specs.Skip.{Skips}
@@ -20,7 +20,7 @@ question_octets q = wire q.name ++ to_be_bytes w16 q.qtype ++ to_be_bytes w16 q.
 -- The message has the question at a place, and `next` is the place after it.
 pub record ReadsQuestion (message : List ℕ) (place : ℕ) (q : Question) (next : ℕ) : Type 0 where
   pub behind : ℕ
-  pub name : Reads message place q.name behind
+  pub name : DecodesName message place q.name behind
   pub whole : behind + 4 ≤ length message
   pub qtype : q.qtype ≡ number_at message behind
   pub qclass : q.qclass ≡ number_at message (behind + 2)

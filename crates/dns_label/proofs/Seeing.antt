@@ -9,8 +9,8 @@ use Rattle.dns_label.specs.declared.label.SplitLabelError.{SplitLabelError}
 use Rattle.dns_label.specs.declared.label.SplitLabelError.TheVariants.{Pointer, BadType, ShortInput}
 use Rattle.dns_label.specs.declared.label.LabelTypeError.TheVariants.{Undefined, Extended}
 use Rattle.dns_label.specs.Name.{IsLabel, with_root}
-use Rattle.dns_label.specs.Spelled.{Spells}
-use Rattle.dns_label.specs.Spelled.Spells.{root as spelled_root, label as spelled_label, pointer as spelled_pointer}
+use Rattle.dns_label.specs.Spelled.{EncodesName}
+use Rattle.dns_label.specs.Spelled.EncodesName.{root as spelled_root, label as spelled_label, pointer as spelled_pointer}
 use Rattle.dns_label.specs.Split.{NoLabel, StartsWithLabel, StartsWithPointer}
 use Rattle.dns_label.specs.Seen.{Seen, EndsThem, seen_in, seen_by, most_heads, labels_seen}
 use Rattle.dns_label.specs.Seen.Seen.{root, label, pointer, fault}
@@ -193,14 +193,14 @@ labels_seen-seen message {pointers} {place} seen =
     seen_by-seen message (most_heads (length message) pointers) seen (enough_all message pointers place)
 
 -- if a name is spelled, its labels are seen
-pub seen-spelled : (message : List ℕ) {pointers place next : ℕ} {name : List (List ℕ)} → Spells message pointers place name next
+pub seen-spelled : (message : List ℕ) {pointers place next : ℕ} {name : List (List ℕ)} → EncodesName message pointers place name next
     → Seen message pointers place (with_root name)
 seen-spelled message (spelled_root rest at) = root rest at
 seen-spelled message (spelled_label rest at is_label parent) = label rest at is_label (seen-spelled message parent)
 seen-spelled message (spelled_pointer first second after rest at both back name) =
     pointer first second rest at both back (seen-spelled message name)
 
-pub labels_seen-spelled : (message : List ℕ) {pointers place next : ℕ} {name : List (List ℕ)} → Spells message pointers place name next
+pub labels_seen-spelled : (message : List ℕ) {pointers place next : ℕ} {name : List (List ℕ)} → EncodesName message pointers place name next
     → labels_seen message pointers place ≡ with_root name
 labels_seen-spelled message spells = labels_seen-seen message (seen-spelled message spells)
 

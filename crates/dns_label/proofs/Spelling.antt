@@ -6,8 +6,8 @@ use Rattle.std.specs.List.{AllByRecursion}
 use Rattle.std.proofs.Math.Seq.{take-append_seam, drop-append_seam}
 use Rattle.std.proofs.lemmas.List.{drop-drop}
 use Rattle.dns_label.specs.Name.{IsLabel, wire}
-use Rattle.dns_label.specs.Spelled.{Spells, Reads}
-use Rattle.dns_label.specs.Spelled.Spells.{root, label, pointer}
+use Rattle.dns_label.specs.Spelled.{EncodesName, DecodesName}
+use Rattle.dns_label.specs.Spelled.EncodesName.{root, label, pointer}
 use Rattle.dns_label.specs.Labels.{head_in, labels_from, labels_at}
 use Rattle.dns_label.specs.Labels.Head.{Holds, Points}
 
@@ -21,7 +21,7 @@ head_in-pointer octets first second rest is both = rw is (grind (arith, common_s
 
 -- with few enough heads looked at, what is found is what is spelled
 pub labels_from-spelled : (message : List ℕ) (heads : ℕ) {pointers place next : ℕ} {name : List (List ℕ)}
-    → Spells message pointers place name next → pointers + length name < heads → labels_from heads message place ≡ name
+    → EncodesName message pointers place name next → pointers + length name < heads → labels_from heads message place ≡ name
 unfolding labels_from
 labels_from-spelled message zero spelled few = absurd (omega arith)
 labels_from-spelled message (suc heads) (root rest at) few = rw at refl
@@ -40,7 +40,7 @@ length-wire (text ∷ name) each =
     omega (arith, length-append text (wire name))
 
 -- what is found at a place is the name that a reader parses there
-pub labels_at-reads : {message : List ℕ} {place next : ℕ} {name : List (List ℕ)} → Reads message place name next
+pub labels_at-reads : {message : List ℕ} {place next : ℕ} {name : List (List ℕ)} → DecodesName message place name next
     → labels_at message place ≡ name
 unfolding labels_at
 labels_at-reads {message} {name = name} reads =
@@ -48,7 +48,7 @@ labels_at-reads {message} {name = name} reads =
     labels_from-spelled message 383 reads.spelled (omega (arith, reads.is_name.short))
 
 -- a name ends at one place
-pub spelled_end : (message : List ℕ) {pointers others place here next end : ℕ} {name other : List (List ℕ)} → Spells message pointers place name next → Spells message others here other end → place ≡ here
+pub spelled_end : (message : List ℕ) {pointers others place here next end : ℕ} {name other : List (List ℕ)} → EncodesName message pointers place name next → EncodesName message others here other end → place ≡ here
     → next ≡ end
 spelled_end message (root rest at) (root rest' at') same = ap (λ n. n + 1) same
 spelled_end message (root rest at) (label {label = text} rest' at' is_label parent) same =
@@ -69,8 +69,8 @@ spelled_end message (pointer first second after rest at both back name)
     (pointer first' second' after' rest' at' both' back' name') same = ap (λ n. n + 2) same
 
 -- a message spells one name at a place for its reader
-pub reads_one : {message : List ℕ} {place next end : ℕ} {name other : List (List ℕ)} → Reads message place name next
-    → Reads message place other end → (name ≡ other) × (next ≡ end)
+pub reads_one : {message : List ℕ} {place next end : ℕ} {name other : List (List ℕ)} → DecodesName message place name next
+    → DecodesName message place other end → (name ≡ other) × (next ≡ end)
 reads_one {message} {place} reads others =
     (sym (labels_at-reads reads) ∙ labels_at-reads others, spelled_end message reads.spelled others.spelled refl)
 
@@ -84,11 +84,11 @@ drop_behind message place behind front rest at is =
 -- a name that is written out is read, whatever is around it
 pub spelled-written : (message : List ℕ) (pointers place : ℕ) (name : List (List ℕ)) (rest : List ℕ)
     → drop place message ≡ wire name ++ rest → AllByRecursion IsLabel name
-    → Spells message pointers place name (place + length (wire name))
+    → EncodesName message pointers place name (place + length (wire name))
 spelled-written message pointers place [] rest at each = root rest at
 spelled-written message pointers place (text ∷ name) rest at each =
     let here : drop place message ≡ length text ∷ text ++ (wire name ++ rest) = at ∙ append_assoc (length text ∷ text) (wire name) rest in
     let behind : drop (place + 1 + length text) message ≡ wire name ++ rest = drop_behind message place _ (length text ∷ text) (wire name ++ rest) here (omega arith) in
     let goes = spelled-written message pointers (place + 1 + length text) name rest behind each.1 in
-    let P : ℕ → Type 0 = λ next. Spells message pointers place (text ∷ name) next in
+    let P : ℕ → Type 0 = λ next. EncodesName message pointers place (text ∷ name) next in
     subst P (omega (arith, length-append text (wire name))) (label (wire name ++ rest) here each.0 goes)

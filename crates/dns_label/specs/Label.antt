@@ -2,5 +2,5 @@
 use Rattle.std.specs.Prelude.{ℕ, List}
 use Rattle.dns_label.specs.declared.label.Label.{Label}
 
-abbrev pub octets_of : Label → List ℕ
-octets_of label = label.octets.now
+abbrev pub label_octets : Label → List ℕ
+label_octets label = label.octets.now

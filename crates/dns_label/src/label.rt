@@ -61,9 +61,9 @@ pub struct Label<'a> {
 }
 
 impl Clone for Label<'_> {
-    ghost use Rattle.dns_label.specs.Label.{octets_of};
+    ghost use Rattle.dns_label.specs.Label.{label_octets};
 
-    ghost is_clone = { λ label copy. octets_of copy ≡ octets_of label };
+    ghost is_clone = { λ label copy. label_octets copy ≡ label_octets label };
 
     ghost is_infallible = { λ _. ⊤ };
 
@@ -75,26 +75,26 @@ impl Clone for Label<'_> {
 impl Copy for Label<'_> {}
 
 impl<'a> Label<'a> {
-    ghost use Rattle.dns_label.specs.Label.{octets_of};
+    ghost use Rattle.dns_label.specs.Label.{label_octets};
     ghost use Rattle.dns_label.specs.Split.{NoLabel, StartsWithLabel};
 
     /// Returns the root's label, which has no octets.
     pub fn root() -> Label<'static>
-        ensures { octets_of result ≡ [] }
+        ensures { label_octets result ≡ [] }
     {
         Label { octets: &[] }
     }
 
     /// Returns the label `*` (RFC 4592, section 2.1.1).
     pub fn wildcard() -> Label<'static>
-        ensures { octets_of result ≡ 42 ∷ [] }
+        ensures { label_octets result ≡ 42 ∷ [] }
     {
         Label { octets: b"*" }
     }
 
     /// Returns the label of these octets. Fails exactly if they are more than 63.
     pub fn from_slice(octets: &'a [u8]) -> Result<Self, LongLabelError>
-        ensures ok { IfOk result (λ label. octets_of label ≡ octets.now) }
+        ensures ok { IfOk result (λ label. label_octets label ≡ octets.now) }
         ensures short { IsOk result ↔ (length octets.now ≤ 63) }
     {
         if octets.len() > 63 {
@@ -109,7 +109,7 @@ impl<'a> Label<'a> {
     /// Fails if the octets begin with a pointer or with a length of another type, or end early (RFC 1035, section
     /// 4.1.4).
     pub fn split_from(octets: &'a [u8]) -> Result<(Self, &'a [u8]), SplitLabelError>
-        ensures ok { IfOk result (λ found. StartsWithLabel octets.now (octets_of found.0) found.1.now) }
+        ensures ok { IfOk result (λ found. StartsWithLabel octets.now (label_octets found.0) found.1.now) }
         ensures err { IfErr result (NoLabel octets.now) }
     {
         let Some((&head, behind)) = octets.split_first() else {
@@ -135,35 +135,35 @@ impl<'a> Label<'a> {
 
     /// Returns the octets, without the length octet.
     pub fn as_slice(&self) -> &'a [u8]
-        ensures { result.now ≡ octets_of self.now }
+        ensures { result.now ≡ label_octets self.now }
     {
         self.octets
     }
 
     /// Returns the number of octets, without the length octet.
     pub fn len(&self) -> usize
-        ensures { result ≡ length (octets_of self.now) }
+        ensures { result ≡ length (label_octets self.now) }
     {
         self.octets.len()
     }
 
     /// Returns whether the label has no octets.
     pub fn is_empty(&self) -> bool
-        ensures { IsTrue result ↔ (octets_of self.now ≡ []) }
+        ensures { IsTrue result ↔ (label_octets self.now ≡ []) }
     {
         self.is_root()
     }
 
     /// Returns whether this is the label `*` (RFC 4592, section 2.1.1).
     pub fn is_wildcard(&self) -> bool
-        ensures { IsTrue result ↔ (octets_of self.now ≡ 42 ∷ []) }
+        ensures { IsTrue result ↔ (label_octets self.now ≡ 42 ∷ []) }
     {
         matches!(self.octets, [b'*'])
     }
 
     /// Returns whether this is the root's label, which has no octets.
     pub fn is_root(&self) -> bool
-        ensures { IsTrue result ↔ (octets_of self.now ≡ []) }
+        ensures { IsTrue result ↔ (label_octets self.now ≡ []) }
     {
         self.octets.is_empty()
     }

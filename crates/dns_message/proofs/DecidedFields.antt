@@ -8,7 +8,7 @@ use Rattle.std.proofs.lemmas.Nat.{from_be_bytes-to_be_bytes_2, from_be_bytes-to_
 use Rattle.dns_label.specs.Spelled as names
 use Rattle.dns_name.specs.Page.{Parts}
 use Rattle.dns_name.specs.Page.Parts.{End, Octets}
-use Rattle.dns_name.specs.SpelledParts.{Spells}
+use Rattle.dns_name.specs.SpelledParts.{SpellsParts}
 use Rattle.dns_scan.specs.CharStr.{StartsWithString, string_wire}
 use Rattle.dns_fields.specs.Fields.{Kind, Number8, Number16, Number32, Ipv4, Ipv6, Compressible, Uncompressed, String, Strings, Tag, RestText, Rest16, Rest64}
 use Rattle.dns_fields.specs.Fields.{Field, number8, number16, number32, ipv4, ipv6, compressible, uncompressed, string, strings, tag, rest_text, rest16, rest64, kind_of, kinds_of, field_octets, octets, IsField}
@@ -63,7 +63,7 @@ record IsMade (its : Kind) (made : List ℕ → Field) : Type 0 where
 front_stands : {its : Kind} {size : ℕ} {message : List ℕ} {place next : ℕ} → IsFixed its size → (field : Field) → kind_of field ≡ its
     → ReadsField message place field next → take size (drop place message) ≡ field_octets field
 front_stands {its} {size} {message} {place} {next} fixed field is reads =
-    let there = opened (subst (λ (p : Parts). Spells message place p next) (fixed.read field is) reads.spelled) in
+    let there = opened (subst (λ (p : Parts). SpellsParts message place p next) (fixed.read field is) reads.spelled) in
     ap (take size) there.at ∙ take_at (field_octets field) there.rest size (fixed.long field is reads.is_field)
 
 fixed_by : {its : Kind} {size : ℕ} {made : List ℕ → Field} → IsFixed its size → IsMade its made → (message : List ℕ) (place : ℕ)
@@ -72,7 +72,7 @@ fixed_by : {its : Kind} {size : ℕ} {made : List ℕ → Field} → IsFixed its
 fixed_by {its} {size} {made} fixed makes message place front is room (inl good) (inl same) =
     let kind = makes.kind front in
     let held = octets_read message place (place + size) size (field_octets (made front)) (same ∙ is) room refl in
-    let P : Parts → Type 0 = λ parts. Spells message place parts (place + size) in
+    let P : Parts → Type 0 = λ parts. SpellsParts message place parts (place + size) in
     let reads : ReadsField message place (made front) (place + size) =
     record { is_field = good; spelled = subst P (sym (fixed.read (made front) kind)) held } in
     inl (record { field = made front; next = place + size; kind = kind; reads = reads; alone = fixed_sole fixed kind reads })
@@ -132,7 +132,7 @@ ipv6_made = record {
 }
 
 -- names
-name_fits : {message : List ℕ} {pointers place next : ℕ} {name : List (List ℕ)} → names.Spells message pointers place name next
+name_fits : {message : List ℕ} {pointers place next : ℕ} {name : List (List ℕ)} → names.EncodesName message pointers place name next
     → next ≤ length message
 name_fits {message} {place = place} (names.root rest at) = let some = some_left message place at in omega arith
 name_fits (names.label rest at is_label parent) = name_fits parent
@@ -210,7 +210,7 @@ string_decided : (message : List ℕ) (place : ℕ) → StringAt (drop place mes
     → FieldDecided message place String
 string_decided message place (inl s) =
     let end : ℕ = place + length (string_wire s.first) in
-    let held : Spells message place (Octets (string_wire s.first) End) end =
+    let held : SpellsParts message place (Octets (string_wire s.first) End) end =
     string_read {message = message} {place = place} s.starts refl (string_room message place s) in
     inl (record {
       field = string s.first;
@@ -225,7 +225,7 @@ tag_decided : (message : List ℕ) (place : ℕ) → StringAt (drop place messag
     → FieldDecided message place Tag
 tag_decided message place (inl s) =
     let end : ℕ = place + length (string_wire s.first) in
-    let held : Spells message place (Octets (string_wire s.first) End) end =
+    let held : SpellsParts message place (Octets (string_wire s.first) End) end =
     string_read {message = message} {place = place} s.starts refl (string_room message place s) in
     inl (record {
       field = tag s.first;
@@ -303,8 +303,8 @@ rest_decided rest its kind good reads message place = elim (cases_lt (length mes
   | inl past ↦ inr (beyond (its ∷ []) past)
   | inr front ↦ (
       let text : List ℕ = drop place message in
-      let held : Spells message place (Octets text End) (length message) = all_read refl front in
-      let P : Parts → Type 0 = λ parts. Spells message place parts (length message) in
+      let held : SpellsParts message place (Octets text End) (length message) = all_read refl front in
+      let P : Parts → Type 0 = λ parts. SpellsParts message place parts (length message) in
       inl (record {
         row = rest text ∷ [];
         kinds_are = ap (λ k. k ∷ []) (kind text);

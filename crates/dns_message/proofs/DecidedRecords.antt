@@ -8,7 +8,7 @@ use Rattle.dns_label.proofs.Spelling.{reads_one}
 use Rattle.dns_rdata.specs.Fields.{Kind, kind_of, kinds_of}
 use Rattle.dns_rdata.specs.Data as data_specs
 use Rattle.dns_rdata.specs.Data.{Data}
-use Rattle.dns_rdata.specs.Data.Data.{typed as in_fields, untyped}
+use Rattle.dns_rdata.specs.Data.Data.{typed as in_fields, unknown_data}
 use Rattle.dns_octets.specs.Numbers.{number_at}
 use Rattle.dns_header.specs.Head.{Head, ReadsHead, ReadsWhole}
 use Rattle.dns_header.specs.Question.{Question, ReadsQuestion}
@@ -75,20 +75,20 @@ too_long : (message : List ℕ) (place rtype : ℕ) → kinds_of rtype ≡ None 
     → data_specs.ReadsData message place rtype rdata → ⊥
 too_long message place rtype none long (in_fields number row) reads =
     let no : Some (map kind_of row) ≡ None = sym reads.1.is_row.kinds ∙ none in cc
-too_long message place rtype none long (untyped unknown) reads =
+too_long message place rtype none long (unknown_data unknown) reads =
     omega (arith, long, reads.1.short, ap (length {A = ℕ}) reads.1.octets)
 
 no_row : (message : List ℕ) (place rtype : ℕ) (kinds : List Kind) → kinds_of rtype ≡ Some kinds → (RowAt rtype message place → ⊥)
     → (rdata : Data) → data_specs.ReadsData message place rtype rdata → ⊥
 no_row message place rtype kinds is none (in_fields number row) reads = none (record { row = row; reads = reads.1 })
-no_row message place rtype kinds is none (untyped unknown) reads = let no : Some kinds ≡ None = sym is ∙ reads.0 in cc
+no_row message place rtype kinds is none (unknown_data unknown) reads = let no : Some kinds ≡ None = sym is ∙ reads.0 in cc
 
 data_by_kinds : (message : List ℕ) (place rtype : ℕ) (kinds : Option (List Kind)) → kinds_of rtype ≡ kinds
     → Decided (DataAt message place rtype)
 data_by_kinds message place rtype None none = elim (cases_lt 65535 (length (drop place message))) [
   | inl long ↦ inr (λ at. too_long message place rtype none long at.rdata at.reads)
   | inr short ↦ inl (record {
-    rdata = untyped (record { number = rtype; octets = drop place message });
+    rdata = unknown_data (record { number = rtype; octets = drop place message });
     reads = (none, record { of_type = refl; octets = refl; short = short });
   })
 ]

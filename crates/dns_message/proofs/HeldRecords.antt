@@ -3,15 +3,15 @@ use Rattle.std.proofs.Common.{◌≡◌, ℕ, ◌+◌, ◌<◌, ◌≤◌, ◌^�
 use Rattle.std.specs.Int.{to_be_bytes, from_be_bytes, w16, w32}
 use Rattle.std.proofs.lemmas.Nat.{from_be_bytes-to_be_bytes_2, from_be_bytes-to_be_bytes_4}
 use Rattle.dns_label.proofs.Spelling.{drop_behind}
-use Rattle.dns_name.specs.SpelledParts.{Spells}
-use Rattle.dns_name.specs.SpelledParts.Spells.{nothing, octets, named, counted}
+use Rattle.dns_name.specs.SpelledParts.{SpellsParts}
+use Rattle.dns_name.specs.SpelledParts.SpellsParts.{nothing, octets, named, counted}
 use Rattle.dns_name.specs.Page.{Parts}
 use Rattle.dns_name.specs.Page.Parts.{End, Octets}
 use Rattle.dns_rdata.specs.Fields as fields
 use Rattle.dns_rdata.specs.Fields.{IsRow, kinds_of}
 use Rattle.dns_rdata.specs.Data as data_specs
 use Rattle.dns_rdata.specs.Data.{Data, number_of}
-use Rattle.dns_rdata.specs.Data.Data.{typed as in_fields, untyped}
+use Rattle.dns_rdata.specs.Data.Data.{typed as in_fields, unknown_data}
 use Rattle.dns_rdata.specs.DataOctets.{data_octets}
 use Rattle.dns_octets.specs.Numbers.{number_at}
 use Rattle.dns_header.specs.Head as head_specs
@@ -20,7 +20,7 @@ use Rattle.dns_header.specs.Record.{RecordOf}
 use Rattle.dns_header.specs.ParsedRecord.{Parsed, HoldsRecord, IsRecordOf}
 use Rattle.dns_octets.specs.Parser.{octets_of, place_of}
 use Rattle.dns_message.specs.Record.{Record, IsRecord, IsRead, ReadsRecord, read_parts, record_parts}
-use Rattle.dns_message.specs.Record.IsRead.{typed, opaque}
+use Rattle.dns_message.specs.Record.IsRead.{typed, unknown}
 use Rattle.dns_message.specs.Record.{IsWritten}
 use Rattle.dns_message.specs.Record.IsWritten.{fields as in_row, untold}
 use Rattle.dns_message.specs.Held.{record_of, written_parts_of, TakesRecord}
@@ -66,18 +66,18 @@ head_stands {message} {head = head} each reads =
 
 -- if a record header is read, and its data is spelled, the record is
 head_spelled : {message : List ℕ} {place data_place next : ℕ} {head : Head (List (List ℕ))} (parts : Parts) → AreOctets message
-    → ReadsWhole message place head data_place next → Spells (take next message) data_place parts next
-    → Spells message place (parts_with head parts) next
+    → ReadsWhole message place head data_place next → SpellsParts (take next message) data_place parts next
+    → SpellsParts message place (parts_with head parts) next
 head_spelled {message} {place} {data_place} {next} {head} parts each whole held =
     let reads = whole.reads in
     let stands = head_stands each reads in
     let end : reads.behind + 8 + 2 + head.data_len ≡ next = omega (arith, whole.ends, reads.ends) in
     let from : data_place ≡ reads.behind + 8 + 2 = omega (arith, reads.ends) in
-    let P : ℕ → ℕ → Type 0 = λ place next. Spells (take next message) place parts next in
-    let inside : Spells (take (reads.behind + 8 + 2 + head.data_len) message) (reads.behind + 8 + 2) parts (reads.behind + 8 + 2 + head.data_len) =
+    let P : ℕ → ℕ → Type 0 = λ place next. SpellsParts (take next message) place parts next in
+    let inside : SpellsParts (take (reads.behind + 8 + 2 + head.data_len) message) (reads.behind + 8 + 2) parts (reads.behind + 8 + 2 + head.data_len) =
     subst (λ n. P n (reads.behind + 8 + 2 + head.data_len)) from (subst (P data_place) (sym end) held) in
     let fits : reads.behind + 8 + 2 + head.data_len ≤ length message = omega (arith, end, whole.within) in
-    let Q : ℕ → Type 0 = λ next. Spells message place (parts_with head parts) next in
+    let Q : ℕ → Type 0 = λ next. SpellsParts message place (parts_with head parts) next in
     subst Q end
     (named reads.behind reads.owner (octets (drop (reads.behind + 8) message) stands.fixed
     (counted head.data_len (drop (reads.behind + 10) message) stands.len stands.small.data_len fits inside (nothing fits))))
@@ -87,14 +87,14 @@ record HeadOpened (message : List ℕ) (place : ℕ) (r : Record) (parts : Parts
   head : Head (List (List ℕ))
   data_place : ℕ
   whole : ReadsWhole message place head data_place next
-  held : Spells (take next message) data_place parts next
+  held : SpellsParts (take next message) data_place parts next
   owner : r.owner ≡ head.owner
   rtype : r.rtype ≡ head.rtype
   class : r.class ≡ head.class
   ttl : r.ttl ≡ head.ttl
 
 head_opened : {message : List ℕ} {place next : ℕ} (r : Record) (parts : Parts) → IsRecord r
-    → Spells message place (record_parts r parts) next → HeadOpened message place r parts next
+    → SpellsParts message place (record_parts r parts) next → HeadOpened message place r parts next
 head_opened {message} {place} {next} r parts good spelled =
     let named = opened spelled in
     let begins = opened named.behind in
@@ -108,8 +108,8 @@ head_opened {message} {place} {next} r parts good spelled =
     drop_behind message (end + 2) (end + 4) (to_be_bytes w16 r.class) (to_be_bytes w32 r.ttl ++ begins.rest) at2 (omega arith) in
     let at8 : drop (end + 8) message ≡ to_be_bytes w16 count ++ counts.rest = counts.at in
     let ends : next ≡ end + 8 + 2 + count = opened counts.behind in
-    let P : ℕ → Type 0 = λ next. Spells (take next message) (end + 8 + 2) parts next in
-    let held : Spells (take next message) (end + 8 + 2) parts next = subst P (sym ends) counts.held in
+    let P : ℕ → Type 0 = λ next. SpellsParts (take next message) (end + 8 + 2) parts next in
+    let held : SpellsParts (take next message) (end + 8 + 2) parts next = subst P (sym ends) counts.held in
     record {
       head = record { owner = r.owner; rtype = r.rtype; class = r.class; ttl = r.ttl; data_len = count };
       data_place = end + 8 + 2;
@@ -139,16 +139,16 @@ nothing_left [] none = refl
 nothing_left (x ∷ text) none = absurd (omega arith)
 
 -- unknown data is all that remains
-opaque_spelled : {message : List ℕ} {place : ℕ} (text : List ℕ) → place ≤ length message → text ≡ drop place message
-    → Spells message place (Octets text End) (length message)
-opaque_spelled {message} {place} text within is =
+unknown_spelled : {message : List ℕ} {place : ℕ} (text : List ℕ) → place ≤ length message → text ≡ drop place message
+    → SpellsParts message place (Octets text End) (length message)
+unknown_spelled {message} {place} text within is =
     let ends : place + length text ≡ length message = omega (arith, ap (length {A = ℕ}) is, length-drop place message) in
-    let P : ℕ → Type 0 = λ next. Spells message (place + length text) End next in
+    let P : ℕ → Type 0 = λ next. SpellsParts message (place + length text) End next in
     octets [] (sym is ∙ sym (append-nil text)) (subst P ends (nothing (omega arith)))
 
-opaque_opened : {message : List ℕ} {place : ℕ} (text : List ℕ) → Spells message place (Octets text End) (length message)
+unknown_opened : {message : List ℕ} {place : ℕ} (text : List ℕ) → SpellsParts message place (Octets text End) (length message)
     → text ≡ drop place message
-opaque_opened {message} {place} text spelled =
+unknown_opened {message} {place} text spelled =
     let begins = opened spelled in
     let ends : length message ≡ place + length text = opened begins.behind in
     let none = nothing_left begins.rest (omega (arith, ap (length {A = ℕ}) begins.at, length-drop place message, length-append text begins.rest)) in
@@ -174,7 +174,7 @@ data_read : {message : List ℕ} {place data_place next : ℕ} {head : Head (Lis
     → ReadsWhole message place head data_place next → data_specs.ReadsData (take next message) data_place head.rtype rdata
     → ReadsRecord message place (with_octets head (data_octets rdata)) next
 data_read {message} {place} {data_place} {next} {head} (in_fields number row) each whole reads =
-    let P : ℕ → Type 0 = λ end. Spells (take next message) data_place (read_parts row) end in
+    let P : ℕ → Type 0 = λ end. SpellsParts (take next message) data_place (read_parts row) end in
     let held = subst P (length-take-le next message whole.within) reads.1.spelled in
     record {
       is_record = good_record (fields.octets row) each whole reads.1.is_row.short;
@@ -182,20 +182,20 @@ data_read {message} {place} {data_place} {next} {head} (in_fields number row) ea
       read = typed row reads.1.is_row refl;
       spelled = head_spelled (read_parts row) each whole held;
     }
-data_read {message} {place} {data_place} {next} {head} (untyped unknown) each whole reads =
+data_read {message} {place} {data_place} {next} {head} (unknown_data found) each whole reads =
     let long : length (take next message) ≡ next = length-take-le next message whole.within in
-    let P : ℕ → Type 0 = λ end. Spells (take next message) data_place (Octets unknown.octets End) end in
-    let held = subst P long (opaque_spelled unknown.octets (omega (arith, long, whole.ends)) reads.1.octets) in
+    let P : ℕ → Type 0 = λ end. SpellsParts (take next message) data_place (Octets found.octets End) end in
+    let held = subst P long (unknown_spelled found.octets (omega (arith, long, whole.ends)) reads.1.octets) in
     record {
-      is_record = good_record unknown.octets each whole (omega (arith, reads.1.short));
-      parts = parts_with head (Octets unknown.octets End);
-      read = opaque reads.0;
-      spelled = head_spelled (Octets unknown.octets End) each whole held;
+      is_record = good_record found.octets each whole (omega (arith, reads.1.short));
+      parts = parts_with head (Octets found.octets End);
+      read = unknown reads.0;
+      spelled = head_spelled (Octets found.octets End) each whole held;
     }
 
 number_read : (message : List ℕ) (place rtype : ℕ) (rdata : Data) → data_specs.ReadsData message place rtype rdata → number_of rdata ≡ rtype
 number_read message place rtype (in_fields number row) reads = reads.0
-number_read message place rtype (untyped unknown) reads = reads.1.of_type
+number_read message place rtype (unknown_data found) reads = reads.1.of_type
 
 -- what the code parses is a record of the message
 pub taken_read : {message : List ℕ} {place next : ℕ} (rr : RecordOf (List (List ℕ)) Data) → AreOctets message
@@ -225,11 +225,11 @@ record DataOpened (message : List ℕ) (place : ℕ) (r : Record) (next : ℕ) :
   number : number_of rdata ≡ r.rtype
   is : data_octets rdata ≡ r.rdata
 
-data_opened : {message : List ℕ} {place next : ℕ} {parts : Parts} (r : Record) → IsRecord r → IsRead r parts → Spells message place parts next
+data_opened : {message : List ℕ} {place next : ℕ} {parts : Parts} (r : Record) → IsRecord r → IsRead r parts → SpellsParts message place parts next
     → DataOpened message place r next
 data_opened {message} {place} {next} r good (typed row is_row is) spelled =
     let front = head_opened r (read_parts row) good spelled in
-    let P : ℕ → Type 0 = λ end. Spells (take next message) front.data_place (read_parts row) end in
+    let P : ℕ → Type 0 = λ end. SpellsParts (take next message) front.data_place (read_parts row) end in
     let held = subst P (sym (length-take-le next message front.whole.within)) front.held in
     record {
       parts = read_parts row;
@@ -239,16 +239,16 @@ data_opened {message} {place} {next} r good (typed row is_row is) spelled =
       number = refl;
       is = sym is;
     }
-data_opened {message} {place} {next} r good (opaque none) spelled =
+data_opened {message} {place} {next} r good (unknown none) spelled =
     let front = head_opened r (Octets r.rdata End) good spelled in
-    let P : ℕ → Type 0 = λ end. Spells (take next message) front.data_place (Octets r.rdata End) end in
+    let P : ℕ → Type 0 = λ end. SpellsParts (take next message) front.data_place (Octets r.rdata End) end in
     let held = subst P (sym (length-take-le next message front.whole.within)) front.held in
     let short : length r.rdata ≤ 65535 = omega (arith, good.rdata) in
     record {
       parts = Octets r.rdata End;
       front = front;
-      rdata = untyped (record { number = r.rtype; octets = r.rdata });
-      reads = (none, record { of_type = refl; octets = opaque_opened r.rdata held; short = short });
+      rdata = unknown_data (record { number = r.rtype; octets = r.rdata });
+      reads = (none, record { of_type = refl; octets = unknown_opened r.rdata held; short = short });
       number = refl;
       is = refl;
     }
@@ -339,8 +339,8 @@ held_written message place rtype rr (in_fields number row) is reads =
     let row_is : IsRow number row = subst (λ n. IsRow n row) (sym reads.0) reads.1.is_row in
     let P : Data → Type 0 = λ rdata. let other = record rr { rdata = rdata } in IsWritten (record_of other) (written_parts_of other) in
     subst P (sym is) (in_row row row_is refl)
-held_written message place rtype rr (untyped unknown) is reads =
-    let none : kinds_of unknown.number ≡ None = ap kinds_of reads.1.of_type ∙ reads.0 in
+held_written message place rtype rr (unknown_data found) is reads =
+    let none : kinds_of found.number ≡ None = ap kinds_of reads.1.of_type ∙ reads.0 in
     let P : Data → Type 0 = λ rdata. let other = record rr { rdata = rdata } in IsWritten (record_of other) (written_parts_of other) in
     subst P (sym is) (untold none)
 

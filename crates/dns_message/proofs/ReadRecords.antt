@@ -6,11 +6,11 @@ use Rattle.dns_rdata.specs.Fields.{Field, kind_of, kinds_of, octets, IsRow}
 use Rattle.std.proofs.lemmas.List.{length-take-le}
 use Rattle.dns_rdata.proofs.ComposedRows.{row_read_once}
 use Rattle.dns_octets.proofs.Fronts.{same_fronts, same_number16, same_number32}
-use Rattle.dns_name.specs.SpelledParts.{Spells}
+use Rattle.dns_name.specs.SpelledParts.{SpellsParts}
 use Rattle.dns_name.specs.Page.{Parts}
 use Rattle.dns_name.specs.Page.Parts.{End, Octets, Counted}
 use Rattle.dns_message.specs.Record.{Record, IsRecord, IsRead, read_parts, record_parts}
-use Rattle.dns_message.specs.Record.IsRead.{typed, opaque}
+use Rattle.dns_message.specs.Record.IsRead.{typed, unknown}
 use Rattle.dns_message.proofs.Opened.{opened}
 
 -- the type, class and time to live of a record
@@ -28,8 +28,8 @@ record SameHead (r other : Record) (parts parts' : Parts) (next next' : ℕ) : T
   message : List ℕ
   place : ℕ
   end : ℕ
-  held : Spells message place parts end
-  held' : Spells message place parts' end
+  held : SpellsParts message place parts end
+  held' : SpellsParts message place parts' end
   whole : end ≡ length message
 
 record SameNumbers (r other : Record) : Type 0 where
@@ -45,13 +45,13 @@ same_numbers r other good good' e = record {
 }
 
 heads_one : {message : List ℕ} {place next next' : ℕ} (r other : Record) (parts parts' : Parts) → IsRecord r → IsRecord other
-    → Spells message place (record_parts r parts) next → Spells message place (record_parts other parts') next'
+    → SpellsParts message place (record_parts r parts) next → SpellsParts message place (record_parts other parts') next'
     → SameHead r other parts parts' next next'
 heads_one {message} {place} {next} {next'} r other parts parts' good good' spelled spelled' =
     let named = opened spelled in
     let named' = opened spelled' in
     let one = reads_one named.reads named'.reads in
-    let P : ℕ → Type 0 = λ end. Spells message end (Octets (numbers other) (Counted parts' End)) next' in
+    let P : ℕ → Type 0 = λ end. SpellsParts message end (Octets (numbers other) (Counted parts' End)) next' in
     let begins = opened named.behind in
     let begins' = opened (subst P (sym one.1) named'.behind) in
     let fronts = same_fronts (numbers r) (numbers other) begins.rest begins'.rest refl (sym begins.at ∙ begins'.at) in
@@ -62,7 +62,7 @@ heads_one {message} {place} {next} {next'} r other parts parts' good good' spell
     (sym counted.at ∙ counted'.at) in
     let counts : counted'.count ≡ counted.count = sym (same_number16 counted.count counted'.count counted.small counted'.small marks.0) in
     let at : ℕ = named.end + 8 in
-    let Q : ℕ → Type 0 = λ count. Spells (take (named.end + 8 + 2 + count) message) (named.end + 8 + 2) parts' (named.end + 8 + 2 + count) in
+    let Q : ℕ → Type 0 = λ count. SpellsParts (take (named.end + 8 + 2 + count) message) (named.end + 8 + 2) parts' (named.end + 8 + 2 + count) in
     let ends : next ≡ named.end + 8 + 2 + counted.count = opened counted.behind in
     let ends' : next' ≡ named.end + 8 + 2 + counted'.count = opened counted'.behind in
     record {
@@ -80,9 +80,9 @@ heads_one {message} {place} {next} {next'} r other parts parts' good good' spell
     }
 
 -- unknown data at one place
-opaque_one : {message : List ℕ} {place end : ℕ} (text text' : List ℕ) → Spells message place (Octets text End) end
-    → Spells message place (Octets text' End) end → text ≡ text'
-opaque_one {message} {place} {end} text text' spelled spelled' =
+unknown_one : {message : List ℕ} {place end : ℕ} (text text' : List ℕ) → SpellsParts message place (Octets text End) end
+    → SpellsParts message place (Octets text' End) end → text ≡ text'
+unknown_one {message} {place} {end} text text' spelled spelled' =
     let begins = opened spelled in
     let begins' = opened spelled' in
     let ends : end ≡ place + length text = opened begins.behind in
@@ -97,22 +97,22 @@ same_record r other owner rtype class ttl rdata =
 
 -- A message spells at most one record at a place.
 pub record_one : {message : List ℕ} {place next next' : ℕ} {parts parts' : Parts} (r other : Record) → IsRecord r → IsRecord other
-    → IsRead r parts → IsRead other parts' → Spells message place parts next → Spells message place parts' next'
+    → IsRead r parts → IsRead other parts' → SpellsParts message place parts next → SpellsParts message place parts' next'
     → (r ≡ other) × (next ≡ next')
 record_one r other good good' (typed row is_row octets_are) (typed row' is_row' octets_are') spelled spelled' =
     let heads = heads_one r other (read_parts row) (read_parts row') good good' spelled spelled' in
-    let P : List Field → ℕ → Type 0 = λ fields end. Spells heads.message heads.place (read_parts fields) end in
+    let P : List Field → ℕ → Type 0 = λ fields end. SpellsParts heads.message heads.place (read_parts fields) end in
     let one = row_read_once r.rtype heads.message heads.place row row'
     (record { is_row = is_row; spelled = subst (P row) heads.whole heads.held })
     (record { is_row = subst (λ n. IsRow n row') (sym heads.rtype) is_row'; spelled = subst (P row') heads.whole heads.held' }) in
     (same_record r other heads.owner heads.rtype heads.class heads.ttl (octets_are ∙ ap octets one ∙ sym octets_are'), heads.ends)
-record_one r other good good' (typed row is_row octets_are) (opaque none) spelled spelled' =
+record_one r other good good' (typed row is_row octets_are) (unknown none) spelled spelled' =
     let heads = heads_one r other (read_parts row) (Octets other.rdata End) good good' spelled spelled' in
     let no : Some (map kind_of row) ≡ None = sym is_row.kinds ∙ ap kinds_of heads.rtype ∙ none in absurd cc
-record_one r other good good' (opaque none) (typed row is_row octets_are) spelled spelled' =
+record_one r other good good' (unknown none) (typed row is_row octets_are) spelled spelled' =
     let heads = heads_one r other (Octets r.rdata End) (read_parts row) good good' spelled spelled' in
     let no : Some (map kind_of row) ≡ None = sym is_row.kinds ∙ sym (ap kinds_of heads.rtype) ∙ none in absurd cc
-record_one r other good good' (opaque none) (opaque none') spelled spelled' =
+record_one r other good good' (unknown none) (unknown none') spelled spelled' =
     let heads = heads_one r other (Octets r.rdata End) (Octets other.rdata End) good good' spelled spelled' in
-    let one = opaque_one r.rdata other.rdata heads.held heads.held' in
+    let one = unknown_one r.rdata other.rdata heads.held heads.held' in
     (same_record r other heads.owner heads.rtype heads.class heads.ttl one, heads.ends)

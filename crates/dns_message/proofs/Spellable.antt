@@ -7,7 +7,7 @@ use Rattle.std.proofs.lemmas.Bool.Decides.{Decides-eqb}
 use Rattle.dns_rdata.specs.Fields.{Kind, Field, kind_of, kinds_in, kinds_of, table, octets, IsRow, IsData}
 use Rattle.dns_rdata.specs.Fields.Kind.{Number8, Tag, RestText}
 use Rattle.dns_rdata.specs.Fields.Field.{number8, tag, rest_text}
-use Rattle.dns_rdata.specs.Fields.IsData.{typed, opaque}
+use Rattle.dns_rdata.specs.Fields.IsData.{typed, unknown}
 use Rattle.dns_rdata.specs.DataOctets.{IsSpellable}
 
 abbrev NoTag : List Kind → Type 0
@@ -116,7 +116,7 @@ spellable_tag rtype data' (typed row is_row is) spellable caa =
     let P : List Field → Type 0 = λ row. AllByRecursion (λ field. field ≡ tag [] → ⊥) row in
     let each = subst P shape.is (spellable row is_row is) in
     λ none. each.1.0 (ap tag (none_of shape.name (sym (second_octet row shape data' is) ∙ none)))
-spellable_tag rtype data' (opaque none short) spellable caa =
+spellable_tag rtype data' (unknown none short) spellable caa =
     let bad : kinds_of 257 ≡ None = sym (ap kinds_of caa) ∙ none in absurd cc
 
 some_tag : (rtype : ℕ) (data' : List ℕ) (row : List Field) (shape : CaaRow row) → data' ≡ octets row → slice_index data' 1 ≢ 0

@@ -3,8 +3,8 @@ use Rattle.std.proofs.Common.{◌≡◌, ℕ, ◌+◌, ◌<◌, ◌^◌, List, �
 use Rattle.std.specs.Int.{to_be_bytes, from_be_bytes, w16}
 use Rattle.std.proofs.lemmas.Nat.{from_be_bytes-to_be_bytes_2}
 use Rattle.dns_label.proofs.Spelling.{drop_behind}
-use Rattle.dns_name.specs.SpelledParts.{Spells}
-use Rattle.dns_name.specs.SpelledParts.Spells.{nothing, octets, named}
+use Rattle.dns_name.specs.SpelledParts.{SpellsParts}
+use Rattle.dns_name.specs.SpelledParts.SpellsParts.{nothing, octets, named}
 use Rattle.dns_name.specs.Page.Parts.{End}
 use Rattle.dns_octets.specs.Numbers.{number_at}
 use Rattle.dns_header.specs.Question.{Question, ReadsQuestion, question_parts}
@@ -12,21 +12,21 @@ use Rattle.dns_message.proofs.Numbers.{AreOctets, number16}
 use Rattle.dns_message.proofs.Opened.{opened}
 
 pub question_spelled : (message : List ℕ) (place next : ℕ) (q : Question) → AreOctets message → ReadsQuestion message place q next
-    → Spells message place (question_parts q) next × (q.qtype < 2 ^ 16) × (q.qclass < 2 ^ 16)
+    → SpellsParts message place (question_parts q) next × (q.qtype < 2 ^ 16) × (q.qclass < 2 ^ 16)
 question_spelled message place next q each reads =
     let first = number16 message reads.behind (reads.behind + 2) each refl (omega (arith, reads.whole)) in
     let second = number16 message (reads.behind + 2) (reads.behind + 4) each (omega arith) reads.whole in
     let at : drop reads.behind message ≡ to_be_bytes w16 q.qtype ++ (to_be_bytes w16 q.qclass ++ drop (reads.behind + 4) message) =
     first.1 ∙ ap (λ l. to_be_bytes w16 (number_at message reads.behind) ++ l) second.1
     ∙ (λ i. to_be_bytes w16 (sym reads.qtype i) ++ (to_be_bytes w16 (sym reads.qclass i) ++ drop (reads.behind + 4) message)) in
-    let P : ℕ → Type 0 = λ end. Spells message (reads.behind + 4) End end in
-    let ends : Spells message (reads.behind + 4) End next = subst P (sym reads.ends) (nothing reads.whole) in (
+    let P : ℕ → Type 0 = λ end. SpellsParts message (reads.behind + 4) End end in
+    let ends : SpellsParts message (reads.behind + 4) End next = subst P (sym reads.ends) (nothing reads.whole) in (
       named reads.behind reads.name (octets (drop (reads.behind + 4) message) at ends),
       subst (λ n. n < 2 ^ 16) (sym reads.qtype) first.0,
       subst (λ n. n < 2 ^ 16) (sym reads.qclass) second.0,
     )
 
-pub question_read : (message : List ℕ) (place next : ℕ) (q : Question) → Spells message place (question_parts q) next
+pub question_read : (message : List ℕ) (place next : ℕ) (q : Question) → SpellsParts message place (question_parts q) next
     → q.qtype < 2 ^ 16 → q.qclass < 2 ^ 16 → ReadsQuestion message place q next
 question_read message place next q spelled small small' =
     let named = opened spelled in

@@ -5,12 +5,12 @@ use Rattle.std.specs.Int.{to_be_bytes, w16}
 use Rattle.std.proofs.lemmas.List.{drop-take, take_at}
 use Rattle.dns_label.specs.Name.{IsName, wire}
 use Rattle.dns_label.proofs.Spelling.{drop_behind}
-use Rattle.dns_name.specs.SpelledParts.{Spells}
+use Rattle.dns_name.specs.SpelledParts.{SpellsParts}
 use Rattle.dns_header.proofs.WrittenQuestions.{reads-written, within_message}
 use Rattle.dns_message.proofs.Plain.{plain}
 use Rattle.dns_name.specs.Page.{Parts}
 use Rattle.dns_name.specs.Page.Parts.{End, Octets, Named, Counted}
-use Rattle.dns_name.specs.SpelledParts.Spells.{nothing, octets, named, counted}
+use Rattle.dns_name.specs.SpelledParts.SpellsParts.{nothing, octets, named, counted}
 
 -- parts that can be written: their names are names, and each of their counts fits two octets
 abbrev pub AreWritable : Parts → Type 0
@@ -26,23 +26,23 @@ counted_octets message place count inner rest at counts =
     drop-take place count message ∙ ap (take count) at ∙ take_at inner rest count (sym counts) ∙ sym (append-nil inner)
 
 pub spells-written : (message : List ℕ) (place : ℕ) (parts : Parts) (rest : List ℕ) → drop place message ≡ plain parts ++ rest
-    → place ≤ length message → AreWritable parts → Spells message place parts (place + length (plain parts))
+    → place ≤ length message → AreWritable parts → SpellsParts message place parts (place + length (plain parts))
 spells-written message place End rest at within can =
-    let P : ℕ → Type 0 = λ next. Spells message place End next in
+    let P : ℕ → Type 0 = λ next. SpellsParts message place End next in
     subst P (omega arith) (nothing within)
 spells-written message place (Octets text parts) rest at within can =
     let here : drop place message ≡ text ++ (plain parts ++ rest) = at ∙ append_assoc text (plain parts) rest in
     let behind : drop (place + length text) message ≡ plain parts ++ rest = drop_behind message place _ text (plain parts ++ rest) here refl in
     let room = within_message message place text (plain parts ++ rest) here within in
     let goes = spells-written message (place + length text) parts rest behind (omega arith) can in
-    let P : ℕ → Type 0 = λ next. Spells message place (Octets text parts) next in
+    let P : ℕ → Type 0 = λ next. SpellsParts message place (Octets text parts) next in
     subst P (omega (arith, length-append text (plain parts))) (octets (plain parts ++ rest) here goes)
 spells-written message place (Named name parts) rest at within can =
     let here : drop place message ≡ wire name ++ (plain parts ++ rest) = at ∙ append_assoc (wire name) (plain parts) rest in
     let behind : drop (place + length (wire name)) message ≡ plain parts ++ rest = drop_behind message place _ (wire name) (plain parts ++ rest) here refl in
     let room = within_message message place (wire name) (plain parts ++ rest) here within in
     let goes = spells-written message (place + length (wire name)) parts rest behind (omega arith) can.1 in
-    let P : ℕ → Type 0 = λ next. Spells message place (Named name parts) next in
+    let P : ℕ → Type 0 = λ next. SpellsParts message place (Named name parts) next in
     subst P (omega (arith, length-append (wire name) (plain parts)))
     (named (place + length (wire name)) (reads-written message place name (plain parts ++ rest) here can.0) goes)
 spells-written message place (Counted inner parts) rest at within can =
@@ -57,6 +57,6 @@ spells-written message place (Counted inner parts) rest at within can =
     let front : place + 2 ≤ length (take (place + 2 + length (plain inner)) message) = omega (arith, length-take-le (place + 2 + length (plain inner)) message fits) in
     let held = spells-written (take (place + 2 + length (plain inner)) message) (place + 2) inner [] counts front can.1 in
     let goes = spells-written message (place + 2 + length (plain inner)) parts rest behind fits can.2 in
-    let P : ℕ → Type 0 = λ next. Spells message place (Counted inner parts) next in
+    let P : ℕ → Type 0 = λ next. SpellsParts message place (Counted inner parts) next in
     subst P (omega (arith, length-append mark (plain inner ++ plain parts), length-append (plain inner) (plain parts)))
     (counted (length (plain inner)) (plain inner ++ (plain parts ++ rest)) here can.0 fits held goes)

@@ -3,7 +3,7 @@ use Rattle.std.proofs.Common.{◌≡◌, ℕ, List, [], map, Some, None, sym, ap
 use Rattle.dns_name.specs.Page.{Parts}
 use Rattle.dns_name.specs.Page.Parts.{End, Octets}
 use Rattle.dns_rdata.specs.Fields.{Field, kind_of, octets, IsRow, IsData}
-use Rattle.dns_rdata.specs.Fields.IsData.{typed, opaque}
+use Rattle.dns_rdata.specs.Fields.IsData.{typed, unknown}
 use Rattle.dns_rdata.specs.Reading.{ReadsRow}
 use Rattle.dns_rdata.proofs.ComposedRows.{row_parses, row_read_once, same_octets}
 use Rattle.dns_message.specs.Record.{Record, IsWritten, record_parts, written_parts}
@@ -29,9 +29,9 @@ by_written r (inl at) (typed row is_row is) =
     let one : at.row ≡ row = row_read_once r.rtype r.rdata 0 at.row row at.reads (plain_row r row is_row is) in
     fields at.row at.reads.is_row (is ∙ ap octets (sym one))
 by_written r (inr none) (typed row is_row is) = absurd (none (record { row = row; reads = plain_row r row is_row is }))
-by_written r (inl at) (opaque none short) =
+by_written r (inl at) (unknown none short) =
     let no : Some (map kind_of at.row) ≡ None = sym at.reads.is_row.kinds ∙ none in absurd cc
-by_written r (inr other) (opaque none short) = untold none
+by_written r (inr other) (unknown none short) = untold none
 
 pub item_written : (r : Record) → IsData r.rtype r.rdata → IsWritten r (written_item r)
 unfolding written_item

@@ -5,14 +5,14 @@ use Rattle.std.specs.List.{AllByRecursion}
 use Rattle.dns_label.specs.Name.{wire}
 use Rattle.dns_rdata.specs.Fields.{Field, IsField, IsData, field_octets, octets}
 use Rattle.dns_rdata.specs.Fields.Field.{number8, number16, number32, ipv4, ipv6, compressible, uncompressed, string, strings, tag, rest_text, rest16, rest64}
-use Rattle.dns_rdata.specs.Fields.IsData.{typed as typed_data, opaque as opaque_data}
-use Rattle.dns_name.specs.SpelledParts.{Spells}
+use Rattle.dns_rdata.specs.Fields.IsData.{typed as typed_data, unknown as unknown_data}
+use Rattle.dns_name.specs.SpelledParts.{SpellsParts}
 use Rattle.dns_message.proofs.Plain.{plain}
 use Rattle.dns_name.specs.Page.{Parts}
 use Rattle.dns_name.specs.Page.Parts.{End, Octets}
 use Rattle.dns_header.specs.Head.{fixed_octets}
 use Rattle.dns_message.specs.Record.{Record, IsRecord, IsRead, ReadsRecord, read_parts, record_parts, record_octets}
-use Rattle.dns_message.specs.Record.IsRead.{typed, opaque}
+use Rattle.dns_message.specs.Record.IsRead.{typed, unknown}
 use Rattle.dns_message.proofs.Written.{AreWritable, spells-written}
 
 -- the first field of a row as a part
@@ -73,7 +73,7 @@ record_spelled message place r parts rest at within good is can read =
     let whole : plain (record_parts r parts) ≡ record_octets r = plain-record r parts is in
     let here : drop place message ≡ plain (record_parts r parts) ++ rest = at ∙ ap (λ l. l ++ rest) (sym whole) in
     let goes = spells-written message place (record_parts r parts) rest here within (writable-record r parts is good can) in
-    let P : List ℕ → Type 0 = λ l. Spells message place (record_parts r parts) (place + length l) in
+    let P : List ℕ → Type 0 = λ l. SpellsParts message place (record_parts r parts) (place + length l) in
     record { is_record = good; parts = record_parts r parts; read = read; spelled = subst P whole goes }
 
 -- A record that is written out is read.
@@ -82,5 +82,5 @@ pub record-written : (message : List ℕ) (place : ℕ) (r : Record) (rest : Lis
 record-written message place r rest at within good (typed_data row is_row is) =
     record_spelled message place r (read_parts row) rest at within good (plain-read row ∙ sym is) (writable-read row is_row.each)
     (typed row is_row is)
-record-written message place r rest at within good (opaque_data none short) =
-    record_spelled message place r (Octets r.rdata End) rest at within good (append-nil r.rdata) tt (opaque none)
+record-written message place r rest at within good (unknown_data none short) =
+    record_spelled message place r (Octets r.rdata End) rest at within good (append-nil r.rdata) tt (unknown none)

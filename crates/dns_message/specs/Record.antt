@@ -2,7 +2,7 @@
 use Rattle.std.specs.Prelude.{◌≡◌, ◌<◌, ◌^◌, ℕ, List, length, None}
 use Rattle.dns_label.specs.Name.{IsName}
 use Rattle.dns_rdata.specs.Fields.{Field, octets, IsRow, kinds_of}
-use Rattle.dns_name.specs.SpelledParts.{Spells}
+use Rattle.dns_name.specs.SpelledParts.{SpellsParts}
 pub use Rattle.dns_rdata.specs.Reading.{read_parts}
 pub use Rattle.dns_rdata.specs.Written.{written_parts}
 use Rattle.dns_name.specs.Page.{Parts}
@@ -32,7 +32,7 @@ record_parts r data' = head.record_parts r.owner r.rtype r.class r.ttl data'
 -- The parts of the record as a reader reads them. Unknown data is its octets.
 pub data IsRead (r : Record) : Parts → Type 0 where
   typed : (row : List Field) → IsRow r.rtype row → r.rdata ≡ octets row → IsRead r (record_parts r (read_parts row))
-  opaque : kinds_of r.rtype ≡ None → IsRead r (record_parts r (Octets r.rdata End))
+  unknown : kinds_of r.rtype ≡ None → IsRead r (record_parts r (Octets r.rdata End))
 
 -- The parts of the record as a writer writes them (RFC 3597 4): a name that may be compressed is a name, and all else
 -- is octets, any other name written out. Unknown data is its octets.
@@ -49,4 +49,4 @@ pub record ReadsRecord (message : List ℕ) (place : ℕ) (r : Record) (next : �
   pub is_record : IsRecord r
   pub parts : Parts
   pub read : IsRead r parts
-  pub spelled : Spells message place parts next
+  pub spelled : SpellsParts message place parts next

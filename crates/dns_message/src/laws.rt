@@ -3,7 +3,7 @@
 ghost use Rattle.std.specs.Prelude.{◌≡◌, ◌≢◌, ◌<◌, ◌+◌, ◌^◌, ◌++◌, ℕ, Bool, List, length, slice_index};
 ghost use Rattle.dns_label.specs.Octets.{AreOctets};
 ghost use Rattle.dns_name.specs.Page.{Parts};
-ghost use Rattle.dns_name.specs.SpelledParts.{Spells};
+ghost use Rattle.dns_name.specs.SpelledParts.{SpellsParts};
 ghost use Rattle.dns_rdata.specs.Fields.{IsData};
 ghost use Rattle.dns_rdata.specs.Data as data_specs;
 ghost use Rattle.dns_rdata.specs.Data.{Data};
@@ -54,8 +54,8 @@ pub fn records_have_one_meaning()
 pub fn questions_have_one_meaning()
     ensures there { (message : List ℕ) (place next : ℕ) (q : Question) → AreOctets message
         → ReadsQuestion message place q next
-        → Spells message place (question_parts q) next × (q.qtype < 2 ^ 16) × (q.qclass < 2 ^ 16) }
-    ensures back { (message : List ℕ) (place next : ℕ) (q : Question) → Spells message place (question_parts q) next
+        → SpellsParts message place (question_parts q) next × (q.qtype < 2 ^ 16) × (q.qclass < 2 ^ 16) }
+    ensures back { (message : List ℕ) (place next : ℕ) (q : Question) → SpellsParts message place (question_parts q) next
         → q.qtype < 2 ^ 16 → q.qclass < 2 ^ 16 → ReadsQuestion message place q next }
 {}
 
@@ -77,7 +77,7 @@ pub fn written_records_are_read()
     ensures parts { (message : List ℕ) (place next : ℕ) (rr : RecordOf (List (List ℕ)) Data) → TakesRecord message place rr next
         → IsWritten (record_of rr) (written_parts_of rr) }
     ensures spelled { (message : List ℕ) (place next : ℕ) (r : Record) (parts : Parts) → IsRecord r → IsWritten r parts
-        → Spells message place parts next → ReadsRecord message place r next }
+        → SpellsParts message place parts next → ReadsRecord message place r next }
     ensures in_full { (message front rest : List ℕ) (r : Record) → IsRecord r → IsData r.rtype r.rdata
         → message ≡ front ++ (record_octets r ++ rest)
         → ReadsRecord message (length front) r (length front + length (record_octets r)) }

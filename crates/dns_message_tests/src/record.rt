@@ -73,7 +73,7 @@ fn parts_of_records_are_changed_and_taken(rt: HostRuntime) -> Result<(), Fail> {
 }
 
 #[test]
-fn opaque_data_of_any_type_is_a_records(rt: HostRuntime) -> Result<(), Fail> {
+fn unknown_data_of_any_type_is_a_records(rt: HostRuntime) -> Result<(), Fail> {
     let message = MESSAGE;
     let mut parser = Parser::from_ref(&message);
     parser.advance(3)?;

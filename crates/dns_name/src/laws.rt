@@ -8,7 +8,7 @@ ghost use Rattle.std.specs.Cmp.{IsTotalOrder};
 ghost use Rattle.std.specs.Ordering.{is_gt};
 ghost use Rattle.std.specs.declared.cmp.Ordering.TheVariants.{Equal};
 ghost use Rattle.dns_label.specs.Name.{IsName, low, wire};
-ghost use Rattle.dns_label.specs.Spelled.{Reads};
+ghost use Rattle.dns_label.specs.Spelled.{DecodesName};
 ghost use Rattle.dns_name.specs.HeadCount.{heads_of};
 ghost use Rattle.dns_wire.specs.Order.{labels_order};
 ghost use Rattle.dns_wire.specs.Skip.{Skips};
@@ -60,11 +60,11 @@ pub fn equal_names_hash_alike<F: Octets, G: Octets, P: Octets>(
 /// At a place where a name is read, a reader that follows no pointer stops where the parser does, and nowhere else (RFC
 /// 1035 4.1.4).
 pub fn skip_stops_where_parse_stops()
-    ensures stops { (message : List ℕ) (place next : ℕ) (name : List (List ℕ)) → Reads message place name next → Skips message 254 place next }
+    ensures stops { (message : List ℕ) (place next : ℕ) (name : List (List ℕ)) → DecodesName message place name next → Skips message 254 place next }
     ensures once { (message : List ℕ) (room place next end : ℕ) → Skips message room place next → Skips message room place end → next ≡ end }
 {}
 
 /// A name that is read at a place has at most 383 heads: those of 127 labels, 255 pointers and the root.
 pub fn label_heads_are_bounded()
-    ensures { (message : List ℕ) (place next : ℕ) (name : List (List ℕ)) (reads : Reads message place name next) → heads_of reads.spelled ≤ 383 }
+    ensures { (message : List ℕ) (place next : ℕ) (name : List (List ℕ)) (reads : DecodesName message place name next) → heads_of reads.spelled ≤ 383 }
 {}

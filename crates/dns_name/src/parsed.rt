@@ -1,10 +1,10 @@
 //! Names in messages, with pointers.
 ghost use Rattle.std.specs.Prelude.{◌≡◌, ◌≤◌, ◌↔◌, List, ℕ, [], length, refl, IsTrue, IsSome, IfSome, IfOk, IfErr, OnErr};
 ghost use Rattle.dns_label.specs.Name.{IsName, wire, with_root};
-ghost use Rattle.dns_label.specs.Spelled.{Reads};
+ghost use Rattle.dns_label.specs.Spelled.{DecodesName};
 ghost use Rattle.dns_label.specs.Labels.{labels_at};
 ghost use Rattle.dns_wire.specs.Cut.{IsCut};
-ghost use Rattle.dns_wire.specs.Parsed.{IsReadAt, StandsAt};
+ghost use Rattle.dns_wire.specs.Parsed.{IsReadAt, LabelsStandAt};
 ghost use Rattle.dns_octets.specs.declared.error.ParseError.TheVariants.{ShortInput};
 
 mod order;
@@ -52,8 +52,8 @@ impl<'a> ParsedName<&'a [u8]> {
     /// octets. Fails if there is no such name: with `ShortInput` exactly if the message ends after at most 254 octets
     /// of labels and 255 pointers, and else with a form error. The parser then stays where it is.
     pub fn parse(parser: &mut Parser<'a>) -> Result<Self, ParseError>
-        ensures ok { IfOk result (λ name. Reads (octets_of parser.old) (place_of parser.old) (labels_of name) (place_of parser.new)) }
-        ensures err { OnErr result ((name : List (List ℕ)) (next : ℕ) → Reads (octets_of parser.old) (place_of parser.old) name next → ⊥) }
+        ensures ok { IfOk result (λ name. DecodesName (octets_of parser.old) (place_of parser.old) (labels_of name) (place_of parser.new)) }
+        ensures err { OnErr result ((name : List (List ℕ)) (next : ℕ) → DecodesName (octets_of parser.old) (place_of parser.old) name next → ⊥) }
         ensures short { IfErr result (λ error. (error ≡ ShortInput) ↔ IsCut (octets_of parser.old) 255 254 (place_of parser.old)) }
         ensures same { octets_of parser.new ≡ octets_of parser.old }
         ensures stays { OnErr result (parser.new ≡ parser.old) }
@@ -101,7 +101,7 @@ impl<Octs: Octets> ToLabelIter for ParsedName<Octs> {
 
     ghost labels = { λ name. with_root (labels_in Octs.list name) };
 
-    ghost stands = { λ name index place. StandsAt (Octs.list name.octets) (with_root (labels_in Octs.list name)) index place };
+    ghost stands = { λ name index place. LabelsStandAt (Octs.list name.octets) (with_root (labels_in Octs.list name)) index place };
 
     fn label(&self, index: usize) -> Option<Label<'_>> {
         self.iter().label(index)

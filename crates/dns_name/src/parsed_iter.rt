@@ -1,7 +1,7 @@
 //! The labels of names, one after another.
 ghost use Rattle.std.specs.Prelude.{◌≡◌, List, ℕ, option_map, slice_get, take};
 ghost use Rattle.dns_label.specs.Name.{with_root};
-ghost use Rattle.dns_label.specs.Label.{octets_of};
+ghost use Rattle.dns_label.specs.Label.{label_octets};
 ghost use Rattle.dns_label.specs.Labels.{labels_at};
 ghost use Rattle.dns_wire.specs.Parsed.{IsReadAt, IsLeft, labels_left};
 
@@ -42,7 +42,7 @@ impl<'a> ParsedNameIter<'a> {
 
     /// Returns the label with this number, counted from 0.
     pub(crate) fn label(mut self, index: usize) -> Option<Label<'a>>
-        ensures { option_map octets_of result ≡ slice_get self.entry index }
+        ensures { option_map label_octets result ≡ slice_get self.entry index }
     {
         self.nth(index)
     }
@@ -53,7 +53,7 @@ impl<'a> Iterator for ParsedNameIter<'a> {
 
     type Item = Label<'a>;
 
-    ghost next_gives = { YieldsFirstBy octets_of (λ labels. labels) };
+    ghost next_gives = { YieldsFirstBy label_octets (λ labels. labels) };
 
     ghost remaining = { item_count (λ labels. labels) };
 
@@ -71,7 +71,7 @@ impl<'a> Iterator for ParsedNameIter<'a> {
 impl<'a> DoubleEndedIterator for ParsedNameIter<'a> {
     ghost use Rattle.std.specs.Iterator.{YieldsLastBy};
 
-    ghost next_back_gives = { YieldsLastBy octets_of (λ labels. labels) };
+    ghost next_back_gives = { YieldsLastBy label_octets (λ labels. labels) };
 
     /// Returns the last label. It is found from the left, so this takes time linear in the number of labels.
     fn next_back(&mut self) -> Option<Label<'a>> {

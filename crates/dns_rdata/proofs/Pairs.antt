@@ -1,4 +1,4 @@
--- How two values of data compare: of one type, both opaque, or of two kinds.
+-- How two values of data compare: of one type, both unknown, or of two kinds.
 use Rattle.std.proofs.Common.{◌≡◌, ℕ, Bool, true, false, List, nat_eq, ◌&&◌, refl, sym, ◌∙◌, ap, rules}
 use Rattle.std.proofs.lemmas.Bool.Decides.{Decides-eqb}
 use Rattle.std.specs.Cmp.{nat_cmp_is}
@@ -10,7 +10,7 @@ use Rattle.std.specs.Ordering.{is_eq, ordering_reverse, ordering_then, nat_cmp, 
 use Rattle.dns_name.specs.Unknown.{UnknownData, unknown_eq, unknown_cmp}
 use Rattle.dns_fields.specs.Fields.{Field}
 use Rattle.dns_fields.specs.Alike.{rows_eq, rows_cmp}
-use Rattle.dns_rdata.specs.Data.{Data, typed, untyped, number_of, is_untyped, AreOfOneKind, data_eq, data_cmp}
+use Rattle.dns_rdata.specs.Data.{Data, typed, unknown_data, number_of, is_unknown, AreOfOneKind, data_eq, data_cmp}
 
 equal_number : (n : ℕ) → nat_eq n n ≡ true
 equal_number n = (Decides-eqb n n).1 refl
@@ -56,14 +56,14 @@ pub same_cmp : (number : ℕ) (row other : List Field) → rows_cmp row other �
 unfolding rows_cmp data_cmp
 same_cmp number row other = rw (tied_number number) refl
 
--- opaque
-pub opaque_eq : (one two : UnknownData) → unknown_eq one two ≡ data_eq (untyped one) (untyped two)
+-- unknown data
+pub unknown_data_eq : (one two : UnknownData) → unknown_eq one two ≡ data_eq (unknown_data one) (unknown_data two)
 unfolding data_eq
-opaque_eq one two = both_true _ _
+unknown_data_eq one two = both_true _ _
 
-pub opaque_cmp : (one two : UnknownData) → unknown_cmp one two ≡ data_cmp (untyped one) (untyped two)
+pub unknown_data_cmp : (one two : UnknownData) → unknown_cmp one two ≡ data_cmp (unknown_data one) (unknown_data two)
 unfolding data_cmp
-opaque_cmp one two = then_equal _ _
+unknown_data_cmp one two = then_equal _ _
 
 -- of two kinds
 pub unlike_eq : (one two : Data) → (AreOfOneKind one two → ⊥) → false ≡ data_eq one two
@@ -71,24 +71,24 @@ unfolding data_eq
 unlike_eq (typed number row) (typed other fields) unlike =
     let differs : nat_eq number other ≡ false = is_not (nat_eq number other) (λ is. unlike ((Decides-eqb number other).0 is)) in
     rw differs refl
-unlike_eq (typed number row) (untyped other) unlike = never (nat_eq number other.number)
-unlike_eq (untyped unknown) (typed other fields) unlike = never (nat_eq unknown.number other)
-unlike_eq (untyped unknown) (untyped other) unlike = absurd (unlike tt)
+unlike_eq (typed number row) (unknown_data other) unlike = never (nat_eq number other.number)
+unlike_eq (unknown_data unknown) (typed other fields) unlike = never (nat_eq unknown.number other)
+unlike_eq (unknown_data unknown) (unknown_data other) unlike = absurd (unlike tt)
 
 pub unlike_cmp : (one two : Data) → (AreOfOneKind one two → ⊥)
-    → ordering_then (nat_cmp (number_of one) (number_of two)) (bool_cmp (is_untyped one) (is_untyped two)) ≡ data_cmp one two
+    → ordering_then (nat_cmp (number_of one) (number_of two)) (bool_cmp (is_unknown one) (is_unknown two)) ≡ data_cmp one two
 unfolding data_cmp
 unlike_cmp (typed number row) (typed other fields) unlike =
     by_first (nat_cmp number other) _ _ (other_number number other unlike)
-unlike_cmp (typed number row) (untyped other) unlike = refl
-unlike_cmp (untyped unknown) (typed other fields) unlike = refl
-unlike_cmp (untyped unknown) (untyped other) unlike = absurd (unlike tt)
+unlike_cmp (typed number row) (unknown_data other) unlike = refl
+unlike_cmp (unknown_data unknown) (typed other fields) unlike = refl
+unlike_cmp (unknown_data unknown) (unknown_data other) unlike = absurd (unlike tt)
 
--- fields of one type, if of one number and neither is opaque
-pub of_one_kind : (one two : Data) → is_untyped one ≡ false → is_untyped two ≡ false → number_of one ≡ number_of two → AreOfOneKind one two
+-- fields of one type, if of one number and neither is unknown
+pub of_one_kind : (one two : Data) → is_unknown one ≡ false → is_unknown two ≡ false → number_of one ≡ number_of two → AreOfOneKind one two
 of_one_kind (typed number row) (typed other fields) here there is = is
-of_one_kind (typed number row) (untyped other) here there is = absurd cc
-of_one_kind (untyped unknown) two here there is = absurd cc
+of_one_kind (typed number row) (unknown_data other) here there is = absurd cc
+of_one_kind (unknown_data unknown) two here there is = absurd cc
 
 -- octets in the other order
 pub turned : (one two : List ℕ) → ordering_reverse (slice_cmp nat_cmp two one) ≡ slice_cmp nat_cmp one two

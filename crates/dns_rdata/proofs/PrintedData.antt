@@ -27,7 +27,7 @@ use Rattle.dns_fields.proofs.PrintedRows.{safe_16}
 use Rattle.dns_fields.proofs.PrintedTokens.{IsWritten, bare_written, no_symbols, one_more, number_written, rest_written, collected}
 use Rattle.dns_fields.proofs.ScannedOnce.{left_one, decoded_one}
 use Rattle.dns_fields.proofs.Unmarked.{row_first, unmarked}
-use Rattle.dns_rdata.specs.Data.{Data, typed, untyped, number_of, document_of, ScansAnyData}
+use Rattle.dns_rdata.specs.Data.{Data, typed, unknown_data, number_of, document_of, ScansAnyData}
 use Rattle.dns_rdata.specs.DataTokens.{IsAnyData, HasNoEmptyTag, tokens_of}
 
 -- There are tokens that are written so.
@@ -59,8 +59,8 @@ pub data_written : ((rtype : ℕ) (row : List Field) → IsRow rtype row → All
     → HasNoEmptyTag (typed rtype row) → (tokens : List Token) × AllZip WritesToken tokens (row_tokens row))
     → (rdata : Data) → IsAnyData rdata → HasNoEmptyTag rdata → (tokens : List Token) × AllZip WritesToken tokens (tokens_of rdata)
 data_written row_written (typed number row) is some = row_written number row is.0 is.1 some
-data_written row_written (untyped unknown) is some =
-    collected (tokens_of (untyped unknown))
+data_written row_written (unknown_data unknown) is some =
+    collected (tokens_of (unknown_data unknown))
     (marker_written, (number_written (length unknown.octets) (omega (arith, is.0)), words_written unknown.octets is.1))
 
 -- tokens before the first row
@@ -137,8 +137,8 @@ data_row (typed number row) tokens writes =
     let pieces : List Piece = commented (comments_of number) row in
     open' (subst (λ (l : List Piece). HasRows 1 l (tokens ∷ [])) (sym (append_assoc pieces (Close ∷ []) (Newline ∷ [])))
     (commented_row (comments_of number) row tokens (no_feeds number) writes))
-data_row (untyped unknown) tokens writes =
-    let texts = tokens_of (untyped unknown) in
+data_row (unknown_data unknown) tokens writes =
+    let texts = tokens_of (unknown_data unknown) in
     open' (subst (λ (l : List Piece). HasRows 1 l (tokens ∷ [])) (sym (append_assoc (map token_piece texts) (Close ∷ []) (Newline ∷ [])))
     (row_of tokens texts writes))
 
@@ -172,10 +172,10 @@ unknown_back text (number ∷ words) short small writes = record {
 }
 
 module _ (names : List ℕ → List (List ℕ) → Type 0) where
-  untyped_back : (unknown : UnknownData) (tokens : List Token) → IsAnyData (untyped unknown)
-      → AllZip WritesToken tokens (tokens_of (untyped unknown)) → ScansAnyData names unknown.number (untyped unknown) tokens []
-  untyped_back unknown [] is writes = absurd writes
-  untyped_back unknown (first ∷ words) is writes =
+  unknown_data_back : (unknown : UnknownData) (tokens : List Token) → IsAnyData (unknown_data unknown)
+      → AllZip WritesToken tokens (tokens_of (unknown_data unknown)) → ScansAnyData names unknown.number (unknown_data unknown) tokens []
+  unknown_data_back unknown [] is writes = absurd writes
+  unknown_data_back unknown (first ∷ words) is writes =
       let same = marker_bare writes.0 in
       (refl, words, (λ i. same i ∷ words), unknown_back unknown.octets words is.0 is.1 writes.1, refl)
 
@@ -186,7 +186,7 @@ module _ (names : List ℕ → List (List ℕ) → Type 0) where
       → ScansAnyData names (number_of rdata) rdata tokens []
   any_back row_back printed (typed number row) tokens is writes =
       (unmarked (row_tokens row) tokens (row_first row is.0.each is.1) writes, refl, row_back number row tokens is.0 is.1 printed writes)
-  any_back row_back printed (untyped unknown) tokens is writes = untyped_back unknown tokens is writes
+  any_back row_back printed (unknown_data unknown) tokens is writes = unknown_data_back unknown tokens is writes
 
   -- and any tokens as one data.
   unknown_one : (words others : List Token) (text other : List ℕ) → words ≡ others → IsUnknownData words text → IsUnknownData others other → text ≡ other
@@ -204,11 +204,11 @@ module _ (names : List ℕ → List (List ℕ) → Type 0) where
       let same = row_one rtype row row' tokens left rest one scans.2 also.2 in
       let numbers : number ≡ number' = scans.1 ∙ sym also.1 in
       ((λ i. typed (numbers i) (same.0 i)), same.1)
-  any_one row_one rtype (typed number row) (untyped unknown) tokens left rest one scans also = absurd (scans.0 also.1 also.2)
-  any_one row_one rtype (untyped unknown) (typed number row) tokens left rest one scans also = absurd (also.0 scans.1 scans.2)
-  any_one row_one rtype (untyped unknown) (untyped unknown') tokens left rest one scans also =
+  any_one row_one rtype (typed number row) (unknown_data unknown) tokens left rest one scans also = absurd (scans.0 also.1 also.2)
+  any_one row_one rtype (unknown_data unknown) (typed number row) tokens left rest one scans also = absurd (also.0 scans.1 scans.2)
+  any_one row_one rtype (unknown_data unknown) (unknown_data unknown') tokens left rest one scans also =
       let both : marker ∷ scans.1 ≡ marker ∷ also.1 = sym scans.2 ∙ also.2 in
       let words : scans.1 ≡ also.1 = cc in
       let text = unknown_one scans.1 also.1 unknown.octets unknown'.octets words scans.3 also.3 in
       let numbers : unknown.number ≡ unknown'.number = scans.0 ∙ sym also.0 in
-      ((λ i. untyped (record { number = numbers i; octets = text i })), scans.4 ∙ sym also.4)
+      ((λ i. unknown_data (record { number = numbers i; octets = text i })), scans.4 ∙ sym also.4)

@@ -5,7 +5,7 @@ use Rattle.dns_scan.specs.Token.{Token, IsEnding, SameNames, marker}
 use Rattle.dns_scan.specs.UnknownData.{IsUnknownData}
 use Rattle.dns_fields.specs.Fields.{Field, number8, number16, number32, ipv4, ipv6, compressible, uncompressed, string, strings, tag, rest_text, rest16, rest64}
 use Rattle.dns_fields.specs.Scanned.{ScansField, ScansRow, ScansData, ScansLong, NoDataScans}
-use Rattle.dns_rdata.specs.Data.{Data, typed, untyped, IsUnmarked, NoAnyDataScans, ScansAnyData}
+use Rattle.dns_rdata.specs.Data.{Data, typed, unknown_data, IsUnmarked, NoAnyDataScans, ScansAnyData}
 
 pub is_false : {b : Bool} → b ≡ false → IsTrue b → ⊥
 is_false is has = cc
@@ -13,20 +13,20 @@ is_false is has = cc
 behind : {tokens words : List Token} → marker ∷ tokens ≡ marker ∷ words → words ≡ tokens
 behind is = sym (ap (drop {A = Token} 1) is)
 
--- untyped data after the marker is the only text of data there
-pub none_untyped : (names : List ℕ → List (List ℕ) → Type 0) (rtype : ℕ) (tokens : List Token)
+-- unknown data after the marker is the only text of data there
+pub none_unknown : (names : List ℕ → List (List ℕ) → Type 0) (rtype : ℕ) (tokens : List Token)
     → ((octets : List ℕ) → IsUnknownData tokens octets → ⊥)
     → (rdata : Data) (left : List Token) → ScansAnyData names rtype rdata (marker ∷ tokens) left → ⊥
-none_untyped names rtype tokens none (typed number row) left scans = scans.0 tokens refl
-none_untyped names rtype tokens none (untyped unknown) left scans =
+none_unknown names rtype tokens none (typed number row) left scans = scans.0 tokens refl
+none_unknown names rtype tokens none (unknown_data unknown) left scans =
     none unknown.octets (subst (λ words. IsUnknownData words unknown.octets) (behind scans.2) scans.3)
 
--- where nothing marks untyped data, data is of the type's fields
+-- where nothing marks unknown data, data is of the type's fields
 pub none_typed : (names : List ℕ → List (List ℕ) → Type 0) (rtype n : ℕ) (tokens : List Token) → rtype ≡ n → IsUnmarked tokens
     → NoDataScans names n tokens → NoAnyDataScans names rtype tokens
 none_typed names rtype n tokens is unmarked none fits (typed number row) left scans =
     none (λ long. fits unmarked (subst (λ n. ScansLong names n tokens) (sym is) long)) row left (subst (λ n. ScansData names n row tokens left) is scans.2)
-none_typed names rtype n tokens is unmarked none fits (untyped unknown) left scans = unmarked scans.1 scans.2
+none_typed names rtype n tokens is unmarked none fits (unknown_data unknown) left scans = unmarked scans.1 scans.2
 
 pub same_back : (old new : List ℕ → List (List ℕ) → Type 0) → SameNames old new → SameNames new old
 same_back old new same text name = ((same text name).1, (same text name).0)
@@ -57,7 +57,7 @@ data_same : (old new : List ℕ → List (List ℕ) → Type 0) → SameNames ol
     → ScansAnyData old rtype rdata tokens left → ScansAnyData new rtype rdata tokens left
 data_same old new same rtype (typed number row) tokens left scans =
     (scans.0, scans.1, record { kinds = scans.2.kinds; scanned = row_same old new same row tokens left scans.2.scanned; short = scans.2.short })
-data_same old new same rtype (untyped unknown) tokens left scans = scans
+data_same old new same rtype (unknown_data unknown) tokens left scans = scans
 
 -- the same data, where the tokens and what names are spelled are the same
 pub text_same : (old new : List ℕ → List (List ℕ) → Type 0) → SameNames old new → (rtype : ℕ) (before after : List Token) → before ≡ after

@@ -21,47 +21,47 @@ use Rattle.dns_fields.specs.Scanned.{ScansData, ScansLong}
 use Rattle.dns_fields.specs.Shown.{data_pieces}
 use Rattle.dns_fields.specs.Written.{written_parts}
 
--- the number of a type with the row of its fields, or opaque data
+-- the number of a type with the row of its fields, or unknown data
 pub data Data : Type 0 where
   typed : ℕ → List Field → Data
-  untyped : UnknownData → Data
+  unknown_data : UnknownData → Data
 
 abbrev pub number_of : Data → ℕ
 number_of (typed number row) = number
-number_of (untyped unknown) = unknown.number
+number_of (unknown_data unknown) = unknown.number
 
--- whether it is opaque
-abbrev pub is_untyped : Data → Bool
-is_untyped (typed number row) = false
-is_untyped (untyped unknown) = true
+-- whether it is unknown
+abbrev pub is_unknown : Data → Bool
+is_unknown (typed number row) = false
+is_unknown (unknown_data unknown) = true
 
 -- what the data is written as
 abbrev pub parts_of : Data → Parts
 parts_of (typed number row) = written_parts row
-parts_of (untyped unknown) = Octets unknown.octets End
+parts_of (unknown_data unknown) = Octets unknown.octets End
 
--- the canonical form (RFC 4034 6.2); that of opaque data is its octets
+-- the canonical form (RFC 4034 6.2); that of unknown data is its octets
 abbrev pub canonical_of : Data → List ℕ
 canonical_of (typed number row) = canonical_octets row
-canonical_of (untyped unknown) = unknown.octets
+canonical_of (unknown_data unknown) = unknown.octets
 
--- The octets from the place on are the data of the type: fields where the type has some, and else untyped.
+-- The octets from the place on are the data of the type: fields where the type has some, and else unknown data.
 abbrev pub ReadsData : List ℕ → ℕ → ℕ → Data → Type 0
 ReadsData message place rtype (typed number row) = (number ≡ rtype) × ReadsRow rtype message place row
-ReadsData message place rtype (untyped unknown) = (kinds_of rtype ≡ None) × IsUnknownAt message place rtype unknown
+ReadsData message place rtype (unknown_data unknown) = (kinds_of rtype ≡ None) × IsUnknownAt message place rtype unknown
 
 -- what counts of the fields, or the octets
 abbrev pub counted : Data → List (List ℕ)
 counted (typed number row) = keys row
-counted (untyped unknown) = unknown.octets ∷ []
+counted (unknown_data unknown) = unknown.octets ∷ []
 
--- data is equal if of the same type, with fields or opaque alike, and the same counts of it
+-- data is equal if of the same type, with fields or unknown alike, and the same counts of it
 unfoldable pub data_eq : Data → Data → Bool
-data_eq = eq_of_both (on number_of nat_eq) (eq_of_both (on is_untyped beq) (on counted (pointwise (pointwise nat_eq))))
+data_eq = eq_of_both (on number_of nat_eq) (eq_of_both (on is_unknown beq) (on counted (pointwise (pointwise nat_eq))))
 
--- by type, then fields before opaque data, then by what counts
+-- by type, then fields before unknown data, then by what counts
 unfoldable pub data_cmp : Data → Data → Ordering
-data_cmp = then_cmp (on number_of nat_cmp) (then_cmp (on is_untyped bool_cmp) (on counted (slice_cmp (slice_cmp nat_cmp))))
+data_cmp = then_cmp (on number_of nat_cmp) (then_cmp (on is_unknown bool_cmp) (on counted (slice_cmp (slice_cmp nat_cmp))))
 
 -- by type, and then by the canonical octets, typed or not (RFC 4034 6.3)
 unfoldable pub canonical_data_cmp : Data → Data → Ordering
@@ -70,30 +70,30 @@ canonical_data_cmp = then_cmp (on number_of nat_cmp) (on canonical_of (slice_cmp
 -- how data is hashed: by its type, and by what counts of its fields, or by its type and its octets
 abbrev pub data_hashed : Data → List (List ℕ)
 data_hashed (typed number row) = fed.u16 number ++ keys row
-data_hashed (untyped unknown) = fed.u16 unknown.number ++ (fed.u16 unknown.number ++ fed.slice fed.u8 unknown.octets)
+data_hashed (unknown_data unknown) = fed.u16 unknown.number ++ (fed.u16 unknown.number ++ fed.slice fed.u8 unknown.octets)
 
--- of fields of one type, or both opaque
+-- of fields of one type, or both unknown
 abbrev pub AreOfOneKind : Data → Data → Type 0
 AreOfOneKind (typed number row) (typed other fields) = number ≡ other
-AreOfOneKind (typed number row) (untyped other) = ⊥
-AreOfOneKind (untyped unknown) (typed other fields) = ⊥
-AreOfOneKind (untyped unknown) (untyped other) = ⊤
+AreOfOneKind (typed number row) (unknown_data other) = ⊥
+AreOfOneKind (unknown_data unknown) (typed other fields) = ⊥
+AreOfOneKind (unknown_data unknown) (unknown_data other) = ⊤
 
--- the first token is not what marks untyped data
+-- the first token is not what marks unknown data
 abbrev pub IsUnmarked : List Token → Type 0
 IsUnmarked tokens = (words : List Token) → tokens ≡ marker ∷ words → ⊥
 
--- The tokens begin with the text of data of the type, and these are left: untyped, whatever the type, where the first one
+-- The tokens begin with the text of data of the type, and these are left: unknown data, whatever the type, where the first one
 -- marks it (RFC 3597 5), and else fields.
 abbrev pub ScansAnyData : (List ℕ → List (List ℕ) → Type 0) → ℕ → Data → List Token → List Token → Type 0
 ScansAnyData names rtype (typed number row) tokens left =
     IsUnmarked tokens × (number ≡ rtype) × ScansData names rtype row tokens left
-ScansAnyData names rtype (untyped unknown) tokens left =
+ScansAnyData names rtype (unknown_data unknown) tokens left =
     (unknown.number ≡ rtype) × (words : List Token) × (tokens ≡ marker ∷ words) × IsUnknownData words unknown.octets
     × (left ≡ [])
 
 -- If the tokens do not begin with a text of its fields that has too many octets, they begin with none of data of the type. Where the
--- first one marks untyped data, there are no fields.
+-- first one marks unknown data, there are no fields.
 abbrev pub NoAnyDataScans : (List ℕ → List (List ℕ) → Type 0) → ℕ → List Token → Type 0
 NoAnyDataScans names rtype tokens =
     (IsUnmarked tokens → ScansLong names rtype tokens → ⊥) → (rdata : Data) (left : List Token) → ScansAnyData names rtype rdata tokens left → ⊥
@@ -101,9 +101,9 @@ NoAnyDataScans names rtype tokens =
 -- how the data is printed
 abbrev pub document_of : Data → List Piece
 document_of (typed number row) = block_of (data_pieces number row)
-document_of (untyped unknown) = block_of (unknown_tokens unknown.octets)
+document_of (unknown_data unknown) = block_of (unknown_tokens unknown.octets)
 
--- a field holds more octets than the bound, or opaque data has more
+-- a field holds more octets than the bound, or unknown data has more
 abbrev pub HoldsPast : Option ℕ → Data → Type 0
 HoldsPast bound (typed number row) = OneIsPast bound row
-HoldsPast bound (untyped unknown) = IsPast bound (length unknown.octets)
+HoldsPast bound (unknown_data unknown) = IsPast bound (length unknown.octets)

@@ -12,17 +12,17 @@ use Rattle.std.proofs.Math.Bool.{beq}
 use Rattle.std.specs.Hash as fed
 use Rattle.std.specs.Ordering.{is_eq, nat_cmp, bool_cmp}
 use lib.Pointwise.{pointwise_decides, bytes_decides}
-use Rattle.dns_rdata.specs.Data.{Data, typed, untyped, number_of, is_untyped, counted, data_eq, data_cmp, data_hashed}
+use Rattle.dns_rdata.specs.Data.{Data, typed, unknown_data, number_of, is_unknown, counted, data_eq, data_cmp, data_hashed}
 
 pub data_equivalent : IsEquivalence data_eq
 unfolding data_eq
 data_equivalent = and_equiv (on_equiv number_of nat_eq_equiv)
-    (and_equiv (on_equiv is_untyped bool_eq_equiv) (on_equiv counted (lists_equiv (lists_equiv nat_eq_equiv))))
+    (and_equiv (on_equiv is_unknown bool_eq_equiv) (on_equiv counted (lists_equiv (lists_equiv nat_eq_equiv))))
 
 pub data_total : IsTotalOrder data_cmp
 unfolding data_cmp
 data_total = then_total (on_total number_of nat_cmp_total)
-    (then_total (on_total is_untyped bool_cmp_total) (on_total counted (lists_total nat_list_cmp_total)))
+    (then_total (on_total is_unknown bool_cmp_total) (on_total counted (lists_total nat_list_cmp_total)))
 
 number_ties : (m n : ℕ) → nat_eq m n ≡ is_eq (nat_cmp m n)
 number_ties m n = Prim.search (comparing, rules)
@@ -36,13 +36,13 @@ kind_ties true true = refl
 pub data_ties : (rdata other : Data) → data_eq rdata other ≡ is_eq (data_cmp rdata other)
 unfolding data_eq data_cmp
 data_ties rdata other = both_tied _ _ _ _ (number_ties (number_of rdata) (number_of other))
-    (both_tied _ _ _ _ (kind_ties (is_untyped rdata) (is_untyped other))
+    (both_tied _ _ _ _ (kind_ties (is_unknown rdata) (is_unknown other))
     (lists_ties (slice_cmp nat_cmp) texts_ties (counted rdata) (counted other)))
 
 -- what equal data has in common
 record Same (rdata other : Data) : Type 0 where
   number : number_of rdata ≡ number_of other
-  kind : beq (is_untyped rdata) (is_untyped other) ≡ true
+  kind : beq (is_unknown rdata) (is_unknown other) ≡ true
   counts : counted rdata ≡ counted other
 
 same : (rdata other : Data) → IsTrue (data_eq rdata other) → Same rdata other
@@ -62,9 +62,9 @@ differ is = cc
 
 alike : (rdata other : Data) → Same rdata other → data_hashed rdata ≡ data_hashed other
 alike (typed number row) (typed other fields) has = λ i. fed.u16 (has.number i) ++ has.counts i
-alike (typed number row) (untyped other) has = absurd (differ has.kind)
-alike (untyped unknown) (typed other fields) has = absurd (differ has.kind)
-alike (untyped unknown) (untyped other) has = λ i.
+alike (typed number row) (unknown_data other) has = absurd (differ has.kind)
+alike (unknown_data unknown) (typed other fields) has = absurd (differ has.kind)
+alike (unknown_data unknown) (unknown_data other) has = λ i.
     fed.u16 (has.number i) ++ (fed.u16 (has.number i) ++ fed.slice fed.u8 (first (has.counts i)))
 
 pub data_alike : (rdata other : Data) → IsTrue (data_eq rdata other) → data_hashed rdata ≡ data_hashed other

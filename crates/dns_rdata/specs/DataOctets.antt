@@ -2,15 +2,15 @@
 use Rattle.std.specs.Prelude.{◌≡◌, ℕ, List}
 use Rattle.dns_text.specs.Document.{Piece}
 use Rattle.dns_fields.specs.Fields.{Field, octets, IsRow}
-use Rattle.dns_rdata.specs.Data.{Data, typed, untyped, document_of}
+use Rattle.dns_rdata.specs.Data.{Data, typed, unknown_data, document_of}
 use Rattle.dns_rdata.specs.DataTokens.{HasNoEmptyTag}
 
--- the octets of data; opaque data is its octets (RFC 3597 4)
+-- the octets of data; unknown data is its octets (RFC 3597 4)
 abbrev pub data_octets : Data → List ℕ
 data_octets (typed number row) = octets row
-data_octets (untyped unknown) = unknown.octets
+data_octets (unknown_data unknown) = unknown.octets
 
--- Text can spell the data: the row that the octets are has no empty tag. Text can spell all opaque data (RFC 3597 5).
+-- Text can spell the data: the row that the octets are has no empty tag. Text can spell all unknown data (RFC 3597 5).
 abbrev pub IsSpellable : ℕ → List ℕ → Type 0
 IsSpellable rtype data' = (row : List Field) → IsRow rtype row → data' ≡ octets row → HasNoEmptyTag (typed rtype row)
 

@@ -1,5 +1,5 @@
 -- What a value of data of any type is seen as.
-use Rattle.dns_rdata.specs.Data.{Data, typed, untyped}
+use Rattle.dns_rdata.specs.Data.{Data, typed, unknown_data}
 use Rattle.dns_rdata.specs.declared.zone_record_data.ZoneRecordData.{ZoneRecordData}
 use Rattle.dns_rdata.specs.declared.zone_record_data.ZoneRecordData.TheVariants.{A, Ns, Md, Mf, Cname, Soa, Mb, Mg, Mr, Ptr, Hinfo, Minfo, Mx, Txt, Rp, Aaaa, Srv, Ds, Dnskey, Caa, Unknown}
 
@@ -24,4 +24,4 @@ data_of (Srv row) = typed 33 row
 data_of (Ds row) = typed 43 row
 data_of (Dnskey row) = typed 48 row
 data_of (Caa row) = typed 257 row
-data_of (Unknown unknown) = untyped unknown
+data_of (Unknown unknown) = unknown_data unknown

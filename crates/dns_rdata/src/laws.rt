@@ -42,7 +42,7 @@ pub fn printed_data_of_any_type_scans_back<S: Scanner>(scanner: &S)
     tokens_scan_as_one_row(scanner);
 }
 
-/// Tokens begin with data of a type in one way, in fields or opaque, where a text is one name at most to the scanner: as one
+/// Tokens begin with data of a type in one way, in fields or unknown, where a text is one name at most to the scanner: as one
 /// data, with the same tokens left.
 pub fn tokens_scan_as_one_data<S: Scanner>(scanner: &S)
     ensures { (rtype : ℕ) (rdata other : Data) (tokens left rest : List Token) → SpellOne (S.names scanner.now)

@@ -1,7 +1,7 @@
 //! Rows of fields, which the data of each type is made of.
 pub use dns_fields::{
     ARow, AaaaRow, CaaRow, Compressible, ConvertField, ConvertRow, DataType, DnskeyRow, DsRow,
-    FieldValue, FrontField, FrontRow, HasField, HasFields, HinfoRow, Last, LastValue, MinfoRow,
+    FieldValue, FieldOctetsOrd, RowOctetsOrd, HasField, HasFields, HinfoRow, Last, LastValue, MinfoRow,
     MxRow, NameRow, Number, OverOctets, ReadError, ReadField, ReadRow, Rest16, Rest64, RestText,
     Row, RowOf, RpRow, ScanField, ScanRow, ShowField, ShowLast, ShowRow, SoaRow, SrvRow, Strings,
     StringsIter, Tag, TxtRow, Uncompressed, canonical_row_cmp_octets, compose_canonical_row,

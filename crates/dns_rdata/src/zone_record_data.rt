@@ -1,6 +1,6 @@
 //! Data of any type.
 ghost use Rattle.std.specs.Prelude.{◌≡◌, false, IfSome, IfNone};
-ghost use Rattle.dns_rdata.specs.Data.{untyped, number_of, is_untyped};
+ghost use Rattle.dns_rdata.specs.Data.{unknown_data, number_of, is_unknown};
 ghost use Rattle.dns_rdata.specs.ZoneData.{data_of};
 
 use crate::{
@@ -32,7 +32,7 @@ use visit::{TypedData, Visit};
 
 /// Data of a record of a zone: the fields of one of the types that have some, or data of any type as opaque octets.
 ///
-/// A contract sees it as the number of the type with a row of fields, or as opaque data.
+/// A contract sees it as the number of the type with a row of fields, or as unknown data.
 #[derive(Debug, Drop)]
 pub enum ZoneRecordData<Octs: Octets, N: ToName> {
     /// An address of version 4 (RFC 1035 3.4.1).
@@ -80,10 +80,10 @@ pub enum ZoneRecordData<Octs: Octets, N: ToName> {
 }
 
 impl<Octs: Octets, N: ToName> ZoneRecordData<Octs, N> {
-    /// Returns the data if it is opaque.
-    fn as_opaque(&self) -> Option<&UnknownRecordData<Octs>>
-        ensures some { IfSome result (λ unknown. data_of self.now ≡ untyped unknown.now) }
-        ensures none { IfNone result (is_untyped (data_of self.now) ≡ false) }
+    /// Returns the data if it is unknown.
+    fn as_unknown(&self) -> Option<&UnknownRecordData<Octs>>
+        ensures some { IfSome result (λ unknown. data_of self.now ≡ unknown_data unknown.now) }
+        ensures none { IfNone result (is_unknown (data_of self.now) ≡ false) }
     {
         match self {
             ZoneRecordData::Unknown(unknown) => Some(unknown),
@@ -91,11 +91,11 @@ impl<Octs: Octets, N: ToName> ZoneRecordData<Octs, N> {
         }
     }
 
-    /// Whether the data is opaque.
-    fn is_opaque(&self) -> bool
-        ensures { result ≡ is_untyped (data_of self.now) }
+    /// Whether the data is unknown.
+    fn is_unknown(&self) -> bool
+        ensures { result ≡ is_unknown (data_of self.now) }
     {
-        self.as_opaque().is_some()
+        self.as_unknown().is_some()
     }
 }
 
@@ -119,7 +119,7 @@ impl Visit<()> for OfType {
         Rtype::from_int(rdata.number())
     }
 
-    fn opaque<Octs: Octets>(rdata: &UnknownRecordData<Octs>, _state: &mut ()) -> Rtype {
+    fn unknown<Octs: Octets>(rdata: &UnknownRecordData<Octs>, _state: &mut ()) -> Rtype {
         rdata.rtype()
     }
 }

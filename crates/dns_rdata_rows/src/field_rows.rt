@@ -6,7 +6,7 @@ use crate::names::name;
 use crate::zone_data::left;
 use dns_name::{AppendError, Name, ParseError, ParsedName, Parser};
 use dns_rdata::rows::{
-    Compressible, FrontRow, Last, ReadError, Rest16, RestText, Row as FieldRow, ShowRow, Strings,
+    Compressible, RowOctetsOrd, Last, ReadError, Rest16, RestText, Row as FieldRow, ShowRow, Strings,
     Tag, Uncompressed, canonical_row_cmp_octets, compose_canonical_row, compose_row, parse_row,
     row_len, scan_row, show_row,
 };
@@ -163,7 +163,7 @@ pub fn answer_beside(alloc: Global, row: &mut Row<'_>, out: &mut Answer) -> Resu
 }
 
 /// Writes how the canonical form of a row compares to octets.
-fn beside<R: FrontRow>(row: &R, octets: &[u8], out: &mut Answer) -> Result<(), RowError> {
+fn beside<R: RowOctetsOrd>(row: &R, octets: &[u8], out: &mut Answer) -> Result<(), RowError> {
     out.named(&canonical_row_cmp_octets(row, octets))
 }
 

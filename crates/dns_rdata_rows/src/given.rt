@@ -14,14 +14,14 @@ pub type Read<'a> = ZoneRecordData<&'a [u8], ParsedName<&'a [u8]>>;
 pub struct Given {
     rtype: Rtype,
     place: usize,
-    is_opaque: bool,
+    is_unknown: bool,
 }
 
 impl Given {
     /// Takes a type, and the place after its `@` if there is one.
     pub fn of(row: &mut Row<'_>) -> Result<Self, RowError> {
         let word = row.word()?;
-        let (is_opaque, word) = match word.strip_prefix("\\#") {
+        let (is_unknown, word) = match word.strip_prefix("\\#") {
             Some(word) => (true, word),
             None => (false, word),
         };
@@ -33,7 +33,7 @@ impl Given {
             (Ok(rtype), Ok(place)) => Ok(Given {
                 rtype,
                 place,
-                is_opaque,
+                is_unknown,
             }),
             _ => Err(RowError::BadWord),
         }
@@ -42,7 +42,7 @@ impl Given {
     /// Parses the data of these octets: its fields from the place on, or all octets if it is
     /// unknown data.
     pub fn read<'a>(self, octets: &'a [u8]) -> Result<Read<'a>, ParseError> {
-        if self.is_opaque {
+        if self.is_unknown {
             return match UnknownRecordData::from_octets(self.rtype, octets) {
                 Ok(rdata) => Ok(ZoneRecordData::Unknown(rdata)),
                 Err(_) => Err(ParseError::ShortInput),

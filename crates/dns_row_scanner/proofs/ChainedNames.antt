@@ -6,7 +6,7 @@ use Rattle.std.specs.List.{AllByRecursion}
 use Rattle.dns_label.specs.Name.{IsLabel, IsName, wire, labels_wire, with_root}
 use Rattle.dns_wire.specs.Chain.{before_root}
 use Rattle.dns_wire.specs.Draft.{Holds}
-use Rattle.dns_wire.specs.declared.text.draft.Spelling.{Spelling}
+use Rattle.dns_wire.specs.declared.text.draft.NameDraft.{NameDraft}
 use Rattle.dns_wire.proofs.Case.{wire_one}
 use Rattle.dns_wire.proofs.Drafts.{draft-name}
 use Rattle.dns_wire.proofs.Wire.{labels_wire-append, length-wire_is, length-wire-append, wire_is}
@@ -25,56 +25,56 @@ chain_fits front name is_name few long =
     omega (arith, few, long, length-wire_is name, ap (λ (l : List (List ℕ)). length (labels_wire l)) (before_rooted name is_name.labels))
 
 -- the finished labels are a name
-pub held_name : (spelling : Spelling) (done : List (List ℕ)) → Holds spelling done [] → IsName done
-held_name spelling done holds =
-    let all = spelling.whole in
-    let few = spelling.few in
-    draft-name spelling.octets spelling.len done (omega arith) few holds.written holds.labels
+pub held_name : (draft : NameDraft) (done : List (List ℕ)) → Holds draft done [] → IsName done
+held_name draft done holds =
+    let all = draft.whole in
+    let few = draft.few in
+    draft-name draft.octets draft.len done (omega arith) few holds.written holds.labels
 
 -- their octets
-pub front_octets : (spelling : Spelling) (done : List (List ℕ)) → Holds spelling done []
-    → take spelling.start spelling.octets ≡ labels_wire done
-front_octets spelling done holds =
-    let room = spelling.room in
-    sym (take-take spelling.start spelling.len spelling.octets (omega arith))
-    ∙ ap (take spelling.start) holds.written
+pub front_octets : (draft : NameDraft) (done : List (List ℕ)) → Holds draft done []
+    → take draft.start draft.octets ≡ labels_wire done
+front_octets draft done holds =
+    let room = draft.room in
+    sym (take-take draft.start draft.len draft.octets (omega arith))
+    ∙ ap (take draft.start) holds.written
     ∙ ap (λ (n : ℕ). take n (labels_wire done ++ 0 ∷ [])) holds.place
     ∙ take-append_seam (labels_wire done) (0 ∷ [])
 
 -- only this name has these octets
-pub front_held : (spelling : Spelling) (done name : List (List ℕ)) → Holds spelling done []
-    → take spelling.start spelling.octets ≡ labels_wire name → Holds spelling name []
-front_held spelling done name holds made =
+pub front_held : (draft : NameDraft) (done name : List (List ℕ)) → Holds draft done []
+    → take draft.start draft.octets ≡ labels_wire name → Holds draft name []
+front_held draft done name holds made =
     let same : wire done ≡ wire name =
-    wire_is done ∙ ap (λ l. l ++ 0 ∷ []) (sym (front_octets spelling done holds) ∙ made) ∙ sym (wire_is name) in
-    let P : List (List ℕ) → Type 0 = λ n. Holds spelling n [] in subst P (wire_one done name same) holds
+    wire_is done ∙ ap (λ l. l ++ 0 ∷ []) (sym (front_octets draft done holds) ∙ made) ∙ sym (wire_is name) in
+    let P : List (List ℕ) → Type 0 = λ n. Holds draft n [] in subst P (wire_one done name same) holds
 
 -- with the origin they are a name exactly if they have few octets
-pub origin_fits : (spelling : Spelling) (done origin : List (List ℕ)) → Holds spelling done [] → IsName origin
-    → length (take spelling.start spelling.octets) + length (wire origin) ≤ 255 → IsName (done ++ origin)
-origin_fits spelling done origin holds is_name few =
-    joined_name done origin (held_name spelling done holds) is_name (omega (arith, few, ap (length {A = ℕ}) (front_octets spelling done holds)))
+pub origin_fits : (draft : NameDraft) (done origin : List (List ℕ)) → Holds draft done [] → IsName origin
+    → length (take draft.start draft.octets) + length (wire origin) ≤ 255 → IsName (done ++ origin)
+origin_fits draft done origin holds is_name few =
+    joined_name done origin (held_name draft done holds) is_name (omega (arith, few, ap (length {A = ℕ}) (front_octets draft done holds)))
 
-pub origin_long : (spelling : Spelling) (done origin : List (List ℕ)) → Holds spelling done [] → IsName (done ++ origin)
-    → 255 < length (take spelling.start spelling.octets) + length (wire origin) → ⊥
-origin_long spelling done origin holds is_name many =
-    omega (arith, many, is_name.short, length-wire-append done origin, ap (length {A = ℕ}) (front_octets spelling done holds))
+pub origin_long : (draft : NameDraft) (done origin : List (List ℕ)) → Holds draft done [] → IsName (done ++ origin)
+    → 255 < length (take draft.start draft.octets) + length (wire origin) → ⊥
+origin_long draft done origin holds is_name many =
+    omega (arith, many, is_name.short, length-wire-append done origin, ap (length {A = ℕ}) (front_octets draft done holds))
 
 -- the finished labels are one name
-pub held_one : (spelling : Spelling) (done other : List (List ℕ)) → Holds spelling done [] → Holds spelling other [] → done ≡ other
-held_one spelling done other holds also =
+pub held_one : (draft : NameDraft) (done other : List (List ℕ)) → Holds draft done [] → Holds draft other [] → done ≡ other
+held_one draft done other holds also =
     wire_one done other
-    (wire_is done ∙ ap (λ l. l ++ 0 ∷ []) (sym (front_octets spelling done holds) ∙ front_octets spelling other also) ∙ sym (wire_is other))
+    (wire_is done ∙ ap (λ l. l ++ 0 ∷ []) (sym (front_octets draft done holds) ∙ front_octets draft other also) ∙ sym (wire_is other))
 
 -- if they are a name with the origin, they have few octets with it
-pub few_octets : (spelling : Spelling) (front done origin : List (List ℕ)) → Holds spelling front [] → Holds spelling done []
+pub few_octets : (draft : NameDraft) (front done origin : List (List ℕ)) → Holds draft front [] → Holds draft done []
     → IsName (done ++ origin) → length (labels_wire front) + length (wire origin) ≤ 255
-few_octets spelling front done origin held holds is_name =
+few_octets draft front done origin held holds is_name =
     omega (
       arith,
       is_name.short,
       length-wire-append done origin,
-      ap (length {A = ℕ}) (sym (front_octets spelling front held) ∙ front_octets spelling done holds),
+      ap (length {A = ℕ}) (sym (front_octets draft front held) ∙ front_octets draft done holds),
     )
 
 -- their octets, followed by those of the origin, are the octets of both

@@ -7,7 +7,7 @@ use Rattle.dns_label.specs.NameText.{HasParts, IsAbsoluteText, IsRelativeText}
 use Rattle.dns_label.specs.NameText.IsAbsoluteText.{root}
 use Rattle.dns_label.specs.NameText.IsNameText.{absolute as absolute_text, relative as relative_text}
 use Rattle.dns_wire.specs.Draft.{Holds, IsReadable, IsReadAs}
-use Rattle.dns_wire.specs.declared.text.draft.Spelling.{Spelling}
+use Rattle.dns_wire.specs.declared.text.draft.NameDraft.{NameDraft}
 use Rattle.dns_wire.proofs.Drafts.{draft-none, draft-some, draft-wire, holds_one}
 use Rattle.dns_wire.proofs.Texts.{whole-absolute, whole-ok, open_label}
 use Rattle.dns_wire.proofs.Wire.{length-wire_is, length-wire-append}
@@ -50,66 +50,66 @@ pub root_spelled : {origin : Option (List (List ℕ))} {text : List ℕ} → tex
 root_spelled is = absolute (root is)
 
 -- if the last label is not open, the text is that of no relative name
-never_relative : {text : List ℕ} (spelling : Spelling) (read : IsReadAs text spelling) (labels : List (List ℕ)) → read.begun ≡ []
+never_relative : {text : List ℕ} (draft : NameDraft) (read : IsReadAs text draft) (labels : List (List ℕ)) → read.begun ≡ []
     → IsRelativeText text labels → ⊥
-never_relative spelling read labels none is =
+never_relative draft read labels none is =
     let P : List (List ℕ) → Type 0 = λ l. AllByRecursion IsLabel l in
     never_rooted read.done (subst P (read.only labels is.parts ∙ ap (λ b. read.done ++ b ∷ []) none) is.each)
 
-pub dotted_spelled : {origin : Option (List (List ℕ))} (text : List ℕ) (spelling : Spelling) (name : List (List ℕ))
-    → (text ≡ 46 ∷ [] → ⊥) → (read : IsReadAs text spelling) → read.begun ≡ [] → Holds spelling name [] → IsName name
+pub dotted_spelled : {origin : Option (List (List ℕ))} (text : List ℕ) (draft : NameDraft) (name : List (List ℕ))
+    → (text ≡ 46 ∷ [] → ⊥) → (read : IsReadAs text draft) → read.begun ≡ [] → Holds draft name [] → IsName name
     → 0 < length name → SpellsUnder origin text name
-dotted_spelled text spelling name no_dot read none holds is_name some =
-    absolute (whole-ok IsAbsoluteText text spelling name (whole-absolute text spelling no_dot read none) is_name holds some)
+dotted_spelled text draft name no_dot read none holds is_name some =
+    absolute (whole-ok IsAbsoluteText text draft name (whole-absolute text draft no_dot read none) is_name holds some)
 
-pub dotted_some : {origin : Option (List (List ℕ))} (text : List ℕ) (spelling : Spelling) → (text ≡ 46 ∷ [] → ⊥)
-    → (read : IsReadAs text spelling) → read.begun ≡ [] → (spelling.len ≡ 1 → ⊥) → (name : List (List ℕ)) × SpellsUnder origin text name
-dotted_some text spelling no_dot read none some =
-    let whole = whole-absolute text spelling no_dot read none in
-    let all = spelling.whole in
-    let few = spelling.few in
-    let more = draft-some spelling.octets spelling.len whole.done (omega arith) some whole.holds.written in
-    (whole.done, absolute (whole.spells more (held_name spelling whole.done whole.holds)))
+pub dotted_some : {origin : Option (List (List ℕ))} (text : List ℕ) (draft : NameDraft) → (text ≡ 46 ∷ [] → ⊥)
+    → (read : IsReadAs text draft) → read.begun ≡ [] → (draft.len ≡ 1 → ⊥) → (name : List (List ℕ)) × SpellsUnder origin text name
+dotted_some text draft no_dot read none some =
+    let whole = whole-absolute text draft no_dot read none in
+    let all = draft.whole in
+    let few = draft.few in
+    let more = draft-some draft.octets draft.len whole.done (omega arith) some whole.holds.written in
+    (whole.done, absolute (whole.spells more (held_name draft whole.done whole.holds)))
 
-pub dotted_none : {origin : Option (List (List ℕ))} {text : List ℕ} {name : List (List ℕ)} (spelling : Spelling)
-    → (text ≡ 64 ∷ [] → ⊥) → (text ≡ 46 ∷ [] → ⊥) → (read : IsReadAs text spelling) → read.begun ≡ [] → spelling.len ≡ 1
+pub dotted_none : {origin : Option (List (List ℕ))} {text : List ℕ} {name : List (List ℕ)} (draft : NameDraft)
+    → (text ≡ 64 ∷ [] → ⊥) → (text ≡ 46 ∷ [] → ⊥) → (read : IsReadAs text draft) → read.begun ≡ [] → draft.len ≡ 1
     → SpellsUnder origin text name → ⊥
-dotted_none spelling differs no_dot read none one at = differs refl
-dotted_none {text = text} {name = name} spelling differs no_dot read none one (absolute is) =
-    let whole = whole-absolute text spelling no_dot read none in
-    let all = spelling.whole in
-    let few = spelling.few in
+dotted_none draft differs no_dot read none one at = differs refl
+dotted_none {text = text} {name = name} draft differs no_dot read none one (absolute is) =
+    let whole = whole-absolute text draft no_dot read none in
+    let all = draft.whole in
+    let few = draft.few in
     let only = whole.only name is in
-    let empty = draft-none spelling.octets spelling.len whole.done (omega arith) one whole.holds.written in
+    let empty = draft-none draft.octets draft.len whole.done (omega arith) one whole.holds.written in
     omega (arith, only.0, empty, ap (length {A = List ℕ}) only.1)
-dotted_none spelling differs no_dot read none one (relative {labels = labels} other is is_name) =
-    never_relative spelling read labels none is
+dotted_none draft differs no_dot read none one (relative {labels = labels} other is is_name) =
+    never_relative draft read labels none is
 
 -- if it is open, the name is relative
-pub open_none : {origin : Option (List (List ℕ))} {text : List ℕ} {name : List (List ℕ)} (spelling : Spelling) → origin ≡ None
-    → (text ≡ 46 ∷ [] → ⊥) → (read : IsReadAs text spelling) → 0 < length read.begun → SpellsUnder origin text name → ⊥
-open_none spelling none no_dot read some at = cc
-open_none {text = text} {name = name} spelling none no_dot read some (absolute is) = open_label text spelling no_dot read some name is
-open_none spelling none no_dot read some (relative other is is_name) = cc
+pub open_none : {origin : Option (List (List ℕ))} {text : List ℕ} {name : List (List ℕ)} (draft : NameDraft) → origin ≡ None
+    → (text ≡ 46 ∷ [] → ⊥) → (read : IsReadAs text draft) → 0 < length read.begun → SpellsUnder origin text name → ⊥
+open_none draft none no_dot read some at = cc
+open_none {text = text} {name = name} draft none no_dot read some (absolute is) = open_label text draft no_dot read some name is
+open_none draft none no_dot read some (relative other is is_name) = cc
 
-pub open_spelled : {known : Option (List (List ℕ))} (text : List ℕ) (spelling ended : Spelling) (labels origin : List (List ℕ))
-    → known ≡ Some origin → (text ≡ 64 ∷ [] → ⊥) → (read : IsReadAs text spelling)
+pub open_spelled : {known : Option (List (List ℕ))} (text : List ℕ) (draft ended : NameDraft) (labels origin : List (List ℕ))
+    → known ≡ Some origin → (text ≡ 64 ∷ [] → ⊥) → (read : IsReadAs text draft)
     → Holds ended (read.done ++ read.begun ∷ []) [] → Holds ended labels [] → IsName (labels ++ origin)
     → SpellsUnder known text (labels ++ origin)
-open_spelled text spelling ended labels origin is differs read holds held is_name =
+open_spelled text draft ended labels origin is differs read holds held is_name =
     let same : labels ≡ read.done ++ read.begun ∷ [] =
     holds_one ended _ labels holds (sym (draft-wire ended.octets ended.len labels held.written)) in
     let P : Option (List (List ℕ)) → Type 0 = λ o. SpellsUnder o text (labels ++ origin) in
     let Q : List (List ℕ) → Type 0 = λ l. HasParts text l in
     subst P (sym is) (relative differs (record { parts = subst Q (sym same) read.has; each = held.labels }) is_name)
 
-pub open_long : {known : Option (List (List ℕ))} {text : List ℕ} {name : List (List ℕ)} (spelling : Spelling) (origin : List (List ℕ))
-    → known ≡ Some origin → (text ≡ 64 ∷ [] → ⊥) → (text ≡ 46 ∷ [] → ⊥) → (read : IsReadAs text spelling) → 0 < length read.begun
+pub open_long : {known : Option (List (List ℕ))} {text : List ℕ} {name : List (List ℕ)} (draft : NameDraft) (origin : List (List ℕ))
+    → known ≡ Some origin → (text ≡ 64 ∷ [] → ⊥) → (text ≡ 46 ∷ [] → ⊥) → (read : IsReadAs text draft) → 0 < length read.begun
     → (IsName ((read.done ++ read.begun ∷ []) ++ origin) → ⊥) → SpellsUnder known text name → ⊥
-open_long spelling origin is differs no_dot read some long at = differs refl
-open_long {text = text} {name = name} spelling origin is differs no_dot read some long (absolute spelled) =
-    open_label text spelling no_dot read some name spelled
-open_long spelling origin is differs no_dot read some long (relative {origin = other} {labels = labels} _ spelled is_name) =
+open_long draft origin is differs no_dot read some long at = differs refl
+open_long {text = text} {name = name} draft origin is differs no_dot read some long (absolute spelled) =
+    open_label text draft no_dot read some name spelled
+open_long draft origin is differs no_dot read some long (relative {origin = other} {labels = labels} _ spelled is_name) =
     let same : other ≡ origin = cc in
     let whole : labels ++ other ≡ (read.done ++ read.begun ∷ []) ++ origin =
     ap (λ l. l ++ other) (read.only labels spelled.parts) ∙ ap (λ o. (read.done ++ read.begun ∷ []) ++ o) same in

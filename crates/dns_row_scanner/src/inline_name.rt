@@ -8,7 +8,7 @@ use crate::{InlineName, TextName};
 use arrayvec::ArrayVec;
 use dns_flat::wire_form::wire_of;
 use dns_name::{Name, Octets, ToName};
-use dns_wire::text::Spelling;
+use dns_wire::text::NameDraft;
 use std::alloc::{AllocError, Global};
 
 /// Nothing is allocated, so none of these calls fails.
@@ -20,29 +20,29 @@ impl TextName for InlineName {
         Ok(to_inline_name(name))
     }
 
-    fn of_labels(_alloc: Global, spelling: &Spelling) -> Result<Self, AllocError>
-        requires labels { (labels : List (List ℕ)) × Holds spelling.now labels [] }
-        requires some { IsNew spelling.now → ⊥ }
-        ensures made { IfOk result (λ made. Holds spelling.now made [] × IsName made × (0 < length made)) }
+    fn of_labels(_alloc: Global, draft: &NameDraft) -> Result<Self, AllocError>
+        requires labels { (labels : List (List ℕ)) × Holds draft.now labels [] }
+        requires some { IsNew draft.now → ⊥ }
+        ensures made { IfOk result (λ made. Holds draft.now made [] × IsName made × (0 < length made)) }
         ensures always { IsOk result }
     {
         let mut octets = ArrayVec::new();
-        append(&mut octets, finished_octets(spelling));
+        append(&mut octets, finished_octets(draft));
         Ok(Name::from_octets_unchecked(octets))
     }
 
     fn of_labels_under(
         _alloc: Global,
-        spelling: &Spelling,
+        draft: &NameDraft,
         origin: &Name<Vec<u8>>,
     ) -> Result<Self, AllocError>
-        requires { (labels : List (List ℕ)) × Holds spelling.now labels [] × IsName (labels ++ origin.now) }
-        ensures made { IfOk result (λ made. (labels : List (List ℕ)) × Holds spelling.now labels []
+        requires { (labels : List (List ℕ)) × Holds draft.now labels [] × IsName (labels ++ origin.now) }
+        ensures made { IfOk result (λ made. (labels : List (List ℕ)) × Holds draft.now labels []
             × IsName (labels ++ origin.now) × (made ≡ labels ++ origin.now)) }
         ensures always { IsOk result }
     {
         let mut octets = ArrayVec::new();
-        append(&mut octets, spelling.labels());
+        append(&mut octets, draft.labels());
         append(&mut octets, origin.as_slice());
         Ok(Name::from_octets_unchecked(octets))
     }

@@ -7,7 +7,7 @@ ghost use Rattle.dns_row_scanner.specs.NameInText.{SpellsUnder};
 use crate::text_name::finished_octets;
 use crate::{EntryError, ScannedName, TextName};
 use dns_name::{Chain, Name, Octets, RelativeName, ToName};
-use dns_wire::text::Spelling;
+use dns_wire::text::NameDraft;
 use std::alloc::{AllocError, Global};
 
 impl TextName for ScannedName {
@@ -15,18 +15,18 @@ impl TextName for ScannedName {
         absolute(alloc, name.to_vec(alloc)?)
     }
 
-    fn of_labels(alloc: Global, spelling: &Spelling) -> Result<Self, AllocError> {
-        let octets = Vec::from_slice(alloc, finished_octets(spelling))?;
+    fn of_labels(alloc: Global, draft: &NameDraft) -> Result<Self, AllocError> {
+        let octets = Vec::from_slice(alloc, finished_octets(draft))?;
         absolute(alloc, Name::from_octets_unchecked(octets))
     }
 
     fn of_labels_under(
         alloc: Global,
-        spelling: &Spelling,
+        draft: &NameDraft,
         origin: &Name<Vec<u8>>,
     ) -> Result<Self, AllocError> {
         let _octets = origin.as_slice();
-        match Chain::new(finished_labels(alloc, spelling)?, origin.to_vec(alloc)?) {
+        match Chain::new(finished_labels(alloc, draft)?, origin.to_vec(alloc)?) {
             Ok(scanned) => Ok(scanned),
             Err(_) => unreachable!(),
         }
@@ -60,11 +60,11 @@ pub fn absolute(alloc: Global, name: Name<Vec<u8>>) -> Result<ScannedName, Alloc
 }
 
 /// Returns the finished labels as a relative name. Fails if out of memory.
-fn finished_labels(alloc: Global, spelling: &Spelling) -> Result<RelativeName<Vec<u8>>, AllocError>
-    requires { (labels : List (List ℕ)) × Holds spelling.now labels [] }
-    ensures { IfOk result (λ labels. Holds spelling.now labels []) }
+fn finished_labels(alloc: Global, draft: &NameDraft) -> Result<RelativeName<Vec<u8>>, AllocError>
+    requires { (labels : List (List ℕ)) × Holds draft.now labels [] }
+    ensures { IfOk result (λ labels. Holds draft.now labels []) }
 {
-    match RelativeName::from_octets(Vec::from_slice(alloc, spelling.labels())?) {
+    match RelativeName::from_octets(Vec::from_slice(alloc, draft.labels())?) {
         Ok(labels) => Ok(labels),
         Err(_) => unreachable!(),
     }

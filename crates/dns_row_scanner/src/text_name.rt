@@ -7,7 +7,7 @@ ghost use Rattle.dns_row_scanner.specs.NameInText.{SpellsUnder};
 
 use crate::EntryError;
 use dns_name::{Name, Octets, ToName};
-use dns_wire::text::Spelling;
+use dns_wire::text::NameDraft;
 use std::alloc::{AllocError, Global};
 
 /// A name that the text of a token spells. Its storage is allocated with the given allocator, if it allocates at all.
@@ -18,20 +18,20 @@ pub trait TextName: ToName + Drop + Sized {
 
     /// Returns the name of the finished labels and the root. The caller guarantees that there is a label. Fails if out
     /// of memory.
-    fn of_labels(alloc: Global, spelling: &Spelling) -> Result<Self, AllocError>
-        requires labels { (labels : List (List ℕ)) × Holds spelling.now labels [] }
-        requires some { IsNew spelling.now → ⊥ }
-        ensures { IfOk result (λ made. Holds spelling.now (Self.name made) [] × IsName (Self.name made) × (0 < length (Self.name made))) };
+    fn of_labels(alloc: Global, draft: &NameDraft) -> Result<Self, AllocError>
+        requires labels { (labels : List (List ℕ)) × Holds draft.now labels [] }
+        requires some { IsNew draft.now → ⊥ }
+        ensures { IfOk result (λ made. Holds draft.now (Self.name made) [] × IsName (Self.name made) × (0 < length (Self.name made))) };
 
     /// Returns the name of the finished labels followed by the origin. The caller guarantees that they are a name.
     /// Fails if out of memory.
     fn of_labels_under(
         alloc: Global,
-        spelling: &Spelling,
+        draft: &NameDraft,
         origin: &Name<Vec<u8>>,
     ) -> Result<Self, AllocError>
-        requires { (labels : List (List ℕ)) × Holds spelling.now labels [] × IsName (labels ++ origin.now) }
-        ensures { IfOk result (λ made. (labels : List (List ℕ)) × Holds spelling.now labels []
+        requires { (labels : List (List ℕ)) × Holds draft.now labels [] × IsName (labels ++ origin.now) }
+        ensures { IfOk result (λ made. (labels : List (List ℕ)) × Holds draft.now labels []
             × IsName (labels ++ origin.now) × (Self.name made ≡ labels ++ origin.now)) };
 
     /// Returns the name that a token's text spells under the origin, if one is known (RFC 1035 5.1).
@@ -58,20 +58,20 @@ pub trait TextName: ToName + Drop + Sized {
             };
             return Ok(Self::of_name(alloc, origin)?);
         }
-        let Ok(read) = Spelling::read_text(text) else {
+        let Ok(read) = NameDraft::read_text(text) else {
             return Err(EntryError::Custom("invalid name"));
         };
-        let Some(mut spelling) = read else {
+        let Some(mut draft) = read else {
             return Ok(Self::of_name(alloc, &Name::root_ref())?);
         };
-        if !spelling.has_open_label() {
-            return dotted(alloc, &spelling);
+        if !draft.has_open_label() {
+            return dotted(alloc, &draft);
         }
         let Some(origin) = origin else {
             return Err(EntryError::Custom("relative name without an origin"));
         };
-        match spelling.end_label() {
-            Ok(()) => relative(alloc, &spelling, origin),
+        match draft.end_label() {
+            Ok(()) => relative(alloc, &draft, origin),
             Err(_) => Err(EntryError::Custom("empty label")),
         }
     }
@@ -86,46 +86,46 @@ fn is_at_sign(text: &[u8]) -> bool
 
 /// Returns the name of the finished labels and the root. Fails with `Custom` exactly if there is no label, and with
 /// `OutOfMemory` if out of memory.
-fn dotted<N: TextName>(alloc: Global, spelling: &Spelling) -> Result<N, EntryError>
-    requires { (labels : List (List ℕ)) × Holds spelling.now labels [] }
-    ensures ok { IfOk result (λ made. Holds spelling.now (N.name made) [] × IsName (N.name made) × (0 < length (N.name made))) }
-    ensures err { IfErr result (λ error. is_memory error ≡ false → IsNew spelling.now) }
-    ensures memory { IfErr result (λ error. is_memory error ≡ true → IsNew spelling.now → ⊥) }
+fn dotted<N: TextName>(alloc: Global, draft: &NameDraft) -> Result<N, EntryError>
+    requires { (labels : List (List ℕ)) × Holds draft.now labels [] }
+    ensures ok { IfOk result (λ made. Holds draft.now (N.name made) [] × IsName (N.name made) × (0 < length (N.name made))) }
+    ensures err { IfErr result (λ error. is_memory error ≡ false → IsNew draft.now) }
+    ensures memory { IfErr result (λ error. is_memory error ≡ true → IsNew draft.now → ⊥) }
     ensures end { IfErr result (λ error. is_end error ≡ false) }
 {
-    if spelling.is_new() {
+    if draft.is_new() {
         return Err(EntryError::Custom("empty name"));
     }
-    Ok(N::of_labels(alloc, spelling)?)
+    Ok(N::of_labels(alloc, draft)?)
 }
 
 /// Returns the name of the finished labels followed by the origin. Fails with `Custom` exactly if it is too long, and
 /// with `OutOfMemory` if out of memory.
 fn relative<N: TextName>(
     alloc: Global,
-    spelling: &Spelling,
+    draft: &NameDraft,
     origin: &Name<Vec<u8>>,
 ) -> Result<N, EntryError>
-    requires { (labels : List (List ℕ)) × Holds spelling.now labels [] }
-    ensures ok { IfOk result (λ made. (labels : List (List ℕ)) × Holds spelling.now labels []
+    requires { (labels : List (List ℕ)) × Holds draft.now labels [] }
+    ensures ok { IfOk result (λ made. (labels : List (List ℕ)) × Holds draft.now labels []
         × IsName (labels ++ origin.now) × (N.name made ≡ labels ++ origin.now)) }
-    ensures err { IfErr result (λ error. is_memory error ≡ false → (labels : List (List ℕ)) → Holds spelling.now labels [] → IsName (labels ++ origin.now) → ⊥) }
-    ensures memory { IfErr result (λ error. is_memory error ≡ true → (labels : List (List ℕ)) × Holds spelling.now labels [] × IsName (labels ++ origin.now)) }
+    ensures err { IfErr result (λ error. is_memory error ≡ false → (labels : List (List ℕ)) → Holds draft.now labels [] → IsName (labels ++ origin.now) → ⊥) }
+    ensures memory { IfErr result (λ error. is_memory error ≡ true → (labels : List (List ℕ)) × Holds draft.now labels [] × IsName (labels ++ origin.now)) }
     ensures end { IfErr result (λ error. is_end error ≡ false) }
 {
-    if spelling.labels().len() + origin.len() > 255 {
+    if draft.labels().len() + origin.len() > 255 {
         return Err(EntryError::Custom("long domain name"));
     }
-    Ok(N::of_labels_under(alloc, spelling, origin)?)
+    Ok(N::of_labels_under(alloc, draft, origin)?)
 }
 
 /// Returns the octets of the finished labels and the root. The caller guarantees that there is a label.
-pub(crate) fn finished_octets(spelling: &Spelling) -> &[u8]
-    requires labels { (labels : List (List ℕ)) × Holds spelling.now labels [] }
-    requires some { IsNew spelling.now → ⊥ }
-    ensures { (name : List (List ℕ)) × Holds spelling.now name [] × IsName name × (0 < length name) × (result.now ≡ wire name) }
+pub(crate) fn finished_octets(draft: &NameDraft) -> &[u8]
+    requires labels { (labels : List (List ℕ)) × Holds draft.now labels [] }
+    requires some { IsNew draft.now → ⊥ }
+    ensures { (name : List (List ℕ)) × Holds draft.now name [] × IsName name × (0 < length name) × (result.now ≡ wire name) }
 {
-    match spelling.finished() {
+    match draft.finished() {
         Ok(octets) => octets,
         Err(_) => unreachable!(),
     }

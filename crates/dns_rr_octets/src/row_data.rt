@@ -20,7 +20,7 @@ ghost use Rattle.dns_text.specs.Document.Layout.{Simple};
 ghost use Rattle.dns_text.specs.Documents.{block_of};
 
 use dns_fields::{
-    CanonicalOctetsOrd, ConvertRow, DataType, FrontRow, HasFields, OverOctets, ReadRow, Row, RowOf,
+    CanonicalOctetsOrd, ConvertRow, DataType, RowOctetsOrd, HasFields, OverOctets, ReadRow, Row, RowOf,
     ScanRow, ShowRow, canonical_row_cmp_octets, compose_canonical_row, compose_row, read_row,
     row_len, scan_row_of, show_row,
 };
@@ -234,7 +234,7 @@ impl<T, R: Row> CanonicalOrd for RowData<T, R> {
 }
 
 /// The same order, against data that is held as octets.
-impl<T: DataType, R: Row + FrontRow> CanonicalOctetsOrd for RowData<T, R> {
+impl<T: DataType, R: Row + RowOctetsOrd> CanonicalOctetsOrd for RowData<T, R> {
     fn canonical_octets_cmp(&self, octets: &[u8]) -> Ordering {
         canonical_row_cmp_octets(&self.row, octets)
     }

@@ -11,7 +11,7 @@ use Rattle.dns_fields.specs.Fields.{Field, Kind, field_octets, kind_of, kinds_of
 use Rattle.dns_fields.specs.Scanned.{NoRowScans, ScansData, ScansField, ScansLong, ScansRow}
 use Rattle.dns_fields.specs.Written.{written_field, written_parts}
 use Rattle.dns_fields.proofs.ScanParts.{no_others, row_scanned}
-use Rattle.dns_rdata.specs.Data.{IsUnmarked, typed, untyped}
+use Rattle.dns_rdata.specs.Data.{IsUnmarked, typed, unknown_data}
 use Rattle.dns_rdata.specs.DataOctets.{data_octets}
 use Rattle.dns_rdata.proofs.ScanAny.{same_back, text_same}
 use Rattle.dns_scan_data.specs.Appended.{AppendsData, AppendsField, AppendsRow, AppendsTyped, GoesOn}
@@ -106,30 +106,30 @@ data_typed {rtype = rtype} unmarked appends = record {
   scans = (unmarked, refl, appends.scans);
   short = appends.scans.short;
   behind = appends.behind;
-  opaque = refl;
+  unknown_is = refl;
 }
 
-pub data_opaque : (names : Names) (rtype : ℕ) (tokens left : List Token) (old new more : List ℕ) → IsUnknownData tokens more → left ≡ []
+pub data_unknown : (names : Names) (rtype : ℕ) (tokens left : List Token) (old new more : List ℕ) → IsUnknownData tokens more → left ≡ []
     → length more ≤ 65535 → new ≡ old ++ more → AppendsData names rtype (marker ∷ tokens) left old new true
-data_opaque names rtype tokens left old new more is ends short behind = record {
-  rdata = untyped (record { number = rtype; octets = more });
+data_unknown names rtype tokens left old new more is ends short behind = record {
+  rdata = unknown_data (record { number = rtype; octets = more });
   scans = (refl, tokens, refl, is, ends);
   short = short;
   behind = behind;
-  opaque = refl;
+  unknown_is = refl;
 }
 
 -- the same data, if the tokens and the spelling of names are the same
 pub data_moved : {E : Type 0} (result : Result Bool E) (names later : Names) → SameNames names later → (rtype : ℕ)
     (before after left : List Token) → before ≡ after → (old new : List ℕ)
-    → IfOk result (λ untyped. AppendsData later rtype before left old new untyped)
-    → IfOk result (λ untyped. AppendsData names rtype after left old new untyped)
-data_moved (Ok opaque) names later same rtype before after left is old new appends = record {
+    → IfOk result (λ unknown. AppendsData later rtype before left old new unknown)
+    → IfOk result (λ unknown. AppendsData names rtype after left old new unknown)
+data_moved (Ok unknown) names later same rtype before after left is old new appends = record {
   rdata = appends.rdata;
   scans = text_same later names (same_back names later same) rtype before after is appends.rdata left appends.scans;
   short = appends.short;
   behind = appends.behind;
-  opaque = appends.opaque;
+  unknown_is = appends.unknown_is;
 }
 data_moved (Err error) names later same rtype before after left is old new appends = tt
 
@@ -140,6 +140,6 @@ gone_same {old} same = record { more = []; is = same ∙ sym (append-nil old) }
 pub gone_by : {old new : List ℕ} (more : List ℕ) → new ≡ old ++ more → GoesOn old new
 gone_by more is = record { more = more; is = is }
 
-pub went : {names : Names} {rtype : ℕ} {tokens left : List Token} {old new : List ℕ} {untyped : Bool}
-    → AppendsData names rtype tokens left old new untyped → GoesOn old new
+pub went : {names : Names} {rtype : ℕ} {tokens left : List Token} {old new : List ℕ} {unknown : Bool}
+    → AppendsData names rtype tokens left old new unknown → GoesOn old new
 went appends = record { more = data_octets appends.rdata; is = appends.behind }

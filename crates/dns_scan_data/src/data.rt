@@ -31,38 +31,38 @@ pub fn scan_data_into<S: OctetsScanner>(
 where
     S::Name: Drop,
     S::Error: Drop,
-    ensures ok { IfOk result (λ untyped. AppendsData (S.names scanner.old) rtype (S.tokens scanner.old) (S.tokens scanner.new)
-        octets.old.items octets.new.items untyped) }
+    ensures ok { IfOk result (λ unknown. AppendsData (S.names scanner.old) rtype (S.tokens scanner.old) (S.tokens scanner.new)
+        octets.old.items octets.new.items unknown) }
     ensures err { IfErr result (λ error. S.Error.is_short error ≡ false
         → NoAnyDataScans (S.names scanner.old) rtype (S.tokens scanner.old)) }
     ensures same { OnErr result (octets.new.items ≡ octets.old.items) }
     ensures names { SameNames (S.names scanner.old) (S.names scanner.new) }
 {
     match scanner.scan_opt_unknown_marker() {
-        Ok(true) => scan_opaque_into(rtype, scanner, octets),
+        Ok(true) => scan_unknown_into(rtype, scanner, octets),
         Ok(false) => scan_typed_into(rtype, scanner, octets),
         Err(error) => Err(error),
     }
 }
 
 /// Scans unknown data of the type after its marker.
-fn scan_opaque_into<S: Scanner>(
+fn scan_unknown_into<S: Scanner>(
     rtype: Rtype,
     scanner: &mut S,
     octets: &mut Vec<u8>,
 ) -> Result<bool, S::Error>
-    ensures ok { IfOk result (λ untyped. AppendsData (S.names scanner.old) rtype (marker ∷ S.tokens scanner.old)
-        (S.tokens scanner.new) octets.old.items octets.new.items untyped) }
+    ensures ok { IfOk result (λ unknown. AppendsData (S.names scanner.old) rtype (marker ∷ S.tokens scanner.old)
+        (S.tokens scanner.new) octets.old.items octets.new.items unknown) }
     ensures err { IfErr result (λ error. S.Error.is_short error ≡ false
         → NoAnyDataScans (S.names scanner.old) rtype (marker ∷ S.tokens scanner.old)) }
     ensures same { OnErr result (octets.new.items ≡ octets.old.items) }
     ensures names { SameNames (S.names scanner.old) (S.names scanner.new) }
 {
-    let opaque = match scan_unknown_octets(scanner) {
-        Ok(opaque) => opaque,
+    let unknown = match scan_unknown_octets(scanner) {
+        Ok(unknown) => unknown,
         Err(error) => return Err(error),
     };
-    match octets.extend_from_slice(opaque.octets()) {
+    match octets.extend_from_slice(unknown.octets()) {
         Ok(()) => Ok(true),
         Err(_) => Err(S::Error::short_buf()),
     }
@@ -78,8 +78,8 @@ where
     S::Name: Drop,
     S::Error: Drop,
     requires { IsUnmarked (S.tokens scanner.old) }
-    ensures ok { IfOk result (λ untyped. AppendsData (S.names scanner.old) rtype (S.tokens scanner.old) (S.tokens scanner.new)
-        octets.old.items octets.new.items untyped) }
+    ensures ok { IfOk result (λ unknown. AppendsData (S.names scanner.old) rtype (S.tokens scanner.old) (S.tokens scanner.new)
+        octets.old.items octets.new.items unknown) }
     ensures err { IfErr result (λ error. S.Error.is_short error ≡ false
         → NoAnyDataScans (S.names scanner.old) rtype (S.tokens scanner.old)) }
     ensures same { OnErr result (octets.new.items ≡ octets.old.items) }

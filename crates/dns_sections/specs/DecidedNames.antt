@@ -4,8 +4,8 @@ use Rattle.std.specs.List.{AllByRecursion}
 use Rattle.std.proofs.Common.{inl, inr, refl, sym, ap, subst, arith, ◌∙◌, length-append}
 use Rattle.std.proofs.lemmas.List.{take-append-drop, length-take-le, drop_all}
 use Rattle.dns_label.specs.Name.{IsLabel, wire}
-use Rattle.dns_label.specs.Spelled.{Spells, Reads}
-use Rattle.dns_label.specs.Spelled.Spells.{root, label, pointer}
+use Rattle.dns_label.specs.Spelled.{EncodesName, DecodesName}
+use Rattle.dns_label.specs.Spelled.EncodesName.{root, label, pointer}
 use Rattle.dns_label.proofs.Spelling.{labels_from-spelled}
 use Rattle.dns_sections.specs.Decision.{Decision, both, below, decide-below}
 
@@ -13,13 +13,13 @@ use Rattle.dns_sections.specs.Decision.{Decision, both, below, decide-below}
 pub record Spelled (message : List ℕ) (pointers place : ℕ) : Type 0 where
   pub name : List (List ℕ)
   pub next : ℕ
-  pub spells : Spells message pointers place name next
+  pub spells : EncodesName message pointers place name next
 
 -- a name that is read at a place, and the place after it
 pub record Named (message : List ℕ) (place : ℕ) : Type 0 where
   pub name : List (List ℕ)
   pub next : ℕ
-  pub reads : Reads message place name next
+  pub reads : DecodesName message place name next
 
 -- a label of `first` octets is whole, and a name follows it
 record GoesOn (message : List ℕ) (pointers place first : ℕ) (rest : List ℕ) : Type 0 where
@@ -32,14 +32,14 @@ LeadsBack message zero place target = ⊥
 LeadsBack message (suc pointers) place target = (target < place) × Spelled message pointers target
 
 -- what the first octets tell of a name that is spelled
-no-octet : (message : List ℕ) {pointers place next : ℕ} {name : List (List ℕ)} → Spells message pointers place name next
+no-octet : (message : List ℕ) {pointers place next : ℕ} {name : List (List ℕ)} → EncodesName message pointers place name next
     → drop place message ≡ [] → ⊥
 no-octet message (root rest is) at = cc
 no-octet message (label rest is is_label parent) at = cc
 no-octet message (pointer first second after rest is both_bits back name) at = cc
 
 label-on : (message : List ℕ) (first : ℕ) (others : List ℕ) {pointers place next : ℕ} {name : List (List ℕ)}
-    → Spells message pointers place name next → drop place message ≡ first ∷ others → 0 < first → first < 64
+    → EncodesName message pointers place name next → drop place message ≡ first ∷ others → 0 < first → first < 64
     → GoesOn message pointers place first others
 label-on message first others (root rest is) at some short = let none : 0 ≡ first = cc in absurd (omega arith)
 label-on message first others {pointers} {place} (label {next = next} {label = text} {parent = parent} rest is is_label spells) at some short =
@@ -52,14 +52,14 @@ label-on message first others (pointer octet second after rest is both_bits back
     let same : octet ≡ first = cc in absurd (omega arith)
 
 undefined : (message : List ℕ) (first : ℕ) (others : List ℕ) {pointers place next : ℕ} {name : List (List ℕ)}
-    → Spells message pointers place name next → drop place message ≡ first ∷ others → 64 ≤ first → first < 192 → ⊥
+    → EncodesName message pointers place name next → drop place message ≡ first ∷ others → 64 ≤ first → first < 192 → ⊥
 undefined message first others (root rest is) at large small = let none : 0 ≡ first = cc in omega arith
 undefined message first others (label {label = text} rest is is_label parent) at large small =
     let same : length text ≡ first = cc in omega (arith, is_label.short)
 undefined message first others (pointer octet second after rest is both_bits back name) at large small =
     let same : octet ≡ first = cc in omega arith
 
-half : (message : List ℕ) (first : ℕ) {pointers place next : ℕ} {name : List (List ℕ)} → Spells message pointers place name next
+half : (message : List ℕ) (first : ℕ) {pointers place next : ℕ} {name : List (List ℕ)} → EncodesName message pointers place name next
     → drop place message ≡ first ∷ [] → 192 ≤ first → ⊥
 half message first (root rest is) at large = let none : 0 ≡ first = cc in omega arith
 half message first (label {label = text} rest is is_label parent) at large =
@@ -67,7 +67,7 @@ half message first (label {label = text} rest is is_label parent) at large =
 half message first (pointer octet second after rest is both_bits back name) at large = cc
 
 pointer-back : (message : List ℕ) (first second : ℕ) (others : List ℕ) {pointers place next : ℕ} {name : List (List ℕ)}
-    → Spells message pointers place name next → drop place message ≡ first ∷ second ∷ others → 192 ≤ first
+    → EncodesName message pointers place name next → drop place message ≡ first ∷ second ∷ others → 192 ≤ first
     → LeadsBack message pointers place (256 * (first - 192) + second)
 pointer-back message first second others (root rest is) at large = let none : 0 ≡ first = cc in absurd (omega arith)
 pointer-back message first second others (label {label = text} rest is is_label parent) at large =
@@ -93,7 +93,7 @@ module _ (message : List ℕ) (pointers : ℕ) (leads : (place target : ℕ) →
       let long : length (take first rest) ≡ first = length-take-le first rest whole in
       let parts : take first rest ++ drop first rest ≡ rest = take-append-drop first rest in
       let here : drop place message ≡ length (take first rest) ∷ take first rest ++ drop first rest = at ∙ (λ i. sym long i ∷ sym parts i) in
-      let spells = subst (λ n. Spells message pointers (place + 1 + n) parent.name parent.next) (sym long) parent.spells in record {
+      let spells = subst (λ n. EncodesName message pointers (place + 1 + n) parent.name parent.next) (sym long) parent.spells in record {
         name = take first rest ∷ parent.name;
         next = parent.next;
         spells = label (drop first rest) here (record { some = omega (arith, long, some); short = omega (arith, long, short) }) spells;
@@ -157,13 +157,13 @@ decide-spelled message (suc pointers) place =
     (spelled-pointer message pointers) (length message) place (omega arith)
 
 -- one name is spelled at a place, of labels
-spelled-one : {message : List ℕ} {pointers place next end : ℕ} {name other : List (List ℕ)} → Spells message pointers place name next
-    → Spells message pointers place other end → name ≡ other
+spelled-one : {message : List ℕ} {pointers place next end : ℕ} {name other : List (List ℕ)} → EncodesName message pointers place name next
+    → EncodesName message pointers place other end → name ≡ other
 spelled-one {message} {pointers} {name = name} {other = other} spells others =
     let heads = pointers + length name + length other + 1 in
     sym (labels_from-spelled message heads spells (omega arith)) ∙ labels_from-spelled message heads others (omega arith)
 
-spelled-labels : (message : List ℕ) {pointers place next : ℕ} {name : List (List ℕ)} → Spells message pointers place name next
+spelled-labels : (message : List ℕ) {pointers place next : ℕ} {name : List (List ℕ)} → EncodesName message pointers place name next
     → AllByRecursion IsLabel name
 spelled-labels message (root rest is) = tt
 spelled-labels message (label rest is is_label parent) = (is_label, spelled-labels message parent)

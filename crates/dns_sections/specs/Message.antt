@@ -12,5 +12,5 @@ abbrev pub octets_in : {Octs : Type 0} {ghosts : _} → (Octs → List ℕ) → 
 octets_in list message = list message.octets
 
 -- the octets over a slice
-abbrev pub octets_of : {ghosts : _} → Message (Bor (List ℕ)) ghosts → List ℕ
-octets_of message = message.octets.now
+abbrev pub message_octets : {ghosts : _} → Message (Bor (List ℕ)) ghosts → List ℕ
+message_octets message = message.octets.now

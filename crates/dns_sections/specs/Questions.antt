@@ -1,6 +1,6 @@
 -- Questions as the items of a section (RFC 1035 4.1.2).
 use Rattle.std.specs.Prelude.{◌⊎◌, ℕ, List, Ok}
-use Rattle.dns_label.specs.Spelled.{Reads}
+use Rattle.dns_label.specs.Spelled.{DecodesName}
 use Rattle.dns_wire.specs.Cut.{IsCut}
 use Rattle.dns_wire.specs.Skip.{Skips}
 use Rattle.dns_header.specs.Header.{question_count}
@@ -18,7 +18,7 @@ NoQuestion message place = (question : Question) (next : ℕ) → ReadsQuestion 
 -- the message ends too early for a question: in its name or after it
 abbrev pub QuestionIsCut : List ℕ → ℕ → Type 0
 QuestionIsCut message place =
-    IsCut message 255 254 place ⊎ ((name : List (List ℕ)) × EndsInQuestion message (Reads message place name))
+    IsCut message 255 254 place ⊎ ((name : List (List ℕ)) × EndsInQuestion message (DecodesName message place name))
 
 -- the same if no pointer is followed
 abbrev pub QuestionSkipIsCut : List ℕ → ℕ → Type 0

@@ -5,14 +5,14 @@ use Rattle.std.specs.Int.{to_be_bytes, w16}
 use Rattle.std.proofs.Math.Seq.{take-append_seam, drop-append_seam}
 use Rattle.dns_octets.specs.Builder.{Known}
 use Rattle.dns_label.specs.Name.{IsName}
-use Rattle.dns_label.specs.Spelled.{Reads}
+use Rattle.dns_label.specs.Spelled.{DecodesName}
 use Rattle.dns_name.specs.Spelling.{Spelling, folded, name_text, known_after}
 use Rattle.dns_name.specs.Page.{Page, Parts, with_octets, with_name, write}
 use Rattle.dns_name.specs.Page.Parts.{End, Octets, Named, Counted}
 use Rattle.dns_name.specs.RecordData.{counted_length}
 use Rattle.dns_name.specs.Remembered.{IsSound}
-use Rattle.dns_name.specs.SpelledParts.{Spells}
-use Rattle.dns_name.specs.SpelledParts.Spells.{nothing, octets as spells_octets, named as spells_named, counted as spells_counted}
+use Rattle.dns_name.specs.SpelledParts.{SpellsParts}
+use Rattle.dns_name.specs.SpelledParts.SpellsParts.{nothing, octets as spells_octets, named as spells_named, counted as spells_counted}
 use Rattle.dns_name.proofs.Soundness.{IsSound-append, IsSound-name}
 use Rattle.dns_spelling.specs.Alike.{AreAlike, HaveNames, LengthsFit, SpellsAlike}
 use Rattle.dns_spelling.specs.Alike.AreAlike.{end, octets as alike_octets, named as alike_named, counted as alike_counted}
@@ -66,11 +66,11 @@ module _ (s : Spelling) where
 name_at : (s : Spelling) (known : Known) (octets : List ℕ) (place : ℕ) → place ≡ length octets → (name : List (List ℕ)) → IsSound s known octets → IsName name
     → IsSound s (known_after s known place name) (octets ++ name_text s known place name)
     × ((more : List ℕ) → (read : List (List ℕ)) × (map (folded s) name ≡ map (folded s) read)
-    × Reads (octets ++ (name_text s known place name ++ more)) place read (place + length (name_text s known place name)))
+    × DecodesName (octets ++ (name_text s known place name ++ more)) place read (place + length (name_text s known place name)))
 name_at s known octets place is name sound is_name =
     let P : ℕ → Type 0 = λ n. IsSound s (known_after s known n name) (octets ++ name_text s known n name)
     × ((more : List ℕ) → (read : List (List ℕ)) × (map (folded s) name ≡ map (folded s) read)
-    × Reads (octets ++ (name_text s known n name ++ more)) n read (n + length (name_text s known n name))) in
+    × DecodesName (octets ++ (name_text s known n name ++ more)) n read (n + length (name_text s known n name))) in
     subst P (sym is) (IsSound-name name is_name sound, λ more. name_read s known octets more name sound is_name)
 
 -- octets joined one after another
@@ -115,7 +115,7 @@ pub parts_read : (s : Spelling) (known : Known) (octets : List ℕ) (place : ℕ
 parts_read s known octets place is End sound names fits more = record {
   read = End;
   alike = end;
-  spelled = subst (λ n. Spells (octets ++ more) place End n) (omega arith) (nothing (omega (arith, is, length-append octets more)));
+  spelled = subst (λ n. SpellsParts (octets ++ more) place End n) (omega arith) (nothing (omega (arith, is, length-append octets more)));
 }
 parts_read s known octets place is (Octets text parts) sound names fits more =
     let t : Page = tail s known (place + length text) parts in
@@ -126,9 +126,9 @@ parts_read s known octets place is (Octets text parts) sound names fits more =
     record {
       read = Octets text found.read;
       alike = alike_octets text found.alike;
-      spelled = subst (λ n. Spells message place (Octets text found.read) n) (omega (arith, length-append text t.octets))
+      spelled = subst (λ n. SpellsParts message place (Octets text found.read) n) (omega (arith, length-append text t.octets))
           (spells_octets (t.octets ++ more) at
-          (subst (λ m. Spells m (place + length text) found.read (place + length text + length t.octets)) (joined octets text t.octets more) found.spelled));
+          (subst (λ m. SpellsParts m (place + length text) found.read (place + length text + length t.octets)) (joined octets text t.octets more) found.spelled));
     }
 parts_read s known octets place is (Named name parts) sound names fits more =
     let text : List ℕ = name_text s known place name in
@@ -140,10 +140,10 @@ parts_read s known octets place is (Named name parts) sound names fits more =
     record {
       read = Named own.0 found.read;
       alike = alike_named own.1 found.alike;
-      spelled = subst (λ n. Spells message place (Named own.0 found.read) n) (omega (arith, length-append text t.octets))
+      spelled = subst (λ n. SpellsParts message place (Named own.0 found.read) n) (omega (arith, length-append text t.octets))
           (spells_named (place + length text)
-          (subst (λ l. Reads (octets ++ l) place own.0 (place + length text)) (sym (append_assoc text t.octets more)) own.2)
-          (subst (λ m. Spells m (place + length text) found.read (place + length text + length t.octets)) (joined octets text t.octets more) found.spelled));
+          (subst (λ l. DecodesName (octets ++ l) place own.0 (place + length text)) (sym (append_assoc text t.octets more)) own.2)
+          (subst (λ m. SpellsParts m (place + length text) found.read (place + length text + length t.octets)) (joined octets text t.octets more) found.spelled));
     }
 parts_read s known octets place is (Counted inner parts) sound names fits more =
     let t : Page = tail s known (place + 2) inner in
@@ -175,10 +175,10 @@ parts_read s known octets place is (Counted inner parts) sound names fits more =
     record {
       read = Counted inside.read found.read;
       alike = alike_counted inside.alike found.alike;
-      spelled = subst (λ k. Spells message place (Counted inside.read found.read) k) long
+      spelled = subst (λ k. SpellsParts message place (Counted inside.read found.read) k) long
           (spells_counted n (t.octets ++ (u.octets ++ more)) at fits.0 within
-          (subst (λ m. Spells m (place + 2) inside.read (place + 2 + n)) (cut_is ∙ cut) inside.spelled)
-          (subst (λ m. Spells m (place + 2 + n) found.read (place + 2 + n + length u.octets)) whole found.spelled));
+          (subst (λ m. SpellsParts m (place + 2) inside.read (place + 2 + n)) (cut_is ∙ cut) inside.spelled)
+          (subst (λ m. SpellsParts m (place + 2 + n) found.read (place + 2 + n + length u.octets)) whole found.spelled));
     }
 
 module _ (s : Spelling) (page : Page) (parts : Parts) where

@@ -4,7 +4,7 @@ use Rattle.std.specs.Coded.{Coded-set, coded_ℕ, coded_list}
 use mathlib.Core.Logic.{∥∥₁_elim}
 use Rattle.dns_octets.specs.Builder.{Standing, Known}
 use Rattle.dns_label.specs.Name.{wire}
-use Rattle.dns_label.specs.Spelled.{Reads}
+use Rattle.dns_label.specs.Spelled.{DecodesName}
 use Rattle.dns_label.specs.Labels.{labels_at}
 use Rattle.dns_label.proofs.Spelling.{labels_at-reads}
 use Rattle.dns_wire.proofs.Case.{wire_one}
@@ -16,7 +16,7 @@ use Rattle.dns_spelling.proofs.SameNames.{same_name, length-same}
 -- the name that is read at the place of a suffix
 pub record IsThere (s : Spelling) (octets : List ℕ) (standing : Standing) : Type 0 where
   pub name : List (List ℕ)
-  pub reads : Reads octets standing.place name standing.stop
+  pub reads : DecodesName octets standing.place name standing.stop
   pub suffix_is : standing.suffix ≡ remembered_form s name
 
 few_labels : (name : List (List ℕ)) → length name < length (wire name)
@@ -33,7 +33,7 @@ there s known octets sound standing is =
     let found = at.reads 255 (omega (arith, length-same s at.name stands.name forms, few_labels stands.name, stands.is_name.short)) in
     record {
       name = found.read;
-      reads = subst (λ l. Reads l standing.place found.read standing.stop) (append-nil octets)
+      reads = subst (λ l. DecodesName l standing.place found.read standing.stop) (append-nil octets)
           (record { spelled = found.spelled; is_name = same_name s stands.name found.read (sym forms ∙ found.same) stands.is_name });
       suffix_is = at.suffix_is ∙ ap wire found.same;
     }

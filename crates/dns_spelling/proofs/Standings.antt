@@ -5,9 +5,9 @@ use Rattle.std.proofs.Math.Seq.{drop-append_seam}
 use Rattle.std.proofs.lemmas.List.{drop-drop}
 use Rattle.dns_octets.specs.Builder.{Standing, Known}
 use Rattle.dns_label.specs.Name.{IsLabel, IsName, wire}
-use Rattle.dns_label.specs.Spelled.{Reads}
-use Rattle.dns_label.specs.Spelled.{Spells as SpellsAt}
-use Rattle.dns_label.specs.Spelled.Spells.{root as root_at, label as label_at, pointer as pointer_at}
+use Rattle.dns_label.specs.Spelled.{DecodesName}
+use Rattle.dns_label.specs.Spelled.{EncodesName}
+use Rattle.dns_label.specs.Spelled.EncodesName.{root as root_at, label as label_at, pointer as pointer_at}
 use Rattle.dns_name.specs.Spelling.{Spelling, folded, remembered_form, pointer_to, name_text}
 use Rattle.dns_name.specs.Remembered.{IsKnown, SpellsName, SpellsLabelled, StandsIn, IsSound}
 use Rattle.dns_name.specs.Remembered.SpellsName.{root, label, pointer}
@@ -20,7 +20,7 @@ use Rattle.dns_spelling.proofs.SameNames.{same_names, length-same, same_label, s
 pub record ReadsAlike (s : Spelling) (message : List ℕ) (pointers place : ℕ) (name : List (List ℕ)) (next : ℕ) : Type 0 where
   pub read : List (List ℕ)
   pub same : map (folded s) name ≡ map (folded s) read
-  pub spelled : SpellsAt message pointers place read next
+  pub spelled : EncodesName message pointers place read next
 
 -- a remembered suffix is read at its place, with as many pointers as its parent has labels
 pub record IsStanding (s : Spelling) (message : List ℕ) (standing : Standing) : Type 0 where
@@ -46,10 +46,10 @@ after_label message place text rest at =
 
 pointed : (s : Spelling) (message : List ℕ) (place : ℕ) (rest : List ℕ) (target k after : ℕ) (read : List (List ℕ))
     → drop place message ≡ pointer_to target ++ rest → target < place → target < 16384
-    → SpellsAt message k target read after → SpellsAt message (suc k) place read (place + 2)
+    → EncodesName message k target read after → EncodesName message (suc k) place read (place + 2)
 pointed s message place rest target k after read at before near on =
     let back : target ≡ 256 * (192 + target / 256 - 192) + target % 256 = omega arith in
-    let P : ℕ → Type 0 = λ t. SpellsAt message k t read after in
+    let P : ℕ → Type 0 = λ t. EncodesName message k t read after in
     pointer_at (192 + target / 256) (target % 256) after rest at (omega arith) (omega arith) (subst P back on)
 
 point_read : (s : Spelling) (message : List ℕ) (target : Standing) (place : ℕ) (name : List (List ℕ)) (rest : List ℕ) (k end : ℕ)
@@ -63,7 +63,7 @@ point_read s message target place name rest (suc k) end on at before ends _ stan
     record {
       read = found.read;
       same = same ∙ found.same;
-      spelled = subst (λ n. SpellsAt message (suc k) place found.read n) ends
+      spelled = subst (λ n. EncodesName message (suc k) place found.read n) ends
           (pointed s message place rest target.place k target.stop found.read at (omega (arith, standing.before)) standing.near found.spelled);
     }
 
@@ -76,7 +76,7 @@ pub spelled_read : (s : Spelling) (known : Known) (message : List ℕ) (end : �
 spelled_read s known message end targets {place} root rest at ends labels k few = record {
   read = [];
   same = refl;
-  spelled = subst (λ n. SpellsAt message k place [] n) ends (root_at rest at);
+  spelled = subst (λ n. EncodesName message k place [] n) ends (root_at rest at);
 }
 spelled_read s known message end targets {place} (label {behind = behind} {parent = parent} text own same is) rest at ends labels k few =
     let here : drop place message ≡ length text ∷ text ++ (behind ++ rest) = at ∙ ap (λ (l : List ℕ). length text ∷ l) (append_assoc text behind rest) in
@@ -149,7 +149,7 @@ standings_read s known octets more sound (suc n) standing is before =
 pub name_read : (s : Spelling) (known : Known) (octets more : List ℕ) (name : List (List ℕ)) → IsSound s known octets → IsName name
     → let text = name_text s known (length octets) name in
     (read : List (List ℕ)) × (map (folded s) name ≡ map (folded s) read)
-    × Reads (octets ++ (text ++ more)) (length octets) read (length octets + length text)
+    × DecodesName (octets ++ (text ++ more)) (length octets) read (length octets + length text)
 unfolding name_text
 name_read s known octets more name sound is_name =
     let split = split_of s known (length octets) name in

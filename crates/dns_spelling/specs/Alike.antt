@@ -5,7 +5,7 @@ use Rattle.dns_name.specs.Spelling.{Spelling, folded}
 use Rattle.dns_name.specs.Page.{Page, Parts, with_octets, with_name, write}
 use Rattle.dns_name.specs.Page.Parts.{End, Octets, Named, Counted}
 use Rattle.dns_name.specs.RecordData.{counted_length}
-use Rattle.dns_name.specs.SpelledParts.{Spells}
+use Rattle.dns_name.specs.SpelledParts.{SpellsParts}
 
 -- the same parts, names as the spelling compares them
 pub data AreAlike (s : Spelling) : Parts → Parts → Type 0 where
@@ -35,4 +35,4 @@ LengthsFit s page (Counted inner parts) =
 pub record SpellsAlike (s : Spelling) (message : List ℕ) (place : ℕ) (parts : Parts) (next : ℕ) : Type 0 where
   pub read : Parts
   pub alike : AreAlike s parts read
-  pub spelled : Spells message place read next
+  pub spelled : SpellsParts message place read next

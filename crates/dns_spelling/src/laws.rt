@@ -3,7 +3,7 @@ ghost use Rattle.std.specs.Prelude.{◌≡◌, ◌++◌, ℕ, List, length, fals
 ghost use Rattle.dns_name.specs.Spelling.{Spelling};
 ghost use Rattle.dns_name.specs.Page.{Page, Parts, write};
 ghost use Rattle.dns_name.specs.Remembered.{IsSound};
-ghost use Rattle.dns_name.specs.SpelledParts.{Spells};
+ghost use Rattle.dns_name.specs.SpelledParts.{SpellsParts};
 ghost use Rattle.dns_spelling.specs.Alike.{AreAlike, HaveNames, LengthsFit, SpellsAlike};
 
 /// If each remembered suffix of a page is in its octets, the octets added for some parts spell these parts, whatever

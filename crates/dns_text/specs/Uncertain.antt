@@ -2,7 +2,7 @@
 use Rattle.std.specs.Prelude.{◌≡◌, ◌++◌, Bool, true, false, List, ℕ, Option}
 use Rattle.dns_label.specs.Name.{IsName, labels_wire, wire, with_root}
 use Rattle.dns_label.specs.Printed.{printed_name}
-use Rattle.dns_wire.specs.Parsed.{StandsAt}
+use Rattle.dns_wire.specs.Parsed.{LabelsStandAt}
 use Rattle.dns_flat.specs.Relative.{StandsIn as stands_in_relative}
 use Rattle.dns_flat.specs.PrintedLabels.{printed_relative}
 use Rattle.dns_label.specs.NameText.{IsEitherText}
@@ -29,9 +29,9 @@ chained_labels (Absolute name) suffix = with_root name
 chained_labels (Relative name) suffix = name ++ suffix
 
 -- the octets on the wire
-abbrev pub octets_of : {O : Type 0} → UncertainName O → List ℕ
-octets_of (Absolute name) = wire name
-octets_of (Relative name) = labels_wire name
+abbrev pub uncertain_octets : {O : Type 0} → UncertainName O → List ℕ
+uncertain_octets (Absolute name) = wire name
+uncertain_octets (Relative name) = labels_wire name
 
 -- how the name is printed: its last dot says that it is absolute
 abbrev pub text_of : {O : Type 0} → UncertainName O → List ℕ
@@ -40,7 +40,7 @@ text_of (Relative name) = printed_relative name
 
 -- the label with this number is at this place
 abbrev pub StandsIn : {O : Type 0} → UncertainName O → ℕ → Option ℕ → Type 0
-StandsIn (Absolute name) index place = StandsAt (wire name) (with_root name) index place
+StandsIn (Absolute name) index place = LabelsStandAt (wire name) (with_root name) index place
 StandsIn (Relative name) index place = stands_in_relative (labels_wire name) name index place
 
 -- octets that are no name

@@ -4,7 +4,7 @@ use Rattle.dns_label.specs.Name.{labels_wire, wire, with_root}
 use Rattle.dns_wire.specs.Chain.{StandsInOne}
 use Rattle.dns_flat.specs.ChainLaws.{rooted_behind}
 use Rattle.dns_flat.specs.ChainParts.{left_of, right_of}
-use Rattle.dns_wire.specs.Parsed.{StandsAt}
+use Rattle.dns_wire.specs.Parsed.{LabelsStandAt}
 use Rattle.dns_flat.specs.Relative.{StandsIn as stands_in_relative}
 use Rattle.dns_text.specs.declared.uncertain.chain.UncertainChain.{UncertainChain}
 use Rattle.dns_text.specs.declared.uncertain.chain.UncertainChain.TheVariants.{Absolute, Relative}
@@ -17,7 +17,7 @@ labels_in labels (Relative chain) = left_of chain ++ labels (right_of chain)
 -- the label with this number is at this place
 abbrev pub StandsIn : {O R : Type 0} {ghosts others : _} → (R → List (List ℕ)) → (R → ℕ → Option ℕ → Type 0)
     → UncertainChain O R ghosts others → ℕ → Option ℕ → Type 0
-StandsIn labels stands (Absolute name) index place = StandsAt (wire name) (with_root name) index place
+StandsIn labels stands (Absolute name) index place = LabelsStandAt (wire name) (with_root name) index place
 StandsIn labels stands (Relative chain) index place =
     StandsInOne (stands_in_relative (labels_wire (left_of chain)) (left_of chain)) (stands (right_of chain)) (length (left_of chain)) index place
 

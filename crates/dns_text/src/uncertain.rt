@@ -10,7 +10,7 @@ ghost use Rattle.dns_flat.specs.declared.relative.RelativeNameError.TheVariants.
 ghost use Rattle.dns_flat.specs.SpelledText.{IsNotSpelled, IsNotSpelledBy};
 ghost use Rattle.dns_octets.specs.declared.error.AppendError.TheVariants.{ShortBuf, BadLength};
 ghost use Rattle.dns_text.specs.declared.uncertain.UncertainName.TheVariants.{Absolute, Relative};
-ghost use Rattle.dns_text.specs.Uncertain.{is_absolute, labels_of, octets_of, seen_labels, text_of, StandsIn, IsNoName, IsTextOf};
+ghost use Rattle.dns_text.specs.Uncertain.{is_absolute, labels_of, uncertain_octets, seen_labels, text_of, StandsIn, IsNoName, IsTextOf};
 
 mod chain;
 
@@ -38,7 +38,7 @@ impl<Octs: Octets> UncertainName<Octs> {
     pub fn from_octets(octets: Octs) -> Result<Self, RelativeNameError>
     where
         Octs: Drop,
-        ensures ok { IfOk result (λ name. IsName (labels_of name) × (Octs.list octets ≡ octets_of name)) }
+        ensures ok { IfOk result (λ name. IsName (labels_of name) × (Octs.list octets ≡ uncertain_octets name)) }
         ensures err { OnErr result (IsNoName (Octs.list octets)) }
         ensures why { IfErr result (IsNoRelativeName (Octs.list octets)) }
         ensures long { IfErr result (λ error. 254 < length (Octs.list octets) → error ≡ LongName) }
@@ -140,7 +140,7 @@ impl<Octs: Octets> UncertainName<Octs> {
         Octs: OctetsBuilder + Drop,
         ensures ok { IfOk result (λ name. name ≡ labels_of self) }
         ensures absolute { is_absolute self ≡ true → IsOk result }
-        ensures short { result ≡ Err ShortBuf → (octets : Octs) × (Octs.list octets ≡ octets_of self)
+        ensures short { result ≡ Err ShortBuf → (octets : Octs) × (Octs.list octets ≡ uncertain_octets self)
             × IsPast (Octs.bound octets) (length (wire (labels_of self))) }
         ensures not_bad { result ≡ Err BadLength → ⊥ }
     {
@@ -174,7 +174,7 @@ impl<Octs: Octets> UncertainName<Octs> {
 
     /// Returns the octets that hold the name.
     pub fn as_octets(&self) -> &Octs
-        ensures { Octs.list result.now ≡ octets_of self.now }
+        ensures { Octs.list result.now ≡ uncertain_octets self.now }
     {
         match self {
             UncertainName::Absolute(name) => name.as_octets(),
@@ -184,7 +184,7 @@ impl<Octs: Octets> UncertainName<Octs> {
 
     /// Returns the octets, uncompressed.
     pub fn as_slice(&self) -> &[u8]
-        ensures octets { result.now ≡ octets_of self.now }
+        ensures octets { result.now ≡ uncertain_octets self.now }
         ensures name { IsName (labels_of self.now) }
     {
         match self {

@@ -21,7 +21,7 @@ abbrev pub NoRow : List ℕ → Type 0
 NoRow text = (tokens : List Token) (rest : List ℕ) → Row false text tokens rest → ⊥
 
 -- a row, the end of the text, or neither
-abbrev pub StandsAt : List ℕ → ℕ → List TokenSpan → RowFound → Type 0
-StandsAt text place spans (Found next led) = IsRowAt text place spans next led
-StandsAt text place spans End = is_end (drop place text) ≡ true
-StandsAt text place spans Broken = (is_end (drop place text) ≡ false) × NoRow (drop place text)
+abbrev pub IsFoundAt : List ℕ → ℕ → List TokenSpan → RowFound → Type 0
+IsFoundAt text place spans (Found next led) = IsRowAt text place spans next led
+IsFoundAt text place spans End = is_end (drop place text) ≡ true
+IsFoundAt text place spans Broken = (is_end (drop place text) ≡ false) × NoRow (drop place text)

@@ -2,7 +2,7 @@
 ghost use Rattle.std.specs.Prelude.{◌≡◌, List, drop, IfOk};
 ghost use Rattle.dns_text.specs.Rows.{is_led};
 ghost use Rattle.dns_text.specs.Tokens.{is_end};
-ghost use Rattle.dns_tokens.specs.RowFound.{NoRow, StandsAt};
+ghost use Rattle.dns_tokens.specs.RowFound.{NoRow, IsFoundAt};
 ghost use Rattle.dns_tokens.specs.declared.token_span.TokenSpan.{TokenSpan};
 
 use crate::octets::comment_end;
@@ -33,7 +33,7 @@ pub fn read_row(
     place: usize,
     tokens: &mut Vec<TokenSpan>,
 ) -> Result<RowFound, AllocError>
-    ensures { IfOk result (λ found. StandsAt text.now place tokens.new.items found) }
+    ensures { IfOk result (λ found. IsFoundAt text.now place tokens.new.items found) }
 {
     tokens.clear();
     let mut reader = RowReader::new(text, place);
@@ -54,7 +54,7 @@ pub fn read_row(
 /// Returns what is at a place without a row.
 fn end_or_broken(text: &[u8], place: usize) -> RowFound
     requires { NoRow (drop place text.now) }
-    ensures { (spans : List TokenSpan) → StandsAt text.now place spans result }
+    ensures { (spans : List TokenSpan) → IsFoundAt text.now place spans result }
 {
     if is_end_at(text, place) {
         RowFound::End

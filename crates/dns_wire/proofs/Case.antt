@@ -5,7 +5,7 @@ use Rattle.std.proofs.Math.Seq.{drop-append_seam}
 use Rattle.std.specs.Prelude.{Option, Some, None}
 use Rattle.std.specs.Iterator.{YieldsFirstBy}
 use Rattle.dns_label.specs.declared.label.Label.{Label}
-use Rattle.dns_label.specs.Label.{octets_of}
+use Rattle.dns_label.specs.Label.{label_octets}
 use Rattle.dns_wire.specs.Suffix.{EndsWith}
 use Rattle.std.specs.Prelude.{nat_eq, IsTrue}
 use Rattle.std.proofs.lemmas.Grind.{common_steps}
@@ -85,7 +85,7 @@ low_left {rest = rest} {label = label} is none same =
 
 -- a call of `next` leaves the rest, also if there is no label
 pub next_drops : (result : Option Label) (labels new initial : List (List ℕ)) (count more : ℕ)
-    → YieldsFirstBy octets_of (λ (l : List (List ℕ)). l) labels result new → labels ≡ drop count initial → more ≡ count + 1
+    → YieldsFirstBy label_octets (λ (l : List (List ℕ)). l) labels result new → labels ≡ drop count initial → more ≡ count + 1
     → new ≡ drop more initial
 next_drops None labels new initial count more steps is next =
     steps.1 ∙ ap (drop 1) (sym steps.0 ∙ is) ∙ drop-drop 1 count initial ∙ ap (λ (n : ℕ). drop n initial) (omega arith)

@@ -3,7 +3,7 @@ use Rattle.std.proofs.Common.{◌≡◌, ℕ, zero, suc, ◌+◌, ◌<◌, ◌�
 use Rattle.std.specs.List.{AllByRecursion}
 use Rattle.dns_label.specs.Name.{IsLabel, IsName, wire, labels_wire}
 use Rattle.dns_wire.specs.Draft.{Holds}
-use Rattle.dns_wire.specs.declared.text.draft.Spelling.{Spelling}
+use Rattle.dns_wire.specs.declared.text.draft.NameDraft.{NameDraft}
 use Rattle.dns_wire.proofs.Case.{wire_one}
 use Rattle.dns_wire.proofs.Wire.{labels_wire-append, wire_is}
 
@@ -78,5 +78,5 @@ draft-none octets len [] within one is = refl
 draft-none octets len (label ∷ done) within one is =
     let size = draft-len octets len (label ∷ done) [] within is in absurd (omega arith)
 
-pub holds_one : (spelling : Spelling) (done other : List (List ℕ)) → Holds spelling done [] → wire other ≡ take spelling.len spelling.octets → other ≡ done
-holds_one spelling done other holds is = wire_one other done (is ∙ draft-wire spelling.octets spelling.len done holds.written)
+pub holds_one : (draft : NameDraft) (done other : List (List ℕ)) → Holds draft done [] → wire other ≡ take draft.len draft.octets → other ≡ done
+holds_one draft done other holds is = wire_one other done (is ∙ draft-wire draft.octets draft.len done holds.written)

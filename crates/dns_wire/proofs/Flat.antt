@@ -3,7 +3,7 @@ use Rattle.std.proofs.Common.{◌≡◌, ℕ, ◌+◌, ◌<◌, ◌≤◌, List,
 use Rattle.std.specs.Prelude.{Result, Ok, Err, OnErr}
 use Rattle.std.proofs.Math.Seq.{take-append_seam, drop-append_seam}
 use Rattle.dns_label.specs.Name.{IsName, wire}
-use Rattle.dns_label.specs.Spelled.{Reads}
+use Rattle.dns_label.specs.Spelled.{DecodesName}
 use Rattle.dns_label.specs.Split.{StartsWithLabel, NoLabel}
 use Rattle.dns_label.specs.declared.label.SplitLabelError.{SplitLabelError}
 use Rattle.dns_label.specs.declared.label.SplitLabelError.TheVariants.{Pointer, BadType, ShortInput}
@@ -119,7 +119,7 @@ pub written-whole : (octets : List ℕ) (name : List (List ℕ)) → length octe
 written-whole octets name few here =
     let is : octets ≡ wire name = here.whole ∙ append-nil (wire name) in
     let is_name : IsName name = record { labels = here.labels; short = subst (λ (l : List ℕ). length l ≤ 255) is few } in
-    let reads : Reads octets 0 name (0 + length (wire name)) =
+    let reads : DecodesName octets 0 name (0 + length (wire name)) =
     record { spelled = spelled-written octets 255 0 name [] here.whole here.labels; is_name = is_name } in
     let found = sym (labels_at-reads reads) in
     let P : List (List ℕ) → Type 0 = λ n. IsName n in
@@ -140,7 +140,7 @@ same_rest octets name other rest behind here there =
 
 -- a name in its wire form is read
 pub flat-reads : (octets : List ℕ) (name : List (List ℕ)) → IsName name → octets ≡ wire name
-    → Reads octets 0 name (0 + length (wire name))
+    → DecodesName octets 0 name (0 + length (wire name))
 flat-reads octets name is_name is =
     record { spelled = spelled-written octets 255 0 name [] (whole_front octets name is_name is).whole is_name.labels; is_name = is_name }
 

@@ -12,23 +12,23 @@ use Rattle.dns_wire.specs.declared.text.FromStrError.{FromStrError}
 use Rattle.dns_wire.specs.declared.text.FromStrError.TheVariants.{Presentation, ShortBuf}
 use Rattle.dns_wire.specs.declared.text.PresentationError.{PresentationError}
 use Rattle.dns_wire.specs.declared.text.PresentationError.TheVariants as presentation
-use Rattle.dns_wire.specs.declared.text.draft.Spelling.{Spelling}
+use Rattle.dns_wire.specs.declared.text.draft.NameDraft.{NameDraft}
 use Rattle.dns_wire.proofs.Drafts.{draft-len, labels_more}
 use Rattle.dns_wire.proofs.Parts.{parts_one}
 use Rattle.dns_wire.proofs.Texts.{last_label}
 use Rattle.dns_wire.proofs.Wire.{length-labels_wire_more, length-wire_is}
 
 -- a label was open at the end
-pub open_lacks : (text : List ℕ) (spelling : Spelling) (read : IsReadAs text spelling) → 0 < length read.begun → LacksLastDot text
-open_lacks text spelling read some =
-    let all = spelling.whole in
-    let few = spelling.few in
-    let short = spelling.short in
-    let full = spelling.full in
+pub open_lacks : (text : List ℕ) (draft : NameDraft) (read : IsReadAs text draft) → 0 < length read.begun → LacksLastDot text
+open_lacks text draft read some =
+    let all = draft.whole in
+    let few = draft.few in
+    let short = draft.short in
+    let full = draft.full in
     let at = read.holds.place in
-    let size = draft-len spelling.octets spelling.len read.done read.begun (omega arith) read.holds.written in
+    let size = draft-len draft.octets draft.len read.done read.begun (omega arith) read.holds.written in
     let each = labels_more read.done read.begun read.holds.labels (record { some = some; short = omega arith }) in
-    let no_more : 254 < spelling.len → ⊥ = λ over. omega (arith, full over) in
+    let no_more : 254 < draft.len → ⊥ = λ over. omega (arith, full over) in
     let size_more = length-labels_wire_more read.done read.begun in
     let size_wire = length-wire_is (read.done ++ read.begun ∷ []) in (
       read.done ++ read.begun ∷ [],
@@ -37,8 +37,8 @@ open_lacks text spelling read some =
     )
 
 -- no label was open
-pub dotted_lacks : (text : List ℕ) (spelling : Spelling) (read : IsReadAs text spelling) → read.begun ≡ [] → LacksLastDot text → ⊥
-dotted_lacks text spelling read none lacks =
+pub dotted_lacks : (text : List ℕ) (draft : NameDraft) (read : IsReadAs text draft) → read.begun ≡ [] → LacksLastDot text → ⊥
+dotted_lacks text draft read none lacks =
     let e : lacks.0 ≡ read.done ++ [] ∷ [] = read.only lacks.0 lacks.1.parts ∙ ap (λ t. read.done ++ t ∷ []) none in
     let R : List (List ℕ) → Type 0 = λ n. AllByRecursion IsLabel n in
     let label = last_label read.done [] (subst R e lacks.1.each) in omega (arith, label.some)

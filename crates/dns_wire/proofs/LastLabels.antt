@@ -3,7 +3,7 @@ use Rattle.std.proofs.Common.{◌≡◌, ℕ, ◌+◌, ◌≤◌, zero, suc, Lis
 use Rattle.std.specs.Prelude.{Option, Some, None}
 use Rattle.std.specs.List.{AllByRecursion}
 use Rattle.dns_label.specs.declared.label.Label.{Label}
-use Rattle.dns_label.specs.Label.{octets_of}
+use Rattle.dns_label.specs.Label.{label_octets}
 use Rattle.dns_label.specs.Name.{labels_wire}
 use Rattle.dns_wire.specs.FlatLabels.{AreLabels, IsShort, flat_labels}
 use Rattle.dns_wire.proofs.FlatForms.{are_labels, flat_is, take_front}
@@ -13,15 +13,15 @@ use Rattle.dns_wire.proofs.Wire.{length-labels_wire_more}
 abbrev pub Walked : List (List ℕ) → List (List ℕ) → ℕ → Option (ℕ × Label) → Type 0
 Walked all left count None = (all ≡ left) × (count ≡ 0)
 Walked all left count (Some last) =
-    (front : List (List ℕ)) × (all ≡ front ++ (octets_of last.1 ∷ left)) × (last.0 ≡ length front) × (count ≡ last.0 + 1)
+    (front : List (List ℕ)) × (all ≡ front ++ (label_octets last.1 ∷ left)) × (last.0 ≡ length front) × (count ≡ last.0 + 1)
 
 pub walked_on : (all left next : List (List ℕ)) (count : ℕ) (last : Option (ℕ × Label)) (label : Label) → Walked all left count last
-    → left ≡ octets_of label ∷ next → Walked all next (count + 1) (Some (count, label))
+    → left ≡ label_octets label ∷ next → Walked all next (count + 1) (Some (count, label))
 walked_on all left next count None label at is = ([], at.0 ∙ is, at.1, refl)
 walked_on all left next count (Some last) label at is = (
-  at.0 ++ (octets_of last.1 ∷ []),
-  at.1 ∙ ap (λ l. at.0 ++ (octets_of last.1 ∷ l)) is ∙ sym (append_assoc at.0 (octets_of last.1 ∷ []) (octets_of label ∷ next)),
-  omega (arith, at.2, at.3, length-append at.0 (octets_of last.1 ∷ [])),
+  at.0 ++ (label_octets last.1 ∷ []),
+  at.1 ∙ ap (λ l. at.0 ++ (label_octets last.1 ∷ l)) is ∙ sym (append_assoc at.0 (label_octets last.1 ∷ []) (label_octets label ∷ next)),
+  omega (arith, at.2, at.3, length-append at.0 (label_octets last.1 ∷ [])),
   refl,
 )
 
@@ -29,7 +29,7 @@ pub walked_few : (all left : List (List ℕ)) (count : ℕ) (last : Option (ℕ 
     → count + length left ≡ length all
 walked_few all left count None at = omega (arith, at.1, ap (length {A = List ℕ}) at.0)
 walked_few all left count (Some last) at =
-    omega (arith, at.2, at.3, ap (length {A = List ℕ}) at.1, length-append at.0 (octets_of last.1 ∷ left))
+    omega (arith, at.2, at.3, ap (length {A = List ℕ}) at.1, length-append at.0 (label_octets last.1 ∷ left))
 
 -- as many labels as there were before it
 pub take_less : (most : ℕ) (labels front : List (List ℕ)) (label : List ℕ) → take most labels ≡ front ++ (label ∷ [])
@@ -60,14 +60,14 @@ take_few most labels = omega (arith, length-take most labels)
 
 -- what the walk ends with
 pub walked_back : (all left : List (List ℕ)) (count : ℕ) (labels : List (List ℕ)) (most : ℕ) {found : Option (ℕ × Label)} (last : ℕ × Label) → Walked all left count found
-    → found ≡ Some last → left ≡ [] → all ≡ take most labels → all ≡ take last.0 labels ++ (octets_of last.1 ∷ [])
+    → found ≡ Some last → left ≡ [] → all ≡ take most labels → all ≡ take last.0 labels ++ (label_octets last.1 ∷ [])
 walked_back all left count labels most last walked found none is =
     let P : Option (ℕ × Label) → Type 0 = λ f. Walked all left count f in
     let at = subst P found walked in
-    let whole = at.1 ∙ ap (λ l. at.0 ++ (octets_of last.1 ∷ l)) none in
+    let whole = at.1 ∙ ap (λ l. at.0 ++ (label_octets last.1 ∷ l)) none in
     let front : take last.0 labels ≡ at.0 =
-    ap (λ (n : ℕ). take n labels) at.2 ∙ take_less most labels at.0 (octets_of last.1) (sym is ∙ whole) in
-    whole ∙ ap (λ l. l ++ (octets_of last.1 ∷ [])) (sym front)
+    ap (λ (n : ℕ). take n labels) at.2 ∙ take_less most labels at.0 (label_octets last.1) (sym is ∙ whole) in
+    whole ∙ ap (λ l. l ++ (label_octets last.1 ∷ [])) (sym front)
 
 -- a label of flat octets, with the labels before it and the octets after it
 pub record Stands (octets : List ℕ) (text rest : List ℕ) : Type 0 where

@@ -8,24 +8,24 @@ use Rattle.dns_label.specs.declared.symbol.Symbol.{Symbol}
 use Rattle.dns_label.specs.declared.symbol.Symbol.TheVariants.{Char, SimpleEscape, DecimalEscape}
 use Rattle.dns_label.specs.Symbol.{IsSymbol, spelled, octet}
 use Rattle.dns_label.specs.NameText.{is_dot}
-use Rattle.dns_wire.specs.declared.text.draft.Spelling.{Spelling}
+use Rattle.dns_wire.specs.declared.text.draft.NameDraft.{NameDraft}
 use Rattle.dns_wire.specs.Draft.{Holds, IsReadAs, IsReadBy, IsReadable, AreReadable}
 use Rattle.dns_wire.specs.Text.{SpellName}
 use Rattle.dns_wire.proofs.CharTexts.{more_of}
 use Rattle.dns_wire.proofs.Parts.{Reading, reading_here, reading-octet, reading-dot, symbol_one, spelled_some}
 use Rattle.dns_wire.proofs.Readings.{some_readable, over_none, empty_none, new_none, some_read, root_none, read_end}
 
--- symbols were taken off the front of the text, and added to the spelling
-pub record Taken (text rest : List ℕ) (spelling : Spelling) : Type 0 where
+-- symbols were taken off the front of the text, and added to the draft
+pub record Taken (text rest : List ℕ) (draft : NameDraft) : Type 0 where
   pub symbols : List Symbol
   pub done : List (List ℕ)
   pub begun : List ℕ
   pub whole : text ≡ flat_map spelled symbols ++ rest
   pub reading : Reading symbols done begun
-  pub holds : Holds spelling done begun
+  pub holds : Holds draft done begun
 
-pub taken_none : (text : List ℕ) (spelling : Spelling) → Holds spelling [] [] → Taken text text spelling
-taken_none text spelling holds =
+pub taken_none : (text : List ℕ) (draft : NameDraft) → Holds draft [] [] → Taken text text draft
+taken_none text draft holds =
     record { symbols = []; done = []; begun = []; whole = refl; reading = reading_here; holds = holds }
 
 whole_more : (text rest behind : List ℕ) (symbols : List Symbol) (symbol : Symbol) → text ≡ flat_map spelled symbols ++ rest
@@ -49,10 +49,10 @@ plain_begins c rest behind (SimpleEscape d) none first next is = refl
 plain_begins c rest behind (DecimalEscape n) none first next is = refl
 
 -- A text goes on with a symbol: its octet is added, it is a dot that ends a label, or it makes the reader fail.
-module _ (text rest behind : List ℕ) (spelling : Spelling) (symbol : Symbol) (taken : Taken text rest spelling) (is_symbol : IsSymbol symbol)
+module _ (text rest behind : List ℕ) (draft : NameDraft) (symbol : Symbol) (taken : Taken text rest draft) (is_symbol : IsSymbol symbol)
     (is : rest ≡ spelled symbol ++ behind) where
-  pub taken-octet : (new : Spelling) (c : ℕ) → is_dot symbol ≡ false → c ≡ octet symbol
-      → ((done : List (List ℕ)) (begun : List ℕ) → Holds spelling done begun → Holds new done (begun ++ c ∷ []))
+  pub taken-octet : (new : NameDraft) (c : ℕ) → is_dot symbol ≡ false → c ≡ octet symbol
+      → ((done : List (List ℕ)) (begun : List ℕ) → Holds draft done begun → Holds new done (begun ++ c ∷ []))
       → Taken text behind new
   taken-octet new c plain same put =
       let P : ℕ → Type 0 = λ o. Holds new taken.done (taken.begun ++ o ∷ []) in
@@ -80,14 +80,14 @@ module _ (text rest behind : List ℕ) (spelling : Spelling) (symbol : Symbol) (
           let Q : Symbol → Type 0 = λ s. AreReadable (taken.symbols ++ s ∷ more) in
           some_readable taken.symbols symbol more (none more one.1) (subst Q (sym one.0) readable)
 
-  pub over_unreadable : is_dot symbol ≡ false → (spelling.len ≡ spelling.start + 64) ⊎ (253 < spelling.len) → IsReadable text → ⊥
+  pub over_unreadable : is_dot symbol ≡ false → (draft.len ≡ draft.start + 64) ⊎ (253 < draft.len) → IsReadable text → ⊥
   over_unreadable plain over =
       none_on (λ more written name.
-      over_none spelling taken.symbols more taken.done taken.begun symbol name taken.reading taken.holds is_symbol plain over)
+      over_none draft taken.symbols more taken.done taken.begun symbol name taken.reading taken.holds is_symbol plain over)
 
-module _ (text rest behind : List ℕ) (spelling : Spelling) (taken : Taken text rest spelling) (is : rest ≡ 46 ∷ behind) where
-  pub taken-dot : (new : Spelling) → (spelling.len ≡ 1 → ⊥)
-      → ((done : List (List ℕ)) (begun : List ℕ) → Holds spelling done begun → Holds new (done ++ begun ∷ []) [])
+module _ (text rest behind : List ℕ) (draft : NameDraft) (taken : Taken text rest draft) (is : rest ≡ 46 ∷ behind) where
+  pub taken-dot : (new : NameDraft) → (draft.len ≡ 1 → ⊥)
+      → ((done : List (List ℕ)) (begun : List ℕ) → Holds draft done begun → Holds new (done ++ begun ∷ []) [])
       → Taken text behind new
   taken-dot new some ended = record {
     symbols = taken.symbols ++ Char 46 ∷ [];
@@ -96,32 +96,32 @@ module _ (text rest behind : List ℕ) (spelling : Spelling) (taken : Taken text
     whole = whole_more text rest behind taken.symbols (Char 46) taken.whole is;
     reading =
         reading-dot taken.symbols taken.done taken.begun (Char 46) taken.reading dot_symbol refl
-        (some_read spelling taken.symbols taken.done taken.begun taken.reading taken.holds some);
+        (some_read draft taken.symbols taken.done taken.begun taken.reading taken.holds some);
     holds = ended taken.done taken.begun taken.holds;
   }
 
-  pub empty_unreadable : (spelling.len ≡ 1 → ⊥) → spelling.len ≡ spelling.start + 1 → IsReadable text → ⊥
+  pub empty_unreadable : (draft.len ≡ 1 → ⊥) → draft.len ≡ draft.start + 1 → IsReadable text → ⊥
   empty_unreadable some none =
-      none_on text rest behind spelling (Char 46) taken dot_symbol is
+      none_on text rest behind draft (Char 46) taken dot_symbol is
       (λ more written name.
-      empty_none spelling taken.symbols more taken.done taken.begun (Char 46) name taken.reading taken.holds dot_symbol refl some none)
+      empty_none draft taken.symbols more taken.done taken.begun (Char 46) name taken.reading taken.holds dot_symbol refl some none)
 
   -- nothing was taken before the dot
-  pub root_alone : spelling.len ≡ 1 → behind ≡ [] → text ≡ 46 ∷ []
+  pub root_alone : draft.len ≡ 1 → behind ≡ [] → text ≡ 46 ∷ []
   root_alone one none =
-      let new = new_none spelling taken.symbols taken.done taken.begun taken.reading taken.holds one in
+      let new = new_none draft taken.symbols taken.done taken.begun taken.reading taken.holds one in
       taken.whole ∙ ap (λ (s : List Symbol). flat_map spelled s ++ rest) new ∙ is ∙ ap (λ l. 46 ∷ l) none
 
-  pub root_unreadable : spelling.len ≡ 1 → (behind ≡ [] → ⊥) → IsReadable text → ⊥
-  root_unreadable one some = none_on text rest behind spelling (Char 46) taken dot_symbol is by_more
+  pub root_unreadable : draft.len ≡ 1 → (behind ≡ [] → ⊥) → IsReadable text → ⊥
+  root_unreadable one some = none_on text rest behind draft (Char 46) taken dot_symbol is by_more
     where
       by_more : (more : List Symbol) → behind ≡ flat_map spelled more → (name : List (List ℕ)) → SpellName (taken.symbols ++ Char 46 ∷ more) name → ⊥
       by_more [] written name spells = some written
       by_more (symbol ∷ more) written name spells =
-          let new = new_none spelling taken.symbols taken.done taken.begun taken.reading taken.holds one in
+          let new = new_none draft taken.symbols taken.done taken.begun taken.reading taken.holds one in
           root_none taken.symbols more (Char 46) symbol name new refl spells
 
-module _ (text rest : List ℕ) (spelling : Spelling) (taken : Taken text rest spelling) where
+module _ (text rest : List ℕ) (draft : NameDraft) (taken : Taken text rest draft) where
   -- no symbol follows those that were taken
   pub bad_unreadable : (rest ≡ [] → ⊥) → ((symbol : Symbol) (behind : List ℕ) → IsSymbol symbol → rest ≡ spelled symbol ++ behind → ⊥)
       → IsReadable text → ⊥
@@ -135,9 +135,9 @@ module _ (text rest : List ℕ) (spelling : Spelling) (taken : Taken text rest s
       by_more (symbol ∷ more) each written = none symbol (flat_map spelled more) each.0 written
 
   -- all was taken
-  pub taken_all : rest ≡ [] → IsReadBy text (Some spelling)
+  pub taken_all : rest ≡ [] → IsReadBy text (Some draft)
   taken_all none =
       let all : text ≡ flat_map spelled taken.symbols =
       taken.whole ∙ ap (λ l. flat_map spelled taken.symbols ++ l) none ∙ append-nil (flat_map spelled taken.symbols) in
-      let P : List ℕ → Type 0 = λ t. (t ≡ 46 ∷ [] → ⊥) × IsReadAs t spelling in
-      subst P (sym all) (read_end spelling taken.symbols taken.done taken.begun taken.reading taken.holds)
+      let P : List ℕ → Type 0 = λ t. (t ≡ 46 ∷ [] → ⊥) × IsReadAs t draft in
+      subst P (sym all) (read_end draft taken.symbols taken.done taken.begun taken.reading taken.holds)

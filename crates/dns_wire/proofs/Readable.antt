@@ -6,7 +6,7 @@ use Rattle.std.specs.Coded.{Coded-set, coded_ℕ, coded_list}
 use Rattle.dns_label.specs.Name.{IsLabel, IsName, wire, with_root}
 use Rattle.dns_wire.proofs.Wire.{few_labels, root_length}
 use Rattle.std.specs.List.{AllByRecursion}
-use Rattle.dns_label.specs.Spelled.{Spells, Reads}
+use Rattle.dns_label.specs.Spelled.{EncodesName, DecodesName}
 use Rattle.dns_label.specs.Labels.{labels_at}
 use Rattle.dns_label.specs.Split.{StartsWithLabel, StartsWithPointer}
 use Rattle.dns_label.proofs.Spelling.{labels_at-reads}
@@ -14,9 +14,9 @@ use Rattle.dns_wire.specs.Parsed.{IsReadAt}
 use Rattle.dns_wire.proofs.Heads.{spelled-more, spelled-not, spelled-root, spelled-label, spelled-pointer}
 
 -- a name is read here
-pub read_at : (message : List ℕ) (place next : ℕ) (name : List (List ℕ)) → Reads message place name next → IsReadAt message place
+pub read_at : (message : List ℕ) (place next : ℕ) (name : List (List ℕ)) → DecodesName message place name next → IsReadAt message place
 read_at message place next name reads =
-    let P : List (List ℕ) → Type 0 = λ n. Reads message place n next in
+    let P : List (List ℕ) → Type 0 = λ n. DecodesName message place n next in
     record { next = next; reads = subst P (sym (labels_at-reads reads)) reads }
 
 -- an equation of names may be shown from a fact that is merely there
@@ -39,9 +39,9 @@ read-goes : (message text rest : List ℕ) (place next : ℕ) → StartsWithLabe
     → next ≡ place + 1 + length text → IsReadAt message place → Goes message place next text
 read-goes message text rest place next at some is read =
     let behind = spelled-label text rest read.reads.spelled at some in
-    let P : ℕ → Type 0 = λ n. Spells message 255 n behind.parent read.next in
+    let P : ℕ → Type 0 = λ n. EncodesName message 255 n behind.parent read.next in
     let Q : List (List ℕ) → Type 0 = λ n. IsName n in
-    let parent : Reads message next behind.parent read.next = record {
+    let parent : DecodesName message next behind.parent read.next = record {
       spelled = subst P (sym is) behind.spelled;
       is_name = name_behind text behind.parent (subst Q behind.whole_is read.reads.is_name);
     } in
@@ -74,16 +74,16 @@ pub record Leads_to (message : List ℕ) (place target : ℕ) : Type 0 where
   pub labels : labels_at message place ≡ labels_at message target
   pub read : IsReadAt message target
 
-more_by_one : {message : List ℕ} {left place next : ℕ} {name : List (List ℕ)} → 255 ≡ suc left → Spells message left place name next
-    → Spells message 255 place name next
+more_by_one : {message : List ℕ} {left place next : ℕ} {name : List (List ℕ)} → 255 ≡ suc left → EncodesName message left place name next
+    → EncodesName message 255 place name next
 more_by_one {message} {left} {place} {next} {name} is spelled =
-    let P : ℕ → Type 0 = λ n. Spells message n place name next in subst P (sym is) (spelled-more spelled)
+    let P : ℕ → Type 0 = λ n. EncodesName message n place name next in subst P (sym is) (spelled-more spelled)
 
 read-led : (message : List ℕ) (place target : ℕ) → StartsWithPointer (drop place message) target → IsReadAt message place
     → Leads_to message place target
 read-led message place target at read =
     let led = spelled-pointer target read.reads.spelled at in
-    let reads : Reads message target (labels_at message place) led.after =
+    let reads : DecodesName message target (labels_at message place) led.after =
     record { spelled = more_by_one led.pointers_is led.spelled; is_name = read.reads.is_name } in
     record {
       labels = sym (labels_at-reads reads);
@@ -122,12 +122,12 @@ read-root message place there one = from_merely there (λ read. root_length (lab
 
 -- the same reading, of the octets of the parser
 pub parsed_ok : {octets whole : List ℕ} {place pos next end : ℕ} {name : List (List ℕ)} → octets ≡ whole → place ≡ pos → end ≡ next
-    → Reads octets place name next → Reads whole pos (labels_at octets place) end
+    → DecodesName octets place name next → DecodesName whole pos (labels_at octets place) end
 parsed_ok {octets} {whole} {place} {pos} {next} {end} same here there reads =
-    let P : List ℕ → Type 0 = λ o. Reads o pos (labels_at octets place) end in
-    let Q : ℕ → Type 0 = λ p. Reads octets p (labels_at octets place) end in
-    let R : ℕ → Type 0 = λ n. Reads octets place (labels_at octets place) n in
-    let S : List (List ℕ) → Type 0 = λ n. Reads octets place n next in
+    let P : List ℕ → Type 0 = λ o. DecodesName o pos (labels_at octets place) end in
+    let Q : ℕ → Type 0 = λ p. DecodesName octets p (labels_at octets place) end in
+    let R : ℕ → Type 0 = λ n. DecodesName octets place (labels_at octets place) n in
+    let S : List (List ℕ) → Type 0 = λ n. DecodesName octets place n next in
     subst P same (subst Q here (subst R (sym there) (subst S (sym (labels_at-reads reads)) reads)))
 
 pub labels_from_merely : (name : List (List ℕ)) → ∥ AllByRecursion IsLabel name ∥₁ → AllByRecursion IsLabel name

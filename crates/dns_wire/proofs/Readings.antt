@@ -5,7 +5,7 @@ use Rattle.dns_label.specs.declared.symbol.Symbol.{Symbol}
 use Rattle.dns_label.specs.Symbol.{IsSymbol, spelled, octet}
 use Rattle.dns_label.specs.NameText.{is_dot, parts_of}
 use Rattle.dns_label.specs.Name.{labels_wire}
-use Rattle.dns_wire.specs.declared.text.draft.Spelling.{Spelling}
+use Rattle.dns_wire.specs.declared.text.draft.NameDraft.{NameDraft}
 use Rattle.std.specs.Prelude.{Option, Some, None, Result, Ok, Err, IfOk, OnErr}
 use Rattle.std.specs.Iterator.{Yields, YieldsThen}
 use Rattle.dns_label.specs.Taken.{RulesOut}
@@ -18,12 +18,12 @@ use Rattle.dns_wire.proofs.Parts.{Reading, reading-dot, reading-octet, each_last
 use Rattle.dns_wire.proofs.Texts.{spell_none, read_as}
 
 -- the number of octets that are held
-pub holds-len : (spelling : Spelling) (done : List (List ℕ)) (begun : List ℕ) → Holds spelling done begun
-    → spelling.len ≡ length (labels_wire done) + 1 + length begun
-holds-len spelling done begun holds =
-    let whole = spelling.whole in
-    let few = spelling.few in
-    draft-len spelling.octets spelling.len done begun (omega arith) holds.written
+pub holds-len : (draft : NameDraft) (done : List (List ℕ)) (begun : List ℕ) → Holds draft done begun
+    → draft.len ≡ length (labels_wire done) + 1 + length begun
+holds-len draft done begun holds =
+    let whole = draft.whole in
+    let few = draft.few in
+    draft-len draft.octets draft.len done begun (omega arith) holds.written
 
 -- the new symbol is the last of those that were taken
 shifted : (taken : List Symbol) (symbol : Symbol) (rest : List Symbol) → taken ++ symbol ∷ rest ≡ (taken ++ symbol ∷ []) ++ rest
@@ -56,40 +56,40 @@ read_none taken rest done begun symbol name reading none spells =
     none (subst P (shifted taken symbol rest) spells)
 
 -- one octet more than a label or a name may have
-pub over_none : (spelling : Spelling) (taken rest : List Symbol) (done : List (List ℕ)) (begun : List ℕ) (symbol : Symbol) (name : List (List ℕ))
-    → Reading taken done begun → Holds spelling done begun → IsSymbol symbol → is_dot symbol ≡ false
-    → (spelling.len ≡ spelling.start + 64) ⊎ (253 < spelling.len) → SpellName (taken ++ symbol ∷ rest) name → ⊥
-over_none spelling taken rest done begun symbol name reading holds is_symbol plain over =
-    let long = holds-len spelling done begun holds in
+pub over_none : (draft : NameDraft) (taken rest : List Symbol) (done : List (List ℕ)) (begun : List ℕ) (symbol : Symbol) (name : List (List ℕ))
+    → Reading taken done begun → Holds draft done begun → IsSymbol symbol → is_dot symbol ≡ false
+    → (draft.len ≡ draft.start + 64) ⊎ (253 < draft.len) → SpellName (taken ++ symbol ∷ rest) name → ⊥
+over_none draft taken rest done begun symbol name reading holds is_symbol plain over =
+    let long = holds-len draft done begun holds in
     let at = holds.place in
     let next = reading-octet taken done begun symbol reading is_symbol plain in
     read_none taken rest done (begun ++ octet symbol ∷ []) symbol name next
-    (octet_over (taken ++ symbol ∷ []) rest done begun spelling.len spelling.start (octet symbol) next at (omega arith) over)
+    (octet_over (taken ++ symbol ∷ []) rest done begun draft.len draft.start (octet symbol) next at (omega arith) over)
 
 -- a label without octets
-pub empty_none : (spelling : Spelling) (taken rest : List Symbol) (done : List (List ℕ)) (begun : List ℕ) (symbol : Symbol) (name : List (List ℕ))
-    → Reading taken done begun → Holds spelling done begun → IsSymbol symbol → is_dot symbol ≡ true → (spelling.len ≡ 1 → ⊥)
-    → spelling.len ≡ spelling.start + 1 → SpellName (taken ++ symbol ∷ rest) name → ⊥
-empty_none spelling taken rest done begun symbol name reading holds is_symbol dot some none =
-    let long = holds-len spelling done begun holds in
+pub empty_none : (draft : NameDraft) (taken rest : List Symbol) (done : List (List ℕ)) (begun : List ℕ) (symbol : Symbol) (name : List (List ℕ))
+    → Reading taken done begun → Holds draft done begun → IsSymbol symbol → is_dot symbol ≡ true → (draft.len ≡ 1 → ⊥)
+    → draft.len ≡ draft.start + 1 → SpellName (taken ++ symbol ∷ rest) name → ⊥
+empty_none draft taken rest done begun symbol name reading holds is_symbol dot some none =
+    let long = holds-len draft done begun holds in
     let at = holds.place in
     let next = reading-dot taken done begun symbol reading is_symbol dot (some_taken taken done begun reading (omega arith)) in
     read_none taken rest (done ++ begun ∷ []) [] symbol name next
     (dot_empty (taken ++ symbol ∷ []) rest done begun next (omega arith))
 
 -- nothing has been taken
-pub new_none : (spelling : Spelling) (taken : List Symbol) (done : List (List ℕ)) (begun : List ℕ) → Reading taken done begun
-    → Holds spelling done begun → spelling.len ≡ 1 → taken ≡ []
-new_none spelling taken [] [] reading holds one = none_taken taken reading
-new_none spelling taken [] (octet ∷ begun) reading holds one =
-    let long = holds-len spelling [] (octet ∷ begun) holds in absurd (omega arith)
-new_none spelling taken (label ∷ done) begun reading holds one =
-    let long = holds-len spelling (label ∷ done) begun holds in absurd (omega arith)
+pub new_none : (draft : NameDraft) (taken : List Symbol) (done : List (List ℕ)) (begun : List ℕ) → Reading taken done begun
+    → Holds draft done begun → draft.len ≡ 1 → taken ≡ []
+new_none draft taken [] [] reading holds one = none_taken taken reading
+new_none draft taken [] (octet ∷ begun) reading holds one =
+    let long = holds-len draft [] (octet ∷ begun) holds in absurd (omega arith)
+new_none draft taken (label ∷ done) begun reading holds one =
+    let long = holds-len draft (label ∷ done) begun holds in absurd (omega arith)
 
-pub some_read : (spelling : Spelling) (taken : List Symbol) (done : List (List ℕ)) (begun : List ℕ) → Reading taken done begun
-    → Holds spelling done begun → (spelling.len ≡ 1 → ⊥) → taken ≡ [] → ⊥
-some_read spelling taken done begun reading holds some =
-    let long = holds-len spelling done begun holds in some_taken taken done begun reading (omega arith)
+pub some_read : (draft : NameDraft) (taken : List Symbol) (done : List (List ℕ)) (begun : List ℕ) → Reading taken done begun
+    → Holds draft done begun → (draft.len ≡ 1 → ⊥) → taken ≡ [] → ⊥
+some_read draft taken done begun reading holds some =
+    let long = holds-len draft done begun holds in some_taken taken done begun reading (omega arith)
 
 pub root_text : (taken : List Symbol) (symbol : Symbol) → taken ≡ [] → is_dot symbol ≡ true → flat_map spelled (taken ++ symbol ∷ []) ≡ 46 ∷ []
 root_text taken symbol none dot =
@@ -118,22 +118,22 @@ root_none taken rest dot symbol name none first spells =
     two_none rest dot symbol name first (subst P none spells)
 
 -- at the end of the symbols
-pub read_end : (spelling : Spelling) (taken : List Symbol) (done : List (List ℕ)) (begun : List ℕ) → Reading taken done begun
-    → Holds spelling done begun → (flat_map spelled taken ≡ 46 ∷ [] → ⊥) × IsReadAs (flat_map spelled taken) spelling
-read_end spelling taken done begun reading holds =
+pub read_end : (draft : NameDraft) (taken : List Symbol) (done : List (List ℕ)) (begun : List ℕ) → Reading taken done begun
+    → Holds draft done begun → (flat_map spelled taken ≡ 46 ∷ [] → ⊥) × IsReadAs (flat_map spelled taken) draft
+read_end draft taken done begun reading holds =
     let P : List Symbol → Type 0 = λ t. flat_map spelled t ≡ 46 ∷ [] in (
       λ is. no_dot taken [] reading.plain (λ none. refl) (subst P (sym (append-nil taken)) is),
-      read_as taken spelling done begun reading holds,
+      read_as taken draft done begun reading holds,
     )
 
 module _ {S : Type 0} (steps : S → Option Symbol → S → Type 0) where
   -- a dot alone is the root
-  pub root_answer : (start here end : S) (taken : List Symbol) (symbol : Symbol) (result : Result (Option Spelling) PresentationError)
+  pub root_answer : (start here end : S) (taken : List Symbol) (symbol : Symbol) (result : Result (Option NameDraft) PresentationError)
       → taken ≡ [] → IsSymbol symbol → is_dot symbol ≡ true → Yields steps start (taken ++ symbol ∷ []) here
       → IfOk result (λ read. (read ≡ None) × steps here None end)
       → IfOk result (λ read. (list : List Symbol) × YieldsThen steps start list None end × AllByRecursion IsSymbol list × IsReadBy (flat_map spelled list) read)
   root_answer start here end taken symbol (Ok read) none is_symbol dot gave told =
-      let P : Option Spelling → Type 0 = λ r. IsReadBy (flat_map spelled (taken ++ symbol ∷ [])) r in (
+      let P : Option NameDraft → Type 0 = λ r. IsReadBy (flat_map spelled (taken ++ symbol ∷ [])) r in (
         taken ++ symbol ∷ [],
         (here, gave, told.1),
         root_each taken symbol none is_symbol,
@@ -141,7 +141,7 @@ module _ {S : Type 0} (steps : S → Option Symbol → S → Type 0) where
       )
   root_answer start here end taken symbol (Err error) none is_symbol dot gave told = tt
 
-  pub root_refused : (start here behind end : S) (taken : List Symbol) (dot : Symbol) (result : Result (Option Spelling) PresentationError)
+  pub root_refused : (start here behind end : S) (taken : List Symbol) (dot : Symbol) (result : Result (Option NameDraft) PresentationError)
       → taken ≡ [] → is_dot dot ≡ true → Yields steps start taken here → steps here (Some dot) behind
       → OnErr result ((symbol : Symbol) × steps behind (Some symbol) end)
       → OnErr result (RulesOut steps start AreReadable)

@@ -1,8 +1,8 @@
 -- Skipping a name without following its pointers.
 use Rattle.std.proofs.Common.{◌≡◌, ℕ, ◌+◌, ◌-◌, ◌*◌, ◌<◌, ◌≤◌, List, [], ◌∷◌, ◌++◌, length, drop, refl, sym, ◌∙◌, ap, subst, arith, length-append, length-drop}
 use Rattle.dns_label.specs.Name.{wire}
-use Rattle.dns_label.specs.Spelled.{Spells, Reads}
-use Rattle.dns_label.specs.Spelled.Spells.{root as spells_root, label as spells_label, pointer as spells_pointer}
+use Rattle.dns_label.specs.Spelled.{EncodesName, DecodesName}
+use Rattle.dns_label.specs.Spelled.EncodesName.{root as spells_root, label as spells_label, pointer as spells_pointer}
 use Rattle.dns_label.specs.Split.{StartsWithLabel, StartsWithPointer, NoLabel}
 use Rattle.dns_label.specs.declared.label.SplitLabelError.{SplitLabelError}
 use Rattle.dns_label.specs.declared.label.SplitLabelError.TheVariants.{BadType, ShortInput}
@@ -78,7 +78,7 @@ pointer-within message place target at = omega (arith, ap (length {A = ℕ}) at.
 
 -- what is spelled is skipped
 pub skips-spelled : {message : List ℕ} {pointers place next : ℕ} {name : List (List ℕ)} (room : ℕ)
-    → Spells message pointers place name next → length (wire name) ≤ room + 1 → Skips message room place next
+    → EncodesName message pointers place name next → length (wire name) ≤ room + 1 → Skips message room place next
 skips-spelled room (spells_root rest at) few = root rest at
 skips-spelled room (spells_pointer first second after rest at both back name) few = pointer first second rest at both
 skips-spelled room (spells_label {label = text} {parent = parent} rest at is_label behind) few =
@@ -88,7 +88,7 @@ skips-spelled room (spells_label {label = text} {parent = parent} rest at is_lab
     (skips-spelled (room - (1 + length text)) behind (omega arith))
 
 -- a name that is read is skipped
-pub skips-reads : {message : List ℕ} {place next : ℕ} {name : List (List ℕ)} → Reads message place name next
+pub skips-reads : {message : List ℕ} {place next : ℕ} {name : List (List ℕ)} → DecodesName message place name next
     → Skips message 254 place next
 skips-reads reads = skips-spelled 254 reads.spelled (omega (arith, reads.is_name.short))
 

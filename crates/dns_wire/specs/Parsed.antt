@@ -1,13 +1,13 @@
 -- Names in messages.
 use Rattle.std.specs.Prelude.{◌≡◌, ℕ, List, [], Option, Some, None, length, take, drop}
 use Rattle.dns_label.specs.Name.{with_root, wire}
-use Rattle.dns_label.specs.Spelled.{Reads}
+use Rattle.dns_label.specs.Spelled.{DecodesName}
 use Rattle.dns_label.specs.Labels.{labels_at}
 
 -- a name is read at the place
 pub record IsReadAt (message : List ℕ) (place : ℕ) : Type 0 where
   pub next : ℕ
-  pub reads : Reads message place (labels_at message place) next
+  pub reads : DecodesName message place (labels_at message place) next
 
 -- the labels from the place on, the root's last; none if there is no place
 abbrev pub labels_left : List ℕ → Option ℕ → List (List ℕ)
@@ -24,6 +24,6 @@ IsWrittenAt message place =
     take (length (wire (labels_at message place))) (drop place message) ≡ wire (labels_at message place)
 
 -- the labels from this number on are those that are left at the place
-pub record StandsAt (message : List ℕ) (labels : List (List ℕ)) (index : ℕ) (place : Option ℕ) : Type 0 where
+pub record LabelsStandAt (message : List ℕ) (labels : List (List ℕ)) (index : ℕ) (place : Option ℕ) : Type 0 where
   pub left : IsLeft message place
   pub is : drop index labels ≡ labels_left message place

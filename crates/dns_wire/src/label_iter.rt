@@ -1,6 +1,6 @@
 //! What all names have in common: their labels, one by one.
 ghost use Rattle.std.specs.Prelude.{◌≡◌, ◌≤◌, ◌+◌, List, ℕ, Option, length, drop, take, option_map, slice_get, IfSome, IsTrue, ◌↔◌};
-ghost use Rattle.dns_label.specs.Label.{octets_of};
+ghost use Rattle.dns_label.specs.Label.{label_octets};
 ghost use Rattle.dns_label.specs.Name.{labels_wire, low};
 ghost use Rattle.dns_wire.specs.Chain.{AreOfName};
 ghost use Rattle.dns_wire.specs.Suffix.{EndsWith, StartsWith};
@@ -18,7 +18,7 @@ pub trait ToLabelIter {
 
     /// Returns the label with this number, counted from 0 and from the left, or None after the last one.
     fn label(&self, index: usize) -> Option<Label<'_>>
-        ensures label { option_map octets_of result ≡ slice_get (labels self.now) index }
+        ensures label { option_map label_octets result ≡ slice_get (labels self.now) index }
         ensures few { length (labels self.now) ≤ 128 };
 
     /// Returns the number of octets of the labels on the wire, each with its length octet.
@@ -38,7 +38,7 @@ pub trait ToLabelIter {
     /// Taking all labels one by one this way takes time in proportion to the octets and pointers of the name.
     fn label_at(&self, index: usize, place: Option<usize>) -> Option<(Label<'_>, Option<usize>)>
         requires { stands self.now index place }
-        ensures label { option_map (λ found. octets_of found.0) result ≡ slice_get (labels self.now) index }
+        ensures label { option_map (λ found. label_octets found.0) result ≡ slice_get (labels self.now) index }
         ensures next { IfSome result (λ found. stands self.now (index + 1) found.1) }
         ensures few { length (labels self.now) ≤ 128 };
 
@@ -96,7 +96,7 @@ impl<'a, N: ToLabelIter> Iterator for LabelIter<'a, N> {
 
     type Item = Label<'a>;
 
-    ghost next_gives = { YieldsFirstBy octets_of (λ labels. labels) };
+    ghost next_gives = { YieldsFirstBy label_octets (λ labels. labels) };
 
     ghost remaining = { item_count (λ labels. labels) };
 
@@ -115,7 +115,7 @@ impl<'a, N: ToLabelIter> Iterator for LabelIter<'a, N> {
 impl<'a, N: ToLabelIter> DoubleEndedIterator for LabelIter<'a, N> {
     ghost use Rattle.std.specs.Iterator.{YieldsLastBy};
 
-    ghost next_back_gives = { YieldsLastBy octets_of (λ labels. labels) };
+    ghost next_back_gives = { YieldsLastBy label_octets (λ labels. labels) };
 
     /// Returns the last label. It is found from the left, so the time grows with the number of labels.
     fn next_back(&mut self) -> Option<Label<'a>> {

@@ -13,7 +13,7 @@ mod unescaped;
 use crate::PushError;
 use dns_label::{BadSymbol, Symbol, SymbolCharsError};
 use dns_octets::AppendError;
-pub use draft::Spelling;
+pub use draft::NameDraft;
 use std::alloc::AllocError;
 use thiserror::Error;
 use unescaped::append_unescaped;
@@ -127,14 +127,14 @@ fn append_spelled(octets: &mut Vec<u8>, text: &[u8]) -> Result<(), FromStrError>
     ensures relative { IfErr result (λ error. (error ≡ Presentation presentation.RelativeName) ↔ LacksLastDot text.now) }
     ensures kept { OnErr result (octets.new.items ≡ octets.old.items) }
 {
-    let Some(spelling) = Spelling::read_text(text)? else {
+    let Some(draft) = NameDraft::read_text(text)? else {
         octets.extend_from_slice(&[0])?;
         return Ok(());
     };
-    if spelling.has_open_label() {
+    if draft.has_open_label() {
         return Err(FromStrError::Presentation(PresentationError::RelativeName));
     }
-    spelling.append_to(octets)
+    draft.append_to(octets)
 }
 
 /// Returns whether the symbol separates labels.

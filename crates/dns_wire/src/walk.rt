@@ -1,9 +1,9 @@
 //! Walking over the heads of a name in a message (RFC 1035, section 4.1.4).
 ghost use Rattle.std.specs.Prelude.{◌≡◌, ◌≤◌, ◌+◌, ◌↔◌, ◌∷◌, List, ℕ, length, drop, IfOk, IfErr, OnErr};
-ghost use Rattle.dns_label.specs.Label.{octets_of};
+ghost use Rattle.dns_label.specs.Label.{label_octets};
 ghost use Rattle.dns_label.specs.Labels.{labels_at};
 ghost use Rattle.dns_label.specs.Name.{wire, with_root};
-ghost use Rattle.dns_label.specs.Spelled.{Reads};
+ghost use Rattle.dns_label.specs.Spelled.{DecodesName};
 ghost use Rattle.dns_label.specs.Split.{NoLabel, StartsWithLabel};
 ghost use Rattle.dns_octets.specs.declared.error.ParseError.TheVariants.{ShortInput};
 ghost use Rattle.dns_wire.specs.Cut.{IsCut};
@@ -27,8 +27,8 @@ pub struct Walk {
 /// labels.
 pub fn walk_name(octets: &[u8], start: usize) -> Result<Walk, ParseError>
     requires { start ≤ length octets.now }
-    ensures ok { IfOk result (λ walk. (name : List (List ℕ)) × Reads octets.now start name walk.next × (walk.len ≡ length (wire name))) }
-    ensures err { OnErr result ((name : List (List ℕ)) (next : ℕ) → Reads octets.now start name next → ⊥) }
+    ensures ok { IfOk result (λ walk. (name : List (List ℕ)) × DecodesName octets.now start name walk.next × (walk.len ≡ length (wire name))) }
+    ensures err { OnErr result ((name : List (List ℕ)) (next : ℕ) → DecodesName octets.now start name next → ⊥) }
     ensures short { IfErr result (λ error. (error ≡ ShortInput) ↔ IsCut octets.now 255 254 start) }
 {
     let mut place = start;
@@ -72,7 +72,7 @@ pub fn walk_name(octets: &[u8], start: usize) -> Result<Walk, ParseError>
 /// Returns the label at a place, and the octets after it. Fails if there is no label.
 pub fn label_at(octets: &[u8], place: usize) -> Result<(Label<'_>, &[u8]), SplitLabelError>
     requires { place ≤ length octets.now }
-    ensures ok { IfOk result (λ found. StartsWithLabel (drop place octets.now) (octets_of found.0) found.1.now) }
+    ensures ok { IfOk result (λ found. StartsWithLabel (drop place octets.now) (label_octets found.0) found.1.now) }
     ensures err { IfErr result (NoLabel (drop place octets.now)) }
 {
     Label::split_from(&octets[place..])
@@ -82,7 +82,7 @@ pub fn label_at(octets: &[u8], place: usize) -> Result<(Label<'_>, &[u8]), Split
 pub fn split_label(octets: &[u8], start: usize) -> (Label<'_>, Option<usize>)
     requires { ∥ IsReadAt octets.now start ∥₁ }
     ensures left { IsLeft octets.now result.1 }
-    ensures labels { with_root (labels_at octets.now start) ≡ octets_of result.0 ∷ labels_left octets.now result.1 }
+    ensures labels { with_root (labels_at octets.now start) ≡ label_octets result.0 ∷ labels_left octets.now result.1 }
 {
     let mut place = start;
     loop {

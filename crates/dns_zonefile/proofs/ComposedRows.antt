@@ -15,7 +15,7 @@ use Rattle.dns_row_scanner.specs.NameInText.{SpellsUnder}
 use Rattle.dns_scan.specs.Token.{Token, SameNames}
 use Rattle.dns_scan_data.specs.Appended.{AppendsData}
 use Rattle.dns_text.specs.Rows.{TokenRow}
-use Rattle.dns_zonefile.specs.Composed.{HandsOn, octets_of}
+use Rattle.dns_zonefile.specs.Composed.{HandsOn, composed_octets}
 use Rattle.dns_zonefile.specs.ComposedRow.{BeginsWithName, ComposesData, ComposesRecord, HasNoOwner, IsHandedOn, OwnerStands}
 use Rattle.dns_zonefile.specs.Entry.{Context, Entry, Enters, IsEntry}
 use Rattle.dns_zonefile.specs.Entry.Entry.{Resource}
@@ -42,8 +42,8 @@ counted old more over two =
     λ i. front i ++ (over ++ behind i)
 
 -- data up to the row's end, after its length
-module _ {names : Names} {rtype : ℕ} {tokens left : List Token} {zeros mid : List ℕ} {opaque : Bool} (old : List ℕ) (room : zeros ≡ old ++ 0 ∷ 0 ∷ [])
-    (appends : AppendsData names rtype tokens left zeros mid opaque) where
+module _ {names : Names} {rtype : ℕ} {tokens left : List Token} {zeros mid : List ℕ} {unknown : Bool} (old : List ℕ) (room : zeros ≡ old ++ 0 ∷ 0 ∷ [])
+    (appends : AppendsData names rtype tokens left zeros mid unknown) where
   wide : length zeros ≡ length old + 2
   wide = ap (λ (l : List ℕ). length l) room ∙ length-append old (0 ∷ 0 ∷ [])
 
@@ -51,7 +51,7 @@ module _ {names : Names} {rtype : ℕ} {tokens left : List Token} {zeros mid : L
   longer = ap (λ (l : List ℕ). length l) appends.behind ∙ length-append zeros (data_octets appends.rdata)
 
   pub composes_data : {new : List ℕ} (place len : ℕ) → place ≡ length zeros → len ≡ length mid → left ≡ []
-      → new ≡ patched mid (place - 2) (to_be_bytes w16 (len - place)) → ComposesData names rtype tokens old new opaque
+      → new ≡ patched mid (place - 2) (to_be_bytes w16 (len - place)) → ComposesData names rtype tokens old new unknown
   composes_data {new} place len at behind ends patches =
       let more = data_octets appends.rdata in
       let first : place - 2 ≡ length old = omega (arith, at, wide) in
@@ -62,7 +62,7 @@ module _ {names : Names} {rtype : ℕ} {tokens left : List Token} {zeros mid : L
         behind = patches
             ∙ (λ i. patched ((appends.behind ∙ ap (λ (l : List ℕ). l ++ more) room) i) (first i) (to_be_bytes w16 (size i)))
             ∙ counted old more (to_be_bytes w16 (length more)) refl;
-        opaque = appends.opaque;
+        unknown_is = appends.unknown_is;
       }
 
   -- the length fits, and its place is there
@@ -190,15 +190,15 @@ joined old owner fixed rest = ap (λ (l : List ℕ). l ++ rest) (append_assoc ol
 module _ {names later last : Names} {row : TokenRow} {ttl class : Option ℕ} {rtype : ℕ} {tokens behind : List Token} {context : Context}
     {old with_owner : List ℕ} (bare : IsDirective row → ⊥) (stands : OwnerStands names context row tokens old with_owner)
     (same : SameNames names later) (head : HasHead tokens ttl class rtype behind) (on : SameNames later last) where
-  pub composes_record : {with_fixed new : List ℕ} {opaque : Bool} {owner_len number seconds last_ttl : ℕ}
+  pub composes_record : {with_fixed new : List ℕ} {unknown : Bool} {owner_len number seconds last_ttl : ℕ}
       → owner_len ≡ length with_owner - length old
       → (option_or class context.class ≡ Some number) × (option_or context.class class ≡ Some number)
       → seconds ≡ unwrap_or (option_or ttl context.default_ttl) context.last_ttl → last_ttl ≡ unwrap_or ttl context.last_ttl
       → rtype < 2 ^ 16 → number < 2 ^ 16 → seconds < 2 ^ 32
       → with_fixed ≡ with_owner ++ (fixed_octets rtype number seconds ++ 0 ∷ 0 ∷ [])
-      → ((front : List ℕ) → with_fixed ≡ front ++ 0 ∷ 0 ∷ [] → ComposesData last rtype behind front new opaque)
-      → ComposesRecord names context row (record { owner_len = owner_len; class = number; last_ttl = last_ttl; untyped = opaque }) old new
-  composes_record {with_fixed} {new} {opaque} {owner_len} {number} {seconds} {last_ttl} len is_class is_ttl is_last rtype_fits class_fits ttl_fits
+      → ((front : List ℕ) → with_fixed ≡ front ++ 0 ∷ 0 ∷ [] → ComposesData last rtype behind front new unknown)
+      → ComposesRecord names context row (record { owner_len = owner_len; class = number; last_ttl = last_ttl; unknown = unknown }) old new
+  composes_record {with_fixed} {new} {unknown} {owner_len} {number} {seconds} {last_ttl} len is_class is_ttl is_last rtype_fits class_fits ttl_fits
       fixed composes_behind =
       let name = stands.name in
       let composes = composes_behind (with_owner ++ fixed_octets rtype number seconds)
@@ -233,7 +233,7 @@ module _ {names later last : Names} {row : TokenRow} {ttl class : Option ℕ} {r
             ∙ ap (λ (l : List ℕ). l ++ after_length (data_octets composes.rdata))
             (λ i. stands.behind i ++ fixed_octets (sym its i) number seconds)
             ∙ joined old (wire name) (fixed_octets (number_of composes.rdata) number seconds) (after_length (data_octets composes.rdata));
-        opaque = composes.opaque;
+        unknown_is = composes.unknown_is;
       }
 
 -- its owner comes first
@@ -246,7 +246,7 @@ record_begins {old = old} {new} front place at is composes =
     let behind = after_length (data_octets rr.rdata) in record {
       rest = fixed ++ behind;
       is_name = composes.held.owner;
-      is = is ∙ (λ i. drop (at i) (composes.behind i)) ∙ drop-append_seam old (octets_of rr) ∙ append_assoc (wire rr.owner) fixed behind;
+      is = is ∙ (λ i. drop (at i) (composes.behind i)) ∙ drop-append_seam old (composed_octets rr) ∙ append_assoc (wire rr.owner) fixed behind;
       long = composes.owner_len;
     }
 
@@ -254,7 +254,7 @@ record_begins {old = old} {new} front place at is composes =
 pub record_handed : {origin : Option (List (List ℕ))} {row row' : TokenRow} {context after : Context} {it : ComposedRecord} {old new : List ℕ}
     {owner : List (List ℕ)} → origin ≡ context.origin → row ≡ row' → (composes : ComposesRecord (SpellsUnder origin) context row it old new)
     → owner ≡ composes.rr.owner → after ≡ record context { owner = Some owner; last_ttl = it.last_ttl; class = Some it.class }
-    → (entry : Entry) × IsEntry context row' entry after × IsHandedOn old entry (Some (composed.Record it.untyped)) new
+    → (entry : Entry) × IsEntry context row' entry after × IsHandedOn old entry (Some (composed.Record it.unknown)) new
 record_handed {context = context} {after} {it} {old} {new} origins rows composes owner_is sets =
     let rr = composes.rr in
     let there : after ≡ record context { owner = Some rr.owner; last_ttl = it.last_ttl; class = Some it.class } =
@@ -267,7 +267,7 @@ record_handed {context = context} {after} {it} {old} {new} origins rows composes
       },
       (
         (λ same. let no : ⊥ = cc in no),
-        subst (λ (b : Bool). HandsOn old (Ok (Some (Resource rr))) (Ok (Some (composed.Record b))) new) (sym composes.opaque)
+        subst (λ (b : Bool). HandsOn old (Ok (Some (Resource rr))) (Ok (Some (composed.Record b))) new) (sym composes.unknown_is)
             (HandsOn.resource composes.held composes.behind),
       ),
     )

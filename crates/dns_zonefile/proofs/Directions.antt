@@ -10,8 +10,8 @@ use Rattle.dns_values.specs.Mnemonic.{number_spelled}
 use Rattle.dns_scan.specs.Scans.{ScansWord}
 use Rattle.dns_scan.specs.Token.{Token, SameNames, Takes, SpellsOctets, unquoted}
 use Rattle.dns_scan.proofs.TextsBack.{spells_one}
-use Rattle.dns_zonefile.specs.Directive.{Argues, BeginsDirective, IsWordOf, word_of}
-use Rattle.dns_zonefile.specs.Directive.Argues.{origin, ttl, include, include_at}
+use Rattle.dns_zonefile.specs.Directive.{HasArguments, BeginsDirective, IsWordOf, word_of}
+use Rattle.dns_zonefile.specs.Directive.HasArguments.{origin, ttl, include, include_at}
 use Rattle.dns_zonefile.specs.Statement.{Directs, IsDirectiveWord, Names, Statement}
 use Rattle.dns_zonefile.specs.Statement.Statement.{NameFile, SetOrigin, SetTtl}
 use Rattle.dns_zonefile.specs.Statement.Directs.{origin as directs_origin, ttl as directs_ttl, include as directs_include, include_at as directs_include_at}
@@ -24,7 +24,7 @@ IsUnquoted token = (text : List ℕ) × (token ≡ unquoted text)
 
 -- a word and what follows it are a directive
 pub to_directs : {names : Names} {word : DirectiveWord} {token : Token} {tokens left : List Token} {statement : Statement}
-    → IsUnquoted token → IsWordOf word token → Argues names word tokens statement left → left ≡ [] → Directs names (token ∷ tokens) statement
+    → IsUnquoted token → IsWordOf word token → HasArguments names word tokens statement left → left ≡ [] → Directs names (token ∷ tokens) statement
 to_directs {names} {word} {token} bare is (origin {text = text} {name = name} {left = left} spells) none =
     subst (λ (l : List Token). Directs names (token ∷ unquoted text ∷ l) (SetOrigin name)) (sym none) (directs_origin (bare.0, bare.1, ap (λ (t : Token). map to_ascii_lowercase t.text) (sym bare.1) ∙ is) spells)
 to_directs {names} {word} {token} bare is (ttl {token = second} {seconds = seconds} takes number) none =
@@ -39,7 +39,7 @@ to_directs {names} {word} {token} bare is (include_at {token = second} {path = p
 pub record Behind (names : Names) (tokens : List Token) (statement : Statement) : Type 0 where
   pub word : DirectiveWord
   pub takes : Takes (IsWordOf word) tokens (drop 1 tokens)
-  pub argues : Argues names word (drop 1 tokens) statement []
+  pub argues : HasArguments names word (drop 1 tokens) statement []
 
 lowered : {word : List ℕ} {token : Token} → IsDirectiveWord word token → map to_ascii_lowercase token.text ≡ word
 lowered is = ap (λ (t : Token). map to_ascii_lowercase t.text) is.1 ∙ is.2
@@ -79,14 +79,14 @@ no_word {tokens = tokens} none directs = let is = of_directs directs in none is.
 
 pub no_argument : {names : Names} {word : DirectiveWord} {tokens left mid : List Token} {statement : Statement}
     → Takes (IsWordOf word) tokens left → mid ≡ drop 1 tokens
-    → ((said : Statement) (more : List Token) → Argues names word mid said more → ⊥) → Directs names tokens statement → ⊥
+    → ((said : Statement) (more : List Token) → HasArguments names word mid said more → ⊥) → Directs names tokens statement → ⊥
 no_argument {names} {word} {tokens} {statement = statement} takes at none directs =
     let is = of_directs directs in
-    none statement [] (subst (λ (l : List Token). Argues names word l statement []) (sym at)
-    (subst (λ (w : DirectiveWord). Argues names w (drop 1 tokens) statement []) (sym (word_one takes is.takes)) is.argues))
+    none statement [] (subst (λ (l : List Token). HasArguments names word l statement []) (sym at)
+    (subst (λ (w : DirectiveWord). HasArguments names w (drop 1 tokens) statement []) (sym (word_one takes is.takes)) is.argues))
 
 left_none : {names : Names} {word other : DirectiveWord} {tokens tokens' left left' : List Token} {statement statement' : Statement}
-    → word ≡ other → tokens ≡ tokens' → Argues names word tokens statement left → Argues names other tokens' statement' left' → left' ≡ []
+    → word ≡ other → tokens ≡ tokens' → HasArguments names word tokens statement left → HasArguments names other tokens' statement' left' → left' ≡ []
     → left ≡ []
 left_none same at (origin {left = left} spells) (origin {left = left'} also) none = let both : left ≡ left' = cc in both ∙ none
 left_none same at (origin spells) (ttl takes number) none = absurd cc
@@ -104,7 +104,7 @@ left_none same at (include_at {left = left} bare path ascii under) (include_at {
     let both : left ≡ left' = cc in both ∙ none
 
 pub nothing_left : {names : Names} {word : DirectiveWord} {tokens left mid more : List Token} {said statement : Statement}
-    → Takes (IsWordOf word) tokens left → mid ≡ drop 1 tokens → Argues names word mid said more → more ≢ []
+    → Takes (IsWordOf word) tokens left → mid ≡ drop 1 tokens → HasArguments names word mid said more → more ≢ []
     → Directs names tokens statement → ⊥
 nothing_left takes at argues some directs =
     let is = of_directs directs in
@@ -149,23 +149,23 @@ quoted_not_bare {left = left} {rest = rest} {text = text} takes is =
 
 -- what follows `$include`
 pub path_alone : {names : Names} {tokens mid behind left : List Token} {text path : List ℕ} → tokens ≡ unquoted text ∷ mid
-    → Takes (SpellsOctets path) tokens behind → IsAscii path → behind ≡ [] → left ≡ behind → Argues names Include tokens (NameFile path None) left
+    → Takes (SpellsOctets path) tokens behind → IsAscii path → behind ≡ [] → left ≡ behind → HasArguments names Include tokens (NameFile path None) left
 path_alone {names} {tokens} {mid} {behind} {left} {text} {path} is takes ascii none at =
     let both : takes.token ∷ behind ≡ unquoted text ∷ mid = sym takes.is ∙ is in
     let first : takes.token ≡ unquoted text = cc in
     let whole : takes.token ∷ [] ≡ tokens = ap (λ (l : List Token). takes.token ∷ l) (sym none) ∙ sym takes.is in
     let ends : [] ≡ left = sym none ∙ sym at in
-    let alone : Argues names Include (takes.token ∷ []) (NameFile path None) [] = include first takes.fits ascii in
-    subst (λ (l : List Token). Argues names Include tokens (NameFile path None) l) ends
-    (subst (λ (l : List Token). Argues names Include l (NameFile path None) []) whole alone)
+    let alone : HasArguments names Include (takes.token ∷ []) (NameFile path None) [] = include first takes.fits ascii in
+    subst (λ (l : List Token). HasArguments names Include tokens (NameFile path None) l) ends
+    (subst (λ (l : List Token). HasArguments names Include l (NameFile path None) []) whole alone)
 
 pub path_and_origin : {names : Names} {tokens mid behind left : List Token} {text path origin_text : List ℕ} {name : List (List ℕ)}
     → tokens ≡ unquoted text ∷ mid → Takes (SpellsOctets path) tokens behind → IsAscii path → behind ≡ unquoted origin_text ∷ left
-    → names origin_text name → Argues names Include tokens (NameFile path (Some name)) left
+    → names origin_text name → HasArguments names Include tokens (NameFile path (Some name)) left
 path_and_origin {names} {tokens} {mid} {behind} {left} {text} {path} {origin_text} {name} is takes ascii more spells =
     let both : takes.token ∷ behind ≡ unquoted text ∷ mid = sym takes.is ∙ is in
     let first : takes.token ≡ unquoted text = cc in
-    subst (λ (l : List Token). Argues names Include l (NameFile path (Some name)) left)
+    subst (λ (l : List Token). HasArguments names Include l (NameFile path (Some name)) left)
     (sym (takes.is ∙ ap (λ (l : List Token). takes.token ∷ l) more)) (include_at first takes.fits ascii spells)
 
 -- The path, and what follows it.
@@ -179,7 +179,7 @@ record Path (names : Names) (tokens left : List Token) : Type 0 where
   more : behind ≢ [] → (origin_text : List ℕ) × (name : List (List ℕ)) × (behind ≡ unquoted origin_text ∷ left) × names origin_text name
 
 path_of : {names : Names} {word : DirectiveWord} {tokens left : List Token} {statement : Statement} → word ≡ Include
-    → Argues names word tokens statement left → Path names tokens left
+    → HasArguments names word tokens statement left → Path names tokens left
 path_of same (origin spells) = absurd cc
 path_of same (ttl takes number) = absurd cc
 path_of same (include {token = token} {text = text} {path = path} is spells ascii) = record {
@@ -201,7 +201,7 @@ path_of same (include_at {token = token} {text = text} {path = path} {origin_tex
   more = λ some. (origin_text, name, refl, under);
 }
 
-module _ {names : Names} {tokens left : List Token} {statement : Statement} (argues : Argues names Include tokens statement left) where
+module _ {names : Names} {tokens left : List Token} {statement : Statement} (argues : HasArguments names Include tokens statement left) where
   path : Path names tokens left
   path = path_of refl argues
 
@@ -229,7 +229,7 @@ module _ {names : Names} {tokens left : List Token} {statement : Statement} (arg
 
 -- names with the same spelling at two places
 argues_same : {names later : Names} {word : DirectiveWord} {tokens left : List Token} {statement : Statement} → SameNames names later
-    → Argues names word tokens statement left → Argues later word tokens statement left
+    → HasArguments names word tokens statement left → HasArguments later word tokens statement left
 argues_same same (origin {text = text} {name = name} spells) = origin ((same text name).0 spells)
 argues_same same (ttl takes number) = ttl takes number
 argues_same same (include bare' path' ascii) = include bare' path' ascii
@@ -246,35 +246,35 @@ first_bare {left = left} word begins' takes =
 
 pub directs_by : {names later : Names} {word : DirectiveWord} {tokens mid left : List Token} {statement : Statement} → SameNames names later
     → BeginsDirective tokens → Takes (IsWordOf word) tokens (drop 1 tokens) → mid ≡ drop 1 tokens
-    → Argues later word mid statement left → left ≡ [] → Directs names tokens statement
+    → HasArguments later word mid statement left → left ≡ [] → Directs names tokens statement
 directs_by {names} {later} {word} {tokens} {mid} {left} {statement} same begins' takes at argues none =
-    let there : Argues names word (drop 1 tokens) statement left =
-    subst (λ (l : List Token). Argues names word l statement left) at (argues_same (turned same) argues) in
+    let there : HasArguments names word (drop 1 tokens) statement left =
+    subst (λ (l : List Token). HasArguments names word l statement left) at (argues_same (turned same) argues) in
     subst (λ (l : List Token). Directs names l statement) (sym takes.is) (to_directs (first_bare word begins' takes) takes.fits there none)
 
 pub not_argued : {names later : Names} {word : DirectiveWord} {tokens mid : List Token} {statement : Statement} → SameNames names later
     → Takes (IsWordOf word) tokens (drop 1 tokens) → mid ≡ drop 1 tokens
-    → ((said : Statement) (more : List Token) → Argues later word mid said more → ⊥) → Directs names tokens statement → ⊥
+    → ((said : Statement) (more : List Token) → HasArguments later word mid said more → ⊥) → Directs names tokens statement → ⊥
 not_argued same takes at none directs = no_argument takes at (λ said more argues. none said more (argues_same same argues)) directs
 
 pub more_argued : {names later : Names} {word : DirectiveWord} {tokens mid more : List Token} {said statement : Statement} → SameNames names later
-    → Takes (IsWordOf word) tokens (drop 1 tokens) → mid ≡ drop 1 tokens → Argues later word mid said more → more ≢ []
+    → Takes (IsWordOf word) tokens (drop 1 tokens) → mid ≡ drop 1 tokens → HasArguments later word mid said more → more ≢ []
     → Directs names tokens statement → ⊥
 more_argued same takes at argues some directs = nothing_left takes at (argues_same (turned same) argues) some directs
 
 -- what follows the words `$origin` and `$ttl`
 pub origin_argued : {names : Names} {tokens left : List Token} {name : List (List ℕ)}
-    → (text : List ℕ) × (tokens ≡ unquoted text ∷ left) × names text name → Argues names Origin tokens (SetOrigin name) left
+    → (text : List ℕ) × (tokens ≡ unquoted text ∷ left) × names text name → HasArguments names Origin tokens (SetOrigin name) left
 origin_argued {names} {left = left} {name = name} scanned =
-    subst (λ (l : List Token). Argues names Origin l (SetOrigin name) left) (sym scanned.1) (origin scanned.2)
+    subst (λ (l : List Token). HasArguments names Origin l (SetOrigin name) left) (sym scanned.1) (origin scanned.2)
 
 pub ttl_argued : {names : Names} {tokens left : List Token} {seconds : ℕ} → ScansWord (number_spelled (2 ^ 32)) tokens seconds left
-    → Argues names Ttl tokens (SetTtl seconds) left
+    → HasArguments names Ttl tokens (SetTtl seconds) left
 ttl_argued {names} {left = left} {seconds = seconds} scans =
-    subst (λ (l : List Token). Argues names Ttl l (SetTtl seconds) left) (sym scans.takes.is) (ttl scans.takes.fits scans.reads_as)
+    subst (λ (l : List Token). HasArguments names Ttl l (SetTtl seconds) left) (sym scans.takes.is) (ttl scans.takes.fits scans.reads_as)
 
 ttl_scanned : {names : Names} {word : DirectiveWord} {tokens left : List Token} {statement : Statement} → word ≡ Ttl
-    → Argues names word tokens statement left → (seconds : ℕ) × ScansWord (number_spelled (2 ^ 32)) tokens seconds left
+    → HasArguments names word tokens statement left → (seconds : ℕ) × ScansWord (number_spelled (2 ^ 32)) tokens seconds left
 ttl_scanned same (origin spells) = absurd cc
 ttl_scanned same (ttl {token = token} {text = text} {seconds = seconds} takes number) =
     (seconds, record { text = text; takes = record { token = token; is = refl; fits = takes }; reads_as = number })
@@ -283,7 +283,7 @@ ttl_scanned same (include_at bare' path' ascii under) = absurd cc
 
 pub no_seconds : {names : Names} {word : DirectiveWord} {tokens left : List Token} {statement : Statement} → word ≡ Ttl
     → ((seconds : ℕ) (rest : List Token) → ScansWord (number_spelled (2 ^ 32)) tokens seconds rest → ⊥)
-    → Argues names word tokens statement left → ⊥
+    → HasArguments names word tokens statement left → ⊥
 no_seconds {left = left} same none argues = let scanned = ttl_scanned same argues in none scanned.0 left scanned.1
 
 -- whether tokens are left
@@ -305,13 +305,13 @@ same_on first second text name =
 pub no_origin_later : {names later last : Names} {tokens behind after left : List Token} {octets : List ℕ} {statement : Statement}
     → SameNames names later → SameNames later last → after ≡ behind → Takes (SpellsOctets octets) tokens behind → behind ≢ []
     → ((text : List ℕ) (rest : List Token) (name : List (List ℕ)) → after ≡ unquoted text ∷ rest → last text name → ⊥)
-    → Argues names Include tokens statement left → ⊥
+    → HasArguments names Include tokens statement left → ⊥
 no_origin_later same on at takes some none argues =
     no_origin argues takes some (λ text rest name is spells. none text rest name (at ∙ is) ((same_on same on text name).0 spells))
 
 pub origin_later : {names later last : Names} {tokens mid behind after left : List Token} {text path : List ℕ} {name : List (List ℕ)}
     → SameNames names later → SameNames later last → after ≡ behind → tokens ≡ unquoted text ∷ mid → Takes (SpellsOctets path) tokens behind
     → IsAscii path → (origin_text : List ℕ) × (after ≡ unquoted origin_text ∷ left) × last origin_text name
-    → Argues names Include tokens (NameFile path (Some name)) left
+    → HasArguments names Include tokens (NameFile path (Some name)) left
 origin_later {name = name} same on at is takes ascii scanned =
     path_and_origin is takes ascii (sym at ∙ scanned.1) ((same_on same on scanned.0 name).1 scanned.2)

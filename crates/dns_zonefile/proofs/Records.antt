@@ -6,7 +6,7 @@ use Rattle.dns_fields.specs.Fields.{Field, kind_of, octets}
 use Rattle.dns_fields.specs.Scanned.{ScansData, ScansLong}
 use Rattle.dns_fields.specs.SpelledNames.{SpellOne}
 use Rattle.dns_fields.proofs.ScannedOnce.{data_scanned_once, row_one}
-use Rattle.dns_rdata.specs.Data.{Data, typed, untyped, NoAnyDataScans, ScansAnyData, number_of}
+use Rattle.dns_rdata.specs.Data.{Data, typed, unknown_data, NoAnyDataScans, ScansAnyData, number_of}
 use Rattle.dns_rdata.proofs.PrintedData.{any_one}
 use Rattle.dns_rdata.proofs.ScanAny.{same_back, text_same}
 use Rattle.dns_zonefile.specs.Directive.{BeginsDirective}
@@ -32,7 +32,7 @@ begins_no_directive none is = none (record { text = is.text; others = is.others;
 pub number_is : (names : Names) (rtype : ℕ) (rdata : Data) (tokens left : List Token) → ScansAnyData names rtype rdata tokens left
     → number_of rdata ≡ rtype
 number_is names rtype (typed number row) tokens left scans = scans.1
-number_is names rtype (untyped unknown) tokens left scans = scans.0
+number_is names rtype (unknown_data unknown) tokens left scans = scans.0
 
 -- a record from its parts
 pub states : {names later : Names} {row : TokenRow} {owner : Option (List (List ℕ))} {ttl class : Option ℕ} {rtype : ℕ} {rdata : Data}
@@ -93,7 +93,7 @@ not_long {names} {rtype} {row} {tokens} {left} once scans long =
 pub no_any : {names : Names} {rtype : ℕ} {tokens : List Token} → SpellOne names → NoAnyDataScans names rtype tokens → (rdata : Data)
     (left : List Token) → ScansAnyData names rtype rdata tokens left → ⊥
 no_any {names} {rtype} once none (typed number row) left scans = none (λ unmarked long. not_long once scans.2 long) (typed number row) left scans
-no_any once none (untyped unknown) left scans = none (λ unmarked long. unmarked scans.1 scans.2) (untyped unknown) left scans
+no_any once none (unknown_data unknown) left scans = none (λ unmarked long. unmarked scans.1 scans.2) (unknown_data unknown) left scans
 
 -- data followed by tokens ends no row
 pub none_whole : {names : Names} (rtype : ℕ) (tokens : List Token) {left : List Token} (rdata : Data) → SpellOne names

@@ -4,7 +4,7 @@ use Rattle.std.specs.Global.{Global}
 use Rattle.dns_label.specs.Name.{IsName}
 use Rattle.dns_header.specs.Head.{record_octets}
 use Rattle.dns_header.specs.Record.{RecordOf}
-use Rattle.dns_rdata.specs.Data.{Data, is_untyped, number_of}
+use Rattle.dns_rdata.specs.Data.{Data, is_unknown, number_of}
 use Rattle.dns_rdata.specs.DataOctets.{data_octets}
 use Rattle.dns_row_scanner.specs.declared.entry_error.EntryError.{EntryError}
 use Rattle.dns_zonefile.specs.Entry.{Entry}
@@ -16,8 +16,8 @@ use Rattle.dns_zonefile.specs.declared.entry.IncludedFile.{IncludedFile}
 use Rattle.dns_zonefile.specs.declared.error.Error.{Error}
 
 -- the octets of a record, every name in full (RFC 1035 3.2.1)
-abbrev pub octets_of : RecordOf (List (List ℕ)) Data → List ℕ
-octets_of rr = record_octets rr.owner (number_of rr.rdata) rr.class rr.ttl (data_octets rr.rdata)
+abbrev pub composed_octets : RecordOf (List (List ℕ)) Data → List ℕ
+composed_octets rr = record_octets rr.owner (number_of rr.rdata) rr.class rr.ttl (data_octets rr.rdata)
 
 -- The parts of a record fit in octets: its owner is a name, and each number and the length of its data fit (RFC 1035
 -- 3.2.1).
@@ -35,8 +35,8 @@ included file = Include (string_bytes file.path) file.origin
 -- A result in the form of octets, by those before and after it: the octets of a record, whose parts fit, follow those
 -- before. Nothing else changes the octets.
 pub data HandsOn (old : List ℕ) : Result (Option Entry) EntryError → Result (Option ComposedEntry) EntryError → List ℕ → Type 0 where
-  resource : {rr : RecordOf (List (List ℕ)) Data} {new : List ℕ} → IsHeld rr → new ≡ old ++ octets_of rr
-      → HandsOn old (Ok (Some (Resource rr))) (Ok (Some (composed.Record (is_untyped rr.rdata)))) new
+  resource : {rr : RecordOf (List (List ℕ)) Data} {new : List ℕ} → IsHeld rr → new ≡ old ++ composed_octets rr
+      → HandsOn old (Ok (Some (Resource rr))) (Ok (Some (composed.Record (is_unknown rr.rdata)))) new
   include : {file : Box IncludedFile Global} → HandsOn old (Ok (Some (included (box_value file)))) (Ok (Some (composed.Include file))) old
   ended : HandsOn old (Ok None) (Ok None) old
   refused : {error : EntryError} → HandsOn old (Err error) (Err error) old

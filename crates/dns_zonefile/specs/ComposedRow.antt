@@ -4,11 +4,11 @@ use Rattle.std.specs.Option.{option_or}
 use Rattle.dns_header.specs.Head.{after_length}
 use Rattle.dns_header.specs.Record.{RecordOf}
 use Rattle.dns_label.specs.Name.{IsName, wire}
-use Rattle.dns_rdata.specs.Data.{Data, ScansAnyData, is_untyped}
+use Rattle.dns_rdata.specs.Data.{Data, ScansAnyData, is_unknown}
 use Rattle.dns_rdata.specs.DataOctets.{data_octets}
 use Rattle.dns_scan.specs.Token.{Token}
 use Rattle.dns_text.specs.Rows.{TokenRow}
-use Rattle.dns_zonefile.specs.Composed.{HandsOn, IsHeld, octets_of}
+use Rattle.dns_zonefile.specs.Composed.{HandsOn, IsHeld, composed_octets}
 use Rattle.dns_zonefile.specs.Entry.{Context, Entry, Enters}
 use Rattle.dns_zonefile.specs.Entry.Entry.{Resource}
 use Rattle.dns_zonefile.specs.RowRead.{IsGiven}
@@ -18,12 +18,12 @@ use Rattle.dns_zonefile.specs.declared.entry.ComposedEntry.{ComposedEntry}
 use Rattle.dns_zonefile.specs.declared.entry_form.octets.ComposedRecord.{ComposedRecord}
 
 -- The tokens up to the row's end are data of the type. Its octets follow their length, and both follow the old ones.
-pub record ComposesData (names : Names) (rtype : ℕ) (tokens : List Token) (old new : List ℕ) (untyped : Bool) : Type 0 where
+pub record ComposesData (names : Names) (rtype : ℕ) (tokens : List Token) (old new : List ℕ) (unknown : Bool) : Type 0 where
   pub rdata : Data
   pub scans : ScansAnyData names rtype rdata tokens []
   pub short : length (data_octets rdata) ≤ 65535
   pub behind : new ≡ old ++ after_length (data_octets rdata)
-  pub opaque : untyped ≡ is_untyped rdata
+  pub unknown_is : unknown ≡ is_unknown rdata
 
 -- The row's owner in the context, stated or the last one, and the tokens that are left. Its octets follow the old ones.
 pub record OwnerStands (names : Names) (context : Context) (row : TokenRow) (left : List Token) (old new : List ℕ) : Type 0 where
@@ -55,8 +55,8 @@ pub record ComposesRecord (names : Names) (context : Context) (row : TokenRow) (
       (record context { owner = Some rr.owner; last_ttl = composed.last_ttl; class = Some composed.class })
   pub owner_len : composed.owner_len ≡ length (wire rr.owner)
   pub held : IsHeld rr
-  pub behind : new ≡ old ++ octets_of rr
-  pub opaque : composed.untyped ≡ is_untyped rr.rdata
+  pub behind : new ≡ old ++ composed_octets rr
+  pub unknown_is : composed.unknown ≡ is_unknown rr.rdata
 
 -- an entry in the form of octets, by those before and after it
 abbrev pub IsHandedOn : List ℕ → Entry → Option ComposedEntry → List ℕ → Type 0

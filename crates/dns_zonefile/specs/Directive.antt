@@ -26,13 +26,13 @@ pub record BeginsDirective (tokens : List Token) : Type 0 where
   pub is : tokens ≡ unquoted (36 ∷ text) ∷ others
 
 -- the tokens after the word are what it says, and these are left
-pub data Argues (names : Names) : DirectiveWord → List Token → Statement → List Token → Type 0 where
+pub data HasArguments (names : Names) : DirectiveWord → List Token → Statement → List Token → Type 0 where
   origin : {text : List ℕ} {name : List (List ℕ)} {left : List Token} → names text name
-      → Argues names Origin (unquoted text ∷ left) (SetOrigin name) left
+      → HasArguments names Origin (unquoted text ∷ left) (SetOrigin name) left
   ttl : {token : Token} {text : List ℕ} {seconds : ℕ} {left : List Token} → IsWord text token
-      → number_spelled (2 ^ 32) text ≡ Some seconds → Argues names Ttl (token ∷ left) (SetTtl seconds) left
+      → number_spelled (2 ^ 32) text ≡ Some seconds → HasArguments names Ttl (token ∷ left) (SetTtl seconds) left
   include : {token : Token} {text path : List ℕ} → token ≡ unquoted text → SpellsOctets path token → IsAscii path
-      → Argues names Include (token ∷ []) (NameFile path None) []
+      → HasArguments names Include (token ∷ []) (NameFile path None) []
   include_at : {token : Token} {text path origin_text : List ℕ} {name : List (List ℕ)} {left : List Token} → token ≡ unquoted text
       → SpellsOctets path token → IsAscii path → names origin_text name
-      → Argues names Include (token ∷ unquoted origin_text ∷ left) (NameFile path (Some name)) left
+      → HasArguments names Include (token ∷ unquoted origin_text ∷ left) (NameFile path (Some name)) left

@@ -30,7 +30,7 @@ pub enum ComposedEntry {
     /// A record. Its octets are the last ones of the vector.
     Record {
         /// Whether its data is unknown data: the text has it as `\#`, or the type has no fields (RFC 3597).
-        untyped: bool,
+        unknown: bool,
     },
     /// `$INCLUDE`, which names another file. It is boxed so that the enum stays small.
     Include(Box<IncludedFile>),

@@ -9,7 +9,7 @@ use Rattle.std.proofs.lemmas.Grind.{flat_map-append}
 use Rattle.std.proofs.lemmas.List.{map-append}
 use Rattle.dns_wire.proofs.Case.{low_wire}
 use Rattle.dns_rdata.specs.Fields.{Kind, Number8, Number16, Number32, Compressible, Uncompressed, Field, number8, number16, number32, compressible, uncompressed, kind_of, kinds_in, kinds_of, table, IsField, IsRow, field_octets, octets, lowered, canonical_octets}
-use Rattle.zone_canonical.specs.DataForm.{data_form, form_with, lower_names, octets_in, octets_of, places_in, places_of}
+use Rattle.zone_canonical.specs.DataForm.{data_form, form_with, lower_names, octets_in, fixed_len, places_in, places_of}
 use Rattle.zone_canonical.proofs.LowerNames.{lower_parts}
 
 abbrev IsNumber : Kind → Type 0
@@ -28,7 +28,7 @@ IsPlain Compressible = ⊥
 IsPlain Uncompressed = ⊥
 IsPlain kind = ⊤
 
-length-number : (field : Field) → IsNumber (kind_of field) → length (field_octets field) ≡ octets_of (kind_of field)
+length-number : (field : Field) → IsNumber (kind_of field) → length (field_octets field) ≡ fixed_len (kind_of field)
 length-number (number8 n) is = refl
 length-number (number16 n) is = refl
 length-number (number32 n) is = refl
@@ -227,6 +227,6 @@ pub row_form : (rtype : ℕ) (row : List Field) → IsRow rtype row → canonica
 row_form rtype row is = shape_form rtype row (in_table table table_shapes rtype (map kind_of row) is.kinds) is.kinds is.each
 
 -- unknown data is unchanged
-pub opaque_form : (rtype : ℕ) (data' : List ℕ) → kinds_of rtype ≡ None → data_form rtype data' ≡ data'
+pub unknown_form : (rtype : ℕ) (data' : List ℕ) → kinds_of rtype ≡ None → data_form rtype data' ≡ data'
 unfolding places_of
-opaque_form rtype data' unknown = ap (λ k. form_with (option_and_then (places_in 0) k) data') unknown
+unknown_form rtype data' unknown = ap (λ k. form_with (option_and_then (places_in 0) k) data') unknown

@@ -15,7 +15,7 @@ use Rattle.dns_flat.specs.OrderLaws.{labels_ties}
 use Rattle.dns_rdata.specs.Fields.{Field, IsRow, kind_of, kinds_of, canonical_octets}
 use Rattle.dns_fields.proofs.ComposedRows.{same_octets}
 use Rattle.zone_octets.specs.Record.{Record}
-use Rattle.zone_canonical.specs.Canonical.{IsCanonicalData, typed, opaque, IsCanonicalOf, canonical_cmp}
+use Rattle.zone_canonical.specs.Canonical.{IsCanonicalData, typed, unknown, IsCanonicalOf, canonical_cmp}
 
 low_label : (label : List ℕ) → map to_ascii_lowercase (map to_ascii_lowercase label) ≡ map to_ascii_lowercase label
 low_label [] = refl
@@ -31,9 +31,9 @@ no_kinds rtype row is none = let e : Some (map kind_of row) ≡ None = sym is.ki
 pub one_data : (rtype : ℕ) (data' one other : List ℕ) → IsCanonicalData rtype data' one → IsCanonicalData rtype data' other → one ≡ other
 one_data rtype data' one other (typed row is are form) (typed row' is' are' form') =
     form ∙ ap canonical_octets (same_octets rtype row' row is' is (sym are' ∙ are)) ∙ sym form'
-one_data rtype data' one other (typed row is are form) (opaque none form') = absurd (no_kinds rtype row is none)
-one_data rtype data' one other (opaque none form) (typed row is are form') = absurd (no_kinds rtype row is none)
-one_data rtype data' one other (opaque none form) (opaque none' form') = form ∙ sym form'
+one_data rtype data' one other (typed row is are form) (unknown none form') = absurd (no_kinds rtype row is none)
+one_data rtype data' one other (unknown none form) (typed row is are form') = absurd (no_kinds rtype row is none)
+one_data rtype data' one other (unknown none form) (unknown none' form') = form ∙ sym form'
 
 same_record : (one other : Record) → one.owner ≡ other.owner → one.rtype ≡ other.rtype → one.class ≡ other.class → one.ttl ≡ other.ttl
     → one.rdata ≡ other.rdata → one ≡ other

@@ -6,7 +6,7 @@ use Rattle.dns_wire.proofs.LowNames.{length-wire-low, low_name}
 use Rattle.dns_rdata.specs.Fields.{Field, number8, number16, number32, ipv4, ipv6, compressible, uncompressed, string, strings, tag, rest_text, rest16, rest64, IsField, field_octets, octets, lowered, canonical_octets}
 use Rattle.dns_message.specs.Record.{IsRecord}
 use Rattle.zone_octets.specs.Record.{Record}
-use Rattle.zone_canonical.specs.Canonical.{IsCanonicalData, typed, opaque, IsCanonicalOf}
+use Rattle.zone_canonical.specs.Canonical.{IsCanonicalData, typed, unknown, IsCanonicalOf}
 
 length-lowered : (field : Field) → IsField field → length (field_octets (lowered field)) ≡ length (field_octets field)
 length-lowered (compressible name) is = length-wire-low name is
@@ -33,7 +33,7 @@ length-canonical (field ∷ row) each =
 pub length-form : (rtype : ℕ) (data' form : List ℕ) → IsCanonicalData rtype data' form → length form ≡ length data'
 length-form rtype data' form (typed row is are form_is) =
     ap length form_is ∙ length-canonical row is.each ∙ sym (ap length are)
-length-form rtype data' form (opaque none form_is) = ap length form_is
+length-form rtype data' form (unknown none form_is) = ap length form_is
 
 pub form_lawful : (r form : Record) → IsRecord r → IsCanonicalOf r form → IsRecord form
 form_lawful r form is of = record {

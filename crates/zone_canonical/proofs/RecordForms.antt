@@ -18,15 +18,15 @@ use Rattle.dns_message.specs.Record.{record_octets}
 use Rattle.dns_rdata.specs.Fields as fields
 use Rattle.dns_rdata.specs.Fields.{IsData}
 use Rattle.zone_octets.specs.Record.{Record}
-use Rattle.zone_canonical.specs.Canonical.{IsCanonicalData, typed, opaque, IsCanonicalOf, HasCanonicalForm}
+use Rattle.zone_canonical.specs.Canonical.{IsCanonicalData, typed, unknown, IsCanonicalOf, HasCanonicalForm}
 use Rattle.zone_canonical.specs.DataForm.{data_form, form_with, lower_between, places_of}
 use Rattle.zone_canonical.specs.Form.{form_of}
 use Rattle.zone_canonical.specs.declared.data.NamePlaces.{NamePlaces}
-use Rattle.zone_canonical.proofs.DataForms.{row_form, opaque_form}
+use Rattle.zone_canonical.proofs.DataForms.{row_form, unknown_form}
 
 data_formed : (rtype : ℕ) (data' : List ℕ) → IsData rtype data' → IsCanonicalData rtype data' (data_form rtype data')
 data_formed rtype data' (fields.typed row is are) = typed row is are (ap (data_form rtype) are ∙ sym (row_form rtype row is))
-data_formed rtype data' (fields.opaque none short) = opaque none (opaque_form rtype data' none)
+data_formed rtype data' (fields.unknown none short) = unknown none (unknown_form rtype data' none)
 
 -- a record's form is its canonical one
 is_formed : (r : Record) → HasCanonicalForm r → IsCanonicalOf r (form_of r)

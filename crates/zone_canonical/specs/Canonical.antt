@@ -15,7 +15,7 @@ use Rattle.zone_octets.specs.Record.{Record}
 -- 6.2, RFC 3597 7).
 pub data IsCanonicalData (rtype : ℕ) (data' canonical : List ℕ) : Type 0 where
   typed : (row : List Field) → IsRow rtype row → data' ≡ octets row → canonical ≡ canonical_octets row → IsCanonicalData rtype data' canonical
-  opaque : kinds_of rtype ≡ None → canonical ≡ data' → IsCanonicalData rtype data' canonical
+  unknown : kinds_of rtype ≡ None → canonical ≡ data' → IsCanonicalData rtype data' canonical
 
 -- a record in canonical form: its owner in lower case, its data in canonical form (RFC 4034 6.2)
 pub record IsCanonicalOf (r form : Record) : Type 0 where

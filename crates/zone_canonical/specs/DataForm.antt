@@ -7,16 +7,16 @@ use Rattle.dns_rdata.specs.Fields.{Kind, Number8, Number16, Number32, Compressib
 use Rattle.zone_canonical.specs.declared.data.NamePlaces.{NamePlaces}
 
 -- the length of a number in octets
-abbrev pub octets_of : Kind → ℕ
-octets_of Number8 = 1
-octets_of Number16 = 2
-octets_of Number32 = 4
-octets_of kind = 0
+abbrev pub fixed_len : Kind → ℕ
+fixed_len Number8 = 1
+fixed_len Number16 = 2
+fixed_len Number32 = 4
+fixed_len kind = 0
 
 -- the length of the numbers in octets
 abbrev pub octets_in : List Kind → ℕ
 octets_in [] = 0
-octets_in (kind ∷ kinds) = octets_of kind + octets_in kinds
+octets_in (kind ∷ kinds) = fixed_len kind + octets_in kinds
 
 -- the place of the names in a row with this number of octets before these kinds, if the names follow each other and all
 -- other fields are numbers
@@ -24,7 +24,7 @@ abbrev pub places_in : ℕ → List Kind → Option NamePlaces
 places_in before [] = None
 places_in before (Compressible ∷ kinds) = Some (record { before = before; after = octets_in kinds })
 places_in before (Uncompressed ∷ kinds) = Some (record { before = before; after = octets_in kinds })
-places_in before (kind ∷ kinds) = places_in (before + octets_of kind) kinds
+places_in before (kind ∷ kinds) = places_in (before + fixed_len kind) kinds
 
 -- the place of the names in data of a type, or None if it has none
 unfoldable pub places_of : ℕ → Option NamePlaces

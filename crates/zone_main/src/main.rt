@@ -3,18 +3,23 @@
 
 #[cfg(test)]
 mod tests;
-mod unasked;
+mod usage_error;
+mod words;
 
-use std::alloc::AllocError;
+use clap::error::ErrorKind;
 use std::process::ExitCode;
-use unasked::Unasked;
+use usage_error::UsageError;
+use words::words_after_path;
 use zonewire::{Ending, StdSink, StdSource, WordsFault, program};
 
+/// The program's name, as the first word of a command line.
+const NAME: &str = "zonewire";
+
 fn main(rt: HostRuntime) -> ExitCode {
-    let ending = match words_given(&rt) {
+    let ending = match words_after_path(&rt) {
         Ok(words) => perform(&rt, words.as_slice()),
-        Err(Unasked::OutOfMemory) => Ending::Refused(WordsFault::OutOfMemory),
-        Err(Unasked::NotText) => {
+        Err(UsageError::OutOfMemory) => Ending::Refused(WordsFault::OutOfMemory),
+        Err(UsageError::NotText) => {
             let _ = eprintln!(rt; "zonewire: a word is not UTF-8");
             return ExitCode::from(2);
         }
@@ -23,19 +28,12 @@ fn main(rt: HostRuntime) -> ExitCode {
     ExitCode::from(ending.status())
 }
 
-/// Returns the words of the command line. Fails if one of them is not UTF-8, or out of memory.
-fn words_given(rt: &HostRuntime) -> Result<Vec<String>, Unasked> {
-    let given = std::env::args(rt).map_err(Unasked::of_words)?;
-    let mut words = Vec::new(rt.alloc());
-    for word in given {
-        words.push(word).map_err(AllocError::from)?;
-    }
-    Ok(words)
-}
-
 /// Runs the program with these words, from standard input to standard output.
 fn perform(rt: &HostRuntime, given: &[String]) -> Ending {
     let mut words = Vec::new(rt.alloc());
+    if words.push(NAME).is_err() {
+        return Ending::Refused(WordsFault::OutOfMemory);
+    }
     for word in given {
         if words.push(word.as_str()).is_err() {
             return Ending::Refused(WordsFault::OutOfMemory);
@@ -46,12 +44,15 @@ fn perform(rt: &HostRuntime, given: &[String]) -> Ending {
     program(rt.alloc(), words.as_slice(), &mut source, &mut sink)
 }
 
-/// Writes on standard error why the program failed: the text of the fault, or that of `clap`.
+/// Writes on standard error why the program failed: the text of the fault, or that of `clap`, its help too.
 fn report(rt: &HostRuntime, ending: &Ending) {
     let _ = match ending {
         Ending::Done => Ok(()),
         Ending::Failed(fault) => eprintln!(rt; "zonewire: {fault}"),
-        Ending::Refused(WordsFault::Line(error)) => error.print(rt),
+        Ending::Refused(WordsFault::Line(error)) if error.kind() != ErrorKind::OutOfMemory => {
+            rt.eprint(error)
+        }
+        Ending::Refused(WordsFault::Line(_)) => eprintln!(rt; "zonewire: out of memory"),
         Ending::Refused(fault) => eprintln!(rt; "zonewire: {fault}"),
     };
 }

@@ -8,7 +8,7 @@ use Rattle.dns_name.specs.Spelling.{plain}
 use Rattle.dns_name.specs.Unknown.{UnknownData}
 use Rattle.dns_rdata.specs.Fields as fields
 use Rattle.dns_rdata.specs.Fields.{IsData}
-use Rattle.dns_rdata.specs.Data.{Data, ReadsData, parts_of, typed, untyped}
+use Rattle.dns_rdata.specs.Data.{Data, ReadsData, parts_of, typed, unknown_data}
 use Rattle.dns_rdata.specs.DataOctets.{IsSpellable, data_octets}
 use Rattle.dns_message.proofs.Spellable.{spellable_tag, spellable_unless_caa, tag_spellable}
 use Rattle.zone_octets.proofs.ReadData.{data_typed_at}
@@ -17,7 +17,7 @@ use Rattle.zone_octets.proofs.WrittenData.{data_written}
 -- what is parsed, and composed unchanged, is data of the type
 data_found : (rtype : ℕ) (message : List ℕ) (place : ℕ) (found : Data) → ReadsData message place rtype found → IsData rtype (data_octets found)
 data_found rtype message place (typed number row) reads = fields.typed row reads.1.is_row refl
-data_found rtype message place (untyped unknown) reads = fields.opaque reads.0 (omega (arith, reads.1.short))
+data_found rtype message place (unknown_data unknown) reads = fields.unknown reads.0 (omega (arith, reads.1.short))
 
 pub data_tested : (rtype : ℕ) (data' message written : List ℕ) (place : ℕ) (found : Data) (told : Bool) → ReadsData message place rtype found
     → message ≡ data' → place ≡ 0 → page_of written [] ≡ write plain (page_of [] []) (parts_of found) → told ≡ pointwise nat_eq written data'
@@ -30,12 +30,12 @@ data_tested rtype data' message written place found told reads same at whole tes
     )
 
 -- unknown data is read if the type has no fields, and then any octets are data of the type
-pub opaque_tested : (rtype : ℕ) (data' message : List ℕ) (place : ℕ) (found : Data) (unknown : UnknownData) → ReadsData message place rtype found
-    → found ≡ untyped unknown → message ≡ data' → place ≡ 0 → IsTrue true ↔ IsData rtype data'
-opaque_tested rtype data' message place found unknown reads opaque same at =
-    let here : ReadsData message place rtype (untyped unknown) = subst (ReadsData message place rtype) opaque reads in
+pub unknown_tested : (rtype : ℕ) (data' message : List ℕ) (place : ℕ) (found : Data) (unknown : UnknownData) → ReadsData message place rtype found
+    → found ≡ unknown_data unknown → message ≡ data' → place ≡ 0 → IsTrue true ↔ IsData rtype data'
+unknown_tested rtype data' message place found unknown reads found_is same at =
+    let here : ReadsData message place rtype (unknown_data unknown) = subst (ReadsData message place rtype) found_is reads in
     let whole : unknown.octets ≡ data' = here.1.octets ∙ ap (λ n. drop n message) at ∙ same in
-    ((λ _. fields.opaque here.0 (omega (arith, here.1.short, ap length whole))), (λ _. refl))
+    ((λ _. fields.unknown here.0 (omega (arith, here.1.short, ap length whole))), (λ _. refl))
 
 -- data of another type than CAA's
 pub other_spellable : (rtype : ℕ) (data' : List ℕ) → rtype ≢ 257 → IsTrue true ↔ IsSpellable rtype data'

@@ -3,7 +3,7 @@ use Rattle.std.proofs.Common.{◌≡◌, ◌<◌, ◌^◌, ℕ, List, [], length
 use Rattle.std.specs.Prelude.{Option}
 use Rattle.std.proofs.lemmas.Bool.{cases_lt}
 use Rattle.dns_rdata.specs.Fields.{Kind, IsData, kinds_of, octets}
-use Rattle.dns_rdata.specs.Fields.IsData.{typed, opaque}
+use Rattle.dns_rdata.specs.Fields.IsData.{typed, unknown}
 use Rattle.dns_rdata.proofs.ComposedRows.{data_parses, row_read_once}
 use Rattle.dns_message.proofs.DecidedFields.{RowAt, row_decided}
 use Rattle.zone_octets.proofs.Decided.{Decided, decided_octets}
@@ -11,7 +11,7 @@ use Rattle.zone_octets.proofs.Decided.{Decided, decided_octets}
 -- data has at most 65,535 octets
 data_short : (rtype : ℕ) (data' : List ℕ) → IsData rtype data' → length data' < 2 ^ 16
 data_short rtype data' (typed row is_row is) = omega (arith, is_row.short, ap (length {A = ℕ}) is)
-data_short rtype data' (opaque none short) = short
+data_short rtype data' (unknown none short) = short
 
 -- octets of a type with fields: those of the row that they begin with, or no row
 data_by_row : (rtype : ℕ) (data' : List ℕ) (kinds : List Kind) → kinds_of rtype ≡ Some kinds → Decided (RowAt rtype data' 0)
@@ -27,7 +27,7 @@ data_by_row rtype data' kinds is (inl at) = elim (decided_octets (octets at.row)
 
 data_by_kinds : (rtype : ℕ) (data' : List ℕ) (kinds : Option (List Kind)) → kinds_of rtype ≡ kinds → Decided (IsData rtype data')
 data_by_kinds rtype data' None none = elim (cases_lt (length data') (2 ^ 16)) [
-  | inl short ↦ inl (opaque none short)
+  | inl short ↦ inl (unknown none short)
   | inr long ↦ inr (λ given. omega (arith, long, data_short rtype data' given))
 ]
 data_by_kinds rtype data' (Some kinds) is = data_by_row rtype data' kinds is (row_decided rtype data' 0)

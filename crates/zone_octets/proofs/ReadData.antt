@@ -58,7 +58,7 @@ module _ (Octs N : Type 0) where
   value_of_read message place rtype (rdata.typed number row) reads =
       let value = made table makers all_made rtype (named table rtype (map kind_of row) reads.1.is_row.kinds) row in
       (value.0, value.1 ∙ ap (λ n. rdata.typed n row) (sym reads.0))
-  value_of_read message place rtype (rdata.untyped unknown) reads = (Unknown unknown, refl)
+  value_of_read message place rtype (rdata.unknown_data unknown) reads = (Unknown unknown, refl)
 
   -- data of a type is read as some data
   data_read : (rtype : ℕ) (data' : List ℕ) → IsData rtype data' → (value : ZoneRecordData Octs N) × ReadsData data' 0 rtype (data_of value)
@@ -66,7 +66,7 @@ module _ (Octs N : Type 0) where
       let found = made table makers all_made rtype (named table rtype (map kind_of row) is.kinds) row in
       let reads : ReadsRow rtype data' 0 row = subst (λ l. ReadsRow rtype l 0 row) (sym are) (row_parses rtype [] row is) in
       (found.0, subst (ReadsData data' 0 rtype) (sym found.1) (refl, reads))
-  data_read rtype data' (fields.opaque none short) =
+  data_read rtype data' (fields.unknown none short) =
       (Unknown (record { number = rtype; octets = data' }), (none, record { of_type = refl; octets = refl; short = omega (arith, short) }))
 
   -- so parsing it does not fail, if the parser is at its start
@@ -91,9 +91,9 @@ data_typed rtype data' (rdata.typed number row) (fields.typed row' is are) reads
       octets_are = ap octets same ∙ sym are;
       has = subst (λ n. IsRow n row) (sym reads.0) reads.1.is_row;
     }
-data_typed rtype data' (rdata.typed number row) (fields.opaque none short) reads =
+data_typed rtype data' (rdata.typed number row) (fields.unknown none short) reads =
     absurd (let e : Some (map kind_of row) ≡ None = sym reads.1.is_row.kinds ∙ none in cc)
-data_typed rtype data' (rdata.untyped unknown) is reads = record {
+data_typed rtype data' (rdata.unknown_data unknown) is reads = record {
   number = reads.1.of_type;
   octets_are = reads.1.octets;
   has = ap kinds_of reads.1.of_type ∙ reads.0;

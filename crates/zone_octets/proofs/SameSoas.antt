@@ -9,7 +9,7 @@ use Rattle.dns_wire.proofs.Case.{wire_one}
 use Rattle.dns_fields.specs.Alike.{keys}
 use Rattle.dns_rdata.specs.Fields.{Field, IsRow, field_octets, kinds_of, lowered, octets}
 use Rattle.dns_rdata.specs.Fields.Field.{compressible, number32}
-use Rattle.dns_rdata.specs.Data.{Data, data_eq, number_of, typed, untyped}
+use Rattle.dns_rdata.specs.Data.{Data, data_eq, number_of, typed, unknown_data}
 use Rattle.dns_rdata.specs.DataOctets.{data_octets}
 use Rattle.dns_rdata.specs.Reading.{ReadsRow}
 use Rattle.dns_rdata.proofs.ComposedRows.{row_parses, row_parses_only}
@@ -85,7 +85,7 @@ soa_read data' (typed number row) number_is are has = record {
   are = sym are;
   read_is = ap (λ n. typed n row) number_is;
 }
-soa_read data' (untyped unknown) number_is are none = absurd (let bad : kinds_of soa_type ≡ None = ap kinds_of (sym number_is) ∙ none in cc)
+soa_read data' (unknown_data unknown) number_is are none = absurd (let bad : kinds_of soa_type ≡ None = ap kinds_of (sym number_is) ∙ none in cc)
 
 -- rows are compared by their keys
 rows_told : (row row' : List Field) → (data_eq (typed soa_type row) (typed soa_type row') ≡ true → keys row ≡ keys row')

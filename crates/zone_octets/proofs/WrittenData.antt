@@ -9,7 +9,7 @@ use Rattle.dns_name.proofs.Spelled.{plain_text, plain_known}
 use Rattle.dns_rdata.specs.Fields.{Field, number8, number16, number32, ipv4, ipv6, compressible, uncompressed, string, strings, tag, rest_text, rest16, rest64, field_octets, octets}
 use Rattle.dns_rdata.specs.Written.{written_field, written_parts}
 use Rattle.dns_fields.proofs.Writing.{write-field}
-use Rattle.dns_rdata.specs.Data.{Data, typed, untyped, parts_of}
+use Rattle.dns_rdata.specs.Data.{Data, typed, unknown_data, parts_of}
 use Rattle.dns_rdata.specs.DataOctets.{data_octets}
 
 named : (old : List ℕ) (name : List (List ℕ)) → write plain (page_of old []) (Named name End) ≡ page_of (old ++ wire name) []
@@ -44,4 +44,4 @@ row_written old (field ∷ row) =
 pub data_written : (old : List ℕ) (rdata : Data) → write plain (page_of old []) (parts_of rdata) ≡ page_of (old ++ data_octets rdata) []
 unfolding write
 data_written old (typed number row) = row_written old row
-data_written old (untyped unknown) = refl
+data_written old (unknown_data unknown) = refl

@@ -11,7 +11,7 @@ use Rattle.dns_header.specs.Record.{RecordOf}
 use Rattle.dns_header.specs.Shown.{record_document}
 use Rattle.dns_rdata.specs.Fields.{Field}
 use Rattle.dns_rdata.specs.Shown.{commented, comments_of, field_tokens, row_tokens}
-use Rattle.dns_rdata.specs.Data.{Data, typed, untyped, number_of, document_of}
+use Rattle.dns_rdata.specs.Data.{Data, typed, unknown_data, number_of, document_of}
 use Rattle.dns_rdata.specs.DataOctets.{data_octets}
 use Rattle.dns_name.specs.UnknownText.{unknown_words}
 use Rattle.dns_message.specs.Held.{record_of}
@@ -25,7 +25,7 @@ use Rattle.zone_print.specs.Printing.{AddsRecord}
 -- data in fields shows them, and unknown data its octets
 data_shown : (rdata : Data) → HasFieldsOfType rdata → ShowsData (number_of rdata) (data_octets rdata) (document_of rdata)
 data_shown (typed number row) has = fields (record { row = row; is_row = has; octets_are = refl; is = refl })
-data_shown (untyped unknown) has = untold has refl
+data_shown (unknown_data unknown) has = untold has refl
 
 -- the document of a held record
 abbrev pub held_document : RecordOf (List (List ℕ)) Data → List Piece
@@ -76,7 +76,7 @@ block_ends line pieces at each =
 
 data_ends : (line : List Piece) (rdata : Data) → depth line ≡ 0 → is_inside (place_after line (document_of rdata)) ≡ false
 data_ends line (typed number row) at = block_ends line (commented (comments_of number) row) at (fields_inner (comments_of number) row)
-data_ends line (untyped unknown) at = block_ends line (map Token (unknown_words unknown.octets)) at (tokens_inner (unknown_words unknown.octets))
+data_ends line (unknown_data unknown) at = block_ends line (map Token (unknown_words unknown.octets)) at (tokens_inner (unknown_words unknown.octets))
 
 -- the line end after the document
 pub line_ends : (layout : Layout) (rr : RecordOf (List (List ℕ)) Data)

@@ -7,7 +7,7 @@ use Rattle.std.proofs.lemmas.Nat.{be_bytes_2}
 use Rattle.std.proofs.lemmas.List.{length-take-le}
 use Rattle.std.proofs.lemmas.Option.{get_or_from_slice_get}
 use Rattle.zone_core.specs.Frames.{IsPartial}
-use Rattle.zone_receive.specs.Intake.{Completes}
+use Rattle.zone_receive.specs.FrameBuffer.{Completes}
 
 -- octets without a length are less than a whole frame
 pub without_first : (octets : List ℕ) → slice_get octets 0 ≡ None → IsPartial octets

@@ -6,7 +6,7 @@ use Rattle.std.proofs.lemmas.Bool.{cases_lt, cases_eq}
 use Rattle.dns_label.specs.Name.{low}
 use Rattle.dns_rdata.specs.Fields.{Kind, Field, IsData, IsRow, kind_of, kinds_of, lowered, octets}
 use Rattle.dns_rdata.specs.Fields.Kind.{Compressible, Number32}
-use Rattle.dns_rdata.specs.Fields.IsData.{typed, opaque}
+use Rattle.dns_rdata.specs.Fields.IsData.{typed, unknown}
 use Rattle.dns_header.specs.Header.{is_response, opcode_of, rcode_of, question_count, authority_count, additional_count, id_of}
 use Rattle.dns_header.specs.Question.{Question}
 use Rattle.zone_octets.specs.Record.{Record}
@@ -52,7 +52,7 @@ record SoaRow (text : List ℕ) : Type 0 where
 
 soa_row : (text : List ℕ) → IsData soa_type text → SoaRow text
 soa_row text (typed row is whole) = record { row = row; is = is; whole = whole }
-soa_row text (opaque none short) =
+soa_row text (unknown none short) =
     let no : kinds_of soa_type ≡ None = none in absurd cc
 
 abbrev soa_kinds : List Kind

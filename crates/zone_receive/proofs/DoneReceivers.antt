@@ -2,7 +2,7 @@
 use Rattle.std.proofs.Common.{◌≡◌, ℕ, None, List, [], refl, sym, append-nil}
 use Rattle.zone_receive.specs.Receiving.{Heard, IsAfter, IsAfterAt, IsHeard, IsWholeTransfer, Stage, refusal_in}
 use Rattle.zone_receive.specs.Receiving.Stage.{Begun, Ended, Fresh, Refused}
-use Rattle.zone_receive.proofs.Intakes.{heard_is_begun}
+use Rattle.zone_receive.proofs.FrameBuffers.{heard_is_begun}
 use Rattle.zone_receive.proofs.OneOfThree.{transfer_not_begun}
 
 -- a stream that is heard so far is not a transfer

@@ -12,9 +12,9 @@ use Rattle.zone_core.specs.Cutting.{joined}
 use Rattle.zone_core.specs.Transfer.{IsAnswer, AreAnswers, IsTransferred, ClosesTransfer}
 use Rattle.zone_receive.specs.Receiving.{is_first, Heard, IsHeard, IsOpen, IsClosed, IsMessageFault, HasBadMessage, IsStreamFault, stage_of}
 use Rattle.zone_receive.specs.Receiving.Stage.{Begun}
-use Rattle.zone_receive.specs.Intake.{BreaksRule, EndsTransfer, GoesOn, HoldsFront, IsFaultOr, IsFrame, TakesMessage, heard_by, stage_where}
-use Rattle.zone_receive.specs.Intake.HoldsFront.{begun, ended}
-use Rattle.zone_receive.specs.declared.intake.Intake.{Intake}
+use Rattle.zone_receive.specs.FrameBuffer.{BreaksRule, EndsTransfer, GoesOn, HoldsFront, IsFaultOr, IsFrame, TakesMessage, heard_by, stage_where}
+use Rattle.zone_receive.specs.FrameBuffer.HoldsFront.{begun, ended}
+use Rattle.zone_receive.specs.declared.frame_buffer.FrameBuffer.{FrameBuffer}
 use Rattle.zone_core.specs.declared.query_error.QueryError.{QueryError}
 use Rattle.zone_receive.specs.declared.error.ReceiveError.{ReceiveError}
 use Rattle.zone_receive.specs.declared.error.ReceiveError.TheVariants as receive_error
@@ -54,13 +54,13 @@ next_heard {heard} stream octets is framed = record {
       ∙ ap (λ l. frames is.messages ++ l) framed.whole ∙ frames_push is.messages framed.message;
 }
 
-next_answers : (intake : Intake) (query : AxfrQuery) (stream : List ℕ) (is : IsHeard (heard_by intake query) stream) (message : List ℕ)
-    (group : List Record) → IsAnswer query intake.is_first message group
+next_answers : (buffer : FrameBuffer) (query : AxfrQuery) (stream : List ℕ) (is : IsHeard (heard_by buffer query) stream) (message : List ℕ)
+    (group : List Record) → IsAnswer query buffer.is_first message group
     → AreAnswers query true (push is.messages message) (push is.groups group)
-next_answers intake query stream is message group answer =
+next_answers buffer query stream is message group answer =
     let P : Bool → Type 0 = λ first. IsAnswer query first message group in
     answers_push query true is.messages is.groups message group is.answers
-    (subst P (first_by is.messages intake.is_first is.stage ∙ sym (first_of_stream is.messages)) answer)
+    (subst P (first_by is.messages buffer.is_first is.stage ∙ sym (first_of_stream is.messages)) answer)
 
 -- what holds before the last SOA
 record StandsOpen (query : AxfrQuery) (held front : List Record) : Type 0 where
@@ -73,7 +73,7 @@ holds_open (begun still) is = record { same = refl; still = still }
 holds_open (ended last all closes) is = absurd cc
 
 -- the message is judged, and the transfer goes on
-pub judged_on : (old new : Intake) (query : AxfrQuery) (octets : List ℕ) (framed : IsFrame (old.open_frame.items ++ octets))
+pub judged_on : (old new : FrameBuffer) (query : AxfrQuery) (octets : List ℕ) (framed : IsFrame (old.open_frame.items ++ octets))
     → new.open_frame.items ≡ [] → new.is_first ≡ false → TakesMessage query old.records old.is_first framed.message new.records false
     → AllByRecursion (IsRecordOf query.class) new.records → GoesOn old octets new query
 judged_on old new query octets framed none first takes known = record {
@@ -138,7 +138,7 @@ last_group query held old (r ∷ group) last still same all closes =
     record { front = end.front; group_is = end.is ∙ ap (push end.front) both.1; joins = both.0 }
 
 -- the message is judged, and ends the transfer
-pub judged_last : (old new : Intake) (query : AxfrQuery) (octets : List ℕ) (framed : IsFrame (old.open_frame.items ++ octets))
+pub judged_last : (old new : FrameBuffer) (query : AxfrQuery) (octets : List ℕ) (framed : IsFrame (old.open_frame.items ++ octets))
     → new.open_frame.items ≡ [] → TakesMessage query old.records old.is_first framed.message new.records true
     → AllByRecursion (IsRecordOf query.class) new.records → EndsTransfer old octets new query
 judged_last old new query octets framed none takes known = record {
@@ -188,7 +188,7 @@ fault_in_stream query stream Fault bad not_query finished receive_error.Unfinish
 fault_in_stream query stream Fault bad not_query finished receive_error.OutOfMemory fault = tt
 
 -- the message is bad
-pub judged_bad : (old : Intake) (query : AxfrQuery) (octets : List ℕ) (framed : IsFrame (old.open_frame.items ++ octets)) (error : ReceiveError)
+pub judged_bad : (old : FrameBuffer) (query : AxfrQuery) (octets : List ℕ) (framed : IsFrame (old.open_frame.items ++ octets)) (error : ReceiveError)
     → IsFaultOr (IsMessageFault query old.records old.is_first framed.message) error → BreaksRule old octets query error
 judged_bad old query octets framed error fault stream behind is =
     let all : List ℕ = stream ++ (octets ++ behind) in
@@ -213,7 +213,7 @@ judged_bad old query octets framed error fault stream behind is =
     fault_in_stream query all Fault bad (λ why fault. fault.4) (λ fault. fault.4) error fault
 
 -- what a call returns for the message of the frame
-pub answer_goes : (ends : Bool) (old new : Intake) (query : AxfrQuery) (octets message : List ℕ) (framed : IsFrame (old.open_frame.items ++ octets))
+pub answer_goes : (ends : Bool) (old new : FrameBuffer) (query : AxfrQuery) (octets message : List ℕ) (framed : IsFrame (old.open_frame.items ++ octets))
     → message ≡ framed.message → new.open_frame.items ≡ [] → new.is_first ≡ false
     → TakesMessage query old.records old.is_first message new.records ends → AllByRecursion (IsRecordOf query.class) new.records
     → OnFalse ends (GoesOn old octets new query)
@@ -222,7 +222,7 @@ answer_goes false old new query octets message framed is none first takes known 
     let P : List ℕ → Type 0 = λ message. TakesMessage query old.records old.is_first message new.records false in
     judged_on old new query octets framed none first (subst P is takes) known
 
-pub answer_ends : (ends : Bool) (old new : Intake) (query : AxfrQuery) (octets message : List ℕ) (framed : IsFrame (old.open_frame.items ++ octets))
+pub answer_ends : (ends : Bool) (old new : FrameBuffer) (query : AxfrQuery) (octets message : List ℕ) (framed : IsFrame (old.open_frame.items ++ octets))
     → message ≡ framed.message → new.open_frame.items ≡ []
     → TakesMessage query old.records old.is_first message new.records ends → AllByRecursion (IsRecordOf query.class) new.records
     → OnTrue ends (EndsTransfer old octets new query)
@@ -231,14 +231,14 @@ answer_ends true old new query octets message framed is none takes known =
     let P : List ℕ → Type 0 = λ message. TakesMessage query old.records old.is_first message new.records true in
     judged_last old new query octets framed none (subst P is takes) known
 
-pub answer_breaks : (old : Intake) (query : AxfrQuery) (octets message : List ℕ) (framed : IsFrame (old.open_frame.items ++ octets)) (error : ReceiveError)
+pub answer_breaks : (old : FrameBuffer) (query : AxfrQuery) (octets message : List ℕ) (framed : IsFrame (old.open_frame.items ++ octets)) (error : ReceiveError)
     → message ≡ framed.message → IsFaultOr (IsMessageFault query old.records old.is_first message) error → BreaksRule old octets query error
 answer_breaks old query octets message framed error is fault =
     let P : List ℕ → Type 0 = λ message. IsFaultOr (IsMessageFault query old.records old.is_first message) error in
     judged_bad old query octets framed error (subst P is fault)
 
 -- the same with the result returned to the caller
-pub result_goes : (result : Result Bool ReceiveError) (old new : Intake) (query : AxfrQuery) (octets message : List ℕ)
+pub result_goes : (result : Result Bool ReceiveError) (old new : FrameBuffer) (query : AxfrQuery) (octets message : List ℕ)
     (framed : IsFrame (old.open_frame.items ++ octets)) → message ≡ framed.message → new.open_frame.items ≡ [] → new.is_first ≡ false
     → IfOk result (TakesMessage query old.records old.is_first message new.records)
     → OnOk result (AllByRecursion (IsRecordOf query.class) new.records) → IfOk result (λ ends. OnFalse ends (GoesOn old octets new query))
@@ -246,7 +246,7 @@ result_goes (Ok ends) old new query octets message framed is none first takes kn
     answer_goes ends old new query octets message framed is none first takes known
 result_goes (Err error) old new query octets message framed is none first takes known = tt
 
-pub result_ends : (result : Result Bool ReceiveError) (old new : Intake) (query : AxfrQuery) (octets message : List ℕ)
+pub result_ends : (result : Result Bool ReceiveError) (old new : FrameBuffer) (query : AxfrQuery) (octets message : List ℕ)
     (framed : IsFrame (old.open_frame.items ++ octets)) → message ≡ framed.message → new.open_frame.items ≡ []
     → IfOk result (TakesMessage query old.records old.is_first message new.records)
     → OnOk result (AllByRecursion (IsRecordOf query.class) new.records) → IfOk result (λ ends. OnTrue ends (EndsTransfer old octets new query))
@@ -254,7 +254,7 @@ result_ends (Ok ends) old new query octets message framed is none takes known =
     answer_ends ends old new query octets message framed is none takes known
 result_ends (Err error) old new query octets message framed is none takes known = tt
 
-pub result_breaks : (result : Result Bool ReceiveError) (old : Intake) (query : AxfrQuery) (octets message : List ℕ)
+pub result_breaks : (result : Result Bool ReceiveError) (old : FrameBuffer) (query : AxfrQuery) (octets message : List ℕ)
     (framed : IsFrame (old.open_frame.items ++ octets)) → message ≡ framed.message
     → IfErr result (IsFaultOr (IsMessageFault query old.records old.is_first message)) → IfErr result (BreaksRule old octets query)
 result_breaks (Ok ends) old query octets message framed is fault = tt

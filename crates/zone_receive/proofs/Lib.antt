@@ -3,7 +3,7 @@ pub mod Begun
 pub mod DecidedRules
 pub mod DoneReceivers
 pub mod FrontFrames
-pub mod Intakes
+pub mod FrameBuffers
 pub mod JudgedMessages
 pub mod JudgedStreams
 pub mod Judging

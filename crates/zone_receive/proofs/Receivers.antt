@@ -6,14 +6,14 @@ use Rattle.zone_core.specs.Query.{AxfrQuery}
 use Rattle.zone_core.specs.Transfer.{IsTransfer}
 use Rattle.zone_receive.specs.Receiving.{Heard, IsAfter, IsAfterAt, IsHeard, IsNoZone, IsStreamFault, Refuses, Stage, Takes, refusal_in}
 use Rattle.zone_receive.specs.Receiving.Stage.{Begun, Ended, Refused}
-use Rattle.zone_receive.specs.Intake.{EndsTransfer, GoesOn, IsEnded, IsWaiting, heard_by, stage_where}
+use Rattle.zone_receive.specs.FrameBuffer.{EndsTransfer, GoesOn, IsEnded, IsWaiting, heard_by, stage_where}
 use Rattle.zone_receive.specs.Received.{heard_in, stage_in}
 use Rattle.zone_receive.specs.declared.error.ReceiveError.{ReceiveError}
 use Rattle.zone_receive.specs.declared.error.ReceiveError.TheVariants as receive_error
-use Rattle.zone_receive.specs.declared.intake.Intake.{Intake}
+use Rattle.zone_receive.specs.declared.frame_buffer.FrameBuffer.{FrameBuffer}
 use Rattle.zone_receive.specs.declared.receiver.Progress.{Progress}
 use Rattle.zone_receive.specs.declared.receiver.Progress.TheVariants as progress
-use Rattle.zone_receive.proofs.Intakes.{goes_none, heard_is_begun, take_none}
+use Rattle.zone_receive.proofs.FrameBuffers.{goes_none, heard_is_begun, take_none}
 
 -- before the last SOA
 pub after_where : (first : Bool) (heard : Heard) (stream : List ℕ) → IsHeard heard stream → IsAfterAt (stage_where first) heard stream
@@ -33,7 +33,7 @@ not_ended true is = absurd cc
 not_ended false is = absurd cc
 
 -- the whole piece is taken
-pub takes_all : (old new : Intake) (query : AxfrQuery) (stream piece : List ℕ) (n : ℕ) → n ≡ length piece → GoesOn old piece new query
+pub takes_all : (old new : FrameBuffer) (query : AxfrQuery) (stream piece : List ℕ) (n : ℕ) → n ≡ length piece → GoesOn old piece new query
     → IsAfter (heard_in progress.Begun old query) stream → Takes (heard_in progress.Begun old query) stream piece (heard_in progress.Begun new query) n
 takes_all old new query stream piece n all goes after =
     let heard = goes.heard stream (heard_where old.is_first (heard_in progress.Begun old query) stream after) in
@@ -49,7 +49,7 @@ takes_all old new query stream piece n all goes after =
     }
 
 -- the transfer ends in the piece
-pub takes_end : (old new : Intake) (query : AxfrQuery) (stream piece : List ℕ) (n : ℕ) → n ≤ length piece
+pub takes_end : (old new : FrameBuffer) (query : AxfrQuery) (stream piece : List ℕ) (n : ℕ) → n ≤ length piece
     → EndsTransfer old (take n piece) new query → IsAfter (heard_in progress.Begun old query) stream
     → Takes (heard_in progress.Begun old query) stream piece (heard_in progress.Done new query) n
 takes_end old new query stream piece n within ends after = record {
@@ -62,10 +62,10 @@ takes_end old new query stream piece n within ends after = record {
 }
 
 -- it has ended
-pub takes_none : (intake : Intake) (query : AxfrQuery) (stream piece : List ℕ) → IsAfter (heard_in progress.Done intake query) stream
-    → Takes (heard_in progress.Done intake query) stream piece (heard_in progress.Done intake query) 0
-takes_none intake query stream piece after =
-    let P : List ℕ → Type 0 = λ octets. IsTransfer query octets intake.records in
+pub takes_none : (buffer : FrameBuffer) (query : AxfrQuery) (stream piece : List ℕ) → IsAfter (heard_in progress.Done buffer query) stream
+    → Takes (heard_in progress.Done buffer query) stream piece (heard_in progress.Done buffer query) 0
+takes_none buffer query stream piece after =
+    let P : List ℕ → Type 0 = λ octets. IsTransfer query octets buffer.records in
     record {
       free = refl;
       query = refl;
@@ -76,7 +76,7 @@ takes_none intake query stream piece after =
     }
 
 -- the piece is bad, or an earlier one was
-pub refuses_piece : (old new : Intake) (query : AxfrQuery) (stream piece : List ℕ) (error : ReceiveError)
+pub refuses_piece : (old new : FrameBuffer) (query : AxfrQuery) (stream piece : List ℕ) (error : ReceiveError)
     → ((stream : List ℕ) → IsHeard (heard_by old query) stream → IsStreamFault query (stream ++ piece) error)
     → IsAfter (heard_in progress.Begun old query) stream
     → Refuses (heard_in progress.Begun old query) stream piece (heard_in (progress.Refused error) new query) error
@@ -86,12 +86,12 @@ refuses_piece old new query stream piece error breaks after = record {
   why = inr (not_refused old.is_first, breaks stream (heard_where old.is_first (heard_in progress.Begun old query) stream after));
 }
 
-pub refuses_again : (intake : Intake) (query : AxfrQuery) (stream piece : List ℕ) (error : ReceiveError)
-    → Refuses (heard_in (progress.Refused error) intake query) stream piece (heard_in (progress.Refused error) intake query) error
-refuses_again intake query stream piece error = record { query = refl; kept = refl; why = inl (refl, refl) }
+pub refuses_again : (buffer : FrameBuffer) (query : AxfrQuery) (stream piece : List ℕ) (error : ReceiveError)
+    → Refuses (heard_in (progress.Refused error) buffer query) stream piece (heard_in (progress.Refused error) buffer query) error
+refuses_again buffer query stream piece error = record { query = refl; kept = refl; why = inl (refl, refl) }
 
 -- the transfer has ended
-pub ends_ended : {old new : Intake} {query : AxfrQuery} (octets : List ℕ) → IsWaiting old query → EndsTransfer old octets new query
+pub ends_ended : {old new : FrameBuffer} {query : AxfrQuery} (octets : List ℕ) → IsWaiting old query → EndsTransfer old octets new query
     → IsEnded new query
 ends_ended octets waits ends =
     record { stream = waits.stream ++ octets; transfer = ends.transfer waits.stream waits.heard; known = ends.known }
@@ -111,81 +111,81 @@ not_ended_in progress.Done first not_there is = not_there refl
 not_ended_in (progress.Refused error) first not_there is = absurd cc
 
 -- what the contract sees of a receiver, by how far it has come
-pub feeds_all : (old : Heard) (at : Progress) (intake new : Intake) (query : AxfrQuery) (piece : List ℕ) (n : ℕ) → heard_in at intake query ≡ old
-    → at ≡ progress.Begun → n ≡ length piece → GoesOn intake piece new query
+pub feeds_all : (old : Heard) (at : Progress) (buffer new : FrameBuffer) (query : AxfrQuery) (piece : List ℕ) (n : ℕ) → heard_in at buffer query ≡ old
+    → at ≡ progress.Begun → n ≡ length piece → GoesOn buffer piece new query
     → (stream : List ℕ) → IsAfter old stream → Takes old stream piece (heard_in at new query) n
-feeds_all old at intake new query piece n view is all goes =
-    let P : Progress → Type 0 = λ at. (stream : List ℕ) → IsAfter (heard_in at intake query) stream
-    → Takes (heard_in at intake query) stream piece (heard_in at new query) n in
+feeds_all old at buffer new query piece n view is all goes =
+    let P : Progress → Type 0 = λ at. (stream : List ℕ) → IsAfter (heard_in at buffer query) stream
+    → Takes (heard_in at buffer query) stream piece (heard_in at new query) n in
     let Q : Heard → Type 0 = λ old. (stream : List ℕ) → IsAfter old stream → Takes old stream piece (heard_in at new query) n in
-    subst Q view (subst P (sym is) (λ stream after. takes_all intake new query stream piece n all goes after))
+    subst Q view (subst P (sym is) (λ stream after. takes_all buffer new query stream piece n all goes after))
 
 -- an empty piece
-pub feeds_empty : (old : Heard) (at : Progress) (intake : Intake) (query : AxfrQuery) (piece : List ℕ) → heard_in at intake query ≡ old
-    → at ≡ progress.Begun → piece ≡ [] → IsWaiting intake query → (stream : List ℕ) → IsAfter old stream → Takes old stream piece old 0
-feeds_empty old at intake query piece view is none waits stream after =
-    let P : List ℕ → Type 0 = λ octets. GoesOn intake octets intake query in
+pub feeds_empty : (old : Heard) (at : Progress) (buffer : FrameBuffer) (query : AxfrQuery) (piece : List ℕ) → heard_in at buffer query ≡ old
+    → at ≡ progress.Begun → piece ≡ [] → IsWaiting buffer query → (stream : List ℕ) → IsAfter old stream → Takes old stream piece old 0
+feeds_empty old at buffer query piece view is none waits stream after =
+    let P : List ℕ → Type 0 = λ octets. GoesOn buffer octets buffer query in
     let Q : Heard → Type 0 = λ heard. Takes old stream piece heard 0 in
-    let goes = subst P (take_none piece ∙ sym none) (goes_none intake query piece waits.known) in
-    subst Q view (feeds_all old at intake intake query piece 0 view is (sym (ap (length {A = ℕ}) none)) goes stream after)
+    let goes = subst P (take_none piece ∙ sym none) (goes_none buffer query piece waits.known) in
+    subst Q view (feeds_all old at buffer buffer query piece 0 view is (sym (ap (length {A = ℕ}) none)) goes stream after)
 
-pub feeds_end : (old : Heard) (at : Progress) (intake new : Intake) (query : AxfrQuery) (piece : List ℕ) (n : ℕ) → heard_in at intake query ≡ old
-    → at ≡ progress.Begun → n ≤ length piece → EndsTransfer intake (take n piece) new query
+pub feeds_end : (old : Heard) (at : Progress) (buffer new : FrameBuffer) (query : AxfrQuery) (piece : List ℕ) (n : ℕ) → heard_in at buffer query ≡ old
+    → at ≡ progress.Begun → n ≤ length piece → EndsTransfer buffer (take n piece) new query
     → (stream : List ℕ) → IsAfter old stream → Takes old stream piece (heard_in progress.Done new query) n
-feeds_end old at intake new query piece n view is within ends =
-    let P : Progress → Type 0 = λ at. (stream : List ℕ) → IsAfter (heard_in at intake query) stream
-    → Takes (heard_in at intake query) stream piece (heard_in progress.Done new query) n in
+feeds_end old at buffer new query piece n view is within ends =
+    let P : Progress → Type 0 = λ at. (stream : List ℕ) → IsAfter (heard_in at buffer query) stream
+    → Takes (heard_in at buffer query) stream piece (heard_in progress.Done new query) n in
     let Q : Heard → Type 0 = λ old. (stream : List ℕ) → IsAfter old stream → Takes old stream piece (heard_in progress.Done new query) n in
-    subst Q view (subst P (sym is) (λ stream after. takes_end intake new query stream piece n within ends after))
+    subst Q view (subst P (sym is) (λ stream after. takes_end buffer new query stream piece n within ends after))
 
-pub feeds_none : (old : Heard) (at : Progress) (intake : Intake) (query : AxfrQuery) (piece : List ℕ) → heard_in at intake query ≡ old
+pub feeds_none : (old : Heard) (at : Progress) (buffer : FrameBuffer) (query : AxfrQuery) (piece : List ℕ) → heard_in at buffer query ≡ old
     → at ≡ progress.Done → (stream : List ℕ) → IsAfter old stream → Takes old stream piece old 0
-feeds_none old at intake query piece view is =
-    let P : Progress → Type 0 = λ at. (stream : List ℕ) → IsAfter (heard_in at intake query) stream
-    → Takes (heard_in at intake query) stream piece (heard_in at intake query) 0 in
+feeds_none old at buffer query piece view is =
+    let P : Progress → Type 0 = λ at. (stream : List ℕ) → IsAfter (heard_in at buffer query) stream
+    → Takes (heard_in at buffer query) stream piece (heard_in at buffer query) 0 in
     let Q : Heard → Type 0 = λ old. (stream : List ℕ) → IsAfter old stream → Takes old stream piece old 0 in
-    subst Q view (subst P (sym is) (λ stream after. takes_none intake query stream piece after))
+    subst Q view (subst P (sym is) (λ stream after. takes_none buffer query stream piece after))
 
-pub feeds_bad : (old : Heard) (at : Progress) (intake new : Intake) (query : AxfrQuery) (piece : List ℕ) (error : ReceiveError)
-    → heard_in at intake query ≡ old → at ≡ progress.Begun
-    → ((stream : List ℕ) → IsHeard (heard_by intake query) stream → IsStreamFault query (stream ++ piece) error)
+pub feeds_bad : (old : Heard) (at : Progress) (buffer new : FrameBuffer) (query : AxfrQuery) (piece : List ℕ) (error : ReceiveError)
+    → heard_in at buffer query ≡ old → at ≡ progress.Begun
+    → ((stream : List ℕ) → IsHeard (heard_by buffer query) stream → IsStreamFault query (stream ++ piece) error)
     → (stream : List ℕ) → IsAfter old stream → Refuses old stream piece (heard_in (progress.Refused error) new query) error
-feeds_bad old at intake new query piece error view is breaks =
-    let P : Progress → Type 0 = λ at. (stream : List ℕ) → IsAfter (heard_in at intake query) stream
-    → Refuses (heard_in at intake query) stream piece (heard_in (progress.Refused error) new query) error in
+feeds_bad old at buffer new query piece error view is breaks =
+    let P : Progress → Type 0 = λ at. (stream : List ℕ) → IsAfter (heard_in at buffer query) stream
+    → Refuses (heard_in at buffer query) stream piece (heard_in (progress.Refused error) new query) error in
     let Q : Heard → Type 0 = λ old. (stream : List ℕ) → IsAfter old stream
     → Refuses old stream piece (heard_in (progress.Refused error) new query) error in
-    subst Q view (subst P (sym is) (λ stream after. refuses_piece intake new query stream piece error breaks after))
+    subst Q view (subst P (sym is) (λ stream after. refuses_piece buffer new query stream piece error breaks after))
 
-pub feeds_again : (old : Heard) (at : Progress) (intake : Intake) (query : AxfrQuery) (piece : List ℕ) (error : ReceiveError)
-    → heard_in at intake query ≡ old → at ≡ progress.Refused error
+pub feeds_again : (old : Heard) (at : Progress) (buffer : FrameBuffer) (query : AxfrQuery) (piece : List ℕ) (error : ReceiveError)
+    → heard_in at buffer query ≡ old → at ≡ progress.Refused error
     → (stream : List ℕ) → IsAfter old stream → Refuses old stream piece old error
-feeds_again old at intake query piece error view is =
-    let P : Progress → Type 0 = λ at. (stream : List ℕ) → IsAfter (heard_in at intake query) stream
-    → Refuses (heard_in at intake query) stream piece (heard_in at intake query) error in
+feeds_again old at buffer query piece error view is =
+    let P : Progress → Type 0 = λ at. (stream : List ℕ) → IsAfter (heard_in at buffer query) stream
+    → Refuses (heard_in at buffer query) stream piece (heard_in at buffer query) error in
     let Q : Heard → Type 0 = λ old. (stream : List ℕ) → IsAfter old stream → Refuses old stream piece old error in
-    subst Q view (subst P (sym is) (λ stream after. refuses_again intake query stream piece error))
+    subst Q view (subst P (sym is) (λ stream after. refuses_again buffer query stream piece error))
 
-pub done_stage : (heard : Heard) (at : Progress) (intake : Intake) (query : AxfrQuery) → heard_in at intake query ≡ heard → at ≡ progress.Done
+pub done_stage : (heard : Heard) (at : Progress) (buffer : FrameBuffer) (query : AxfrQuery) → heard_in at buffer query ≡ heard → at ≡ progress.Done
     → heard.stage ≡ Ended
-done_stage heard at intake query view is =
-    ap (λ (h : Heard). h.stage) (sym view) ∙ ap (λ (p : Progress). stage_in p intake.is_first) is
+done_stage heard at buffer query view is =
+    ap (λ (h : Heard). h.stage) (sym view) ∙ ap (λ (p : Progress). stage_in p buffer.is_first) is
 
-pub other_stage : (heard : Heard) (at : Progress) (intake : Intake) (query : AxfrQuery) → heard_in at intake query ≡ heard
+pub other_stage : (heard : Heard) (at : Progress) (buffer : FrameBuffer) (query : AxfrQuery) → heard_in at buffer query ≡ heard
     → (at ≡ progress.Done → ⊥) → heard.stage ≡ Ended → ⊥
-other_stage heard at intake query view not_there ended =
-    not_ended_in at intake.is_first not_there (ap (λ (h : Heard). h.stage) view ∙ ended)
+other_stage heard at buffer query view not_there ended =
+    not_ended_in at buffer.is_first not_there (ap (λ (h : Heard). h.stage) view ∙ ended)
 
 -- why there is no zone
-no_zone_yet : (intake : Intake) (query : AxfrQuery) (stream : List ℕ) → IsAfter (heard_in progress.Begun intake query) stream
-    → IsNoZone (heard_in progress.Begun intake query) stream receive_error.Unfinished
-no_zone_yet intake query stream after =
-    inr (refl, not_refused intake.is_first, heard_is_begun (heard_where intake.is_first (heard_in progress.Begun intake query) stream after))
+no_zone_yet : (buffer : FrameBuffer) (query : AxfrQuery) (stream : List ℕ) → IsAfter (heard_in progress.Begun buffer query) stream
+    → IsNoZone (heard_in progress.Begun buffer query) stream receive_error.Unfinished
+no_zone_yet buffer query stream after =
+    inr (refl, not_refused buffer.is_first, heard_is_begun (heard_where buffer.is_first (heard_in progress.Begun buffer query) stream after))
 
-pub no_zone : (heard : Heard) (at : Progress) (intake : Intake) (query : AxfrQuery) → heard_in at intake query ≡ heard → at ≡ progress.Begun
+pub no_zone : (heard : Heard) (at : Progress) (buffer : FrameBuffer) (query : AxfrQuery) → heard_in at buffer query ≡ heard → at ≡ progress.Begun
     → (stream : List ℕ) → IsAfter heard stream → IsNoZone heard stream receive_error.Unfinished
-no_zone heard at intake query view is =
-    let P : Progress → Type 0 = λ at. (stream : List ℕ) → IsAfter (heard_in at intake query) stream
-    → IsNoZone (heard_in at intake query) stream receive_error.Unfinished in
+no_zone heard at buffer query view is =
+    let P : Progress → Type 0 = λ at. (stream : List ℕ) → IsAfter (heard_in at buffer query) stream
+    → IsNoZone (heard_in at buffer query) stream receive_error.Unfinished in
     let Q : Heard → Type 0 = λ heard. (stream : List ℕ) → IsAfter heard stream → IsNoZone heard stream receive_error.Unfinished in
-    subst Q view (subst P (sym is) (λ stream after. no_zone_yet intake query stream after))
+    subst Q view (subst P (sym is) (λ stream after. no_zone_yet buffer query stream after))

@@ -14,10 +14,10 @@ use Rattle.zone_core.specs.Query.{AxfrQuery}
 use Rattle.zone_octets.specs.Records.{AreOctets, IsRecordOf, SameSoa}
 use Rattle.zone_core.specs.Transfer.{IsInZoneOf, IsTransferred, ClosesTransfer}
 use Rattle.zone_receive.specs.Receiving.{IsOpen, IsClosed, KeepsFirstRule, KeepsLastRule}
-use Rattle.zone_receive.specs.Intake.{HoldsFront, IsNext, IsPlacing}
-use Rattle.zone_receive.specs.Intake.HoldsFront.{begun, ended}
-use Rattle.zone_receive.specs.declared.rules.Placing.{Placing}
-use Rattle.zone_receive.specs.declared.rules.Placing.TheVariants.{Inner, Last}
+use Rattle.zone_receive.specs.FrameBuffer.{HoldsFront, IsNext, HasRole}
+use Rattle.zone_receive.specs.FrameBuffer.HoldsFront.{begun, ended}
+use Rattle.zone_receive.specs.declared.rules.RecordRole.{RecordRole}
+use Rattle.zone_receive.specs.declared.rules.RecordRole.TheVariants.{Inner, Last}
 use Rattle.zone_octets.proofs.Each.{all_append}
 use Rattle.zone_octets.proofs.RecordOctets.{octets_of_record}
 use Rattle.zone_receive.proofs.LawfulRecords.{closed_not_open}
@@ -187,11 +187,11 @@ still_open {query} (soa ∷ others) r holds keeps (inr no_soa) zone =
     let no_others = all_append (λ x. x.rtype ≢ soa_type) others (r ∷ []) transferred.3 (no_soa, tt) in
     (transferred.0, transferred.1, each, no_others)
 
-pub placed_inner : {query : AxfrQuery} {xs : List Record} {closed : Bool} (held : List Record) (r : Record) (placing : Placing)
-    → placing ≡ Inner → HoldsFront query held closed xs → KeepsFirstRule query xs r → (held ≡ []) ⊎ (r.rtype ≡ soa_type → ⊥)
-    → IsInZoneOf query r → IsPlacing query held r placing
-placed_inner {query} held r placing is holds keeps either zone =
-    let P : Placing → Type 0 = λ p. IsPlacing query held r p in
+pub inner_role : {query : AxfrQuery} {xs : List Record} {closed : Bool} (held : List Record) (r : Record) (role : RecordRole)
+    → role ≡ Inner → HoldsFront query held closed xs → KeepsFirstRule query xs r → (held ≡ []) ⊎ (r.rtype ≡ soa_type → ⊥)
+    → IsInZoneOf query r → HasRole query held r role
+inner_role {query} held r role is holds keeps either zone =
+    let P : RecordRole → Type 0 = λ p. HasRole query held r p in
     subst P (sym is) (still_open held r holds keeps either zone)
 
 -- and the last SOA
@@ -203,11 +203,11 @@ closes_here (x ∷ held) soa r holds first rtype same =
     let P : Record → Type 0 = λ y. SameSoa y r in
     (holds_transferred x held holds refl, (rtype, subst P there same))
 
-pub placed_last : {query : AxfrQuery} {xs : List Record} {closed : Bool} (held : List Record) (soa r : Record) (placing : Placing)
-    → placing ≡ Last → HoldsFront query held closed xs → slice_get held 0 ≡ Some soa → r.rtype ≡ soa_type → SameSoa soa r
-    → IsPlacing query held r placing
-placed_last {query} held soa r placing is holds first rtype same =
-    let P : Placing → Type 0 = λ p. IsPlacing query held r p in
+pub last_role : {query : AxfrQuery} {xs : List Record} {closed : Bool} (held : List Record) (soa r : Record) (role : RecordRole)
+    → role ≡ Last → HoldsFront query held closed xs → slice_get held 0 ≡ Some soa → r.rtype ≡ soa_type → SameSoa soa r
+    → HasRole query held r role
+last_role {query} held soa r role is holds first rtype same =
+    let P : RecordRole → Type 0 = λ p. HasRole query held r p in
     subst P (sym is) (closes_here held soa r holds first rtype same)
 
 -- what a negated test says

@@ -3,10 +3,10 @@ use Rattle.std.proofs.Common.{◌≡◌, ℕ, ◌<◌, List, [], ◌∷◌, ◌+
 use Rattle.dns_message.proofs.ReadRecords.{record_one}
 use Rattle.zone_octets.specs.Record.{Record}
 use Rattle.dns_rdata.specs.Fields.{IsData}
-use Rattle.dns_rdata.specs.Fields.IsData.{typed as in_fields, opaque as untold}
+use Rattle.dns_rdata.specs.Fields.IsData.{typed as in_fields, unknown as untold}
 use Rattle.dns_name.specs.Page.{Parts}
 use Rattle.dns_message.specs.Record.{IsRecord, IsRead, ReadsRecord}
-use Rattle.dns_message.specs.Record.IsRead.{typed, opaque}
+use Rattle.dns_message.specs.Record.IsRead.{typed, unknown}
 use Rattle.zone_core.specs.Transfer.{SpellsRecords}
 use Rattle.zone_core.specs.Transfer.SpellsRecords.{none, one}
 
@@ -19,7 +19,7 @@ read_one r other has has' =
 -- its data is lawful for its type
 data_of_read : (r : Record) (parts : Parts) → IsRecord r → IsRead r parts → IsData r.rtype r.rdata
 data_of_read r parts is (typed row is_row octets_are) = in_fields row is_row octets_are
-data_of_read r parts is (opaque no_fields) = untold no_fields is.rdata
+data_of_read r parts is (unknown no_fields) = untold no_fields is.rdata
 
 pub read_has_data : {message : List ℕ} {place next : ℕ} (r : Record) → ReadsRecord message place r next → IsData r.rtype r.rdata
 read_has_data r has = data_of_read r has.parts has.is_record has.read

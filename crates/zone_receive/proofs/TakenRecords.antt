@@ -8,8 +8,8 @@ use Rattle.zone_core.specs.Query.{AxfrQuery}
 use Rattle.dns_message.specs.Record.{ReadsRecord}
 use Rattle.zone_core.specs.Transfer.{IsTransferred, ClosesTransfer}
 use Rattle.zone_receive.specs.Receiving.{IsOpen}
-use Rattle.zone_receive.specs.Intake.{HoldsFront, IsFaultOr, TakesRecord}
-use Rattle.zone_receive.specs.Intake.HoldsFront.{begun, ended}
+use Rattle.zone_receive.specs.FrameBuffer.{HoldsFront, IsFaultOr, TakesRecord}
+use Rattle.zone_receive.specs.FrameBuffer.HoldsFront.{begun, ended}
 use Rattle.zone_receive.specs.declared.error.ReceiveError.{ReceiveError}
 use Rattle.zone_receive.specs.declared.error.ReceiveError.TheVariants as receive_error
 

@@ -1,7 +1,7 @@
 -- Streams that answer a query, tried on octets that are written out.
 use Rattle.std.proofs.Common.{◌≡◌, ℕ, true, false, List, [], ◌∷◌, ◌++◌, inr, refl, arith}
 use Rattle.dns_label.specs.Name.{IsName}
-use Rattle.dns_label.specs.Spelled.Spells.{label, root}
+use Rattle.dns_label.specs.Spelled.EncodesName.{label, root}
 use Rattle.dns_header.specs.Question.{ReadsQuestion}
 use Rattle.dns_rdata.specs.Fields.{Field, IsRow, number32, compressible, octets}
 use Rattle.dns_rdata.specs.Fields.IsData.{typed}

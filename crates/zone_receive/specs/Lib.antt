@@ -1,4 +1,4 @@
 pub mod Asked
 pub mod Receiving
-pub mod Intake
+pub mod FrameBuffer
 pub mod Received

@@ -4,8 +4,8 @@ use Rattle.zone_octets.specs.Zone.{any_class}
 use Rattle.zone_core.specs.Query.{AxfrQuery}
 use Rattle.zone_receive.specs.Receiving.{Heard, Stage}
 use Rattle.zone_receive.specs.Receiving.Stage.{Ended, Refused}
-use Rattle.zone_receive.specs.Intake.{IsEnded, IsWaiting, stage_where}
-use Rattle.zone_receive.specs.declared.intake.Intake.{Intake}
+use Rattle.zone_receive.specs.FrameBuffer.{IsEnded, IsWaiting, stage_where}
+use Rattle.zone_receive.specs.declared.frame_buffer.FrameBuffer.{FrameBuffer}
 use Rattle.zone_receive.specs.declared.receiver.Progress.{Progress}
 use Rattle.zone_receive.specs.declared.receiver.Progress.TheVariants as progress
 
@@ -15,21 +15,21 @@ stage_in progress.Done is_first = Ended
 stage_in (progress.Refused error) is_first = Refused error
 
 -- the value of a receiver, as its contracts show it
-abbrev pub heard_in : Progress → Intake → AxfrQuery → Heard
-heard_in at intake query = record {
+abbrev pub heard_in : Progress → FrameBuffer → AxfrQuery → Heard
+heard_in at buffer query = record {
   query = query;
-  records = intake.records;
-  open_frame = intake.open_frame.items;
-  stage = stage_in at intake.is_first;
+  records = buffer.records;
+  open_frame = buffer.open_frame.items;
+  stage = stage_in at buffer.is_first;
 }
 
 -- what holds of the octets and the records
-abbrev pub IsAt : Progress → Intake → AxfrQuery → Type 0
-IsAt progress.Begun intake query = IsWaiting intake query
-IsAt progress.Done intake query = IsEnded intake query
-IsAt (progress.Refused error) intake query = ⊤
+abbrev pub IsAt : Progress → FrameBuffer → AxfrQuery → Type 0
+IsAt progress.Begun buffer query = IsWaiting buffer query
+IsAt progress.Done buffer query = IsEnded buffer query
+IsAt (progress.Refused error) buffer query = ⊤
 
 -- the invariant of a receiver
-pub record IsReceiver (at : Progress) (intake : Intake) (query : AxfrQuery) : Type 0 where
-  pub is_at : IsAt at intake query
+pub record IsReceiver (at : Progress) (buffer : FrameBuffer) (query : AxfrQuery) : Type 0 where
+  pub is_at : IsAt at buffer query
   pub class_known : query.class ≢ any_class

@@ -5,7 +5,7 @@
 #![tactic(auto)]
 
 mod error;
-mod intake;
+mod frame_buffer;
 pub mod laws;
 mod message;
 mod open_frame;

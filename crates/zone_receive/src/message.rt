@@ -8,13 +8,13 @@ ghost use Rattle.zone_receive.specs.Asked.{asked_of};
 ghost use Rattle.zone_octets.specs.Records.{AreOctets, IsRecordOf};
 ghost use Rattle.zone_core.specs.Transfer.{AsksAgain, CountsAnswers, HasAnswerHeader};
 ghost use Rattle.zone_receive.specs.Receiving.{IsOpen, IsMessageFault, IsRecordFault};
-ghost use Rattle.zone_receive.specs.Intake.{HoldsFront, IsFaultOr, TakesMessage, TakesRecord};
+ghost use Rattle.zone_receive.specs.FrameBuffer.{HoldsFront, IsFaultOr, TakesMessage, TakesRecord};
 
 use crate::error::ReceiveError;
 use crate::owned_query::OwnedQuery;
 use crate::question::is_question_of;
 use crate::record::parse_record;
-use crate::rules::{Placing, place_record};
+use crate::rules::{RecordRole, judge_record};
 use dns_message::{Header, HeaderCounts};
 use dns_name::{Opcode, Parser, Rcode};
 use zone_core::question::{HEADER_OCTETS, parse_question};
@@ -36,7 +36,7 @@ pub(crate) fn judge_message(
     ensures err { IfErr result (IsFaultOr (IsMessageFault (asked_of query.now) records.old is_first message.now)) }
 {
     check_header(query, message)?;
-    let Some(start) = behind_question(query, is_first, message) else {
+    let Some(start) = question_end(query, is_first, message) else {
         return Err(ReceiveError::Question);
     };
     let mut parser = Parser::from_ref(message);
@@ -107,7 +107,7 @@ fn counts_answers(message: &[u8]) -> bool
 
 /// Returns the place after the message's question, which has to be the query's. If the message has no question and is
 /// not the first, returns the place after the header. Otherwise returns None.
-fn behind_question(query: &OwnedQuery, is_first: bool, message: &[u8]) -> Option<usize>
+fn question_end(query: &OwnedQuery, is_first: bool, message: &[u8]) -> Option<usize>
     requires header { HasAnswerHeader (asked_of query.now) message.now }
     ensures some { IfSome result (AsksAgain (asked_of query.now) is_first message.now) }
     ensures within { IfSome result (λ place. place ≤ length message.now) }
@@ -152,9 +152,9 @@ fn take_record(
     };
     // The rules are those of the record as it is held, with every name written out.
     records.push_from_message(&next)?;
-    match place_record(query, records, closed, number)? {
-        Placing::Inner => Ok(false),
-        Placing::Last => {
+    match judge_record(query, records, closed, number)? {
+        RecordRole::Inner => Ok(false),
+        RecordRole::Last => {
             records.pop();
             Ok(true)
         }

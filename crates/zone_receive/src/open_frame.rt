@@ -1,7 +1,7 @@
 //! The open frame at the end of a stream.
 ghost use Rattle.std.specs.Prelude.{◌≡◌, ◌+◌, ◌++◌, ◌≤◌, length, MatchOption, IfNone, slice_get};
 ghost use Rattle.zone_core.specs.Frames.{IsPartial};
-ghost use Rattle.zone_receive.specs.Intake.{Completes};
+ghost use Rattle.zone_receive.specs.FrameBuffer.{Completes};
 
 use zone_core::frames::LENGTH_OCTETS;
 

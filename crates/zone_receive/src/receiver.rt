@@ -8,7 +8,7 @@ ghost use Rattle.zone_receive.specs.declared.error.ReceiveError.{ReceiveError};
 ghost use Rattle.zone_core.specs.Transfer.{IsTransfer};
 
 use crate::error::ReceiveError;
-use crate::intake::Intake;
+use crate::frame_buffer::FrameBuffer;
 use crate::owned_query::OwnedQuery;
 use std::alloc::Global;
 use std::marker::Model;
@@ -34,7 +34,7 @@ enum Progress {
 #[derive(Debug, Drop)]
 pub struct Receiver {
     query: OwnedQuery,
-    intake: Intake,
+    buffer: FrameBuffer,
     progress: Progress,
 }
 
@@ -45,9 +45,9 @@ impl Model for Receiver {
 
     ghost Value = { Heard };
 
-    ghost view = { λ r. heard_in r.progress r.intake (asked_of r.query) };
+    ghost view = { λ r. heard_in r.progress r.buffer (asked_of r.query) };
 
-    ghost invariant = { λ r. IsReceiver r.progress r.intake (asked_of r.query) };
+    ghost invariant = { λ r. IsReceiver r.progress r.buffer (asked_of r.query) };
 }
 
 impl Receiver {
@@ -65,7 +65,7 @@ impl Receiver {
         };
         Ok(Receiver {
             query: OwnedQuery::from_query(alloc, &query)?,
-            intake: Intake::new(alloc),
+            buffer: FrameBuffer::new(alloc),
             progress: Progress::Begun,
         })
     }
@@ -93,7 +93,7 @@ impl Receiver {
             Progress::Done => Ok(0),
             Progress::Refused(error) => Err(error),
             Progress::Begun if piece.is_empty() => Ok(0),
-            Progress::Begun => match self.intake.take(&self.query, piece) {
+            Progress::Begun => match self.buffer.take(&self.query, piece) {
                 Ok(None) => Ok(piece.len()),
                 Ok(Some(count)) => {
                     self.progress = Progress::Done;
@@ -129,11 +129,11 @@ impl Receiver {
     {
         let Receiver {
             query,
-            intake,
+            buffer,
             progress,
         } = self;
         match progress {
-            Progress::Done => Ok(zone_of(intake.into_records(), query.class)),
+            Progress::Done => Ok(zone_of(buffer.into_records(), query.class)),
             Progress::Begun => Err(ReceiveError::Unfinished),
             Progress::Refused(error) => Err(error),
         }

@@ -6,7 +6,7 @@ ghost use Rattle.zone_receive.specs.Asked.{asked_of};
 ghost use Rattle.zone_octets.specs.Records.{IsRecordOf};
 ghost use Rattle.dns_message.specs.Record.{ReadsRecord};
 ghost use Rattle.zone_receive.specs.Receiving.{IsRecordFault, KeepsFirstRule};
-ghost use Rattle.zone_receive.specs.Intake.{HoldsFront, IsNext, IsPlacing};
+ghost use Rattle.zone_receive.specs.FrameBuffer.{HoldsFront, IsNext, HasRole};
 
 use crate::error::ReceiveError;
 use crate::owned_query::OwnedQuery;
@@ -18,7 +18,7 @@ use zone_octets::record_list::RecordList;
 
 /// What a record is in a transfer.
 #[derive(Clone, Copy, Debug, PartialEq, Eq)]
-pub(crate) enum Placing {
+pub(crate) enum RecordRole {
     /// A record of the zone.
     Inner,
     /// The SOA again, which ends the transfer.
@@ -27,15 +27,15 @@ pub(crate) enum Placing {
 
 /// Checks the last of these records, which has this number in the transfer, against the rules. `closed` says whether
 /// the last SOA came between it and the records before it. Fails with the first rule that the record breaks.
-pub(crate) fn place_record(
+pub(crate) fn judge_record(
     query: &OwnedQuery,
     records: &RecordList,
     closed: bool,
     number: usize,
-) -> Result<Placing, ReceiveError>
+) -> Result<RecordRole, ReceiveError>
     requires { IsNext (asked_of query.now) records.now closed number }
-    ensures ok { IfOk result (λ placing. (held : List spec.Record) (r : spec.Record) → records.now ≡ push held r
-        → IsPlacing (asked_of query.now) held r placing) }
+    ensures ok { IfOk result (λ role. (held : List spec.Record) (r : spec.Record) → records.now ≡ push held r
+        → HasRole (asked_of query.now) held r role) }
     ensures known { OnOk result (AllByRecursion (IsRecordOf query.now.class) records.now) }
     ensures open { OnOk result (closed ≡ false) }
     ensures err { IfErr result (λ error. (held front : List spec.Record) (r : spec.Record) (message : List ℕ) (place end : ℕ)
@@ -55,13 +55,13 @@ pub(crate) fn place_record(
     if !next.is_under(&query.name) {
         return Err(ReceiveError::OutOfZone(number));
     }
-    let placing = if last == 0 || !next.is_soa() {
-        Placing::Inner
+    let role = if last == 0 || !next.is_soa() {
+        RecordRole::Inner
     } else {
         if !is_same_soa(&records.record_at(0), &next) {
             return Err(ReceiveError::SoaDiffers(number));
         }
-        Placing::Last
+        RecordRole::Last
     };
     if closed {
         return Err(ReceiveError::AfterLast(number));
@@ -69,7 +69,7 @@ pub(crate) fn place_record(
     if !is_spellable(&next) {
         return Err(ReceiveError::Unspellable(number));
     }
-    Ok(placing)
+    Ok(role)
 }
 
 /// Returns whether a record is an SOA of the query's name.

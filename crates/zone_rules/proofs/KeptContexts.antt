@@ -9,7 +9,7 @@ use Rattle.dns_scan.specs.Token.{Token}
 use Rattle.dns_text.specs.Rows.{TokenRow}
 use Rattle.dns_header.specs.Record.{RecordOf}
 use Rattle.dns_rdata.specs.Fields.{IsRow}
-use Rattle.dns_rdata.specs.Data.{Data, typed, untyped, number_of, ScansAnyData}
+use Rattle.dns_rdata.specs.Data.{Data, typed, unknown_data, number_of, ScansAnyData}
 use Rattle.dns_row_scanner.specs.NameInText.{SpellsUnder}
 use Rattle.dns_row_scanner.specs.NameInText.SpellsUnder.{at, absolute, relative}
 use Rattle.dns_zonefile.specs.Statement.{Directs, Says, Stated, StatesRecord, Statement}
@@ -22,7 +22,7 @@ use Rattle.zone_rules.proofs.ScannedRows.{AreNames, scanned_is_row}
 -- fields are a row of their type
 abbrev pub IsRowed : Data → Type 0
 IsRowed (typed number row) = IsRow number row
-IsRowed (untyped unknown) = ⊤
+IsRowed (unknown_data unknown) = ⊤
 
 abbrev pub IsFitting : Entry → Type 0
 IsFitting (Resource rr) = IsRowed rr.rdata
@@ -42,7 +42,7 @@ named_under (Some origin) named text name (relative bare labels is) = is
 rowed : (names : List ℕ → List (List ℕ) → Type 0) → AreNames names → (rtype : ℕ) (rdata : Data) (tokens left : List Token)
     → ScansAnyData names rtype rdata tokens left → IsRowed rdata
 rowed names are rtype (typed number row) tokens left scans = subst (λ n. IsRow n row) (sym scans.1) (scanned_is_row are scans.2)
-rowed names are rtype (untyped unknown) tokens left scans = tt
+rowed names are rtype (unknown_data unknown) tokens left scans = tt
 
 directed : {origin : Option (List (List ℕ))} {tokens : List Token} {statement : Statement} → IfSome origin IsName → Directs (SpellsUnder origin) tokens statement
     → (name : List (List ℕ)) → statement ≡ SetOrigin name → IsName name

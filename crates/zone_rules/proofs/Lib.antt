@@ -6,8 +6,8 @@ pub mod OneFault
 pub mod ReaderSteps
 pub mod HeadWords
 pub mod JoinedDocuments
-pub mod OpaqueForms
-pub mod OpaqueRows
+pub mod UnknownForms
+pub mod UnknownRows
 pub mod OtherRows
 pub mod PrintedOnce
 pub mod PrintedRecords

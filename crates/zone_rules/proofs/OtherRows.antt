@@ -14,7 +14,7 @@ use Rattle.dns_message.specs.Held.{record_of}
 use Rattle.zone_octets.specs.Record.{Record}
 use Rattle.zone_octets.specs.Zone.{IsZoneFront}
 use Rattle.zone_rules.specs.ZoneText.{IsWellTyped, IsZoneText, NamesNoFile, records_in, start_of}
-use Rattle.zone_rules.proofs.OpaqueRows.{MakesAs}
+use Rattle.zone_rules.proofs.UnknownRows.{MakesAs}
 
 -- The rows are entries of the same records.
 record Kept (context : Context) (rows : List TokenRow) (all : List Entry) (after : Context) : Type 0 where

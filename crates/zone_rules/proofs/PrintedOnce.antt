@@ -4,10 +4,10 @@ use Rattle.std.specs.List.{AllByRecursion}
 use Rattle.dns_text.specs.Document.{Layout, Piece, document_text}
 use Rattle.dns_text.specs.Document.Piece.{Newline}
 use Rattle.dns_header.specs.Shown.{record_document}
-use Rattle.dns_rdata.specs.Data.{document_of, typed, untyped}
+use Rattle.dns_rdata.specs.Data.{document_of, typed, unknown_data}
 use Rattle.dns_rdata.specs.DataOctets.{IsDataDocument}
 use Rattle.dns_rdata.specs.Fields.{Field, IsData, kind_of, kinds_of}
-use Rattle.dns_rdata.specs.Fields.IsData.{typed as of_fields, opaque}
+use Rattle.dns_rdata.specs.Fields.IsData.{typed as of_fields, unknown}
 use Rattle.dns_rdata.proofs.ComposedRows.{same_octets}
 use Rattle.dns_message.specs.Printed.{IsDocument, ShowsData}
 use Rattle.dns_message.specs.Printed.ShowsData.{fields, untold}
@@ -45,7 +45,7 @@ one_printed layout (more_records {r = r} {rest = behind} document is others whol
 data_document : (rtype : ℕ) (data' : List ℕ) → IsData rtype data' → (document : List Piece) × ShowsData rtype data' document
 data_document rtype data' (of_fields row is octets_are) =
     (document_of (typed rtype row), fields (record { row = row; is_row = is; octets_are = octets_are; is = refl }))
-data_document rtype data' (opaque none short) = (document_of (untyped (record { number = rtype; octets = data' })), untold none refl)
+data_document rtype data' (unknown none short) = (document_of (unknown_data (record { number = rtype; octets = data' })), untold none refl)
 
 document_made : (class : ℕ) (r : Record) → IsRecordOf class r → (document : List Piece) × IsDocument r document
 document_made class r is =

@@ -22,7 +22,7 @@ use Rattle.dns_fields.proofs.PrintedTexts.{safe_decimal, number_back, word_token
 use Rattle.dns_fields.proofs.PrintedTokens.{IsWritten, number_written, rest_written, row_has_tokens}
 use Rattle.dns_header.specs.Record.{RecordOf}
 use Rattle.dns_header.specs.Shown.{record_document}
-use Rattle.dns_rdata.specs.Data.{Data, typed, untyped, document_of, number_of}
+use Rattle.dns_rdata.specs.Data.{Data, typed, unknown_data, document_of, number_of}
 use Rattle.dns_rdata.specs.DataOctets.{data_octets}
 use Rattle.dns_rdata.specs.DataTokens.{HasNoEmptyTag, IsAnyData, tokens_of}
 use Rattle.dns_rdata.proofs.PrintedData.{any_back, data_row, data_written}
@@ -63,7 +63,7 @@ data_shown class r document is (fields shown) = record {
   is = shown.is;
 }
 data_shown class r document is (untold none shown) = record {
-  rdata = untyped (record { number = r.rtype; octets = r.rdata });
+  rdata = unknown_data (record { number = r.rtype; octets = r.rdata });
   is_any = (is.sendable.lawful.rdata, is.data_octets);
   tags = tt;
   number = refl;

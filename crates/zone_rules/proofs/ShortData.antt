@@ -11,7 +11,7 @@ use Rattle.dns_values.specs.Mnemonic.{Mnemonics, number_behind, number_named, nu
 use Rattle.dns_values.proofs.Words.{number_spelled-digits, number_spelled-other}
 use Rattle.dns_scan.specs.Token.{Token}
 use Rattle.dns_text.specs.Rows.{TokenRow}
-use Rattle.dns_rdata.specs.Data.{Data, ScansAnyData, number_of, typed, untyped}
+use Rattle.dns_rdata.specs.Data.{Data, ScansAnyData, number_of, typed, unknown_data}
 use Rattle.dns_rdata.specs.DataOctets.{data_octets}
 use Rattle.dns_zonefile.specs.Statement.{Directs, Says, Statement}
 use Rattle.dns_zonefile.specs.Statement.Statement.{SetOrigin, SetTtl, NameFile, StateRecord}
@@ -36,7 +36,7 @@ spelled_below limit text n false digits spelled =
 scanned_short : (names : List ℕ → List (List ℕ) → Type 0) (rtype : ℕ) (tokens left : List Token) (rdata : Data)
     → ScansAnyData names rtype rdata tokens left → length (data_octets rdata) ≤ 65535
 scanned_short names rtype tokens left (typed number row) scans = scans.2.short
-scanned_short names rtype tokens left (untyped unknown) scans =
+scanned_short names rtype tokens left (unknown_data unknown) scans =
     let number = scans.3.number in
     let below = spelled_below (2 ^ 16) number.text (length unknown.octets) (list_all is_ascii_digit number.text) refl number.reads_as in
     omega (arith, below)

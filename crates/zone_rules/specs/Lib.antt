@@ -1,3 +1,3 @@
 pub mod ZoneText
 pub mod Printed
-pub mod Untyped
+pub mod Unknown

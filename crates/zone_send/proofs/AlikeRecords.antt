@@ -190,8 +190,8 @@ headed (alike_named {other = other} same (alike_octets _ (alike_counted {inside 
   read_is = refl;
 }
 
-opaque_alike : {s : Spelling} {text : List ℕ} {inside : Parts} → AreAlike s (Octets text End) inside → inside ≡ Octets text End
-opaque_alike (alike_octets _ alike_end) = refl
+unknown_alike : {s : Spelling} {text : List ℕ} {inside : Parts} → AreAlike s (Octets text End) inside → inside ≡ Octets text End
+unknown_alike (alike_octets _ alike_end) = refl
 
 -- the record with another owner and other data
 abbrev with_data : Record → List (List ℕ) → List ℕ → Record
@@ -236,8 +236,8 @@ module _ (s : Spelling) (r : Record) (is_record : IsRecord r) (owner : List (Lis
   }
 
   -- unknown data
-  opaque_taken : IsTaken s r (with_data r owner r.rdata)
-  opaque_taken = record {
+  unknown_taken : IsTaken s r (with_data r owner r.rdata)
+  unknown_taken = record {
     lawful = lawful_with r.rdata is_record.rdata;
     near = record { owner = low_same s r.owner owner same; rtype = refl; class = refl; ttl = refl; rdata = same_data refl };
     exact = λ exact. same_record r owner r.rdata (exact_name s r.owner owner same exact) refl;
@@ -272,8 +272,8 @@ taken_parts s r more read is_record (untold none) alike =
       data_parts = Octets r.rdata End;
       rest = h.rest;
       is_written = untold none;
-      taken = opaque_taken s r is_record h.other h.same;
+      taken = unknown_taken s r is_record h.other h.same;
       alike = h.alike;
       read_is = h.read_is
-          ∙ ap (λ (p : Parts). Named h.other (Octets (fixed_octets r.rtype r.class r.ttl) (Counted p h.rest))) (opaque_alike h.within);
+          ∙ ap (λ (p : Parts). Named h.other (Octets (fixed_octets r.rtype r.class r.ttl) (Counted p h.rest))) (unknown_alike h.within);
     }

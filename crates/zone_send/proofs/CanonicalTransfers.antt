@@ -4,8 +4,8 @@ use Rattle.std.specs.List.{AllByRecursion, AllZip}
 use Rattle.dns_label.specs.Name.{low}
 use Rattle.dns_name.specs.Spelling.{static_spelling, tree_spelling, hash_spelling}
 use Rattle.dns_rdata.specs.Fields.{Field, compressible, uncompressed, number8, number16, number32, ipv4, ipv6, string, strings, tag, rest_text, rest16, rest64, field_octets, octets, lowered, canonical_octets, IsData}
-use Rattle.dns_rdata.specs.Fields.IsData.{typed as typed_data, opaque as opaque_data}
-use Rattle.zone_canonical.specs.Canonical.{IsCanonical, IsCanonicalData, typed, opaque, HasCanonicalForm, AreAlike}
+use Rattle.dns_rdata.specs.Fields.IsData.{typed as typed_data, unknown as unknown_data}
+use Rattle.zone_canonical.specs.Canonical.{IsCanonical, IsCanonicalData, typed, unknown, HasCanonicalForm, AreAlike}
 use Rattle.zone_canonical.proofs.Alike.{alike_same}
 use Rattle.zone_octets.specs.Record.{Record}
 use Rattle.zone_octets.specs.Records.{AreSendable, IsSendable}
@@ -67,7 +67,7 @@ form_of_data rtype one (typed_data row is are) = record {
   of_one = typed row is are refl;
   of_other = typed row is are refl;
 }
-form_of_data rtype one (opaque_data none short) = record { form = one; of_one = opaque none refl; of_other = opaque none refl }
+form_of_data rtype one (unknown_data none short) = record { form = one; of_one = unknown none refl; of_other = unknown none refl }
 
 form_of_near : (rtype : ℕ) (one other : List ℕ) → IsData rtype one → IsNearData rtype one other → FormOfBoth rtype one other
 form_of_near rtype one other is (same_data same) = subst (FormOfBoth rtype one) same (form_of_data rtype one is)

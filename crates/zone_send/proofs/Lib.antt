@@ -6,7 +6,7 @@ pub mod GrownPages
 pub mod HeaderFronts
 pub mod LastRecord
 mod Patched
-pub mod Placing
+pub mod PutRecords
 pub mod Plain
 pub mod SendFaults
 pub mod SentOnce

@@ -3,7 +3,7 @@ use Rattle.std.proofs.Common.{◌≡◌, ◌≢◌, ℕ, ◌<◌, ◌≤◌, ◌
 use Rattle.std.specs.List.{AllByRecursion}
 use Rattle.dns_label.specs.Name.{low}
 use Rattle.dns_rdata.specs.Fields.{IsData, IsRow, kinds_of}
-use Rattle.dns_rdata.specs.Fields.IsData.{typed, opaque}
+use Rattle.dns_rdata.specs.Fields.IsData.{typed, unknown}
 use Rattle.zone_octets.specs.Record.{Record}
 use Rattle.zone_octets.specs.Zone.{IsUnder, IsBehindSoa, soa_type}
 use Rattle.zone_core.specs.Query.{AxfrQuery}
@@ -29,7 +29,7 @@ same_soa soa is (typed row is_row octets_are) =
       other_is = (subst P is is_row, octets_are);
       same = refl;
     }
-same_soa soa is (opaque none short) =
+same_soa soa is (unknown none short) =
     let P : ℕ → Type 0 = λ rtype. kinds_of rtype ≡ None in
     let none' : kinds_of soa_type ≡ None = subst P is none in absurd cc
 

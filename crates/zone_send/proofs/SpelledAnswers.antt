@@ -9,8 +9,8 @@ use Rattle.dns_name.specs.Page.{Page, Parts}
 use Rattle.dns_name.specs.Page.Parts.{End, Octets, Named, Counted}
 use Rattle.dns_name.specs.RecordData.{page_of}
 use Rattle.dns_name.specs.Remembered.{sound_none}
-use Rattle.dns_name.specs.SpelledParts.{Spells}
-use Rattle.dns_name.specs.SpelledParts.Spells.{nothing, octets as spells_octets, named as spells_named, counted as spells_counted}
+use Rattle.dns_name.specs.SpelledParts.{SpellsParts}
+use Rattle.dns_name.specs.SpelledParts.SpellsParts.{nothing, octets as spells_octets, named as spells_named, counted as spells_counted}
 use Rattle.dns_header.specs.Head.{fixed_octets}
 use Rattle.dns_header.specs.Header.{answer_header}
 use Rattle.dns_header.specs.Question.{Question, ReadsQuestion, question_parts}
@@ -111,8 +111,8 @@ few_items s item (r ∷ group) given known place =
 
 -- a record's parts with more parts after them
 record_spelled : {message : List ℕ} {place next : ℕ} (r : Record) (inner rest : Parts)
-    → Spells message place (Named r.owner (Octets (fixed_octets r.rtype r.class r.ttl) (Counted inner rest))) next
-    → (behind : ℕ) × Spells message place (record_parts r inner) behind × Spells message behind rest next
+    → SpellsParts message place (Named r.owner (Octets (fixed_octets r.rtype r.class r.ttl) (Counted inner rest))) next
+    → (behind : ℕ) × SpellsParts message place (record_parts r inner) behind × SpellsParts message behind rest next
 record_spelled r inner rest spelled =
     let begun = opened spelled in
     let numbers = opened begun.behind in
@@ -134,15 +134,15 @@ nothing_alike alike_end = refl
 
 records_taken : (s : Spelling) (item : Record → Parts) (class : ℕ) (message : List ℕ) (place next : ℕ) (group : List Record) (read : Parts)
     → AllByRecursion (IsSendable class) group → AllByRecursion (λ r. IsWritten r (item r)) group
-    → AreAlike s (items item group) read → Spells message place read next → TakenRecords s message place group next
+    → AreAlike s (items item group) read → SpellsParts message place read next → TakenRecords s message place group next
 records_taken s item class message place next [] read each given alike spelled =
     let P : ℕ → Type 0 = λ next. SpellsRecords message place [] next in
-    let at_end : Spells message place End next = subst (λ p. Spells message place p next) (nothing_alike alike) spelled in
+    let at_end : SpellsParts message place End next = subst (λ p. SpellsParts message place p next) (nothing_alike alike) spelled in
     let ends : next ≡ place = opened at_end in
     record { others = []; taken = tt; spelled = subst P (sym ends) none }
 records_taken s item class message place next (r ∷ group) read each given alike spelled =
     let t = taken_parts s r (items item group) read each.0.lawful given.0 alike in
-    let first = record_spelled t.other t.data_parts t.rest (subst (λ p. Spells message place p next) t.read_is spelled) in
+    let first = record_spelled t.other t.data_parts t.rest (subst (λ p. SpellsParts message place p next) t.read_is spelled) in
     let goes = records_taken s item class message first.0 next group t.rest each.1 given.1 t.alike first.2 in
     record {
       others = t.other ∷ goes.others;
@@ -214,11 +214,11 @@ record TakenQuestion (query : AxfrQuery) (message : List ℕ) (rest : Parts) (ne
   q : Question
   reads : ReadsQuestion message 12 q place
   is : IsQuestionOf query q
-  behind : Spells message place rest next
+  behind : SpellsParts message place rest next
 
 question_taken : (query : AxfrQuery) (group : List Record) (message : List ℕ) (next : ℕ) (name : List (List ℕ)) (rest : Parts)
     → query.class < 2 ^ 16 → low name ≡ low query.name
-    → Spells message 0 (Octets (header_of query group) (Named name (Octets (numbers_of query) rest))) next
+    → SpellsParts message 0 (Octets (header_of query group) (Named name (Octets (numbers_of query) rest))) next
     → TakenQuestion query message rest next
 question_taken query group message next name rest fits same spelled =
     let begun = opened spelled in
@@ -226,7 +226,7 @@ question_taken query group message next name rest fits same spelled =
     let numbers : BeginsWith message named.end (numbers_of query) rest next = opened named.behind in
     let within : named.end + 4 ≤ length message = omega (arith, length-drop named.end message, ap (length {A = ℕ}) numbers.at) in
     let q : Question = record { name = name; qtype = axfr_type; qclass = query.class } in
-    let parts : Spells message 12 (question_parts q) (named.end + 4) =
+    let parts : SpellsParts message 12 (question_parts q) (named.end + 4) =
     spells_named named.end named.reads (spells_octets numbers.rest numbers.at (nothing within)) in
     record {
       place = named.end + 4;
@@ -258,7 +258,7 @@ module _ (s : Spelling) (item : Record → Parts) (query : AxfrQuery) (first : B
       let message : List ℕ = header_of query group ++ behind in
       let read = octets_read small in
       let m : AlikeMessage s (header_of query group) query.name (numbers_of query) (items item group) read.read = message_alike read.alike in
-      let spelled = subst (λ p. Spells message 0 p (length message)) m.read_is read.spelled in
+      let spelled = subst (λ p. SpellsParts message 0 p (length message)) m.read_is read.spelled in
       let asked = question_taken query group message (length message) m.other m.rest asks.class_fits
       (sym (low_same s query.name m.other m.same)) spelled in
       let found = records_taken s item class message asked.place (length message) group m.rest each given m.alike asked.behind in

@@ -15,7 +15,7 @@ use Rattle.dns_builder.specs.Built.{Built, Draft, IsDraftOf, header_octets, noth
 use Rattle.dns_builder.specs.Steps.{going_to, with_item, with_header, length_with, counted_at, IsTakenBy, IsRefusedBy, KeepsLimits}
 use Rattle.dns_builder.proofs.DraftPages.{counted_is}
 use Rattle.dns_rdata.specs.Data.{Data}
-use Rattle.dns_rdata.specs.Data.Data.{typed as in_fields, untyped}
+use Rattle.dns_rdata.specs.Data.Data.{typed as in_fields, unknown_data}
 use Rattle.dns_header.specs.Record.{RecordOf}
 use Rattle.dns_message.specs.Held.{record_of, written_parts_of}
 use Rattle.dns_message.specs.Record.{IsWritten}
@@ -228,7 +228,7 @@ typed_by : (rr : RecordOf (List (List ℕ)) Data) (rdata : Data) → rr.rdata �
 typed_by rr (in_fields number row) is row_is =
     let P : Data → Type 0 = λ rdata. let other = record rr { rdata = rdata } in IsWritten (record_of other) (written_parts_of other) in
     subst P (sym is) (in_row row row_is refl)
-typed_by rr (untyped unknown) is none =
+typed_by rr (unknown_data unknown) is none =
     let P : Data → Type 0 = λ rdata. let other = record rr { rdata = rdata } in IsWritten (record_of other) (written_parts_of other) in
     subst P (sym is) (untold none)
 

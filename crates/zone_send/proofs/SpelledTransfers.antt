@@ -5,7 +5,7 @@ use Rattle.std.specs.List.{AllByRecursion, AllZip}
 use Rattle.dns_name.specs.Spelling.{Spelling}
 use Rattle.dns_name.specs.Page.{Parts}
 use Rattle.dns_rdata.specs.Fields.{Field, IsRow, IsData, kinds_of}
-use Rattle.dns_rdata.specs.Fields.IsData.{typed, opaque}
+use Rattle.dns_rdata.specs.Fields.IsData.{typed, unknown}
 use Rattle.dns_message.specs.Record.{IsWritten}
 use Rattle.zone_octets.specs.Record.{Record}
 use Rattle.zone_octets.specs.Records.{AreSendable, IsSendable, SameSoa}
@@ -89,7 +89,7 @@ same_soas s soa one other is (typed row is_row octets_are) a b =
       other_is = (subst (P second.others) is second.is_row, second.octets_are);
       same = sym first.lower ∙ second.lower;
     }
-same_soas s soa one other is (opaque no_row short) a b =
+same_soas s soa one other is (unknown no_row short) a b =
     let P : ℕ → Type 0 = λ rtype. kinds_of rtype ≡ None in
     let none' : kinds_of soa_type ≡ None = subst P is no_row in absurd cc
 

@@ -9,7 +9,7 @@ use Rattle.dns_text.specs.Rows.{BeginsWithRows, TokenRow}
 use Rattle.dns_tokens.proofs.Rows.{row_shorter}
 use Rattle.dns_header.specs.Head.{after_length, fixed_octets}
 use Rattle.dns_header.specs.Record.{RecordOf}
-use Rattle.dns_rdata.specs.Data.{Data, typed, untyped, is_untyped, number_of}
+use Rattle.dns_rdata.specs.Data.{Data, typed, unknown_data, is_unknown, number_of}
 use Rattle.dns_rdata.specs.DataOctets.{data_octets}
 use Rattle.dns_rdata.specs.Fields as fields
 use Rattle.dns_rdata.specs.Fields.{IsData}
@@ -37,7 +37,7 @@ use Rattle.zone_rules.proofs.KeptContexts.{IsFitting, IsRowed, entries_fit}
 use Rattle.zone_rules.proofs.KeptRules.{keeps_directives, keeps_none, records_behind}
 use Rattle.zone_rules.proofs.RecordClasses.{zone_text_class}
 use Rattle.zone_rules.proofs.ReaderSteps.{HasKept, MeetsRecord, ended_behind, first_fault, kept_record, meets, next_read, out_fault, second_fault, unspellable_fault, untyped_fault}
-use Rattle.zone_text.specs.Reading.{BeginWith, BreaksRule, HasRead, IsCheckFault, IsHanded, HasReadAll, MayStandUnder, StandsLast, reader_at}
+use Rattle.zone_text.specs.Reading.{BeginWith, BreaksRule, HasRead, IsCheckFault, AppendsRecord, HasReadAll, MayStandUnder, StandsLast, reader_at}
 
 -- in the words of the rules
 pub kept_of : {text : List ℕ} {origin : Option (List (List ℕ))} {class : ℕ} {reader : Reader} {octets places : List ℕ} → class ≢ any_class
@@ -51,10 +51,10 @@ kept_of known read = record {
 }
 
 pub record_handed : {old new : List ℕ} {told : Bool} {given : Result (Option Entry) EntryError} {result : Result (Option ComposedEntry) EntryError}
-    → result ≡ Ok (Some (composed.Record told)) → HandsOn old given result new → IsHanded old told given new
+    → result ≡ Ok (Some (composed.Record told)) → HandsOn old given result new → AppendsRecord old told given new
 record_handed {told = told} same (HandsOn.resource {rr = rr} held whole) =
-    let alike : is_untyped rr.rdata ≡ told = cc in
-    record { rr = rr; is = refl; held = held; octets = whole; opaque = sym alike }
+    let alike : is_unknown rr.rdata ≡ told = cc in
+    record { rr = rr; is = refl; held = held; octets = whole; unknown_is = sym alike }
 record_handed same HandsOn.include = absurd cc
 record_handed same HandsOn.ended = absurd cc
 record_handed same HandsOn.refused = absurd cc
@@ -67,9 +67,9 @@ fitting_last : (entries : List Entry) (entry : Entry) → AllByRecursion IsFitti
 fitting_last [] entry each = each.0
 fitting_last (first ∷ entries) entry each = fitting_last entries entry each.1
 
-rowed_data : (rdata : Data) → is_untyped rdata ≡ false → IsRowed rdata → IsData (number_of rdata) (data_octets rdata)
+rowed_data : (rdata : Data) → is_unknown rdata ≡ false → IsRowed rdata → IsData (number_of rdata) (data_octets rdata)
 rowed_data (typed number row) same is = fields.typed row is refl
-rowed_data (untyped unknown) same is = absurd cc
+rowed_data (unknown_data unknown) same is = absurd cc
 
 -- the owner of the first of the records
 abbrev pub apex_in : List Record → Option (List (List ℕ))
@@ -90,11 +90,11 @@ record_met {reader = reader} {new = new} {rr = rr} known read gives is counted =
 -- its data, if the text does not write it in the form of unknown data
 pub data_met : {text : List ℕ} {origin : Option (List (List ℕ))} {class : ℕ} {reader new : Reader} {octets places old after : List ℕ} {told : Bool}
     {given : Result (Option Entry) EntryError} → HasRead text origin class reader octets places → Gives reader given new
-    → (handed : IsHanded old told given after) → told ≡ false → IsData (record_of handed.rr).rtype (record_of handed.rr).rdata
+    → (handed : AppendsRecord old told given after) → told ≡ false → IsData (record_of handed.rr).rtype (record_of handed.rr).rdata
 data_met {reader = reader} {new = new} read gives handed bare =
     let next = next_read (record { goes = read.goes }) (subst (λ g. Gives reader g new) handed.is gives) in
     let fit = fitting_last (read.entries ++ next.0) (Resource handed.rr) (entries_fit read.named next.2.goes.are) in
-    rowed_data handed.rr.rdata (sym handed.opaque ∙ bare) fit
+    rowed_data handed.rr.rdata (sym handed.unknown_is ∙ bare) fit
 
 -- a record that may be there may follow the others
 pub follows : (records : List Record) (apex : Option (List (List ℕ))) (r : Record) → apex ≡ apex_in records → IsZoneFront records
@@ -163,7 +163,7 @@ begin_stored (r ∷ records) stored = (r, flat_map record_octets records, stored
 
 -- the record that is read, after those octets
 pub stands_last : {old new : List ℕ} {told : Bool} {given : Result (Option Entry) EntryError} (apex : Option (List (List ℕ))) (place : ℕ) (seen : List ℕ)
-    → BeginWith apex old → (handed : IsHanded old told given new) → place ≡ length old → seen ≡ new
+    → BeginWith apex old → (handed : AppendsRecord old told given new) → place ≡ length old → seen ≡ new
     → StandsLast seen place apex (record_of handed.rr)
 stands_last {old} apex place seen begin handed at same = record {
   before = old;

@@ -2,7 +2,7 @@
 use Rattle.std.specs.Prelude.{◌≡◌, ◌≢◌, ◌++◌, ℕ, Bool, true, Option, Some, None, Result, Ok, List, [], ◌∷◌, length, IfSome}
 use Rattle.dns_label.specs.Name.{IsName}
 use Rattle.dns_header.specs.Record.{RecordOf}
-use Rattle.dns_rdata.specs.Data.{Data, is_untyped}
+use Rattle.dns_rdata.specs.Data.{Data, is_unknown}
 use Rattle.dns_rdata.specs.Fields.{IsData}
 use Rattle.dns_rdata.specs.DataOctets.{IsSpellable}
 use Rattle.dns_message.specs.Held.{record_of}
@@ -62,18 +62,18 @@ pub record HasCountedAll (text : List ℕ) (origin : Option (List (List ℕ))) (
 
 -- The reader returns a record, whose octets follow the old ones. The text writes its data in the form of unknown data
 -- or not.
-pub record IsHanded (old : List ℕ) (told : Bool) (given : Result (Option Entry) EntryError) (new : List ℕ) : Type 0 where
+pub record AppendsRecord (old : List ℕ) (told : Bool) (given : Result (Option Entry) EntryError) (new : List ℕ) : Type 0 where
   pub rr : RecordOf (List (List ℕ)) Data
   pub is : given ≡ Ok (Some (Resource rr))
   pub held : IsHeld rr
   pub octets : new ≡ old ++ record_octets (record_of rr)
-  pub opaque : told ≡ is_untyped rr.rdata
+  pub unknown_is : told ≡ is_unknown rr.rdata
 
 -- The reader goes on to a record, or to the end of the text, and then appends nothing to the octets.
-abbrev pub HasMet : Reader → List ℕ → Option Bool → Reader → List ℕ → Type 0
-HasMet reader old None new octets = Gives reader (Ok None) new × (octets ≡ old)
-HasMet reader old (Some told) new octets =
-    (given : Result (Option Entry) EntryError) × Gives reader given new × IsHanded old told given octets
+abbrev pub AppendsNext : Reader → List ℕ → Option Bool → Reader → List ℕ → Type 0
+AppendsNext reader old None new octets = Gives reader (Ok None) new × (octets ≡ old)
+AppendsNext reader old (Some told) new octets =
+    (given : Result (Option Entry) EntryError) × Gives reader given new × AppendsRecord old told given octets
 
 -- the octets begin with a record of this owner, or there are none
 abbrev pub BeginWith : Option (List (List ℕ)) → List ℕ → Type 0
@@ -107,5 +107,5 @@ BreaksRule number apex r error = ⊥
 
 -- the same, or out of memory, if the text writes the data in the form of unknown data
 abbrev pub IsCheckFault : Bool → ℕ → Option (List (List ℕ)) → Record → ZoneError → Type 0
-IsCheckFault untyped number apex r zone_error.OutOfMemory = untyped ≡ true
-IsCheckFault untyped number apex r error = BreaksRule number apex r error
+IsCheckFault unknown number apex r zone_error.OutOfMemory = unknown ≡ true
+IsCheckFault unknown number apex r error = BreaksRule number apex r error

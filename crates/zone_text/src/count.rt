@@ -7,7 +7,7 @@ ghost use Rattle.zone_octets.specs.Zone.{any_class};
 ghost use Rattle.zone_rules.specs.ZoneText.{IsZoneFault, IsZoneText};
 ghost use Rattle.zone_text.specs.Reading.{HasCounted, HasCountedAll};
 
-use crate::read::{check_last, meet_record, zonefile_of};
+use crate::read::{check_last, append_next, zonefile_of};
 use dns_name::{Class, Name};
 use dns_zonefile::Zonefile;
 use std::alloc::Global;
@@ -61,10 +61,10 @@ fn count_next(
         → HasCounted text origin class (reader_of zonefile.old) octets.old.items count → IsZoneFault text origin class error) }
 {
     let place = octets.len();
-    let Some(untyped) = meet_record(zonefile, octets)? else {
+    let Some(unknown) = append_next(zonefile, octets)? else {
         return Ok(false);
     };
-    check_last(alloc, octets, place, untyped, zonefile.entry_number())?;
+    check_last(alloc, octets, place, unknown, zonefile.entry_number())?;
     // Only the first record is kept: its owner is the zone's apex.
     if place > 0 {
         octets.truncate(place);

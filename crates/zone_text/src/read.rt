@@ -9,7 +9,7 @@ ghost use Rattle.zone_octets.specs.Record as spec;
 ghost use Rattle.zone_octets.specs.Records.{AreRecordsOf};
 ghost use Rattle.zone_octets.specs.Zone.{any_class};
 ghost use Rattle.zone_rules.specs.ZoneText.{IsWellTyped, IsZoneFault, IsZoneText};
-ghost use Rattle.zone_text.specs.Reading.{BreaksRule, IsCheckFault, HasMet, HasRead, HasReadAll, MayStandUnder, StandsLast, reader_at};
+ghost use Rattle.zone_text.specs.Reading.{BreaksRule, IsCheckFault, AppendsNext, HasRead, HasReadAll, MayStandUnder, StandsLast, reader_at};
 
 use dns_name::{Class, Name, ToName, first_name};
 use dns_zonefile::{ComposedEntry, Zonefile};
@@ -93,10 +93,10 @@ fn read_next(
         → IsZoneFault text origin class error) }
 {
     let place = octets.len();
-    let Some(untyped) = meet_record(zonefile, octets)? else {
+    let Some(unknown) = append_next(zonefile, octets)? else {
         return Ok(false);
     };
-    check_last(alloc, octets, place, untyped, zonefile.entry_number())?;
+    check_last(alloc, octets, place, unknown, zonefile.entry_number())?;
     match places.push(place) {
         Ok(()) => Ok(true),
         Err(_) => Err(ZoneError::OutOfMemory),
@@ -108,18 +108,18 @@ fn read_next(
 ///
 /// Fails with `Include` if the next entry includes a file, with `Text` if it cannot be parsed, and with `OutOfMemory`
 /// if out of memory.
-pub(crate) fn meet_record(
+pub(crate) fn append_next(
     zonefile: &mut Zonefile,
     octets: &mut Vec<u8>,
 ) -> Result<Option<bool>, ZoneError>
     requires { refused_in zonefile.old ≡ None }
     ensures unrefused { OnOk result (refused_in zonefile.new ≡ None) }
-    ensures ok { IfOk result (λ met. HasMet (reader_of zonefile.old) octets.old.items met (reader_of zonefile.new) octets.new.items) }
+    ensures ok { IfOk result (λ met. AppendsNext (reader_of zonefile.old) octets.old.items met (reader_of zonefile.new) octets.new.items) }
     ensures err { IfErr result (λ error. (text : List ℕ) (origin : Option (List (List ℕ))) (class : ℕ) (read places : List ℕ) → class ≢ any_class
         → HasRead text origin class (reader_of zonefile.old) read places → IsZoneFault text origin class error) }
 {
     match zonefile.next_octets(octets) {
-        Ok(Some(ComposedEntry::Record { untyped })) => Ok(Some(untyped)),
+        Ok(Some(ComposedEntry::Record { unknown })) => Ok(Some(unknown)),
         Ok(Some(ComposedEntry::Include(_))) => Err(ZoneError::Include(zonefile.entry_number())),
         Ok(None) => Ok(None),
         Err(error) if error.is_memory() => Err(ZoneError::OutOfMemory),
@@ -133,19 +133,19 @@ pub(crate) fn check_last(
     alloc: Global,
     octets: &[u8],
     place: usize,
-    untyped: bool,
+    unknown: bool,
     number: usize,
 ) -> Result<(), ZoneError>
     requires { (apex : Option (List (List ℕ))) × (r : spec.Record) × StandsLast octets.now place apex r
-        × (untyped ≡ false → IsData r.rtype r.rdata) }
+        × (unknown ≡ false → IsData r.rtype r.rdata) }
     ensures ok { OnOk result ((apex : Option (List (List ℕ))) (r : spec.Record) → StandsLast octets.now place apex r
         → IsWellTyped r × MayStandUnder apex r) }
     ensures err { IfErr result (λ error. (apex : Option (List (List ℕ))) (r : spec.Record) → StandsLast octets.now place apex r
-        → IsCheckFault untyped number apex r error) }
+        → IsCheckFault unknown number apex r error) }
 {
     let (before, record) = octets.split_at(place);
     let record = Record::from_octets(record);
-    check_record(alloc, apex_of(before), &record, untyped, number)
+    check_record(alloc, apex_of(before), &record, unknown, number)
 }
 
 /// Checks a record, with the number of its entry. Fails if it breaks a rule of the zone with this apex, or cannot be a
@@ -155,14 +155,14 @@ fn check_record(
     alloc: Global,
     apex: Option<Name<&[u8]>>,
     record: &Record<'_>,
-    untyped: bool,
+    unknown: bool,
     number: usize,
 ) -> Result<(), ZoneError>
-    requires { untyped ≡ false → IsData «record».now.rtype «record».now.rdata }
+    requires { unknown ≡ false → IsData «record».now.rtype «record».now.rdata }
     ensures ok { OnOk result (IsWellTyped «record».now × MayStandUnder apex.entry «record».now) }
-    ensures err { IfErr result (IsCheckFault untyped number apex.entry «record».now) }
+    ensures err { IfErr result (IsCheckFault unknown number apex.entry «record».now) }
 {
-    check_data(alloc, record, untyped, number)?;
+    check_data(alloc, record, unknown, number)?;
     check_place(apex, record, number)?;
     if !is_spellable(record) {
         return Err(ZoneError::Unspellable(number));
@@ -175,14 +175,14 @@ fn check_record(
 fn check_data(
     alloc: Global,
     record: &Record<'_>,
-    untyped: bool,
+    unknown: bool,
     number: usize,
 ) -> Result<(), ZoneError>
-    requires { untyped ≡ false → IsData «record».now.rtype «record».now.rdata }
+    requires { unknown ≡ false → IsData «record».now.rtype «record».now.rdata }
     ensures ok { OnOk result (IsData «record».now.rtype «record».now.rdata) }
-    ensures err { IfErr result (λ error. (apex : Option (List (List ℕ))) → IsCheckFault untyped number apex «record».now error) }
+    ensures err { IfErr result (λ error. (apex : Option (List (List ℕ))) → IsCheckFault unknown number apex «record».now error) }
 {
-    if !untyped {
+    if !unknown {
         return Ok(());
     }
     if is_data_of_type(alloc, record.rtype(), record.data())? {

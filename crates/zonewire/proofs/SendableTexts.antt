@@ -9,7 +9,7 @@ use Rattle.dns_scan.specs.Token.{Token}
 use Rattle.dns_text.specs.Rows.{TokenRow}
 use Rattle.dns_rdata.specs.Data.{number_of}
 use Rattle.dns_rdata.specs.Fields.{IsData}
-use Rattle.dns_rdata.specs.Fields.IsData.{opaque, typed}
+use Rattle.dns_rdata.specs.Fields.IsData.{unknown, typed}
 use Rattle.dns_row_scanner.specs.NameInText.{SpellsUnder}
 use Rattle.dns_zonefile.specs.Entries.{AreEntries}
 use Rattle.dns_zonefile.specs.Entry.{Context, Enters, Entry}
@@ -130,7 +130,7 @@ each_fit fit (AreEntries.entry is are) =
 
 data_short : (rtype : ℕ) (data' : List ℕ) → IsData rtype data' → length data' < 2 ^ 16
 data_short rtype data' (typed row is same) = subst (λ (l : List ℕ). length l < 2 ^ 16) (sym same) is.short
-data_short rtype data' (opaque none short) = short
+data_short rtype data' (unknown none short) = short
 
 each_sendable : (class : ℕ) (entries : List Entry) → class < 2 ^ 16 → AllByRecursion IsFitEntry entries
     → AllByRecursion IsWellTyped (records_in entries) → AllByRecursion (λ (r : Record). r.class ≡ class) (records_in entries)

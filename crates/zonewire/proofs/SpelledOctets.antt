@@ -5,17 +5,17 @@ use Rattle.std.specs.Int.{to_be_bytes, w16}
 use Rattle.std.specs.List.{AllByRecursion}
 use Rattle.dns_label.specs.Name.{IsLabel, wire}
 use Rattle.dns_label.specs.Octets.{AreOctets, IsOctet}
-use Rattle.dns_label.specs.Spelled as label_specs
-use Rattle.dns_label.specs.Spelled.Spells.{root, label, pointer}
+use Rattle.dns_label.specs.Spelled.{EncodesName}
+use Rattle.dns_label.specs.Spelled.EncodesName.{root, label, pointer}
 use Rattle.dns_name.specs.Page.{Parts}
 use Rattle.dns_name.specs.Page.Parts.{Counted, End, Named, Octets}
-use Rattle.dns_name.specs.SpelledParts.{Spells}
-use Rattle.dns_name.specs.SpelledParts.Spells.{counted, named, nothing, octets}
+use Rattle.dns_name.specs.SpelledParts.{SpellsParts}
+use Rattle.dns_name.specs.SpelledParts.SpellsParts.{counted, named, nothing, octets}
 use Rattle.dns_rdata.specs.Fields.{Field, IsData, IsField, compressible, field_octets, uncompressed}
 use Rattle.dns_rdata.specs.Fields as fields
 use Rattle.dns_header.specs.Head.{after_length, fixed_octets}
 use Rattle.dns_message.specs.Record.{IsRead, IsRecord, read_parts, record_octets}
-use Rattle.dns_message.specs.Record.IsRead.{opaque, typed}
+use Rattle.dns_message.specs.Record.IsRead.{unknown, typed}
 use Rattle.dns_message.proofs.Numbers.{octets_from}
 use Rattle.zone_octets.specs.Record.{Record}
 use Rattle.zone_octets.specs.Records.{AreRecordsOf, IsRecordOf}
@@ -34,7 +34,7 @@ use Rattle.zone_receive.proofs.SpelledRecords.{read_has_data}
 -- ---- names and parts
 
 name_octets : (message : List ℕ) {pointers place next : ℕ} {name : List (List ℕ)} → AreOctets message
-    → label_specs.Spells message pointers place name next → AllByRecursion AreOctets name
+    → EncodesName message pointers place name next → AllByRecursion AreOctets name
 name_octets message each (root rest at) = tt
 name_octets message {place = place} each (label {label = text} rest at is_label parent) =
     let here : AreOctets (length text ∷ text) =
@@ -49,7 +49,7 @@ HaveOctets (Octets text parts) = AreOctets text × HaveOctets parts
 HaveOctets (Named name parts) = AllByRecursion AreOctets name × HaveOctets parts
 HaveOctets (Counted inner parts) = HaveOctets inner × HaveOctets parts
 
-parts_octets : {message : List ℕ} {place next : ℕ} {parts : Parts} → AreOctets message → Spells message place parts next → HaveOctets parts
+parts_octets : {message : List ℕ} {place next : ℕ} {parts : Parts} → AreOctets message → SpellsParts message place parts next → HaveOctets parts
 parts_octets each (nothing within) = tt
 parts_octets {message} {place = place} each (octets {text = text} rest at behind) =
     (octets_front (drop place message) text rest at (octets_from place message each), parts_octets each behind)
@@ -95,7 +95,7 @@ record IsOfOctets (r : Record) : Type 0 where
 read_octets : (r : Record) {parts : Parts} → IsRecord r → IsRead r parts → HaveOctets parts → AreOctets (record_octets r)
 read_octets r lawful (typed row is_row same) parts =
     record_octets_are r lawful parts.0 parts.1.0 (subst AreOctets (sym same) (row_octets row is_row.each parts.1.1.0))
-read_octets r lawful (opaque no_fields) parts = record_octets_are r lawful parts.0 parts.1.0 parts.1.1.0.0
+read_octets r lawful (unknown no_fields) parts = record_octets_are r lawful parts.0 parts.1.0 parts.1.1.0.0
 
 spelled_octets : {message : List ℕ} {place next : ℕ} {records : List Record} → AreOctets message
     → SpellsRecords message place records next → AllByRecursion IsOfOctets records

@@ -9,7 +9,7 @@ impl<Target: Composer, S: BuilderSection> SectionBuilder<Target, S> {
     ghost use Rattle.std.specs.Prelude.{◌≡◌, ◌≤◌, ◌↔◌, IsNone, IfSome, length};
     ghost use Rattle.dns_header.specs.HeaderCounts.{counts_of, counts_in};
     ghost use Rattle.dns_header.specs.HeaderFields.{fields_of};
-    ghost use Rattle.dns_sections.specs.Message as message;
+    ghost use Rattle.dns_sections.specs.Message.{message_octets};
     ghost use Rattle.dns_builder.specs.Built.{Built, IsDraftOf, counts_octets};
     ghost use Rattle.dns_builder.specs.Steps.{with_header, KeepsLimits};
     ghost use Rattle.dns_builder.specs.Seen.{draft_of, target_in};
@@ -86,7 +86,7 @@ impl<Target: Composer, S: BuilderSection> SectionBuilder<Target, S> {
 
     /// Returns the message built so far.
     pub fn as_message(&self) -> Message<&[u8]>
-        ensures { message.octets_of result ≡ (draft_of self.now).page.octets }
+        ensures { message_octets result ≡ (draft_of self.now).page.octets }
     {
         match Message::from_slice(self.as_slice()) {
             Ok(message) => message,

@@ -3,7 +3,7 @@
 //! A place is a number of octets from the start of the name. A call that takes places requires that labels begin there;
 //! `is_label_start` tells.
 ghost use Rattle.std.specs.Prelude.{◌≡◌, ◌≤◌, ◌↔◌, ◌∷◌, ◌++◌, List, ℕ, [], Some, length, slice_get, IsTrue, IfSome, IfNone, IfOk, IfErr};
-ghost use Rattle.dns_label.specs.Label.{octets_of};
+ghost use Rattle.dns_label.specs.Label.{label_octets};
 ghost use Rattle.dns_label.specs.Name.{with_root, low};
 ghost use Rattle.dns_wire.specs.Parts.{IsLabelStart, IsFront, IsBack, IsBetween};
 ghost use Rattle.dns_wire.specs.Suffix.{EndsWith, StartsWith};
@@ -26,7 +26,7 @@ impl<Octs: Octets> Name<Octs> {
 
     /// Returns the first label, which is the root's if there is no other.
     pub fn first(&self) -> Label<'_>
-        ensures { Some (octets_of result) ≡ slice_get (with_root self.now) 0 }
+        ensures { Some (label_octets result) ≡ slice_get (with_root self.now) 0 }
     {
         match self.iter().next() {
             Some(label) => label,
@@ -36,7 +36,7 @@ impl<Octs: Octets> Name<Octs> {
 
     /// Returns the last label, which is the root's.
     pub fn last(&self) -> Label<'_>
-        ensures { Some (octets_of result) ≡ slice_get (with_root self.now) (length self.now) }
+        ensures { Some (label_octets result) ≡ slice_get (with_root self.now) (length self.now) }
     {
         Label::root()
     }
@@ -121,7 +121,7 @@ impl<Octs: Octets> Name<Octs> {
 
     /// Returns the first label and the name after it, or `None` for the root.
     pub fn split_first(&self) -> Option<(Label<'_>, Name<&[u8]>)>
-        ensures some { IfSome result (λ found. self.now ≡ octets_of found.0 ∷ found.1) }
+        ensures some { IfSome result (λ found. self.now ≡ label_octets found.0 ∷ found.1) }
         ensures none { IfNone result (self.now ≡ []) }
     {
         let (label, behind) = split_first(self.as_slice())?;

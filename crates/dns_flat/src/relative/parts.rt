@@ -3,7 +3,7 @@
 //! A place is a number of octets from the start of the name. A call that takes places requires that labels begin there,
 //! or that the name ends there; `is_label_start` tells.
 ghost use Rattle.std.specs.Prelude.{◌≡◌, ◌≤◌, ◌-◌, ◌↔◌, ◌∷◌, ◌++◌, List, ℕ, [], length, option_map, slice_get, IsTrue, IfSome, IfNone, OnOk, OnErr};
-ghost use Rattle.dns_label.specs.Label.{octets_of};
+ghost use Rattle.dns_label.specs.Label.{label_octets};
 ghost use Rattle.dns_label.specs.Name.{low};
 ghost use Rattle.dns_wire.specs.FlatLabels.{AreLabels, flat_labels};
 ghost use Rattle.dns_wire.specs.Parts.{IsLabelStart, IsFront, IsBack, IsBetween};
@@ -53,7 +53,7 @@ impl<'a> RelativeName<&'a [u8]> {
 
     /// Returns the first label and those after it.
     pub(crate) fn first_and_rest(self) -> Option<(Label<'a>, Self)>
-        ensures some { IfSome result (λ found. self.entry ≡ octets_of found.0 ∷ found.1) }
+        ensures some { IfSome result (λ found. self.entry ≡ label_octets found.0 ∷ found.1) }
         ensures none { IfNone result (self.entry ≡ []) }
     {
         let (label, behind) = split_first(self.into_octets())?;
@@ -71,14 +71,14 @@ impl<Octs: Octets> RelativeName<Octs> {
 
     /// Returns the first label, or `None` if there is none.
     pub fn first(&self) -> Option<Label<'_>>
-        ensures { option_map octets_of result ≡ slice_get self.now 0 }
+        ensures { option_map label_octets result ≡ slice_get self.now 0 }
     {
         self.iter().label(0)
     }
 
     /// Returns the last label, or `None` if there is none.
     pub fn last(&self) -> Option<Label<'_>>
-        ensures { option_map octets_of result ≡ slice_get self.now (length self.now - 1) }
+        ensures { option_map label_octets result ≡ slice_get self.now (length self.now - 1) }
     {
         self.iter().label(self.label_count().saturating_sub(1))
     }
@@ -138,7 +138,7 @@ impl<Octs: Octets> RelativeName<Octs> {
 
     /// Returns the first label and those after it, or `None` if there is none.
     pub fn split_first(&self) -> Option<(Label<'_>, RelativeName<&[u8]>)>
-        ensures some { IfSome result (λ found. self.now ≡ octets_of found.0 ∷ found.1) }
+        ensures some { IfSome result (λ found. self.now ≡ label_octets found.0 ∷ found.1) }
         ensures none { IfNone result (self.now ≡ []) }
     {
         self.for_ref().first_and_rest()

@@ -11,35 +11,35 @@ use crate::{Name, RelativeName};
 use dns_octets::{EmptyBuilder, FromBuilder};
 use dns_wire::FromStrError;
 use dns_wire::copies::octets_from;
-use dns_wire::text::Spelling;
+use dns_wire::text::NameDraft;
 use std::alloc::Global;
 
 /// Makes the name of the finished labels. Fails if there is no label, or if there is no memory or room for the name.
 pub(super) fn finish<Octs: FromBuilder>(
     alloc: Global,
-    spelling: Spelling,
+    draft: NameDraft,
 ) -> Result<Name<Octs>, FromStrError>
 where
     Octs::Builder: EmptyBuilder + Drop,
-    requires { (done : List (List ℕ)) × Holds spelling done [] }
-    ensures ok { IfOk result (λ name. IsName name × Holds spelling name [] × (0 < length name)) }
-    ensures err { IfErr result (λ error. IsFault error ↔ IsNew spelling) }
+    requires { (done : List (List ℕ)) × Holds draft done [] }
+    ensures ok { IfOk result (λ name. IsName name × Holds draft name [] × (0 < length name)) }
+    ensures err { IfErr result (λ error. IsFault error ↔ IsNew draft) }
     ensures other { result ≡ Err (Presentation presentation.RelativeName) → ⊥ }
 {
-    let octets = octets_from(alloc, spelling.finished()?)?;
+    let octets = octets_from(alloc, draft.finished()?)?;
     Ok(Name::from_octets_unchecked(octets))
 }
 
 /// Makes the relative name of the finished labels. Fails if there is no memory or room for it.
 pub(super) fn finish_relative<Octs: FromBuilder>(
     alloc: Global,
-    spelling: Spelling,
+    draft: NameDraft,
 ) -> Result<RelativeName<Octs>, FromStrError>
 where
     Octs::Builder: EmptyBuilder + Drop,
-    requires { (done : List (List ℕ)) × Holds spelling done [] }
-    ensures ok { IfOk result (λ name. IsName name × Holds spelling name []) }
+    requires { (done : List (List ℕ)) × Holds draft done [] }
+    ensures ok { IfOk result (λ name. IsName name × Holds draft name []) }
     ensures err { IfErr result (λ error. error ≡ ShortBuf) }
 {
-    Ok(copied_relative(alloc, spelling.labels())?)
+    Ok(copied_relative(alloc, draft.labels())?)
 }

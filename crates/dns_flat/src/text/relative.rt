@@ -10,7 +10,7 @@ ghost use Rattle.dns_flat.specs.declared.text.relative.RelativeFromStrError.TheV
 use super::finish::finish_relative;
 use crate::RelativeName;
 use dns_octets::{AppendError, EmptyBuilder, FromBuilder};
-use dns_wire::text::Spelling;
+use dns_wire::text::NameDraft;
 use dns_wire::{FromStrError, PresentationError};
 use std::alloc::Global;
 use thiserror::Error;
@@ -69,7 +69,7 @@ where
         ensures ok { IfOk result (λ name. (text : List ℕ) × Drains C.next_gives chars text × IsRelativeNameText text name) }
         ensures err { IfErr result (IsNoRelativeBy C.next_gives chars) }
     {
-        RelativeName::of_read(alloc, Spelling::read_chars(chars)?)
+        RelativeName::of_read(alloc, NameDraft::read_chars(chars)?)
     }
 
     /// Reads the relative name that a text spells, which has no last dot. The empty text is the name without labels.
@@ -80,26 +80,26 @@ where
         ensures ok { IfOk result (λ name. IsRelativeNameText text.now name) }
         ensures err { IfErr result (IsNoRelative text.now) }
     {
-        RelativeName::of_read(alloc, Spelling::read_text(text.as_bytes())?)
+        RelativeName::of_read(alloc, NameDraft::read_text(text.as_bytes())?)
     }
 
     /// Makes the relative name that was read. Its last label may be open.
-    fn of_read(alloc: Global, read: Option<Spelling>) -> Result<Self, RelativeFromStrError>
+    fn of_read(alloc: Global, read: Option<NameDraft>) -> Result<Self, RelativeFromStrError>
         requires { (text : List ℕ) × IsReadBy text read }
         ensures ok { IfOk result (λ name. (text : List ℕ) → IsReadBy text read → IsRelativeNameText text name) }
         ensures err { IfErr result (λ error. (text : List ℕ) → IsReadBy text read → IsNoRelative text error) }
     {
-        let Some(mut spelling) = read else {
+        let Some(mut draft) = read else {
             return Err(RelativeFromStrError::AbsoluteName);
         };
-        if spelling.has_open_label() {
-            spelling.end_label()?;
-            return Ok(finish_relative(alloc, spelling)?);
+        if draft.has_open_label() {
+            draft.end_label()?;
+            return Ok(finish_relative(alloc, draft)?);
         }
-        if !spelling.is_new() {
+        if !draft.is_new() {
             return Err(RelativeFromStrError::AbsoluteName);
         }
-        Ok(finish_relative(alloc, spelling)?)
+        Ok(finish_relative(alloc, draft)?)
     }
 }
 

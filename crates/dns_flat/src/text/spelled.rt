@@ -8,7 +8,7 @@ use super::finish::{finish, finish_relative};
 use crate::{Name, RelativeName};
 use dns_octets::{EmptyBuilder, FromBuilder, Octets};
 use dns_wire::FromStrError;
-use dns_wire::text::Spelling;
+use dns_wire::text::NameDraft;
 use std::alloc::Global;
 
 /// A name read from a text when no origin is known: the last dot decides between the two.
@@ -38,25 +38,25 @@ where
         ensures ok { IfOk result (λ name. (text : List ℕ) × Drains C.next_gives chars text × IsSpelledBy text name) }
         ensures err { IfErr result (IsNotSpelledBy C.next_gives chars) }
     {
-        SpelledName::of_read(alloc, Spelling::read_chars(chars)?)
+        SpelledName::of_read(alloc, NameDraft::read_chars(chars)?)
     }
 
     /// Makes the name that was read. Its last label may be open.
-    fn of_read(alloc: Global, read: Option<Spelling>) -> Result<Self, FromStrError>
+    fn of_read(alloc: Global, read: Option<NameDraft>) -> Result<Self, FromStrError>
         requires { (text : List ℕ) × IsReadBy text read }
         ensures ok { IfOk result (λ name. (text : List ℕ) → IsReadBy text read → IsSpelledBy text name) }
         ensures err { IfErr result (λ error. (text : List ℕ) → IsReadBy text read → IsNotSpelled text error) }
     {
-        let Some(mut spelling) = read else {
+        let Some(mut draft) = read else {
             return Ok(SpelledName::Absolute(Name::root(alloc)?));
         };
-        if spelling.has_open_label() {
-            spelling.end_label()?;
-            return Ok(SpelledName::Relative(finish_relative(alloc, spelling)?));
+        if draft.has_open_label() {
+            draft.end_label()?;
+            return Ok(SpelledName::Relative(finish_relative(alloc, draft)?));
         }
-        if !spelling.is_new() {
-            return Ok(SpelledName::Absolute(finish(alloc, spelling)?));
+        if !draft.is_new() {
+            return Ok(SpelledName::Absolute(finish(alloc, draft)?));
         }
-        Ok(SpelledName::Relative(finish_relative(alloc, spelling)?))
+        Ok(SpelledName::Relative(finish_relative(alloc, draft)?))
     }
 }

@@ -1,6 +1,6 @@
 //! Parsing and skipping questions.
 ghost use Rattle.std.specs.Prelude.{◌≡◌, ◌↔◌, ◌⊎◌, ℕ, List, IfOk, IfErr, OnOk, OnErr};
-ghost use Rattle.dns_label.specs.Spelled.{Reads};
+ghost use Rattle.dns_label.specs.Spelled.{DecodesName};
 ghost use Rattle.dns_wire.specs.Cut.{IsCut};
 ghost use Rattle.dns_wire.specs.Skip.{Skips};
 ghost use Rattle.dns_octets.specs.declared.error.ParseError.TheVariants.{ShortInput};
@@ -24,7 +24,7 @@ impl<'a> Question<ParsedName<&'a [u8]>> {
             → ReadsQuestion (octets_of parser.old) (place_of parser.old) question next → ⊥) }
         ensures short { IfErr result (λ error. (error ≡ ShortInput) ↔ (IsCut (octets_of parser.old) 255 254 (place_of parser.old)
             ⊎ ((name : List (List ℕ)) × EndsInQuestion (octets_of parser.old)
-            (Reads (octets_of parser.old) (place_of parser.old) name)))) }
+            (DecodesName (octets_of parser.old) (place_of parser.old) name)))) }
         ensures same { octets_of parser.new ≡ octets_of parser.old }
         ensures err { OnErr result (parser.new ≡ parser.old) }
     {

@@ -1,6 +1,6 @@
 //! Labels that are changed in place.
 ghost use Rattle.std.specs.Prelude.{◌≡◌, ◌≤◌, ◌↔◌, length, IsOk, IfOk, IfErr};
-ghost use Rattle.dns_label.specs.Label.{octets_of};
+ghost use Rattle.dns_label.specs.Label.{label_octets};
 ghost use Rattle.dns_label.specs.Composed.{low_label};
 ghost use Rattle.dns_label.specs.Split.{NoLabel, StartsWithLabel};
 
@@ -68,7 +68,7 @@ impl<'a> LabelMut<'a> {
 
     /// Returns the label as it is now.
     pub fn as_label(&self) -> Label<'_>
-        ensures { octets_of result ≡ octets_lent self.now }
+        ensures { label_octets result ≡ octets_lent self.now }
     {
         Label {
             octets: self.octets,

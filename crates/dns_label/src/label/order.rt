@@ -5,7 +5,7 @@ ghost use Rattle.std.specs.Cmp.Lexicographic.{pointwise, slice_cmp};
 ghost use Rattle.std.specs.Cmp.Rules.{comparing};
 ghost use Rattle.std.specs.Cmp.{partial_order_from_own_ties};
 ghost use Rattle.std.proofs.Common.{rules};
-ghost use Rattle.dns_label.specs.Label.{octets_of};
+ghost use Rattle.dns_label.specs.Label.{label_octets};
 ghost use Rattle.dns_label.specs.Composed.{label_wire, low_label};
 
 use super::Label;
@@ -13,7 +13,7 @@ use std::cmp::Ordering;
 use std::hash::{Hash, Hasher};
 
 impl PartialEq for Label<'_> {
-    ghost eq = { on (λ label. low_label (octets_of label)) (pointwise nat_eq) };
+    ghost eq = { on (λ label. low_label (label_octets label)) (pointwise nat_eq) };
 
     ghost laws = { Prim.search (comparing, rules) };
 
@@ -27,7 +27,7 @@ impl Eq for Label<'_> {
 }
 
 impl PartialOrd for Label<'_> {
-    ghost partial_cmp = { as_partial_cmp (on (λ label. low_label (octets_of label)) (slice_cmp nat_cmp)) };
+    ghost partial_cmp = { as_partial_cmp (on (λ label. low_label (label_octets label)) (slice_cmp nat_cmp)) };
 
     ghost laws = { partial_order_from_own_ties (Prim.search (comparing, rules)) (Prim.search (comparing, rules)) };
 
@@ -37,7 +37,7 @@ impl PartialOrd for Label<'_> {
 }
 
 impl Ord for Label<'_> {
-    ghost cmp = { on (λ label. low_label (octets_of label)) (slice_cmp nat_cmp) };
+    ghost cmp = { on (λ label. low_label (label_octets label)) (slice_cmp nat_cmp) };
 
     ghost total = { Prim.search (comparing, rules) };
 
@@ -53,7 +53,7 @@ impl Ord for Label<'_> {
 }
 
 impl Hash for Label<'_> {
-    ghost hash_input = { λ label. label_wire (low_label (octets_of label)) ∷ [] };
+    ghost hash_input = { λ label. label_wire (low_label (label_octets label)) ∷ [] };
 
     ghost respects_eq = { Prim.search (comparing, rules) };
 

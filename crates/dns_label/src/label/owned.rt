@@ -1,6 +1,6 @@
 //! Labels that hold their octets.
 ghost use Rattle.std.specs.Prelude.{◌≡◌, ◌≤◌, ◌+◌, length, slice_index, ⊤};
-ghost use Rattle.dns_label.specs.Label.{octets_of};
+ghost use Rattle.dns_label.specs.Label.{label_octets};
 ghost use Rattle.dns_label.specs.Composed.{label_wire, low_label};
 
 mod order;
@@ -39,7 +39,7 @@ impl OwnedLabel {
 
     /// Returns a label that holds a copy of the octets.
     pub fn from_label(label: Label<'_>) -> Self
-        ensures { octets_owned result ≡ octets_of label.entry }
+        ensures { octets_owned result ≡ label_octets label.entry }
     {
         let mut wire = [0; 64];
         let len = label.len();
@@ -50,7 +50,7 @@ impl OwnedLabel {
 
     /// Returns a view of the label.
     pub fn as_label(&self) -> Label<'_>
-        ensures { octets_of result ≡ octets_owned self.now }
+        ensures { label_octets result ≡ octets_owned self.now }
     {
         let octets = &self.wire[1..self.wire_len()];
         Label { octets }

@@ -1,8 +1,8 @@
 //! The labels of a message from a place on (RFC 1035, section 4.1.4).
 ghost use Rattle.std.specs.Prelude.{◌≡◌, ◌+◌, ◌*◌, ◌≤◌, List, ℕ, [], length, drop, IfSome, IfNone};
-ghost use Rattle.dns_label.specs.Label.{octets_of};
+ghost use Rattle.dns_label.specs.Label.{label_octets};
 ghost use Rattle.dns_label.specs.Name.{with_root};
-ghost use Rattle.dns_label.specs.Spelled.{Spells};
+ghost use Rattle.dns_label.specs.Spelled.{EncodesName};
 ghost use Rattle.dns_label.specs.Split.{StartsWithLabel};
 ghost use Rattle.dns_label.specs.Seen.{Seen, labels_to_see};
 
@@ -34,7 +34,7 @@ impl<'a> Label<'a> {
     pub fn iter_slice(octets: &'a [u8], start: usize) -> SliceLabelsIter<'a>
         ensures seen { Seen octets.now 255 start result }
         ensures few { length result ≤ 256 * (length octets.now + 1) }
-        ensures name { (name : List (List ℕ)) (next : ℕ) → Spells octets.now 255 start name next → result ≡ with_root name }
+        ensures name { (name : List (List ℕ)) (next : ℕ) → EncodesName octets.now 255 start name next → result ≡ with_root name }
     {
         SliceLabelsIter {
             octets,
@@ -49,7 +49,7 @@ impl<'a> Iterator for SliceLabelsIter<'a> {
 
     type Item = Label<'a>;
 
-    ghost next_gives = { YieldsFirstBy octets_of (λ labels. labels) };
+    ghost next_gives = { YieldsFirstBy label_octets (λ labels. labels) };
 
     ghost remaining = { item_count (λ labels. labels) };
 
@@ -68,8 +68,8 @@ impl<'a> Iterator for SliceLabelsIter<'a> {
 /// Returns the label at a place, with pointers followed: the label, its place, and the number of pointers that may
 /// still be followed. Returns None if there is no label.
 fn find_label(octets: &[u8], start: usize, pointers: u8) -> Option<(Label<'_>, usize, u8)>
-    ensures found { IfSome result (λ found. (rest : List ℕ) × StartsWithLabel (drop found.1 octets.now) (octets_of found.0) rest) }
-    ensures within { IfSome result (λ found. found.1 + 1 + length (octets_of found.0) ≤ length octets.now) }
+    ensures found { IfSome result (λ found. (rest : List ℕ) × StartsWithLabel (drop found.1 octets.now) (label_octets found.0) rest) }
+    ensures within { IfSome result (λ found. found.1 + 1 + length (label_octets found.0) ≤ length octets.now) }
     ensures there { IfSome result (λ found. (labels : List (List ℕ)) → Seen octets.now found.2 found.1 labels → Seen octets.now pointers start labels) }
     ensures none { IfNone result (Seen octets.now pointers start []) }
 {

@@ -2,7 +2,7 @@
 ghost use Rattle.std.specs.Prelude.{◌≡◌, ◌++◌, ◌∷◌, [], Err, length, OnOk, OnErr};
 ghost use Rattle.dns_octets.specs.Builder.{GrowsTo, IsWithin, IsPast};
 ghost use Rattle.dns_octets.specs.declared.error.AppendError.TheVariants.{ShortBuf, BadLength};
-ghost use Rattle.dns_label.specs.Label.{octets_of};
+ghost use Rattle.dns_label.specs.Label.{label_octets};
 ghost use Rattle.dns_label.specs.Name.{wire};
 
 use dns_flat::ToName;
@@ -55,11 +55,11 @@ fn append_labels<T: OctetsBuilder, N: ToName>(target: &mut T, name: &N) -> Resul
 /// Appends the label after its length, or its length alone if there is room for that alone.
 fn append_label<T: OctetsBuilder>(target: &mut T, label: &Label<'_>) -> Result<(), AppendError>
     ensures ok { OnOk result (T.list target.new ≡ T.list target.old
-        ++ length (octets_of label.now) ∷ octets_of label.now) }
+        ++ length (label_octets label.now) ∷ label_octets label.now) }
     ensures known { T.known target.new ≡ T.known target.old }
     ensures grows { GrowsTo (T.list target.old) (T.known target.old) (T.list target.new) (T.known target.new) }
     ensures short { result ≡ Err ShortBuf → IsPast (T.bound target.old) (length (T.list target.old
-        ++ length (octets_of label.now) ∷ octets_of label.now)) }
+        ++ length (label_octets label.now) ∷ label_octets label.now)) }
     ensures fits { OnOk result (IsWithin (T.bound target.old) (length (T.list target.new))) }
     ensures not_bad { result ≡ Err BadLength → ⊥ }
     ensures same_bound { T.bound target.new ≡ T.bound target.old }

@@ -1,9 +1,9 @@
 //! Parts of names in messages.
 ghost use Rattle.std.specs.Prelude.{◌≡◌, ◌∷◌, List, ℕ, [], Some, false, length, slice_get, IsTrue, ◌↔◌, IfOk, IfErr, IfSome, IfNone, OnOk, OnErr};
-ghost use Rattle.dns_label.specs.Label.{octets_of as label_octets};
+ghost use Rattle.dns_label.specs.Label.{label_octets};
 ghost use Rattle.dns_label.specs.Name.{with_root, wire, low};
 ghost use Rattle.dns_label.specs.Labels.{labels_at};
-ghost use Rattle.dns_label.specs.Spelled.{Reads};
+ghost use Rattle.dns_label.specs.Spelled.{DecodesName};
 ghost use Rattle.dns_wire.specs.Cut.{IsCut};
 ghost use Rattle.dns_wire.specs.Parsed.{IsReadAt, IsWrittenAt};
 ghost use Rattle.dns_wire.specs.Suffix.{EndsWith, StartsWith};
@@ -25,8 +25,8 @@ impl<'a> ParsedName<&'a [u8]> {
 
     /// Parses the name at the parser's place, over the octets that the parser borrows, as `parse` does.
     pub fn parse_ref(parser: &mut Parser<'a>) -> Result<Self, ParseError>
-        ensures ok { IfOk result (λ name. Reads (octets_of parser.old) (place_of parser.old) (labels_of name) (place_of parser.new)) }
-        ensures err { OnErr result ((name : List (List ℕ)) (next : ℕ) → Reads (octets_of parser.old) (place_of parser.old) name next → ⊥) }
+        ensures ok { IfOk result (λ name. DecodesName (octets_of parser.old) (place_of parser.old) (labels_of name) (place_of parser.new)) }
+        ensures err { OnErr result ((name : List (List ℕ)) (next : ℕ) → DecodesName (octets_of parser.old) (place_of parser.old) name next → ⊥) }
         ensures short { IfErr result (λ error. (error ≡ ShortInput) ↔ IsCut (octets_of parser.old) 255 254 (place_of parser.old)) }
         ensures same { octets_of parser.new ≡ octets_of parser.old }
         ensures stays { OnErr result (parser.new ≡ parser.old) }

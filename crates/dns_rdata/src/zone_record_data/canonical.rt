@@ -12,7 +12,7 @@ use dns_fields::CanonicalOctetsOrd;
 use dns_name::{CanonicalOrd, Octets, RecordData, ToName, UnknownRecordData};
 use std::cmp::Ordering;
 
-/// By the number of the type, and then by the canonical octets, whether the data is opaque or not (RFC 4034 6.3).
+/// By the number of the type, and then by the canonical octets, whether the data is unknown or not (RFC 4034 6.3).
 impl<Octs: Octets, N: ToName> CanonicalOrd for ZoneRecordData<Octs, N> {
     ghost canonical = { on data_of canonical_data_cmp };
 
@@ -32,10 +32,10 @@ impl<Octs: Octets, N: ToName> ZoneRecordData<Octs, N> {
         requires { number_of (data_of self.now) ≡ number_of (data_of other.now) }
         ensures { result ≡ slice_cmp nat_cmp (canonical_of (data_of self.now)) (canonical_of (data_of other.now)) }
     {
-        if let Some(two) = other.as_opaque() {
+        if let Some(two) = other.as_unknown() {
             return self.canonical_octets_cmp(two.data().octets());
         }
-        if let Some(one) = self.as_opaque() {
+        if let Some(one) = self.as_unknown() {
             return other.canonical_octets_cmp(one.data().octets()).reverse();
         }
         match self.visit_both::<InCanonicalOrder>(other) {
@@ -58,7 +58,7 @@ impl VisitBoth for InCanonicalOrder {
         one.row().canonical_fields_cmp(two.row())
     }
 
-    fn opaque<Octs: Octets>(
+    fn unknown<Octs: Octets>(
         one: &UnknownRecordData<Octs>,
         two: &UnknownRecordData<Octs>,
     ) -> Ordering {
@@ -86,7 +86,7 @@ impl<'a> Visit<&'a [u8]> for AgainstOctets {
         canonical_row_cmp_octets(rdata.as_row(), octets)
     }
 
-    fn opaque<Octs: Octets>(rdata: &UnknownRecordData<Octs>, octets: &mut &'a [u8]) -> Ordering {
+    fn unknown<Octs: Octets>(rdata: &UnknownRecordData<Octs>, octets: &mut &'a [u8]) -> Ordering {
         rdata.canonical_octets_cmp(octets)
     }
 }

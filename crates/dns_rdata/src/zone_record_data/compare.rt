@@ -14,7 +14,7 @@ use dns_name::{Octets, RecordData, ToName, UnknownRecordData};
 use std::cmp::Ordering;
 use std::hash::{Hash, Hasher};
 
-/// Of the same type, and with equal fields, or with the same octets if both are opaque.
+/// Of the same type, and with equal fields, or with the same octets if both are unknown.
 impl<Octs: Octets, N: ToName> PartialEq for ZoneRecordData<Octs, N> {
     ghost eq = { on data_of data_eq };
 
@@ -42,8 +42,8 @@ impl VisitBoth for AreEqual {
         one.row().fields_eq(two.row())
     }
 
-    #[tactic(auto, using(crate::proofs::Pairs::opaque_eq))]
-    fn opaque<Octs: Octets>(one: &UnknownRecordData<Octs>, two: &UnknownRecordData<Octs>) -> bool {
+    #[tactic(auto, using(crate::proofs::Pairs::unknown_data_eq))]
+    fn unknown<Octs: Octets>(one: &UnknownRecordData<Octs>, two: &UnknownRecordData<Octs>) -> bool {
         one == two
     }
 }
@@ -63,7 +63,7 @@ impl<Octs: Octets, N: ToName> PartialOrd for ZoneRecordData<Octs, N> {
     }
 }
 
-/// By the number of the type, then fields before opaque data, then by what these are.
+/// By the number of the type, then fields before unknown data, then by what these are.
 impl<Octs: Octets, N: ToName> Ord for ZoneRecordData<Octs, N> {
     ghost cmp = { on data_of data_cmp };
 
@@ -80,7 +80,7 @@ impl<Octs: Octets, N: ToName> Ord for ZoneRecordData<Octs, N> {
             None => self
                 .rtype()
                 .cmp(&other.rtype())
-                .then(self.is_opaque().cmp(&other.is_opaque())),
+                .then(self.is_unknown().cmp(&other.is_unknown())),
         }
     }
 }
@@ -98,8 +98,8 @@ impl VisitBoth for InOrder {
         one.row().fields_cmp(two.row())
     }
 
-    #[tactic(auto, using(crate::proofs::Pairs::opaque_cmp))]
-    fn opaque<Octs: Octets>(
+    #[tactic(auto, using(crate::proofs::Pairs::unknown_data_cmp))]
+    fn unknown<Octs: Octets>(
         one: &UnknownRecordData<Octs>,
         two: &UnknownRecordData<Octs>,
     ) -> Ordering {
@@ -130,7 +130,7 @@ impl<H: Hasher> Visit<H> for Hashed {
         rdata.as_row().hash_fields(state);
     }
 
-    fn opaque<Octs: Octets>(rdata: &UnknownRecordData<Octs>, state: &mut H) {
+    fn unknown<Octs: Octets>(rdata: &UnknownRecordData<Octs>, state: &mut H) {
         rdata.rtype().to_int().hash(state);
         rdata.hash(state);
     }

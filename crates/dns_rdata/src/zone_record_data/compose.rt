@@ -48,7 +48,7 @@ impl Visit<bool> for Length {
         row_len(rdata.as_row(), *compress)
     }
 
-    fn opaque<Octs: Octets>(rdata: &UnknownRecordData<Octs>, compress: &mut bool) -> Option<u16> {
+    fn unknown<Octs: Octets>(rdata: &UnknownRecordData<Octs>, compress: &mut bool) -> Option<u16> {
         rdata.rdlen(*compress)
     }
 }
@@ -74,7 +74,7 @@ impl<Target: Composer> Visit<Target> for Plain {
         compose_row(rdata.as_row(), target)
     }
 
-    fn opaque<Octs: Octets>(
+    fn unknown<Octs: Octets>(
         rdata: &UnknownRecordData<Octs>,
         target: &mut Target,
     ) -> Result<(), AppendError> {
@@ -101,7 +101,7 @@ impl<Target: Composer> Visit<Target> for Canonical {
         compose_canonical_row(rdata.as_row(), target)
     }
 
-    fn opaque<Octs: Octets>(
+    fn unknown<Octs: Octets>(
         rdata: &UnknownRecordData<Octs>,
         target: &mut Target,
     ) -> Result<(), AppendError> {

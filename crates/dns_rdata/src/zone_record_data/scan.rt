@@ -15,7 +15,7 @@ use dns_text::{Scanner, ScannerError, scan_without_marker};
 
 impl<Octs: FromBuilder + Drop, N: ToName + Drop> ZoneRecordData<Octs, N> {
     /// Scans data of the type from the first tokens, and takes these (RFC 1035 5.1). If the first one is the unquoted `\#`,
-    /// this is opaque data of any type (RFC 3597 5), which takes all tokens and need not have the fields of the type; a type
+    /// this is unknown data of any type (RFC 3597 5), which takes all tokens and need not have the fields of the type; a type
     /// without fields has this form alone. Tokens after the last field stay.
     ///
     /// Fails with an error other than `short_buf` only if the tokens begin with no data of the type of at most 65,535 octets.
@@ -38,7 +38,7 @@ impl<Octs: FromBuilder + Drop, N: ToName + Drop> ZoneRecordData<Octs, N> {
         }
     }
 
-    /// Scans opaque data of the type after its marker.
+    /// Scans unknown data of the type after its marker.
     fn scan_octets<S: Scanner<Octets = Octs, Name = N>>(
         rtype: Rtype,
         scanner: &mut S,

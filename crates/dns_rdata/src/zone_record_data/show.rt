@@ -33,7 +33,7 @@ impl<F: Formatter> Visit<F> for Shown {
         rdata.show(formatter)
     }
 
-    fn opaque<Octs: Octets>(rdata: &UnknownRecordData<Octs>, formatter: &mut F) -> fmt::Result {
+    fn unknown<Octs: Octets>(rdata: &UnknownRecordData<Octs>, formatter: &mut F) -> fmt::Result {
         ZonefileFmt::fmt(rdata, formatter)
     }
 }

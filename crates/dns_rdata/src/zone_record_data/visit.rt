@@ -2,20 +2,20 @@
 ghost use Rattle.std.specs.Prelude.{◌≡◌, ℕ, List, OnOk, IfSome, IfNone};
 ghost use Rattle.dns_fields.specs.Fields.{Field};
 ghost use Rattle.dns_fields.specs.Shown.{data_pieces};
-ghost use Rattle.dns_rdata.specs.Data.{Data, typed, untyped, AreOfOneKind};
+ghost use Rattle.dns_rdata.specs.Data.{Data, typed, unknown_data, AreOfOneKind};
 ghost use Rattle.dns_rdata.specs.ZoneData.{data_of};
 ghost use Rattle.dns_text.specs.Documents.{block_of};
 ghost use Rattle.dns_text.specs.Writing.{Adds};
 
 use super::ZoneRecordData;
-use crate::rows::{DataType, FrontRow, Row, ShowRow};
+use crate::rows::{DataType, RowOctetsOrd, Row, ShowRow};
 use dns_name::{Octets, ToName, UnknownRecordData};
 use dns_text::{Formatter, ZonefileFmt};
 use std::fmt;
 
 /// Data of a type that has fields.
 pub trait TypedData {
-    type Row: Row + FrontRow;
+    type Row: Row + RowOctetsOrd;
 
     ghost number: { ℕ };
 
@@ -34,7 +34,7 @@ pub trait TypedData {
         ensures { OnOk result (Adds F.writes formatter.old (block_of (data_pieces number (held self.now))) formatter.new) };
 }
 
-impl<T: DataType, R: Row + FrontRow + ShowRow> TypedData for dns_rr_names::RowData<T, R> {
+impl<T: DataType, R: Row + RowOctetsOrd + ShowRow> TypedData for dns_rr_names::RowData<T, R> {
     type Row = R;
 
     ghost number = { T.number };
@@ -54,7 +54,7 @@ impl<T: DataType, R: Row + FrontRow + ShowRow> TypedData for dns_rr_names::RowDa
     }
 }
 
-impl<T: DataType, R: Row + FrontRow + ShowRow> TypedData for dns_rr_octets::RowData<T, R> {
+impl<T: DataType, R: Row + RowOctetsOrd + ShowRow> TypedData for dns_rr_octets::RowData<T, R> {
     type Row = R;
 
     ghost number = { T.number };
@@ -121,12 +121,12 @@ pub trait Visit<State> {
     fn fields<D: TypedData>(rdata: &D, state: &mut State) -> Self::Answer
         ensures { answers state.old (typed D.number (D.held rdata.now)) result state.new };
 
-    /// Does it with opaque data.
-    fn opaque<Octs: Octets>(rdata: &UnknownRecordData<Octs>, state: &mut State) -> Self::Answer
-        ensures { answers state.old (untyped rdata.now) result state.new };
+    /// Does it with unknown data.
+    fn unknown<Octs: Octets>(rdata: &UnknownRecordData<Octs>, state: &mut State) -> Self::Answer
+        ensures { answers state.old (unknown_data rdata.now) result state.new };
 }
 
-/// What is done with two values of data of one type, both with fields or both opaque.
+/// What is done with two values of data of one type, both with fields or both unknown.
 pub trait VisitBoth {
     type Answer;
 
@@ -136,12 +136,12 @@ pub trait VisitBoth {
     fn fields<D: ComparedData>(one: &D, two: &D) -> Self::Answer
         ensures { answers (typed D.number (D.held one.now)) (typed D.number (D.held two.now)) result };
 
-    /// Does it with opaque data.
-    fn opaque<Octs: Octets>(
+    /// Does it with unknown data.
+    fn unknown<Octs: Octets>(
         one: &UnknownRecordData<Octs>,
         two: &UnknownRecordData<Octs>,
     ) -> Self::Answer
-        ensures { answers (untyped one.now) (untyped two.now) result };
+        ensures { answers (unknown_data one.now) (unknown_data two.now) result };
 }
 
 impl<Octs: Octets, N: ToName> ZoneRecordData<Octs, N> {
@@ -170,12 +170,12 @@ impl<Octs: Octets, N: ToName> ZoneRecordData<Octs, N> {
             ZoneRecordData::Ds(rdata) => V::fields(rdata, state),
             ZoneRecordData::Dnskey(rdata) => V::fields(rdata, state),
             ZoneRecordData::Caa(rdata) => V::fields(rdata, state),
-            ZoneRecordData::Unknown(rdata) => V::opaque(rdata, state),
+            ZoneRecordData::Unknown(rdata) => V::unknown(rdata, state),
         }
     }
 
     /// Does with both what is done with their variant's, or returns None if one has fields and the other not, or fields of
-    /// another type. Opaque data is visited whatever the types.
+    /// another type. Unknown data is visited whatever the types.
     pub(super) fn visit_both<V: VisitBoth>(&self, other: &Self) -> Option<V::Answer>
         ensures some { IfSome result (V.answers (data_of self.now) (data_of other.now)) }
         ensures none { IfNone result (AreOfOneKind (data_of self.now) (data_of other.now) → ⊥) }
@@ -202,7 +202,7 @@ impl<Octs: Octets, N: ToName> ZoneRecordData<Octs, N> {
             (ZoneRecordData::Dnskey(one), ZoneRecordData::Dnskey(two)) => Some(V::fields(one, two)),
             (ZoneRecordData::Caa(one), ZoneRecordData::Caa(two)) => Some(V::fields(one, two)),
             (ZoneRecordData::Unknown(one), ZoneRecordData::Unknown(two)) => {
-                Some(V::opaque(one, two))
+                Some(V::unknown(one, two))
             }
             _ => None,
         }

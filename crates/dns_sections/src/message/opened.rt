@@ -1,6 +1,6 @@
 //! Messages over octets.
 ghost use Rattle.std.specs.Prelude.{◌≡◌, ◌≤◌, ◌<◌, ◌↔◌, length, IsOk, IfOk, IfErr};
-ghost use Rattle.dns_sections.specs.Message.{held_by, octets_in, octets_of};
+ghost use Rattle.dns_sections.specs.Message.{held_by, octets_in, message_octets};
 
 use crate::{Message, ShortMessage};
 use dns_name::Octets;
@@ -56,7 +56,7 @@ impl<Octs: Octets> Message<Octs> {
 
     /// Returns the same message over a slice.
     pub fn for_slice(&self) -> Message<&[u8]>
-        ensures { octets_of result ≡ octets_in Octs.list self.now }
+        ensures { message_octets result ≡ octets_in Octs.list self.now }
     {
         Message {
             octets: self.octets.octets(),
@@ -65,7 +65,7 @@ impl<Octs: Octets> Message<Octs> {
 
     /// The same as `for_slice`.
     pub fn for_slice_ref(&self) -> Message<&[u8]>
-        ensures { octets_of result ≡ octets_in Octs.list self.now }
+        ensures { message_octets result ≡ octets_in Octs.list self.now }
     {
         self.for_slice()
     }
@@ -74,7 +74,7 @@ impl<Octs: Octets> Message<Octs> {
 impl<'a> Message<&'a [u8]> {
     /// Returns the message with these octets. Fails with `ShortMessage` exactly if there are fewer than twelve.
     pub fn from_slice(slice: &'a [u8]) -> Result<Self, ShortMessage>
-        ensures ok { IfOk result (λ message. octets_of message ≡ slice.now) }
+        ensures ok { IfOk result (λ message. message_octets message ≡ slice.now) }
         ensures enough { IsOk result ↔ (12 ≤ length slice.now) }
     {
         Message::from_octets(slice)

@@ -17,7 +17,7 @@ use dns_label::{Symbol, Symbols};
 
 /// A name while its text is read: finished labels, and the open one, whose length is written when it ends.
 #[derive(Drop)]
-pub struct Spelling {
+pub struct NameDraft {
     octets: [u8; 255],
     /// The number of octets.
     len: usize,
@@ -30,31 +30,31 @@ pub struct Spelling {
     ghost full: { 254 < len → len ≡ start + 1 },
 }
 
-impl Spelling {
+impl NameDraft {
     ghost use Rattle.dns_wire.specs.Draft.{Holds, IsNew, IsReadBy, IsReadable, AreReadable};
 
     /// Reads octets of text, and leaves the last label open. Returns `None` if they are the root's dot alone.
     ///
     /// Fails if there are octets and they spell no name.
-    pub fn read_text(text: &[u8]) -> Result<Option<Spelling>, PresentationError>
+    pub fn read_text(text: &[u8]) -> Result<Option<NameDraft>, PresentationError>
         ensures ok { IfOk result (λ read. IsReadBy text.now read) }
         ensures err { OnErr result (IsReadable text.now → ⊥) }
         ensures other { result ≡ Err presentation.RelativeName → ⊥ }
     {
-        let mut spelling = Spelling::new();
+        let mut draft = NameDraft::new();
         let mut rest = text;
         while let Some((&octet, behind)) = rest.split_first() {
             if is_unescaped(octet) {
-                spelling.push(octet)?;
+                draft.push(octet)?;
                 rest = behind;
             } else if octet != b'.' {
                 let Some((symbol, next)) = Symbol::split_from(rest) else {
                     return Err(PresentationError::BadSymbol);
                 };
-                spelling.push(symbol.into_octet()?)?;
+                draft.push(symbol.into_octet()?)?;
                 rest = next;
-            } else if spelling.len > 1 {
-                spelling.end_label()?;
+            } else if draft.len > 1 {
+                draft.end_label()?;
                 rest = behind;
             } else if behind.is_empty() {
                 return Ok(None);
@@ -62,7 +62,7 @@ impl Spelling {
                 return Err(PresentationError::EmptyLabel);
             }
         }
-        Ok(Some(spelling))
+        Ok(Some(draft))
     }
 
     /// Reads characters, and leaves the last label open. Returns `None` if they are the root's dot alone.
@@ -70,7 +70,7 @@ impl Spelling {
     /// Fails if there are characters and they spell no name, and may then leave some of them untaken.
     pub fn read_chars<C: Iterator<Item = char> + Drop>(
         chars: C,
-    ) -> Result<Option<Spelling>, PresentationError>
+    ) -> Result<Option<NameDraft>, PresentationError>
         requires can { C.can_next chars }
         requires ends { IsFinite (C.remaining chars) }
         ensures ok { IfOk result (λ read. (text : List ℕ) × Drains C.next_gives chars text × IsReadBy text read) }
@@ -78,7 +78,7 @@ impl Spelling {
         ensures other { result ≡ Err presentation.RelativeName → ⊥ }
     {
         let mut symbols = Symbols::new(chars);
-        let read = Spelling::read(&mut symbols)?;
+        let read = NameDraft::read(&mut symbols)?;
         symbols.ok()?;
         Ok(read)
     }
@@ -88,32 +88,32 @@ impl Spelling {
     /// Fails if there are symbols and they spell no name, and may then leave some of them untaken.
     pub fn read<S: Iterator<Item = Symbol>>(
         symbols: &mut S,
-    ) -> Result<Option<Spelling>, PresentationError>
+    ) -> Result<Option<NameDraft>, PresentationError>
         requires can { S.can_next symbols.old }
         requires ends { IsFinite (S.remaining symbols.old) }
         ensures ok { IfOk result (λ read. (list : List Symbol) × YieldsThen S.next_gives symbols.old list None symbols.new × AllByRecursion IsSymbol list × IsReadBy (flat_map spelled list) read) }
         ensures err { OnErr result (RulesOut S.next_gives symbols.old AreReadable) }
         ensures other { result ≡ Err presentation.RelativeName → ⊥ }
     {
-        let mut spelling = Spelling::new();
+        let mut draft = NameDraft::new();
         'symbols: while let Some(symbol) = symbols.next() {
             let octet = symbol.into_octet()?;
             if !is_dot(symbol) {
-                spelling.push(octet)?;
-            } else if spelling.len == 1 {
+                draft.push(octet)?;
+            } else if draft.len == 1 {
                 return root_alone(symbols);
             } else {
-                spelling.end_label()?;
+                draft.end_label()?;
             }
         }
-        Ok(Some(spelling))
+        Ok(Some(draft))
     }
 
     /// Returns an open label without octets.
-    fn new() -> Spelling
+    fn new() -> NameDraft
         ensures { Holds result [] [] }
     {
-        Spelling {
+        NameDraft {
             octets: [0; 255],
             len: 1,
             start: 0,
@@ -205,7 +205,7 @@ impl Spelling {
 /// Reads on after a dot at the start, which spells the root. Fails if a symbol follows.
 fn root_alone<S: Iterator<Item = Symbol>>(
     symbols: &mut S,
-) -> Result<Option<Spelling>, PresentationError>
+) -> Result<Option<NameDraft>, PresentationError>
     requires { S.can_next symbols.old }
     ensures root { IfOk result (λ read. (read ≡ None) × S.next_gives symbols.old None symbols.new) }
     ensures err { OnErr result ((symbol : Symbol) × S.next_gives symbols.old (Some symbol) symbols.new) }

@@ -36,7 +36,7 @@ pub(crate) struct ComposedRecord {
     pub(crate) class: Class,
     /// The last TTL that a record stated, including this one.
     pub(crate) last_ttl: Ttl,
-    pub(crate) untyped: bool,
+    pub(crate) unknown: bool,
 }
 
 /// Appends the octets of each record, every name in full (RFC 1035 3.2.1).
@@ -71,7 +71,7 @@ impl EntryForm for Vec<u8> {
                 let owner = owner_in(&self[len..], composed.owner_len);
                 context.take_over(&owner, composed.last_ttl, composed.class);
                 Ok(Some(ComposedEntry::Record {
-                    untyped: composed.untyped,
+                    unknown: composed.unknown,
                 }))
             }
             Err(error) => {
@@ -163,12 +163,12 @@ fn append_record(
         Err(error) => return Err(error),
     };
     append_fixed(head.rtype, known.class, known.ttl, octets)?;
-    let untyped = append_data(head.rtype, scanner, octets)?;
+    let unknown = append_data(head.rtype, scanner, octets)?;
     Ok(ComposedRecord {
         owner_len,
         class: known.class,
         last_ttl: known.last_ttl,
-        untyped,
+        unknown,
     })
 }
 
@@ -232,18 +232,18 @@ fn append_data(
     octets: &mut Vec<u8>,
 ) -> Result<bool, EntryError>
     requires { (front : List ℕ) × (octets.old.items ≡ front ++ 0 ∷ 0 ∷ []) }
-    ensures ok { IfOk result (λ untyped. (front : List ℕ) → octets.old.items ≡ front ++ 0 ∷ 0 ∷ []
-        → ComposesData (names_of scanner.old) rtype (tokens_of scanner.old) front octets.new.items untyped) }
+    ensures ok { IfOk result (λ unknown. (front : List ℕ) → octets.old.items ≡ front ++ 0 ∷ 0 ∷ []
+        → ComposesData (names_of scanner.old) rtype (tokens_of scanner.old) front octets.new.items unknown) }
     ensures err { IfErr result (λ error. is_memory error ≡ false → (rdata : Data)
         → ScansAnyData (names_of scanner.old) rtype rdata (tokens_of scanner.old) [] → ⊥) }
     ensures more { OnErr result (GoesOn octets.old.items octets.new.items) }
 {
     let place = octets.len();
-    let untyped = scan_data_into(rtype, scanner, octets)?;
+    let unknown = scan_data_into(rtype, scanner, octets)?;
     if scanner.continues() {
         return Err(EntryError::TrailingTokens);
     }
     let len = (octets.len() - place) as u16;
     octets.patch(place - 2, &len.to_be_bytes());
-    Ok(untyped)
+    Ok(unknown)
 }

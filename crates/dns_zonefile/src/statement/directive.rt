@@ -2,7 +2,7 @@
 ghost use Rattle.std.specs.Prelude.{◌≡◌, ◌∷◌, ℕ, List, true, false, map, drop, IfOk, IfErr, IfSome, IfNone, IsTrue};
 ghost use Rattle.std.specs.Char.{to_ascii_lowercase};
 ghost use Rattle.dns_scan.specs.Token.{Token, SameNames, Takes, unquoted};
-ghost use Rattle.dns_zonefile.specs.Directive.{Argues, BeginsDirective, IsWordOf, word_of as spec_word_of};
+ghost use Rattle.dns_zonefile.specs.Directive.{HasArguments, BeginsDirective, IsWordOf, word_of as spec_word_of};
 ghost use Rattle.dns_zonefile.specs.Statement as spec;
 ghost use Rattle.dns_zonefile.specs.Statement.{Directs};
 ghost use Rattle.dns_zonefile.specs.Seen.{statement_of};
@@ -105,10 +105,10 @@ fn scan_argument<S: EntryScanner>(
 where
     S::Name: Drop,
     S::Error: Drop,
-    ensures ok { IfOk result (λ statement. Argues (S.names scanner.old) word (S.tokens scanner.old) (statement_of ⟦<S::Name as ToName>⟧.name statement)
+    ensures ok { IfOk result (λ statement. HasArguments (S.names scanner.old) word (S.tokens scanner.old) (statement_of ⟦<S::Name as ToName>⟧.name statement)
         (S.tokens scanner.new)) }
     ensures err { IfErr result (λ error. S.Error.is_short error ≡ false → (statement : spec.Statement) (left : List Token)
-        → Argues (S.names scanner.old) word (S.tokens scanner.old) statement left → ⊥) }
+        → HasArguments (S.names scanner.old) word (S.tokens scanner.old) statement left → ⊥) }
     ensures names { SameNames (S.names scanner.old) (S.names scanner.new) }
 {
     match word {
@@ -123,10 +123,10 @@ fn scan_file<S: EntryScanner>(scanner: &mut S) -> Result<Statement<S::Octets, S:
 where
     S::Name: Drop,
     S::Error: Drop,
-    ensures ok { IfOk result (λ statement. Argues (S.names scanner.old) DirectiveWord.Include (S.tokens scanner.old)
+    ensures ok { IfOk result (λ statement. HasArguments (S.names scanner.old) DirectiveWord.Include (S.tokens scanner.old)
         (statement_of ⟦<S::Name as ToName>⟧.name statement) (S.tokens scanner.new)) }
     ensures err { IfErr result (λ error. S.Error.is_short error ≡ false → (statement : spec.Statement) (left : List Token)
-        → Argues (S.names scanner.old) DirectiveWord.Include (S.tokens scanner.old) statement left → ⊥) }
+        → HasArguments (S.names scanner.old) DirectiveWord.Include (S.tokens scanner.old) statement left → ⊥) }
     ensures names { SameNames (S.names scanner.old) (S.names scanner.new) }
 {
     let Some(_text) = bare_text(scanner) else {

@@ -64,7 +64,7 @@ fn a_word_of_a_megabyte_is_refused(rt: HostRuntime) -> Result<(), Fail> {
 }
 
 /// Returns the text of the SOA and then a row of unknown data with this length field and this number of digits.
-fn opaque_data(alloc: Global, length: &[u8], digits: usize) -> Result<Vec<u8>, AllocError> {
+fn unknown_data(alloc: Global, length: &[u8], digits: usize) -> Result<Vec<u8>, AllocError> {
     let mut text = behind_soa(alloc, b"a. 5 IN TYPE65280 \\# ")?;
     text.extend_from_slice(length)?;
     text.push(b' ')?;
@@ -88,9 +88,9 @@ fn second_data_len(alloc: Global, text: &[u8]) -> Result<usize, ZoneError> {
 #[test]
 fn data_has_at_most_65535_octets(rt: HostRuntime) -> Result<(), Fail> {
     let alloc = rt.alloc();
-    let longest = opaque_data(alloc, b"65535", 131_070)?;
+    let longest = unknown_data(alloc, b"65535", 131_070)?;
     assert!(rt; second_data_len(alloc, longest.as_slice()) == Ok(65535));
-    let too_long = opaque_data(alloc, b"65536", 131_072)?;
+    let too_long = unknown_data(alloc, b"65536", 131_072)?;
     assert!(rt; second_data_len(alloc, too_long.as_slice()) == Err(ZoneError::Text(2)));
     Ok(())
 }

@@ -1,5 +1,5 @@
 use Rattle.std.proofs.Common.{◌≡◌, ◌∙◌, ◌+◌, length, sym, subst, rules, arith}
-use Rattle.dns_label.specs.Label.{octets_of}
+use Rattle.dns_label.specs.Label.{label_octets}
 use Rattle.dns_label.specs.Name.{IsName}
 use Rattle.dns_wire.proofs.Readable.{name_behind}
 use Rattle.dns_compress.specs.declared.walk.Walk.{Walk}
@@ -17,7 +17,7 @@ returns-in_default-clause-walked g t c = λ name is_name is.
 pub returns-in-Some-find-clause-walked : goal.returns-in-Some-find-clause-walked
 returns-in-Some-find-clause-walked g t c = λ name is_name is.
     let known = g.T.Table.known c.args.table.now c.args.octets.now in
-    let begun = key_label g.T.Table.lowers c.args.key.now name (octets_of c.in-Some.label) c.in-Some.parent is (search rules) in
+    let begun = key_label g.T.Table.lowers c.args.key.now name (label_octets c.in-Some.label) c.in-Some.parent is (search rules) in
     subst (λ (w : Walk). IsWalked g.T.Table.spelling known (length known + c.args.more) c.args.place name w.labels w.front w.near w.target)
     (sym c.stop-in-Some-find.ensures)
     (walked_found _ _ _ _ _ begun.first begun.rest begun.begins c.in-Some-find.target
@@ -26,7 +26,7 @@ returns-in-Some-find-clause-walked g t c = λ name is_name is.
 pub returns-then-not-may_stand-clause-walked : goal.returns-then-not-may_stand-clause-walked
 returns-then-not-may_stand-clause-walked g t c = λ name is_name is.
     let known = g.T.Table.known c.args.table.now c.args.octets.now in
-    let begun = key_label g.T.Table.lowers c.args.key.now name (octets_of c.in-Some.label) c.in-Some.parent is (search rules) in
+    let begun = key_label g.T.Table.lowers c.args.key.now name (label_octets c.in-Some.label) c.in-Some.parent is (search rules) in
     subst (λ (w : Walk). IsWalked g.T.Table.spelling known (length known + c.args.more) c.args.place name w.labels w.front w.near w.target)
     (sym c.stop-then-not-may_stand.ensures)
     (walked_full _ _ _ _ _ begun.first begun.rest begun.begins (sym (c.find.ensures name is_name is) ∙ search rules)
@@ -35,8 +35,8 @@ returns-then-not-may_stand-clause-walked g t c = λ name is_name is.
 pub returns-clause-walked : goal.returns-clause-walked
 returns-clause-walked g t c = λ name is_name is.
     let known = g.T.Table.known c.args.table.now c.args.octets.now in
-    let begun = key_label g.T.Table.lowers c.args.key.now name (octets_of c.in-Some.label) c.in-Some.parent is (search rules) in
-    let len_is : c.len-len.result ≡ length (octets_of c.in-Some.label) = search rules in
+    let begun = key_label g.T.Table.lowers c.args.key.now name (label_octets c.in-Some.label) c.in-Some.parent is (search rules) in
+    let len_is : c.len-len.result ≡ length (label_octets c.in-Some.label) = search rules in
     let long : c.len-len.result ≡ length begun.first = len_is ∙ sym begun.long in
     subst (λ (w : Walk). IsWalked g.T.Table.spelling known (length known + c.args.more) c.args.place name w.labels w.front w.near w.target)
     (sym c.after.ensures)

@@ -1,6 +1,6 @@
 //! Views by which labels that hold their octets are changed in place.
 ghost use Rattle.std.specs.Prelude.{◌≡◌};
-ghost use Rattle.dns_label.specs.Label.{octets_of};
+ghost use Rattle.dns_label.specs.Label.{label_octets};
 ghost use Rattle.dns_label.specs.OwnedLabel.{octets_owned};
 ghost use Rattle.dns_label.specs.Composed.{low_label};
 ghost use Rattle.dns_label.specs.OwnedLabelMut.{octets_viewed, loan_viewed};
@@ -28,7 +28,7 @@ impl OwnedLabel {
 impl OwnedLabelMut<'_> {
     /// Returns the label as it is now.
     pub fn as_label(&self) -> Label<'_>
-        ensures { octets_of result ≡ octets_viewed self.now }
+        ensures { label_octets result ≡ octets_viewed self.now }
     {
         self.label.as_label()
     }

@@ -6,7 +6,7 @@ use Rattle.dns_row_scanner.proofs.text_name.finished_octets.Goals as goal
 
 pub returns : goal.returns
 returns c =
-    let s = c.args.spelling.now in
+    let s = c.args.draft.now in
     let done = c.requires.labels.0 in
     let holds = c.requires.labels.1 in
     let all = s.whole in

@@ -6,11 +6,11 @@ use Rattle.dns_scan_data.proofs.data.scan_data_into.Goals as goal
 -- the marker was there, and is taken
 pub returns-in-Ok-true-clause-ok : goal.returns-in-Ok-true-clause-ok
 returns-in-Ok-true-clause-ok g c = data_moved _ _ _ c.in-Ok-true.ensures.names _ _ _ _
-    (sym (c.in-Ok-true.ensures.marked c.in-Ok-true.field-0-test)) _ _ c.scan_opaque_into.ensures.ok
+    (sym (c.in-Ok-true.ensures.marked c.in-Ok-true.field-0-test)) _ _ c.scan_unknown_into.ensures.ok
 
 pub returns-in-Ok-true-clause-err : goal.returns-in-Ok-true-clause-err
 returns-in-Ok-true-clause-err g c = err_same _ (λ error. g.S.Error.ScannerError.is_short error ≡ false) _ _ c.in-Ok-true.ensures.names
-    _ _ _ (c.in-Ok-true.ensures.marked c.in-Ok-true.field-0-test) c.scan_opaque_into.ensures.err
+    _ _ _ (c.in-Ok-true.ensures.marked c.in-Ok-true.field-0-test) c.scan_unknown_into.ensures.err
 
 -- nothing is taken
 pub returns-in-Ok-false-clause-ok : goal.returns-in-Ok-false-clause-ok

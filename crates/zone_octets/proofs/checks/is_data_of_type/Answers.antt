@@ -1,6 +1,6 @@
 use Rattle.std.proofs.Common.{ap}
 use Rattle.dns_rdata.specs.ZoneData.{data_of}
-use Rattle.zone_octets.proofs.CheckedData.{data_tested, opaque_tested}
+use Rattle.zone_octets.proofs.CheckedData.{data_tested, unknown_tested}
 use Rattle.zone_octets.proofs.ReadData.{none_read}
 use Rattle.zone_octets.proofs.checks.is_data_of_type.Goals as goal
 
@@ -13,7 +13,7 @@ returns-in_default c = (
 
 pub returns-in-Unknown : goal.returns-in-Unknown
 returns-in-Unknown c =
-    opaque_tested c.args.rtype c.args.data.now _ _ _ _ c.in-Ok.ensures.ok (ap data_of c.in-Unknown.is)
+    unknown_tested c.args.rtype c.args.data.now _ _ _ _ c.in-Ok.ensures.ok (ap data_of c.in-Unknown.is)
     c.from_ref-parser.ensures.octets c.from_ref-parser.ensures.place
 
 pub returns-in-Ok-compose_rdata : goal.returns-in-Ok-compose_rdata

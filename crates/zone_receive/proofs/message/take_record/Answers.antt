@@ -11,7 +11,7 @@ use Rattle.zone_octets.specs.Typed.{seen_of}
 use Rattle.zone_receive.specs.declared.error.ReceiveError.{ReceiveError}
 use Rattle.zone_receive.specs.Asked.{asked_of}
 use Rattle.zone_receive.specs.Receiving.{IsRecordFault}
-use Rattle.zone_receive.specs.Intake.{HoldsFront}
+use Rattle.zone_receive.specs.FrameBuffer.{HoldsFront}
 use Rattle.zone_receive.proofs.SpelledRecords.{read_has_data}
 use Rattle.zone_receive.proofs.TakenRecords.{fault_or, holds_counted, taken_off, takes_last, takes_inner}
 use Rattle.zone_receive.proofs.message.take_record.Goals as goal
@@ -23,8 +23,8 @@ returns-in_default-clause-err c =
 pub push_from_message-requires : goal.push_from_message-requires
 push_from_message-requires c = c.in-Ok.ensures.ok.is_record
 
-pub place_record-requires : goal.place_record-requires
-place_record-requires c =
+pub judge_record-requires : goal.judge_record-requires
+judge_record-requires c =
     let holds = c.requires.holds.1 in
     let r : spec.Record = record_of (seen_of (with_labels labels_of c.in-Ok.next)) in
     record {
@@ -38,27 +38,27 @@ place_record-requires c =
       data_is = read_has_data r c.in-Ok.ensures.ok;
     }
 
-pub returns-in_err-place_record-clause-err : goal.returns-in_err-place_record-clause-err
-returns-in_err-place_record-clause-err c =
-    let p = err_from_is_err_and c.from_residual-in_err-place_record.result c.from_residual-in_err-place_record.ensures.1 in
+pub returns-in_err-judge_record-clause-err : goal.returns-in_err-judge_record-clause-err
+returns-in_err-judge_record-clause-err c =
+    let p = err_from_is_err_and c.from_residual-in_err-judge_record.result c.from_residual-in_err-judge_record.ensures.1 in
     let Fault : ReceiveError → Type 0 = λ error. (front : List spec.Record)
     → HoldsFront (asked_of c.args.query.now) c.args.records.now c.args.closed front
     → IsRecordFault (asked_of c.args.query.now) front (octets_of c.args.parser.now) (place_of c.args.parser.now) error in
-    rw (p.1, p.2) (fault_or Fault c.in_err-place_record.field-0.0 (λ front holds. c.in_err-place_record.ensures.err c.args.records.now front
+    rw (p.1, p.2) (fault_or Fault c.in_err-judge_record.field-0.0 (λ front holds. c.in_err-judge_record.ensures.err c.args.records.now front
     (record_of (seen_of (with_labels labels_of c.in-Ok.next))) (octets_of c.args.parser.now) (place_of c.args.parser.now)
     (place_of c.parse_record.new.parser) c.in_ok-push_from_message.ensures.ok holds
     (omega (arith, holds_counted c.from.result holds c.from.ensures)) c.in-Ok.ensures.ok))
 
 pub returns-in-Inner-clause-ok : goal.returns-in-Inner-clause-ok
 returns-in-Inner-clause-ok c =
-    let places = c.in_ok-place_record.ensures in
+    let places = c.in_ok-judge_record.ensures in
     let r : spec.Record = record_of (seen_of (with_labels labels_of c.in-Ok.next)) in
     let is = rw c.in-Inner.is at (places.ok c.args.records.now r c.in_ok-push_from_message.ensures.ok) in
     λ front holds. takes_inner r c.in-Ok.ensures.ok places.open c.in_ok-push_from_message.ensures.ok is holds
 
 pub returns-in-Last-clause-ok : goal.returns-in-Last-clause-ok
 returns-in-Last-clause-ok c =
-    let places = c.in_ok-place_record.ensures in
+    let places = c.in_ok-judge_record.ensures in
     let r : spec.Record = record_of (seen_of (with_labels labels_of c.in-Ok.next)) in
     let is = rw c.in-Last.is at (places.ok c.args.records.now r c.in_ok-push_from_message.ensures.ok) in
     let same = taken_off c.args.records.now r c.in_ok-push_from_message.ensures.ok c.pop.ensures in

@@ -1,8 +1,8 @@
 use Rattle.std.proofs.Common.{◌≡◌, false, true, refl, sym, ◌∙◌}
 use Rattle.zone_text.proofs.read.check_data.Goals as goal
 
-pub returns-then-not-untyped-clause-ok : goal.returns-then-not-untyped-clause-ok
-returns-then-not-untyped-clause-ok c = c.requires c.if-not-untyped.true
+pub returns-then-not-unknown-clause-ok : goal.returns-then-not-unknown-clause-ok
+returns-then-not-unknown-clause-ok c = c.requires c.if-not-unknown.true
 
 pub returns-then-branch-clause-ok : goal.returns-then-branch-clause-ok
 returns-then-branch-clause-ok c = rw (c.rtype.ensures, c.data.ensures) at (c.in_ok-is_data_of_type.ensures.0 c.if-branch.true)

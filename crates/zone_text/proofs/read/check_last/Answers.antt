@@ -44,5 +44,5 @@ returns-clause-err c =
     let begin = subst (BeginWith apex) (sym front) stands.begin in
     let found = apex_found apex c.apex_of.result _ begin c.apex_of.ensures.none c.apex_of.ensures.some in
     let same = c.from_octets-record.ensures r stands.is (back_is _ stands c.split_at.ensures.back) in
-    subst (λ a. IsCheckFault c.args.untyped c.args.number a r error) found
-    (subst (λ x. IsCheckFault c.args.untyped c.args.number c.apex_of.result x error) same broken)) c.check_record.ensures.err
+    subst (λ a. IsCheckFault c.args.unknown c.args.number a r error) found
+    (subst (λ x. IsCheckFault c.args.unknown c.args.number c.apex_of.result x error) same broken)) c.check_record.ensures.err

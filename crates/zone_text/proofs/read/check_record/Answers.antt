@@ -11,7 +11,7 @@ returns-in_err-check_data-clause-err c =
 pub returns-in_err-check_place-clause-err : goal.returns-in_err-check_place-clause-err
 returns-in_err-check_place-clause-err c =
     let p = err_from_is_err_and c.from_residual-in_err-check_place.result c.from_residual-in_err-check_place.ensures.1 in
-    rw (p.1, p.2) (check_fault c.args.untyped c.args.number c.args.apex c.args.record.now c.in_err-check_place.field-0.0 c.in_err-check_place.ensures.err)
+    rw (p.1, p.2) (check_fault c.args.unknown c.args.number c.args.apex c.args.record.now c.in_err-check_place.field-0.0 c.in_err-check_place.ensures.err)
 
 pub returns-clause-ok : goal.returns-clause-ok
 returns-clause-ok c = (

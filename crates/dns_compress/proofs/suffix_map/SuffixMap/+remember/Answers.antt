@@ -1,6 +1,6 @@
 use Rattle.std.proofs.Common.{◌≡◌, ◌∙◌, ◌+◌, ◌-◌, ◌++◌, ◌∷◌, [], ℕ, List, true, length, ap, sym, subst, rules, arith, length-append}
 use Rattle.dns_octets.specs.Builder.{Known}
-use Rattle.dns_label.specs.Label.{octets_of}
+use Rattle.dns_label.specs.Label.{label_octets}
 use Rattle.dns_label.specs.Name.{wire}
 use Rattle.dns_name.specs.Spelling.{tree_spelling}
 use Rattle.dns_compress.specs.Tables.{added, in_order}
@@ -14,9 +14,9 @@ use Rattle.dns_compress.proofs.suffix_map.SuffixMap.+remember.Goals as goal
 pub push-requires : goal.push-requires
 push-requires t c =
     let known : Known = listed c.args.self.now.list in
-    let is : c.args.name.now ≡ octets_of c.in-Some.label ∷ c.in-Some.parent = search rules in
+    let is : c.args.name.now ≡ label_octets c.in-Some.label ∷ c.in-Some.parent = search rules in
     let rest : List (List ℕ) = suffixes_of (c.args.count - 1) c.in-Some.parent in
-    let all = suffixes-label (c.args.count - 1) c.args.count c.args.name.now (octets_of c.in-Some.label) c.in-Some.parent is (omega arith) in
+    let all = suffixes-label (c.args.count - 1) c.args.count c.args.name.now (label_octets c.in-Some.label) c.in-Some.parent is (omega arith) in
     record {
       ready = subst (IsReady c.args.self.now)
           (all
@@ -26,18 +26,18 @@ push-requires t c =
           c.requires.ready;
       order = subst (λ (l : List ℕ). in_order tree_spelling (known ++ record { suffix = l; place = c.args.place; stop = c.args.stop } ∷ []) ≡ true)
           (sym c.as_slice.ensures.octets)
-          (order_first known (added tree_spelling (c.args.count - 1) (c.args.place + 1 + length (octets_of c.in-Some.label)) c.args.stop c.in-Some.parent) _ _
-          (added-label (c.args.count - 1) c.args.count c.args.place _ c.args.stop c.args.name.now (octets_of c.in-Some.label) c.in-Some.parent
+          (order_first known (added tree_spelling (c.args.count - 1) (c.args.place + 1 + length (label_octets c.in-Some.label)) c.args.stop c.in-Some.parent) _ _
+          (added-label (c.args.count - 1) c.args.count c.args.place _ c.args.stop c.args.name.now (label_octets c.in-Some.label) c.in-Some.parent
           is (omega arith) (omega arith)) c.requires.order);
     }
 
 pub remember-requires : goal.remember-requires
 remember-requires t c =
     let known : Known = listed c.args.self.now.list in
-    let long : c.len.result ≡ length (octets_of c.in-Some.label) = search rules in
-    let is : c.args.name.now ≡ octets_of c.in-Some.label ∷ c.in-Some.parent = search rules in
+    let long : c.len.result ≡ length (label_octets c.in-Some.label) = search rules in
+    let is : c.args.name.now ≡ label_octets c.in-Some.label ∷ c.in-Some.parent = search rules in
     let rest : List (List ℕ) = suffixes_of (c.args.count - 1) c.in-Some.parent in
-    let all = suffixes-label (c.args.count - 1) c.args.count c.args.name.now (octets_of c.in-Some.label) c.in-Some.parent is (omega arith) in (
+    let all = suffixes-label (c.args.count - 1) c.args.count c.args.name.now (label_octets c.in-Some.label) c.in-Some.parent is (omega arith) in (
       search (rules, arith),
       (
         subst (IsReady c.push.new.self)
@@ -45,7 +45,7 @@ remember-requires t c =
         (
           order_rest known (added tree_spelling (c.args.count - 1) (c.args.place + 1 + c.len.result) c.args.stop c.in-Some.parent) _ _
               (added-label (c.args.count - 1) c.args.count c.args.place (c.args.place + 1 + c.len.result) c.args.stop c.args.name.now
-              (octets_of c.in-Some.label) c.in-Some.parent is (omega arith) (omega (arith, long)))
+              (label_octets c.in-Some.label) c.in-Some.parent is (omega arith) (omega (arith, long)))
               (listed c.push.new.self.list)
               (c.push.ensures.last
               ∙ ap (λ (l : List ℕ). known ++ record { suffix = l; place = c.args.place; stop = c.args.stop } ∷ []) c.as_slice.ensures.octets)
@@ -55,7 +55,7 @@ remember-requires t c =
             c.requires.room,
             long,
             ap (λ (n : List (List ℕ)). length (wire n)) is,
-            length-append (octets_of c.in-Some.label) (wire c.in-Some.parent),
+            length-append (label_octets c.in-Some.label) (wire c.in-Some.parent),
           ),
         ),
       ),
@@ -64,10 +64,10 @@ remember-requires t c =
 pub returns : goal.returns
 returns t c =
     let known : Known = listed c.args.self.now.list in
-    let long : c.len.result ≡ length (octets_of c.in-Some.label) = search rules in
+    let long : c.len.result ≡ length (label_octets c.in-Some.label) = search rules in
     c.remember.ensures
     ∙ all_added known (added tree_spelling (c.args.count - 1) (c.args.place + 1 + c.len.result) c.args.stop c.in-Some.parent) _ _
-    (added-label (c.args.count - 1) c.args.count c.args.place (c.args.place + 1 + c.len.result) c.args.stop c.args.name.now (octets_of c.in-Some.label)
+    (added-label (c.args.count - 1) c.args.count c.args.place (c.args.place + 1 + c.len.result) c.args.stop c.args.name.now (label_octets c.in-Some.label)
     c.in-Some.parent (search rules) (omega arith) (omega (arith, long)))
     (listed c.push.new.self.list)
     (c.push.ensures.last

@@ -7,7 +7,7 @@ use Rattle.dns_flat.proofs.text.finish.finish.Goals as goal
 
 pub from_octets_unchecked-requires : goal.from_octets_unchecked-requires
 from_octets_unchecked-requires g c =
-    let s = c.args.spelling in
+    let s = c.args.draft in
     let whole = s.whole in
     let few = s.few in
     let holds = c.requires.1 in
@@ -16,7 +16,7 @@ from_octets_unchecked-requires g c =
 
 pub returns-clause-ok : goal.returns-clause-ok
 returns-clause-ok g c =
-    let s = c.args.spelling in
+    let s = c.args.draft in
     let whole = s.whole in
     let few = s.few in
     let holds = c.requires.1 in

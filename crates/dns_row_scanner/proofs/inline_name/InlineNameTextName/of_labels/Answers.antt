@@ -15,5 +15,5 @@ returns-clause-made c =
     let made = c.finished_octets.ensures in
     let is = wire_one made.0 _
     (sym (c.append.ensures ∙ ap (λ l. l ++ c.finished_octets.result.now) c.new-octets.ensures ∙ made.4) ∙ c.from_octets_unchecked.ensures) in
-    let P : List (List ℕ) → Type 0 = λ name. Holds c.args.spelling.now name [] × IsName name × (0 < length name) in
+    let P : List (List ℕ) → Type 0 = λ name. Holds c.args.draft.now name [] × IsName name × (0 < length name) in
     subst P is (made.1, made.2, made.3)

@@ -14,5 +14,5 @@ pub returns : goal.returns
 returns c =
     let made = c.finished_octets.ensures in
     let is = wire_one made.0 _ (sym (c.in_ok-octets.ensures.items ∙ made.4) ∙ c.from_octets_unchecked.ensures) in
-    let P : List (List ℕ) → Type 0 = λ name. Holds c.args.spelling.now name [] × IsName name × (0 < length name) in
+    let P : List (List ℕ) → Type 0 = λ name. Holds c.args.draft.now name [] × IsName name × (0 < length name) in
     if_ok_weaker c.absolute.result _ _ (λ scanned same. subst P (is ∙ sym same) (made.1, made.2, made.3)) c.absolute.ensures

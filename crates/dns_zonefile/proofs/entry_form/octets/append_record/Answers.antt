@@ -52,21 +52,21 @@ append_data-requires c = (
       (fixed_octets c.in-Ok.head.rtype c.in-Ok-head_of.known.class c.in-Ok-head_of.known.ttl) (0 ∷ 0 ∷ [])),
 )
 
-pub returns-in_err-untyped-clause-err : goal.returns-in_err-untyped-clause-err
-returns-in_err-untyped-clause-err c =
-    handed_on c.from_residual-in_err-untyped.result c.in_err-untyped.field-0.0 _ c.from_residual-in_err-untyped.ensures.1
+pub returns-in_err-unknown-clause-err : goal.returns-in_err-unknown-clause-err
+returns-in_err-unknown-clause-err c =
+    handed_on c.from_residual-in_err-unknown.result c.in_err-unknown.field-0.0 _ c.from_residual-in_err-unknown.ensures.1
     (λ real statement entry after says enters.
     not_texted c.requires c.in_ok-append_owner.ensures.ok.has c.in_ok-append_owner.ensures.names c.in-Ok.ensures.ok c.in-Ok.ensures.names
-    (under_once (origin_of c.args.scanner.now)) (c.in_err-untyped.ensures.err real) says)
+    (under_once (origin_of c.args.scanner.now)) (c.in_err-unknown.ensures.err real) says)
 
-pub returns-in_err-untyped-clause-more : goal.returns-in_err-untyped-clause-more
-returns-in_err-untyped-clause-more c =
-    always_on_err c.from_residual-in_err-untyped.result
-    (gone_on (gone_on (gone_by _ c.in_ok-append_owner.ensures.ok.behind) (gone_by _ c.in_ok-append_fixed.ensures.ok)) c.in_err-untyped.ensures.more)
+pub returns-in_err-unknown-clause-more : goal.returns-in_err-unknown-clause-more
+returns-in_err-unknown-clause-more c =
+    always_on_err c.from_residual-in_err-unknown.result
+    (gone_on (gone_on (gone_by _ c.in_ok-append_owner.ensures.ok.behind) (gone_by _ c.in_ok-append_fixed.ensures.ok)) c.in_err-unknown.ensures.more)
 
 pub returns-clause-ok : goal.returns-clause-ok
 returns-clause-ok c =
     composes_record c.requires c.in_ok-append_owner.ensures.ok c.in_ok-append_owner.ensures.names c.in-Ok.ensures.ok c.in-Ok.ensures.names
     (omega arith) c.in-Ok-head_of.ensures.class c.in-Ok-head_of.ensures.ttl
     c.in-Ok-head_of.ensures.last_ttl c.in-Ok.ensures.fits c.in-Ok-head_of.ensures.fits.0 c.in-Ok-head_of.ensures.fits.1
-    c.in_ok-append_fixed.ensures.ok c.in_ok-untyped.ensures.ok
+    c.in_ok-append_fixed.ensures.ok c.in_ok-unknown.ensures.ok

@@ -20,10 +20,10 @@ zone_of-requires c =
 
 pub returns-in-Done-clause-ok : goal.returns-in-Done-clause-ok
 returns-in-Done-clause-ok c =
-    let ended = done_stage _ c.self.inside.progress c.self.inside.intake (asked_of c.self.inside.query) c.self.view_is c.in-Done.is in
+    let ended = done_stage _ c.self.inside.progress c.self.inside.buffer (asked_of c.self.inside.query) c.self.view_is c.in-Done.is in
     let records = ap (λ (zone : Contents). zone.records) c.zone_of.ensures ∙ c.into_records.ensures ∙ ap (λ (heard : Heard). heard.records) c.self.view_is in
     λ stream after. has_transfer c.args.self _ stream ended records after
 
 pub returns-in-Begun-clause-err : goal.returns-in-Begun-clause-err
 returns-in-Begun-clause-err c =
-    no_zone _ c.self.inside.progress c.self.inside.intake (asked_of c.self.inside.query) c.self.view_is c.in-Begun.is
+    no_zone _ c.self.inside.progress c.self.inside.buffer (asked_of c.self.inside.query) c.self.view_is c.in-Begun.is

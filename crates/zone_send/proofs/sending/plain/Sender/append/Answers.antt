@@ -1,7 +1,7 @@
 use Rattle.std.proofs.Common.{◌≡◌, ◌+◌, ◌-◌, ◌++◌, ◌∙◌, length, refl, ap, arith}
 use Rattle.zone_send.proofs.Plain.{size_is}
 use Rattle.dns_message.proofs.AsWritten.{least_record}
-use Rattle.zone_send.proofs.Placing.{few_records, appended}
+use Rattle.zone_send.proofs.PutRecords.{few_records, appended}
 use Rattle.zone_send.proofs.sending.plain.Sender.append.Goals as goal
 
 pub overflow_add-self : goal.overflow_add-self

@@ -1,5 +1,5 @@
 use Rattle.std.proofs.Common.{arith}
-use Rattle.zone_send.proofs.Placing.{last_small}
+use Rattle.zone_send.proofs.PutRecords.{last_small}
 use Rattle.zone_send.proofs.sending.plain.Sender.last_with_room.Goals as goal
 
 pub overflow_add-len : goal.overflow_add-len

@@ -1,5 +1,5 @@
 use Rattle.std.proofs.Common.{[], ◌∷◌, arith, ◌∙◌, ap, length}
-use Rattle.zone_send.proofs.Placing.{opening_short, size_alone, size-push, placed_behind, placed_alone, placed_nowhere}
+use Rattle.zone_send.proofs.PutRecords.{opening_short, size_alone, size-push, placed_behind, placed_alone, placed_nowhere}
 use Rattle.zone_send.proofs.sending.plain.Sender.put.Goals as goal
 
 pub returns-in-Some-clause-placed : goal.returns-in-Some-clause-placed

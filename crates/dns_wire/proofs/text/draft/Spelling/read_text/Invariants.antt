@@ -1,9 +1,0 @@
-use Rattle.std.proofs.Common.{length}
-use Rattle.dns_wire.proofs.OctetTexts.{Taken}
-use Rattle.dns_wire.proofs.text.draft.Spelling.read_text.Given as goal
-
-abbrev pub invariant-loop-octet : goal.invariant-loop-octet
-invariant-loop-octet l = Taken l.text l.rest l.spelling
-
-abbrev pub decreases-loop-octet : goal.decreases-loop-octet
-decreases-loop-octet l = length l.rest
