@@ -1,10 +1,8 @@
 -- Messages on a stream, each after its length in two octets (RFC 1035 4.2.2).
 use Rattle.std.specs.Prelude.{◌≡◌, ◌<◌, ◌^◌, ℕ, List, [], ◌∷◌, ◌++◌, length, flat_map, ⊤}
 use Rattle.std.specs.List.{AllByRecursion}
-use Rattle.std.specs.Int.{to_be_bytes, from_be_bytes, w16}
-
-abbrev pub frame : List ℕ → List ℕ
-frame message = to_be_bytes w16 (length message) ++ message
+use Rattle.std.specs.Int.{from_be_bytes, w16}
+pub use Rattle.dns_message.specs.Frame.{frame}
 
 abbrev pub frames : List (List ℕ) → List ℕ
 frames messages = flat_map frame messages

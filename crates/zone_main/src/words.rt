@@ -1,6 +1,6 @@
 //! The words of the command line.
 
-use crate::unasked::UsageError;
+use crate::usage_error::UsageError;
 use std::alloc::{Alloc, AllocError};
 use std::env::{Env, FillError};
 
