@@ -12,8 +12,8 @@ use Rattle.dns_wire.proofs.Case.{same_bool}
 use Rattle.dns_name.specs.Spelling.{static_spelling, is_same}
 use Rattle.dns_name.specs.Remembered.{IsKnown, IsSound}
 use Rattle.dns_name.proofs.Folding.{same_from, folded-form}
-use Rattle.dns_spelling.proofs.Remembered.{there}
-use Rattle.dns_spelling.proofs.SameNames.{same_names, folded-wire}
+use Rattle.dns_compression_laws.proofs.Remembered.{there}
+use Rattle.dns_compression_laws.proofs.SameNames.{same_names, folded-wire}
 use Rattle.dns_compress.specs.declared.spot.Spot.{Spot}
 use Rattle.dns_compress.specs.Spots.{read_at, read_all, spot_of, spots_of, read_known, spots_back}
 use Rattle.dns_compress.proofs.Sound.{sound_before}

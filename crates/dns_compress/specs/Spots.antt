@@ -6,7 +6,7 @@ use Rattle.dns_label.specs.Labels.{labels_at}
 use Rattle.dns_name.specs.Spelling.{static_spelling, remembered_form}
 use Rattle.dns_name.specs.Remembered.{IsKnown, IsSound}
 use Rattle.dns_name.specs.Remembered.IsKnown.{first, later}
-use Rattle.dns_spelling.proofs.Remembered.{suffix_read}
+use Rattle.dns_compression_laws.proofs.Remembered.{suffix_read}
 use Rattle.dns_compress.specs.declared.spot.Spot.{Spot}
 
 -- the suffix at a place

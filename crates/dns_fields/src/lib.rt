@@ -7,8 +7,8 @@
 mod compose;
 mod convert;
 mod field;
-mod octets_ord;
 pub mod laws;
+mod octets_ord;
 mod read;
 mod row;
 mod scan;

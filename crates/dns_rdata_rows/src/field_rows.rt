@@ -6,9 +6,9 @@ use crate::names::name;
 use crate::zone_data::left;
 use dns_name::{AppendError, Name, ParseError, ParsedName, Parser};
 use dns_rdata::rows::{
-    Compressible, RowOctetsOrd, Last, ReadError, Rest16, RestText, Row as FieldRow, ShowRow, Strings,
-    Tag, Uncompressed, canonical_row_cmp_octets, compose_canonical_row, compose_row, parse_row,
-    row_len, scan_row, show_row,
+    Compressible, Last, ReadError, Rest16, RestText, Row as FieldRow, RowOctetsOrd, ShowRow,
+    Strings, Tag, Uncompressed, canonical_row_cmp_octets, compose_canonical_row, compose_row,
+    parse_row, row_len, scan_row, show_row,
 };
 use dns_text::{CharStr, DisplayKind, Formatter, IterScanner, ZonefileFmt};
 use rows::{Answer, Row, RowError};

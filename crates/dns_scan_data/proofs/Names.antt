@@ -5,7 +5,7 @@ use Rattle.dns_label.specs.Name.{wire}
 use Rattle.dns_fields.specs.Fields.{Compressible, Uncompressed, compressible, uncompressed}
 use Rattle.dns_fields.specs.Scanned.{NoFieldScans, ScansField}
 use Rattle.dns_fields.proofs.FieldKinds.{of_compressible, of_uncompressed}
-use Rattle.dns_row_scanner.specs.AppendedName.{AppendsName, SpellsNoName}
+use Rattle.dns_entry_scanner.specs.AppendedName.{AppendsName, SpellsNoName}
 use Rattle.dns_scan_data.specs.Appended.{AppendsField, GoesOn}
 
 module _ {names : List ℕ → List (List ℕ) → Type 0} {tokens left : List Token} {old new : List ℕ} (appends : AppendsName names tokens left old new) where

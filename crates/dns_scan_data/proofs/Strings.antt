@@ -8,7 +8,7 @@ use Rattle.dns_fields.specs.Scanned.{NoFieldScans, NoRowScans, ScansField}
 use Rattle.dns_fields.proofs.FieldKinds.{of_string, of_tag}
 use Rattle.dns_fields.proofs.ScanLeaves.{no_rest_text}
 use Rattle.dns_fields.proofs.TextStrings.{entry_scanned, entry_strings}
-use Rattle.dns_row_scanner.specs.AppendedString.{AppendsString, AppendsStrings, AppendsText, SpellsNoOctets, SpellsNoString}
+use Rattle.dns_entry_scanner.specs.AppendedString.{AppendsString, AppendsStrings, AppendsText, SpellsNoOctets, SpellsNoString}
 use Rattle.dns_scan_data.specs.Appended.{AppendsField, AppendsRow, GoesOn}
 use Rattle.dns_scan_data.proofs.Appending.{Names}
 

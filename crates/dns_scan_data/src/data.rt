@@ -7,12 +7,12 @@ ghost use Rattle.dns_scan.specs.Token.{SameNames, marker};
 ghost use Rattle.dns_scan_data.specs.Appended.{AppendsData, AppendsTyped, GoesOn};
 
 use crate::ScanRowInto;
+use dns_entry_scanner::WireScanner;
 use dns_name::{LongRecordData, Octets, Rtype};
 use dns_rdata::rows::{
     ARow, AaaaRow, CaaRow, DnskeyRow, DsRow, HinfoRow, MinfoRow, MxRow, NameRow, RpRow, SoaRow,
     SrvRow, TxtRow,
 };
-use dns_row_scanner::OctetsScanner;
 use dns_text::{Scanner, ScannerError, scan_unknown_octets};
 
 /// Scans data of the type from the first tokens, takes these, and appends the octets of the data, every name in full
@@ -23,7 +23,7 @@ use dns_text::{Scanner, ScannerError, scan_unknown_octets};
 ///
 /// Fails with an error other than `short_buf` only if the tokens do not begin with data of the type of at most 65,535
 /// octets. Nothing is then appended.
-pub fn scan_data_into<S: OctetsScanner>(
+pub fn scan_data_into<S: WireScanner>(
     rtype: Rtype,
     scanner: &mut S,
     octets: &mut Vec<u8>,
@@ -69,7 +69,7 @@ fn scan_unknown_into<S: Scanner>(
 }
 
 /// Scans the fields of data of the type.
-fn scan_typed_into<S: OctetsScanner>(
+fn scan_typed_into<S: WireScanner>(
     rtype: Rtype,
     scanner: &mut S,
     octets: &mut Vec<u8>,
@@ -92,7 +92,7 @@ where
 }
 
 /// Scans the row of the type. Fails if the type has none.
-fn scan_row_of_type<S: OctetsScanner>(
+fn scan_row_of_type<S: WireScanner>(
     rtype: Rtype,
     scanner: &mut S,
     octets: &mut Vec<u8>,

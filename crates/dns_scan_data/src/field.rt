@@ -4,9 +4,9 @@ ghost use Rattle.dns_fields.specs.Scanned.{NoFieldScans};
 ghost use Rattle.dns_scan.specs.Token.{SameNames};
 ghost use Rattle.dns_scan_data.specs.Appended.{AppendsField, GoesOn};
 
+use dns_entry_scanner::WireScanner;
 use dns_name::{FromBuilder, ToName};
 use dns_rdata::rows::{Compressible, FieldValue, HasField, ScanField, Tag, Uncompressed};
-use dns_row_scanner::OctetsScanner;
 use dns_text::{CharStr, Scanner, ScannerError};
 use std::net::{Ipv4Addr, Ipv6Addr};
 
@@ -55,7 +55,7 @@ impl<S: Scanner> ScanFieldInto<S> for Ipv6Addr {
     }
 }
 
-impl<N: ToName + Drop, S: OctetsScanner<Name = N>> ScanFieldInto<S> for Compressible<N> {
+impl<N: ToName + Drop, S: WireScanner<Name = N>> ScanFieldInto<S> for Compressible<N> {
     #[tactic(auto, using(crate::proofs::Names::compressible_appended, crate::proofs::Names::no_compressible, crate::proofs::Names::name_gone))]
     fn scan_field_into(scanner: &mut S, octets: &mut Vec<u8>) -> Result<(), S::Error> {
         match scanner.scan_name_into(octets) {
@@ -65,7 +65,7 @@ impl<N: ToName + Drop, S: OctetsScanner<Name = N>> ScanFieldInto<S> for Compress
     }
 }
 
-impl<N: ToName + Drop, S: OctetsScanner<Name = N>> ScanFieldInto<S> for Uncompressed<N> {
+impl<N: ToName + Drop, S: WireScanner<Name = N>> ScanFieldInto<S> for Uncompressed<N> {
     #[tactic(auto, using(crate::proofs::Names::uncompressed_appended, crate::proofs::Names::no_uncompressed, crate::proofs::Names::name_gone))]
     fn scan_field_into(scanner: &mut S, octets: &mut Vec<u8>) -> Result<(), S::Error> {
         match scanner.scan_name_into(octets) {
@@ -75,7 +75,7 @@ impl<N: ToName + Drop, S: OctetsScanner<Name = N>> ScanFieldInto<S> for Uncompre
     }
 }
 
-impl<Octs: FromBuilder + Drop, S: OctetsScanner<Octets = Octs>> ScanFieldInto<S> for CharStr<Octs> {
+impl<Octs: FromBuilder + Drop, S: WireScanner<Octets = Octs>> ScanFieldInto<S> for CharStr<Octs> {
     #[tactic(auto, using(crate::proofs::Strings::no_string, crate::proofs::Strings::string_gone))]
     fn scan_field_into(scanner: &mut S, octets: &mut Vec<u8>) -> Result<(), S::Error> {
         match scanner.scan_charstr_into(octets) {
@@ -85,7 +85,7 @@ impl<Octs: FromBuilder + Drop, S: OctetsScanner<Octets = Octs>> ScanFieldInto<S>
     }
 }
 
-impl<Octs: FromBuilder + Drop, S: OctetsScanner<Octets = Octs>> ScanFieldInto<S> for Tag<Octs> {
+impl<Octs: FromBuilder + Drop, S: WireScanner<Octets = Octs>> ScanFieldInto<S> for Tag<Octs> {
     #[tactic(auto, using(crate::proofs::Strings::no_tag, crate::proofs::Strings::string_gone))]
     fn scan_field_into(scanner: &mut S, octets: &mut Vec<u8>) -> Result<(), S::Error> {
         match scanner.scan_charstr_into(octets) {

@@ -5,9 +5,9 @@ ghost use Rattle.dns_scan.specs.Token.{SameNames};
 ghost use Rattle.dns_scan_data.specs.Appended.{AppendsRow, GoesOn};
 
 use crate::ScanFieldInto;
+use dns_entry_scanner::WireScanner;
 use dns_name::FromBuilder;
 use dns_rdata::rows::{HasFields, Last, Rest16, Rest64, RestText, Row, ScanRow, Strings};
-use dns_row_scanner::OctetsScanner;
 use dns_text::{Scanner, ScannerError};
 
 /// A row that is scanned into octets.
@@ -43,7 +43,7 @@ impl<S: Scanner, A: ScanFieldInto<S>, B: ScanRowInto<S>> ScanRowInto<S> for (A, 
     }
 }
 
-impl<Octs: FromBuilder + Drop, S: OctetsScanner<Octets = Octs>> ScanRowInto<S>
+impl<Octs: FromBuilder + Drop, S: WireScanner<Octets = Octs>> ScanRowInto<S>
     for Last<RestText<Octs>> {
     #[tactic(auto, using(crate::proofs::Strings::text_gone))]
     fn scan_fields_into(scanner: &mut S, octets: &mut Vec<u8>) -> Result<(), S::Error> {
@@ -67,7 +67,7 @@ impl<Octs: FromBuilder + Drop, S: Scanner<Octets = Octs>> ScanRowInto<S> for Las
 }
 
 /// Each token is a string. There must be at least one.
-impl<Octs: FromBuilder + Drop, S: OctetsScanner<Octets = Octs>> ScanRowInto<S>
+impl<Octs: FromBuilder + Drop, S: WireScanner<Octets = Octs>> ScanRowInto<S>
     for Last<Strings<Octs>> {
     fn scan_fields_into(scanner: &mut S, octets: &mut Vec<u8>) -> Result<(), S::Error> {
         if !scanner.continues() {

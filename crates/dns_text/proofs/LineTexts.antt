@@ -12,43 +12,43 @@ use Rattle.dns_text.proofs.BareBlocks.{unseen_close, unseen_open}
 use Rattle.dns_text.proofs.DocumentSplits.{is_inside_at, is_outside_at, text_behind}
 
 -- texts at the start of a line or not: each has the separator before it, except the first of a line
-abbrev led : Bool → ℕ → List (List ℕ) → List ℕ
-led true c texts = join_with_byte c texts
-led false c texts = flat_map (λ text. c ∷ text) texts
+abbrev blank_led : Bool → ℕ → List (List ℕ) → List ℕ
+blank_led true c texts = join_with_byte c texts
+blank_led false c texts = flat_map (λ text. c ∷ text) texts
 
 -- whether the line still begins after these
 abbrev still_first : Bool → List (List ℕ) → Bool
 still_first first [] = first
 still_first first (text ∷ texts) = false
 
-join_led : (c : ℕ) (text : List ℕ) (texts : List (List ℕ)) → join_with_byte c (text ∷ texts) ≡ text ++ led false c texts
+join_led : (c : ℕ) (text : List ℕ) (texts : List (List ℕ)) → join_with_byte c (text ∷ texts) ≡ text ++ blank_led false c texts
 join_led c text [] = sym (append-nil text)
 join_led c text (next ∷ texts) = ap (λ l. text ++ c ∷ l) (join_led c next texts)
 
 led_cons : (first : Bool) (c : ℕ) (text : List ℕ) (texts : List (List ℕ))
-    → led first c (text ∷ texts) ≡ (if first then [] else c ∷ []) ++ (text ++ led false c texts)
+    → blank_led first c (text ∷ texts) ≡ (if first then [] else c ∷ []) ++ (text ++ blank_led false c texts)
 led_cons true c text texts = join_led c text texts
 led_cons false c text texts = refl
 
-led_behind : (c : ℕ) (texts others : List (List ℕ)) → led false c (texts ++ others) ≡ led false c texts ++ led false c others
+led_behind : (c : ℕ) (texts others : List (List ℕ)) → blank_led false c (texts ++ others) ≡ blank_led false c texts ++ blank_led false c others
 led_behind c [] others = refl
 led_behind c (text ∷ texts) others =
-    ap (λ l. c ∷ text ++ l) (led_behind c texts others) ∙ sym (append_assoc (c ∷ text) (led false c texts) (led false c others))
+    ap (λ l. c ∷ text ++ l) (led_behind c texts others) ∙ sym (append_assoc (c ∷ text) (blank_led false c texts) (blank_led false c others))
 
-led_none : (first : Bool) (c : ℕ) (others : List (List ℕ)) → led first c others ≡ led first c [] ++ led first c others
+led_none : (first : Bool) (c : ℕ) (others : List (List ℕ)) → blank_led first c others ≡ blank_led first c [] ++ blank_led first c others
 led_none true c others = refl
 led_none false c others = refl
 
 led_append : (first : Bool) (c : ℕ) (texts others : List (List ℕ))
-    → led first c (texts ++ others) ≡ led first c texts ++ led (still_first first texts) c others
+    → blank_led first c (texts ++ others) ≡ blank_led first c texts ++ blank_led (still_first first texts) c others
 led_append first c [] others = led_none first c others
 led_append first c (text ∷ texts) others =
     let sep : List ℕ = if first then [] else c ∷ [] in
     led_cons first c text (texts ++ others)
     ∙ ap (λ l. sep ++ (text ++ l)) (led_behind c texts others)
-    ∙ ap (λ l. sep ++ l) (sym (append_assoc text (led false c texts) (led false c others)))
-    ∙ sym (append_assoc sep (text ++ led false c texts) (led false c others))
-    ∙ ap (λ l. l ++ led false c others) (sym (led_cons first c text texts))
+    ∙ ap (λ l. sep ++ l) (sym (append_assoc text (blank_led false c texts) (blank_led false c others)))
+    ∙ sym (append_assoc sep (text ++ blank_led false c texts) (blank_led false c others))
+    ∙ ap (λ l. l ++ blank_led false c others) (sym (led_cons first c text texts))
 
 -- what is before a word
 word_gap : (layout : Layout) (line : List Piece) → depth line ≡ 0
@@ -165,15 +165,15 @@ first_data layout line noted some at =
 
 -- What a part becomes at a place outside of blocks, at the start of a line or not.
 record PartReads (layout : Layout) (line : List Piece) (part : Part) (first : Bool) : Type 0 where
-  pub text : text_behind layout line (part_pieces part) ≡ led first (separator layout) (part_texts layout part)
+  pub text : text_behind layout line (part_pieces part) ≡ blank_led first (separator layout) (part_texts layout part)
   pub depth_is : depth (place_after line (part_pieces part)) ≡ 0
   pub first_is : is_first layout (place_after line (part_pieces part)) ≡ still_first first (part_texts layout part)
 
-led_one : (first : Bool) (c : ℕ) (text : List ℕ) → led first c (text ∷ []) ≡ (if first then [] else c ∷ []) ++ text
+led_one : (first : Bool) (c : ℕ) (text : List ℕ) → blank_led first c (text ∷ []) ≡ (if first then [] else c ∷ []) ++ text
 led_one true c text = refl
 led_one false c text = append-nil (c ∷ text)
 
-led_nothing : (first : Bool) (c : ℕ) → led first c [] ≡ []
+led_nothing : (first : Bool) (c : ℕ) → blank_led first c [] ≡ []
 led_nothing true c = refl
 led_nothing false c = refl
 
@@ -313,14 +313,14 @@ part_reads Tabbed line (Block some) first at first_is = tabbed_reads line some f
 part_reads Multiline line (Block some) first at first_is = multiline_reads line some first at first_is
 
 parts_text : (layout : Layout) (line : List Piece) (parts : List Part) (first : Bool) → depth line ≡ 0 → is_first layout line ≡ first
-    → text_behind layout line (line_pieces parts) ≡ led first (separator layout) (flat_map (part_texts layout) parts)
+    → text_behind layout line (line_pieces parts) ≡ blank_led first (separator layout) (flat_map (part_texts layout) parts)
 parts_text layout line [] first at first_is = sym (led_nothing first (separator layout))
 parts_text layout line (part ∷ parts) first at first_is =
     let one = part_reads layout line part first at first_is in
     let others = parts_text layout (place_after line (part_pieces part)) parts _ one.depth_is one.first_is in
     text_behind-append layout line (part_pieces part) (line_pieces parts)
     ∙ ap (λ l. l ++ text_behind layout (place_after line (part_pieces part)) (line_pieces parts)) one.text
-    ∙ ap (λ l. led first (separator layout) (part_texts layout part) ++ l) others
+    ∙ ap (λ l. blank_led first (separator layout) (part_texts layout part) ++ l) others
     ∙ sym (led_append first (separator layout) (part_texts layout part) (flat_map (part_texts layout) parts))
 
 -- the text of a line

@@ -165,7 +165,7 @@ no_row_at_end {text} ends (end next) = no_next_at_end text ends next
 no_row_at_end {text} ends (token out left next others) = no_next_at_end text ends next
 
 abbrev row_of : List ℕ → List Token → TokenRow
-row_of text tokens = record { led = is_led text; tokens = tokens }
+row_of text tokens = record { blank_led = is_led text; tokens = tokens }
 
 one_begin : {text rest rest' : List ℕ} {rows rows' : List TokenRow} → BeginsWithRows text rows rest → is_end rest ≡ true
     → BeginsWithRows text rows' rest' → is_end rest' ≡ true → rows' ≡ rows

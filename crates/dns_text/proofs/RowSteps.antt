@@ -22,10 +22,10 @@ pub data Split : Bool → List ℕ → List (List Token) → Type 0 where
       → is_led rest ≡ false → Split false rest rows → Split inside text (tokens ∷ rows)
 
 abbrev row_with : List Token → Bool → TokenRow
-row_with tokens led = record { led = led; tokens = tokens }
+row_with tokens blank_led = record { blank_led = blank_led; tokens = tokens }
 
-unled_row : (led : Bool) (tokens : List Token) → led ≡ false → row_with tokens led ≡ unled tokens
-unled_row led tokens is = ap (row_with tokens) is
+unled_row : (blank_led : Bool) (tokens : List Token) → blank_led ≡ false → row_with tokens blank_led ≡ unled tokens
+unled_row blank_led tokens is = ap (row_with tokens) is
 
 pub rows_of : {text : List ℕ} {rows : List (List Token)} → is_led text ≡ false → Split false text rows
     → BeginsWithRows text (map unled rows) []

@@ -5,12 +5,12 @@ use Rattle.dns_text.specs.Tokens.{Row, is_end, is_gap}
 
 -- a row: whether it begins with white space, which says that it is of the owner before it; and its tokens, perhaps none
 pub record TokenRow : Type 0 where
-  pub led : Bool
+  pub blank_led : Bool
   pub tokens : List Token
 
 -- a row that begins with a token, a parenthesis, a comment or its end
 abbrev pub unled : List Token → TokenRow
-unled tokens = record { led = false; tokens = tokens }
+unled tokens = record { blank_led = false; tokens = tokens }
 
 -- the first octet of the text is white space
 abbrev pub is_led : List ℕ → Bool
@@ -21,7 +21,7 @@ is_led (octet ∷ rest) = is_gap octet
 pub data BeginsWithRows : List ℕ → List TokenRow → List ℕ → Type 0 where
   none : {text : List ℕ} → BeginsWithRows text [] text
   more : {text behind rest : List ℕ} {tokens : List Token} {rows : List TokenRow} → Row false text tokens behind
-      → BeginsWithRows behind rows rest → BeginsWithRows text (record { led = is_led text; tokens = tokens } ∷ rows) rest
+      → BeginsWithRows behind rows rest → BeginsWithRows text (record { blank_led = is_led text; tokens = tokens } ∷ rows) rest
 
 -- The text is these rows, and ends after the last of them.
 pub record IsText (text : List ℕ) (rows : List TokenRow) : Type 0 where

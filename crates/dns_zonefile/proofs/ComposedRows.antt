@@ -10,8 +10,8 @@ use Rattle.dns_label.specs.Name.{IsName, wire}
 use Rattle.dns_name.specs.Remembered.{patched}
 use Rattle.dns_rdata.specs.Data.{Data, ScansAnyData, number_of}
 use Rattle.dns_rdata.specs.DataOctets.{data_octets}
-use Rattle.dns_row_scanner.specs.AppendedName.{AppendsName, SpellsNoName}
-use Rattle.dns_row_scanner.specs.NameInText.{SpellsUnder}
+use Rattle.dns_entry_scanner.specs.AppendedName.{AppendsName, SpellsNoName}
+use Rattle.dns_entry_scanner.specs.NameInText.{SpellsUnder}
 use Rattle.dns_scan.specs.Token.{Token, SameNames}
 use Rattle.dns_scan_data.specs.Appended.{AppendsData}
 use Rattle.dns_text.specs.Rows.{TokenRow}
@@ -122,8 +122,8 @@ module _ {names : Names} {row : TokenRow} {context : Context} {statement : State
       none known.0 (ap (λ (c : Option ℕ). option_or c context.class) same ∙ known.1) (ap (λ (c : Option ℕ). option_or context.class c) same ∙ known.2)
 
 -- the owner of a row
-pub stated_stands : {names : Names} {context : Context} {led : Bool} {tokens left : List Token} {old new : List ℕ} → led ≡ false
-    → AppendsName names tokens left old new → OwnerStands names context (row_of led tokens) left old new
+pub stated_stands : {names : Names} {context : Context} {blank_led : Bool} {tokens left : List Token} {old new : List ℕ} → blank_led ≡ false
+    → AppendsName names tokens left old new → OwnerStands names context (row_of blank_led tokens) left old new
 stated_stands {names} {context} {tokens = tokens} {left} {old} {new} unled appends =
     let own : HasOwner names (row_of false tokens) (Some appends.name) left =
     subst (λ (t : List Token). HasOwner names (row_of false t) (Some appends.name) left) (sym appends.is) (HasOwner.own appends.spells) in record {
@@ -140,12 +140,12 @@ pub stands_longer : {names : Names} {context : Context} {row : TokenRow} {left :
 stands_longer {old = old} stands =
     omega (arith, ap (λ (l : List ℕ). length l) stands.behind, length-append old (wire stands.name))
 
-pub last_stands : {names : Names} {context : Context} {led : Bool} {tokens : List Token} {old new : List ℕ} {name : List (List ℕ)} → led ≡ true
-    → context.owner ≡ Some name → IsName name → new ≡ old ++ wire name → OwnerStands names context (row_of led tokens) tokens old new
-last_stands {names} {tokens = tokens} {name = name} led known is_name behind = record {
+pub last_stands : {names : Names} {context : Context} {blank_led : Bool} {tokens : List Token} {old new : List ℕ} {name : List (List ℕ)} → blank_led ≡ true
+    → context.owner ≡ Some name → IsName name → new ≡ old ++ wire name → OwnerStands names context (row_of blank_led tokens) tokens old new
+last_stands {names} {tokens = tokens} {name = name} blank_led known is_name behind = record {
   stated = None;
   name = name;
-  has = subst (λ (b : Bool). HasOwner names (row_of b tokens) None tokens) (sym led) HasOwner.last;
+  has = subst (λ (b : Bool). HasOwner names (row_of b tokens) None tokens) (sym blank_led) HasOwner.last;
   known = known;
   is_name = is_name;
   behind = behind;
@@ -153,24 +153,24 @@ last_stands {names} {tokens = tokens} {name = name} led known is_name behind = r
 
 no_stated' : {names : Names} {row : TokenRow} {tokens left : List Token} {stated : Option (List (List ℕ))} → SpellsNoName names tokens
     → row ≡ row_of false tokens → HasOwner names row stated left → ⊥
-no_stated' none same HasOwner.last = let bad = ap (λ (r : TokenRow). r.led) same in absurd cc
+no_stated' none same HasOwner.last = let bad = ap (λ (r : TokenRow). r.blank_led) same in absurd cc
 no_stated' none same (HasOwner.own {text = text} {name = name} {tokens = tokens} is) =
     none text tokens name (sym (ap (λ (r : TokenRow). r.tokens) same)) is
 
-pub no_stated : {names : Names} {context : Context} {led : Bool} {tokens : List Token} → led ≡ false → SpellsNoName names tokens
-    → HasNoOwner names context (row_of led tokens)
+pub no_stated : {names : Names} {context : Context} {blank_led : Bool} {tokens : List Token} → blank_led ≡ false → SpellsNoName names tokens
+    → HasNoOwner names context (row_of blank_led tokens)
 no_stated {tokens = tokens} unled none =
     record { none = λ stated left name has known. no_stated' none (ap (λ (b : Bool). row_of b tokens) unled) has }
 
 no_last' : {names : Names} {row : TokenRow} {tokens left : List Token} {stated owner : Option (List (List ℕ))} {name : List (List ℕ)}
     → owner ≡ None → row ≡ row_of true tokens → HasOwner names row stated left → option_or stated owner ≡ Some name → ⊥
 no_last' unknown same HasOwner.last known = let no : ⊥ = cc in no
-no_last' unknown same (HasOwner.own is) known = let bad = ap (λ (r : TokenRow). r.led) same in absurd cc
+no_last' unknown same (HasOwner.own is) known = let bad = ap (λ (r : TokenRow). r.blank_led) same in absurd cc
 
-pub no_last : {names : Names} {context : Context} {led : Bool} {tokens : List Token} → led ≡ true → context.owner ≡ None
-    → HasNoOwner names context (row_of led tokens)
-no_last {tokens = tokens} led unknown =
-    record { none = λ stated left name has known. no_last' unknown (ap (λ (b : Bool). row_of b tokens) led) has known }
+pub no_last : {names : Names} {context : Context} {blank_led : Bool} {tokens : List Token} → blank_led ≡ true → context.owner ≡ None
+    → HasNoOwner names context (row_of blank_led tokens)
+no_last {tokens = tokens} blank_led unknown =
+    record { none = λ stated left name has known. no_last' unknown (ap (λ (b : Bool). row_of b tokens) blank_led) has known }
 
 -- no directive is a record
 pub directs_no_record : {names : Names} {tokens : List Token} {one other : Statement} {context after : Context} {entry : Entry}

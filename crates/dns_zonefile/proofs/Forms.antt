@@ -1,8 +1,8 @@
 -- The result of a reader, as values or as octets.
 use Rattle.std.proofs.Common.{◌≡◌, ℕ, List, Option, Some, None, Ok, Err, String, Global, Box, box_value, refl, sym, subst, ◌∙◌, ap}
 use Rattle.std.specs.Prelude.{Result, IfErr, IfOk, OnErr, option_map, string_bytes}
-use Rattle.dns_row_scanner.specs.NameInText.{SpellsUnder}
-use Rattle.dns_row_scanner.specs.declared.entry_error.EntryError.{EntryError}
+use Rattle.dns_entry_scanner.specs.NameInText.{SpellsUnder}
+use Rattle.dns_entry_scanner.specs.declared.entry_error.EntryError.{EntryError}
 use Rattle.dns_text.specs.Rows.{TokenRow}
 use Rattle.dns_zonefile.specs.Composed.{HandsOn, included, with_reason}
 use Rattle.dns_zonefile.specs.ComposedRow.{IsHandedOn}

@@ -1,7 +1,7 @@
 -- The results of a reader, called repeatedly, are the entries of its text.
 use Rattle.std.proofs.Common.{◌≡◌, ◌+◌, ◌++◌, ◌∙◌, suc, true, false, List, [], ◌∷◌, None, Ok, Err, length, refl, ap, sym, arith}
-use Rattle.dns_row_scanner.specs.EntryError.{is_memory}
-use Rattle.dns_row_scanner.specs.declared.entry_error.EntryError.{EntryError}
+use Rattle.dns_entry_scanner.specs.EntryError.{is_memory}
+use Rattle.dns_entry_scanner.specs.declared.entry_error.EntryError.{EntryError}
 use Rattle.dns_zonefile.specs.Entries.{HasEntries, IsRefusedAfter, refused_number}
 use Rattle.dns_zonefile.specs.Entry.{Entry}
 use Rattle.dns_zonefile.specs.Entry.Entry.{Directive, Include, Resource}

@@ -2,11 +2,11 @@
 use Rattle.std.proofs.Common.{◌≡◌, ◌≢◌, ◌<◌, ◌+◌, ◌++◌, ◌∙◌, ℕ, Bool, true, false, List, [], ◌∷◌, Some, None, Ok, Err, drop, length, map, refl, subst, sym, arith, length-append}
 use Rattle.dns_text.specs.Rows.{BeginsWithRows, TokenRow}
 use Rattle.dns_text.specs.Tokens.{is_end}
-use Rattle.dns_tokens.specs.RowFound.{IsRowAt}
-use Rattle.dns_tokens.specs.TokenSpan.{token_in}
-use Rattle.dns_tokens.specs.declared.token_span.TokenSpan.{TokenSpan}
-use Rattle.dns_row_scanner.specs.EntryError.{is_memory}
-use Rattle.dns_row_scanner.specs.declared.entry_error.EntryError.{EntryError}
+use Rattle.dns_entry_scanner.specs.RowFound.{IsRowAt}
+use Rattle.dns_entry_scanner.specs.TokenSpan.{token_in}
+use Rattle.dns_entry_scanner.specs.declared.token_span.TokenSpan.{TokenSpan}
+use Rattle.dns_entry_scanner.specs.EntryError.{is_memory}
+use Rattle.dns_entry_scanner.specs.declared.entry_error.EntryError.{EntryError}
 use Rattle.dns_zonefile.specs.Entries.{AreEntries}
 use Rattle.dns_zonefile.specs.Entry.{Context, Entry, IsEntry}
 use Rattle.dns_zonefile.specs.Entry.Entry.{Directive}
@@ -89,13 +89,13 @@ length-zero [] none = refl
 length-zero (item ∷ others) none = absurd (omega (arith, none))
 
 -- the row of the same tokens
-pub same-row : {text text' : List ℕ} {spans spans' : List TokenSpan} {led : Bool} → text ≡ text' → spans ≡ spans'
-    → row_of led (map (λ span. token_in text span) spans) ≡ row_of led (map (λ span. token_in text' span) spans')
-same-row {led = led} texts all = λ i. row_of led (map (λ span. token_in (texts i) span) (all i))
+pub same-row : {text text' : List ℕ} {spans spans' : List TokenSpan} {blank_led : Bool} → text ≡ text' → spans ≡ spans'
+    → row_of blank_led (map (λ span. token_in text span) spans) ≡ row_of blank_led (map (λ span. token_in text' span) spans')
+same-row {blank_led = blank_led} texts all = λ i. row_of blank_led (map (λ span. token_in (texts i) span) (all i))
 
 -- one row
-module _ (text : List ℕ) (place next : ℕ) (spans : List TokenSpan) (led : Bool) (row : IsRowAt text place spans next led) where
-  begins-there : BeginsWithRows (drop place text) (row_of led (map (λ span. token_in text span) spans) ∷ []) (drop next text)
+module _ (text : List ℕ) (place next : ℕ) (spans : List TokenSpan) (blank_led : Bool) (row : IsRowAt text place spans next blank_led) where
+  begins-there : BeginsWithRows (drop place text) (row_of blank_led (map (λ span. token_in text span) spans) ∷ []) (drop next text)
   begins-there =
       subst (λ (l : Bool). BeginsWithRows (drop place text) (row_of l (map (λ span. token_in text span) spans) ∷ []) (drop next text)) (sym row.leads)
       (BeginsWithRows.more row.row BeginsWithRows.none)
@@ -104,20 +104,20 @@ module _ (text : List ℕ) (place next : ℕ) (spans : List TokenSpan) (led : Bo
       → GoesOver (record { text = text; place = place; context = context; count = count }) []
       (record { text = text; place = next; context = context; count = count })
   goes-bare context count none = record {
-    rows = row_of led (map (λ span. token_in text span) spans) ∷ [];
+    rows = row_of blank_led (map (λ span. token_in text span) spans) ∷ [];
     begins = begins-there;
-    are = subst (λ (s : List TokenSpan). AreEntries context (row_of led (map (λ span. token_in text span) s) ∷ []) [] context)
+    are = subst (λ (s : List TokenSpan). AreEntries context (row_of blank_led (map (λ span. token_in text span) s) ∷ []) [] context)
         (sym (length-zero spans none)) (AreEntries.bare AreEntries.none);
     count = omega arith;
     text = refl;
   }
 
   pub goes-entry : (context after : Context) (count : ℕ) (entry : Entry)
-      → IsEntry context (row_of led (map (λ span. token_in text span) spans)) entry after
+      → IsEntry context (row_of blank_led (map (λ span. token_in text span) spans)) entry after
       → GoesOver (record { text = text; place = place; context = context; count = count }) (entry ∷ [])
       (record { text = text; place = next; context = after; count = count + 1 })
   goes-entry context after count entry is = record {
-    rows = row_of led (map (λ span. token_in text span) spans) ∷ [];
+    rows = row_of blank_led (map (λ span. token_in text span) spans) ∷ [];
     begins = begins-there;
     are = AreEntries.entry is AreEntries.none;
     count = omega arith;
@@ -132,6 +132,6 @@ module _ (text : List ℕ) (place next : ℕ) (spans : List TokenSpan) (led : Bo
       by (span ∷ others) some none = let no : ⊥ = cc in no
 
   pub refused-row : (context : Context) (count : ℕ) → 0 < length spans
-      → ((entry : Entry) (after : Context) → IsEntry context (row_of led (map (λ span. token_in text span) spans)) entry after → ⊥)
+      → ((entry : Entry) (after : Context) → IsEntry context (row_of blank_led (map (λ span. token_in text span) spans)) entry after → ⊥)
       → IsRefusedAt (record { text = text; place = place; context = context; count = count })
   refused-row context count some none = IsRefusedAt.no_entry begins-there (some-tokens some) none

@@ -126,9 +126,9 @@ rows-on : {text rest : List ℕ} {rows : List TokenRow} (more : List ℕ) → Be
     → BeginsWithRows (text ++ more) rows (rest ++ more)
 rows-on more BeginsWithRows.none = BeginsWithRows.none
 rows-on {rest = rest} more (BeginsWithRows.more {text = text} {tokens = tokens} {rows = rows} row begins) =
-    let led : is_led (text ++ more) ≡ is_led text =
+    let blank_led : is_led (text ++ more) ≡ is_led text =
     ap (λ (l : List ℕ). is_led (l ++ more)) (row-begins row).is ∙ sym (ap (λ (l : List ℕ). is_led l) (row-begins row).is) in
-    subst (λ (b : Bool). BeginsWithRows (text ++ more) (record { led = b; tokens = tokens } ∷ rows) (rest ++ more)) led
+    subst (λ (b : Bool). BeginsWithRows (text ++ more) (record { blank_led = b; tokens = tokens } ∷ rows) (rest ++ more)) blank_led
     (BeginsWithRows.more (row-on more row) (rows-on more begins))
 
 -- the entries of the first rows, and of the others
@@ -151,8 +151,8 @@ parted {context} {after} [] {all = all} same are = record {
   goes_on = subst (λ (r : List TokenRow). AreEntries context r all after) same are;
 }
 parted (row ∷ front) same AreEntries.none = absurd cc
-parted {context} (row ∷ front) {others} same (AreEntries.bare {led = led} {rows = rows} are) =
-    let first : record { led = led; tokens = [] } ≡ row = cc in
+parted {context} (row ∷ front) {others} same (AreEntries.bare {blank_led = blank_led} {rows = rows} are) =
+    let first : record { blank_led = blank_led; tokens = [] } ≡ row = cc in
     let behind : rows ≡ front ++ others = cc in
     let at = parted front behind are in record {
       first = at.first;

@@ -4,8 +4,8 @@ use Rattle.std.specs.Prelude.{unwrap_or}
 use Rattle.std.specs.Option.{option_or}
 use Rattle.dns_text.specs.Rows.{TokenRow}
 use Rattle.dns_fields.specs.SpelledNames.{SpellOne}
-use Rattle.dns_row_scanner.specs.NameInText.{SpellsUnder}
-use Rattle.dns_row_scanner.proofs.OneNameInText.{one_under}
+use Rattle.dns_entry_scanner.specs.NameInText.{SpellsUnder}
+use Rattle.dns_entry_scanner.proofs.OneNameInText.{one_under}
 use Rattle.dns_zonefile.specs.Statement.{Stated, Statement}
 use Rattle.dns_zonefile.specs.Entry.{Context, Entry, Enters, IsEntry}
 use Rattle.dns_zonefile.specs.Entry.Entry.{Include, Resource}

@@ -13,7 +13,7 @@ use Rattle.dns_zonefile.proofs.RowFronts.{Compared, all_rows, compare, none_behi
 use Rattle.dns_zonefile.proofs.RowFronts.Compared.{longer, shorter}
 
 abbrev bare_row : Bool → TokenRow
-bare_row led = record { led = led; tokens = [] }
+bare_row blank_led = record { blank_led = blank_led; tokens = [] }
 
 -- rows are at most one list of entries
 bare_entry : {context : Context} {row : TokenRow} {found : Entry} {next : Context} → row.tokens ≡ [] → IsEntry context row found next → ⊥
@@ -28,12 +28,12 @@ one_list contexts same none (entry is are) = absurd cc
 one_list contexts same (bare are) none = absurd cc
 one_list contexts same (bare {rows = rows} are) (bare {rows = rows'} also) =
     let behind : rows ≡ rows' = cc in one_list contexts behind are also
-one_list contexts same (bare {led = led} are) (entry {row = row} is also) =
-    let first : bare_row led ≡ row = cc in
+one_list contexts same (bare {blank_led = blank_led} are) (entry {row = row} is also) =
+    let first : bare_row blank_led ≡ row = cc in
     absurd (bare_entry (sym (ap (λ (r : TokenRow). r.tokens) first)) is)
 one_list contexts same (entry is are) none = absurd cc
-one_list contexts same (entry {row = row} is are) (bare {led = led} also) =
-    let first : row ≡ bare_row led = cc in
+one_list contexts same (entry {row = row} is are) (bare {blank_led = blank_led} also) =
+    let first : row ≡ bare_row blank_led = cc in
     absurd (bare_entry (ap (λ (r : TokenRow). r.tokens) first) is)
 one_list {context} {context'} contexts same (entry {row = row} {rows = rows} is are)
     (entry {next = next'} {row = row'} {rows = rows'} {entry = found'} is' also) =
@@ -60,7 +60,7 @@ add_bare {context} {row} {front} none' at = record {
   first = at.first;
   between = at.between;
   begins =
-      subst (λ (l : List Token). AreEntries context (record { led = row.led; tokens = l } ∷ front) at.first at.between) (sym none')
+      subst (λ (l : List Token). AreEntries context (record { blank_led = row.blank_led; tokens = l } ∷ front) at.first at.between) (sym none')
       (bare at.begins);
   others = at.others;
   goes_on = at.goes_on;
@@ -86,9 +86,9 @@ cut {context} [] {entries = entries} {after = after} is are = record {
   goes_on = subst (λ (l : List TokenRow). AreEntries context l entries after) is are;
 }
 cut (row ∷ front) is none = absurd cc
-cut (row ∷ front) {more} is (bare {led = led} {rows = rows} are) =
+cut (row ∷ front) {more} is (bare {blank_led = blank_led} {rows = rows} are) =
     let behind : rows ≡ front ++ more = cc in
-    let first : bare_row led ≡ row = cc in
+    let first : bare_row blank_led ≡ row = cc in
     add_bare (sym (ap (λ (r : TokenRow). r.tokens) first)) (cut front behind are)
 cut {context} (row ∷ front) {more} is (entry {next = next} {row = row'} {rows = rows} {entry = found} has are) =
     let behind : rows ≡ front ++ more = cc in
@@ -102,8 +102,8 @@ SaysNothing context row = (found : Entry) (next : Context) → IsEntry context r
 says_something : {context : Context} {rows : List TokenRow} {row : TokenRow} {more : List TokenRow} {entries : List Entry} {after : Context}
     → rows ≡ row ∷ more → AreEntries context rows entries after → row.tokens ≢ [] → SaysNothing context row → ⊥
 says_something same none some nothing = absurd cc
-says_something {row = row} same (bare {led = led} are) some nothing =
-    let first : bare_row led ≡ row = cc in
+says_something {row = row} same (bare {blank_led = blank_led} are) some nothing =
+    let first : bare_row blank_led ≡ row = cc in
     some (sym (ap (λ (r : TokenRow). r.tokens) first))
 says_something {context} {row = row} same (entry {next = next} {row = row'} {entry = found} is are) some nothing =
     let first : row' ≡ row = cc in nothing found next (subst (λ (r : TokenRow). IsEntry context r found next) first is)

@@ -179,8 +179,8 @@ one_type (first ∷ stated) (first' ∷ others) {token} {token'} {more} {more'} 
 pub one_owner : {names : Names} {row row' : TokenRow} {owner owner' : Option (List (List ℕ))} {tokens tokens' : List Token} → SpellOne names
     → row ≡ row' → HasOwner names row owner tokens → HasOwner names row' owner' tokens' → (owner ≡ owner') × (tokens ≡ tokens')
 one_owner once same last last = (refl, ap (λ (r : TokenRow). r.tokens) same)
-one_owner once same last (own also) = let bad = ap (λ (r : TokenRow). r.led) same in absurd cc
-one_owner once same (own is) last = let bad = ap (λ (r : TokenRow). r.led) same in absurd cc
+one_owner once same last (own also) = let bad = ap (λ (r : TokenRow). r.blank_led) same in absurd cc
+one_owner once same (own is) last = let bad = ap (λ (r : TokenRow). r.blank_led) same in absurd cc
 one_owner {names} once same (own {text = text} {name = name} {tokens = tokens} is)
     (own {text = text'} {name = name'} {tokens = tokens'} also) =
     let all : unquoted text ∷ tokens ≡ unquoted text' ∷ tokens' = ap (λ (r : TokenRow). r.tokens) same in

@@ -19,13 +19,13 @@ use Rattle.dns_zonefile.proofs.Directions.{same_on}
 use Rattle.dns_zonefile.proofs.OneStatement.{one_head}
 
 -- whether the row is a directive
-pub is_directive : {led : Bool} {tokens : List Token} → led ≡ false → BeginsDirective tokens → IsDirective (row_of led tokens)
+pub is_directive : {blank_led : Bool} {tokens : List Token} → blank_led ≡ false → BeginsDirective tokens → IsDirective (row_of blank_led tokens)
 is_directive unled begins = record { unled = unled; text = begins.text; others = begins.others; is = begins.is }
 
-pub led_no_directive : {led : Bool} {tokens : List Token} → led ≡ true → IsDirective (row_of led tokens) → ⊥
-led_no_directive led is = let bad : true ≡ false = sym led ∙ is.unled in cc
+pub led_no_directive : {blank_led : Bool} {tokens : List Token} → blank_led ≡ true → IsDirective (row_of blank_led tokens) → ⊥
+led_no_directive blank_led is = let bad : true ≡ false = sym blank_led ∙ is.unled in cc
 
-pub begins_no_directive : {led : Bool} {tokens : List Token} → (BeginsDirective tokens → ⊥) → IsDirective (row_of led tokens) → ⊥
+pub begins_no_directive : {blank_led : Bool} {tokens : List Token} → (BeginsDirective tokens → ⊥) → IsDirective (row_of blank_led tokens) → ⊥
 begins_no_directive none is = none (record { text = is.text; others = is.others; is = is.is })
 
 -- data of a type has its number
@@ -66,8 +66,8 @@ no_owner {stated = stated} none is = none stated.owner is.tokens is.owner
 pub one_rest : {names : Names} {row row' : TokenRow} {owner owner' : Option (List (List ℕ))} {tokens tokens' : List Token} → row ≡ row'
     → HasOwner names row owner tokens → HasOwner names row' owner' tokens' → tokens ≡ tokens'
 one_rest same last last = ap (λ (r : TokenRow). r.tokens) same
-one_rest same last (own also) = let bad = ap (λ (r : TokenRow). r.led) same in absurd cc
-one_rest same (own is) last = let bad = ap (λ (r : TokenRow). r.led) same in absurd cc
+one_rest same last (own also) = let bad = ap (λ (r : TokenRow). r.blank_led) same in absurd cc
+one_rest same (own is) last = let bad = ap (λ (r : TokenRow). r.blank_led) same in absurd cc
 one_rest same (own {text = text} {tokens = tokens} is) (own {text = text'} {tokens = tokens'} also) =
     let all : unquoted text ∷ tokens ≡ unquoted text' ∷ tokens' = ap (λ (r : TokenRow). r.tokens) same in cc
 
@@ -127,22 +127,22 @@ module _ {names later : Names} {row : TokenRow} {owner : Option (List (List ℕ)
       some (any_one later (data_scanned_once later) rtype rdata stated.rdata behind left [] once_later scans there).1
 
 -- the owner that a row states
-pub led_owner : {names : Names} {led : Bool} {tokens : List Token} → led ≡ true → HasOwner names (row_of led tokens) None tokens
-led_owner {names} {led} {tokens} is = subst (λ (b : Bool). HasOwner names (row_of b tokens) None tokens) (sym is) last
+pub led_owner : {names : Names} {blank_led : Bool} {tokens : List Token} → blank_led ≡ true → HasOwner names (row_of blank_led tokens) None tokens
+led_owner {names} {blank_led} {tokens} is = subst (λ (b : Bool). HasOwner names (row_of b tokens) None tokens) (sym is) last
 
-pub own_owner : {names : Names} {led : Bool} {tokens left : List Token} {name : List (List ℕ)} → led ≡ false
-    → (text : List ℕ) × (tokens ≡ unquoted text ∷ left) × names text name → HasOwner names (row_of led tokens) (Some name) left
+pub own_owner : {names : Names} {blank_led : Bool} {tokens left : List Token} {name : List (List ℕ)} → blank_led ≡ false
+    → (text : List ℕ) × (tokens ≡ unquoted text ∷ left) × names text name → HasOwner names (row_of blank_led tokens) (Some name) left
 own_owner {names} {left = left} {name = name} is scanned =
     let row : row_of false (unquoted scanned.0 ∷ left) ≡ row_of _ _ = (λ i. row_of (sym is i) (sym scanned.1 i)) in
     subst (λ (r : TokenRow). HasOwner names r (Some name) left) row (own scanned.2)
 
 -- what a row says that is a directive
-pub says_direction : {names : Names} {led : Bool} {tokens : List Token} {statement : Statement} → led ≡ false → BeginsDirective tokens
-    → Directs names tokens statement → Says names (row_of led tokens) statement
+pub says_direction : {names : Names} {blank_led : Bool} {tokens : List Token} {statement : Statement} → blank_led ≡ false → BeginsDirective tokens
+    → Directs names tokens statement → Says names (row_of blank_led tokens) statement
 says_direction unled begins directs = directive (is_directive unled begins) directs
 
-pub no_direction : {names : Names} {led : Bool} {tokens : List Token} {statement : Statement} → led ≡ false → BeginsDirective tokens
-    → ((said : Statement) → Directs names tokens said → ⊥) → Says names (row_of led tokens) statement → ⊥
+pub no_direction : {names : Names} {blank_led : Bool} {tokens : List Token} {statement : Statement} → blank_led ≡ false → BeginsDirective tokens
+    → ((said : Statement) → Directs names tokens said → ⊥) → Says names (row_of blank_led tokens) statement → ⊥
 no_direction {statement = statement} unled begins none (directive is says) = none statement says
 no_direction unled begins none (resource is) = is.no_directive (is_directive unled begins)
 

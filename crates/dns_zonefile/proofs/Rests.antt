@@ -109,9 +109,9 @@ spaces (octet ∷ rest) more each = by (is_gap octet) refl each (spaces rest mor
     by true is each behind = alike-gap octet (rest ++ more) more is (behind each)
     by false is each behind = absurd cc
 
-led-by : (rest more : List ℕ) → rest ≢ [] → list_all is_gap rest ≡ true → is_led (rest ++ more) ≡ true
-led-by [] more some each = absurd (some refl)
-led-by (octet ∷ rest) more some each = by (is_gap octet) refl each
+blank_led-by : (rest more : List ℕ) → rest ≢ [] → list_all is_gap rest ≡ true → is_led (rest ++ more) ≡ true
+blank_led-by [] more some each = absurd (some refl)
+blank_led-by (octet ∷ rest) more some each = by (is_gap octet) refl each
   where
     by : (gap : Bool) → is_gap octet ≡ gap → (gap && list_all is_gap rest) ≡ true → is_gap octet ≡ true
     by true is each = is
@@ -143,22 +143,22 @@ row-alike {rest = rest} alike (Row.end next) = Row.end (alike.to None false rest
 row-alike alike (Row.token {found = found} out behind next row) = Row.token out behind (alike.to (Some found) out behind next) row
 
 -- the entries are the same if white space leads both texts, or neither
-led-rows : {text other rest : List ℕ} {rows : List TokenRow} → Alike text other → is_led text ≡ is_led other → BeginsWithRows text rows rest
+blank_led-rows : {text other rest : List ℕ} {rows : List TokenRow} → Alike text other → is_led text ≡ is_led other → BeginsWithRows text rows rest
     → is_end rest ≡ true → IsText other rows
-led-rows {other = other} alike led BeginsWithRows.none ends =
+blank_led-rows {other = other} alike blank_led BeginsWithRows.none ends =
     record { rest = other; begins = BeginsWithRows.none; ends = sym alike.ends ∙ ends }
-led-rows {other = other} {rest = rest} alike led (BeginsWithRows.more {tokens = tokens} {rows = rows} row behind) ends = record {
+blank_led-rows {other = other} {rest = rest} alike blank_led (BeginsWithRows.more {tokens = tokens} {rows = rows} row behind) ends = record {
   rest = rest;
-  begins = subst (λ (b : Bool). BeginsWithRows other (record { led = b; tokens = tokens } ∷ rows) rest) (sym led)
+  begins = subst (λ (b : Bool). BeginsWithRows other (record { blank_led = b; tokens = tokens } ∷ rows) rest) (sym blank_led)
       (BeginsWithRows.more (row-alike alike row) behind);
   ends = ends;
 }
 
-led-entries : {start : Context} {text other : List ℕ} {entries : List Entry} → Alike text other → is_led text ≡ is_led other
+blank_led-entries : {start : Context} {text other : List ℕ} {entries : List Entry} → Alike text other → is_led text ≡ is_led other
     → HasEntries start text entries → HasEntries start other entries
-led-entries alike led has = record {
+blank_led-entries alike blank_led has = record {
   rows = has.rows;
-  is_text = led-rows alike led has.is_text.begins has.is_text.ends;
+  is_text = blank_led-rows alike blank_led has.is_text.begins has.is_text.ends;
   after = has.after;
   are = has.are;
 }
@@ -168,16 +168,16 @@ abbrev IsBare : List ℕ → Type 0
 IsBare text = (tokens : List Token) (rest : List ℕ) → Row false text tokens rest → tokens ≡ []
 
 abbrev row_of : Bool → List Token → TokenRow
-row_of led tokens = record { led = led; tokens = tokens }
+row_of blank_led tokens = record { blank_led = blank_led; tokens = tokens }
 
-bare-led : {start after : Context} {all rows : List TokenRow} {entries : List Entry} (led other : Bool)
-    → all ≡ row_of led [] ∷ rows → AreEntries start all entries after → AreEntries start (row_of other [] ∷ rows) entries after
-bare-led led other same AreEntries.none = absurd cc
-bare-led {start} {after} {rows = rows} {entries = entries} led other same (AreEntries.bare {rows = behind} are) =
+bare-blank_led : {start after : Context} {all rows : List TokenRow} {entries : List Entry} (blank_led other : Bool)
+    → all ≡ row_of blank_led [] ∷ rows → AreEntries start all entries after → AreEntries start (row_of other [] ∷ rows) entries after
+bare-blank_led blank_led other same AreEntries.none = absurd cc
+bare-blank_led {start} {after} {rows = rows} {entries = entries} blank_led other same (AreEntries.bare {rows = behind} are) =
     let there : behind ≡ rows = cc in
     AreEntries.bare (subst (λ (r : List TokenRow). AreEntries start r entries after) there are)
-bare-led led other same (AreEntries.entry {row = row} is are) =
-    let first : row ≡ row_of led [] = cc in
+bare-blank_led blank_led other same (AreEntries.entry {row = row} is are) =
+    let first : row ≡ row_of blank_led [] = cc in
     absurd (entry_has_tokens is (ap (λ (r : TokenRow). r.tokens) first))
 
 bare-on : {start after : Context} {text other rest : List ℕ} {rows : List TokenRow} {entries : List Entry} → Alike text other → IsBare text
@@ -194,7 +194,7 @@ bare-on {start} {after} {text} {other} {rest} {entries = entries} alike bare (Be
       is_text = record { rest = rest; begins = BeginsWithRows.more (row-alike alike row) behind; ends = ends };
       after = after;
       are = subst (λ (t : List Token). AreEntries start (row_of (is_led other) t ∷ rows) entries after) (sym none)
-          (bare-led (is_led text) (is_led other)
+          (bare-blank_led (is_led text) (is_led other)
           (ap (λ (t : List Token). row_of (is_led text) t ∷ rows) none) are);
     }
 
@@ -229,8 +229,8 @@ pub after_spaces : {start : Context} {entries : List Entry} (rest more : List �
     → HasEntries start (rest ++ more) entries ↔ HasEntries start (32 ∷ more) entries
 after_spaces rest more some each =
     let alike : Alike (rest ++ more) (32 ∷ more) = joined (spaces rest more each) (turned (alike-gap 32 more more refl (alike-self more))) in
-    let led : is_led (rest ++ more) ≡ is_led (32 ∷ more) = led-by rest more some each in
-    (led-entries alike led, led-entries (turned alike) (sym led))
+    let blank_led : is_led (rest ++ more) ≡ is_led (32 ∷ more) = blank_led-by rest more some each in
+    (blank_led-entries alike blank_led, blank_led-entries (turned alike) (sym blank_led))
 
 pub after_comment : {start : Context} {entries : List Entry} (rest more : List ℕ) → is_end rest ≡ true → list_all is_gap rest ≡ false
     → HasEntries start (rest ++ more) entries ↔ HasEntries start (from_feed more) entries

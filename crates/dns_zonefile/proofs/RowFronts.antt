@@ -16,7 +16,7 @@ push same (longer behind is begins) = longer behind (λ i. same i ∷ is i) begi
 push same (shorter behind is begins) = shorter behind (λ i. sym same i ∷ is i) begins
 
 abbrev row_of : List ℕ → List Token → TokenRow
-row_of text tokens = record { led = is_led text; tokens = tokens }
+row_of text tokens = record { blank_led = is_led text; tokens = tokens }
 
 pub compare : {text text' rest rest' : List ℕ} {rows others : List TokenRow} → text ≡ text' → BeginsWithRows text rows rest
     → BeginsWithRows text' others rest' → Compared rows others rest rest'

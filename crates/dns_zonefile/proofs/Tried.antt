@@ -112,9 +112,9 @@ ttl_is_five context = refl
 
 -- a row that begins with white space is no record if no owner is known
 unowned : {names : List ℕ → List (List ℕ) → Type 0} {row : TokenRow} {owner : Option (List (List ℕ))} {tokens : List Token}
-    → HasOwner names row owner tokens → row.led ≡ true → owner ≡ None
-unowned last led = refl
-unowned (own is) led = absurd cc
+    → HasOwner names row owner tokens → row.blank_led ≡ true → owner ≡ None
+unowned last blank_led = refl
+unowned (own is) blank_led = absurd cc
 
 missing : {context : Context} {stated : Stated} {found : Entry} {next : Context} → stated.owner ≡ None → context.owner ≡ None
     → Enters context (StateRecord stated) found next → ⊥
@@ -122,18 +122,18 @@ missing {context} {stated} unstated unknown (enters_record {owner = owner} is_ow
     let bad : None ≡ Some owner = sym (ap (λ (o : Option (List (List ℕ))). option_or o context.owner) unstated ∙ unknown) ∙ is_owner in absurd cc
 
 stated_none : {context : Context} {names : List ℕ → List (List ℕ) → Type 0} {row : TokenRow} {stated : Stated} {tokens : List Token}
-    {found : Entry} {next : Context} → HasOwner names row stated.owner tokens → row.led ≡ true → context.owner ≡ None
+    {found : Entry} {next : Context} → HasOwner names row stated.owner tokens → row.blank_led ≡ true → context.owner ≡ None
     → Enters context (StateRecord stated) found next → ⊥
-stated_none {context} {names} {row} {stated} owner led unknown made = missing (unowned owner led) unknown made
+stated_none {context} {names} {row} {stated} owner blank_led unknown made = missing (unowned owner blank_led) unknown made
 
 no_owner : {context : Context} {names : List ℕ → List (List ℕ) → Type 0} {row : TokenRow} {statement : Statement} {found : Entry}
-    {next : Context} → row.led ≡ true → context.owner ≡ None → Says names row statement → Enters context statement found next → ⊥
-no_owner led unknown (directive is told) made = let bad : true ≡ false = sym led ∙ is.unled in cc
-no_owner led unknown (resource is) made = stated_none is.owner led unknown made
+    {next : Context} → row.blank_led ≡ true → context.owner ≡ None → Says names row statement → Enters context statement found next → ⊥
+no_owner blank_led unknown (directive is told) made = let bad : true ≡ false = sym blank_led ∙ is.unled in cc
+no_owner blank_led unknown (resource is) made = stated_none is.owner blank_led unknown made
 
-says_nothing : {context : Context} {row : TokenRow} → row.led ≡ true → context.owner ≡ None → (found : Entry) (next : Context)
+says_nothing : {context : Context} {row : TokenRow} → row.blank_led ≡ true → context.owner ≡ None → (found : Entry) (next : Context)
     → IsEntry context row found next → ⊥
-says_nothing led unknown found next is = no_owner led unknown is.says is.enters
+says_nothing blank_led unknown found next is = no_owner blank_led unknown is.says is.enters
 
 led_row : Row false (32 ∷ 97 ∷ 10 ∷ []) (unquoted (97 ∷ []) ∷ []) []
 led_row = token false (10 ∷ []) (goes 32 false refl (word 97 refl (a_run []) (omega arith))) (end (ended 10 refl))

@@ -6,7 +6,7 @@ use Rattle.dns_header.specs.Head.{record_octets}
 use Rattle.dns_header.specs.Record.{RecordOf}
 use Rattle.dns_rdata.specs.Data.{Data, is_unknown, number_of}
 use Rattle.dns_rdata.specs.DataOctets.{data_octets}
-use Rattle.dns_row_scanner.specs.declared.entry_error.EntryError.{EntryError}
+use Rattle.dns_entry_scanner.specs.declared.entry_error.EntryError.{EntryError}
 use Rattle.dns_zonefile.specs.Entry.{Entry}
 use Rattle.dns_zonefile.specs.Entry.Entry.{Include, Resource}
 use Rattle.dns_zonefile.specs.Error.{reason_of}

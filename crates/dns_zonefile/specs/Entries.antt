@@ -6,8 +6,8 @@ use Rattle.dns_zonefile.specs.Entry.{Context, Entry, IsEntry}
 -- The rows are these entries. A row without tokens is none.
 pub data AreEntries : Context → List TokenRow → List Entry → Context → Type 0 where
   none : {context : Context} → AreEntries context [] [] context
-  bare : {context after : Context} {led : Bool} {rows : List TokenRow} {entries : List Entry} → AreEntries context rows entries after
-      → AreEntries context (record { led = led; tokens = [] } ∷ rows) entries after
+  bare : {context after : Context} {blank_led : Bool} {rows : List TokenRow} {entries : List Entry} → AreEntries context rows entries after
+      → AreEntries context (record { blank_led = blank_led; tokens = [] } ∷ rows) entries after
   entry : {context next after : Context} {row : TokenRow} {rows : List TokenRow} {entry : Entry} {entries : List Entry}
       → IsEntry context row entry next → AreEntries next rows entries after → AreEntries context (row ∷ rows) (entry ∷ entries) after
 

@@ -4,7 +4,7 @@ use Rattle.std.specs.Option.{option_or}
 use Rattle.dns_text.specs.Rows.{TokenRow}
 use Rattle.dns_rdata.specs.Data.{Data}
 use Rattle.dns_header.specs.Record.{RecordOf}
-use Rattle.dns_row_scanner.specs.NameInText.{SpellsUnder}
+use Rattle.dns_entry_scanner.specs.NameInText.{SpellsUnder}
 use Rattle.dns_zonefile.specs.Statement.{Stated, Statement, Says}
 use Rattle.dns_zonefile.specs.Statement.Statement.{SetOrigin, SetTtl, NameFile, StateRecord}
 

@@ -1,6 +1,6 @@
 -- What an error of a zone file says.
 use Rattle.std.specs.Prelude.{ℕ}
-use Rattle.dns_row_scanner.specs.declared.entry_error.EntryError.{EntryError}
+use Rattle.dns_entry_scanner.specs.declared.entry_error.EntryError.{EntryError}
 use Rattle.dns_zonefile.specs.declared.error.Error.{Error}
 
 abbrev pub line_of : Error → ℕ

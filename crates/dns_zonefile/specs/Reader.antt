@@ -3,9 +3,9 @@ use Rattle.std.specs.Prelude.{◌≡◌, ◌≢◌, ◌+◌, ◌==◌, ℕ, suc,
 use Rattle.std.specs.List.{AllByRecursion}
 use Rattle.dns_text.specs.Rows.{BeginsWithRows, TokenRow}
 use Rattle.dns_text.specs.Tokens.{is_end}
-use Rattle.dns_tokens.specs.RowFound.{NoRow}
-use Rattle.dns_row_scanner.specs.EntryError.{is_memory}
-use Rattle.dns_row_scanner.specs.declared.entry_error.EntryError.{EntryError}
+use Rattle.dns_entry_scanner.specs.RowFound.{NoRow}
+use Rattle.dns_entry_scanner.specs.EntryError.{is_memory}
+use Rattle.dns_entry_scanner.specs.declared.entry_error.EntryError.{EntryError}
 use Rattle.dns_zonefile.specs.Entries.{AreEntries}
 use Rattle.dns_zonefile.specs.Entry.{Context, Entry, IsEntry, at_start}
 use Rattle.dns_zonefile.specs.Entry.Entry.{Directive, Include, Resource}

@@ -1,6 +1,6 @@
 -- The views of readers of zone files.
 use Rattle.std.specs.Prelude.{ℕ, List, ◌+◌, if◌then◌else◌, Option, Some, None, Result, Ok, Err, is_some, vec_capacity}
-use Rattle.dns_row_scanner.specs.declared.entry_error.EntryError.{EntryError}
+use Rattle.dns_entry_scanner.specs.declared.entry_error.EntryError.{EntryError}
 use Rattle.dns_zonefile.specs.Entry.{Entry}
 use Rattle.dns_zonefile.specs.Error.{reason_of}
 use Rattle.dns_zonefile.specs.Reader.{Reader}

@@ -1,7 +1,7 @@
 -- The result of reading one row. Only contracts inside the crate name it.
 use Rattle.std.specs.Prelude.{◌≡◌, ◌≢◌, ◌<◌, true, ℕ, List, [], ◌∷◌, Option, Some, None, Result, Ok, Err}
 use Rattle.dns_text.specs.Tokens.{is_end}
-use Rattle.dns_row_scanner.specs.declared.entry_error.EntryError.{EntryError}
+use Rattle.dns_entry_scanner.specs.declared.entry_error.EntryError.{EntryError}
 use Rattle.dns_zonefile.specs.Entry.{Entry}
 use Rattle.dns_zonefile.specs.Entry.Entry.{Directive}
 use Rattle.dns_zonefile.specs.Reader.{AreDirectives, Gives, GoesOver, Reader, left_of}

@@ -19,7 +19,7 @@ use Rattle.dns_zonefile.specs.declared.statement.Stated as stated
 
 -- a row of tokens, which begins with white space or not
 abbrev pub row_of : Bool → List Token → TokenRow
-row_of led tokens = record { led = led; tokens = tokens }
+row_of blank_led tokens = record { blank_led = blank_led; tokens = tokens }
 
 -- a record as a row states it, with names by what they spell
 abbrev pub stated_of : {Octs N : Type 0} → (N → List (List ℕ)) → stated.Stated Octs N → Stated

@@ -35,7 +35,7 @@ IsDirectiveWord word token = (text : List ℕ) × (token ≡ unquoted text) × (
 
 -- the row is a directive: it does not begin with white space, and its first token begins with a plain dollar sign
 pub record IsDirective (row : TokenRow) : Type 0 where
-  pub unled : row.led ≡ false
+  pub unled : row.blank_led ≡ false
   pub text : List ℕ
   pub others : List Token
   pub is : row.tokens ≡ unquoted (36 ∷ text) ∷ others
@@ -77,9 +77,9 @@ pub data States : List Token → Option ℕ → Option ℕ → Type 0 where
 -- The owner that a row states, and the tokens after it. A row that begins with white space states none: it has the last
 -- one.
 pub data HasOwner (names : Names) : TokenRow → Option (List (List ℕ)) → List Token → Type 0 where
-  last : {tokens : List Token} → HasOwner names (record { led = true; tokens = tokens }) None tokens
+  last : {tokens : List Token} → HasOwner names (record { blank_led = true; tokens = tokens }) None tokens
   own : {text : List ℕ} {name : List (List ℕ)} {tokens : List Token} → names text name
-      → HasOwner names (record { led = false; tokens = unquoted text ∷ tokens }) (Some name) tokens
+      → HasOwner names (record { blank_led = false; tokens = unquoted text ∷ tokens }) (Some name) tokens
 
 -- the tokens begin with a TTL and a class, if they are stated, and a type, and these are left
 pub record HasHead (tokens : List Token) (ttl class : Option ℕ) (rtype : ℕ) (left : List Token) : Type 0 where

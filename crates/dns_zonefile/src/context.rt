@@ -2,7 +2,7 @@
 ghost use Rattle.std.specs.Prelude.{◌≡◌, ◌<◌, ◌^◌, ◌++◌, List, ℕ, Some, None, true, false, IfOk, IfErr, OnOk, OnErr, option_map, unwrap_or};
 ghost use Rattle.std.specs.Option.{option_or};
 ghost use Rattle.dns_label.specs.Name.{IsName, wire};
-ghost use Rattle.dns_row_scanner.specs.EntryError.{is_memory};
+ghost use Rattle.dns_entry_scanner.specs.EntryError.{is_memory};
 ghost use Rattle.dns_zonefile.specs.Entry as spec;
 ghost use Rattle.dns_zonefile.specs.Entry.{Enters, at_start};
 ghost use Rattle.dns_zonefile.specs.Seen.{context_of, entry_of, stated_of, statement_of};
@@ -10,9 +10,9 @@ ghost use Rattle.dns_zonefile.specs.Statement.Statement.{SetOrigin, StateRecord}
 
 use crate::last_owner::LastOwner;
 use crate::{Entry, Stated, Statement};
+use dns_entry_scanner::{EntryError, TextName, to_inline_name};
 use dns_header::Record;
 use dns_name::{Class, Name, Octets, ToName, Ttl};
-use dns_row_scanner::{EntryError, TextName, to_inline_name};
 use std::alloc::Global;
 
 /// What the rows so far have set.

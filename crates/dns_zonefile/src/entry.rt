@@ -1,8 +1,8 @@
 //! Entries of zone files.
+use dns_entry_scanner::{InlineName, ScannedName, ScannedString};
 use dns_header::Record;
 use dns_name::ToName;
 use dns_rdata::ZoneRecordData;
-use dns_row_scanner::{InlineName, ScannedName, ScannedString};
 
 /// The data of a scanned record.
 pub type ScannedRecordData = ZoneRecordData<Vec<u8>, ScannedName>;

@@ -1,8 +1,8 @@
 //! The forms in which entries are returned.
 ghost use Rattle.std.specs.Prelude.{◌≡◌, List, ℕ, false, map, IfErr, IfOk, OnErr};
-ghost use Rattle.dns_row_scanner.specs.EntryError.{is_memory};
-ghost use Rattle.dns_tokens.specs.RowFound.{IsRowAt};
-ghost use Rattle.dns_tokens.specs.TokenSpan.{token_in};
+ghost use Rattle.dns_entry_scanner.specs.EntryError.{is_memory};
+ghost use Rattle.dns_entry_scanner.specs.RowFound.{IsRowAt};
+ghost use Rattle.dns_entry_scanner.specs.TokenSpan.{token_in};
 ghost use Rattle.dns_zonefile.specs.Entry as spec;
 ghost use Rattle.dns_zonefile.specs.Entry.{IsEntry};
 ghost use Rattle.dns_zonefile.specs.RowRead.{IsGiven};
@@ -12,8 +12,7 @@ mod octets;
 mod values;
 
 use crate::context::Context;
-use dns_row_scanner::EntryError;
-use dns_tokens::TokenSpan;
+use dns_entry_scanner::{EntryError, TokenSpan};
 use std::alloc::Global;
 pub(crate) use values::AsValues;
 
@@ -29,7 +28,7 @@ pub(crate) trait EntryForm {
     ghost gives: { List ℕ → spec.Entry → Self.Given → List ℕ → Type 0 };
 
     /// Returns the entry of a row, and applies what it sets to the context. Returns None for a directive. The row is at
-    /// `place` in the text, and `read_row` found its tokens, `spans`. `led` is whether it begins with white space.
+    /// `place` in the text, and `read_row` found its tokens, `spans`. `blank_led` is whether it begins with white space.
     ///
     /// Fails with an error other than `OutOfMemory` only if the row is no entry. Nothing is then changed.
     fn take_row(
@@ -39,14 +38,14 @@ pub(crate) trait EntryForm {
         text: &[u8],
         place: usize,
         spans: &[TokenSpan],
-        led: bool,
+        blank_led: bool,
     ) -> Result<Option<Self::Given>, EntryError>
-        requires { (next : ℕ) × IsRowAt text.now place spans.now next led }
+        requires { (next : ℕ) × IsRowAt text.now place spans.now next blank_led }
         ensures ok { IfOk result (λ given. (entry : spec.Entry)
-            × IsEntry (context_of context.old) (row_of led (map (λ span. token_in text.now span) spans.now)) entry (context_of context.new)
+            × IsEntry (context_of context.old) (row_of blank_led (map (λ span. token_in text.now span) spans.now)) entry (context_of context.new)
             × IsGiven gives (octets self.old) entry given (octets self.new)) }
         ensures err { IfErr result (λ error. is_memory error ≡ false → (entry : spec.Entry) (after : spec.Context)
-            → IsEntry (context_of context.old) (row_of led (map (λ span. token_in text.now span) spans.now)) entry after → ⊥) }
+            → IsEntry (context_of context.old) (row_of blank_led (map (λ span. token_in text.now span) spans.now)) entry after → ⊥) }
         ensures same { OnErr result (context.new ≡ context.old) }
         ensures kept { OnErr result (octets self.new ≡ octets self.old) };
 }

@@ -1,9 +1,9 @@
 //! The error of a zone file.
 ghost use Rattle.std.specs.Prelude.{◌≡◌};
-ghost use Rattle.dns_row_scanner.specs.EntryError.{is_memory};
+ghost use Rattle.dns_entry_scanner.specs.EntryError.{is_memory};
 ghost use Rattle.dns_zonefile.specs.Error.{line_of, reason_of};
 
-use dns_row_scanner::EntryError;
+use dns_entry_scanner::EntryError;
 use thiserror::Error;
 
 /// Why a row of a zone file is no entry, or could not be read.

@@ -1,8 +1,8 @@
 //! Laws of zone files. Each function does nothing; its contract is the law.
 ghost use Rattle.std.specs.Prelude.{◌≡◌, ◌≢◌, ◌↔◌, ◌+◌, ◌++◌, ℕ, suc, [], ◌∷◌, true, false, List, None, Ok, Err, length};
 ghost use Rattle.std.specs.List.{list_all};
-ghost use Rattle.dns_row_scanner.specs.EntryError.{is_memory};
-ghost use Rattle.dns_row_scanner.specs.declared.entry_error.EntryError.{EntryError};
+ghost use Rattle.dns_entry_scanner.specs.EntryError.{is_memory};
+ghost use Rattle.dns_entry_scanner.specs.declared.entry_error.EntryError.{EntryError};
 ghost use Rattle.dns_zonefile.specs.Entry.{Context, Entry};
 ghost use Rattle.dns_text.specs.Rows.{BeginsWithRows, TokenRow};
 ghost use Rattle.dns_text.specs.Tokens.{from_feed, is_end, is_gap};

@@ -3,8 +3,7 @@
 //! A `Zonefile` takes a text and returns its records and the files that it includes. Directives change what the rows
 //! after them mean. `scan_statement` reads what a single row says.
 //!
-//! The crate re-exports its parts: `dns_tokens`, the tokens and rows of a text, and `dns_row_scanner`, the scanner over
-//! a row.
+//! The crate re-exports its part `dns_entry_scanner`: the tokens and rows of a text, and the scanner over a row.
 #![tactic(auto)]
 
 mod context;
@@ -16,11 +15,10 @@ pub mod laws;
 mod statement;
 mod zonefile;
 
-pub use dns_row_scanner::{
-    EntryError, EntryScanner, InlineName, OctetsScanner, RowScanner, ScannedName, ScannedString,
-    TextName, absolute, scan_name, to_inline_name,
+pub use dns_entry_scanner::{
+    BrokenRow, EntryError, EntryScanner, InlineName, RowFound, RowReader, RowScanner, ScannedName,
+    ScannedString, TextName, TokenSpan, WireScanner, absolute, read_row, scan_name, to_inline_name,
 };
-pub use dns_tokens::{BrokenRow, RowFound, RowReader, TokenSpan, read_row};
 pub use entry::{ComposedEntry, Entry, IncludedFile, ScannedRecord, ScannedRecordData};
 pub use error::Error;
 pub use statement::{Stated, Statement, scan_statement};

@@ -13,9 +13,9 @@ mod owner;
 
 use directive::is_directive;
 pub(crate) use directive::scan_directive;
+use dns_entry_scanner::EntryScanner;
 use dns_name::{Class, Octets, ToName, Ttl};
 use dns_rdata::ZoneRecordData;
-use dns_row_scanner::EntryScanner;
 use dns_text::{Scanner, ScannerError};
 pub(crate) use head::scan_head;
 pub(crate) use owner::scan_owner;
@@ -46,38 +46,38 @@ pub enum Statement<Octs: Octets, N: ToName> {
     StateRecord(Stated<Octs, N>),
 }
 
-/// Reads what a row says. `led` is whether it begins with white space; `scanner` is over its tokens.
+/// Reads what a row says. `blank_led` is whether it begins with white space; `scanner` is over its tokens.
 ///
 /// Fails with an error other than `short_buf` only if it says nothing. The caller guarantees that a text spells at most
 /// one name.
 #[tactic(auto, using(crate::proofs::Records::says_direction, crate::proofs::Records::no_direction))]
 pub fn scan_statement<S: EntryScanner>(
-    led: bool,
+    blank_led: bool,
     scanner: &mut S,
 ) -> Result<Statement<S::Octets, S::Name>, S::Error>
 where
     S::Name: Drop,
     S::Error: Drop,
     requires { SpellOne (S.names scanner.old) }
-    ensures ok { IfOk result (λ statement. Says (S.names scanner.old) (row_of led (S.tokens scanner.old)) (statement_of ⟦<S::Name as ToName>⟧.name statement)) }
+    ensures ok { IfOk result (λ statement. Says (S.names scanner.old) (row_of blank_led (S.tokens scanner.old)) (statement_of ⟦<S::Name as ToName>⟧.name statement)) }
     ensures err { IfErr result (λ error. S.Error.is_short error ≡ false → (statement : spec.Statement)
-        → Says (S.names scanner.old) (row_of led (S.tokens scanner.old)) statement → ⊥) }
+        → Says (S.names scanner.old) (row_of blank_led (S.tokens scanner.old)) statement → ⊥) }
 {
-    if begins_directive(led, scanner) {
+    if begins_directive(blank_led, scanner) {
         return scan_directive(scanner);
     }
-    scan_record(led, scanner)
+    scan_record(blank_led, scanner)
 }
 
 /// Returns whether the row is a directive. A row that begins with white space is none.
 #[tactic(auto, using(crate::proofs::Records::led_no_directive, crate::proofs::Records::begins_no_directive))]
-pub(crate) fn begins_directive<S: EntryScanner>(led: bool, scanner: &S) -> bool
+pub(crate) fn begins_directive<S: EntryScanner>(blank_led: bool, scanner: &S) -> bool
 where
     S::Error: Drop,
-    ensures yes { IsTrue result → (led ≡ false) × BeginsDirective (S.tokens scanner.now) }
-    ensures no { result ≡ false → IsDirective (row_of led (S.tokens scanner.now)) → ⊥ }
+    ensures yes { IsTrue result → (blank_led ≡ false) × BeginsDirective (S.tokens scanner.now) }
+    ensures no { result ≡ false → IsDirective (row_of blank_led (S.tokens scanner.now)) → ⊥ }
 {
-    if led {
+    if blank_led {
         return false;
     }
     is_directive(scanner)
@@ -85,19 +85,19 @@ where
 
 /// Reads the record that a row states. The caller guarantees that it is no directive.
 fn scan_record<S: EntryScanner>(
-    led: bool,
+    blank_led: bool,
     scanner: &mut S,
 ) -> Result<Statement<S::Octets, S::Name>, S::Error>
 where
     S::Name: Drop,
     S::Error: Drop,
     requires once { SpellOne (S.names scanner.old) }
-    requires bare { IsDirective (row_of led (S.tokens scanner.old)) → ⊥ }
-    ensures ok { IfOk result (λ statement. Says (S.names scanner.old) (row_of led (S.tokens scanner.old)) (statement_of ⟦<S::Name as ToName>⟧.name statement)) }
+    requires bare { IsDirective (row_of blank_led (S.tokens scanner.old)) → ⊥ }
+    ensures ok { IfOk result (λ statement. Says (S.names scanner.old) (row_of blank_led (S.tokens scanner.old)) (statement_of ⟦<S::Name as ToName>⟧.name statement)) }
     ensures err { IfErr result (λ error. S.Error.is_short error ≡ false → (statement : spec.Statement)
-        → Says (S.names scanner.old) (row_of led (S.tokens scanner.old)) statement → ⊥) }
+        → Says (S.names scanner.old) (row_of blank_led (S.tokens scanner.old)) statement → ⊥) }
 {
-    let owner = scan_owner(led, scanner)?;
+    let owner = scan_owner(blank_led, scanner)?;
     let head = scan_head(scanner)?;
     let rdata = ZoneRecordData::scan(head.rtype, scanner)?;
     if scanner.continues() {

@@ -5,8 +5,8 @@ mod read;
 
 use crate::Error;
 use crate::context::Context;
+use dns_entry_scanner::TokenSpan;
 use dns_name::{Class, Name};
-use dns_tokens::TokenSpan;
 use std::alloc::{AllocError, Global};
 
 /// A reader of a zone file. The caller supplies its text, at once or in pieces.

@@ -1,6 +1,6 @@
 //! Names that tokens spell under an origin (RFC 1035 5.1).
+use dns_entry_scanner::{EntryError, ScannedName, scan_name};
 use dns_name::{Name, ToName};
-use dns_row_scanner::{EntryError, ScannedName, scan_name};
 use std::alloc::Global;
 use std::test::Fail;
 

@@ -1,7 +1,6 @@
 //! The tokens of a row, scanned.
-use dns_row_scanner::{EntryScanner, RowScanner};
+use dns_entry_scanner::{EntryScanner, RowScanner, TokenSpan, read_row};
 use dns_scan::Scanner;
-use dns_tokens::{TokenSpan, read_row};
 use std::test::Fail;
 
 #[test]

@@ -1,6 +1,6 @@
 //! Readers of zone files, with enough memory: each call that may allocate succeeds. And the texts of errors.
+use dns_entry_scanner::absolute;
 use dns_name::{Class, Name, ToName};
-use dns_row_scanner::absolute;
 use dns_zonefile::{Entry, Error, Zonefile};
 use std::alloc::Global;
 use std::test::Fail;

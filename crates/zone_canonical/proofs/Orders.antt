@@ -9,7 +9,7 @@ use Rattle.std.proofs.lemmas.Cmp.{ranked}
 use Rattle.dns_label.specs.Name.{low}
 use Rattle.dns_wire.specs.Order.{labels_order}
 use Rattle.dns_wire.proofs.Orders.{then_assoc}
-use Rattle.zone_octets.specs.Record.{Record}
+use Rattle.zone_records.specs.Record.{Record}
 use Rattle.zone_canonical.specs.Canonical.{canonical_cmp}
 use Rattle.zone_canonical.specs.CanonicalLaws.{canonical_total}
 use Rattle.zone_canonical.specs.DataForm.{data_form}

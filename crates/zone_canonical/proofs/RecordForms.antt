@@ -17,7 +17,7 @@ use Rattle.dns_header.specs.Head.{fixed_octets}
 use Rattle.dns_message.specs.Record.{record_octets}
 use Rattle.dns_rdata.specs.Fields as fields
 use Rattle.dns_rdata.specs.Fields.{IsData}
-use Rattle.zone_octets.specs.Record.{Record}
+use Rattle.zone_records.specs.Record.{Record}
 use Rattle.zone_canonical.specs.Canonical.{IsCanonicalData, typed, unknown, IsCanonicalOf, HasCanonicalForm}
 use Rattle.zone_canonical.specs.DataForm.{data_form, form_with, lower_between, places_of}
 use Rattle.zone_canonical.specs.Form.{form_of}

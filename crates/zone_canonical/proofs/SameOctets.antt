@@ -3,8 +3,8 @@ use Rattle.std.proofs.Common.{◌≡◌, ◌<◌, ℕ, List, [], ◌∷◌, ◌+
 use Rattle.std.specs.List.{AllByRecursion, flat_map}
 use Rattle.dns_octets.proofs.Fronts.{same_fronts}
 use Rattle.dns_message.specs.Record.{IsRecord, record_octets}
-use Rattle.zone_octets.specs.Record.{Record}
-use Rattle.zone_octets.proofs.StoredRecords.{record_in_written}
+use Rattle.zone_records.specs.Record.{Record}
+use Rattle.zone_records.proofs.StoredRecords.{record_in_written}
 
 some_octets : (r : Record) → 0 < length (record_octets r)
 some_octets r = some r.owner

@@ -10,7 +10,7 @@ use Rattle.std.proofs.lemmas.List.Kept.{IsStrictlySortedBy-dedup, Any-dedup}
 use Rattle.std.proofs.lemmas.List.Sorted.{All-permutation, Contains-permutation}
 use Rattle.dns_label.specs.Name.{low}
 use Rattle.dns_message.specs.Record.{record_octets}
-use Rattle.zone_octets.specs.Record.{Record}
+use Rattle.zone_records.specs.Record.{Record}
 use Rattle.zone_canonical.specs.Canonical.{IsCanonicalOf, canonical_cmp, IsCanonical, IsFormOfOne, HaveFormOf}
 use Rattle.zone_canonical.specs.CanonicalLaws.{canonical_total}
 use Rattle.zone_canonical.proofs.Ascending.{all_in}

@@ -9,7 +9,7 @@ use Rattle.dns_label.specs.Name.{low}
 use Rattle.dns_wire.specs.Order.{labels_order}
 use Rattle.dns_rdata.specs.Fields.{Field, IsRow, IsData, kinds_of, octets, canonical_octets}
 use Rattle.dns_message.specs.Record.{IsRecord, record_octets}
-use Rattle.zone_octets.specs.Record.{Record}
+use Rattle.zone_records.specs.Record.{Record}
 
 -- Data of a type in canonical form: its fields with their names in lower case. Unknown data is its octets (RFC 4034
 -- 6.2, RFC 3597 7).

@@ -1,6 +1,6 @@
 -- The canonical form of a record, as a function. Only contracts inside the crate name it.
 use Rattle.dns_label.specs.Name.{low}
-use Rattle.zone_octets.specs.Record.{Record}
+use Rattle.zone_records.specs.Record.{Record}
 use Rattle.zone_canonical.specs.DataForm.{data_form}
 
 abbrev pub form_of : Record → Record

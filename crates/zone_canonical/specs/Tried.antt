@@ -5,7 +5,7 @@ use Rattle.std.specs.declared.cmp.Ordering.TheVariants.{Less}
 use Rattle.std.proofs.Common.{arith}
 use Rattle.dns_label.specs.Name.{IsName}
 use Rattle.dns_rdata.specs.Fields.{Field, number32, ipv4, compressible, octets, IsRow}
-use Rattle.zone_octets.specs.Record.{Record}
+use Rattle.zone_records.specs.Record.{Record}
 use Rattle.zone_canonical.specs.Canonical.{IsCanonical, IsCanonicalOf, typed, canonical_cmp}
 
 abbrev soa_row : List Field
@@ -53,12 +53,12 @@ address_form : IsCanonicalOf address address
 address_form = record { owner = refl; rtype = refl; class = refl; ttl = refl; rdata = typed address_row address_is_row refl refl }
 
 -- the address is written once, before the SOA
-pub zone_octets : IsCanonical (soa ∷ capital ∷ address ∷ [])
+pub zone_records : IsCanonical (soa ∷ capital ∷ address ∷ [])
     (1 ∷ 97 ∷ 0 ∷ 0 ∷ 1 ∷ 0 ∷ 1 ∷ 0 ∷ 0 ∷ 0 ∷ 60 ∷ 0 ∷ 4 ∷ 1 ∷ 2 ∷ 3 ∷ 4
     ∷ 1 ∷ 97 ∷ 0 ∷ 0 ∷ 6 ∷ 0 ∷ 1 ∷ 0 ∷ 0 ∷ 0 ∷ 60 ∷ 0 ∷ 26 ∷ 1 ∷ 98 ∷ 0 ∷ 1 ∷ 99 ∷ 0
     ∷ 0 ∷ 0 ∷ 0 ∷ 1 ∷ 0 ∷ 0 ∷ 0 ∷ 2 ∷ 0 ∷ 0 ∷ 0 ∷ 3 ∷ 0 ∷ 0 ∷ 0 ∷ 4 ∷ 0 ∷ 0 ∷ 0 ∷ 5 ∷ [])
 unfolding IsStrictlySortedBy canonical_cmp
-zone_octets = record {
+zone_records = record {
   forms = address ∷ soa ∷ [];
   ascend = ((refl, tt), (tt, tt));
   only = ((address, (2, omega arith, refl), address_form), ((soa, (0, omega arith, refl), soa_form), tt));

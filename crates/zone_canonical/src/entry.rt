@@ -10,7 +10,7 @@ use crate::form::{append_form, cmp_forms};
 use std::alloc::AllocError;
 use std::cmp::Ordering;
 use std::marker::Model;
-use zone_octets::record::Record;
+use zone_records::record::Record;
 
 /// A stored record, viewed in canonical form (RFC 4034 6.2), with a key. Entries are compared by key first, so most
 /// comparisons do not read the records.
@@ -23,7 +23,7 @@ pub(crate) struct Entry<'a> {
 impl<'a> Model for Entry<'a> {
     ghost use Rattle.std.specs.Prelude.{length};
     ghost use Rattle.dns_label.specs.Name.{wire};
-    ghost use Rattle.zone_octets.specs.Stored.{IsStored, record_in};
+    ghost use Rattle.zone_records.specs.Stored.{IsStored, record_in};
     ghost use Rattle.zone_canonical.specs.Form.{form_of};
     ghost use Rattle.zone_canonical.specs.Keyed.{Keyed};
 

@@ -11,7 +11,7 @@ use crate::data::{append_data, cmp_data};
 use dns_name::{Name, ToName};
 use std::alloc::AllocError;
 use std::cmp::Ordering;
-use zone_octets::record::Record;
+use zone_records::record::Record;
 
 /// Compares two records in canonical form: by owner, type and data (RFC 4034 6.1, 6.3), then by TTL, then by class.
 pub(crate) fn cmp_forms(record: &Record<'_>, other: &Record<'_>) -> Ordering

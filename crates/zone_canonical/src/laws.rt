@@ -1,7 +1,7 @@
 //! Laws of canonical octets. Each function does nothing; its contract is the law.
 ghost use Rattle.std.specs.Prelude.{◌≡◌, ◌↔◌, ℕ, List};
 ghost use Rattle.std.specs.List.{AllByRecursion, AllZip};
-ghost use Rattle.zone_octets.specs.Record.{Record};
+ghost use Rattle.zone_records.specs.Record.{Record};
 ghost use Rattle.zone_canonical.specs.Canonical.{HasCanonicalForm, IsCanonical, AreAlike, AreAmong};
 
 /// Records have at most one list of canonical octets (RFC 4034 6).

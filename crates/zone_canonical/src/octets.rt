@@ -1,7 +1,7 @@
 //! The canonical octets of records.
 ghost use Rattle.std.specs.Prelude.{◌≡◌, ◌<◌, List, ℕ, length, map, slice_get, Some, IfOk, flat_map};
 ghost use Rattle.std.specs.List.{AllByRecursion};
-ghost use Rattle.zone_octets.specs.Record as spec;
+ghost use Rattle.zone_records.specs.Record as spec;
 ghost use Rattle.zone_canonical.specs.Canonical.{HasCanonicalForm, IsCanonical};
 ghost use Rattle.zone_canonical.specs.Keyed.{form_octets, keyed};
 
@@ -9,7 +9,7 @@ use crate::entry::Entry;
 use crate::owner_key::owner_key;
 use dns_name::Name;
 use std::alloc::{AllocError, Global};
-use zone_octets::record_list::RecordList;
+use zone_records::record_list::RecordList;
 
 /// Returns the canonical octets of the records (RFC 4034 6): the distinct ones in canonical form, in canonical order.
 /// Two lists of records have the same canonical octets exactly if they have the same records, up to ASCII case in

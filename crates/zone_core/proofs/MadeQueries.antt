@@ -5,7 +5,7 @@ use Rattle.std.proofs.lemmas.Nat.{from_be_bytes-to_be_bytes_2}
 use Rattle.dns_label.specs.Name.{IsName}
 use Rattle.dns_header.specs.Question.{ReadsQuestion, question_octets}
 use Rattle.dns_header.proofs.WrittenQuestions.{question-written}
-use Rattle.zone_octets.specs.Zone.{any_class}
+use Rattle.zone_records.specs.Zone.{any_class}
 use Rattle.zone_core.specs.Query.{AxfrQuery, IsQuery, question_of, query_octets}
 
 pub made_query : (query : AxfrQuery) → query.recursion ≡ false → query.id < 2 ^ 16 → IsName query.name → query.class < 2 ^ 16

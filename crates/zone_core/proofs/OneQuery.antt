@@ -4,7 +4,7 @@ use Rattle.dns_header.specs.Header.{is_response, opcode_of}
 use Rattle.dns_header.specs.Question.{Question, ReadsQuestion}
 use Rattle.dns_message.proofs.DecidedRecords.{question_one as some_question_one}
 use Rattle.zone_core.specs.Query.{AxfrQuery, AsksOne, IsQuery, IsQueryFault, question_of}
-use Rattle.zone_octets.specs.Zone.{any_class, axfr_type}
+use Rattle.zone_records.specs.Zone.{any_class, axfr_type}
 use Rattle.zone_core.specs.declared.query_error.QueryError.{QueryError}
 use Rattle.zone_core.specs.declared.query_error.QueryError.TheVariants as query_error
 use Rattle.zone_core.proofs.OrderedRules.{Rules, FirstBroken, AllKept, first_one, broken_not_kept}

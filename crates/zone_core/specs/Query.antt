@@ -3,7 +3,7 @@ use Rattle.std.specs.Prelude.{◌≡◌, ◌≢◌, ◌≤◌, ◌<◌, ℕ, Boo
 use Rattle.std.specs.Int.{to_be_bytes, w16}
 use Rattle.dns_header.specs.Header.{is_response, opcode_of, question_count, answer_count, authority_count, additional_count, id_of, recursion_desired}
 use Rattle.dns_header.specs.Question.{Question, ReadsQuestion, question_octets}
-use Rattle.zone_octets.specs.Zone.{any_class, axfr_type}
+use Rattle.zone_records.specs.Zone.{any_class, axfr_type}
 use Rattle.zone_core.specs.declared.query_error.QueryError.{QueryError}
 use Rattle.zone_core.specs.declared.query_error.QueryError.TheVariants.{Short, Response, Opcode, Counts, Malformed, NotAxfr, ClassAny, Trailing}
 

@@ -5,10 +5,10 @@ use Rattle.dns_label.specs.Name.{low}
 use Rattle.dns_header.specs.Header.{is_response, opcode_of, rcode_of, question_count, answer_count, authority_count, additional_count, id_of}
 use Rattle.dns_header.specs.Question.{Question, ReadsQuestion}
 use Rattle.dns_message.specs.Record.{ReadsRecord}
-use Rattle.zone_octets.specs.Record.{Record}
+use Rattle.zone_records.specs.Record.{Record}
 use Rattle.dns_rdata.specs.DataOctets.{IsSpellable}
-use Rattle.zone_octets.specs.Records.{SameSoa}
-use Rattle.zone_octets.specs.Zone.{IsUnder, axfr_type, soa_type}
+use Rattle.zone_records.specs.Records.{SameSoa}
+use Rattle.zone_records.specs.Zone.{IsUnder, axfr_type, soa_type}
 use Rattle.zone_core.specs.Query.{AxfrQuery}
 use Rattle.zone_core.specs.Frames.{frames, IsFramable}
 use Rattle.zone_core.specs.Cutting.{joined}

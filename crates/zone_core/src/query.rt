@@ -10,7 +10,7 @@ use dns_message::laws::header_is_its_fields;
 use dns_message::{Header, HeaderCounts};
 use dns_name::{Class, Name, Opcode, ParsedName, Rtype};
 use std::alloc::{AllocError, Global};
-use zone_octets::record::ANY;
+use zone_records::record::ANY;
 
 /// A query for the transfer of a zone (RFC 5936 2.1): the values that an answer depends on.
 #[derive(Debug, Drop)]

@@ -17,9 +17,9 @@ use Rattle.dns_name.specs.UnknownText.{unknown_words}
 use Rattle.dns_message.specs.Held.{record_of}
 use Rattle.dns_message.specs.Printed.{IsDocument, ShowsData}
 use Rattle.dns_message.specs.Printed.ShowsData.{fields, untold}
-use Rattle.zone_octets.specs.Record.{Record}
-use Rattle.zone_octets.specs.Typed.{HasFieldsOfType}
-use Rattle.zone_octets.proofs.Each.{all_append}
+use Rattle.zone_records.specs.Record.{Record}
+use Rattle.zone_records.specs.Typed.{HasFieldsOfType}
+use Rattle.zone_records.proofs.Each.{all_append}
 use Rattle.zone_print.specs.Printing.{AddsRecord}
 
 -- data in fields shows them, and unknown data its octets

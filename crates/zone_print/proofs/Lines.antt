@@ -4,8 +4,8 @@ use Rattle.std.specs.Prelude.{slice_get}
 use Rattle.std.proofs.lemmas.List.{take_all}
 use Rattle.dns_text.specs.Document.{Layout, document_text}
 use Rattle.dns_text.specs.Document.Piece.{Newline}
-use Rattle.zone_octets.specs.Record.{Record}
-use Rattle.zone_octets.proofs.Indexed.{take-next}
+use Rattle.zone_records.specs.Record.{Record}
+use Rattle.zone_records.proofs.Indexed.{take-next}
 use Rattle.zone_print.specs.Printing.{AddsRecord}
 use Rattle.zone_rules.specs.Printed.{IsPrinted}
 use Rattle.zone_rules.specs.Printed.IsPrinted.{none, more}

@@ -3,7 +3,7 @@ use Rattle.std.specs.Prelude.{◌≡◌, ℕ, List, [], ◌∷◌, ◌++◌}
 use Rattle.dns_text.specs.Document.{Layout, Piece, document_text}
 use Rattle.dns_text.specs.Document.Piece.{Newline}
 use Rattle.dns_message.specs.Printed.{IsDocument}
-use Rattle.zone_octets.specs.Record.{Record}
+use Rattle.zone_records.specs.Record.{Record}
 
 -- the new text is the old one, the record's document and a line end
 pub record AddsRecord (layout : Layout) (r : Record) (old new : List ℕ) : Type 0 where

@@ -2,15 +2,15 @@
 ghost use Rattle.std.specs.Prelude.{IfOk, OnOk, string_bytes};
 ghost use Rattle.std.specs.List.{AllByRecursion};
 ghost use Rattle.dns_text.specs.Layout.{layout_of};
-ghost use Rattle.zone_octets.specs.Typed.{HasLawfulData};
+ghost use Rattle.zone_records.specs.Typed.{HasLawfulData};
 ghost use Rattle.zone_print.specs.Printing.{AddsRecord};
 ghost use Rattle.zone_rules.specs.Printed.{IsPrinted};
 
 use dns_text::{DisplayKind, ZonefileFmt};
 use std::alloc::{AllocError, Global};
-use zone_octets::record::Record;
-use zone_octets::record_list::RecordList;
-use zone_octets::typed::typed_record;
+use zone_records::record::Record;
+use zone_records::record_list::RecordList;
+use zone_records::typed::typed_record;
 
 /// Returns the text of the records in the layout, one after another, each followed by a line feed.
 ///

@@ -9,18 +9,18 @@ use Rattle.dns_rdata.specs.Fields.Kind.{Compressible, Number32}
 use Rattle.dns_rdata.specs.Fields.IsData.{typed, unknown}
 use Rattle.dns_header.specs.Header.{is_response, opcode_of, rcode_of, question_count, authority_count, additional_count, id_of}
 use Rattle.dns_header.specs.Question.{Question}
-use Rattle.zone_octets.specs.Record.{Record}
-use Rattle.zone_octets.specs.Typed.{HasLawfulData}
-use Rattle.zone_octets.specs.Zone.{IsUnder, soa_type, axfr_type}
+use Rattle.zone_records.specs.Record.{Record}
+use Rattle.zone_records.specs.Typed.{HasLawfulData}
+use Rattle.zone_records.specs.Zone.{IsUnder, soa_type, axfr_type}
 use Rattle.zone_core.specs.Query.{AxfrQuery}
 use Rattle.zone_core.specs.Transfer.{AsksAgain, CountsAnswers, IsQuestionOf}
-use Rattle.zone_octets.specs.Records.{SameSoa}
+use Rattle.zone_records.specs.Records.{SameSoa}
 use Rattle.zone_receive.specs.Receiving.{IsOpen, IsClosed, KeepsFirstRule, KeepsLastRule}
 use Rattle.zone_receive.specs.declared.error.ReceiveError.{ReceiveError}
-use Rattle.zone_octets.proofs.Decided.{Decided, decided_names, decided_end}
-use Rattle.zone_octets.proofs.RowFronts.{row_one, are_plain, ArePlain, lowered_decided}
+use Rattle.zone_records.proofs.Decided.{Decided, decided_names, decided_end}
+use Rattle.zone_records.proofs.RowFronts.{row_one, are_plain, ArePlain, lowered_decided}
 use Rattle.dns_message.proofs.DecidedRecords.{HasSomeQuestion, question_decided, question_one}
-use Rattle.zone_octets.proofs.SpellableData.{spellable_decided}
+use Rattle.zone_records.proofs.SpellableData.{spellable_decided}
 use Rattle.zone_receive.proofs.LawfulRecords.{IsLawful, closed_not_open, lawful_record}
 use Rattle.zone_receive.proofs.MessageFaults.{record_rules, head_rules}
 use Rattle.zone_core.proofs.OrderedRules.{Rules, FirstBroken, AllKept}

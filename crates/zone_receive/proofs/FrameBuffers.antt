@@ -3,8 +3,8 @@ use Rattle.std.proofs.Common.{◌≡◌, ℕ, ◌+◌, ◌-◌, ◌≤◌, Bool,
 use Rattle.std.proofs.Math.Seq.{take-add}
 use Rattle.std.proofs.lemmas.List.{take-append-drop}
 use Rattle.std.specs.List.{AllByRecursion}
-use Rattle.zone_octets.specs.Record.{Record}
-use Rattle.zone_octets.specs.Records.{IsRecordOf}
+use Rattle.zone_records.specs.Record.{Record}
+use Rattle.zone_records.specs.Records.{IsRecordOf}
 use Rattle.zone_core.specs.Query.{AxfrQuery}
 use Rattle.zone_core.specs.Frames.{frames, IsPartial}
 use Rattle.zone_core.specs.Transfer.{IsTransfer}

@@ -3,8 +3,8 @@ use Rattle.std.proofs.Common.{◌≡◌, ◌≢◌, ℕ, ◌+◌, ◌<◌, ◌�
 use Rattle.std.specs.List.{AllByRecursion}
 use Rattle.std.proofs.lemmas.Bool.{cases_lt, cases_eq}
 use Rattle.dns_header.specs.Header.{answer_count}
-use Rattle.zone_octets.specs.Record.{Record}
-use Rattle.zone_octets.specs.Zone.{soa_type}
+use Rattle.zone_records.specs.Record.{Record}
+use Rattle.zone_records.specs.Zone.{soa_type}
 use Rattle.zone_core.specs.Query.{AxfrQuery}
 use Rattle.dns_message.specs.Record.{ReadsRecord}
 use Rattle.zone_core.specs.Transfer.{IsInZoneOf, SpellsRecords, HasAnswerHeader, IsAnswer}
@@ -12,15 +12,15 @@ use Rattle.zone_core.specs.Transfer.SpellsRecords.{none}
 use Rattle.zone_receive.specs.Receiving.{IsOpen, IsClosed, KeepsRulesTo, IsMessageFault}
 use Rattle.zone_receive.specs.declared.error.ReceiveError.{ReceiveError}
 use Rattle.zone_receive.specs.declared.error.ReceiveError.TheVariants as receive_error
-use Rattle.zone_octets.proofs.Each.{all_append}
-use Rattle.zone_octets.proofs.OctetFronts.{AreOctets}
+use Rattle.zone_records.proofs.Each.{all_append}
+use Rattle.zone_records.proofs.OctetFronts.{AreOctets}
 use Rattle.zone_receive.proofs.SpelledRecords.{spelled_push}
 use Rattle.zone_receive.proofs.LawfulRecords.{IsLawful, closed_not_open}
 use Rattle.zone_receive.proofs.MessageFaults.{record_rules, head_rules}
 use Rattle.zone_core.proofs.OrderedRules.{FirstBroken, AllKept}
 use Rattle.dns_message.proofs.DecidedRecords.{record_decided}
 use Rattle.zone_receive.proofs.SpelledRecords.{read_has_data}
-use Rattle.zone_octets.specs.Typed.{HasLawfulData}
+use Rattle.zone_records.specs.Typed.{HasLawfulData}
 use Rattle.zone_receive.proofs.DecidedRules.{judged, record_rules_decided, head_rules_decided}
 
 -- the verdict on a message, given the records before it

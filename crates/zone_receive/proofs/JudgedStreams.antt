@@ -4,7 +4,7 @@ use Rattle.std.specs.Int.{to_be_bytes, from_be_bytes, w16}
 use Rattle.std.specs.List.{AllByRecursion}
 use Rattle.std.proofs.lemmas.Bool.{cases_lt}
 use Rattle.std.proofs.lemmas.Nat.{be_bytes_2}
-use Rattle.zone_octets.specs.Record.{Record}
+use Rattle.zone_records.specs.Record.{Record}
 use Rattle.zone_core.specs.Query.{AxfrQuery}
 use Rattle.zone_core.specs.Frames.{frame, frames, IsFramable, IsPartial}
 use Rattle.zone_core.specs.Cutting.{joined}
@@ -13,13 +13,13 @@ use Rattle.zone_receive.specs.Receiving.{IsOpen, IsClosed, IsBegun, IsMessageFau
 use Rattle.zone_receive.specs.declared.error.ReceiveError.{ReceiveError}
 use Rattle.zone_core.proofs.Splits.{two_splits}
 use Rattle.zone_core.proofs.Splits.Compared.{same, longer, shorter}
-use Rattle.zone_octets.proofs.Each.{all_append}
+use Rattle.zone_records.proofs.Each.{all_append}
 use Rattle.zone_receive.proofs.AnswerGroups.{answers_push, first_of_stream, joined_push}
 use Rattle.zone_receive.proofs.FrontFrames.{frames_more}
 use Rattle.zone_receive.proofs.LawfulRecords.{closed_not_open}
 use Rattle.dns_message.proofs.Numbers.{octet_at}
-use Rattle.zone_octets.proofs.OctetFronts.{AreOctets, front_of, octets_front, octets_behind}
-use Rattle.zone_octets.specs.Typed.{HasLawfulData}
+use Rattle.zone_records.proofs.OctetFronts.{AreOctets, front_of, octets_front, octets_behind}
+use Rattle.zone_records.specs.Typed.{HasLawfulData}
 use Rattle.zone_receive.proofs.JudgedMessages.{message_judged}
 use Rattle.zone_receive.proofs.JudgedMessages.Verdict.{at_fault, answers}
 

@@ -4,8 +4,8 @@ use Rattle.std.proofs.lemmas.List.{same_from_push}
 use Rattle.std.specs.Prelude.{Result, Ok, Err, IfOk, IfErr, OnOk}
 use Rattle.std.specs.Bool.{OnTrue, OnFalse}
 use Rattle.std.specs.List.{AllByRecursion, push}
-use Rattle.zone_octets.specs.Record.{Record}
-use Rattle.zone_octets.specs.Records.{IsRecordOf}
+use Rattle.zone_records.specs.Record.{Record}
+use Rattle.zone_records.specs.Records.{IsRecordOf}
 use Rattle.zone_core.specs.Query.{AxfrQuery}
 use Rattle.zone_core.specs.Frames.{frame, frames, IsFramable, IsPartial}
 use Rattle.zone_core.specs.Cutting.{joined}
@@ -18,7 +18,7 @@ use Rattle.zone_receive.specs.declared.frame_buffer.FrameBuffer.{FrameBuffer}
 use Rattle.zone_core.specs.declared.query_error.QueryError.{QueryError}
 use Rattle.zone_receive.specs.declared.error.ReceiveError.{ReceiveError}
 use Rattle.zone_receive.specs.declared.error.ReceiveError.TheVariants as receive_error
-use Rattle.zone_octets.proofs.Each.{all_append}
+use Rattle.zone_records.proofs.Each.{all_append}
 use Rattle.zone_receive.proofs.LawfulRecords.{closed_not_open}
 use Rattle.zone_core.proofs.Framing.{frames_push}
 use Rattle.zone_receive.proofs.AnswerGroups.{answers_push, first_of_stream, joined_push}

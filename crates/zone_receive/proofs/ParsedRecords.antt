@@ -10,10 +10,10 @@ use Rattle.dns_rdata.specs.declared.zone_record_data.ZoneRecordData.{ZoneRecordD
 use Rattle.dns_message.specs.Held.{record_of}
 use Rattle.dns_message.specs.Record.{ReadsRecord}
 use Rattle.dns_message.proofs.HeldRecords.{item_taken, item_read, read_taken, taken_read}
-use Rattle.zone_octets.specs.Record.{Record}
-use Rattle.zone_octets.specs.Records.{AreOctets}
-use Rattle.zone_octets.specs.Typed.{seen_of}
-use Rattle.zone_octets.proofs.ReadData.{value_of_read}
+use Rattle.zone_records.specs.Record.{Record}
+use Rattle.zone_records.specs.Records.{AreOctets}
+use Rattle.zone_records.specs.Typed.{seen_of}
+use Rattle.zone_records.proofs.ReadData.{value_of_read}
 
 -- if nothing is parsed, no record is there
 pub none_whole : (message : List ℕ) (place : ℕ) → NoWhole message place → (r : Record) (next : ℕ) → ReadsRecord message place r next → ⊥

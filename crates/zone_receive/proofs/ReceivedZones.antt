@@ -2,8 +2,8 @@
 use Rattle.std.proofs.Common.{◌≡◌, ◌≢◌, List, [], ◌∷◌, ◌++◌, sym, ap, ◌∙◌}
 use Rattle.std.specs.List.{AllByRecursion}
 use Rattle.dns_label.specs.Name.{low}
-use Rattle.zone_octets.specs.Record.{Record}
-use Rattle.zone_octets.specs.Zone.{IsBehindSoa, IsZone, soa_type}
+use Rattle.zone_records.specs.Record.{Record}
+use Rattle.zone_records.specs.Zone.{IsBehindSoa, IsZone, soa_type}
 use Rattle.zone_core.specs.Query.{AxfrQuery}
 use Rattle.zone_core.specs.Transfer.{IsInZoneOf, IsTransferred}
 

@@ -8,18 +8,18 @@ use Rattle.dns_rdata.specs.Fields.{IsData}
 use Rattle.dns_rdata.specs.DataOctets.{IsSpellable}
 use Rattle.dns_message.specs.Record.{IsRecord, record_octets}
 use Rattle.dns_message.proofs.Spellable.{spellable_unless_caa}
-use Rattle.zone_octets.specs.Record.{Record}
-use Rattle.zone_octets.specs.Zone.{soa_type}
+use Rattle.zone_records.specs.Record.{Record}
+use Rattle.zone_records.specs.Zone.{soa_type}
 use Rattle.zone_core.specs.Query.{AxfrQuery}
-use Rattle.zone_octets.specs.Records.{AreOctets, IsRecordOf, SameSoa}
+use Rattle.zone_records.specs.Records.{AreOctets, IsRecordOf, SameSoa}
 use Rattle.zone_core.specs.Transfer.{IsInZoneOf, IsTransferred, ClosesTransfer}
 use Rattle.zone_receive.specs.Receiving.{IsOpen, IsClosed, KeepsFirstRule, KeepsLastRule}
 use Rattle.zone_receive.specs.FrameBuffer.{HoldsFront, IsNext, HasRole}
 use Rattle.zone_receive.specs.FrameBuffer.HoldsFront.{begun, ended}
 use Rattle.zone_receive.specs.declared.rules.RecordRole.{RecordRole}
 use Rattle.zone_receive.specs.declared.rules.RecordRole.TheVariants.{Inner, Last}
-use Rattle.zone_octets.proofs.Each.{all_append}
-use Rattle.zone_octets.proofs.RecordOctets.{octets_of_record}
+use Rattle.zone_records.proofs.Each.{all_append}
+use Rattle.zone_records.proofs.RecordOctets.{octets_of_record}
 use Rattle.zone_receive.proofs.LawfulRecords.{closed_not_open}
 
 -- whether a record is held

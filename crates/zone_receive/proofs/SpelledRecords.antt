@@ -1,7 +1,7 @@
 -- A message spells one list of records of a given length from a place on.
 use Rattle.std.proofs.Common.{◌≡◌, ℕ, ◌<◌, List, [], ◌∷◌, ◌++◌, length, refl, sym, subst, arith}
 use Rattle.dns_message.proofs.ReadRecords.{record_one}
-use Rattle.zone_octets.specs.Record.{Record}
+use Rattle.zone_records.specs.Record.{Record}
 use Rattle.dns_rdata.specs.Fields.{IsData}
 use Rattle.dns_rdata.specs.Fields.IsData.{typed as in_fields, unknown as untold}
 use Rattle.dns_name.specs.Page.{Parts}

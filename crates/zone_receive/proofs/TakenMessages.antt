@@ -4,7 +4,7 @@ use Rattle.std.specs.List.{push}
 use Rattle.dns_octets.specs.declared.parser.Parser.{Parser}
 use Rattle.dns_octets.specs.Parser.{octets_of, place_of}
 use Rattle.dns_header.specs.Header.{answer_count}
-use Rattle.zone_octets.specs.Record.{Record}
+use Rattle.zone_records.specs.Record.{Record}
 use Rattle.zone_core.specs.Query.{AxfrQuery}
 use Rattle.dns_message.specs.Record.{ReadsRecord}
 use Rattle.zone_core.specs.Transfer.{AsksAgain, HasAnswerHeader, SpellsRecords}

@@ -2,8 +2,8 @@
 use Rattle.std.proofs.Common.{◌≡◌, ℕ, ◌+◌, ◌-◌, Bool, true, false, List, [], ◌∷◌, length, take, refl, sym, ap, ◌∙◌, subst, arith, length-append}
 use mir.Val.{bool_byte}
 use Rattle.std.specs.List.{push}
-use Rattle.zone_octets.specs.Record.{Record}
-use Rattle.zone_octets.proofs.StoredRecords.{take_before_last}
+use Rattle.zone_records.specs.Record.{Record}
+use Rattle.zone_records.proofs.StoredRecords.{take_before_last}
 use Rattle.zone_core.specs.Query.{AxfrQuery}
 use Rattle.dns_message.specs.Record.{ReadsRecord}
 use Rattle.zone_core.specs.Transfer.{IsTransferred, ClosesTransfer}

@@ -8,7 +8,7 @@ use Rattle.dns_rdata.specs.Fields.IsData.{typed}
 use Rattle.dns_message.specs.Record.{ReadsRecord}
 use Rattle.dns_message.proofs.AsWritten.{plain_read}
 use Rattle.dns_message.proofs.Spellable.{spellable_unless_caa}
-use Rattle.zone_octets.specs.Record.{Record}
+use Rattle.zone_records.specs.Record.{Record}
 use Rattle.zone_core.specs.Frames.{frame}
 use Rattle.zone_core.specs.Query.{AxfrQuery}
 use Rattle.zone_core.specs.Transfer.{IsAnswer}

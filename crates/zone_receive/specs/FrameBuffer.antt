@@ -2,10 +2,10 @@
 use Rattle.std.specs.Prelude.{◌≡◌, ◌+◌, ◌<◌, ◌≤◌, ℕ, Bool, true, false, List, [], ◌++◌, length, take, ⊤}
 use Rattle.std.specs.List.{AllByRecursion, push}
 use Rattle.dns_rdata.specs.Fields.{IsData}
-use Rattle.zone_octets.specs.Record as spec
+use Rattle.zone_records.specs.Record as spec
 use Rattle.zone_core.specs.Query.{AxfrQuery}
 use Rattle.zone_core.specs.Frames.{frame, IsFramable}
-use Rattle.zone_octets.specs.Records.{IsRecordOf}
+use Rattle.zone_records.specs.Records.{IsRecordOf}
 use Rattle.dns_message.specs.Record.{ReadsRecord}
 use Rattle.zone_core.specs.Transfer.{IsAnswer, IsTransferred, ClosesTransfer, IsTransfer}
 use Rattle.zone_receive.specs.Receiving.{Heard, IsHeard, IsOpen, IsStreamFault, Stage}

@@ -1,6 +1,6 @@
 -- How far a receiver has come. Only the receiver itself uses it.
 use Rattle.std.specs.Prelude.{◌≢◌, Bool, ⊤}
-use Rattle.zone_octets.specs.Zone.{any_class}
+use Rattle.zone_records.specs.Zone.{any_class}
 use Rattle.zone_core.specs.Query.{AxfrQuery}
 use Rattle.zone_receive.specs.Receiving.{Heard, Stage}
 use Rattle.zone_receive.specs.Receiving.Stage.{Ended, Refused}

@@ -4,15 +4,15 @@ use Rattle.std.specs.Prelude.{◌≡◌, ◌≢◌, ◌+◌, ◌<◌, ◌≤◌,
 use Rattle.std.specs.List.{AllByRecursion, push}
 use Rattle.dns_label.specs.Name.{low}
 use Rattle.dns_header.specs.Header.{is_response, opcode_of, rcode_of, answer_count, id_of}
-use Rattle.zone_octets.specs.Record.{Record}
+use Rattle.zone_records.specs.Record.{Record}
 use Rattle.dns_rdata.specs.DataOctets.{IsSpellable}
-use Rattle.zone_octets.specs.Zone.{IsUnder, soa_type}
+use Rattle.zone_records.specs.Zone.{IsUnder, soa_type}
 use Rattle.zone_core.specs.Query.{AxfrQuery, IsQuery, IsQueryFault}
 use Rattle.zone_core.specs.Frames.{frame, frames, IsFramable, Splits}
 use Rattle.zone_core.specs.Cutting.{joined}
 use Rattle.dns_message.specs.Record.{ReadsRecord}
 use Rattle.zone_core.specs.Transfer.{AsksAgain, SpellsRecords, CountsAnswers, HasAnswerHeader, AreAnswers, IsTransferred, ClosesTransfer, IsTransfer}
-use Rattle.zone_octets.specs.Records.{SameSoa}
+use Rattle.zone_records.specs.Records.{SameSoa}
 use Rattle.zone_receive.specs.declared.error.ReceiveError.{ReceiveError}
 use Rattle.zone_receive.specs.declared.error.ReceiveError.TheVariants as receive_error
 

@@ -7,7 +7,7 @@ use crate::open_frame::missing;
 use crate::owned_query::OwnedQuery;
 use std::alloc::Global;
 use zone_core::frames::LENGTH_OCTETS;
-use zone_octets::record_list::RecordList;
+use zone_records::record_list::RecordList;
 
 /// What is kept of a stream after its whole messages are judged.
 #[derive(Debug, Drop)]

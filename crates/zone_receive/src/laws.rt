@@ -2,7 +2,7 @@
 
 ghost use Rattle.std.specs.Prelude.{◌≡◌, ◌++◌, ◌⊎◌, ℕ, List};
 ghost use Rattle.dns_label.specs.Octets.{AreOctets};
-ghost use Rattle.zone_octets.specs.Record.{Record};
+ghost use Rattle.zone_records.specs.Record.{Record};
 ghost use Rattle.zone_core.specs.Query.{AxfrQuery};
 ghost use Rattle.zone_receive.specs.Receiving.{IsBegun, HasBadMessage};
 ghost use Rattle.zone_core.specs.Transfer.{IsTransfer};

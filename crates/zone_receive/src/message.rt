@@ -3,9 +3,9 @@ ghost use Rattle.std.specs.Prelude.{◌≡◌, ◌+◌, ◌++◌, ◌∷◌, [],
 ghost use Rattle.std.specs.List.{AllByRecursion};
 ghost use Rattle.dns_octets.specs.Parser.{octets_of, place_of};
 ghost use Rattle.dns_header.specs.Header.{answer_count, question_count};
-ghost use Rattle.zone_octets.specs.Record as spec;
+ghost use Rattle.zone_records.specs.Record as spec;
 ghost use Rattle.zone_receive.specs.Asked.{asked_of};
-ghost use Rattle.zone_octets.specs.Records.{AreOctets, IsRecordOf};
+ghost use Rattle.zone_records.specs.Records.{AreOctets, IsRecordOf};
 ghost use Rattle.zone_core.specs.Transfer.{AsksAgain, CountsAnswers, HasAnswerHeader};
 ghost use Rattle.zone_receive.specs.Receiving.{IsOpen, IsMessageFault, IsRecordFault};
 ghost use Rattle.zone_receive.specs.FrameBuffer.{HoldsFront, IsFaultOr, TakesMessage, TakesRecord};
@@ -18,7 +18,7 @@ use crate::rules::{RecordRole, judge_record};
 use dns_message::{Header, HeaderCounts};
 use dns_name::{Opcode, Parser, Rcode};
 use zone_core::question::{HEADER_OCTETS, parse_question};
-use zone_octets::record_list::RecordList;
+use zone_records::record_list::RecordList;
 
 /// Judges a message that follows others with these records, and adds its own to them. Returns true if it has the last
 /// SOA, which is not added. Fails with the first rule that the message breaks, or if out of memory.

@@ -12,9 +12,9 @@ use crate::frame_buffer::FrameBuffer;
 use crate::owned_query::OwnedQuery;
 use std::alloc::Global;
 use std::marker::Model;
+use zone::Zone;
+use zone::zone::zone_of;
 use zone_core::check_query;
-use zone_text::Zone;
-use zone_text::zone::zone_of;
 
 /// How far a stream has come.
 #[derive(Clone, Copy, Debug)]

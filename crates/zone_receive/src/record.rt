@@ -5,13 +5,13 @@ ghost use Rattle.dns_name.specs.ParsedName.{labels_of};
 ghost use Rattle.dns_header.specs.Record.{with_labels};
 ghost use Rattle.dns_message.specs.Held.{record_of};
 ghost use Rattle.dns_message.specs.Record.{ReadsRecord};
-ghost use Rattle.zone_octets.specs.Record as spec;
-ghost use Rattle.zone_octets.specs.Records.{AreOctets};
-ghost use Rattle.zone_octets.specs.Typed.{seen_of};
+ghost use Rattle.zone_records.specs.Record as spec;
+ghost use Rattle.zone_records.specs.Records.{AreOctets};
+ghost use Rattle.zone_records.specs.Typed.{seen_of};
 
 use dns_message::ParsedRecord;
 use dns_name::{ParseError, Parser};
-use zone_octets::record_list::MessageRecord;
+use zone_records::record_list::MessageRecord;
 
 /// Parses the record at the parser's place, and moves the parser after it. Its names may have pointers (RFC 1035
 /// 4.1.4). Fails if no record is there.

@@ -1,20 +1,20 @@
 //! The rules that the records of a transfer keep, one after another.
 ghost use Rattle.std.specs.Prelude.{◌≡◌, ◌+◌, ◌↔◌, [], ℕ, List, false, length, IsTrue, IfOk, IfErr, OnOk};
 ghost use Rattle.std.specs.List.{AllByRecursion, push};
-ghost use Rattle.zone_octets.specs.Record as spec;
+ghost use Rattle.zone_records.specs.Record as spec;
 ghost use Rattle.zone_receive.specs.Asked.{asked_of};
-ghost use Rattle.zone_octets.specs.Records.{IsRecordOf};
+ghost use Rattle.zone_records.specs.Records.{IsRecordOf};
 ghost use Rattle.dns_message.specs.Record.{ReadsRecord};
 ghost use Rattle.zone_receive.specs.Receiving.{IsRecordFault, KeepsFirstRule};
 ghost use Rattle.zone_receive.specs.FrameBuffer.{HoldsFront, IsNext, HasRole};
 
 use crate::error::ReceiveError;
 use crate::owned_query::OwnedQuery;
-use zone_octets::checks::is_spellable;
-use zone_octets::octets::are_octets;
-use zone_octets::record::Record;
-use zone_octets::record_data::is_same_soa;
-use zone_octets::record_list::RecordList;
+use zone_records::checks::is_spellable;
+use zone_records::octets::are_octets;
+use zone_records::record::Record;
+use zone_records::record_data::is_same_soa;
+use zone_records::record_list::RecordList;
 
 /// What a record is in a transfer.
 #[derive(Clone, Copy, Debug, PartialEq, Eq)]

@@ -17,7 +17,7 @@ use Rattle.dns_text.specs.DocumentRows.{WritesToken}
 use Rattle.dns_fields.specs.Fields.Field.{compressible}
 use Rattle.dns_fields.proofs.PrintedTexts.{IsSafe, bare_token}
 use Rattle.dns_fields.proofs.PrintedTokens.{row_has_tokens}
-use Rattle.zone_octets.proofs.Each.{all_append}
+use Rattle.zone_records.proofs.Each.{all_append}
 
 -- a word that begins with no digit, and whose characters stand for themselves
 pub record IsHeadText (text : List ℕ) : Type 0 where

@@ -5,7 +5,7 @@ use Rattle.dns_header.specs.Record.{RecordOf}
 use Rattle.dns_scan.specs.Token.{Token}
 use Rattle.dns_text.specs.Rows.{BeginsWithRows, TokenRow, is_led}
 use Rattle.dns_text.specs.Tokens.{Row, is_end}
-use Rattle.dns_tokens.proofs.Rows.{row_shorter}
+use Rattle.dns_entry_scanner.proofs.Rows.{row_shorter}
 use Rattle.dns_rdata.specs.Data.{Data}
 use Rattle.dns_rdata.specs.Fields.{IsData}
 use Rattle.dns_message.specs.Held.{record_of}
@@ -13,9 +13,9 @@ use Rattle.dns_zonefile.specs.Entries.{AreEntries, HasEntries, IsRefusedAfter, r
 use Rattle.dns_zonefile.specs.Entry.{Context, Entry, IsEntry}
 use Rattle.dns_zonefile.specs.Entry.Entry.{Directive, Include, Resource}
 use Rattle.dns_zonefile.proofs.Going.{are-on, begins-on}
-use Rattle.zone_octets.specs.Record.{Record}
-use Rattle.zone_octets.specs.Zone.{IsBehindSoa, IsZoneFront, any_class, soa_type}
-use Rattle.zone_octets.proofs.Each.{all_append}
+use Rattle.zone_records.specs.Record.{Record}
+use Rattle.zone_records.specs.Zone.{IsBehindSoa, IsZoneFront, any_class, soa_type}
+use Rattle.zone_records.proofs.Each.{all_append}
 use Rattle.zone_rules.specs.ZoneText.{IsZoneFault, IsZoneText, KeepRules, MayFollow, Reaches, ReachesRecord, records_in, start_of}
 use Rattle.zone_rules.specs.declared.zone_error.ZoneError.{ZoneError}
 use Rattle.zone_rules.specs.declared.zone_error.ZoneError.TheVariants as zone_error
@@ -28,7 +28,7 @@ record StandsBehind (start : Context) (given : List ℕ) (before : List Entry) (
   pub are : AreEntries start rows before after
 
 abbrev row_at : List ℕ → List Token → TokenRow
-row_at text tokens = record { led = is_led text; tokens = tokens }
+row_at text tokens = record { blank_led = is_led text; tokens = tokens }
 
 behind_bare : {start after : Context} {given rest behind : List ℕ} {before : List Entry} → StandsBehind start given before after rest
     → Row false rest [] behind → StandsBehind start given before after behind

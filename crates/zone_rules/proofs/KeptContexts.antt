@@ -10,8 +10,8 @@ use Rattle.dns_text.specs.Rows.{TokenRow}
 use Rattle.dns_header.specs.Record.{RecordOf}
 use Rattle.dns_rdata.specs.Fields.{IsRow}
 use Rattle.dns_rdata.specs.Data.{Data, typed, unknown_data, number_of, ScansAnyData}
-use Rattle.dns_row_scanner.specs.NameInText.{SpellsUnder}
-use Rattle.dns_row_scanner.specs.NameInText.SpellsUnder.{at, absolute, relative}
+use Rattle.dns_entry_scanner.specs.NameInText.{SpellsUnder}
+use Rattle.dns_entry_scanner.specs.NameInText.SpellsUnder.{at, absolute, relative}
 use Rattle.dns_zonefile.specs.Statement.{Directs, Says, Stated, StatesRecord, Statement}
 use Rattle.dns_zonefile.specs.Statement.Statement.{SetOrigin, StateRecord}
 use Rattle.dns_zonefile.specs.Entry.{Context, Entry, Enters}

@@ -7,9 +7,9 @@ use Rattle.dns_message.specs.Held.{record_of}
 use Rattle.dns_zonefile.specs.Entry.{Entry}
 use Rattle.dns_zonefile.specs.Entry.Entry.{Directive, Include, Resource}
 use Rattle.dns_zonefile.specs.Reader.{AreDirectives}
-use Rattle.zone_octets.specs.Record.{Record}
-use Rattle.zone_octets.specs.Zone.{IsBehindSoa, IsZoneFront}
-use Rattle.zone_octets.proofs.Each.{all_append, all_fronts}
+use Rattle.zone_records.specs.Record.{Record}
+use Rattle.zone_records.specs.Zone.{IsBehindSoa, IsZoneFront}
+use Rattle.zone_records.proofs.Each.{all_append, all_fronts}
 use Rattle.zone_rules.specs.ZoneText.{IsWellTyped, KeepRules, MayFollow, NamesNoFile, records_in}
 
 -- the records of entries

@@ -10,9 +10,9 @@ use Rattle.dns_zonefile.specs.Entries.{HasEntries, IsRefusedAfter, refused_numbe
 use Rattle.dns_zonefile.specs.Entry.{Context, Entry}
 use Rattle.dns_zonefile.specs.Entry.Entry.{Directive, Include, Resource}
 use Rattle.dns_zonefile.proofs.OneList.{not_both, refused, whole}
-use Rattle.zone_octets.specs.Record.{Record}
-use Rattle.zone_octets.specs.Zone.{IsBehindSoa, IsUnder, IsZone, any_class, soa_type}
-use Rattle.zone_octets.proofs.Each.{all_fronts}
+use Rattle.zone_records.specs.Record.{Record}
+use Rattle.zone_records.specs.Zone.{IsBehindSoa, IsUnder, IsZone, any_class, soa_type}
+use Rattle.zone_records.proofs.Each.{all_fronts}
 use Rattle.zone_rules.specs.ZoneText.{IsWellTyped, IsZoneFault, IsZoneText, KeepRules, MayFollow, Reaches, ReachesRecord, records_in, start_of}
 use Rattle.zone_rules.specs.declared.zone_error.ZoneError.{ZoneError}
 use Rattle.zone_rules.specs.declared.zone_error.ZoneError.TheVariants as zone_error

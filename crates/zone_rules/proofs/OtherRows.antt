@@ -11,8 +11,8 @@ use Rattle.dns_zonefile.specs.Entry.Entry.{Directive, Include, Resource}
 use Rattle.dns_zonefile.proofs.OneEntry.{entry_has_tokens, one_entry}
 use Rattle.dns_zonefile.proofs.RowFronts.{all_rows}
 use Rattle.dns_message.specs.Held.{record_of}
-use Rattle.zone_octets.specs.Record.{Record}
-use Rattle.zone_octets.specs.Zone.{IsZoneFront}
+use Rattle.zone_records.specs.Record.{Record}
+use Rattle.zone_records.specs.Zone.{IsZoneFront}
 use Rattle.zone_rules.specs.ZoneText.{IsWellTyped, IsZoneText, NamesNoFile, records_in, start_of}
 use Rattle.zone_rules.proofs.UnknownRows.{MakesAs}
 
@@ -47,8 +47,8 @@ kept : {start context after : Context} {rows found : List TokenRow} {entries all
     → (row.tokens ≡ [] → ⊥) → MakesAs context row other → AreEntries start rows entries context → found ≡ rows ++ row ∷ more
     → AreEntries start found all after → Kept start (rows ++ other ∷ more) all after
 kept row other more some makes none is none = absurd cc
-kept row other more some makes none is (bare {led = led} are) =
-    let first : record { led = led; tokens = [] } ≡ row = cc in absurd (some (sym (ap (λ (r : TokenRow). r.tokens) first)))
+kept row other more some makes none is (bare {blank_led = blank_led} are) =
+    let first : record { blank_led = blank_led; tokens = [] } ≡ row = cc in absurd (some (sym (ap (λ (r : TokenRow). r.tokens) first)))
 kept {context = context} {after = after} row other more some makes none is (entry {next = next} {row = row'} {rows = rows} {entry = found} {entries = all} has are) =
     let first : row' ≡ row = cc in
     let behind : rows ≡ more = cc in
@@ -64,11 +64,11 @@ kept row other more some makes (bare {rows = rows} begins) is (bare {rows = rows
     let behind : rows' ≡ rows ++ row ∷ more = cc in
     let rest = kept row other more some makes begins behind are in
     record { entries = rest.entries; are = bare rest.are; records_are = rest.records_are; one_file = rest.one_file }
-kept row other more some makes (bare {led = led} begins) is (entry {row = row'} has are) =
-    let first : row' ≡ record { led = led; tokens = [] } = cc in absurd (entry_has_tokens has (ap (λ (r : TokenRow). r.tokens) first))
+kept row other more some makes (bare {blank_led = blank_led} begins) is (entry {row = row'} has are) =
+    let first : row' ≡ record { blank_led = blank_led; tokens = [] } = cc in absurd (entry_has_tokens has (ap (λ (r : TokenRow). r.tokens) first))
 kept row other more some makes (entry has begins) is none = absurd cc
-kept row other more some makes (entry {row = row'} has begins) is (bare {led = led} are) =
-    let first : record { led = led; tokens = [] } ≡ row' = cc in
+kept row other more some makes (entry {row = row'} has begins) is (bare {blank_led = blank_led} are) =
+    let first : record { blank_led = blank_led; tokens = [] } ≡ row' = cc in
     absurd (entry_has_tokens has (sym (ap (λ (r : TokenRow). r.tokens) first)))
 kept row other more some makes (entry {row = row'} {rows = rows} has begins) is (entry {row = row''} {rows = rows'} has' are) =
     let first : row'' ≡ row' = cc in

@@ -11,8 +11,8 @@ use Rattle.dns_rdata.specs.Fields.IsData.{typed as of_fields, unknown}
 use Rattle.dns_rdata.proofs.ComposedRows.{same_octets}
 use Rattle.dns_message.specs.Printed.{IsDocument, ShowsData}
 use Rattle.dns_message.specs.Printed.ShowsData.{fields, untold}
-use Rattle.zone_octets.specs.Record.{Record}
-use Rattle.zone_octets.specs.Records.{IsRecordOf}
+use Rattle.zone_records.specs.Record.{Record}
+use Rattle.zone_records.specs.Records.{IsRecordOf}
 use Rattle.zone_rules.specs.Printed.{IsPrinted}
 use Rattle.zone_rules.specs.Printed.IsPrinted.{none as no_record, more as more_records}
 

@@ -30,8 +30,8 @@ use Rattle.dns_message.specs.Held.{record_of}
 use Rattle.dns_message.specs.Printed.{IsDocument, ShowsData}
 use Rattle.dns_message.specs.Printed.ShowsData.{fields, untold}
 use Rattle.dns_message.specs.Record.{IsRecord}
-use Rattle.dns_row_scanner.specs.NameInText.{SpellsUnder}
-use Rattle.dns_row_scanner.specs.NameInText.SpellsUnder.{absolute}
+use Rattle.dns_entry_scanner.specs.NameInText.{SpellsUnder}
+use Rattle.dns_entry_scanner.specs.NameInText.SpellsUnder.{absolute}
 use Rattle.dns_zonefile.specs.Entry.{Context, IsEntry}
 use Rattle.dns_zonefile.specs.Entry.Entry.{Resource}
 use Rattle.dns_zonefile.specs.Entry.Enters.{resource as enters_record}
@@ -40,8 +40,8 @@ use Rattle.dns_zonefile.specs.Statement.HasOwner.{own}
 use Rattle.dns_zonefile.specs.Statement.Says.{resource}
 use Rattle.dns_zonefile.specs.Statement.Statement.{StateRecord}
 use Rattle.dns_zonefile.specs.Statement.States.{ttl_class}
-use Rattle.zone_octets.specs.Record.{Record}
-use Rattle.zone_octets.specs.Records.{IsRecordOf}
+use Rattle.zone_records.specs.Record.{Record}
+use Rattle.zone_records.specs.Records.{IsRecordOf}
 use Rattle.zone_rules.proofs.HeadWords.{IsHeadText, class_is_no_type, class_word, name_no_dollar, name_written, type_word}
 
 -- the data that a document shows

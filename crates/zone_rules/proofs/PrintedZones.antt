@@ -14,9 +14,9 @@ use Rattle.dns_zonefile.specs.Entries.{AreEntries}
 use Rattle.dns_zonefile.specs.Entries.AreEntries.{none as no_entries, entry}
 use Rattle.dns_zonefile.specs.Entry.{Context, Entry}
 use Rattle.dns_zonefile.specs.Entry.Entry.{Resource}
-use Rattle.zone_octets.specs.Record.{Record}
-use Rattle.zone_octets.specs.Records.{AreRecordsOf, IsRecordOf}
-use Rattle.zone_octets.specs.Zone.{IsZone, IsZoneFront, any_class}
+use Rattle.zone_records.specs.Record.{Record}
+use Rattle.zone_records.specs.Records.{AreRecordsOf, IsRecordOf}
+use Rattle.zone_records.specs.Zone.{IsZone, IsZoneFront, any_class}
 use Rattle.zone_rules.specs.Printed.{IsPrinted}
 use Rattle.zone_rules.specs.Printed.IsPrinted.{none as no_record, more as more_records}
 use Rattle.zone_rules.specs.ZoneText.{IsWellTyped, IsZoneText, NamesNoFile, records_in, start_of}

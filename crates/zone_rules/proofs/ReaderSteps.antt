@@ -7,8 +7,8 @@ use Rattle.dns_rdata.specs.Data.{Data}
 use Rattle.dns_rdata.specs.DataOctets.{IsSpellable}
 use Rattle.dns_rdata.specs.Fields.{IsData}
 use Rattle.dns_message.specs.Held.{record_of}
-use Rattle.dns_row_scanner.specs.EntryError.{is_memory}
-use Rattle.dns_row_scanner.specs.declared.entry_error.EntryError.{EntryError}
+use Rattle.dns_entry_scanner.specs.EntryError.{is_memory}
+use Rattle.dns_entry_scanner.specs.declared.entry_error.EntryError.{EntryError}
 use Rattle.dns_zonefile.specs.Composed.{HandsOn, included}
 use Rattle.dns_zonefile.specs.Entries.{HasEntries, IsRefusedAfter}
 use Rattle.dns_zonefile.specs.Entry.{Context, Entry}
@@ -22,8 +22,8 @@ use Rattle.dns_zonefile.specs.declared.error.Error.{Error}
 use Rattle.dns_zonefile.specs.declared.zonefile.Zonefile.{Zonefile}
 use Rattle.dns_zonefile.proofs.Going.{goes-nowhere, goes-on}
 use Rattle.dns_zonefile.proofs.GivenEntries.{refused-there}
-use Rattle.zone_octets.specs.Record.{Record}
-use Rattle.zone_octets.specs.Zone.{IsUnder, IsZone, any_class, soa_type}
+use Rattle.zone_records.specs.Record.{Record}
+use Rattle.zone_records.specs.Zone.{IsUnder, IsZone, any_class, soa_type}
 use Rattle.zone_rules.specs.ZoneText.{IsWellTyped, IsZoneFault, IsZoneText, KeepRules, MayFollow, Reaches, ReachesRecord, records_in, start_of}
 use Rattle.zone_rules.specs.declared.zone_error.ZoneError.TheVariants as zone_error
 use Rattle.zone_rules.proofs.KeptRules.{keeps_directives, keeps_record, records_behind, records_push}

@@ -8,7 +8,7 @@ use Rattle.dns_zonefile.specs.Entries.{AreEntries}
 use Rattle.dns_zonefile.specs.Entry.{Context, Enters, Entry}
 use Rattle.dns_zonefile.specs.Entry.Entry.{Directive, Include, Resource}
 use Rattle.dns_zonefile.specs.Statement.{Statement}
-use Rattle.zone_octets.specs.Record.{Record}
+use Rattle.zone_records.specs.Record.{Record}
 use Rattle.zone_rules.specs.ZoneText.{IsZoneText, records_in}
 
 abbrev HasClass : ℕ → Entry → Type 0

@@ -29,8 +29,8 @@ use Rattle.dns_zonefile.specs.Entry.{Context, IsEntry}
 use Rattle.dns_zonefile.specs.Entry.Entry.{Include}
 use Rattle.dns_zonefile.specs.Entry.Enters.{file}
 use Rattle.dns_zonefile.specs.Entries.AreEntries.{none as no_entries, entry}
-use Rattle.zone_octets.specs.Record.{Record}
-use Rattle.zone_octets.specs.Records.{AreRecordsOf}
+use Rattle.zone_records.specs.Record.{Record}
+use Rattle.zone_records.specs.Records.{AreRecordsOf}
 use Rattle.zone_rules.specs.Printed.{IsPrinted}
 use Rattle.zone_rules.specs.Printed.IsPrinted.{none as no_record, more as printed}
 use Rattle.zone_rules.specs.ZoneText.{IsZoneFault, IsZoneText}

@@ -57,7 +57,7 @@ some_form {row = row} {stated = stated} says are =
     (says.head.is ∙ sym (append_assoc says.head.before (says.head.type_token ∷ []) says.data_tokens)) in
     let short : length octets ≤ 65535 = (says_short (resource says)).0 in
     let words = unquoted (decimal (length octets)) ∷ words_of octets in (
-      record { led = row.led; tokens = head.0 ++ marker ∷ words },
+      record { blank_led = row.blank_led; tokens = head.0 ++ marker ∷ words },
       record {
         stated = stated;
         says = says;

@@ -7,7 +7,7 @@ use Rattle.dns_scan.specs.Token.{Token, marker, unquoted}
 use Rattle.dns_text.specs.Rows.{TokenRow}
 use Rattle.dns_rdata.specs.Data.{Data, unknown_data, number_of}
 use Rattle.dns_rdata.specs.DataOctets.{data_octets}
-use Rattle.dns_row_scanner.specs.NameInText.{SpellsUnder}
+use Rattle.dns_entry_scanner.specs.NameInText.{SpellsUnder}
 use Rattle.dns_zonefile.specs.Entry.{Context, Entry, Enters, IsEntry}
 use Rattle.dns_zonefile.specs.Entry.Entry.{Resource}
 use Rattle.dns_zonefile.specs.Entry.Enters.{origin, ttl, file}
@@ -82,14 +82,14 @@ owner_before (own is) = omega arith
 
 owner_stays : {names : Names} {row : TokenRow} {owner : Option (List (List ℕ))} {tokens : List Token} (front head data' other : List Token)
     → HasOwner names row owner tokens → tokens ≡ front ++ data' → row.tokens ≡ head ++ data'
-    → HasOwner names (record { led = row.led; tokens = head ++ other }) owner (front ++ other)
+    → HasOwner names (record { blank_led = row.blank_led; tokens = head ++ other }) owner (front ++ other)
 owner_stays {names} front head data' other last tokens_are row_is =
     let same : head ≡ front = append_cancel_right head front data' (sym row_is ∙ tokens_are) in
-    subst (λ (l : List Token). HasOwner names (record { led = true; tokens = l ++ other }) None (front ++ other)) (sym same) last
+    subst (λ (l : List Token). HasOwner names (record { blank_led = true; tokens = l ++ other }) None (front ++ other)) (sym same) last
 owner_stays {names} {owner = owner} front head data' other (own {text = text} is) tokens_are row_is =
     let same : head ≡ unquoted text ∷ front =
     append_cancel_right head (unquoted text ∷ front) data' (sym row_is ∙ ap (λ (l : List Token). unquoted text ∷ l) tokens_are) in
-    subst (λ (l : List Token). HasOwner names (record { led = false; tokens = l ++ other }) owner (front ++ other)) (sym same) (own is)
+    subst (λ (l : List Token). HasOwner names (record { blank_led = false; tokens = l ++ other }) owner (front ++ other)) (sym same) (own is)
 
 -- the data of the other form
 abbrev pub as_unknown : Data → Data

@@ -3,7 +3,7 @@ use Rattle.std.specs.Prelude.{◌≡◌, ℕ, List, [], ◌∷◌, ◌++◌}
 use Rattle.dns_text.specs.Document.{Layout, Piece, document_text}
 use Rattle.dns_text.specs.Document.Piece.{Newline}
 use Rattle.dns_message.specs.Printed.{IsDocument}
-use Rattle.zone_octets.specs.Record.{Record}
+use Rattle.zone_records.specs.Record.{Record}
 
 -- The text is that of the records' documents, in order, each followed by a line end.
 pub data IsPrinted (layout : Layout) : List Record → List ℕ → Type 0 where

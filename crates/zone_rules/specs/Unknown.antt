@@ -4,7 +4,7 @@ use Rattle.dns_scan.specs.Token.{Token, marker}
 use Rattle.dns_scan.specs.UnknownData.{IsUnknownData}
 use Rattle.dns_text.specs.Rows.{BeginsWithRows, TokenRow}
 use Rattle.dns_rdata.specs.DataOctets.{data_octets}
-use Rattle.dns_row_scanner.specs.NameInText.{SpellsUnder}
+use Rattle.dns_entry_scanner.specs.NameInText.{SpellsUnder}
 use Rattle.dns_zonefile.specs.Entries.{AreEntries}
 use Rattle.dns_zonefile.specs.Entry.{Context, Entry}
 use Rattle.dns_zonefile.specs.Statement.{Names, Stated, StatesRecord}
@@ -18,7 +18,7 @@ pub record IsUnknownForm (names : Names) (row other : TokenRow) : Type 0 where
   pub row_is : row.tokens ≡ head ++ says.data_tokens
   pub words : List Token
   pub words_are : IsUnknownData words (data_octets stated.rdata)
-  pub other_is : other ≡ record { led = row.led; tokens = head ++ marker ∷ words }
+  pub other_is : other ≡ record { blank_led = row.blank_led; tokens = head ++ marker ∷ words }
 
 -- The texts are the same but for one row, which the other has in the form of unknown data.
 pub record HasUnknownRow (start : Context) (text other : List ℕ) : Type 0 where

@@ -10,8 +10,8 @@ use Rattle.dns_message.specs.Held.{record_of}
 use Rattle.dns_zonefile.specs.Entries.{AreEntries, HasEntries, IsRefusedAfter, refused_number}
 use Rattle.dns_zonefile.specs.Entry.{Context, Entry, at_start}
 use Rattle.dns_zonefile.specs.Entry.Entry.{Directive, Include, Resource}
-use Rattle.zone_octets.specs.Record.{Record}
-use Rattle.zone_octets.specs.Zone.{IsUnder, IsZone, IsZoneFront, any_class, soa_type}
+use Rattle.zone_records.specs.Record.{Record}
+use Rattle.zone_records.specs.Zone.{IsUnder, IsZone, IsZoneFront, any_class, soa_type}
 use Rattle.zone_rules.specs.declared.zone_error.ZoneError.{ZoneError}
 use Rattle.zone_rules.specs.declared.zone_error.ZoneError.TheVariants as zone_error
 

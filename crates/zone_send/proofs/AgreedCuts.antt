@@ -2,7 +2,7 @@
 use Rattle.std.proofs.Common.{◌≡◌, ℕ, ◌<◌, ◌≤◌, List, [], ◌∷◌, sym, subst}
 use Rattle.std.specs.Prelude.{IfSome, slice_get}
 use Rattle.std.specs.List.{AllByRecursion, push}
-use Rattle.zone_octets.proofs.Each.{all_fronts, all_append}
+use Rattle.zone_records.proofs.Each.{all_fronts, all_append}
 use Rattle.zone_core.specs.Cutting.{joined, IsFull, IsFullCut, FitsNotBehind, IsBlocked}
 
 module _ {X : Type 0} (P : X → Type 0) (size other : List X → ℕ) (agree : (group : List X) → AllByRecursion P group → size group ≡ other group) (max : ℕ) where

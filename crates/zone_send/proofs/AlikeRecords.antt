@@ -17,12 +17,12 @@ use Rattle.dns_rdata.specs.DataOctets.{IsSpellable}
 use Rattle.dns_rdata.proofs.ComposedRows.{same_octets}
 use Rattle.dns_message.specs.Record.{IsRecord, IsWritten, record_parts}
 use Rattle.dns_message.specs.Record.IsWritten.{fields, untold}
-use Rattle.dns_size.specs.Joined.{join_parts}
-use Rattle.dns_spelling.specs.Alike.{AreAlike}
-use Rattle.dns_spelling.specs.Alike.AreAlike.{end as alike_end, octets as alike_octets, named as alike_named, counted as alike_counted}
-use Rattle.dns_spelling.proofs.ReadParts.{exact_parts}
-use Rattle.dns_spelling.proofs.SameNames.{same_name}
-use Rattle.zone_octets.specs.Record.{Record}
+use Rattle.dns_compression_laws.specs.Joined.{join_parts}
+use Rattle.dns_compression_laws.specs.Alike.{AreAlike}
+use Rattle.dns_compression_laws.specs.Alike.AreAlike.{end as alike_end, octets as alike_octets, named as alike_named, counted as alike_counted}
+use Rattle.dns_compression_laws.proofs.ReadParts.{exact_parts}
+use Rattle.dns_compression_laws.proofs.SameNames.{same_name}
+use Rattle.zone_records.specs.Record.{Record}
 use Rattle.zone_send.specs.SpelledSent.{IsNear, IsNearField}
 use Rattle.zone_send.specs.SpelledSent.IsNearData.{same as same_data, fields as near_fields}
 

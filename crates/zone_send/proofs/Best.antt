@@ -8,18 +8,18 @@ use Rattle.dns_name.specs.Page.{Parts}
 use Rattle.dns_name.specs.Spelling.{static_spelling, tree_spelling, hash_spelling}
 use Rattle.dns_name.specs.Spelling as names
 use Rattle.dns_message.specs.Record.{IsWritten}
-use Rattle.dns_size.specs.Groups.{group_parts}
-use Rattle.dns_size.proofs.OwnSpelling.{own_is_free}
-use Rattle.dns_spelling.specs.Alike.{HaveNames}
-use Rattle.zone_octets.specs.Record.{Record}
-use Rattle.zone_octets.specs.Records.{AreRecordsOf, IsRecordOf}
-use Rattle.zone_octets.proofs.Each.{all_append}
+use Rattle.dns_compression_laws.specs.Groups.{group_parts}
+use Rattle.dns_compression_laws.proofs.OwnSpelling.{own_is_free}
+use Rattle.dns_compression_laws.specs.Alike.{HaveNames}
+use Rattle.zone_records.specs.Record.{Record}
+use Rattle.zone_records.specs.Records.{AreRecordsOf, IsRecordOf}
+use Rattle.zone_records.proofs.Each.{all_append}
 use Rattle.zone_core.specs.Query.{AxfrQuery, IsQuery}
 use Rattle.zone_core.specs.Cutting.{Fits}
 use Rattle.zone_core.proofs.Cuttings.{grows_fits, full_cut_is_fewest, blocked_fits_no_cutting}
 use Rattle.zone_core.proofs.CuttingsWhere.{full_cut_is_fewest_where, blocked_fits_no_cutting_where}
 use Rattle.zone_send.specs.Sent.{message, size, with_soa_again, AsksFor, IsQueryFor, IsSent}
-use Rattle.zone_text.specs.View.{apex_of}
+use Rattle.zone.specs.View.{apex_of}
 use Rattle.zone_send.specs.SentBy.{IsSentBy, IsBlockedBy, IsRefusedFor}
 use Rattle.zone_send.specs.Spelled.{answer_head, spelled_size}
 use Rattle.zone_send.specs.SpelledSent.{IsSpelledSent, IsTakenAs, spelled_message}

@@ -7,8 +7,8 @@ use Rattle.dns_rdata.specs.Fields.{Field, compressible, uncompressed, number8, n
 use Rattle.dns_rdata.specs.Fields.IsData.{typed as typed_data, unknown as unknown_data}
 use Rattle.zone_canonical.specs.Canonical.{IsCanonical, IsCanonicalData, typed, unknown, HasCanonicalForm, AreAlike}
 use Rattle.zone_canonical.proofs.Alike.{alike_same}
-use Rattle.zone_octets.specs.Record.{Record}
-use Rattle.zone_octets.specs.Records.{AreSendable, IsSendable}
+use Rattle.zone_records.specs.Record.{Record}
+use Rattle.zone_records.specs.Records.{AreSendable, IsSendable}
 use Rattle.zone_core.specs.Query.{AxfrQuery}
 use Rattle.zone_core.specs.Transfer.{IsTransfer}
 use Rattle.zone_core.proofs.OneTransfer.{transfer_one}

@@ -6,10 +6,10 @@ use Rattle.dns_name.specs.Page.{Page, Parts, with_octets, with_name, with_count,
 use Rattle.dns_name.specs.Page.Parts.{End, Octets, Named, Counted}
 use Rattle.dns_name.specs.RecordData.{page_of}
 use Rattle.dns_name.proofs.WrittenParts.{write-long}
-use Rattle.dns_spelling.proofs.Tails.{tail, write_is}
-use Rattle.dns_size.specs.Cost.{written}
-use Rattle.dns_size.specs.Joined.{join_parts}
-use Rattle.dns_size.specs.Groups.{items, group_size}
+use Rattle.dns_compression_laws.proofs.Tails.{tail, write_is}
+use Rattle.dns_compression_laws.specs.Cost.{written}
+use Rattle.dns_compression_laws.specs.Joined.{join_parts}
+use Rattle.dns_compression_laws.specs.Groups.{items, group_size}
 
 -- parts that are joined are written one after another
 pub write-join : (s : Spelling) (page : Page) (parts more : Parts) → write s page (join_parts parts more) ≡ write s (write s page parts) more

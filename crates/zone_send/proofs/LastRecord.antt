@@ -1,6 +1,6 @@
 -- Groups that aren't empty: what holds of the elements of a list holds of those of its groups, and the last element of
 -- the list is the last of the last group.
-use Rattle.zone_octets.proofs.Each.{all_fronts}
+use Rattle.zone_records.proofs.Each.{all_fronts}
 use Rattle.std.proofs.Common.{◌≡◌, List, [], ◌∷◌, ◌++◌, refl, sym, ap, ◌∙◌, append_assoc, append-nil}
 use Rattle.std.specs.List.{AllByRecursion}
 use Rattle.zone_core.specs.Cutting.{joined, IsNonempty}

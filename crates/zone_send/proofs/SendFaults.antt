@@ -1,15 +1,15 @@
 -- What a stream, and what a fault, says of a zone and a query.
 use Rattle.std.proofs.Common.{◌≡◌, ℕ, ◌<◌, ◌^◌, List, [], ◌∷◌, get_or, subst, arith}
 use Rattle.dns_header.specs.Header.{id_of}
-use Rattle.zone_octets.specs.Record.{Record}
+use Rattle.zone_records.specs.Record.{Record}
 use Rattle.zone_send.specs.declared.sending.error.SendError.{SendError}
 use Rattle.zone_send.specs.declared.sending.error.SendError.TheVariants as send_error
 use Rattle.zone_core.specs.Query.{AxfrQuery, IsQuery}
-use Rattle.zone_octets.specs.Records.{AreRecordsOf}
+use Rattle.zone_records.specs.Records.{AreRecordsOf}
 use Rattle.zone_send.specs.Sent.{IsQueryFor, AsksFor}
 use Rattle.zone_send.specs.SentBy.{IsSendFault, IsRefusedFor}
 use Rattle.zone_send.specs.declared.sending.Spelling.{Spelling}
-use Rattle.zone_text.specs.View.{apex_of}
+use Rattle.zone.specs.View.{apex_of}
 
 fault_of : (spelling : Spelling) (query : AxfrQuery) (class : ℕ) (records : List Record) (octets : List ℕ) (max : ℕ) (error : SendError)
     → IsQuery octets query → AsksFor query (apex_of records) class → IsRefusedFor spelling records query max error

@@ -6,12 +6,12 @@ use Rattle.dns_name.specs.Spelling as names
 use Rattle.dns_name.specs.Page.{Parts}
 use Rattle.dns_message.specs.Record.{IsWritten}
 use Rattle.dns_message.proofs.WrittenItems.{written_one}
-use Rattle.dns_size.specs.Cost.{written}
-use Rattle.dns_size.specs.Joined.{join_parts}
-use Rattle.dns_size.specs.Groups.{items}
-use Rattle.zone_octets.specs.Record.{Record}
-use Rattle.zone_octets.specs.Records.{AreSendable}
-use Rattle.zone_octets.proofs.Each.{all_fronts, all_append}
+use Rattle.dns_compression_laws.specs.Cost.{written}
+use Rattle.dns_compression_laws.specs.Joined.{join_parts}
+use Rattle.dns_compression_laws.specs.Groups.{items}
+use Rattle.zone_records.specs.Record.{Record}
+use Rattle.zone_records.specs.Records.{AreSendable}
+use Rattle.zone_records.proofs.Each.{all_fronts, all_append}
 use Rattle.zone_core.specs.Query.{AxfrQuery}
 use Rattle.zone_core.specs.Frames.{frames}
 use Rattle.zone_core.specs.Cutting.{joined, IsFullCut, IsBlocked, FrontsFit}

@@ -4,13 +4,13 @@ use Rattle.std.specs.List.{AllByRecursion}
 use Rattle.dns_label.specs.Name.{low}
 use Rattle.dns_rdata.specs.Fields.{IsData, IsRow, kinds_of}
 use Rattle.dns_rdata.specs.Fields.IsData.{typed, unknown}
-use Rattle.zone_octets.specs.Record.{Record}
-use Rattle.zone_octets.specs.Zone.{IsUnder, IsBehindSoa, soa_type}
+use Rattle.zone_records.specs.Record.{Record}
+use Rattle.zone_records.specs.Zone.{IsUnder, IsBehindSoa, soa_type}
 use Rattle.zone_core.specs.Query.{AxfrQuery}
-use Rattle.zone_octets.specs.Records.{AreRecordsOf, AreSendable, IsRecordOf, IsSendable, SameSoa}
+use Rattle.zone_records.specs.Records.{AreRecordsOf, AreSendable, IsRecordOf, IsSendable, SameSoa}
 use Rattle.zone_send.specs.Sent.{IsQueryFor, AsksFor, IsSent, message, size}
 use Rattle.zone_core.specs.Transfer.{IsInZoneOf, IsTransfer, IsExactTransfer}
-use Rattle.zone_octets.proofs.Each.{all_append}
+use Rattle.zone_records.proofs.Each.{all_append}
 use Rattle.zone_send.proofs.LastRecord.{all_joined, ends_with}
 use Rattle.zone_send.proofs.WrittenAnswers.{answers-written, framable-written}
 use Rattle.zone_core.proofs.OneTransfer.{transfer_one}

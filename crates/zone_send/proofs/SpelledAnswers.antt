@@ -21,15 +21,15 @@ use Rattle.dns_message.proofs.AsWritten.{as_written_read}
 use Rattle.dns_message.proofs.Opened.{BeginsWith, BeginsNamed, opened}
 use Rattle.dns_message.proofs.SpelledQuestions.{question_read}
 use Rattle.dns_rdata.specs.Written.{written_parts}
-use Rattle.dns_size.specs.Joined.{join_parts}
-use Rattle.dns_size.specs.Groups.{items, group_parts}
-use Rattle.dns_spelling.specs.Alike.{AreAlike, HaveNames, SpellsAlike}
-use Rattle.dns_spelling.specs.Alike.AreAlike.{end as alike_end, octets as alike_octets, named as alike_named}
-use Rattle.dns_spelling.proofs.ReadParts.{TailsFit, parts_read}
-use Rattle.dns_spelling.proofs.Tails.{tail, write_is}
-use Rattle.zone_octets.specs.Record.{Record}
-use Rattle.zone_octets.specs.Records.{IsSendable}
-use Rattle.zone_octets.specs.Zone.{axfr_type}
+use Rattle.dns_compression_laws.specs.Joined.{join_parts}
+use Rattle.dns_compression_laws.specs.Groups.{items, group_parts}
+use Rattle.dns_compression_laws.specs.Alike.{AreAlike, HaveNames, SpellsAlike}
+use Rattle.dns_compression_laws.specs.Alike.AreAlike.{end as alike_end, octets as alike_octets, named as alike_named}
+use Rattle.dns_compression_laws.proofs.ReadParts.{TailsFit, parts_read}
+use Rattle.dns_compression_laws.proofs.Tails.{tail, write_is}
+use Rattle.zone_records.specs.Record.{Record}
+use Rattle.zone_records.specs.Records.{IsSendable}
+use Rattle.zone_records.specs.Zone.{axfr_type}
 use Rattle.zone_core.specs.Query.{AxfrQuery, question_of}
 use Rattle.zone_send.specs.Sent.{IsQueryFor}
 use Rattle.zone_send.specs.Spelled.{answer_head, spelled_size}

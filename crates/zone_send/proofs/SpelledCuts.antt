@@ -7,13 +7,13 @@ use Rattle.dns_name.specs.Page.Parts.{Octets}
 use Rattle.dns_label.specs.Name.{IsName}
 use Rattle.dns_header.specs.Header.{answer_header}
 use Rattle.dns_header.specs.Question.{question_parts}
-use Rattle.dns_spelling.specs.Alike.{HaveNames}
-use Rattle.dns_size.specs.Cost.{names_in}
-use Rattle.dns_size.specs.Joined.{join_parts}
-use Rattle.dns_size.specs.Groups.{HasOneHead, items, group_parts}
-use Rattle.dns_size.proofs.Sizes.{AllProper, any_proper, names_proper}
-use Rattle.dns_size.proofs.Groups.{front_fits, back_fits, proper_group, free_group, all_any}
-use Rattle.zone_octets.specs.Record.{Record}
+use Rattle.dns_compression_laws.specs.Alike.{HaveNames}
+use Rattle.dns_compression_laws.specs.Cost.{names_in}
+use Rattle.dns_compression_laws.specs.Joined.{join_parts}
+use Rattle.dns_compression_laws.specs.Groups.{HasOneHead, items, group_parts}
+use Rattle.dns_compression_laws.proofs.Sizes.{AllProper, any_proper, names_proper}
+use Rattle.dns_compression_laws.proofs.Groups.{front_fits, back_fits, proper_group, free_group, all_any}
+use Rattle.zone_records.specs.Record.{Record}
 use Rattle.zone_core.specs.Query.{AxfrQuery, question_of}
 use Rattle.zone_core.specs.Cutting.{IsCutting, Fits, IsFullCut, IsBlocked, FrontsFit, PartsFit}
 use Rattle.zone_send.specs.Spelled.{answer_head, spelled_size, IsFreeAnswer, SpellGroups}

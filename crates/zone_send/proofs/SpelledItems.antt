@@ -4,9 +4,9 @@ use Rattle.std.specs.List.{AllByRecursion}
 use Rattle.dns_name.specs.Spelling.{Spelling}
 use Rattle.dns_message.specs.Record.{IsWritten}
 use Rattle.dns_message.proofs.WrittenItems.{written_item, item_written, written_one}
-use Rattle.zone_octets.specs.Record.{Record}
-use Rattle.zone_octets.specs.Typed.{HasLawfulData}
-use Rattle.zone_octets.proofs.Each.{all_append}
+use Rattle.zone_records.specs.Record.{Record}
+use Rattle.zone_records.specs.Typed.{HasLawfulData}
+use Rattle.zone_records.proofs.Each.{all_append}
 use Rattle.zone_core.specs.Query.{AxfrQuery}
 use Rattle.zone_core.specs.Cutting.{IsBlocked}
 use Rattle.zone_send.specs.Sent.{with_soa_again}

@@ -11,13 +11,13 @@ use Rattle.dns_header.specs.Head.{fixed_octets}
 use Rattle.dns_header.specs.Header.{answer_header}
 use Rattle.dns_header.specs.Question.{question_parts}
 use Rattle.dns_header.specs.Written.{Written, parts_of, data_length}
-use Rattle.dns_size.specs.Groups.{items}
+use Rattle.dns_compression_laws.specs.Groups.{items}
 use Rattle.dns_builder.specs.Built.{header_octets, built_page, write_all}
 use Rattle.dns_builder.proofs.Cleared.{patched-long}
 use Rattle.dns_builder.proofs.Grown.{grown_longer, write_grows}
 use Rattle.dns_builder.proofs.SameBehind.{same_write, same_all, same_none, same_length}
 use Rattle.dns_builder.proofs.Sections.{write_all-append}
-use Rattle.zone_octets.specs.Record.{Record}
+use Rattle.zone_records.specs.Record.{Record}
 use Rattle.zone_core.specs.Query.{AxfrQuery, question_of}
 use Rattle.zone_send.specs.Spelled.{spelled_size}
 use Rattle.zone_send.specs.SpelledSent.{spelled_message}

@@ -20,9 +20,9 @@ use Rattle.dns_header.specs.Record.{RecordOf}
 use Rattle.dns_message.specs.Held.{record_of, written_parts_of}
 use Rattle.dns_message.specs.Record.{IsWritten}
 use Rattle.dns_message.specs.Record.IsWritten.{fields as in_row, untold}
-use Rattle.zone_octets.specs.Typed.{HasFieldsOfType}
-use Rattle.zone_octets.specs.Zone.{axfr_type}
-use Rattle.zone_octets.specs.Record.{Record}
+use Rattle.zone_records.specs.Typed.{HasFieldsOfType}
+use Rattle.zone_records.specs.Zone.{axfr_type}
+use Rattle.zone_records.specs.Record.{Record}
 use Rattle.zone_core.specs.Query.{AxfrQuery, question_of}
 use Rattle.zone_send.specs.Spelled.{spelled_size}
 use Rattle.zone_send.specs.Sending.{header_front}

@@ -6,8 +6,8 @@ use Rattle.std.proofs.lemmas.List.{take_all}
 use Rattle.dns_name.specs.Spelling.{Spelling}
 use Rattle.dns_name.specs.Page.{Parts}
 use Rattle.dns_builder.specs.Built.{Draft}
-use Rattle.zone_octets.specs.Record.{Record}
-use Rattle.zone_octets.proofs.Indexed.{take-next}
+use Rattle.zone_records.specs.Record.{Record}
+use Rattle.zone_records.proofs.Indexed.{take-next}
 use Rattle.zone_core.specs.Query.{AxfrQuery}
 use Rattle.zone_core.specs.Frames.{frame, frames}
 use Rattle.zone_core.specs.Cutting.{IsFullCut, FitsNotBehind, IsBlocked}

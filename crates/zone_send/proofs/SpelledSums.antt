@@ -9,14 +9,14 @@ use Rattle.dns_rdata.specs.Fields.{Field, IsField}
 use Rattle.dns_rdata.specs.Fields.Field.{number8, number16, number32, ipv4, ipv6, compressible, uncompressed, string, strings, tag, rest_text, rest16, rest64}
 use Rattle.dns_message.specs.Record.{IsRecord, IsWritten, written_parts}
 use Rattle.dns_message.specs.Record.IsWritten.{fields, untold}
-use Rattle.dns_spelling.specs.Alike.{HaveNames}
-use Rattle.dns_size.specs.Cost.{same_name, names_in, octets_in, parts_cost}
-use Rattle.dns_size.specs.CostSum.{AreTheSuffixes, ends_cost}
-use Rattle.dns_size.specs.Groups.{items, group_parts}
-use Rattle.dns_size.proofs.Sizes.{AllProper, written_size}
-use Rattle.dns_size.proofs.Joins.{names-join, octets-join}
-use Rattle.dns_size.proofs.DistinctSums.{parts_sum}
-use Rattle.zone_octets.specs.Record.{Record}
+use Rattle.dns_compression_laws.specs.Alike.{HaveNames}
+use Rattle.dns_compression_laws.specs.Cost.{same_name, names_in, octets_in, parts_cost}
+use Rattle.dns_compression_laws.specs.CostSum.{AreTheSuffixes, ends_cost}
+use Rattle.dns_compression_laws.specs.Groups.{items, group_parts}
+use Rattle.dns_compression_laws.proofs.Sizes.{AllProper, written_size}
+use Rattle.dns_compression_laws.proofs.Joins.{names-join, octets-join}
+use Rattle.dns_compression_laws.proofs.DistinctSums.{parts_sum}
+use Rattle.zone_records.specs.Record.{Record}
 use Rattle.zone_core.specs.Query.{AxfrQuery}
 use Rattle.zone_send.specs.Spelled.{answer_head, spelled_size, record_items, message_names, message_sum}
 use Rattle.zone_send.proofs.Plain.{length-header}

@@ -7,10 +7,10 @@ use Rattle.dns_name.specs.Page.{Parts}
 use Rattle.dns_rdata.specs.Fields.{Field, IsRow, IsData, kinds_of}
 use Rattle.dns_rdata.specs.Fields.IsData.{typed, unknown}
 use Rattle.dns_message.specs.Record.{IsWritten}
-use Rattle.zone_octets.specs.Record.{Record}
-use Rattle.zone_octets.specs.Records.{AreSendable, IsSendable, SameSoa}
-use Rattle.zone_octets.specs.Zone.{soa_type}
-use Rattle.zone_octets.proofs.Each.{all_append}
+use Rattle.zone_records.specs.Record.{Record}
+use Rattle.zone_records.specs.Records.{AreSendable, IsSendable, SameSoa}
+use Rattle.zone_records.specs.Zone.{soa_type}
+use Rattle.zone_records.proofs.Each.{all_append}
 use Rattle.zone_core.specs.Cutting.{joined, IsNonempty}
 use Rattle.zone_core.specs.Query.{AxfrQuery}
 use Rattle.zone_send.specs.Sent.{IsQueryFor}

@@ -4,7 +4,7 @@ use Rattle.std.specs.Prelude.{slice_get, ◌==◌}
 use Rattle.std.specs.List.{push}
 use Rattle.std.proofs.lemmas.List.{map-append, take_all, take-append-le}
 use Rattle.std.proofs.lemmas.Option.{slice_get_within}
-use Rattle.zone_octets.specs.Record.{Record}
+use Rattle.zone_records.specs.Record.{Record}
 use Rattle.zone_send.specs.declared.sending.plain.Sender.{Sender}
 use Rattle.zone_core.specs.Query.{AxfrQuery}
 use Rattle.zone_core.specs.Frames.{frame, frames}
@@ -13,7 +13,7 @@ use Rattle.zone_send.specs.Sent.{message, size, with_soa_again, IsSent}
 use Rattle.zone_send.specs.Sending.{LastIs, HoldsGroups, Holds, FitsNowhere}
 use Rattle.zone_core.proofs.Framing.{frames_push}
 use Rattle.zone_core.proofs.Greedy.{blocked_at, next_is_blocked}
-use Rattle.zone_octets.proofs.Indexed.{slice_get-front}
+use Rattle.zone_records.proofs.Indexed.{slice_get-front}
 
 -- the frames of the messages of some groups, and one more
 pub frames-push : {X : Type 0} (message : X → List ℕ) (front : List X) (x : X)

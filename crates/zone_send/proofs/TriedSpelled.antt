@@ -11,15 +11,15 @@ use Rattle.dns_rdata.specs.Fields.Field.{compressible, number32}
 use Rattle.dns_message.specs.Record.{IsWritten, record_parts, written_parts}
 use Rattle.dns_message.specs.Record.IsWritten.{fields}
 use Rattle.dns_message.proofs.WrittenItems.{written_one}
-use Rattle.dns_size.specs.Cost.{written}
-use Rattle.dns_size.specs.Free.{IsFree, Stand}
-use Rattle.dns_size.specs.Free.IsOneOf.{first, later}
-use Rattle.dns_size.specs.Free.SpellsFreely.{counted, named, nothing, octets}
-use Rattle.dns_size.specs.Free.SpellsNameFreely.{label, pointer, root}
-use Rattle.dns_size.specs.Groups.{group_parts}
-use Rattle.dns_size.specs.Joined.{join_parts}
-use Rattle.dns_size.proofs.OwnSpelling.{own_is_free}
-use Rattle.zone_octets.specs.Record.{Record}
+use Rattle.dns_compression_laws.specs.Cost.{written}
+use Rattle.dns_compression_laws.specs.Free.{IsFree, Stand}
+use Rattle.dns_compression_laws.specs.Free.IsOneOf.{first, later}
+use Rattle.dns_compression_laws.specs.Free.SpellsFreely.{counted, named, nothing, octets}
+use Rattle.dns_compression_laws.specs.Free.SpellsNameFreely.{label, pointer, root}
+use Rattle.dns_compression_laws.specs.Groups.{group_parts}
+use Rattle.dns_compression_laws.specs.Joined.{join_parts}
+use Rattle.dns_compression_laws.proofs.OwnSpelling.{own_is_free}
+use Rattle.zone_records.specs.Record.{Record}
 use Rattle.zone_core.specs.Cutting.{joined}
 use Rattle.zone_core.specs.Frames.{frame}
 use Rattle.zone_core.proofs.Framing.{whole_frames_one}

@@ -4,7 +4,7 @@ use Rattle.dns_label.specs.Name.{IsName}
 use Rattle.dns_rdata.specs.Fields.{Field}
 use Rattle.dns_rdata.specs.Fields.Field.{compressible, number32, ipv4}
 use Rattle.dns_rdata.specs.Fields.IsData.{typed}
-use Rattle.zone_octets.specs.Records.{AreRecordsOf}
+use Rattle.zone_records.specs.Records.{AreRecordsOf}
 use Rattle.dns_message.proofs.Spellable.{spellable_unless_caa}
 use Rattle.zone_send.specs.Sent.{IsQueryFor, IsSent, message, with_soa_again}
 use Rattle.zone_core.specs.Frames.{frames}

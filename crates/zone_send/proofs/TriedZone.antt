@@ -1,7 +1,7 @@
 -- The definitions tried on the transfer of a zone of two records: `a. 60 IN SOA b. c. 1 2 3 4 5` and `a. 60 IN A
 -- 1.2.3.4`.
 use Rattle.std.specs.Prelude.{◌≡◌, [], ◌∷◌, refl, false}
-use Rattle.zone_octets.specs.Record.{Record}
+use Rattle.zone_records.specs.Record.{Record}
 use Rattle.zone_core.specs.Query.{AxfrQuery}
 use Rattle.zone_core.specs.Frames.{frames}
 use Rattle.zone_send.specs.Sent.{message, size, with_soa_again}

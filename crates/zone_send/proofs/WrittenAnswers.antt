@@ -9,10 +9,10 @@ use Rattle.dns_header.proofs.Headers.{header_says}
 use Rattle.dns_header.proofs.WrittenQuestions.{within_message, question-written}
 use Rattle.dns_message.proofs.AsWritten.{least_record}
 use Rattle.dns_message.proofs.WrittenRecords.{record-written}
-use Rattle.zone_octets.specs.Record.{Record}
+use Rattle.zone_records.specs.Record.{Record}
 use Rattle.zone_core.specs.Query.{AxfrQuery, question_of}
 use Rattle.zone_core.specs.Frames.{IsFramable}
-use Rattle.zone_octets.specs.Records.{IsSendable}
+use Rattle.zone_records.specs.Records.{IsSendable}
 use Rattle.zone_send.specs.Sent.{IsQueryFor, message, size}
 use Rattle.zone_core.specs.Transfer.{SpellsRecords, IsAnswer, AreAnswers}
 use Rattle.zone_core.specs.Transfer.SpellsRecords.{none, one}

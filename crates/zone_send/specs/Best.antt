@@ -6,15 +6,15 @@ use Rattle.dns_name.specs.Page.{Parts}
 use Rattle.dns_name.specs.Spelling.{tree_spelling, hash_spelling}
 use Rattle.dns_name.specs.Spelling as names
 use Rattle.dns_message.specs.Record.{IsWritten}
-use Rattle.dns_size.specs.Free.{IsFree}
-use Rattle.dns_size.specs.Groups.{group_parts}
+use Rattle.dns_compression_laws.specs.Free.{IsFree}
+use Rattle.dns_compression_laws.specs.Groups.{group_parts}
 use Rattle.zone_canonical.specs.Canonical.{IsCanonical}
-use Rattle.zone_octets.specs.Record.{Record}
+use Rattle.zone_records.specs.Record.{Record}
 use Rattle.zone_core.specs.Query.{AxfrQuery, IsQuery}
 use Rattle.zone_core.specs.Frames.{frames, IsFramable}
 use Rattle.zone_core.specs.Cutting.{IsCutting, Fits}
 use Rattle.zone_core.specs.Transfer.{IsTransfer, IsExactTransfer}
-use Rattle.zone_text.specs.View.{apex_of}
+use Rattle.zone.specs.View.{apex_of}
 use Rattle.zone_send.specs.Sent.{size, with_soa_again, AsksFor}
 use Rattle.zone_send.specs.SentBy.{IsSentBy, KeepsCase}
 use Rattle.zone_send.specs.Spelled.{answer_head, spelled_size, IsFreeAnswer, SpellGroups}

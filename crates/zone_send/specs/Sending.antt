@@ -6,7 +6,7 @@ use Rattle.std.specs.List.{push}
 use Rattle.dns_label.specs.Name.{IsName}
 use Rattle.dns_header.specs.Question.{question_octets}
 use Rattle.dns_message.specs.Record.{record_octets}
-use Rattle.zone_octets.specs.Record.{Record}
+use Rattle.zone_records.specs.Record.{Record}
 use Rattle.zone_core.specs.Query.{AxfrQuery, question_of}
 use Rattle.zone_core.specs.Frames.{frames}
 use Rattle.zone_send.specs.Sent.{message, size, with_soa_again}

@@ -1,11 +1,11 @@
 -- What is sent for a zone and a query, with every name written out (RFC 5936 2.2).
 use Rattle.std.specs.Prelude.{◌<◌, ◌^◌, ◌≡◌, ℕ, List, [], ◌∷◌, ◌++◌, length, map, flat_map}
 use Rattle.dns_label.specs.Name.{IsName, low}
-use Rattle.zone_text.specs.View.{apex_of}
+use Rattle.zone.specs.View.{apex_of}
 use Rattle.dns_header.specs.Header.{answer_header}
 use Rattle.dns_header.specs.Question.{question_octets}
 use Rattle.dns_message.specs.Record.{record_octets}
-use Rattle.zone_octets.specs.Record.{Record}
+use Rattle.zone_records.specs.Record.{Record}
 use Rattle.zone_core.specs.Query.{AxfrQuery, question_of}
 use Rattle.zone_core.specs.Frames.{frames}
 use Rattle.zone_core.specs.Cutting.{IsFullCut}

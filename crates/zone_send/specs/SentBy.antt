@@ -1,7 +1,7 @@
 -- What is sent for a zone and a query under a `Spelling`, and why nothing is sent (RFC 5936 2.2).
 use Rattle.std.specs.Prelude.{ℕ, List, ⊤}
 use Rattle.dns_name.specs.Spelling.{static_spelling, tree_spelling, hash_spelling}
-use Rattle.zone_octets.specs.Record.{Record}
+use Rattle.zone_records.specs.Record.{Record}
 use Rattle.zone_core.specs.Query.{AxfrQuery, IsQuery, IsQueryFault}
 use Rattle.zone_core.specs.Cutting.{IsBlocked}
 use Rattle.zone_send.specs.Sent.{size, with_soa_again, IsSent, AsksFor}

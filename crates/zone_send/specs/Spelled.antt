@@ -8,11 +8,11 @@ use Rattle.dns_name.specs.Page.Parts.{Octets}
 use Rattle.dns_header.specs.Header.{answer_header}
 use Rattle.dns_header.specs.Question.{question_parts}
 use Rattle.dns_message.specs.Record.{record_parts}
-use Rattle.dns_size.specs.Cost.{same_name, names_in, octets_in}
-use Rattle.dns_size.specs.CostSum.{first_label, ends_cost}
-use Rattle.dns_size.specs.Free.{IsFree}
-use Rattle.dns_size.specs.Groups.{group_parts, group_size}
-use Rattle.zone_octets.specs.Record.{Record}
+use Rattle.dns_compression_laws.specs.Cost.{same_name, names_in, octets_in}
+use Rattle.dns_compression_laws.specs.CostSum.{first_label, ends_cost}
+use Rattle.dns_compression_laws.specs.Free.{IsFree}
+use Rattle.dns_compression_laws.specs.Groups.{group_parts, group_size}
+use Rattle.zone_records.specs.Record.{Record}
 use Rattle.zone_core.specs.Query.{AxfrQuery, question_of}
 
 -- the parts before the records: the header, which counts them, and the query's question

@@ -6,7 +6,7 @@ use Rattle.dns_name.specs.Page.{Parts}
 use Rattle.dns_header.specs.Question.{question_parts}
 use Rattle.dns_builder.specs.Built.{Built, Draft, IsDraftOf}
 use Rattle.dns_message.specs.Record.{IsWritten}
-use Rattle.zone_octets.specs.Record.{Record}
+use Rattle.zone_records.specs.Record.{Record}
 use Rattle.zone_core.specs.Query.{AxfrQuery, question_of}
 use Rattle.zone_core.specs.Frames.{frame, frames}
 use Rattle.zone_send.specs.Sending.{header_front}

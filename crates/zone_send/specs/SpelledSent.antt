@@ -7,9 +7,9 @@ use Rattle.dns_name.specs.Page.{Parts}
 use Rattle.dns_rdata.specs.Fields.{Field, octets, IsRow}
 use Rattle.dns_rdata.specs.Fields.Field.{compressible}
 use Rattle.dns_message.specs.Record.{IsWritten}
-use Rattle.dns_size.specs.Cost.{written}
-use Rattle.dns_size.specs.Groups.{group_parts}
-use Rattle.zone_octets.specs.Record.{Record}
+use Rattle.dns_compression_laws.specs.Cost.{written}
+use Rattle.dns_compression_laws.specs.Groups.{group_parts}
+use Rattle.zone_records.specs.Record.{Record}
 use Rattle.zone_core.specs.Query.{AxfrQuery}
 use Rattle.zone_core.specs.Frames.{frames}
 use Rattle.zone_core.specs.Cutting.{IsFullCut, IsBlocked}

@@ -1,14 +1,14 @@
 //! Sending a zone as the stream of its transfer.
 ghost use Rattle.std.specs.Prelude.{◌≡◌, ◌↔◌, [], IsTrue, IfOk, IfErr};
 ghost use Rattle.std.specs.List.{AllByRecursion};
-ghost use Rattle.zone_octets.specs.Typed.{HasLawfulData};
+ghost use Rattle.zone_records.specs.Typed.{HasLawfulData};
 ghost use Rattle.zone_core.specs.Asked.{asked_by};
 ghost use Rattle.zone_core.specs.Query.{AxfrQuery};
 ghost use Rattle.zone_send.specs.Sent.{AsksFor, IsSent};
 ghost use Rattle.zone_send.specs.SentBy.{IsSentBy, IsSendFault, IsRefusedFor};
 ghost use Rattle.zone_send.specs.Best.{FitsNoMessages, IfRecord, IsSentFor};
 ghost use Rattle.zone_send.specs.Sending.{Holds, IsRefusedBy};
-ghost use Rattle.zone_text.specs.View.{apex_of};
+ghost use Rattle.zone.specs.View.{apex_of};
 
 mod error;
 mod header;
@@ -21,10 +21,10 @@ pub use error::SendError;
 use plain::Sender;
 use spelled::Answer;
 use std::alloc::Global;
+use zone::Zone;
+use zone::zone::records_of;
 use zone_core::{Query, check_query};
-use zone_octets::record_list::RecordList;
-use zone_text::Zone;
-use zone_text::zone::records_of;
+use zone_records::record_list::RecordList;
 
 /// How the names in messages are written (RFC 1035 4.1.4).
 #[derive(Clone, Copy, Debug, PartialEq, Eq)]

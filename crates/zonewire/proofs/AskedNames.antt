@@ -4,7 +4,7 @@ use Rattle.std.specs.List.{AllByRecursion}
 use Rattle.dns_label.specs.Name.{low}
 use Rattle.dns_header.specs.Question.{Question}
 use Rattle.dns_wire.specs.Suffix.{EndsWith}
-use Rattle.zone_octets.specs.Record.{Record}
+use Rattle.zone_records.specs.Record.{Record}
 use Rattle.zone_core.specs.Query.{AxfrQuery}
 use Rattle.zone_core.specs.Transfer.{AreAnswers, AsksAgain, IsAnswer, IsInZoneOf, IsQuestionOf, IsTransfer, IsTransferred}
 

@@ -6,9 +6,9 @@ use Rattle.dns_label.specs.Octets.{AreOctets}
 use Rattle.dns_name.specs.Spelling.{hash_spelling, static_spelling, tree_spelling}
 use Rattle.dns_text.specs.Layout.{layout_of}
 use Rattle.dns_text.specs.declared.layout.DisplayKind.{DisplayKind}
-use Rattle.zone_octets.specs.Record.{Record}
-use Rattle.zone_octets.specs.Records.{AreRecordsOf, AreSendable}
-use Rattle.zone_text.specs.View.{apex_of}
+use Rattle.zone_records.specs.Record.{Record}
+use Rattle.zone_records.specs.Records.{AreRecordsOf, AreSendable}
+use Rattle.zone.specs.View.{apex_of}
 use Rattle.zone_rules.specs.Printed.{IsPrinted}
 use Rattle.zone_rules.specs.ZoneText.{IsZoneText}
 use Rattle.zone_rules.proofs.OneFault.{one_reading}

@@ -2,10 +2,10 @@
 use Rattle.std.proofs.Common.{◌≡◌, ◌≢◌, ◌∙◌, ℕ, List, Option, refl, sym, ap, subst}
 use Rattle.dns_text.specs.Layout.{layout_of}
 use Rattle.dns_text.specs.declared.layout.DisplayKind.{DisplayKind}
-use Rattle.zone_octets.specs.Record.{Record}
+use Rattle.zone_records.specs.Record.{Record}
 use Rattle.zone_canonical.specs.Canonical.{IsCanonical}
 use Rattle.zone_canonical.proofs.Alike.{one_canonical}
-use Rattle.zone_text.specs.View.{apex_of}
+use Rattle.zone.specs.View.{apex_of}
 use Rattle.zone_rules.specs.Printed.{IsPrinted}
 use Rattle.zone_rules.specs.ZoneText.{IsZoneFault, IsZoneText}
 use Rattle.zone_rules.specs.declared.zone_error.ZoneError.{ZoneError}

@@ -1,8 +1,8 @@
 -- Why a text or a zone has no output.
 use Rattle.std.proofs.Common.{◌≡◌, ℕ, List, subst}
 use Rattle.std.specs.Prelude.{Option}
-use Rattle.zone_octets.specs.Record.{Record}
-use Rattle.zone_text.specs.View.{apex_of}
+use Rattle.zone_records.specs.Record.{Record}
+use Rattle.zone.specs.View.{apex_of}
 use Rattle.zone_rules.specs.ZoneText.{IsZoneFault, IsZoneText}
 use Rattle.zone_rules.specs.declared.zone_error.ZoneError.{ZoneError}
 use Rattle.zone_rules.specs.declared.zone_error.ZoneError.TheVariants.{OutOfMemory as NoMemory}

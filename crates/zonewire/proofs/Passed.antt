@@ -2,8 +2,8 @@
 use Rattle.std.proofs.Common.{◌≡◌, ℕ, List, subst}
 use Rattle.std.specs.List.{AllZip}
 use Rattle.dns_label.specs.Octets.{AreOctets}
-use Rattle.zone_octets.specs.Record.{Record}
-use Rattle.zone_octets.specs.Records.{AreRecordsOf}
+use Rattle.zone_records.specs.Record.{Record}
+use Rattle.zone_records.specs.Records.{AreRecordsOf}
 use Rattle.zone_core.specs.Query.{AxfrQuery, IsQuery}
 use Rattle.zone_core.specs.Transfer.{IsTransfer}
 use Rattle.zone_core.proofs.OneQuery.{query_one}

@@ -1,7 +1,7 @@
 -- What is received from an input that is fed in one piece.
 use Rattle.std.proofs.Common.{◌≡◌, ◌≢◌, ◌∙◌, ℕ, List, [], sym, ap, subst, take, drop, length, append-nil, take-append-drop, inl, inr, Some, None, arith, ◌⊎◌}
 use Rattle.std.proofs.lemmas.List.{take_all}
-use Rattle.zone_octets.specs.Record.{Record}
+use Rattle.zone_records.specs.Record.{Record}
 use Rattle.zone_core.specs.Query.{AxfrQuery, IsQuery}
 use Rattle.zone_core.specs.Transfer.{IsTransfer}
 use Rattle.zone_receive.specs.Receiving.{Heard, IsAfterAt, IsBegun, IsNoZone, IsStreamFault, Refuses, Stage, Takes, refusal_in}

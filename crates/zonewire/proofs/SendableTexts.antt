@@ -10,14 +10,14 @@ use Rattle.dns_text.specs.Rows.{TokenRow}
 use Rattle.dns_rdata.specs.Data.{number_of}
 use Rattle.dns_rdata.specs.Fields.{IsData}
 use Rattle.dns_rdata.specs.Fields.IsData.{unknown, typed}
-use Rattle.dns_row_scanner.specs.NameInText.{SpellsUnder}
+use Rattle.dns_entry_scanner.specs.NameInText.{SpellsUnder}
 use Rattle.dns_zonefile.specs.Entries.{AreEntries}
 use Rattle.dns_zonefile.specs.Entry.{Context, Enters, Entry}
 use Rattle.dns_zonefile.specs.Entry.Entry.{Directive, Include, Resource}
 use Rattle.dns_zonefile.specs.Statement.{Directs, HasOwner, IsTtl, Says, Statement, States}
 use Rattle.dns_zonefile.specs.Statement.Statement.{NameFile, SetOrigin, SetTtl, StateRecord}
-use Rattle.zone_octets.specs.Record.{Record}
-use Rattle.zone_octets.specs.Records.{AreSendable, IsSendable}
+use Rattle.zone_records.specs.Record.{Record}
+use Rattle.zone_records.specs.Records.{AreSendable, IsSendable}
 use Rattle.zone_rules.specs.ZoneText.{IsWellTyped, IsZoneText, records_in, start_of}
 use Rattle.zone_rules.proofs.RecordClasses.{zone_text_class}
 use Rattle.zonewire.proofs.SpelledNumbers.{spelled_small, type_small}

@@ -17,10 +17,10 @@ use Rattle.dns_header.specs.Head.{after_length, fixed_octets}
 use Rattle.dns_message.specs.Record.{IsRead, IsRecord, read_parts, record_octets}
 use Rattle.dns_message.specs.Record.IsRead.{unknown, typed}
 use Rattle.dns_message.proofs.Numbers.{octets_from}
-use Rattle.zone_octets.specs.Record.{Record}
-use Rattle.zone_octets.specs.Records.{AreRecordsOf, IsRecordOf}
-use Rattle.zone_octets.proofs.Each.{all_append, all_fronts}
-use Rattle.zone_octets.proofs.OctetFronts.{octets_behind, octets_front}
+use Rattle.zone_records.specs.Record.{Record}
+use Rattle.zone_records.specs.Records.{AreRecordsOf, IsRecordOf}
+use Rattle.zone_records.proofs.Each.{all_append, all_fronts}
+use Rattle.zone_records.proofs.OctetFronts.{octets_behind, octets_front}
 use Rattle.zone_core.specs.Cutting.{joined}
 use Rattle.zone_core.specs.Frames.{frame, frames}
 use Rattle.zone_core.specs.Query.{AxfrQuery}

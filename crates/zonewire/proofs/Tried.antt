@@ -3,7 +3,7 @@ use Rattle.std.proofs.Common.{◌≡◌, ℕ, List, [], ◌∷◌, ◌++◌, Non
 use Rattle.std.specs.Prelude.{codes}
 use Rattle.std.specs.Fmt.{digits}
 use Rattle.std.specs.List.Sorted.{IsStrictlySortedBy}
-use Rattle.zone_octets.specs.Record.{Record}
+use Rattle.zone_records.specs.Record.{Record}
 use Rattle.zone_canonical.specs.Canonical.{IsCanonical, IsCanonicalOf, canonical_cmp, typed}
 use Rattle.zone_canonical.proofs.Alike.{one_canonical}
 use Rattle.zone_rules.proofs.OneFault.{one_reading}

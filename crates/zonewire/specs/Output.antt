@@ -3,8 +3,8 @@ use Rattle.std.specs.Prelude.{◌≡◌, ℕ, List, [], ◌∷◌, ◌++◌, len
 use Rattle.dns_text.specs.Layout.{layout_of}
 use Rattle.dns_text.specs.declared.layout.DisplayKind.{DisplayKind}
 use Rattle.zone_canonical.specs.Canonical.{IsCanonical}
-use Rattle.zone_octets.specs.Record.{Record}
-use Rattle.zone_text.specs.View.{apex_of}
+use Rattle.zone_records.specs.Record.{Record}
+use Rattle.zone.specs.View.{apex_of}
 use Rattle.zone_core.specs.Query.{AxfrQuery, IsQuery, query_octets}
 use Rattle.zone_rules.specs.ZoneText.{IsZoneText, IsZoneFault}
 use Rattle.zone_send.specs.Sent.{AsksFor}

@@ -2,7 +2,7 @@
 use Rattle.std.specs.Prelude.{◌≡◌, ◌<◌, ◌^◌, IfSome, List}
 use Rattle.std.specs.List.{AllZip}
 use Rattle.dns_label.specs.Name.{IsName}
-use Rattle.zone_octets.specs.Record.{Record}
+use Rattle.zone_records.specs.Record.{Record}
 use Rattle.zone_send.specs.SpelledSent.{IsNear}
 use Rattle.zone_send.specs.declared.sending.Spelling.{Spelling}
 use Rattle.zone_send.specs.declared.sending.Spelling.TheVariants.{Plain, Static, Tree, Hash}

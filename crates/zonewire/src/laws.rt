@@ -17,9 +17,9 @@ pub use zone_core::laws::{
 };
 pub use zone_receive::laws::{at_most_one_of_three, one_of_three};
 pub use zone_rules::laws::{
-    class_any_has_one_fault, one_zone_fault, unknown_data_is_the_same, printed_text_is_the_zones,
-    records_have_one_printed_text, text_has_one_reading, zone_text_breaks_no_rule,
-    zone_text_or_fault,
+    class_any_has_one_fault, one_zone_fault, printed_text_is_the_zones,
+    records_have_one_printed_text, text_has_one_reading, unknown_data_is_the_same,
+    zone_text_breaks_no_rule, zone_text_or_fault,
 };
 pub use zone_send::laws::{
     free_messages_are_no_fewer, hash_full_cut_is_fewest, message_octets_are_a_sum,

@@ -1,6 +1,6 @@
 //! What the program `zonewire` does: its command line, its input and its output.
 //!
-//! This crate re-exports what the crates below it are for: `zone_text` (zones and their text), `zone_core` (queries),
+//! This crate re-exports what the crates below it are for: `zone` (zones and their text), `zone_core` (queries),
 //! `zone_send` and `zone_receive` (the stream of a transfer).
 #![tactic(auto)]
 
@@ -25,8 +25,8 @@ pub use sink::{Sink, SinkError, StdSink};
 pub use source::{Source, SourceError, StdSource};
 pub use step_sink::StepSink;
 pub use step_source::StepSource;
+pub use zone::{Zone, ZoneRecord, ZoneRecords};
 pub use zone_core::{Query, QueryError, axfr_query, check_query};
 pub use zone_receive::{ReceiveError, Receiver};
 pub use zone_rules::ZoneError;
 pub use zone_send::{SendError, Spelling, send};
-pub use zone_text::{Zone, ZoneRecord, ZoneRecords};

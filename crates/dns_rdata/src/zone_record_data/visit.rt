@@ -8,7 +8,7 @@ ghost use Rattle.dns_text.specs.Documents.{block_of};
 ghost use Rattle.dns_text.specs.Writing.{Adds};
 
 use super::ZoneRecordData;
-use crate::rows::{DataType, RowOctetsOrd, Row, ShowRow};
+use crate::rows::{DataType, Row, RowOctetsOrd, ShowRow};
 use dns_name::{Octets, ToName, UnknownRecordData};
 use dns_text::{Formatter, ZonefileFmt};
 use std::fmt;

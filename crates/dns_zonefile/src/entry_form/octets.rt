@@ -3,12 +3,12 @@ ghost use Rattle.std.specs.Prelude.{◌≡◌, ◌∷◌, ◌++◌, Bool, List, 
 ghost use Rattle.dns_header.specs.Head.{fixed_octets};
 ghost use Rattle.dns_header.specs.Record.{RecordOf};
 ghost use Rattle.dns_rdata.specs.Data.{Data, ScansAnyData};
-ghost use Rattle.dns_row_scanner.specs.EntryError.{is_memory};
-ghost use Rattle.dns_row_scanner.specs.RowScanner.{names_of, tokens_of};
+ghost use Rattle.dns_entry_scanner.specs.EntryError.{is_memory};
+ghost use Rattle.dns_entry_scanner.specs.RowScanner.{names_of, tokens_of};
 ghost use Rattle.dns_scan_data.specs.Appended.{GoesOn};
 ghost use Rattle.dns_scan.specs.Token.{SameNames};
-ghost use Rattle.dns_tokens.specs.RowFound.{IsRowAt};
-ghost use Rattle.dns_tokens.specs.TokenSpan.{token_in};
+ghost use Rattle.dns_entry_scanner.specs.RowFound.{IsRowAt};
+ghost use Rattle.dns_entry_scanner.specs.TokenSpan.{token_in};
 ghost use Rattle.dns_zonefile.specs.ComposedRow.{BeginsWithName, ComposesData, ComposesRecord, HasNoOwner, IsHandedOn, OwnerStands};
 ghost use Rattle.dns_zonefile.specs.Directive.{BeginsDirective};
 ghost use Rattle.dns_zonefile.specs.Entry as spec;
@@ -21,11 +21,10 @@ use super::EntryForm;
 use crate::context::Context;
 use crate::statement::{begins_directive, scan_directive, scan_head};
 use crate::{ComposedEntry, Entry, IncludedFile};
+use dns_entry_scanner::{EntryError, InlineName, RowScanner, TokenSpan, WireScanner};
 use dns_name::{Class, Composer, Name, Rtype, ToName, Ttl};
-use dns_row_scanner::{EntryError, InlineName, OctetsScanner, RowScanner};
 use dns_scan_data::scan_data_into;
 use dns_text::Scanner;
-use dns_tokens::TokenSpan;
 use std::alloc::Global;
 
 /// A record whose octets were appended: what its row sets, and whether its data is unknown data.
@@ -56,17 +55,17 @@ impl EntryForm for Vec<u8> {
         text: &[u8],
         place: usize,
         spans: &[TokenSpan],
-        led: bool,
+        blank_led: bool,
     ) -> Result<Option<ComposedEntry>, EntryError> {
         let origin = context.origin.as_ref();
         let mut scanner: RowScanner<'_, InlineName> = RowScanner::of_row(
             alloc, text, place, spans, origin,
         );
-        if begins_directive(led, &scanner) {
+        if begins_directive(blank_led, &scanner) {
             return take_directive(alloc, context, text, place, spans);
         }
         let len = self.len();
-        match append_record(led, context, &mut scanner, self) {
+        match append_record(blank_led, context, &mut scanner, self) {
             Ok(composed) => {
                 let owner = owner_in(&self[len..], composed.owner_len);
                 context.take_over(&owner, composed.last_ttl, composed.class);
@@ -91,7 +90,7 @@ fn take_directive(
     place: usize,
     spans: &[TokenSpan],
 ) -> Result<Option<ComposedEntry>, EntryError>
-    requires row { (next : ℕ) × (led : Bool) × IsRowAt text.now place spans.now next led }
+    requires row { (next : ℕ) × (blank_led : Bool) × IsRowAt text.now place spans.now next blank_led }
     requires begins { BeginsDirective (map (λ span. token_in text.now span) spans.now) }
     ensures ok { IfOk result (λ given. (entry : spec.Entry)
         × IsEntry (context_of context.old) (row_of false (map (λ span. token_in text.now span) spans.now)) entry (context_of context.new)
@@ -138,21 +137,21 @@ fn composed_of(
 /// Fails with an error other than `OutOfMemory` only if the row is no record in the context. It may then have appended
 /// a part of the octets.
 fn append_record(
-    led: bool,
+    blank_led: bool,
     context: &Context,
     scanner: &mut RowScanner<'_, InlineName>,
     octets: &mut Vec<u8>,
 ) -> Result<ComposedRecord, EntryError>
-    requires { IsDirective (row_of led (tokens_of scanner.old)) → ⊥ }
+    requires { IsDirective (row_of blank_led (tokens_of scanner.old)) → ⊥ }
     ensures ok { IfOk result (λ composed. ComposesRecord (names_of scanner.old) (context_of context.now)
-        (row_of led (tokens_of scanner.old)) composed octets.old.items octets.new.items) }
+        (row_of blank_led (tokens_of scanner.old)) composed octets.old.items octets.new.items) }
     ensures err { IfErr result (λ error. is_memory error ≡ false → (statement : Statement) (entry : spec.Entry) (after : spec.Context)
-        → Says (names_of scanner.old) (row_of led (tokens_of scanner.old)) statement
+        → Says (names_of scanner.old) (row_of blank_led (tokens_of scanner.old)) statement
         → Enters (context_of context.now) statement entry after → ⊥) }
     ensures more { OnErr result (GoesOn octets.old.items octets.new.items) }
 {
     let len = octets.len();
-    append_owner(led, context, scanner, octets)?;
+    append_owner(blank_led, context, scanner, octets)?;
     let owner_len = octets.len() - len;
     let head = match scan_head(scanner) {
         Ok(head) => head,
@@ -177,19 +176,19 @@ fn append_record(
 /// its first token spells no name. Nothing is then appended.
 #[tactic(auto, using(crate::proofs::ComposedRows::stated_stands, crate::proofs::ComposedRows::last_stands, crate::proofs::ComposedRows::no_stated, crate::proofs::ComposedRows::no_last))]
 fn append_owner(
-    led: bool,
+    blank_led: bool,
     context: &Context,
     scanner: &mut RowScanner<'_, InlineName>,
     octets: &mut Vec<u8>,
 ) -> Result<(), EntryError>
-    ensures ok { OnOk result (OwnerStands (names_of scanner.old) (context_of context.now) (row_of led (tokens_of scanner.old))
+    ensures ok { OnOk result (OwnerStands (names_of scanner.old) (context_of context.now) (row_of blank_led (tokens_of scanner.old))
         (tokens_of scanner.new) octets.old.items octets.new.items) }
     ensures err { IfErr result (λ error. is_memory error ≡ false
-        → HasNoOwner (names_of scanner.old) (context_of context.now) (row_of led (tokens_of scanner.old))) }
+        → HasNoOwner (names_of scanner.old) (context_of context.now) (row_of blank_led (tokens_of scanner.old))) }
     ensures names { SameNames (names_of scanner.old) (names_of scanner.new) }
     ensures same { OnErr result (octets.new.items ≡ octets.old.items) }
 {
-    if led {
+    if blank_led {
         return context.append_last_owner(octets);
     }
     scanner.scan_name_into(octets)

@@ -8,8 +8,8 @@ ghost use Rattle.dns_zonefile.specs.Statement.{Directs};
 ghost use Rattle.dns_zonefile.specs.Seen.{statement_of};
 
 use super::Statement;
+use dns_entry_scanner::EntryScanner;
 use dns_name::{ToName, Ttl};
-use dns_row_scanner::EntryScanner;
 use dns_text::{Scan, Scanner, ScannerError};
 
 /// The word of a directive.

@@ -8,8 +8,8 @@ ghost use Rattle.dns_zonefile.specs.Statement.{HasHead};
 ghost use Rattle.dns_zonefile.specs.HeadWord.{Heads, IsHeadWord};
 
 use super::frequent_type::frequent_type;
+use dns_entry_scanner::EntryScanner;
 use dns_name::{Class, Rtype, Serial, Ttl};
-use dns_row_scanner::EntryScanner;
 use dns_text::{Scanner, ScannerError};
 
 /// TTL, class and type of a record, as far as its row states them.

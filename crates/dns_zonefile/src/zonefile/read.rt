@@ -1,10 +1,10 @@
 //! Reading entries, one after another.
 ghost use Rattle.std.specs.Prelude.{◌≡◌, List, Some, None, Err, Result, Option, false, map, option_copied, IfOk, IfErr, OnOk, OnErr};
-ghost use Rattle.dns_tokens.specs.RowFound.{IsRowAt};
-ghost use Rattle.dns_tokens.specs.TokenSpan.{token_in};
-ghost use Rattle.dns_row_scanner.specs.EntryError.{is_memory};
-ghost use Rattle.dns_row_scanner.specs.NameInText.{SpellsUnder};
-ghost use Rattle.dns_row_scanner.specs.declared.entry_error.EntryError.{EntryError};
+ghost use Rattle.dns_entry_scanner.specs.RowFound.{IsRowAt};
+ghost use Rattle.dns_entry_scanner.specs.TokenSpan.{token_in};
+ghost use Rattle.dns_entry_scanner.specs.EntryError.{is_memory};
+ghost use Rattle.dns_entry_scanner.specs.NameInText.{SpellsUnder};
+ghost use Rattle.dns_entry_scanner.specs.declared.entry_error.EntryError.{EntryError};
 ghost use Rattle.dns_zonefile.specs.Composed.{HandsOn, with_reason};
 ghost use Rattle.dns_zonefile.specs.Entry as spec;
 ghost use Rattle.dns_zonefile.specs.Error.{line_of as error_line};
@@ -15,9 +15,8 @@ ghost use Rattle.dns_zonefile.specs.ReaderSeen.{given_of, reader_of, refused_in}
 use super::Zonefile;
 use crate::entry_form::{AsValues, EntryForm};
 use crate::{ComposedEntry, Entry, Error};
+use dns_entry_scanner::{EntryError, RowFound, ScannedName, read_row};
 use dns_name::ToName;
-use dns_row_scanner::{EntryError, ScannedName};
-use dns_tokens::{RowFound, read_row};
 
 /// The result of reading a row.
 #[derive(Drop)]
@@ -116,7 +115,7 @@ impl Zonefile {
         ensures kept { OnErr result (F.octets form.new ≡ F.octets form.old) }
     {
         match read_row(self.text.as_slice(), self.place, &mut self.spans) {
-            Ok(RowFound::Row { next, led }) => self.enter_row(next, led, form),
+            Ok(RowFound::Row { next, blank_led }) => self.enter_row(next, blank_led, form),
             Ok(RowFound::End) => Ok(RowRead::Ended),
             Ok(RowFound::Broken) => Err(EntryError::Custom("broken row")),
             Err(_) => Err(EntryError::OutOfMemory),
@@ -127,10 +126,10 @@ impl Zonefile {
     fn enter_row<F: EntryForm>(
         &mut self,
         next: usize,
-        led: bool,
+        blank_led: bool,
         form: &mut F,
     ) -> Result<RowRead<F::Given>, EntryError>
-        requires { IsRowAt self.old.text.items self.old.place self.old.spans.items next led }
+        requires { IsRowAt self.old.text.items self.old.place self.old.spans.items next blank_led }
         ensures ok { IfOk result (λ read. ReadsRow F.gives (reader_of self.old) (F.octets form.old) read (reader_of self.new)
             (F.octets form.new)) }
         ensures err { IfErr result (λ error. is_memory error ≡ false → IsRefusedAt (reader_of self.old)) }
@@ -144,7 +143,14 @@ impl Zonefile {
         }
         let text = self.text.as_slice();
         let spans = self.spans.as_slice();
-        let given = form.take_row(self.alloc, &mut self.context, text, self.place, spans, led)?;
+        let given = form.take_row(
+            self.alloc,
+            &mut self.context,
+            text,
+            self.place,
+            spans,
+            blank_led,
+        )?;
         self.place = next;
         self.count += 1;
         match given {

@@ -2,7 +2,7 @@
 //! a message may have.
 
 ghost use Rattle.std.specs.Prelude.{◌≡◌, ℕ, ◌+◌, ◌≤◌, List, length, sum_by};
-ghost use Rattle.zone_octets.specs.Record.{Record};
+ghost use Rattle.zone_records.specs.Record.{Record};
 ghost use Rattle.zone_core.specs.Cutting.{Fits, IsFullCut, IsBlocked, CutOrBlocked, FrontsFit, PartsFit, Grows};
 
 /// A full cut has the fewest groups: no cutting of the same records that fits has fewer.

@@ -1,7 +1,7 @@
 //! Laws of queries: octets are one query, or first break one rule.
 ghost use Rattle.std.specs.Prelude.{◌≡◌, ◌≢◌, ◌<◌, ◌^◌, ℕ, List, false};
 ghost use Rattle.dns_label.specs.Name.{IsName};
-ghost use Rattle.zone_octets.specs.Zone.{any_class};
+ghost use Rattle.zone_records.specs.Zone.{any_class};
 ghost use Rattle.zone_core.specs.Query.{AxfrQuery, IsQuery, IsQueryFault, query_octets};
 ghost use Rattle.zone_core.specs.declared.query_error.QueryError.{QueryError};
 

@@ -1,7 +1,7 @@
 //! Laws of transfers.
 
 ghost use Rattle.std.specs.Prelude.{◌≡◌, ℕ, Bool, List};
-ghost use Rattle.zone_octets.specs.Record.{Record};
+ghost use Rattle.zone_records.specs.Record.{Record};
 ghost use Rattle.zone_core.specs.Query.{AxfrQuery};
 ghost use Rattle.zone_core.specs.Transfer.{IsAnswer, IsTransfer};
 

@@ -9,6 +9,7 @@ use std::test::Fail;
 use zonewire::{DisplayKind, job};
 
 /// The words of a command line, the program's path first, and an empty environment.
+#[derive(Drop)]
 struct Given<'a> {
     words: &'a [&'a [u8]],
 }

@@ -1,9 +1,9 @@
 //! Laws of a zone's printed text.
 ghost use Rattle.std.specs.Prelude.{◌≡◌, ◌≢◌, ℕ, List, Option};
 ghost use Rattle.dns_text.specs.Document.{Layout};
-ghost use Rattle.zone_octets.specs.Record.{Record};
-ghost use Rattle.zone_octets.specs.Records.{AreRecordsOf};
-ghost use Rattle.zone_octets.specs.Zone.{any_class};
+ghost use Rattle.zone_records.specs.Record.{Record};
+ghost use Rattle.zone_records.specs.Records.{AreRecordsOf};
+ghost use Rattle.zone_records.specs.Zone.{any_class};
 ghost use Rattle.zone_rules.specs.Printed.{IsPrinted};
 ghost use Rattle.zone_rules.specs.ZoneText.{IsZoneText};
 

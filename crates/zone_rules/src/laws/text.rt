@@ -1,7 +1,7 @@
 //! Laws of a zone's text: it has one reading, or one fault.
 ghost use Rattle.std.specs.Prelude.{◌≡◌, ◌≢◌, ℕ, List, Option};
-ghost use Rattle.zone_octets.specs.Record.{Record};
-ghost use Rattle.zone_octets.specs.Zone.{any_class};
+ghost use Rattle.zone_records.specs.Record.{Record};
+ghost use Rattle.zone_records.specs.Zone.{any_class};
 ghost use Rattle.zone_rules.specs.ZoneText.{IsZoneFault, IsZoneText};
 ghost use Rattle.zone_rules.specs.declared.zone_error.ZoneError.{ZoneError};
 ghost use Rattle.zone_rules.specs.declared.zone_error.ZoneError.TheVariants as zone_error;

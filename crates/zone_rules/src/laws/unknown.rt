@@ -3,9 +3,9 @@ ghost use Rattle.std.specs.Prelude.{ℕ, List, Option};
 ghost use Rattle.dns_label.specs.Octets.{AreOctets};
 ghost use Rattle.dns_text.specs.Rows.{TokenRow};
 ghost use Rattle.dns_rdata.specs.DataOctets.{data_octets};
-ghost use Rattle.dns_row_scanner.specs.NameInText.{SpellsUnder};
+ghost use Rattle.dns_entry_scanner.specs.NameInText.{SpellsUnder};
 ghost use Rattle.dns_zonefile.specs.Statement.{Stated, StatesRecord};
-ghost use Rattle.zone_octets.specs.Record.{Record};
+ghost use Rattle.zone_records.specs.Record.{Record};
 ghost use Rattle.zone_rules.specs.Unknown.{HasUnknownRow, IsUnknownForm};
 ghost use Rattle.zone_rules.specs.ZoneText.{IsZoneText, start_of};
 

@@ -2,8 +2,8 @@
 
 ghost use Rattle.std.specs.Prelude.{◌↔◌, ℕ, ◌<◌, ◌^◌, List};
 ghost use Rattle.zone_canonical.specs.Canonical.{IsCanonical};
-ghost use Rattle.zone_octets.specs.Record.{Record};
-ghost use Rattle.zone_octets.specs.Records.{AreSendable};
+ghost use Rattle.zone_records.specs.Record.{Record};
+ghost use Rattle.zone_records.specs.Records.{AreSendable};
 ghost use Rattle.zone_core.specs.Query.{AxfrQuery};
 ghost use Rattle.zone_core.specs.Transfer.{IsTransfer};
 ghost use Rattle.zone_send.specs.Sent.{IsQueryFor};

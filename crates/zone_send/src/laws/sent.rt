@@ -1,13 +1,13 @@
 //! Laws of streams that are sent with every name written out, and of the zones and queries for which they are sent.
 
 ghost use Rattle.std.specs.Prelude.{◌≡◌, ◌<◌, ◌≤◌, ◌^◌, ℕ, List, length};
-ghost use Rattle.zone_octets.specs.Record.{Record};
-ghost use Rattle.zone_octets.specs.Records.{AreOctets, AreRecordsOf, AreSendable};
+ghost use Rattle.zone_records.specs.Record.{Record};
+ghost use Rattle.zone_records.specs.Records.{AreOctets, AreRecordsOf, AreSendable};
 ghost use Rattle.zone_core.specs.Cutting.{Fits, IsFullCut, IsBlocked, Grows};
 ghost use Rattle.zone_core.specs.Query.{AxfrQuery, IsQuery};
 ghost use Rattle.zone_core.specs.Transfer.{IsTransfer, IsExactTransfer};
 ghost use Rattle.zone_send.specs.Sent.{AsksFor, IsQueryFor, IsSent, size};
-ghost use Rattle.zone_text.specs.View.{apex_of};
+ghost use Rattle.zone.specs.View.{apex_of};
 
 /// The records of a `Zone` satisfy what the laws of sending require, and so does a query that `check_query` parses and
 /// that has the name and class of the zone.

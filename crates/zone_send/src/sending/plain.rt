@@ -3,7 +3,7 @@ ghost use Rattle.std.specs.Prelude.{◌≡◌, ◌+◌, ◌≤◌, ◌<◌, ◌^
 ghost use Rattle.std.specs.Int.{to_be_bytes, w16};
 ghost use Rattle.dns_label.specs.Name.{IsName};
 ghost use Rattle.dns_message.specs.Record.{record_octets};
-ghost use Rattle.zone_octets.specs.Record as spec;
+ghost use Rattle.zone_records.specs.Record as spec;
 ghost use Rattle.zone_core.specs.Asked.{asked_by};
 ghost use Rattle.zone_core.specs.Query.{AxfrQuery};
 ghost use Rattle.zone_send.specs.Sent.{message};

@@ -6,8 +6,8 @@ ghost use Rattle.dns_name.specs.Page.{Parts};
 ghost use Rattle.dns_sections.specs.declared.error.PushError.TheVariants.{OutOfMemory};
 ghost use Rattle.dns_builder.specs.Built.{IsDraftOf, nothing_built};
 ghost use Rattle.dns_builder.specs.Seen.{draft_of};
-ghost use Rattle.zone_octets.specs.Record as spec;
-ghost use Rattle.zone_octets.specs.Typed.{HasLawfulData};
+ghost use Rattle.zone_records.specs.Record as spec;
+ghost use Rattle.zone_records.specs.Typed.{HasLawfulData};
 ghost use Rattle.zone_core.specs.Asked.{asked_by};
 ghost use Rattle.zone_core.specs.Query.{AxfrQuery};
 ghost use Rattle.zone_core.specs.Frames.{frame};
@@ -25,9 +25,9 @@ use dns_message::{
 use dns_name::{AppendError, Composer, Name, Rtype, ToName};
 use std::alloc::{AllocError, Global};
 use zone_core::Query;
-use zone_octets::record::Record;
-use zone_octets::record_list::RecordList;
-use zone_octets::typed::typed_record;
+use zone_records::record::Record;
+use zone_records::record_list::RecordList;
+use zone_records::typed::typed_record;
 
 /// A target of one message after its length in two octets (RFC 1035 4.2.2). It writes names by one spelling.
 pub(crate) trait FrameTarget: Composer + Drop {

@@ -1,7 +1,7 @@
 use Rattle.std.proofs.Common.{List, [], ◌∷◌, ◌++◌, take, map, sym, ap, ◌∙◌, arith}
 use Rattle.std.proofs.lemmas.List.{map-append}
-use Rattle.zone_octets.specs.Record.{Record}
-use Rattle.zone_octets.proofs.Indexed.{element_at, take-next}
+use Rattle.zone_records.specs.Record.{Record}
+use Rattle.zone_records.proofs.Indexed.{element_at, take-next}
 use Rattle.zone_canonical.specs.Keyed.{Keyed, keyed}
 use Rattle.zone_canonical.proofs.octets.entries_of.Goals as goal
 

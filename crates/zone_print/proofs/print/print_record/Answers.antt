@@ -3,7 +3,7 @@ use Rattle.std.specs.Prelude.{string_bytes}
 use Rattle.dns_text.specs.Document.{document_text}
 use Rattle.dns_text.specs.Layout.{layout_of}
 use Rattle.dns_text.proofs.Writings.{on_ok_then}
-use Rattle.zone_octets.specs.Typed.{seen_of}
+use Rattle.zone_records.specs.Typed.{seen_of}
 use Rattle.zone_print.proofs.Documents.{held_document, record_added}
 use Rattle.zone_print.proofs.print.print_record.Goals as goal
 

@@ -1,8 +1,8 @@
 use Rattle.std.proofs.Common.{ℕ, Vec, Global, sym, subst, arith}
 use Rattle.std.specs.Prelude.{string_bytes}
 use Rattle.dns_text.specs.Layout.{layout_of}
-use Rattle.zone_octets.specs.Typed.{HasLawfulData}
-use Rattle.zone_octets.proofs.Indexed.{all_at}
+use Rattle.zone_records.specs.Typed.{HasLawfulData}
+use Rattle.zone_records.proofs.Indexed.{all_at}
 use Rattle.zone_rules.specs.Printed.{IsPrinted}
 use Rattle.zone_print.proofs.Lines.{printed_all, printed_more, printed_none}
 use Rattle.zone_print.proofs.print.print_records.Goals as goal

@@ -3,8 +3,8 @@ use Rattle.std.proofs.lemmas.Result.{err_from_is_err_and}
 use Rattle.dns_octets.specs.Parser.{octets_of}
 use Rattle.zone_receive.specs.Asked.{asked_of}
 use Rattle.zone_receive.specs.Receiving.{IsMessageFault}
-use Rattle.zone_octets.specs.Records.{AreOctets}
-use Rattle.zone_octets.proofs.OctetFronts.{octets_by_place}
+use Rattle.zone_records.specs.Records.{AreOctets}
+use Rattle.zone_records.proofs.OctetFronts.{octets_by_place}
 use Rattle.zone_receive.proofs.TakenRecords.{fault_or}
 use Rattle.zone_receive.proofs.TakenMessages.{taken_none, taken_more, taken_fault}
 use Rattle.zone_receive.proofs.message.judge_message.Goals as goal

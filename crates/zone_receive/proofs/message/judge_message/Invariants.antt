@@ -1,6 +1,6 @@
 use Rattle.std.specs.List.{AllByRecursion}
 use Rattle.zone_receive.specs.Asked.{asked_of}
-use Rattle.zone_octets.specs.Records.{IsRecordOf}
+use Rattle.zone_records.specs.Records.{IsRecordOf}
 use Rattle.zone_receive.proofs.TakenMessages.{HasTaken}
 use Rattle.zone_receive.proofs.message.judge_message.Given as given
 

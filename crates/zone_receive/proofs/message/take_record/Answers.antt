@@ -5,9 +5,9 @@ use Rattle.dns_octets.specs.Parser.{octets_of, place_of}
 use Rattle.dns_name.specs.ParsedName.{labels_of}
 use Rattle.dns_header.specs.Record.{with_labels}
 use Rattle.dns_message.specs.Held.{record_of}
-use Rattle.zone_octets.specs.Record as spec
-use Rattle.zone_octets.specs.Records.{IsRecordOf}
-use Rattle.zone_octets.specs.Typed.{seen_of}
+use Rattle.zone_records.specs.Record as spec
+use Rattle.zone_records.specs.Records.{IsRecordOf}
+use Rattle.zone_records.specs.Typed.{seen_of}
 use Rattle.zone_receive.specs.declared.error.ReceiveError.{ReceiveError}
 use Rattle.zone_receive.specs.Asked.{asked_of}
 use Rattle.zone_receive.specs.Receiving.{IsRecordFault}

@@ -3,10 +3,10 @@ use Rattle.std.proofs.lemmas.Bool.{eqb-true, eq-eqb, false≢true}
 use Rattle.std.specs.List.{AllByRecursion}
 use Rattle.dns_rdata.specs.Fields.{IsData}
 use Rattle.dns_message.specs.Record.{IsRecord, ReadsRecord, record_octets}
-use Rattle.zone_octets.specs.Record as spec
-use Rattle.zone_octets.specs.Records.{IsRecordOf}
-use Rattle.zone_octets.specs.Zone.{soa_type}
-use Rattle.zone_octets.proofs.Each.{all_append}
+use Rattle.zone_records.specs.Record as spec
+use Rattle.zone_records.specs.Records.{IsRecordOf}
+use Rattle.zone_records.specs.Zone.{soa_type}
+use Rattle.zone_records.proofs.Each.{all_append}
 use Rattle.zone_receive.specs.Asked.{asked_of}
 use Rattle.zone_receive.specs.Receiving.{KeepsFirstRule, KeepsLastRule}
 use Rattle.zone_receive.specs.FrameBuffer.{HoldsFront, HasRole}

@@ -2,14 +2,14 @@ use Rattle.std.proofs.Common.{◌<◌, ◌^◌, ◌∙◌, List, subst, sym, ari
 use Rattle.std.specs.List.{AllByRecursion}
 use Rattle.std.proofs.lemmas.Result.{IfOk-weaker, MatchResult-weaker}
 use Rattle.dns_builder.proofs.Begun.{handed-on}
-use Rattle.zone_octets.specs.Record.{Record}
-use Rattle.zone_octets.specs.Typed.{HasLawfulData}
+use Rattle.zone_records.specs.Record.{Record}
+use Rattle.zone_records.specs.Typed.{HasLawfulData}
 use Rattle.zone_core.specs.Asked.{asked_by}
 use Rattle.zone_send.specs.Sent.{AsksFor}
 use Rattle.zone_send.specs.SentBy.{IsSendFault}
 use Rattle.zone_send.specs.declared.sending.error.SendError.TheVariants.{OutOfMemory}
-use Rattle.zone_text.specs.View.{apex_of}
-use Rattle.zone_text.proofs.ZoneForms.{zone_data}
+use Rattle.zone.specs.View.{apex_of}
+use Rattle.zone.proofs.ZoneForms.{zone_data}
 use Rattle.zone_send.proofs.SendFaults.{fault_for, id_small}
 use Rattle.zone_send.proofs.Best.{sent_for, none_for}
 use Rattle.zone_send.proofs.sending.send.Goals as goal

@@ -1,7 +1,7 @@
 use Rattle.std.proofs.Common.{◌∙◌, ap, sym, subst, arith, take, List}
-use Rattle.zone_octets.specs.Record.{Record}
+use Rattle.zone_records.specs.Record.{Record}
 use Rattle.zone_send.specs.Sending.{Holds}
-use Rattle.zone_octets.proofs.Indexed.{element_at, take-next}
+use Rattle.zone_records.proofs.Indexed.{element_at, take-next}
 use Rattle.zone_send.proofs.Streams.{sent, some_of, record_blocked, all_again, soa_blocked, none_again}
 use Rattle.zone_core.proofs.Flags.{none_of, at_true, at_false}
 use Rattle.zone_send.proofs.sending.send_records.Goals as goal

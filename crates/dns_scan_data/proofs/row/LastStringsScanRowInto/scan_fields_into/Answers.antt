@@ -1,7 +1,7 @@
 use Rattle.std.proofs.Common.{List, subst}
 use Rattle.dns_scan.specs.Token.{Token}
 use Rattle.dns_fields.proofs.TextStrings.{no_strings, no_tokens}
-use Rattle.dns_row_scanner.specs.AppendedString.{AppendsStrings, SpellsNoStrings}
+use Rattle.dns_entry_scanner.specs.AppendedString.{AppendsStrings, SpellsNoStrings}
 use Rattle.dns_scan_data.proofs.Strings.{strings_appended}
 use Rattle.dns_scan_data.proofs.row.LastStringsScanRowInto.scan_fields_into.Goals as goal
 

@@ -1,7 +1,7 @@
 use Rattle.std.proofs.Common.{◌≡◌, ◌∷◌, [], true, false, sym, ◌∙◌, arith, append_assoc}
 use Rattle.dns_header.specs.Head.{fixed_octets}
-use Rattle.dns_row_scanner.specs.RowScanner.{origin_of}
-use Rattle.dns_row_scanner.proofs.HandedOn.{handed_on}
+use Rattle.dns_entry_scanner.specs.RowScanner.{origin_of}
+use Rattle.dns_entry_scanner.proofs.HandedOn.{handed_on}
 use Rattle.dns_scan_data.proofs.Appending.{gone_by, gone_on, gone_same}
 use Rattle.dns_wire.proofs.Flat.{always_on_err}
 use Rattle.dns_zonefile.proofs.ComposedRows.{composes_record, stands_longer, unclassed, unowned}

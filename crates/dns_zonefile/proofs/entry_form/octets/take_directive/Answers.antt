@@ -1,5 +1,5 @@
 use Rattle.std.proofs.Common.{◌≡◌, true, false, refl, sym, ap, ◌∙◌, subst}
-use Rattle.dns_row_scanner.proofs.HandedOn.{handed_on}
+use Rattle.dns_entry_scanner.proofs.HandedOn.{handed_on}
 use Rattle.dns_zonefile.specs.Directive.{BeginsDirective}
 use Rattle.dns_zonefile.specs.Seen.{row_of}
 use Rattle.dns_zonefile.proofs.ComposedRows.{directs_no_record}

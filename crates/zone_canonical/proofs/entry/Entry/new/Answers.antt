@@ -1,7 +1,7 @@
 use Rattle.std.proofs.Common.{ap, length}
 use Rattle.dns_label.specs.Name.{wire}
-use Rattle.zone_octets.specs.Record.{Record}
-use Rattle.zone_octets.proofs.StoredRecords.{record_in_whole, stored_of}
+use Rattle.zone_records.specs.Record.{Record}
+use Rattle.zone_records.proofs.StoredRecords.{record_in_whole, stored_of}
 use Rattle.zone_canonical.specs.Form.{form_of}
 use Rattle.zone_canonical.specs.Keyed.{with_key}
 use Rattle.zone_canonical.proofs.entry.Entry.new.Goals as goal

@@ -1,9 +1,9 @@
 use Rattle.std.proofs.Common.{List, sym, ap, ◌∙◌, subst}
 use Rattle.zone_receive.specs.Asked.{asked_of}
 use Rattle.zone_receive.specs.Receiving.{Heard}
-use Rattle.zone_text.specs.View.{Contents}
-use Rattle.zone_octets.specs.Record.{Record}
-use Rattle.zone_octets.specs.Records.{AreRecordsOf}
+use Rattle.zone.specs.View.{Contents}
+use Rattle.zone_records.specs.Record.{Record}
+use Rattle.zone_records.specs.Records.{AreRecordsOf}
 use Rattle.zone_receive.proofs.ReceivedZones.{transferred_is_zone}
 use Rattle.zone_receive.proofs.Receivers.{done_stage, has_transfer, no_zone}
 use Rattle.zone_receive.proofs.receiver.Receiver.into_zone.Goals as goal

@@ -1,5 +1,5 @@
 use Rattle.dns_name.specs.Spelling.{hash_spelling}
-use Rattle.dns_spelling.specs.Alike.{HaveNames}
+use Rattle.dns_compression_laws.specs.Alike.{HaveNames}
 use Rattle.zone_send.specs.Spelled.{spelled_size}
 use Rattle.zone_core.proofs.CuttingsWhere.{full_cut_is_fewest_where, blocked_fits_no_cutting_where}
 use Rattle.zone_send.proofs.SpelledCuts.{hash_parts_fit}

@@ -1,8 +1,8 @@
 use Rattle.std.proofs.Common.{refl}
 use Rattle.dns_name.specs.Spelling.{tree_spelling, hash_spelling}
-use Rattle.dns_size.specs.Cost.{names_in}
-use Rattle.dns_size.specs.Groups.{group_parts}
-use Rattle.dns_size.proofs.Sizes.{any_proper}
+use Rattle.dns_compression_laws.specs.Cost.{names_in}
+use Rattle.dns_compression_laws.specs.Groups.{group_parts}
+use Rattle.dns_compression_laws.proofs.Sizes.{any_proper}
 use Rattle.zone_send.specs.Spelled.{answer_head, record_items}
 use Rattle.zone_send.proofs.SpelledCuts.{hash_proper}
 use Rattle.zone_send.proofs.SpelledSums.{message_octets}

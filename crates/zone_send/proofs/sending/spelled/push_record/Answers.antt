@@ -2,7 +2,7 @@ use Rattle.dns_header.specs.Written as written
 use Rattle.dns_rdata.specs.Data as data_specs
 use Rattle.dns_rdata.specs.Data.{number_of}
 use Rattle.dns_builder.specs.Seen.{draft_of}
-use Rattle.zone_octets.specs.Typed.{seen_of}
+use Rattle.zone_records.specs.Typed.{seen_of}
 use Rattle.zone_send.proofs.SpelledPushes.{pushed_by, typed_written}
 use Rattle.zone_send.proofs.sending.spelled.push_record.Goals as goal
 

@@ -27,7 +27,7 @@ owner_in-owner-requires c = (
 
 pub returns-in-Ok-clause-ok : goal.returns-in-Ok-clause-ok
 returns-in-Ok-clause-ok c =
-    record_handed (c.of_row-scanner.ensures.origin ∙ c.as_ref-origin.ensures.value) (ap (row_of c.args.led) c.of_row-scanner.ensures.tokens)
+    record_handed (c.of_row-scanner.ensures.origin ∙ c.as_ref-origin.ensures.value) (ap (row_of c.args.blank_led) c.of_row-scanner.ensures.tokens)
     c.in-Ok.ensures.ok
     (c.owner_in-owner.ensures _ (record_begins _ c.len-len.result (omega arith)
     (take_rest c.deref.result.now c.len-len.result ∙ ap (λ (l : List ℕ). drop c.len-len.result l) c.deref.ensures.value)
@@ -36,5 +36,5 @@ returns-in-Ok-clause-ok c =
 pub returns-in-Err-clause-err : goal.returns-in-Err-clause-err
 returns-in-Err-clause-err c = λ real entry after is.
     c.in-Err.ensures.err real is.statement entry after
-    (says_under (sym (c.of_row-scanner.ensures.origin ∙ c.as_ref-origin.ensures.value)) (ap (row_of c.args.led) (sym c.of_row-scanner.ensures.tokens)) is.says)
+    (says_under (sym (c.of_row-scanner.ensures.origin ∙ c.as_ref-origin.ensures.value)) (ap (row_of c.args.blank_led) (sym c.of_row-scanner.ensures.tokens)) is.says)
     is.enters

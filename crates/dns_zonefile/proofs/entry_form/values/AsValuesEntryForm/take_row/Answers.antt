@@ -1,5 +1,5 @@
 use Rattle.std.proofs.Common.{[], refl, sym}
-use Rattle.dns_row_scanner.proofs.HandedOn.{handed_on}
+use Rattle.dns_entry_scanner.proofs.HandedOn.{handed_on}
 use Rattle.dns_zonefile.proofs.Forms.{if_err_each, if_ok_each, says_under, unentered, value_is_given}
 use Rattle.dns_zonefile.proofs.entry_form.values.AsValuesEntryForm.take_row.Goals as goal
 

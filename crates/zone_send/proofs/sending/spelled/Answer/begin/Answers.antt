@@ -1,6 +1,6 @@
 use Rattle.std.proofs.Common.{◌∙◌, refl, arith}
 use Rattle.dns_header.specs.Question.{Question}
-use Rattle.zone_octets.specs.Zone.{axfr_type}
+use Rattle.zone_records.specs.Zone.{axfr_type}
 use Rattle.zone_core.specs.Asked.{asked_by}
 use Rattle.zone_send.proofs.SpelledPushes.{unasked, question_is, unasked_large, asked}
 use Rattle.zone_send.proofs.sending.spelled.Answer.begin.Goals as goal

@@ -1,6 +1,6 @@
 use Rattle.std.proofs.Common.{◌∙◌, ◌+◌, ◌≤◌, Bool, [], ◌∷◌, refl, ap, subst, arith}
 use Rattle.dns_builder.specs.Seen.{draft_of}
-use Rattle.zone_octets.proofs.Indexed.{all_at, element_at}
+use Rattle.zone_records.proofs.Indexed.{all_at, element_at}
 use Rattle.zone_core.specs.Asked.{asked_by}
 use Rattle.zone_core.specs.Frames.{frame}
 use Rattle.zone_send.specs.Sent.{with_soa_again}

@@ -1,6 +1,6 @@
 use Rattle.std.proofs.Common.{arith}
-use Rattle.zone_octets.specs.Typed.{HasLawfulData}
-use Rattle.zone_octets.proofs.Indexed.{all_at}
+use Rattle.zone_records.specs.Typed.{HasLawfulData}
+use Rattle.zone_records.proofs.Indexed.{all_at}
 use Rattle.zone_send.proofs.SpelledStreams.{again_last}
 use Rattle.zone_send.proofs.sending.spelled.Answer.record_at.Goals as goal
 

@@ -1,6 +1,6 @@
 use Rattle.std.proofs.Common.{◌-◌, ◌≤◌, length}
 use Rattle.dns_name.specs.Page.{Parts}
-use Rattle.zone_octets.specs.Record.{Record}
+use Rattle.zone_records.specs.Record.{Record}
 use Rattle.zone_core.specs.Asked.{asked_by}
 use Rattle.zone_send.specs.Sent.{with_soa_again}
 use Rattle.zone_send.specs.SpelledSending.{AreItems, SendsUpTo}

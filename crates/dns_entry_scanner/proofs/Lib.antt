@@ -1,0 +1,14 @@
+pub mod PlainOctets
+pub mod TokenRuns
+pub mod Steps
+pub mod Rows
+pub mod PlainTokens
+pub mod OneNameInText
+pub mod ChainedNames
+pub mod SpelledUnder
+pub mod PlainTexts
+pub mod Words
+pub mod Gaps
+pub mod Refused
+pub mod OneLabel
+pub mod HandedOn

@@ -1,0 +1,124 @@
+-- Rows, token by token, and the end of a text.
+use Rattle.std.proofs.Common.{◌≡◌, ◌==◌, ℕ, ◌+◌, ◌<◌, ◌≤◌, Bool, true, false, List, [], ◌∷◌, ◌++◌, length, map, drop, get_or, Option, Some, None, if◌then◌else◌, not, refl, sym, ◌∙◌, ap, subst, arith, length-append}
+use Rattle.std.proofs.lemmas.List.{append-nil, drop_more, length-drop}
+use Rattle.std.specs.Prelude.{All}
+use Rattle.std.proofs.lemmas.List.Elements.{All-push}
+use Rattle.std.proofs.lemmas.Bool.Decides.{Decides-eqb}
+use Rattle.dns_scan.specs.Token.{Token}
+use Rattle.dns_text.specs.Rows.{is_led}
+use Rattle.dns_text.specs.Tokens.{Next, Row, from_feed, has_feed, is_end}
+use Rattle.dns_text.specs.Tokens.Next.{ended, goes, comment, quoted, unquoted}
+use Rattle.dns_text.specs.Tokens.Row.{end, token}
+use Rattle.dns_entry_scanner.specs.RowFound.{IsRowAt, NoRow}
+use Rattle.dns_entry_scanner.specs.TokenSpan.{IsMarked, NoNext, token_in}
+use Rattle.dns_entry_scanner.specs.declared.token_span.TokenSpan.{TokenSpan}
+use Rattle.dns_entry_scanner.proofs.Steps.{one_next}
+
+-- the rest is shorter
+feed_shorter : (octet : ℕ) (text : List ℕ) (feed : Bool) → length (from_feed text) ≤ length text
+    → length (if feed then octet ∷ text else from_feed text) ≤ length (octet ∷ text)
+feed_shorter octet text true behind = omega arith
+feed_shorter octet text false behind = omega (arith, behind)
+
+length-from_feed : (text : List ℕ) → length (from_feed text) ≤ length text
+length-from_feed [] = omega arith
+length-from_feed (octet ∷ text) = feed_shorter octet text (octet == 10) (length-from_feed text)
+
+pub next_shorter : {inside : Bool} {text : List ℕ} {found : Option Token} {out : Bool} {rest : List ℕ} → Next inside text found out rest
+    → length rest < length text
+next_shorter (ended octet head) = omega arith
+next_shorter (goes octet behind head next) = omega (arith, next_shorter next)
+next_shorter (comment {text = text} octet head next) = omega (arith, next_shorter next, length-from_feed text)
+next_shorter (quoted {front = front} {rest = rest} octet head run) =
+    omega (arith, ap (length {A = ℕ}) run.whole, length-append front (34 ∷ rest))
+next_shorter (unquoted {front = front} {rest = rest} octet head run some) =
+    omega (arith, ap (length {A = ℕ}) run.whole, length-append front rest, some)
+
+pub row_shorter : {inside : Bool} {text rest : List ℕ} {tokens : List Token} → Row inside text tokens rest → length rest < length text
+row_shorter (end next) = next_shorter next
+row_shorter (token out left next others) = omega (arith, next_shorter next, row_shorter others)
+
+-- the row after its first token
+row_behind : {inside out : Bool} {text left rest : List ℕ} {found : Token} {tokens : List Token} → Next inside text (Some found) out left
+    → Row inside text tokens rest → (others : List Token) × Row out left others rest
+row_behind {found = found} first (end {rest = rest} next) =
+    let bad = (one_next first None false rest next).founds in absurd cc
+row_behind {out = out} {left = left} {rest = rest} first (token {found = found'} {others = others} out' left' next row) =
+    let same = one_next first (Some found') out' left' next in
+    (others, subst (λ (b : Bool). Row b left others rest) (sym same.outs) (subst (λ (l : List ℕ). Row out' l others rest) (sym same.rests) row))
+
+-- The tokens so far: the row goes on with those of the rest, and with no others.
+pub record Held (text : List ℕ) (place : ℕ) (spans : List TokenSpan) (inside : Bool) (left : List ℕ) : Type 0 where
+  pub on : (others : List Token) (rest : List ℕ) → Row inside left others rest
+      → Row false (drop place text) (map (λ span. token_in text span) spans ++ others) rest
+  pub back : (tokens : List Token) (rest : List ℕ) → Row false (drop place text) tokens rest
+      → (others : List Token) × Row inside left others rest
+  pub marked : All (IsMarked text) spans
+
+tokens_more : (text : List ℕ) (spans : List TokenSpan) (span : TokenSpan) (others : List Token)
+    → map (λ s. token_in text s) (spans ++ span ∷ []) ++ others ≡ map (λ s. token_in text s) spans ++ (token_in text span ∷ others)
+tokens_more text [] span others = refl
+tokens_more text (first ∷ spans) span others = ap (λ l. token_in text first ∷ l) (tokens_more text spans span others)
+
+pub held_more : {text left behind : List ℕ} {place : ℕ} {spans all : List TokenSpan} {inside out : Bool} (span : TokenSpan) (seen : List ℕ)
+    → Held text place spans inside left → seen ≡ text → Next inside left (Some (token_in seen span)) out behind → IsMarked seen span
+    → all ≡ spans ++ span ∷ [] → Held text place all out behind
+held_more {text} {left} {behind} {place} {spans} {all} {inside} {out} span seen held same next marked is =
+    let here : Next inside left (Some (token_in text span)) out behind =
+    subst (λ (l : List ℕ). Next inside left (Some (token_in l span)) out behind) same next in
+    let more : Held text place (spans ++ span ∷ []) out behind = record {
+      on = λ others rest row. subst (λ (l : List Token). Row false (drop place text) l rest) (sym (tokens_more text spans span others))
+          (held.on (token_in text span ∷ others) rest (token out behind here row));
+      back = λ tokens rest row. let left_row = held.back tokens rest row in row_behind here left_row.1;
+      marked = All-push (IsMarked text) spans span held.marked (subst (λ (l : List ℕ). IsMarked l span) same marked);
+    } in
+    subst (λ (l : List TokenSpan). Held text place l out behind) (sym is) more
+
+-- a row ends outside parentheses
+ends_outside : {inside out : Bool} {text rest : List ℕ} → Next inside text None out rest → out ≡ false
+ends_outside (ended octet head) = refl
+ends_outside (goes octet behind head next) = ends_outside next
+ends_outside (comment octet head next) = ends_outside next
+
+pub held_last : {text left behind : List ℕ} {place next : ℕ} {spans : List TokenSpan} {inside out blank_led : Bool} (seen : List ℕ)
+    → Held text place spans inside left → seen ≡ text → Next inside left None out behind → drop next seen ≡ behind → next ≤ length seen
+    → blank_led ≡ is_led (drop place text) → IsRowAt text place spans next blank_led
+held_last {text} {left} {behind} {place} {next} {spans} {inside} {out} {blank_led} seen held same ends at within leads =
+    let tokens = map (λ span. token_in text span) spans in
+    let last : Next inside left None false behind = subst (λ (b : Bool). Next inside left None b behind) (ends_outside ends) ends in
+    let left_at : drop next text ≡ behind = ap (λ l. drop next l) (sym same) ∙ at in
+    let row : Row false (drop place text) tokens (drop next text) =
+    subst (λ (l : List ℕ). Row false (drop place text) tokens l) (sym left_at)
+    (subst (λ (l : List Token). Row false (drop place text) l behind) (append-nil tokens) (held.on [] behind (end last))) in
+    let most : next ≤ length text = omega (arith, within, ap (length {A = ℕ}) same) in record {
+      row = row;
+      marked = held.marked;
+      leads = leads;
+      behind = omega (arith, row_shorter row, length-drop place text, length-drop next text);
+      within = most;
+    }
+
+none_of_row : {inside : Bool} {text rest : List ℕ} {tokens : List Token} → NoNext inside text → Row inside text tokens rest → ⊥
+none_of_row none (end next) = none _ _ _ next
+none_of_row none (token out left next others) = none _ _ _ next
+
+pub held_broken : {text left : List ℕ} {place : ℕ} {spans : List TokenSpan} {inside : Bool} → Held text place spans inside left
+    → NoNext inside left → NoRow (drop place text)
+held_broken held none tokens rest row = let left_row = held.back tokens rest row in none_of_row none left_row.1
+
+end_feed : (octet : ℕ) (text : List ℕ) (feed : Bool) → (octet == 10) ≡ feed → not (has_feed text) ≡ is_end (from_feed text)
+    → not (if feed then true else has_feed text) ≡ is_end (if feed then octet ∷ text else from_feed text)
+end_feed octet text true is behind =
+    let e : 10 ≡ octet = sym ((Decides-eqb octet 10).0 is) in
+    subst (λ (n : ℕ). false ≡ is_end (n ∷ text)) e refl
+end_feed octet text false is behind = behind
+
+end_behind_comment : (text : List ℕ) → not (has_feed text) ≡ is_end (from_feed text)
+end_behind_comment [] = refl
+end_behind_comment (octet ∷ text) = end_feed octet text (octet == 10) refl (end_behind_comment text)
+
+pub end_at_comment : (text : List ℕ) (place stop : ℕ) → place < length text → get_or text place 0 ≡ 59
+    → drop stop text ≡ from_feed (drop (place + 1) text) → is_end (drop place text) ≡ is_end (drop stop text)
+end_at_comment text place stop within is feed =
+    ap is_end (drop_more text place 0 within) ∙ ap (λ (n : ℕ). is_end (n ∷ drop (place + 1) text)) is
+    ∙ end_behind_comment (drop (place + 1) text) ∙ ap is_end (sym feed)

@@ -1,0 +1,12 @@
+use Rattle.std.proofs.Common.{◌≤◌, ◌-◌, drop, length}
+use Rattle.dns_entry_scanner.proofs.Steps.{SameNext}
+use Rattle.dns_entry_scanner.proofs.step.next_step.Given as goal
+
+abbrev pub invariant-loop-at : goal.invariant-loop-at
+invariant-loop-at l = record {
+  same : SameNext l.inside (drop l.place l.text) l.now_inside (drop l.at l.text);
+  within : l.at ≤ length l.text;
+}
+
+abbrev pub decreases-loop-at : goal.decreases-loop-at
+decreases-loop-at l = length l.text - l.at

@@ -1,0 +1,14 @@
+pub mod Octets
+pub mod Head
+pub mod TokenSpan
+pub mod TokenEnd
+pub mod Step
+pub mod RowReader
+pub mod RowFound
+pub mod NameInText
+pub mod EntryError
+pub mod Gap
+pub mod RowToken
+pub mod RowScanner
+pub mod AppendedName
+pub mod AppendedString

@@ -1,5 +1,0 @@
-use Rattle.dns_row_scanner.proofs.PlainTexts.{plain_utf8}
-use Rattle.dns_row_scanner.proofs.octets.plain_word.Goals as goal
-
-pub from_utf8_unchecked-requires : goal.from_utf8_unchecked-requires
-from_utf8_unchecked-requires c = plain_utf8 _ c.requires

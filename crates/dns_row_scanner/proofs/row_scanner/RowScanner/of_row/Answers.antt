@@ -1,5 +1,0 @@
-use Rattle.dns_tokens.proofs.PlainTokens.{row_plain}
-use Rattle.dns_row_scanner.proofs.row_scanner.RowScanner.of_row.Goals as goal
-
-pub over-requires : goal.over-requires
-over-requires g c = λ is. row_plain c.requires.2

@@ -1,5 +1,0 @@
-pub mod Cost
-pub mod CostSum
-pub mod Free
-pub mod Joined
-pub mod Groups

@@ -1,7 +1,0 @@
-//! Laws of what targets write: reading returns the names and data as they were written, in each spelling
-//! (RFC 1035 4.1.4).
-//!
-//! A part of `dns_message`.
-#![tactic(auto)]
-
-pub mod laws;

@@ -1,5 +1,0 @@
-use Rattle.dns_tokens.proofs.PlainOctets.{feed_to}
-use Rattle.dns_tokens.proofs.octets.comment_end.Goals as goal
-
-pub returns-clause-feed : goal.returns-clause-feed
-returns-clause-feed c = feed_to c.args.text.now c.args.place c.run_end.result c.run_end.ensures.end

@@ -1,0 +1,111 @@
+-- How far a zone's text has been read. Only contracts inside the crate name it.
+use Rattle.std.specs.Prelude.{◌≡◌, ◌≢◌, ◌++◌, ℕ, Bool, true, Option, Some, None, Result, Ok, List, [], ◌∷◌, length, IfSome}
+use Rattle.dns_label.specs.Name.{IsName}
+use Rattle.dns_header.specs.Record.{RecordOf}
+use Rattle.dns_rdata.specs.Data.{Data, is_unknown}
+use Rattle.dns_rdata.specs.Fields.{IsData}
+use Rattle.dns_rdata.specs.DataOctets.{IsSpellable}
+use Rattle.dns_message.specs.Held.{record_of}
+use Rattle.dns_message.specs.Record.{IsRecord, record_octets}
+use Rattle.dns_entry_scanner.specs.declared.entry_error.EntryError.{EntryError}
+use Rattle.dns_zonefile.specs.Composed.{IsHeld}
+use Rattle.dns_zonefile.specs.Entry.{Entry}
+use Rattle.dns_zonefile.specs.Entry.Entry.{Resource}
+use Rattle.dns_zonefile.specs.Entries.{HasEntries}
+use Rattle.dns_zonefile.specs.Reader.{Gives, GoesOver, Reader}
+use Rattle.zone_records.specs.Record.{Record}
+use Rattle.zone_records.specs.Stored.{AreStored}
+use Rattle.zone_records.specs.Zone.{IsUnder, soa_type}
+use Rattle.zone_rules.specs.ZoneText.{KeepRules, records_in, start_of}
+use Rattle.zone_rules.specs.declared.zone_error.ZoneError.{ZoneError}
+use Rattle.zone_rules.specs.declared.zone_error.ZoneError.TheVariants as zone_error
+
+-- the reader of a zone's text before its first row
+abbrev pub reader_at : List ℕ → Option (List (List ℕ)) → ℕ → Reader
+reader_at text origin class = record { text = text; place = 0; context = start_of origin class; count = 0 }
+
+-- The entries before the place of the reader keep a zone's rules, and the octets are their records, which begin at
+-- these places. The origin, if there is one, is a name.
+pub record HasRead (text : List ℕ) (origin : Option (List (List ℕ))) (class : ℕ) (reader : Reader) (octets places : List ℕ) : Type 0 where
+  pub named : IfSome origin IsName
+  pub entries : List Entry
+  pub goes : GoesOver (reader_at text origin class) entries reader
+  pub keep : KeepRules entries
+  pub stored : AreStored octets places (records_in entries)
+
+-- All entries of the text do.
+pub record HasReadAll (text : List ℕ) (origin : Option (List (List ℕ))) (class : ℕ) (octets places : List ℕ) : Type 0 where
+  pub entries : List Entry
+  pub has : HasEntries (start_of origin class) text entries
+  pub keep : KeepRules entries
+  pub stored : AreStored octets places (records_in entries)
+
+-- the octets of the first of the records, if there is one
+abbrev pub first_octets : List Record → List ℕ
+first_octets [] = []
+first_octets (r ∷ records) = record_octets r
+
+-- The same if the octets are those of the first record alone, and the records are counted.
+pub record HasCounted (text : List ℕ) (origin : Option (List (List ℕ))) (class : ℕ) (reader : Reader) (octets : List ℕ) (count : ℕ) : Type 0 where
+  pub all : List ℕ
+  pub places : List ℕ
+  pub read : HasRead text origin class reader all places
+  pub first : octets ≡ first_octets (records_in read.entries)
+  pub counted : count ≡ length places
+
+-- All entries of the text do, and they have this number of records.
+pub record HasCountedAll (text : List ℕ) (origin : Option (List (List ℕ))) (class count : ℕ) : Type 0 where
+  pub octets : List ℕ
+  pub places : List ℕ
+  pub all : HasReadAll text origin class octets places
+  pub counted : count ≡ length places
+
+-- The reader returns a record, whose octets follow the old ones. The text writes its data in the form of unknown data
+-- or not.
+pub record AppendsRecord (old : List ℕ) (told : Bool) (given : Result (Option Entry) EntryError) (new : List ℕ) : Type 0 where
+  pub rr : RecordOf (List (List ℕ)) Data
+  pub is : given ≡ Ok (Some (Resource rr))
+  pub held : IsHeld rr
+  pub octets : new ≡ old ++ record_octets (record_of rr)
+  pub unknown_is : told ≡ is_unknown rr.rdata
+
+-- The reader goes on to a record, or to the end of the text, and then appends nothing to the octets.
+abbrev pub AppendsNext : Reader → List ℕ → Option Bool → Reader → List ℕ → Type 0
+AppendsNext reader old None new octets = Gives reader (Ok None) new × (octets ≡ old)
+AppendsNext reader old (Some told) new octets =
+    (given : Result (Option Entry) EntryError) × Gives reader given new × AppendsRecord old told given octets
+
+-- the octets begin with a record of this owner, or there are none
+abbrev pub BeginWith : Option (List (List ℕ)) → List ℕ → Type 0
+BeginWith None octets = octets ≡ []
+BeginWith (Some apex) octets =
+    (soa : Record) × (rest : List ℕ) × IsRecord soa × (octets ≡ record_octets soa ++ rest) × (apex ≡ soa.owner)
+
+-- The octets from the place on are the record, and those before it begin with one of this owner, or there are none.
+pub record StandsLast (octets : List ℕ) (place : ℕ) (apex : Option (List (List ℕ))) (r : Record) : Type 0 where
+  pub before : List ℕ
+  pub whole : octets ≡ before ++ record_octets r
+  pub at : place ≡ length before
+  pub begin : BeginWith apex before
+  pub is : IsRecord r
+
+-- a record that may be in the zone of this name, or be the first of a zone
+abbrev pub MayStandUnder : Option (List (List ℕ)) → Record → Type 0
+MayStandUnder None r = r.rtype ≡ soa_type
+MayStandUnder (Some apex) r = (r.rtype ≢ soa_type) × IsUnder apex r.owner
+
+-- the first rule that a record breaks there, with the number of its entry
+abbrev pub BreaksRule : ℕ → Option (List (List ℕ)) → Record → ZoneError → Type 0
+BreaksRule number apex r (zone_error.Untyped n) = (n ≡ number) × (IsData r.rtype r.rdata → ⊥)
+BreaksRule number None r (zone_error.FirstNotSoa n) = (n ≡ number) × IsData r.rtype r.rdata × (r.rtype ≢ soa_type)
+BreaksRule number (Some apex) r (zone_error.SecondSoa n) = (n ≡ number) × IsData r.rtype r.rdata × (r.rtype ≡ soa_type)
+BreaksRule number (Some apex) r (zone_error.OutOfZone n) =
+    (n ≡ number) × IsData r.rtype r.rdata × (r.rtype ≢ soa_type) × (IsUnder apex r.owner → ⊥)
+BreaksRule number apex r (zone_error.Unspellable n) =
+    (n ≡ number) × IsData r.rtype r.rdata × MayStandUnder apex r × (IsSpellable r.rtype r.rdata → ⊥)
+BreaksRule number apex r error = ⊥
+
+-- the same, or out of memory, if the text writes the data in the form of unknown data
+abbrev pub IsCheckFault : Bool → ℕ → Option (List (List ℕ)) → Record → ZoneError → Type 0
+IsCheckFault unknown number apex r zone_error.OutOfMemory = unknown ≡ true
+IsCheckFault unknown number apex r error = BreaksRule number apex r error

@@ -1,7 +1,0 @@
-use Rattle.std.proofs.Common.{◌∙◌, ap}
-use Rattle.zone_octets.specs.Record.{Record}
-use Rattle.zone_octets.proofs.StoredRecords.{class_at}
-use Rattle.zone_octets.proofs.record.Record.class.Goals as goal
-
-pub returns : goal.returns
-returns c = c.from_int.ensures ∙ c.number_at.ensures ∙ class_at _ _ c.self.invariant ∙ ap (λ (r : Record). r.class) c.self.view_is
