@@ -14,6 +14,7 @@ mod row;
 mod scan;
 mod show;
 mod table;
+mod typed;
 
 pub use compose::{compose_canonical_row, compose_row, row_len};
 pub use convert::{ConvertField, ConvertRow, OverOctets};
@@ -27,3 +28,4 @@ pub use table::{
     ARow, AaaaRow, CaaRow, DataType, DnskeyRow, DsRow, HinfoRow, MinfoRow, MxRow, NameRow, Number,
     RowOf, RpRow, SoaRow, SrvRow, TxtRow,
 };
+pub use typed::{FlattenData, ParseData, ScanData, TypedData};

@@ -84,12 +84,6 @@ unlike_cmp (typed number row) (unknown_data other) unlike = refl
 unlike_cmp (unknown_data unknown) (typed other fields) unlike = refl
 unlike_cmp (unknown_data unknown) (unknown_data other) unlike = absurd (unlike tt)
 
--- fields of one type, if of one number and neither is unknown
-pub of_one_kind : (one two : Data) → is_unknown one ≡ false → is_unknown two ≡ false → number_of one ≡ number_of two → AreOfOneKind one two
-of_one_kind (typed number row) (typed other fields) here there is = is
-of_one_kind (typed number row) (unknown_data other) here there is = absurd cc
-of_one_kind (unknown_data unknown) two here there is = absurd cc
-
 -- octets in the other order
 pub turned : (one two : List ℕ) → ordering_reverse (slice_cmp nat_cmp two one) ≡ slice_cmp nat_cmp one two
 turned one two = sym (nat_list_cmp_total.antisymm one two)

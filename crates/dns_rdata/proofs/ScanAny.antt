@@ -94,6 +94,15 @@ err_same (Err error) Other old new same rtype before after is none =
     (long_same new old (same_back old new same) rtype before (subst (λ tokens. ScansLong new rtype tokens) (sym is) long)))
     rdata left (text_same old new same rtype before after is rdata left scans)
 
+-- the same, where the tokens begin with no fields of the type and nothing marks unknown data
+pub typed_err_same : {T E : Type 0} (result : Result T E) (Other : E → Type 0) (old new : List ℕ → List (List ℕ) → Type 0) → SameNames old new
+    → (rtype : ℕ) (before after : List Token) → before ≡ after → IsUnmarked before → IfErr result (λ error. Other error → NoDataScans new rtype after)
+    → IfErr result (λ error. Other error → NoAnyDataScans old rtype before)
+typed_err_same {T} (Ok rdata) Other old new same rtype before after is unmarked none = tt
+typed_err_same {T} (Err error) Other old new same rtype before after is unmarked none =
+    err_same {T = T} (Err error) Other old new same rtype before after is
+    (λ other. none_typed new rtype rtype after refl (λ words marked. unmarked words (is ∙ marked)) (none other))
+
 pub left_behind_marker : {T E : Type 0} (result : Result T E) (before tokens left : List Token) → before ≡ marker ∷ tokens
     → OnErr result (IsEnding left tokens) → OnErr result (IsEnding left before)
 left_behind_marker (Ok rdata) before tokens left is ending = tt

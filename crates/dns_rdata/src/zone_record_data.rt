@@ -7,6 +7,7 @@ use crate::{
     A, Aaaa, Caa, Cname, Dnskey, Ds, Hinfo, Mb, Md, Mf, Mg, Minfo, Mr, Mx, Ns, Ptr, Rp, Soa, Srv,
     Txt,
 };
+use dns_fields::{DataType, TypedData};
 use dns_name::{Octets, RecordData, Rtype, ToName, UnknownRecordData};
 
 /// Makes data of any type of the data of one type, or hands on why there is none.
@@ -15,6 +16,35 @@ macro_rules! held {
         match $rdata {
             Ok(rdata) => Ok(ZoneRecordData::$variant(rdata)),
             Err(error) => Err(error),
+        }
+    };
+}
+
+/// The types that have fields. Calls a macro with what is given to it, and with the variant and the mnemonic of each.
+macro_rules! with_types {
+    ($called:ident, $($given:tt)*) => {
+        $called! {
+            ($($given)*)
+            A = A,
+            Ns = NS,
+            Md = MD,
+            Mf = MF,
+            Cname = CNAME,
+            Soa = SOA,
+            Mb = MB,
+            Mg = MG,
+            Mr = MR,
+            Ptr = PTR,
+            Hinfo = HINFO,
+            Minfo = MINFO,
+            Mx = MX,
+            Txt = TXT,
+            Rp = RP,
+            Aaaa = AAAA,
+            Srv = SRV,
+            Ds = DS,
+            Dnskey = DNSKEY,
+            Caa = CAA,
         }
     };
 }
@@ -28,7 +58,7 @@ mod scan;
 mod show;
 mod visit;
 
-use visit::{TypedData, Visit};
+use visit::Visit;
 
 /// Data of a record of a zone: the fields of one of the types that have some, or data of any type as opaque octets.
 ///
@@ -115,8 +145,8 @@ impl Visit<()> for OfType {
 
     ghost answers = { λ _ rdata result _. result ≡ number_of rdata };
 
-    fn fields<D: TypedData>(rdata: &D, _state: &mut ()) -> Rtype {
-        Rtype::from_int(rdata.number())
+    fn fields<D: TypedData>(_rdata: &D, _state: &mut ()) -> Rtype {
+        Rtype::from_int(D::Type::number())
     }
 
     fn unknown<Octs: Octets>(rdata: &UnknownRecordData<Octs>, _state: &mut ()) -> Rtype {

@@ -3,8 +3,13 @@ ghost use Rattle.std.specs.Prelude.{◌≡◌, [], ◌∷◌, Some};
 ghost use Rattle.dns_fields.specs.Fields.{compressible, field_at};
 
 use crate::RowData;
-use dns_fields::{Compressible, MinfoRow, Number};
-use dns_name::ToName;
+use dns_fields::{Compressible, FlattenData, MinfoRow, Number, ParseData, ScanData, TypedData};
+use dns_name::{
+    AppendError, EmptyBuilder, FlattenInto, FromBuilder, Name, ParseError, ParsedName, Parser,
+    ToName,
+};
+use dns_text::Scanner;
+use std::alloc::Global;
 use std::marker::PhantomData;
 
 /// Who is responsible for a mailing list or a mailbox.
@@ -35,5 +40,40 @@ impl<N: ToName> RowData<Number<14>, MinfoRow<N>> {
     {
         let (_, (emailbx, ())) = &self.row;
         &emailbx.0
+    }
+}
+
+impl<N: ToName> TypedData for Minfo<N> {
+    type Type = Number<14>;
+
+    type Row = MinfoRow<N>;
+
+    ghost held = { λ rdata. rdata };
+
+    fn typed_row(&self) -> &MinfoRow<N> {
+        &self.row
+    }
+}
+
+impl<'a> ParseData<'a> for Minfo<ParsedName<&'a [u8]>> {
+    fn parse_data(parser: &mut Parser<'a>) -> Result<Self, ParseError> {
+        Minfo::parse(parser)
+    }
+}
+
+impl<N: ToName + Drop, S: Scanner<Name = N>> ScanData<S> for Minfo<N> {
+    fn scan_data(scanner: &mut S) -> Result<Self, S::Error> {
+        Minfo::scan(scanner)
+    }
+}
+
+impl<N: ToName + Drop, Octs: FromBuilder + Drop> FlattenData<Octs> for Minfo<N>
+where
+    Octs::Builder: EmptyBuilder + Drop,
+{
+    type Flat = Minfo<Name<Octs>>;
+
+    fn flatten_data(self, alloc: Global) -> Result<Minfo<Name<Octs>>, AppendError> {
+        self.try_flatten_into(alloc)
     }
 }

@@ -3,8 +3,13 @@ ghost use Rattle.std.specs.Prelude.{◌≡◌, [], ◌∷◌, Some};
 ghost use Rattle.dns_fields.specs.Fields.{number16, compressible, field_at};
 
 use crate::RowData;
-use dns_fields::{Compressible, MxRow, Number};
-use dns_name::ToName;
+use dns_fields::{Compressible, FlattenData, MxRow, Number, ParseData, ScanData, TypedData};
+use dns_name::{
+    AppendError, EmptyBuilder, FlattenInto, FromBuilder, Name, ParseError, ParsedName, Parser,
+    ToName,
+};
+use dns_text::Scanner;
+use std::alloc::Global;
 use std::marker::PhantomData;
 
 /// A host that takes mail for the owner, and how it is preferred: the one with the lowest number comes first.
@@ -35,5 +40,40 @@ impl<N: ToName> RowData<Number<15>, MxRow<N>> {
     {
         let (_, (exchange, ())) = &self.row;
         &exchange.0
+    }
+}
+
+impl<N: ToName> TypedData for Mx<N> {
+    type Type = Number<15>;
+
+    type Row = MxRow<N>;
+
+    ghost held = { λ rdata. rdata };
+
+    fn typed_row(&self) -> &MxRow<N> {
+        &self.row
+    }
+}
+
+impl<'a> ParseData<'a> for Mx<ParsedName<&'a [u8]>> {
+    fn parse_data(parser: &mut Parser<'a>) -> Result<Self, ParseError> {
+        Mx::parse(parser)
+    }
+}
+
+impl<N: ToName + Drop, S: Scanner<Name = N>> ScanData<S> for Mx<N> {
+    fn scan_data(scanner: &mut S) -> Result<Self, S::Error> {
+        Mx::scan(scanner)
+    }
+}
+
+impl<N: ToName + Drop, Octs: FromBuilder + Drop> FlattenData<Octs> for Mx<N>
+where
+    Octs::Builder: EmptyBuilder + Drop,
+{
+    type Flat = Mx<Name<Octs>>;
+
+    fn flatten_data(self, alloc: Global) -> Result<Mx<Name<Octs>>, AppendError> {
+        self.try_flatten_into(alloc)
     }
 }

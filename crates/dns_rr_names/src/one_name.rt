@@ -3,8 +3,15 @@ ghost use Rattle.std.specs.Prelude.{◌≡◌, [], ◌∷◌};
 ghost use Rattle.dns_fields.specs.Fields.{compressible};
 
 use crate::RowData;
-use dns_fields::{Compressible, NameRow};
-use dns_name::ToName;
+use dns_fields::{
+    Compressible, DataType, FlattenData, NameRow, ParseData, RowOf, ScanData, TypedData,
+};
+use dns_name::{
+    AppendError, EmptyBuilder, FlattenInto, FromBuilder, Name, ParseError, ParsedName, Parser,
+    ToName,
+};
+use dns_text::Scanner;
+use std::alloc::Global;
 use std::marker::PhantomData;
 
 impl<T, N: ToName> RowData<T, NameRow<N>> {
@@ -16,5 +23,47 @@ impl<T, N: ToName> RowData<T, NameRow<N>> {
             row: (Compressible(name), ()),
             rtype: PhantomData,
         }
+    }
+}
+
+impl<T: DataType, N: ToName> TypedData for RowData<T, NameRow<N>> {
+    type Type = T;
+
+    type Row = NameRow<N>;
+
+    ghost held = { λ rdata. rdata };
+
+    fn typed_row(&self) -> &NameRow<N> {
+        &self.row
+    }
+}
+
+impl<'a, T: DataType> ParseData<'a> for RowData<T, NameRow<ParsedName<&'a [u8]>>>
+where
+    NameRow<ParsedName<&'a [u8]>>: RowOf<T>,
+{
+    fn parse_data(parser: &mut Parser<'a>) -> Result<Self, ParseError> {
+        RowData::parse(parser)
+    }
+}
+
+impl<T: DataType, N: ToName + Drop, S: Scanner<Name = N>> ScanData<S> for RowData<T, NameRow<N>>
+where
+    NameRow<N>: RowOf<T>,
+{
+    fn scan_data(scanner: &mut S) -> Result<Self, S::Error> {
+        RowData::scan(scanner)
+    }
+}
+
+impl<T: DataType, N: ToName + Drop, Octs: FromBuilder + Drop> FlattenData<Octs>
+    for RowData<T, NameRow<N>>
+where
+    Octs::Builder: EmptyBuilder + Drop,
+{
+    type Flat = RowData<T, NameRow<Name<Octs>>>;
+
+    fn flatten_data(self, alloc: Global) -> Result<Self::Flat, AppendError> {
+        self.try_flatten_into(alloc)
     }
 }

@@ -3,8 +3,13 @@ ghost use Rattle.std.specs.Prelude.{◌≡◌, [], ◌∷◌, Some};
 ghost use Rattle.dns_fields.specs.Fields.{uncompressed, field_at};
 
 use crate::RowData;
-use dns_fields::{Number, RpRow, Uncompressed};
-use dns_name::ToName;
+use dns_fields::{FlattenData, Number, ParseData, RpRow, ScanData, TypedData, Uncompressed};
+use dns_name::{
+    AppendError, EmptyBuilder, FlattenInto, FromBuilder, Name, ParseError, ParsedName, Parser,
+    ToName,
+};
+use dns_text::Scanner;
+use std::alloc::Global;
 use std::marker::PhantomData;
 
 /// Who is responsible for the owner.
@@ -35,5 +40,40 @@ impl<N: ToName> RowData<Number<17>, RpRow<N>> {
     {
         let (_, (txt, ())) = &self.row;
         &txt.0
+    }
+}
+
+impl<N: ToName> TypedData for Rp<N> {
+    type Type = Number<17>;
+
+    type Row = RpRow<N>;
+
+    ghost held = { λ rdata. rdata };
+
+    fn typed_row(&self) -> &RpRow<N> {
+        &self.row
+    }
+}
+
+impl<'a> ParseData<'a> for Rp<ParsedName<&'a [u8]>> {
+    fn parse_data(parser: &mut Parser<'a>) -> Result<Self, ParseError> {
+        Rp::parse(parser)
+    }
+}
+
+impl<N: ToName + Drop, S: Scanner<Name = N>> ScanData<S> for Rp<N> {
+    fn scan_data(scanner: &mut S) -> Result<Self, S::Error> {
+        Rp::scan(scanner)
+    }
+}
+
+impl<N: ToName + Drop, Octs: FromBuilder + Drop> FlattenData<Octs> for Rp<N>
+where
+    Octs::Builder: EmptyBuilder + Drop,
+{
+    type Flat = Rp<Name<Octs>>;
+
+    fn flatten_data(self, alloc: Global) -> Result<Rp<Name<Octs>>, AppendError> {
+        self.try_flatten_into(alloc)
     }
 }

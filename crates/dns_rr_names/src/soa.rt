@@ -3,8 +3,13 @@ ghost use Rattle.std.specs.Prelude.{◌≡◌, [], ◌∷◌, Some};
 ghost use Rattle.dns_fields.specs.Fields.{compressible, number32, field_at};
 
 use crate::RowData;
-use dns_fields::{Compressible, Number, SoaRow};
-use dns_name::{Serial, ToName, Ttl};
+use dns_fields::{Compressible, FlattenData, Number, ParseData, ScanData, SoaRow, TypedData};
+use dns_name::{
+    AppendError, EmptyBuilder, FlattenInto, FromBuilder, Name, ParseError, ParsedName, Parser,
+    Serial, ToName, Ttl,
+};
+use dns_text::Scanner;
+use std::alloc::Global;
 use std::marker::PhantomData;
 
 /// The start of a zone: where it comes from, and how copies of it are kept.
@@ -96,5 +101,40 @@ impl<N: ToName> RowData<Number<6>, SoaRow<N>> {
     {
         let (_, (_, (_, (_, (_, (_, (minimum, ()))))))) = &self.row;
         Ttl::from_secs(*minimum)
+    }
+}
+
+impl<N: ToName> TypedData for Soa<N> {
+    type Type = Number<6>;
+
+    type Row = SoaRow<N>;
+
+    ghost held = { λ rdata. rdata };
+
+    fn typed_row(&self) -> &SoaRow<N> {
+        &self.row
+    }
+}
+
+impl<'a> ParseData<'a> for Soa<ParsedName<&'a [u8]>> {
+    fn parse_data(parser: &mut Parser<'a>) -> Result<Self, ParseError> {
+        Soa::parse(parser)
+    }
+}
+
+impl<N: ToName + Drop, S: Scanner<Name = N>> ScanData<S> for Soa<N> {
+    fn scan_data(scanner: &mut S) -> Result<Self, S::Error> {
+        Soa::scan(scanner)
+    }
+}
+
+impl<N: ToName + Drop, Octs: FromBuilder + Drop> FlattenData<Octs> for Soa<N>
+where
+    Octs::Builder: EmptyBuilder + Drop,
+{
+    type Flat = Soa<Name<Octs>>;
+
+    fn flatten_data(self, alloc: Global) -> Result<Soa<Name<Octs>>, AppendError> {
+        self.try_flatten_into(alloc)
     }
 }

@@ -3,8 +3,13 @@ ghost use Rattle.std.specs.Prelude.{◌≡◌, [], ◌∷◌, Some};
 ghost use Rattle.dns_fields.specs.Fields.{number16, uncompressed, field_at};
 
 use crate::RowData;
-use dns_fields::{Number, SrvRow, Uncompressed};
-use dns_name::ToName;
+use dns_fields::{FlattenData, Number, ParseData, ScanData, SrvRow, TypedData, Uncompressed};
+use dns_name::{
+    AppendError, EmptyBuilder, FlattenInto, FromBuilder, Name, ParseError, ParsedName, Parser,
+    ToName,
+};
+use dns_text::Scanner;
+use std::alloc::Global;
 use std::marker::PhantomData;
 
 /// A host that offers a service.
@@ -51,5 +56,40 @@ impl<N: ToName> RowData<Number<33>, SrvRow<N>> {
     {
         let (_, (_, (_, (target, ())))) = &self.row;
         &target.0
+    }
+}
+
+impl<N: ToName> TypedData for Srv<N> {
+    type Type = Number<33>;
+
+    type Row = SrvRow<N>;
+
+    ghost held = { λ rdata. rdata };
+
+    fn typed_row(&self) -> &SrvRow<N> {
+        &self.row
+    }
+}
+
+impl<'a> ParseData<'a> for Srv<ParsedName<&'a [u8]>> {
+    fn parse_data(parser: &mut Parser<'a>) -> Result<Self, ParseError> {
+        Srv::parse(parser)
+    }
+}
+
+impl<N: ToName + Drop, S: Scanner<Name = N>> ScanData<S> for Srv<N> {
+    fn scan_data(scanner: &mut S) -> Result<Self, S::Error> {
+        Srv::scan(scanner)
+    }
+}
+
+impl<N: ToName + Drop, Octs: FromBuilder + Drop> FlattenData<Octs> for Srv<N>
+where
+    Octs::Builder: EmptyBuilder + Drop,
+{
+    type Flat = Srv<Name<Octs>>;
+
+    fn flatten_data(self, alloc: Global) -> Result<Srv<Name<Octs>>, AppendError> {
+        self.try_flatten_into(alloc)
     }
 }

@@ -22,9 +22,6 @@ pub record Taken (text rest old now : List ℕ) : Type 0 where
   pub each : AllByRecursion IsFull full
   pub written : now ≡ old ++ flat_map string_wire full
 
-pub taken_nothing : (text old : List ℕ) → Taken text text old old
-taken_nothing text old = record { full = []; whole = refl; each = tt; written = sym (append-nil old) }
-
 all_more : (P : List ℕ → Type 0) (front back : List (List ℕ)) → AllByRecursion P front → AllByRecursion P back → AllByRecursion P (front ++ back)
 all_more P [] back each all = all
 all_more P (string ∷ front) back each all = (each.0, all_more P front back each.1 all)
@@ -40,19 +37,6 @@ taken_more {text = text} {old = old} {behind = behind} string taken is long on =
       ∙ ap (λ l. old ++ l) (sym (flat_map-append string_wire taken.full (string ∷ []) ∙ ap (λ l. flat_map string_wire taken.full ++ l) (append-nil (string_wire string))));
 }
 
--- the octets before stay
-pub taken_kept : {text rest old now : List ℕ} → Taken text rest old now → take (length old) now ≡ old
-taken_kept {old = old} taken = ap (take (length old)) taken.written ∙ take-append_seam old (flat_map string_wire taken.full)
-
-pub taken_all : {text rest old now : List ℕ} → Taken text rest old now → rest ≡ [] → AddsText old text now None
-taken_all {text = text} {old = old} taken none = record {
-  full = taken.full;
-  rest = [];
-  cut = record { whole = taken.whole ∙ ap (λ l. concat taken.full ++ l) none; each = taken.each; short = omega arith };
-  written = taken.written ∙ ap (λ l. old ++ flat_map string_wire l) (sym (append-nil taken.full));
-  place = refl;
-}
-
 pub open_one : (rest : List ℕ) → 0 < length rest → open_string rest ≡ rest ∷ []
 open_one [] some = absurd (omega arith)
 open_one (octet ∷ rest) some = refl
@@ -60,19 +44,6 @@ open_one (octet ∷ rest) some = refl
 pub open_at : (place : ℕ) (rest : List ℕ) → 0 < length rest → open_place place rest ≡ Some place
 open_at place [] some = absurd (omega arith)
 open_at place (octet ∷ rest) some = refl
-
-pub taken_rest : {text rest old now new : List ℕ} (place : ℕ) → Taken text rest old now → 0 < length rest → length rest < 255
-    → new ≡ now ++ string_wire rest → place ≡ length now → AddsText old text new (Some place)
-taken_rest {rest = rest} {old = old} place taken some short on at = record {
-  full = taken.full;
-  rest = rest;
-  cut = record { whole = taken.whole; each = taken.each; short = short };
-  written = on ∙ ap (λ l. l ++ string_wire rest) taken.written ∙ append_assoc old (flat_map string_wire taken.full) (string_wire rest)
-      ∙ ap (λ l. old ++ l) (ap (λ l. flat_map string_wire taken.full ++ l) (sym (append-nil (string_wire rest))) ∙ sym (flat_map-append string_wire taken.full (rest ∷ [])))
-      ∙ ap (λ l. old ++ flat_map string_wire (taken.full ++ l)) (sym (open_one rest some));
-  place = ap Some (at ∙ ap (length {A = ℕ}) taken.written ∙ length-append old (flat_map string_wire taken.full))
-      ∙ sym (open_at (length old + strings_len taken.full) rest some);
-}
 
 -- an octet is changed at its place
 set_parts : (octets more : List ℕ) (place octet : ℕ) → place < length octets

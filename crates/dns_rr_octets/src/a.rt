@@ -4,7 +4,10 @@ ghost use Rattle.std.specs.Net.Addr.{ipv4_octets};
 ghost use Rattle.dns_fields.specs.Fields.{ipv4, field_at};
 
 use crate::RowData;
-use dns_fields::{ARow, Number};
+use dns_fields::{ARow, FlattenData, Number, ParseData, ScanData, TypedData};
+use dns_name::{AppendError, EmptyBuilder, FromBuilder, ParseError, Parser};
+use dns_text::Scanner;
+use std::alloc::Global;
 use std::marker::PhantomData;
 use std::net::Ipv4Addr;
 
@@ -42,5 +45,40 @@ impl RowData<Number<1>, ARow> {
         ensures { self.new ≡ ipv4 (ipv4_octets addr) ∷ [] }
     {
         self.row = (addr, ());
+    }
+}
+
+impl TypedData for A {
+    type Type = Number<1>;
+
+    type Row = ARow;
+
+    ghost held = { λ rdata. rdata };
+
+    fn typed_row(&self) -> &ARow {
+        &self.row
+    }
+}
+
+impl<'a> ParseData<'a> for A {
+    fn parse_data(parser: &mut Parser<'a>) -> Result<Self, ParseError> {
+        A::parse(parser)
+    }
+}
+
+impl<S: Scanner> ScanData<S> for A {
+    fn scan_data(scanner: &mut S) -> Result<Self, S::Error> {
+        A::scan(scanner)
+    }
+}
+
+impl<Octs: FromBuilder> FlattenData<Octs> for A
+where
+    Octs::Builder: EmptyBuilder + Drop,
+{
+    type Flat = A;
+
+    fn flatten_data(self, _alloc: Global) -> Result<A, AppendError> {
+        Ok(self)
     }
 }

@@ -4,7 +4,10 @@ ghost use Rattle.std.specs.Net.Addr.{ipv6_octets};
 ghost use Rattle.dns_fields.specs.Fields.{ipv6, field_at};
 
 use crate::RowData;
-use dns_fields::{AaaaRow, Number};
+use dns_fields::{AaaaRow, FlattenData, Number, ParseData, ScanData, TypedData};
+use dns_name::{AppendError, EmptyBuilder, FromBuilder, ParseError, Parser};
+use dns_text::Scanner;
+use std::alloc::Global;
 use std::marker::PhantomData;
 use std::net::Ipv6Addr;
 
@@ -35,5 +38,40 @@ impl RowData<Number<28>, AaaaRow> {
         ensures { self.new ≡ ipv6 (ipv6_octets addr) ∷ [] }
     {
         self.row = (addr, ());
+    }
+}
+
+impl TypedData for Aaaa {
+    type Type = Number<28>;
+
+    type Row = AaaaRow;
+
+    ghost held = { λ rdata. rdata };
+
+    fn typed_row(&self) -> &AaaaRow {
+        &self.row
+    }
+}
+
+impl<'a> ParseData<'a> for Aaaa {
+    fn parse_data(parser: &mut Parser<'a>) -> Result<Self, ParseError> {
+        Aaaa::parse(parser)
+    }
+}
+
+impl<S: Scanner> ScanData<S> for Aaaa {
+    fn scan_data(scanner: &mut S) -> Result<Self, S::Error> {
+        Aaaa::scan(scanner)
+    }
+}
+
+impl<Octs: FromBuilder> FlattenData<Octs> for Aaaa
+where
+    Octs::Builder: EmptyBuilder + Drop,
+{
+    type Flat = Aaaa;
+
+    fn flatten_data(self, _alloc: Global) -> Result<Aaaa, AppendError> {
+        Ok(self)
     }
 }

@@ -4,9 +4,14 @@ ghost use Rattle.dns_fields.specs.Fields as fields;
 ghost use Rattle.dns_fields.specs.Fields.{number8, rest_text, octets, field_at};
 
 use crate::RowData;
-use dns_fields::{CaaRow, HasFields, Last, Number, RestText, Tag};
-use dns_name::{LongRecordData, Octets};
-use dns_text::CharStr;
+use dns_fields::{
+    CaaRow, FlattenData, HasFields, Last, Number, ParseData, RestText, ScanData, Tag, TypedData,
+};
+use dns_name::{
+    AppendError, EmptyBuilder, FlattenInto, FromBuilder, LongRecordData, Octets, ParseError, Parser,
+};
+use dns_text::{CharStr, Scanner};
+use std::alloc::Global;
 use std::marker::PhantomData;
 
 /// Who may issue certificates for the owner, as a property of it: a tag and a value.
@@ -55,5 +60,40 @@ impl<Octs: Octets> RowData<Number<257>, CaaRow<Octs>> {
     {
         let (_, (_, value)) = &self.row;
         &value.0.0
+    }
+}
+
+impl<Octs: Octets> TypedData for Caa<Octs> {
+    type Type = Number<257>;
+
+    type Row = CaaRow<Octs>;
+
+    ghost held = { λ rdata. rdata };
+
+    fn typed_row(&self) -> &CaaRow<Octs> {
+        &self.row
+    }
+}
+
+impl<'a> ParseData<'a> for Caa<&'a [u8]> {
+    fn parse_data(parser: &mut Parser<'a>) -> Result<Self, ParseError> {
+        Caa::parse(parser)
+    }
+}
+
+impl<Octs: FromBuilder + Drop, S: Scanner<Octets = Octs>> ScanData<S> for Caa<Octs> {
+    fn scan_data(scanner: &mut S) -> Result<Self, S::Error> {
+        Caa::scan(scanner)
+    }
+}
+
+impl<Source: Octets + Drop, Octs: FromBuilder + Drop> FlattenData<Octs> for Caa<Source>
+where
+    Octs::Builder: EmptyBuilder + Drop,
+{
+    type Flat = Caa<Octs>;
+
+    fn flatten_data(self, alloc: Global) -> Result<Caa<Octs>, AppendError> {
+        self.try_flatten_into(alloc)
     }
 }

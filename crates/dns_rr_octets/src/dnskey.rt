@@ -3,8 +3,14 @@ ghost use Rattle.std.specs.Prelude.{◌≡◌, ◌≤◌, ◌↔◌, length, [],
 ghost use Rattle.dns_fields.specs.Fields.{number8, number16, rest64, octets, field_at};
 
 use crate::RowData;
-use dns_fields::{DnskeyRow, HasFields, Last, Number, Rest64};
-use dns_name::{LongRecordData, Octets};
+use dns_fields::{
+    DnskeyRow, FlattenData, HasFields, Last, Number, ParseData, Rest64, ScanData, TypedData,
+};
+use dns_name::{
+    AppendError, EmptyBuilder, FlattenInto, FromBuilder, LongRecordData, Octets, ParseError, Parser,
+};
+use dns_text::Scanner;
+use std::alloc::Global;
 use std::marker::PhantomData;
 
 /// A public key by which signatures of the zone are checked.
@@ -66,5 +72,40 @@ impl<Octs: Octets> RowData<Number<48>, DnskeyRow<Octs>> {
     {
         let (_, (_, (_, public_key))) = &self.row;
         &public_key.0.0
+    }
+}
+
+impl<Octs: Octets> TypedData for Dnskey<Octs> {
+    type Type = Number<48>;
+
+    type Row = DnskeyRow<Octs>;
+
+    ghost held = { λ rdata. rdata };
+
+    fn typed_row(&self) -> &DnskeyRow<Octs> {
+        &self.row
+    }
+}
+
+impl<'a> ParseData<'a> for Dnskey<&'a [u8]> {
+    fn parse_data(parser: &mut Parser<'a>) -> Result<Self, ParseError> {
+        Dnskey::parse(parser)
+    }
+}
+
+impl<Octs: FromBuilder + Drop, S: Scanner<Octets = Octs>> ScanData<S> for Dnskey<Octs> {
+    fn scan_data(scanner: &mut S) -> Result<Self, S::Error> {
+        Dnskey::scan(scanner)
+    }
+}
+
+impl<Source: Octets + Drop, Octs: FromBuilder + Drop> FlattenData<Octs> for Dnskey<Source>
+where
+    Octs::Builder: EmptyBuilder + Drop,
+{
+    type Flat = Dnskey<Octs>;
+
+    fn flatten_data(self, alloc: Global) -> Result<Dnskey<Octs>, AppendError> {
+        self.try_flatten_into(alloc)
     }
 }

@@ -3,8 +3,14 @@ ghost use Rattle.std.specs.Prelude.{◌≡◌, ◌≤◌, ◌↔◌, length, [],
 ghost use Rattle.dns_fields.specs.Fields.{number8, number16, rest16, octets, field_at};
 
 use crate::RowData;
-use dns_fields::{DsRow, HasFields, Last, Number, Rest16};
-use dns_name::{LongRecordData, Octets};
+use dns_fields::{
+    DsRow, FlattenData, HasFields, Last, Number, ParseData, Rest16, ScanData, TypedData,
+};
+use dns_name::{
+    AppendError, EmptyBuilder, FlattenInto, FromBuilder, LongRecordData, Octets, ParseError, Parser,
+};
+use dns_text::Scanner;
+use std::alloc::Global;
 use std::marker::PhantomData;
 
 /// A key that signs the keys of the owner, by a digest of it.
@@ -75,5 +81,40 @@ impl<Octs: Octets> RowData<Number<43>, DsRow<Octs>> {
     {
         let (_, (_, (_, digest))) = self.row;
         digest.0.0
+    }
+}
+
+impl<Octs: Octets> TypedData for Ds<Octs> {
+    type Type = Number<43>;
+
+    type Row = DsRow<Octs>;
+
+    ghost held = { λ rdata. rdata };
+
+    fn typed_row(&self) -> &DsRow<Octs> {
+        &self.row
+    }
+}
+
+impl<'a> ParseData<'a> for Ds<&'a [u8]> {
+    fn parse_data(parser: &mut Parser<'a>) -> Result<Self, ParseError> {
+        Ds::parse(parser)
+    }
+}
+
+impl<Octs: FromBuilder + Drop, S: Scanner<Octets = Octs>> ScanData<S> for Ds<Octs> {
+    fn scan_data(scanner: &mut S) -> Result<Self, S::Error> {
+        Ds::scan(scanner)
+    }
+}
+
+impl<Source: Octets + Drop, Octs: FromBuilder + Drop> FlattenData<Octs> for Ds<Source>
+where
+    Octs::Builder: EmptyBuilder + Drop,
+{
+    type Flat = Ds<Octs>;
+
+    fn flatten_data(self, alloc: Global) -> Result<Ds<Octs>, AppendError> {
+        self.try_flatten_into(alloc)
     }
 }

@@ -3,9 +3,10 @@ ghost use Rattle.std.specs.Prelude.{◌≡◌, [], ◌∷◌, Some};
 ghost use Rattle.dns_fields.specs.Fields.{string, field_at};
 
 use crate::RowData;
-use dns_fields::{HinfoRow, Number};
-use dns_name::Octets;
-use dns_text::CharStr;
+use dns_fields::{FlattenData, HinfoRow, Number, ParseData, ScanData, TypedData};
+use dns_name::{AppendError, EmptyBuilder, FlattenInto, FromBuilder, Octets, ParseError, Parser};
+use dns_text::{CharStr, Scanner};
+use std::alloc::Global;
 use std::marker::PhantomData;
 
 /// What kind of host the owner is.
@@ -36,5 +37,40 @@ impl<Octs: Octets> RowData<Number<13>, HinfoRow<Octs>> {
     {
         let (_, (os, ())) = &self.row;
         os
+    }
+}
+
+impl<Octs: Octets> TypedData for Hinfo<Octs> {
+    type Type = Number<13>;
+
+    type Row = HinfoRow<Octs>;
+
+    ghost held = { λ rdata. rdata };
+
+    fn typed_row(&self) -> &HinfoRow<Octs> {
+        &self.row
+    }
+}
+
+impl<'a> ParseData<'a> for Hinfo<&'a [u8]> {
+    fn parse_data(parser: &mut Parser<'a>) -> Result<Self, ParseError> {
+        Hinfo::parse(parser)
+    }
+}
+
+impl<Octs: FromBuilder + Drop, S: Scanner<Octets = Octs>> ScanData<S> for Hinfo<Octs> {
+    fn scan_data(scanner: &mut S) -> Result<Self, S::Error> {
+        Hinfo::scan(scanner)
+    }
+}
+
+impl<Source: Octets + Drop, Octs: FromBuilder + Drop> FlattenData<Octs> for Hinfo<Source>
+where
+    Octs::Builder: EmptyBuilder + Drop,
+{
+    type Flat = Hinfo<Octs>;
+
+    fn flatten_data(self, alloc: Global) -> Result<Hinfo<Octs>, AppendError> {
+        self.try_flatten_into(alloc)
     }
 }

@@ -18,8 +18,9 @@ use crate::RowData;
 pub use append_error::TxtAppendError;
 pub use builder::TxtBuilder;
 use cut::{append_joined, append_strings, fill, is_long};
-use dns_fields::{Last, Number, Strings, TxtRow};
-use dns_name::{AppendError, EmptyBuilder, FromBuilder, Octets};
+use dns_fields::{FlattenData, Last, Number, ParseData, ScanData, Strings, TxtRow, TypedData};
+use dns_name::{AppendError, EmptyBuilder, FlattenInto, FromBuilder, Octets, ParseError, Parser};
+use dns_text::Scanner;
 pub use iter::{TxtCharStrIter, TxtIter};
 use std::alloc::Global;
 use std::marker::PhantomData;
@@ -141,5 +142,40 @@ impl<Octs: Octets> RowData<Number<16>, TxtRow<Octs>> {
         ensures short { result ≤ 65535 }
     {
         self.row.0.as_slice().len()
+    }
+}
+
+impl<Octs: Octets> TypedData for Txt<Octs> {
+    type Type = Number<16>;
+
+    type Row = TxtRow<Octs>;
+
+    ghost held = { λ rdata. rdata };
+
+    fn typed_row(&self) -> &TxtRow<Octs> {
+        &self.row
+    }
+}
+
+impl<'a> ParseData<'a> for Txt<&'a [u8]> {
+    fn parse_data(parser: &mut Parser<'a>) -> Result<Self, ParseError> {
+        Txt::parse(parser)
+    }
+}
+
+impl<Octs: FromBuilder + Drop, S: Scanner<Octets = Octs>> ScanData<S> for Txt<Octs> {
+    fn scan_data(scanner: &mut S) -> Result<Self, S::Error> {
+        Txt::scan(scanner)
+    }
+}
+
+impl<Source: Octets + Drop, Octs: FromBuilder + Drop> FlattenData<Octs> for Txt<Source>
+where
+    Octs::Builder: EmptyBuilder + Drop,
+{
+    type Flat = Txt<Octs>;
+
+    fn flatten_data(self, alloc: Global) -> Result<Txt<Octs>, AppendError> {
+        self.try_flatten_into(alloc)
     }
 }

@@ -6,9 +6,9 @@ ghost use Rattle.dns_rdata.specs.Data.{number_of, canonical_of, canonical_data_c
 ghost use Rattle.dns_rdata.specs.ZoneData.{data_of};
 
 use super::ZoneRecordData;
-use super::visit::{ComparedData, TypedData, Visit, VisitBoth};
+use super::visit::{Visit, VisitBoth};
 use crate::rows::{Row, canonical_row_cmp_octets};
-use dns_fields::CanonicalOctetsOrd;
+use dns_fields::{CanonicalOctetsOrd, TypedData};
 use dns_name::{CanonicalOrd, Octets, RecordData, ToName, UnknownRecordData};
 use std::cmp::Ordering;
 
@@ -54,8 +54,8 @@ impl VisitBoth for InCanonicalOrder {
     ghost answers = { λ one two result. result ≡ slice_cmp nat_cmp (canonical_of one) (canonical_of two) };
 
     #[tactic(auto, unfolding(dns_fields::specs::Alike::canonical_rows_cmp))]
-    fn fields<D: ComparedData>(one: &D, two: &D) -> Ordering {
-        one.row().canonical_fields_cmp(two.row())
+    fn fields<D: TypedData>(one: &D, two: &D) -> Ordering {
+        one.typed_row().canonical_fields_cmp(two.typed_row())
     }
 
     fn unknown<Octs: Octets>(
@@ -83,7 +83,7 @@ impl<'a> Visit<&'a [u8]> for AgainstOctets {
     ghost answers = { λ octets rdata result _. result ≡ slice_cmp nat_cmp (canonical_of rdata) octets.now };
 
     fn fields<D: TypedData>(rdata: &D, octets: &mut &'a [u8]) -> Ordering {
-        canonical_row_cmp_octets(rdata.as_row(), octets)
+        canonical_row_cmp_octets(rdata.typed_row(), octets)
     }
 
     fn unknown<Octs: Octets>(rdata: &UnknownRecordData<Octs>, octets: &mut &'a [u8]) -> Ordering {

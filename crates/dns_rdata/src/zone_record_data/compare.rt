@@ -8,8 +8,9 @@ ghost use Rattle.dns_rdata.specs.DataLaws.{data_equivalent, data_total, data_tie
 ghost use Rattle.dns_rdata.specs.ZoneData.{data_of};
 
 use super::ZoneRecordData;
-use super::visit::{ComparedData, TypedData, Visit, VisitBoth};
-use crate::rows::Row;
+use super::visit::{Visit, VisitBoth};
+use crate::rows::{DataType, Row};
+use dns_fields::TypedData;
 use dns_name::{Octets, RecordData, ToName, UnknownRecordData};
 use std::cmp::Ordering;
 use std::hash::{Hash, Hasher};
@@ -38,8 +39,8 @@ impl VisitBoth for AreEqual {
     ghost answers = { λ one two result. result ≡ data_eq one two };
 
     #[tactic(auto, using(crate::proofs::Pairs::same_eq))]
-    fn fields<D: ComparedData>(one: &D, two: &D) -> bool {
-        one.row().fields_eq(two.row())
+    fn fields<D: TypedData>(one: &D, two: &D) -> bool {
+        one.typed_row().fields_eq(two.typed_row())
     }
 
     #[tactic(auto, using(crate::proofs::Pairs::unknown_data_eq))]
@@ -94,8 +95,8 @@ impl VisitBoth for InOrder {
     ghost answers = { λ one two result. result ≡ data_cmp one two };
 
     #[tactic(auto, using(crate::proofs::Pairs::same_cmp))]
-    fn fields<D: ComparedData>(one: &D, two: &D) -> Ordering {
-        one.row().fields_cmp(two.row())
+    fn fields<D: TypedData>(one: &D, two: &D) -> Ordering {
+        one.typed_row().fields_cmp(two.typed_row())
     }
 
     #[tactic(auto, using(crate::proofs::Pairs::unknown_data_cmp))]
@@ -126,8 +127,8 @@ impl<H: Hasher> Visit<H> for Hashed {
     ghost answers = { λ old rdata _ new. new ≡ fold H.write old (data_hashed rdata) };
 
     fn fields<D: TypedData>(rdata: &D, state: &mut H) {
-        rdata.number().hash(state);
-        rdata.as_row().hash_fields(state);
+        D::Type::number().hash(state);
+        rdata.typed_row().hash_fields(state);
     }
 
     fn unknown<Octs: Octets>(rdata: &UnknownRecordData<Octs>, state: &mut H) {

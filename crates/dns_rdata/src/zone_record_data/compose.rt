@@ -8,8 +8,9 @@ ghost use Rattle.dns_rdata.specs.Data.{parts_of, canonical_of};
 ghost use Rattle.dns_rdata.specs.ZoneData.{data_of};
 
 use super::ZoneRecordData;
-use super::visit::{TypedData, Visit};
+use super::visit::Visit;
 use crate::rows::{compose_canonical_row, compose_row, row_len};
+use dns_fields::TypedData;
 use dns_name::{AppendError, ComposeRecordData, Composer, Octets, ToName, UnknownRecordData};
 
 /// Writes the fields, or the opaque octets as they are.
@@ -45,7 +46,7 @@ impl Visit<bool> for Length {
         × (IsNone result ↔ IsUntold compress (parts_of rdata)) };
 
     fn fields<D: TypedData>(rdata: &D, compress: &mut bool) -> Option<u16> {
-        row_len(rdata.as_row(), *compress)
+        row_len(rdata.typed_row(), *compress)
     }
 
     fn unknown<Octs: Octets>(rdata: &UnknownRecordData<Octs>, compress: &mut bool) -> Option<u16> {
@@ -71,7 +72,7 @@ impl<Target: Composer> Visit<Target> for Plain {
         × Target.stays old new };
 
     fn fields<D: TypedData>(rdata: &D, target: &mut Target) -> Result<(), AppendError> {
-        compose_row(rdata.as_row(), target)
+        compose_row(rdata.typed_row(), target)
     }
 
     fn unknown<Octs: Octets>(
@@ -98,7 +99,7 @@ impl<Target: Composer> Visit<Target> for Canonical {
         × Target.stays old new };
 
     fn fields<D: TypedData>(rdata: &D, target: &mut Target) -> Result<(), AppendError> {
-        compose_canonical_row(rdata.as_row(), target)
+        compose_canonical_row(rdata.typed_row(), target)
     }
 
     fn unknown<Octs: Octets>(

@@ -5,10 +5,23 @@ ghost use Rattle.dns_rdata.specs.Data.{HoldsPast};
 ghost use Rattle.dns_rdata.specs.ZoneData.{data_of};
 
 use super::ZoneRecordData;
+use dns_fields::FlattenData;
 use dns_name::{
     AppendError, EmptyBuilder, FlattenInto, FromBuilder, Name, Octets, OctetsFrom, ToName,
 };
 use std::alloc::Global;
+
+/// The arms of `try_flatten_into`.
+macro_rules! flattened {
+    (($this:ident, $alloc:ident, $Octs:ident) $($variant:ident = $rtype:ident,)*) => {
+        match $this {
+            $(ZoneRecordData::$variant(rdata) => {
+                held!($variant, FlattenData::<$Octs>::flatten_data(rdata, $alloc))
+            })*
+            ZoneRecordData::Unknown(rdata) => held!(Unknown, rdata.try_flatten_into($alloc)),
+        }
+    };
+}
 
 /// Returns the same data, with flat names.
 impl<Source: Octets + Drop, N: ToName + Drop, Octs: FromBuilder + Drop> FlattenInto<
@@ -25,29 +38,7 @@ where
         self,
         alloc: Global,
     ) -> Result<ZoneRecordData<Octs, Name<Octs>>, AppendError> {
-        match self {
-            ZoneRecordData::A(rdata) => held!(A, rdata.try_flatten_into(alloc)),
-            ZoneRecordData::Ns(rdata) => held!(Ns, rdata.try_flatten_into(alloc)),
-            ZoneRecordData::Md(rdata) => held!(Md, rdata.try_flatten_into(alloc)),
-            ZoneRecordData::Mf(rdata) => held!(Mf, rdata.try_flatten_into(alloc)),
-            ZoneRecordData::Cname(rdata) => held!(Cname, rdata.try_flatten_into(alloc)),
-            ZoneRecordData::Soa(rdata) => held!(Soa, rdata.try_flatten_into(alloc)),
-            ZoneRecordData::Mb(rdata) => held!(Mb, rdata.try_flatten_into(alloc)),
-            ZoneRecordData::Mg(rdata) => held!(Mg, rdata.try_flatten_into(alloc)),
-            ZoneRecordData::Mr(rdata) => held!(Mr, rdata.try_flatten_into(alloc)),
-            ZoneRecordData::Ptr(rdata) => held!(Ptr, rdata.try_flatten_into(alloc)),
-            ZoneRecordData::Hinfo(rdata) => held!(Hinfo, rdata.try_flatten_into(alloc)),
-            ZoneRecordData::Minfo(rdata) => held!(Minfo, rdata.try_flatten_into(alloc)),
-            ZoneRecordData::Mx(rdata) => held!(Mx, rdata.try_flatten_into(alloc)),
-            ZoneRecordData::Txt(rdata) => held!(Txt, rdata.try_flatten_into(alloc)),
-            ZoneRecordData::Rp(rdata) => held!(Rp, rdata.try_flatten_into(alloc)),
-            ZoneRecordData::Aaaa(rdata) => held!(Aaaa, rdata.try_flatten_into(alloc)),
-            ZoneRecordData::Srv(rdata) => held!(Srv, rdata.try_flatten_into(alloc)),
-            ZoneRecordData::Ds(rdata) => held!(Ds, rdata.try_flatten_into(alloc)),
-            ZoneRecordData::Dnskey(rdata) => held!(Dnskey, rdata.try_flatten_into(alloc)),
-            ZoneRecordData::Caa(rdata) => held!(Caa, rdata.try_flatten_into(alloc)),
-            ZoneRecordData::Unknown(rdata) => held!(Unknown, rdata.try_flatten_into(alloc)),
-        }
+        with_types!(flattened, self, alloc, Octs)
     }
 }
 

@@ -7,7 +7,9 @@ ghost use Rattle.dns_text.specs.Document.Layout.{Simple};
 ghost use Rattle.dns_text.specs.Writing.{Adds};
 
 use super::ZoneRecordData;
-use super::visit::{TypedData, Visit};
+use super::visit::Visit;
+use crate::rows::{DataType, show_row};
+use dns_fields::TypedData;
 use dns_name::{Octets, ToName, UnknownRecordData};
 use dns_text::{DisplayKind, Formatter, ZonefileFmt};
 use std::fmt;
@@ -30,7 +32,7 @@ impl<F: Formatter> Visit<F> for Shown {
     ghost answers = { λ old rdata result new. OnOk result (Adds F.writes old (document_of rdata) new) };
 
     fn fields<D: TypedData>(rdata: &D, formatter: &mut F) -> fmt::Result {
-        rdata.show(formatter)
+        show_row(D::Type::number(), rdata.typed_row(), formatter)
     }
 
     fn unknown<Octs: Octets>(rdata: &UnknownRecordData<Octs>, formatter: &mut F) -> fmt::Result {
