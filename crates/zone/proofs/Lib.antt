@@ -1,5 +1,4 @@
 mod LastRecord
 mod ReadRecords
-mod CountRecords
 pub mod ZoneForms
 mod ReadZoneData

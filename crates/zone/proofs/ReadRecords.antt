@@ -1,8 +1,8 @@
 -- Reading a zone's text record by record.
-use Rattle.std.proofs.Common.{◌≡◌, ◌≢◌, ◌<◌, ◌^◌, ◌++◌, ◌∙◌, ℕ, Bool, false, List, [], ◌∷◌, Option, Some, None, Ok, length, refl, sym, subst, arith, append_assoc}
+use Rattle.std.proofs.Common.{◌≡◌, ◌≢◌, ◌+◌, ◌<◌, ◌≤◌, ◌^◌, ◌++◌, ◌∙◌, ℕ, Bool, false, List, [], ◌∷◌, Option, Some, None, Ok, length, refl, sym, ap, subst, arith, append_assoc}
 use Rattle.std.specs.Prelude.{Result, IfSome}
 use Rattle.std.specs.Int.{to_be_bytes, w16}
-use Rattle.std.specs.List.{AllByRecursion, flat_map}
+use Rattle.std.specs.List.{AllByRecursion, flat_map, push}
 use Rattle.dns_label.specs.Name.{IsName, wire}
 use Rattle.dns_label.specs.Octets.{AreOctets}
 use Rattle.dns_text.specs.Rows.{BeginsWithRows, TokenRow}
@@ -20,7 +20,7 @@ use Rattle.dns_zonefile.proofs.Going.{goes-nowhere}
 use Rattle.dns_zonefile.specs.Composed.{HandsOn, IsHeld}
 use Rattle.dns_zonefile.specs.Entries.{AreEntries}
 use Rattle.dns_zonefile.specs.Entry.{Context, Entry}
-use Rattle.dns_zonefile.specs.Entry.Entry.{Resource}
+use Rattle.dns_zonefile.specs.Entry.Entry.{Directive, Include, Resource}
 use Rattle.dns_zonefile.specs.Reader.{Gives, GoesOver, Reader, left_of}
 use Rattle.dns_zonefile.specs.declared.entry.ComposedEntry.{ComposedEntry}
 use Rattle.dns_zonefile.specs.declared.entry.ComposedEntry.TheVariants as composed
@@ -29,26 +29,29 @@ use Rattle.zone_records.specs.Records.{AreRecordsOf, IsRecordOf}
 use Rattle.zone_records.specs.Stored.{AreStored}
 use Rattle.zone_records.specs.Zone.{IsBehindSoa, IsUnder, IsZone, IsZoneFront, any_class}
 use Rattle.zone_records.proofs.Each.{all_append, all_fronts, wire_back}
-use Rattle.zone_records.proofs.StoredRecords.{stored_length, stored_more, stored_none}
 use Rattle.zone_rules.specs.ZoneText.{IsWellTyped, IsZoneFault, IsZoneText, MayFollow, records_in}
 use Rattle.zone_rules.specs.declared.zone_error.ZoneError.{ZoneError}
 use Rattle.zone_rules.specs.declared.zone_error.ZoneError.TheVariants as zone_error
 use Rattle.zone_rules.proofs.KeptContexts.{IsFitting, IsRowed, entries_fit}
 use Rattle.zone_rules.proofs.KeptRules.{keeps_directives, keeps_none, records_behind}
 use Rattle.zone_rules.proofs.RecordClasses.{zone_text_class}
-use Rattle.zone_rules.proofs.ReaderSteps.{HasKept, MeetsRecord, ended_behind, first_fault, kept_record, meets, next_read, out_fault, second_fault, unspellable_fault, untyped_fault}
-use Rattle.zone.specs.Reading.{BeginWith, BreaksRule, HasRead, IsCheckFault, AppendsRecord, HasReadAll, MayStandUnder, StandsLast, reader_at}
+use Rattle.zone_rules.proofs.ReaderSteps.{HasKept, MeetsRecord, ended_behind, first_fault, kept_record, meets, next_read, out_fault, second_fault, unspellable_fault, untyped_fault, zone_text}
+use Rattle.zone.specs.Reading.{BeginWith, BreaksRule, HasRead, IsCheckFault, AppendsRecord, MayStandUnder, StandsLast, apex_in, reader_at}
 
 -- in the words of the rules
-pub kept_of : {text : List ℕ} {origin : Option (List (List ℕ))} {class : ℕ} {reader : Reader} {octets places : List ℕ} → class ≢ any_class
-    → (read : HasRead text origin class reader octets places) → HasKept text origin class (records_in read.entries) reader
-kept_of known read = record {
-  class_known = known;
+pub kept_of : {text : List ℕ} {origin : Option (List (List ℕ))} {class : ℕ} {reader : Reader} {records : List Record}
+    → HasRead text origin class reader records → HasKept text origin class records reader
+kept_of read = record {
+  class_known = read.class_known;
   entries = read.entries;
   read = record { goes = read.goes };
   keep = read.keep;
-  are = refl;
+  are = read.are;
 }
+
+pub front_read : {text : List ℕ} {origin : Option (List (List ℕ))} {class : ℕ} {reader : Reader} {records : List Record}
+    → HasRead text origin class reader records → IsZoneFront records
+front_read read = subst (λ (rs : List Record). IsZoneFront rs) (sym read.are) read.keep.front
 
 pub record_handed : {old new : List ℕ} {told : Bool} {given : Result (Option Entry) EntryError} {result : Result (Option ComposedEntry) EntryError}
     → result ≡ Ok (Some (composed.Record told)) → HandsOn old given result new → AppendsRecord old told given new
@@ -71,25 +74,20 @@ rowed_data : (rdata : Data) → is_unknown rdata ≡ false → IsRowed rdata →
 rowed_data (typed number row) same is = fields.typed row is refl
 rowed_data (unknown_data unknown) same is = absurd cc
 
--- the owner of the first of the records
-abbrev pub apex_in : List Record → Option (List (List ℕ))
-apex_in [] = None
-apex_in (soa ∷ others) = Some soa.owner
-
 -- the record that the text goes on with
-pub record_met : {text : List ℕ} {origin : Option (List (List ℕ))} {class number : ℕ} {reader new : Reader} {octets places : List ℕ}
-    {given : Result (Option Entry) EntryError} {rr : RecordOf (List (List ℕ)) Data} → class ≢ any_class
-    → (read : HasRead text origin class reader octets places) → Gives reader given new → given ≡ Ok (Some (Resource rr)) → number ≡ new.count
-    → MeetsRecord text origin class number (records_in read.entries) (record_of rr) new
-record_met {reader = reader} {new = new} {rr = rr} known read gives is counted = record {
+pub record_met : {text : List ℕ} {origin : Option (List (List ℕ))} {class number : ℕ} {reader new : Reader} {records : List Record}
+    {given : Result (Option Entry) EntryError} {rr : RecordOf (List (List ℕ)) Data} → HasRead text origin class reader records
+    → Gives reader given new → given ≡ Ok (Some (Resource rr)) → number ≡ new.count
+    → MeetsRecord text origin class number records (record_of rr) new
+record_met {reader = reader} {new = new} {rr = rr} read gives is counted = record {
   rr = rr;
-  meets = meets (kept_of known read) (subst (λ g. Gives reader g new) is gives) counted;
+  meets = meets (kept_of read) (subst (λ g. Gives reader g new) is gives) counted;
   is = refl;
 }
 
 -- its data, if the text does not write it in the form of unknown data
-pub data_met : {text : List ℕ} {origin : Option (List (List ℕ))} {class : ℕ} {reader new : Reader} {octets places old after : List ℕ} {told : Bool}
-    {given : Result (Option Entry) EntryError} → HasRead text origin class reader octets places → Gives reader given new
+pub data_met : {text : List ℕ} {origin : Option (List (List ℕ))} {class : ℕ} {reader new : Reader} {records : List Record} {old after : List ℕ}
+    {told : Bool} {given : Result (Option Entry) EntryError} → HasRead text origin class reader records → Gives reader given new
     → (handed : AppendsRecord old told given after) → told ≡ false → IsData (record_of handed.rr).rtype (record_of handed.rr).rdata
 data_met {reader = reader} {new = new} read gives handed bare =
     let next = next_read (record { goes = read.goes }) (subst (λ g. Gives reader g new) handed.is gives) in
@@ -142,24 +140,32 @@ breaks unknown (soa ∷ others) (Some apex) r (zone_error.FirstNotSoa n) known s
 breaks unknown records apex r zone_error.NoSoa known same front met broken = absurd broken
 
 -- one record more
-pub more_read : {text : List ℕ} {origin : Option (List (List ℕ))} {class number : ℕ} {reader new : Reader} {octets places octets' places' : List ℕ}
-    {r : Record} → class ≢ any_class → (read : HasRead text origin class reader octets places)
-    → MeetsRecord text origin class number (records_in read.entries) r new → IsRecord r → IsWellTyped r → MayFollow (records_in read.entries) r
-    → octets' ≡ octets ++ record_octets r → places' ≡ places ++ length octets ∷ [] → HasRead text origin class new octets' places'
-more_read {octets = octets} {places = places} {octets' = octets'} {places' = places'} {r = r} known read met is well may whole at =
-    let kept = kept_record met well may in
-    let stored = stored_more octets places octets' places' (records_in read.entries) r read.stored is whole at in record {
+pub more_read : {text : List ℕ} {origin : Option (List (List ℕ))} {class number : ℕ} {reader new : Reader} {records : List Record} {r : Record}
+    → HasRead text origin class reader records → MeetsRecord text origin class number records r new → IsWellTyped r → MayFollow records r
+    → HasRead text origin class new (push records r)
+more_read read met well may =
+    let kept = kept_record met well may in record {
+      class_known = read.class_known;
       named = read.named;
       entries = kept.entries;
       goes = kept.read.goes;
       keep = kept.keep;
-      stored = subst (λ rs. AreStored octets' places' rs) kept.are stored;
+      are = kept.are;
     }
 
--- what the octets of records begin with
-pub begin_stored : {octets places : List ℕ} (records : List Record) → AreStored octets places records → BeginWith (apex_in records) octets
-begin_stored [] stored = stored.whole
-begin_stored (r ∷ records) stored = (r, flat_map record_octets records, stored.each.0, stored.whole, refl)
+-- as many records as entries at most
+records_few : (entries : List Entry) → length (records_in entries) ≤ length entries
+records_few [] = omega arith
+records_few (Resource rr ∷ entries) = omega (arith, records_few entries)
+records_few (Include path origin ∷ entries) = omega (arith, records_few entries)
+records_few (Directive ∷ entries) = omega (arith, records_few entries)
+
+-- so one more than the records is a number that a reader counts
+pub few_met : {text : List ℕ} {origin : Option (List (List ℕ))} {class number : ℕ} {records : List Record} {r : Record} {new : Reader}
+    → MeetsRecord text origin class number records r new → length records + 1 ≤ number
+few_met {records = records} met =
+    let same = ap (length {A = Record}) met.meets.are in
+    let counted = met.meets.reaches.counted in omega (arith, same, counted, records_few met.meets.before)
 
 -- the record that is read, after those octets
 pub stands_last : {old new : List ℕ} {told : Bool} {given : Result (Option Entry) EntryError} (apex : Option (List (List ℕ))) (place : ℕ) (seen : List ℕ)
@@ -172,18 +178,6 @@ stands_last {old} apex place seen begin handed at same = record {
   begin = begin;
   is = record_is handed.rr handed.held;
 }
-
--- the text ends after what was read
-pub all_read : {text : List ℕ} {origin : Option (List (List ℕ))} {class : ℕ} {reader new : Reader} {octets places : List ℕ}
-    → HasRead text origin class reader octets places → Gives reader (Ok None) new → HasReadAll text origin class octets places
-all_read {octets = octets} {places = places} read gives =
-    let ended = ended_behind (record { goes = read.goes }) gives in
-    let same : records_in (read.entries ++ ended.0) ≡ records_in read.entries = records_behind read.entries ended.0 ended.1 in record {
-      entries = read.entries ++ ended.0;
-      has = ended.2;
-      keep = keeps_directives ended.0 read.keep ended.1;
-      stored = subst (λ rs. AreStored octets places rs) (sym same) read.stored;
-    }
 
 -- rows with tokens make the text shorter
 rows_shorter : {text rest : List ℕ} {row : TokenRow} {rows : List TokenRow} → BeginsWithRows text (row ∷ rows) rest → length rest < length text
@@ -210,7 +204,6 @@ shorter_read same (Gives.ended are goes ends) = absurd cc
 shorter_read same (Gives.refused are goes at real) = absurd cc
 shorter_read same (Gives.out_of_memory are goes memory) = absurd cc
 
--- the records that were read, if they consist of octets
 each_known : (class : ℕ) (records : List Record) → AllByRecursion IsRecord records → AllByRecursion IsWellTyped records
     → AllByRecursion (λ (r : Record). r.class ≡ class) records → AreOctets (flat_map record_octets records)
     → AllByRecursion (IsRecordOf class) records
@@ -229,54 +222,63 @@ each_known class (r ∷ records) lawful well classes octets_are =
       each_known class records lawful.1 well.1 classes.1 both.1,
     )
 
-zone_of_front : (records : List Record) → IsZoneFront records → 0 < length records → IsZone records
-zone_of_front [] front some = absurd (omega (arith, some))
-zone_of_front (soa ∷ others) front some = front
-
--- a zone's text, with a record
-pub zone_read : {text : List ℕ} {origin : Option (List (List ℕ))} {class : ℕ} {octets places : List ℕ} → class ≢ any_class
-    → (all : HasReadAll text origin class octets places) → 0 < length places → IsZoneText text origin class (records_in all.entries)
-zone_read {octets = octets} {places = places} known all some =
-    let many = stored_length octets places (records_in all.entries) all.stored in record {
-      class_known = known;
-      entries = all.entries;
-      has = all.has;
-      keep = all.keep;
-      are = refl;
-      zone = zone_of_front (records_in all.entries) all.keep.front (omega (arith, some, many));
-    }
-
-pub records_read : {text : List ℕ} {origin : Option (List (List ℕ))} {class : ℕ} {octets places : List ℕ} → class ≢ any_class
-    → (all : HasReadAll text origin class octets places) → 0 < length places → AreOctets octets → AreRecordsOf class (records_in all.entries)
-records_read {class = class} {octets = octets} {places = places} known all some octets_are =
-    let many = stored_length octets places (records_in all.entries) all.stored in record {
-      each = each_known class (records_in all.entries) all.stored.each all.keep.each (zone_text_class (zone_read known all some)) (subst AreOctets all.stored.whole octets_are);
-      zone = zone_of_front (records_in all.entries) all.keep.front (omega (arith, some, many));
-    }
-
--- and one without
-pub no_record_read : {text : List ℕ} {origin : Option (List (List ℕ))} {class : ℕ} {octets places : List ℕ} → class ≢ any_class
-    → HasReadAll text origin class octets places → length places ≡ 0 → IsZoneFault text origin class zone_error.NoSoa
-no_record_read {octets = octets} {places = places} known all empty =
-    let many = stored_length octets places (records_in all.entries) all.stored in record {
-      class_known = known;
-      entries = all.entries;
-      has = all.has;
-      keep = all.keep;
-      none = none_of (records_in all.entries) (omega (arith, empty, many));
-    }
+record_some : (r : Record) (rest : List ℕ) → record_octets r ++ rest ≢ []
+record_some r rest = owner_some r.owner
   where
-    none_of : (records : List Record) → length records ≡ 0 → records ≡ []
-    none_of [] zero' = refl
-    none_of (r ∷ records) zero' = absurd (omega (arith, zero'))
+    owner_some : (owner : List (List ℕ)) → record_octets (record r { owner = owner }) ++ rest ≢ []
+    owner_some [] none = absurd cc
+    owner_some (label ∷ owner) none = absurd cc
+
+length_none : (octets : List ℕ) → length octets ≡ 0 → octets ≡ []
+length_none [] none = refl
+length_none (octet ∷ octets) none = absurd (omega (arith, none))
+
+zone_front : (records : List Record) (octets : List ℕ) → IsZoneFront records → BeginWith (apex_in records) octets → 0 < length octets
+    → IsZone records
+zone_front [] octets front begin some = let none = ap (length {A = ℕ}) begin in absurd (omega (arith, some, none))
+zone_front (soa ∷ others) octets front begin some = front
+
+none_front : (records : List Record) (octets : List ℕ) → BeginWith (apex_in records) octets → length octets ≡ 0 → records ≡ []
+none_front [] octets begin none = refl
+none_front (soa ∷ others) octets begin none = absurd (record_some begin.0 begin.1 (sym begin.3 ∙ length_none octets none))
+
+-- the text ends after some records
+pub zone_read : {text : List ℕ} {origin : Option (List (List ℕ))} {class : ℕ} {reader new : Reader} {records : List Record} (octets : List ℕ)
+    → HasRead text origin class reader records → Gives reader (Ok None) new → BeginWith (apex_in records) octets → 0 < length octets
+    → IsZoneText text origin class records
+zone_read {records = records} octets read gives begin some =
+    zone_text (kept_of read) gives (zone_front records octets (front_read read) begin some)
+
+-- or without one
+pub no_record_read : {text : List ℕ} {origin : Option (List (List ℕ))} {class : ℕ} {reader new : Reader} {records : List Record} (octets : List ℕ)
+    → HasRead text origin class reader records → Gives reader (Ok None) new → BeginWith (apex_in records) octets → length octets ≡ 0
+    → IsZoneFault text origin class zone_error.NoSoa
+no_record_read {records = records} octets read gives begin none =
+    let ended = ended_behind (record { goes = read.goes }) gives in record {
+      class_known = read.class_known;
+      entries = read.entries ++ ended.0;
+      has = ended.2;
+      keep = keeps_directives ended.0 read.keep ended.1;
+      none = records_behind read.entries ended.0 ended.1 ∙ sym read.are ∙ none_front records octets begin none;
+    }
+
+-- the records of a zone's text, if their octets are octets
+pub records_known : {text : List ℕ} {origin : Option (List (List ℕ))} {class : ℕ} {records : List Record} {octets places : List ℕ}
+    → IsZoneText text origin class records → AreStored octets places records → AreOctets octets → AreRecordsOf class records
+records_known {class = class} {records = records} zone stored octets_are = record {
+  each = each_known class records stored.each (subst (λ (rs : List Record). AllByRecursion IsWellTyped rs) (sym zone.are) zone.keep.each)
+      (zone_text_class zone) (subst AreOctets stored.whole octets_are);
+  zone = zone.zone;
+}
 
 -- nothing is read at first
-pub nothing_read : {text : List ℕ} {origin : Option (List (List ℕ))} {class : ℕ} {reader : Reader} {octets places : List ℕ} → IfSome origin IsName
-    → reader ≡ reader_at text origin class → octets ≡ [] → places ≡ [] → HasRead text origin class reader octets places
-nothing_read {text} {origin} {class} named at none none' = record {
+pub nothing_read : {text : List ℕ} {origin : Option (List (List ℕ))} {class : ℕ} {reader : Reader} → class ≢ any_class → IfSome origin IsName
+    → reader ≡ reader_at text origin class → HasRead text origin class reader []
+nothing_read {text} {origin} {class} known named at = record {
+  class_known = known;
   named = named;
   entries = [];
   goes = subst (λ r. GoesOver (reader_at text origin class) [] r) (sym at) (goes-nowhere (reader_at text origin class));
   keep = keeps_none;
-  stored = stored_none _ _ none none';
+  are = refl;
 }

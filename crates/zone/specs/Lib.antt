@@ -1,3 +1,4 @@
 pub mod Seen
 pub mod View
 pub mod Reading
+pub mod KeptLaws

@@ -11,11 +11,9 @@ use Rattle.dns_entry_scanner.specs.declared.entry_error.EntryError.{EntryError}
 use Rattle.dns_zonefile.specs.Composed.{IsHeld}
 use Rattle.dns_zonefile.specs.Entry.{Entry}
 use Rattle.dns_zonefile.specs.Entry.Entry.{Resource}
-use Rattle.dns_zonefile.specs.Entries.{HasEntries}
 use Rattle.dns_zonefile.specs.Reader.{Gives, GoesOver, Reader}
 use Rattle.zone_records.specs.Record.{Record}
-use Rattle.zone_records.specs.Stored.{AreStored}
-use Rattle.zone_records.specs.Zone.{IsUnder, soa_type}
+use Rattle.zone_records.specs.Zone.{IsUnder, any_class, soa_type}
 use Rattle.zone_rules.specs.ZoneText.{KeepRules, records_in, start_of}
 use Rattle.zone_rules.specs.declared.zone_error.ZoneError.{ZoneError}
 use Rattle.zone_rules.specs.declared.zone_error.ZoneError.TheVariants as zone_error
@@ -24,41 +22,15 @@ use Rattle.zone_rules.specs.declared.zone_error.ZoneError.TheVariants as zone_er
 abbrev pub reader_at : List ℕ → Option (List (List ℕ)) → ℕ → Reader
 reader_at text origin class = record { text = text; place = 0; context = start_of origin class; count = 0 }
 
--- The entries before the place of the reader keep a zone's rules, and the octets are their records, which begin at
--- these places. The origin, if there is one, is a name.
-pub record HasRead (text : List ℕ) (origin : Option (List (List ℕ))) (class : ℕ) (reader : Reader) (octets places : List ℕ) : Type 0 where
+-- The entries before the place of the reader keep the rules of a zone of the class, and these are their records. The
+-- origin, if there is one, is a name.
+pub record HasRead (text : List ℕ) (origin : Option (List (List ℕ))) (class : ℕ) (reader : Reader) (records : List Record) : Type 0 where
+  pub class_known : class ≢ any_class
   pub named : IfSome origin IsName
   pub entries : List Entry
   pub goes : GoesOver (reader_at text origin class) entries reader
   pub keep : KeepRules entries
-  pub stored : AreStored octets places (records_in entries)
-
--- All entries of the text do.
-pub record HasReadAll (text : List ℕ) (origin : Option (List (List ℕ))) (class : ℕ) (octets places : List ℕ) : Type 0 where
-  pub entries : List Entry
-  pub has : HasEntries (start_of origin class) text entries
-  pub keep : KeepRules entries
-  pub stored : AreStored octets places (records_in entries)
-
--- the octets of the first of the records, if there is one
-abbrev pub first_octets : List Record → List ℕ
-first_octets [] = []
-first_octets (r ∷ records) = record_octets r
-
--- The same if the octets are those of the first record alone, and the records are counted.
-pub record HasCounted (text : List ℕ) (origin : Option (List (List ℕ))) (class : ℕ) (reader : Reader) (octets : List ℕ) (count : ℕ) : Type 0 where
-  pub all : List ℕ
-  pub places : List ℕ
-  pub read : HasRead text origin class reader all places
-  pub first : octets ≡ first_octets (records_in read.entries)
-  pub counted : count ≡ length places
-
--- All entries of the text do, and they have this number of records.
-pub record HasCountedAll (text : List ℕ) (origin : Option (List (List ℕ))) (class count : ℕ) : Type 0 where
-  pub octets : List ℕ
-  pub places : List ℕ
-  pub all : HasReadAll text origin class octets places
-  pub counted : count ≡ length places
+  pub are : records ≡ records_in entries
 
 -- The reader returns a record, whose octets follow the old ones. The text writes its data in the form of unknown data
 -- or not.
@@ -75,11 +47,21 @@ AppendsNext reader old None new octets = Gives reader (Ok None) new × (octets �
 AppendsNext reader old (Some told) new octets =
     (given : Result (Option Entry) EntryError) × Gives reader given new × AppendsRecord old told given octets
 
+-- the owner of the first of the records, if there is one
+abbrev pub apex_in : List Record → Option (List (List ℕ))
+apex_in [] = None
+apex_in (soa ∷ others) = Some soa.owner
+
 -- the octets begin with a record of this owner, or there are none
 abbrev pub BeginWith : Option (List (List ℕ)) → List ℕ → Type 0
 BeginWith None octets = octets ≡ []
 BeginWith (Some apex) octets =
     (soa : Record) × (rest : List ℕ) × IsRecord soa × (octets ≡ record_octets soa ++ rest) × (apex ≡ soa.owner)
+
+-- the octets are the first of the records, or none if there is none
+abbrev pub IsFirst : List ℕ → List Record → Type 0
+IsFirst octets [] = octets ≡ []
+IsFirst octets (r ∷ others) = IsRecord r × (octets ≡ record_octets r)
 
 -- The octets from the place on are the record, and those before it begin with one of this owner, or there are none.
 pub record StandsLast (octets : List ℕ) (place : ℕ) (apex : Option (List (List ℕ))) (r : Record) : Type 0 where

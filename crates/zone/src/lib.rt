@@ -5,7 +5,7 @@
 //! records of a zone, and for `zone_receive`, which makes a zone of those that it received.
 #![tactic(auto)]
 
-mod count;
+mod keep;
 mod read;
 mod records;
 pub mod zone;

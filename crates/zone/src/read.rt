@@ -1,7 +1,8 @@
 //! The records of a zone's text, parsed in place (RFC 1035 5).
 ghost use Rattle.std.specs.Prelude.{◌≡◌, ◌≢◌, ◌<◌, ◌++◌, [], ℕ, List, Option, Some, None, Ok, true, false, length, option_copied, IfOk, IfErr, IfSome, OnOk};
+ghost use Rattle.std.specs.List.{push};
 ghost use Rattle.dns_label.specs.Name.{IsName};
-ghost use Rattle.dns_zonefile.specs.Reader.{left_of};
+ghost use Rattle.dns_zonefile.specs.Reader.{Gives, left_of};
 ghost use Rattle.dns_zonefile.specs.ReaderSeen.{reader_of, refused_in};
 ghost use Rattle.dns_message.specs.Record.{IsRecord, record_octets};
 ghost use Rattle.dns_rdata.specs.Fields.{IsData};
@@ -9,8 +10,9 @@ ghost use Rattle.zone_records.specs.Record as spec;
 ghost use Rattle.zone_records.specs.Records.{AreRecordsOf};
 ghost use Rattle.zone_records.specs.Zone.{any_class};
 ghost use Rattle.zone_rules.specs.ZoneText.{IsWellTyped, IsZoneFault, IsZoneText};
-ghost use Rattle.zone.specs.Reading.{BreaksRule, IsCheckFault, AppendsNext, HasRead, HasReadAll, MayStandUnder, StandsLast, reader_at};
+ghost use Rattle.zone.specs.Reading.{BreaksRule, IsCheckFault, AppendsNext, HasRead, MayStandUnder, StandsLast, reader_at};
 
+use crate::keep::{Count, Keeper, Places};
 use dns_name::{Class, Name, ToName, first_name};
 use dns_zonefile::{ComposedEntry, Zonefile};
 use std::alloc::{AllocError, Global};
@@ -34,20 +36,63 @@ pub(crate) fn read_records(
     ensures known { IfOk result (AreRecordsOf class) }
     ensures err { IfErr result (IsZoneFault text.items (option_copied origin.entry) class) }
 {
+    let mut places = Places {
+        places: Vec::new(alloc),
+    };
+    let octets = read_all(alloc, text, origin, class, &mut places)?;
+    are_octets(&octets);
+    Ok(RecordList::from_octets(octets, places.places))
+}
+
+/// Returns the number of records in the text of a zone of the class. Names are relative to the origin, if there is one.
+/// Keeps only the first record.
+///
+/// Fails with the first rule that is broken, or with `OutOfMemory` if out of memory.
+pub(crate) fn count_records(
+    alloc: Global,
+    text: Vec<u8>,
+    origin: Option<&Name<&[u8]>>,
+    class: Class,
+) -> Result<usize, ZoneError>
+    requires { class ≢ any_class }
+    ensures ok { IfOk result (λ count. (records : List spec.Record) × IsZoneText text.items (option_copied origin.entry) class records
+        × (count ≡ length records)) }
+    ensures err { IfErr result (IsZoneFault text.items (option_copied origin.entry) class) }
+{
+    let mut counter = Count { count: 0 };
+    let _first = read_all(alloc, text, origin, class, &mut counter)?;
+    Ok(counter.count)
+}
+
+/// Reads the records of the text of a zone of the class. Returns the octets of those that the keeper keeps. Names are
+/// relative to the origin, if there is one.
+///
+/// Fails with the first rule that is broken, or with `OutOfMemory` if out of memory.
+fn read_all<K: Keeper>(
+    alloc: Global,
+    text: Vec<u8>,
+    origin: Option<&Name<&[u8]>>,
+    class: Class,
+    keeper: &mut K,
+) -> Result<Vec<u8>, ZoneError>
+    requires known { class ≢ any_class }
+    requires empty { K.keeps keeper.old [] [] }
+    ensures ok { IfOk result (λ octets. (records : List spec.Record) × IsZoneText text.items (option_copied origin.entry) class records
+        × K.keeps keeper.new octets.items records) }
+    ensures err { IfErr result (IsZoneFault text.items (option_copied origin.entry) class) }
+{
     let mut zonefile = zonefile_of(alloc, text, origin, class)?;
     let mut octets = Vec::new(alloc);
-    let mut places = Vec::new(alloc);
-    while read_next(alloc, &mut zonefile, &mut octets, &mut places)? {}
-    if places.is_empty() {
+    while read_next(alloc, &mut zonefile, &mut octets, keeper)? {}
+    if octets.is_empty() {
         return Err(ZoneError::NoSoa);
     }
-    are_octets(&octets);
-    Ok(RecordList::from_octets(octets, places))
+    Ok(octets)
 }
 
 /// Returns a reader of the text of a zone of the class. Names are relative to the origin, if there is one. Fails if out
 /// of memory.
-pub(crate) fn zonefile_of(
+fn zonefile_of(
     alloc: Global,
     text: Vec<u8>,
     origin: Option<&Name<&[u8]>>,
@@ -68,28 +113,28 @@ pub(crate) fn zonefile_of(
     Ok(zonefile)
 }
 
-/// Appends the next record, and returns whether there was one.
+/// Reads the next record, and returns whether there was one.
 ///
 /// Fails with the first rule that is broken, or with `OutOfMemory` if out of memory.
-fn read_next(
+fn read_next<K: Keeper>(
     alloc: Global,
     zonefile: &mut Zonefile,
     octets: &mut Vec<u8>,
-    places: &mut Vec<usize>,
+    keeper: &mut K,
 ) -> Result<bool, ZoneError>
     requires unrefused { refused_in zonefile.old ≡ None }
-    requires read { (text : List ℕ) × (origin : Option (List (List ℕ))) × (class : ℕ)
-        × HasRead text origin class (reader_of zonefile.old) octets.old.items places.old.items }
+    requires read { (text : List ℕ) × (origin : Option (List (List ℕ))) × (class : ℕ) × (records : List spec.Record)
+        × HasRead text origin class (reader_of zonefile.old) records × K.keeps keeper.old octets.old.items records }
     ensures unrefused { OnOk result (refused_in zonefile.new ≡ None) }
-    ensures more { result ≡ Ok true → (text : List ℕ) (origin : Option (List (List ℕ))) (class : ℕ) → class ≢ any_class
-        → HasRead text origin class (reader_of zonefile.old) octets.old.items places.old.items
-        → HasRead text origin class (reader_of zonefile.new) octets.new.items places.new.items }
+    ensures more { result ≡ Ok true → (text : List ℕ) (origin : Option (List (List ℕ))) (class : ℕ) (records : List spec.Record)
+        → HasRead text origin class (reader_of zonefile.old) records → K.keeps keeper.old octets.old.items records
+        → (r : spec.Record) × HasRead text origin class (reader_of zonefile.new) (push records r)
+        × K.keeps keeper.new octets.new.items (push records r) }
     ensures shorter { result ≡ Ok true → length (left_of (reader_of zonefile.new)) < length (left_of (reader_of zonefile.old)) }
-    ensures end { result ≡ Ok false → (text : List ℕ) (origin : Option (List (List ℕ))) (class : ℕ)
-        → HasRead text origin class (reader_of zonefile.old) octets.old.items places.old.items
-        → HasReadAll text origin class octets.new.items places.new.items }
-    ensures err { IfErr result (λ error. (text : List ℕ) (origin : Option (List (List ℕ))) (class : ℕ) → class ≢ any_class
-        → HasRead text origin class (reader_of zonefile.old) octets.old.items places.old.items
+    ensures end { result ≡ Ok false → Gives (reader_of zonefile.old) (Ok None) (reader_of zonefile.new)
+        × (octets.new.items ≡ octets.old.items) × (keeper.new ≡ keeper.old) }
+    ensures err { IfErr result (λ error. (text : List ℕ) (origin : Option (List (List ℕ))) (class : ℕ) (records : List spec.Record)
+        → HasRead text origin class (reader_of zonefile.old) records → K.keeps keeper.old octets.old.items records
         → IsZoneFault text origin class error) }
 {
     let place = octets.len();
@@ -97,10 +142,8 @@ fn read_next(
         return Ok(false);
     };
     check_last(alloc, octets, place, unknown, zonefile.entry_number())?;
-    match places.push(place) {
-        Ok(()) => Ok(true),
-        Err(_) => Err(ZoneError::OutOfMemory),
-    }
+    keeper.keep(octets, place)?;
+    Ok(true)
 }
 
 /// Appends the octets of the next record. Returns whether the text writes its data in the form of unknown data, or None
@@ -108,15 +151,12 @@ fn read_next(
 ///
 /// Fails with `Include` if the next entry includes a file, with `Text` if it cannot be parsed, and with `OutOfMemory`
 /// if out of memory.
-pub(crate) fn append_next(
-    zonefile: &mut Zonefile,
-    octets: &mut Vec<u8>,
-) -> Result<Option<bool>, ZoneError>
+fn append_next(zonefile: &mut Zonefile, octets: &mut Vec<u8>) -> Result<Option<bool>, ZoneError>
     requires { refused_in zonefile.old ≡ None }
     ensures unrefused { OnOk result (refused_in zonefile.new ≡ None) }
     ensures ok { IfOk result (λ met. AppendsNext (reader_of zonefile.old) octets.old.items met (reader_of zonefile.new) octets.new.items) }
-    ensures err { IfErr result (λ error. (text : List ℕ) (origin : Option (List (List ℕ))) (class : ℕ) (read places : List ℕ) → class ≢ any_class
-        → HasRead text origin class (reader_of zonefile.old) read places → IsZoneFault text origin class error) }
+    ensures err { IfErr result (λ error. (text : List ℕ) (origin : Option (List (List ℕ))) (class : ℕ) (records : List spec.Record)
+        → HasRead text origin class (reader_of zonefile.old) records → IsZoneFault text origin class error) }
 {
     match zonefile.next_octets(octets) {
         Ok(Some(ComposedEntry::Record { unknown })) => Ok(Some(unknown)),
@@ -129,7 +169,7 @@ pub(crate) fn append_next(
 
 /// Checks the record at the place, with the number of its entry. Fails if it breaks a rule of the zone whose records
 /// come before it, or if out of memory, which only unknown data takes.
-pub(crate) fn check_last(
+fn check_last(
     alloc: Global,
     octets: &[u8],
     place: usize,

@@ -9,8 +9,7 @@ ghost use Rattle.zone_rules.specs.ZoneText.{IsZoneFault, IsZoneText};
 ghost use Rattle.zone_records.specs.Zone.{any_class};
 ghost use Rattle.zone.specs.View.{IsZoneOf, apex_of};
 
-use crate::count::count_records;
-use crate::read::read_records;
+use crate::read::{count_records, read_records};
 use crate::records::ZoneRecords;
 use dns_name::{Class, Name};
 use dns_text::DisplayKind;
