@@ -30,6 +30,11 @@ prove: | toolchain
 edits: | toolchain
 	@python3 tools/edits.py $(if $(JOBS),--jobs $(JOBS)) $(CRATES)
 
+# The programs with each of their requests for memory refused in turn, and zonewire in small memory. JOBS=N runs so many at once,
+# CRATES="a b" these programs alone. It takes the proved programs where `make build` or the gate made them, else those of `rt try`.
+memory: | toolchain
+	@python3 tools/memory.py $(if $(JOBS),--jobs $(JOBS)) $(if $(CRATES),--only $(CRATES))
+
 # The picture of the crates, docs/crates.svg, from crates.txt, and that of the times, docs/performance.svg, from docs/PERFORMANCE.md.
 picture:
 	@python3 tools/crates_picture.py
@@ -61,4 +66,4 @@ rows:
 toolchain:
 	@command -v rt > /dev/null || { echo "The Rattle toolchain is missing: no command 'rt' is on the PATH." >&2; exit 1; }
 
-.PHONY: run test prove edits picture build install bench rows toolchain
+.PHONY: run test prove edits memory picture build install bench rows toolchain
