@@ -1,27 +1,30 @@
 -- Fields in octets, and their canonical form there.
 use Rattle.std.proofs.Common.{◌≡◌, ◌+◌, ◌≤◌, ℕ, min, Bool, true, false, List, [], ◌∷◌, ◌++◌, length, take, drop, map, refl, sym, ◌∙◌, ap, subst, arith, append_assoc, append-nil, length-append}
-use Rattle.std.specs.Prelude.{Some, None}
+use Rattle.std.specs.Prelude.{if◌then◌else◌}
 use Rattle.std.specs.Char.{to_ascii_lowercase}
 use Rattle.std.specs.declared.cmp.Ordering.{Ordering}
+use Rattle.std.specs.declared.cmp.Ordering.TheVariants.{Less, Equal, Greater}
 use Rattle.std.specs.Ordering.{ordering_then, nat_cmp}
 use Rattle.std.specs.Cmp.Lexicographic.{slice_cmp}
 use Rattle.std.specs.List.{AllByRecursion}
 use Rattle.std.proofs.Math.Seq.{take-append_seam, drop-append_seam}
 use Rattle.dns_label.specs.Labels.{labels_at}
 use Rattle.dns_label.specs.Name.{IsName, wire}
-use Rattle.dns_label.specs.Spelled.{DecodesName}
+use Rattle.dns_label.specs.Spelled.{EncodesName, DecodesName}
 use Rattle.dns_label.proofs.Spelling.{labels_at-reads, reads_one, spelled-written}
 use Rattle.dns_wire.proofs.Case.{low_wire}
 use Rattle.dns_wire.proofs.LowNames.{low_name}
-use Rattle.dns_fields.specs.Fields.{Kind, Field, kind_of, kinds_of, field_octets, lowered, IsField, IsRow, octets, canonical_octets}
+use Rattle.dns_fields.specs.Fields.{Kind, Strings, RestText, Rest16, Rest64, Field, kind_of, field_octets, lowered, IsField, octets, canonical_octets}
 use Rattle.dns_fields.specs.Fields.{number8, number16, number32, ipv4, ipv6, compressible, uncompressed, string, strings, tag, rest_text, rest16, rest64}
-use Rattle.dns_fields.specs.OctetsForm.{StartsWithField, AreFields, is_name, is_last, len_in, form_of_kind, IsCanonicalData, typed, unknown}
+use Rattle.dns_fields.specs.OctetsForm.{StartsWithField, AreFields, is_name, is_last, len_in, form_of_kind}
 use Rattle.dns_fields.proofs.NameOctets.{head_seam, same}
 
 -- a name is read where it is written in full
 pub name_decoded : (whole : List ℕ) (name : List (List ℕ)) (rest : List ℕ) → IsName name → whole ≡ wire name ++ rest
     → DecodesName whole 0 name (length (wire name))
-name_decoded whole name rest is at = record { spelled = spelled-written whole 255 0 name rest at is.labels; is_name = is }
+name_decoded whole name rest is at =
+    let next : 0 + length (wire name) ≡ length (wire name) = omega arith in
+    record { spelled = subst (λ n. EncodesName whole 255 0 name n) next (spelled-written whole 255 0 name rest at is.labels); is_name = is }
 
 name_long : (name : List (List ℕ)) (rest : List ℕ) → IsName name → length (wire (labels_at (wire name ++ rest) 0)) ≡ length (wire name)
 name_long name rest is = ap (λ (n : List (List ℕ)). length (wire n)) (labels_at-reads (name_decoded (wire name ++ rest) name rest is refl))
@@ -34,7 +37,7 @@ name_ends whole name found rest next is at reads =
     one.1 ∙ ap (λ (n : List (List ℕ)). length (wire n)) (sym (labels_at-reads (name_decoded whole name rest is at)))
 
 -- octets that begin with the field are as long as it
-field_long : (field : Field) (rest : List ℕ) → IsField field → is_last (kind_of field) ≡ false
+pub field_long : (field : Field) (rest : List ℕ) → IsField field → is_last (kind_of field) ≡ false
     → len_in (kind_of field) (field_octets field ++ rest) ≡ length (field_octets field)
 field_long (number8 n) rest is ends = refl
 field_long (number16 n) rest is ends = refl
@@ -50,13 +53,21 @@ field_long (rest_text text) rest is ends = absurd (cc)
 field_long (rest16 text) rest is ends = absurd (cc)
 field_long (rest64 text) rest is ends = absurd (cc)
 
+-- all octets that are left
+pub last_long : (kind : Kind) (whole : List ℕ) → is_last kind ≡ true → len_in kind whole ≡ length whole
+last_long Strings whole last = refl
+last_long RestText whole last = refl
+last_long Rest16 whole last = refl
+last_long Rest64 whole last = refl
+last_long kind whole last = absurd (cc)
+
 pub starts_long : {whole rest : List ℕ} {kind : Kind} {field : Field} → StartsWithField whole kind field rest → is_last kind ≡ false
     → len_in kind whole ≡ length (field_octets field)
 starts_long {whole} {rest} {kind} {field} starts ends =
     (λ i. len_in (sym starts.is_kind i) (starts.written i)) ∙ field_long field rest starts.is_field (ap is_last starts.is_kind ∙ ends)
 
 -- a name lowered is its octets in lower case, and any other field is the same
-lowered_form : (field : Field) → IsField field → field_octets (lowered field) ≡ form_of_kind (kind_of field) (field_octets field)
+pub lowered_form : (field : Field) → IsField field → field_octets (lowered field) ≡ form_of_kind (kind_of field) (field_octets field)
 lowered_form (compressible name) is = sym (low_wire name is.labels)
 lowered_form (uncompressed name) is = sym (low_wire name is.labels)
 lowered_form field is = refl
@@ -105,17 +116,16 @@ pub none_form : {whole : List ℕ} (row : List Field) → AreFields whole [] row
 none_form [] are = are.written
 none_form (field ∷ row) are = absurd (let e = are.are_kinds in cc)
 
+plain_form : (kind : Kind) (text : List ℕ) → is_name kind ≡ false → form_of_kind kind text ≡ text
+plain_form kind text plain = ap (λ (named : Bool). if named then map to_ascii_lowercase text else text) plain
+
 pub last_form : {whole : List ℕ} {kind : Kind} (row : List Field) → is_name kind ≡ false → AreFields whole (kind ∷ []) row
     → whole ≡ canonical_octets row
 last_form {whole} {kind} row plain are =
     let its = parts row are in
     its.starts.written
-    ∙ (λ i. sym (starts_form its.starts ∙ ap (λ b. form_by b (field_octets its.first)) plain) i ++ none_form its.others its.left i)
+    ∙ (λ i. sym (starts_form its.starts ∙ plain_form kind (field_octets its.first) plain) i ++ none_form its.others its.left i)
     ∙ ap canonical_octets (sym its.is)
-  where
-    form_by : Bool → List ℕ → List ℕ
-    form_by true text = map to_ascii_lowercase text
-    form_by false text = text
 
 -- the octets of a field in canonical form before the others'
 pub made : {whole first behind : List ℕ} {kind : Kind} {kinds : List Kind} (row : List Field) (its : Parts whole kind kinds row)
@@ -172,17 +182,26 @@ compared {kind = kind} row its one two ends =
     ∙ (λ i. ordering_then (slice_cmp nat_cmp (starts_form one.starts i) (starts_form two.starts i))
     (slice_cmp nat_cmp (canonical_octets one.others) (canonical_octets two.others)))
 
--- data of a type with these kinds of fields
-pub record Typed (data' canonical : List ℕ) (kinds : List Kind) : Type 0 where
-  pub row : List Field
-  pub are : AreFields data' kinds row
-  pub form : canonical ≡ canonical_octets row
+-- the first fields decide unless they are level
+pub then_rest : {whole other : List ℕ} {kind : Kind} {kinds : List Kind} (row its : List Field) (one : Parts whole kind kinds row)
+    (two : Parts other kind kinds its) (first behind : Ordering) → is_last kind ≡ false → first ≡ Equal
+    → first ≡ slice_cmp nat_cmp (form_of_kind kind (field_octets one.first)) (form_of_kind kind (field_octets two.first))
+    → behind ≡ slice_cmp nat_cmp (canonical_octets one.others) (canonical_octets two.others)
+    → behind ≡ slice_cmp nat_cmp (canonical_octets row) (canonical_octets its)
+then_rest row its one two first behind ends level is rest =
+    rest ∙ sym (compared row its one two ends
+    ∙ ap (λ o. ordering_then o (slice_cmp nat_cmp (canonical_octets one.others) (canonical_octets two.others))) (sym is ∙ level))
 
-pub typed_data : {rtype : ℕ} {data' canonical : List ℕ} {kinds : List Kind} → kinds_of rtype ≡ Some kinds → IsCanonicalData rtype data' canonical
-    → Typed data' canonical kinds
-typed_data is (typed row is_row written form) = record {
-  row = row;
-  are = record { are_kinds = let e = sym is_row.kinds ∙ is in cc; each = is_row.each; written = written };
-  form = form;
-}
-typed_data {kinds = kinds} is (unknown none form) = absurd (let e : Some kinds ≡ None = sym is ∙ none in cc)
+pub then_first : {whole other : List ℕ} {kind : Kind} {kinds : List Kind} (row its : List Field) (one : Parts whole kind kinds row)
+    (two : Parts other kind kinds its) (first : Ordering) → is_last kind ≡ false → (first ≡ Equal → ⊥)
+    → first ≡ slice_cmp nat_cmp (form_of_kind kind (field_octets one.first)) (form_of_kind kind (field_octets two.first))
+    → first ≡ slice_cmp nat_cmp (canonical_octets row) (canonical_octets its)
+then_first row its one two first ends apart is =
+    decides first apart
+    ∙ sym (compared row its one two ends
+    ∙ ap (λ o. ordering_then o (slice_cmp nat_cmp (canonical_octets one.others) (canonical_octets two.others))) (sym is))
+  where
+    decides : (o : Ordering) → (o ≡ Equal → ⊥) → {rest : Ordering} → o ≡ ordering_then o rest
+    decides Less apart = refl
+    decides Equal apart = absurd (apart refl)
+    decides Greater apart = refl

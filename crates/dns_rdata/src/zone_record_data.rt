@@ -20,31 +20,32 @@ macro_rules! held {
     };
 }
 
-/// The types that have fields. Calls a macro with what is given to it, and with the variant and the mnemonic of each.
+/// The types that have fields. Calls a macro with what is given to it, and with the variant, the mnemonic and the
+/// row of each, over names `N` and octets `Octs`.
 macro_rules! with_types {
     ($called:ident, $($given:tt)*) => {
         $called! {
             ($($given)*)
-            A = A,
-            Ns = NS,
-            Md = MD,
-            Mf = MF,
-            Cname = CNAME,
-            Soa = SOA,
-            Mb = MB,
-            Mg = MG,
-            Mr = MR,
-            Ptr = PTR,
-            Hinfo = HINFO,
-            Minfo = MINFO,
-            Mx = MX,
-            Txt = TXT,
-            Rp = RP,
-            Aaaa = AAAA,
-            Srv = SRV,
-            Ds = DS,
-            Dnskey = DNSKEY,
-            Caa = CAA,
+            A = A: ARow,
+            Ns = NS: NameRow<N>,
+            Md = MD: NameRow<N>,
+            Mf = MF: NameRow<N>,
+            Cname = CNAME: NameRow<N>,
+            Soa = SOA: SoaRow<N>,
+            Mb = MB: NameRow<N>,
+            Mg = MG: NameRow<N>,
+            Mr = MR: NameRow<N>,
+            Ptr = PTR: NameRow<N>,
+            Hinfo = HINFO: HinfoRow<Octs>,
+            Minfo = MINFO: MinfoRow<N>,
+            Mx = MX: MxRow<N>,
+            Txt = TXT: TxtRow<Octs>,
+            Rp = RP: RpRow<N>,
+            Aaaa = AAAA: AaaaRow,
+            Srv = SRV: SrvRow<N>,
+            Ds = DS: DsRow<Octs>,
+            Dnskey = DNSKEY: DnskeyRow<Octs>,
+            Caa = CAA: CaaRow<Octs>,
         }
     };
 }
@@ -53,11 +54,13 @@ mod canonical;
 mod compare;
 mod compose;
 mod convert;
+mod octets_form;
 mod parse;
 mod scan;
 mod show;
 mod visit;
 
+pub use octets_form::{append_canonical_data, canonical_data_cmp};
 use visit::Visit;
 
 /// Data of a record of a zone: the fields of one of the types that have some, or data of any type as opaque octets.

@@ -20,7 +20,6 @@ impl<N> FieldOctetsForm for Compressible<N> {
         true
     }
 
-    #[tactic(auto, using(crate::proofs::OctetsForms::name_starts))]
     fn len_in(octets: &[u8]) -> usize {
         name_len(octets)
     }
@@ -35,7 +34,6 @@ impl<N> FieldOctetsForm for Uncompressed<N> {
         true
     }
 
-    #[tactic(auto, using(crate::proofs::OctetsForms::name_starts))]
     fn len_in(octets: &[u8]) -> usize {
         name_len(octets)
     }
