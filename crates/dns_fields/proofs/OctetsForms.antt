@@ -29,12 +29,19 @@ name_decoded whole name rest is at =
 name_long : (name : List (List ℕ)) (rest : List ℕ) → IsName name → length (wire (labels_at (wire name ++ rest) 0)) ≡ length (wire name)
 name_long name rest is = ap (λ (n : List (List ℕ)). length (wire n)) (labels_at-reads (name_decoded (wire name ++ rest) name rest is refl))
 
--- where a reader stops behind a name
-pub name_ends : (whole : List ℕ) (name found : List (List ℕ)) (rest : List ℕ) (next : ℕ) → IsName name → whole ≡ wire name ++ rest
-    → DecodesName whole 0 found next → next ≡ length (wire (labels_at whole 0))
-name_ends whole name found rest next is at reads =
-    let one = reads_one reads (name_decoded whole name rest is at) in
-    one.1 ∙ ap (λ (n : List (List ℕ)). length (wire n)) (sym (labels_at-reads (name_decoded whole name rest is at)))
+-- a reader stops behind the name that the octets begin with, and finds one
+pub name_ends : (whole read : List ℕ) (place next : ℕ) (name found : List (List ℕ)) (rest : List ℕ) → read ≡ whole → place ≡ 0 → IsName name
+    → whole ≡ wire name ++ rest → DecodesName read place found next → next ≡ length (wire (labels_at whole 0))
+name_ends whole read place next name found rest same_octets at_first is at reads =
+    let reads' = subst (λ n. DecodesName whole n found next) at_first (subst (λ l. DecodesName l place found next) same_octets reads) in
+    let written = name_decoded whole name rest is at in
+    (reads_one reads' written).1 ∙ ap (λ (n : List (List ℕ)). length (wire n)) (sym (labels_at-reads written))
+
+pub name_found : (whole read : List ℕ) (place : ℕ) (name : List (List ℕ)) (rest : List ℕ) → read ≡ whole → place ≡ 0 → IsName name
+    → whole ≡ wire name ++ rest → DecodesName read place name (length (wire name))
+name_found whole read place name rest same_octets at_first is at =
+    subst (λ l. DecodesName l place name (length (wire name))) (sym same_octets)
+    (subst (λ n. DecodesName whole n name (length (wire name))) (sym at_first) (name_decoded whole name rest is at))
 
 -- octets that begin with the field are as long as it
 pub field_long : (field : Field) (rest : List ℕ) → IsField field → is_last (kind_of field) ≡ false
@@ -100,16 +107,40 @@ parts (field ∷ row) are = record {
   left = record { are_kinds = let e = are.are_kinds in cc; each = are.each.1; written = refl };
 }
 
--- the octets of a row up to the length of its first field, and behind it
-pub cut : {whole rest : List ℕ} {kind : Kind} {field : Field} (len count : ℕ) → StartsWithField whole kind field rest → is_last kind ≡ false
-    → len ≡ len_in kind whole → count ≡ min len (length whole) → (take count whole ≡ field_octets field) × (drop count whole ≡ rest)
-cut {whole} {rest} {kind} {field} len count starts ends is least =
-    let long : len ≡ length (field_octets field) = is ∙ starts_long starts ends in
-    let all : count ≡ length (field_octets field) =
-    omega (arith, least, long, ap (length {A = ℕ}) starts.written, length-append (field_octets field) rest) in (
-      (λ i. take (all i) (starts.written i)) ∙ take-append_seam (field_octets field) rest,
-      (λ i. drop (all i) (starts.written i)) ∙ drop-append_seam (field_octets field) rest,
-    )
+-- the octets of its first field, and those behind them
+pub record Cut (text behind : List ℕ) (kind : Kind) (kinds : List Kind) (row : List Field) : Type 0 where
+  pub first : Field
+  pub others : List Field
+  pub is : row ≡ first ∷ others
+  pub starts : StartsWithField text kind first []
+  pub left : AreFields behind kinds others
+
+pub cut : {whole text behind : List ℕ} {kind : Kind} {kinds : List Kind} {len count : ℕ} (row : List Field) → AreFields whole (kind ∷ kinds) row
+    → is_last kind ≡ false → ((field : Field) (rest : List ℕ) → StartsWithField whole kind field rest → len ≡ len_in kind whole)
+    → count ≡ min len (length whole) → text ≡ take count whole → behind ≡ drop count whole → Cut text behind kind kinds row
+cut {whole} {kind = kind} {kinds = kinds} {len = len} {count = count} row are ends found least front back =
+    let its = parts row are in
+    let field = field_octets its.first in
+    let long : len ≡ length field = found its.first (octets its.others) its.starts ∙ starts_long its.starts ends in
+    let all : count ≡ length field =
+    omega (arith, least, long, ap (length {A = ℕ}) its.starts.written, length-append field (octets its.others)) in
+    record {
+      first = its.first;
+      others = its.others;
+      is = its.is;
+      starts = record {
+        is_kind = its.starts.is_kind;
+        is_field = its.starts.is_field;
+        written = front ∙ (λ i. take (all i) (its.starts.written i)) ∙ take-append_seam field (octets its.others) ∙ sym (append-nil field);
+      };
+      left = subst (λ l. AreFields l kinds its.others)
+          (sym (back ∙ (λ i. drop (all i) (its.starts.written i)) ∙ drop-append_seam field (octets its.others))) its.left;
+    }
+
+-- the canonical form of the first field by its octets
+cut_form : {text behind : List ℕ} {kind : Kind} {kinds : List Kind} {row : List Field} (its : Cut text behind kind kinds row)
+    → field_octets (lowered its.first) ≡ form_of_kind kind text
+cut_form {kind = kind} its = starts_form its.starts ∙ ap (form_of_kind kind) (sym (its.starts.written ∙ append-nil (field_octets its.first)))
 
 -- a row without fields, and one of a field that is no name
 pub none_form : {whole : List ℕ} (row : List Field) → AreFields whole [] row → whole ≡ canonical_octets row
@@ -127,11 +158,10 @@ last_form {whole} {kind} row plain are =
     ∙ (λ i. sym (starts_form its.starts ∙ plain_form kind (field_octets its.first) plain) i ++ none_form its.others its.left i)
     ∙ ap canonical_octets (sym its.is)
 
--- the octets of a field in canonical form before the others'
-pub made : {whole first behind : List ℕ} {kind : Kind} {kinds : List Kind} (row : List Field) (its : Parts whole kind kinds row)
-    → first ≡ form_of_kind kind (field_octets its.first) → behind ≡ canonical_octets its.others → first ++ behind ≡ canonical_octets row
-made row its is are =
-    (λ i. (is ∙ sym (starts_form its.starts)) i ++ are i) ∙ ap canonical_octets (sym its.is)
+-- the first field in canonical form before the others
+pub made : {text behind form forms : List ℕ} {kind : Kind} {kinds : List Kind} {row : List Field} (its : Cut text behind kind kinds row)
+    → form ≡ form_of_kind kind text → forms ≡ canonical_octets its.others → form ++ forms ≡ canonical_octets row
+made its is are = (λ i. (is ∙ sym (cut_form its)) i ++ are i) ∙ ap canonical_octets (sym its.is)
 
 -- what begins none of the other decides how they compare, or is the same
 seam : (text other : List ℕ) → ((more : List ℕ) → other ≡ text ++ more → more ≡ []) → ((more : List ℕ) → text ≡ other ++ more → more ≡ [])
@@ -165,43 +195,32 @@ no_front field other is is' kinds ends more are =
     none [] is = refl
     none (n ∷ l) is = absurd (omega arith)
 
--- rows compare as their first fields do, or else as the others
-pub compared : {whole other : List ℕ} {kind : Kind} {kinds : List Kind} (row its : List Field) (one : Parts whole kind kinds row)
-    (two : Parts other kind kinds its) → is_last kind ≡ false
-    → slice_cmp nat_cmp (canonical_octets row) (canonical_octets its)
-    ≡ ordering_then (slice_cmp nat_cmp (form_of_kind kind (field_octets one.first)) (form_of_kind kind (field_octets two.first)))
-    (slice_cmp nat_cmp (canonical_octets one.others) (canonical_octets two.others))
-compared {kind = kind} row its one two ends =
-    let level : kind_of one.first ≡ kind_of two.first = one.starts.is_kind ∙ sym two.starts.is_kind in
-    let ends' : is_last (kind_of one.first) ≡ false = ap is_last one.starts.is_kind ∙ ends in
-    (λ i. slice_cmp nat_cmp (canonical_octets (one.is i)) (canonical_octets (two.is i)))
-    ∙ seam (field_octets (lowered one.first)) (field_octets (lowered two.first))
-    (no_front one.first two.first one.starts.is_field two.starts.is_field level ends')
-    (no_front two.first one.first two.starts.is_field one.starts.is_field (sym level) (ap is_last (sym level) ∙ ends'))
-    (canonical_octets one.others) (canonical_octets two.others)
-    ∙ (λ i. ordering_then (slice_cmp nat_cmp (starts_form one.starts i) (starts_form two.starts i))
-    (slice_cmp nat_cmp (canonical_octets one.others) (canonical_octets two.others)))
+module _ {text behind other beyond : List ℕ} {kind : Kind} {kinds : List Kind} {row its : List Field} (one : Cut text behind kind kinds row)
+    (two : Cut other beyond kind kinds its) (first : Ordering) (ends : is_last kind ≡ false)
+    (is : first ≡ slice_cmp nat_cmp (form_of_kind kind text) (form_of_kind kind other)) where
+  -- rows compare as their first fields do, or else as the others
+  compared : slice_cmp nat_cmp (canonical_octets row) (canonical_octets its)
+      ≡ ordering_then first (slice_cmp nat_cmp (canonical_octets one.others) (canonical_octets two.others))
+  compared =
+      let level : kind_of one.first ≡ kind_of two.first = one.starts.is_kind ∙ sym two.starts.is_kind in
+      let ends' : is_last (kind_of one.first) ≡ false = ap is_last one.starts.is_kind ∙ ends in
+      (λ i. slice_cmp nat_cmp (canonical_octets (one.is i)) (canonical_octets (two.is i)))
+      ∙ seam (field_octets (lowered one.first)) (field_octets (lowered two.first))
+      (no_front one.first two.first one.starts.is_field two.starts.is_field level ends')
+      (no_front two.first one.first two.starts.is_field one.starts.is_field (sym level) (ap is_last (sym level) ∙ ends'))
+      (canonical_octets one.others) (canonical_octets two.others)
+      ∙ ap (λ o. ordering_then o (slice_cmp nat_cmp (canonical_octets one.others) (canonical_octets two.others)))
+      ((λ i. slice_cmp nat_cmp (cut_form one i) (cut_form two i)) ∙ sym is)
 
--- the first fields decide unless they are level
-pub then_rest : {whole other : List ℕ} {kind : Kind} {kinds : List Kind} (row its : List Field) (one : Parts whole kind kinds row)
-    (two : Parts other kind kinds its) (first behind : Ordering) → is_last kind ≡ false → first ≡ Equal
-    → first ≡ slice_cmp nat_cmp (form_of_kind kind (field_octets one.first)) (form_of_kind kind (field_octets two.first))
-    → behind ≡ slice_cmp nat_cmp (canonical_octets one.others) (canonical_octets two.others)
-    → behind ≡ slice_cmp nat_cmp (canonical_octets row) (canonical_octets its)
-then_rest row its one two first behind ends level is rest =
-    rest ∙ sym (compared row its one two ends
-    ∙ ap (λ o. ordering_then o (slice_cmp nat_cmp (canonical_octets one.others) (canonical_octets two.others))) (sym is ∙ level))
+  pub then_rest : (rest : Ordering) → first ≡ Equal → rest ≡ slice_cmp nat_cmp (canonical_octets one.others) (canonical_octets two.others)
+      → rest ≡ slice_cmp nat_cmp (canonical_octets row) (canonical_octets its)
+  then_rest rest level rest_is =
+      rest_is ∙ sym (compared ∙ ap (λ o. ordering_then o (slice_cmp nat_cmp (canonical_octets one.others) (canonical_octets two.others))) level)
 
-pub then_first : {whole other : List ℕ} {kind : Kind} {kinds : List Kind} (row its : List Field) (one : Parts whole kind kinds row)
-    (two : Parts other kind kinds its) (first : Ordering) → is_last kind ≡ false → (first ≡ Equal → ⊥)
-    → first ≡ slice_cmp nat_cmp (form_of_kind kind (field_octets one.first)) (form_of_kind kind (field_octets two.first))
-    → first ≡ slice_cmp nat_cmp (canonical_octets row) (canonical_octets its)
-then_first row its one two first ends apart is =
-    decides first apart
-    ∙ sym (compared row its one two ends
-    ∙ ap (λ o. ordering_then o (slice_cmp nat_cmp (canonical_octets one.others) (canonical_octets two.others))) (sym is))
-  where
-    decides : (o : Ordering) → (o ≡ Equal → ⊥) → {rest : Ordering} → o ≡ ordering_then o rest
-    decides Less apart = refl
-    decides Equal apart = absurd (apart refl)
-    decides Greater apart = refl
+  pub then_first : (first ≡ Equal → ⊥) → first ≡ slice_cmp nat_cmp (canonical_octets row) (canonical_octets its)
+  then_first apart = decides first (slice_cmp nat_cmp (canonical_octets one.others) (canonical_octets two.others)) apart ∙ sym compared
+    where
+      decides : (o rest : Ordering) → (o ≡ Equal → ⊥) → o ≡ ordering_then o rest
+      decides Less rest apart = refl
+      decides Equal rest apart = absurd (apart refl)
+      decides Greater rest apart = refl
