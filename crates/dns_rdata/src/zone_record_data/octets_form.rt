@@ -1,5 +1,5 @@
 //! Data of any type that is held as octets, every name in full: its canonical form (RFC 4034 6.2, 6.3).
-ghost use Rattle.std.specs.Prelude.{◌≡◌, ◌++◌, List, ℕ, OnOk};
+ghost use Rattle.std.specs.Prelude.{◌≡◌, ◌≤◌, ◌++◌, List, ℕ, OnOk, length, take, drop};
 ghost use Rattle.std.specs.Cmp.Lexicographic.{slice_cmp};
 ghost use Rattle.std.specs.Ordering.{nat_cmp};
 ghost use Rattle.dns_fields.specs.OctetsForm.{IsCanonicalData};
@@ -48,8 +48,18 @@ pub fn append_canonical_data(
 {
     let start = target.len();
     target.extend_from_slice(octets)?;
-    make_canonical_data(rtype, &mut target.as_mut_slice()[start..]);
+    make_canonical_from(rtype, target.as_mut_slice(), start);
     Ok(())
+}
+
+/// Puts data of the type that begins at `start` in canonical form.
+fn make_canonical_from(rtype: Rtype, octets: &mut [u8], start: usize)
+    requires { start ≤ length octets.old }
+    ensures { (canonical : List ℕ) → IsCanonicalData rtype (drop start octets.old) canonical
+        → octets.new ≡ take start octets.old ++ canonical }
+{
+    let (_, behind) = octets.split_at_mut(start);
+    make_canonical_data(rtype, behind);
 }
 
 /// Puts data of the type in canonical form.
