@@ -25,7 +25,7 @@ pub use row::{HasFields, Last, LastValue, Rest16, Rest64, RestText, Row, Strings
 pub use scan::{ScanField, ScanRow, scan_row, scan_row_of};
 pub use show::{ShowField, ShowLast, ShowRow, show_row};
 pub use table::{
-    ARow, AaaaRow, CaaRow, DataType, DnskeyRow, DsRow, HinfoRow, MinfoRow, MxRow, NameRow, Number,
-    RowOf, RpRow, SoaRow, SrvRow, TxtRow,
+    ARow, AaaaRow, CaaRow, DataType, DnameRow, DnskeyRow, DsRow, HinfoRow, MinfoRow, MxRow,
+    NameRow, Number, RowOf, RpRow, SoaRow, SrvRow, SshfpRow, TxtRow,
 };
 pub use typed::{FlattenData, ParseData, ScanData, TypedData};
