@@ -8,7 +8,6 @@ mod compose;
 mod convert;
 mod field;
 pub mod laws;
-mod octets_form;
 mod octets_ord;
 mod read;
 mod row;
@@ -20,9 +19,6 @@ mod typed;
 pub use compose::{compose_canonical_row, compose_row, row_len};
 pub use convert::{ConvertField, ConvertRow, OverOctets};
 pub use field::{Compressible, FieldValue, HasField, Tag, Uncompressed};
-pub use octets_form::{
-    FieldOctetsForm, RowOctetsForm, canonical_rows_cmp, make_canonical_row,
-};
 pub use octets_ord::{CanonicalOctetsOrd, FieldOctetsOrd, RowOctetsOrd, canonical_row_cmp_octets};
 pub use read::{ReadError, ReadField, ReadRow, parse_row, read_row};
 pub use row::{HasFields, Last, LastValue, Rest16, Rest64, RestText, Row, Strings, StringsIter};
