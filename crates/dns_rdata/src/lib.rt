@@ -14,4 +14,4 @@ pub use dns_rr_octets::{
     A, Aaaa, Caa, Dnskey, Ds, Hinfo, Sshfp, Txt, TxtAppendError, TxtBuilder, TxtCharStrIter,
     TxtError, TxtIter,
 };
-pub use zone_record_data::ZoneRecordData;
+pub use zone_record_data::{ZoneRecordData, append_canonical_data, canonical_data_cmp};

@@ -58,11 +58,13 @@ mod canonical;
 mod compare;
 mod compose;
 mod convert;
+mod octets_form;
 mod parse;
 mod scan;
 mod show;
 mod visit;
 
+pub use octets_form::{append_canonical_data, canonical_data_cmp};
 use visit::Visit;
 
 /// Data of a record of a zone: the fields of one of the types that have some, or data of any type as opaque octets.
