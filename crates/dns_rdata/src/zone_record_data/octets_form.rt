@@ -4,16 +4,14 @@ ghost use Rattle.std.specs.Cmp.Lexicographic.{slice_cmp};
 ghost use Rattle.std.specs.Ordering.{nat_cmp};
 ghost use Rattle.dns_fields.specs.OctetsForm.{IsCanonicalData};
 
-use dns_fields::{
-    ARow, AaaaRow, CaaRow, DnskeyRow, DsRow, HinfoRow, MinfoRow, MxRow, NameRow, RpRow, SoaRow,
-    SrvRow, TxtRow, canonical_rows_cmp, make_canonical_row,
-};
+use dns_fields::{canonical_rows_cmp, make_canonical_row};
 use dns_name::Rtype;
 use std::alloc::AllocError;
 use std::cmp::Ordering;
 
 /// The names and octets of the rows, which are never made: the data stays octets.
 type N = ();
+
 type Octs = &'static [u8];
 
 /// The arms of `make_canonical_data`.
