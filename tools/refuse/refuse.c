@@ -238,8 +238,11 @@ struct outcome {
 static struct outcome *outcomes;
 static uint64_t outcome_count;
 static int in_file, out_file, err_file;
-/* How many microseconds of a processor the last run took. */
+/* How many microseconds of a processor the last run took, and how many a run may take whose requests are to be refused, unless each is. */
 static uint64_t taken;
+static const uint64_t SLOW = 2000000;
+/* Whether each request was refused, or some, or none since the run takes long. */
+enum coverage { STEPPED, WHOLE, LEFT_OUT };
 
 /* What a file holds. */
 static char *content(int file, uint64_t *length) {
@@ -341,7 +344,11 @@ static void serve(int server) {
         __libc_free(input);
         if (run(server, asked, NONE, 0)) return;
         uint64_t runs = 1, refusals = 0, requests = counts->requests, each = each_up_to(asked);
-        uint64_t is_whole = !each || requests <= each;
+        uint64_t coverage = !each || requests <= each ? WHOLE : STEPPED;
+        if (each && taken > SLOW) {
+            coverage = LEFT_OUT;
+            asked.whole = 0;
+        }
         for (enum way which = AT; which <= FROM && asked.whole; which++)
             for (uint64_t at = 1;; at += each ? 1 + at / each : 1) {
                 if (run(server, asked, which, at)) return;
@@ -349,7 +356,7 @@ static void serve(int server) {
                 refusals += counts->refusals;
                 if (!counts->refusals) break;
             }
-        uint64_t heads[] = {runs, requests, refusals, is_whole, outcome_count};
+        uint64_t heads[] = {runs, requests, refusals, coverage, outcome_count};
         give(server, heads, sizeof heads);
         for (uint64_t n = 0; n < outcome_count; n++) {
             give(server, outcomes + n, offsetof(struct outcome, out));
