@@ -241,6 +241,8 @@ static int in_file, out_file, err_file;
 /* How many microseconds of a processor the last run took, and how many a run may take whose requests are to be refused, unless each is. */
 static uint64_t taken;
 static const uint64_t SLOW = 2000000;
+/* How many of the first requests are refused at least. */
+static const uint64_t FEWEST = 4;
 /* Whether each request was refused, or some, or none since the run takes long. */
 enum coverage { STEPPED, WHOLE, LEFT_OUT };
 
@@ -323,7 +325,7 @@ static int run(int server, struct asked asked, enum way which, uint64_t at) {
 static uint64_t each_up_to(struct asked asked) {
     uint64_t found = asked.whole * 1000 / (taken + 1);
     if (!asked.each) return 0;
-    return found < 16 ? 16 : found > asked.each ? asked.each : found;
+    return found < FEWEST ? FEWEST : found > asked.each ? asked.each : found;
 }
 
 /* Serves at a socket: takes an input, runs the program on it with no request refused, then with each request refused alone and then with
