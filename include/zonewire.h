@@ -5,8 +5,8 @@
  * (crates/zonewire_c/src). Link with -lzonewire; it needs the C library and nothing else.
  *
  * Buffers. The caller owns every buffer, and the library keeps nothing between two calls. Octets are passed as a
- * pointer and their number, the length. A pointer is never NULL: where there are no octets, pass any valid pointer,
- * as "", and the length 0. The buffer for the output overlaps no other argument.
+ * pointer and their number, the length; the pointer may be NULL if the length is 0. The buffer for the output
+ * overlaps no other argument.
  *
  * Output. A call that has an output returns its length in `count`. If the buffer is at least so long, the output is
  * at its beginning, and the octets after it are as they were. Otherwise nothing is written. So there are two ways

@@ -84,8 +84,6 @@ int main(int count, char **words) {
     struct sockaddr_in at = {.sin_family = AF_INET, .sin_port = htons(count < 4 ? 0 : atoi(words[count - 1]))};
     octets some[3] = {{NULL, 0, 0}, {NULL, 0, 0}, {NULL, 0, 0}};
     at.sin_addr.s_addr = htonl(INADDR_LOOPBACK);
-    for (int i = 0; i < 3; i++)
-        make_room(&some[i], 1);
     if (serves) {
         for (int file = open(words[2], O_RDONLY); read_more(file, &some[0]);) {}
         setsockopt(tcp, SOL_SOCKET, SO_REUSEADDR, &yes, sizeof yes);

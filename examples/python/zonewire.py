@@ -2,7 +2,9 @@
 import ctypes
 from pathlib import Path
 
-LIBRARY = ctypes.CDLL(str(Path(__file__).resolve().parents[2] / "build" / "libzonewire.so"))
+# The library that `make c` built, or else the one that is installed.
+BUILT = Path(__file__).resolve().parents[2] / "build" / "libzonewire.so"
+LIBRARY = ctypes.CDLL(str(BUILT) if BUILT.is_file() else "libzonewire.so")
 SIMPLE, TABBED, MULTILINE = range(3)
 PLAIN, STATIC, TREE, HASH = range(4)
 IN = 1

@@ -10,7 +10,7 @@ use Rattle.zonewire_c.specs.declared.fault.Fault.TheVariants.{OutOfMemory}
 abbrev pub filled : List ℕ → List ℕ → List ℕ
 filled octets old = if nat_lt (length old) (length octets) then old else octets ++ drop (length octets) old
 
--- the answer that there are so many octets or records
+-- the answer that there is this number of octets or records
 abbrev pub success : ℕ → Answer
 success count = record { fault = 0; number = 0; count = count }
 
