@@ -9,6 +9,7 @@ The modules of examples/python send the zone of the program's stored run, whose 
 It prints a line for each run, and one that names what is not here and was not run: the library, a command. With --must a library that
 is not there is a failure. The exit status is 1 if a run failed."""
 import argparse
+import re
 import shutil
 import socket
 import subprocess
@@ -93,7 +94,7 @@ def stream_from(port, query):
 
 def compare(what, given, wanted):
     if given != wanted:
-        raise Failure(f"{what}: {len(given)} octets, not the {len(wanted)} that are wanted")
+        raise Failure(f"{what} differs: a length of {len(given)}, and of {len(wanted)} in what is wanted")
 
 
 def there_and_back(program, query, stream):
@@ -121,6 +122,13 @@ def check_program(stream):
     compare("the program's stream", stream, wanted)
 
 
+def check_header(zonewire):
+    """The numbers of faults in the header are those that have a text."""
+    faults = re.search(r"^enum zonewire_fault \{$(.*?)^\};$", (ROOT / "include" / "zonewire.h").read_text(), re.M | re.S)[1]
+    numbers = {int(it) for it in re.findall(r"\bZONEWIRE_\w+ = (\d+)", faults)} - {0}
+    compare("the header's faults", numbers, {it for it in range(1000) if zonewire.fault_text(it, 1)})
+
+
 def check_python():
     words = [sys.executable, ROOT / "examples" / "python" / "there_and_back.py", ZONE, NAME]
     compare("the zone", ran(words).partition(b"\n")[2], records_of_file())
@@ -132,6 +140,7 @@ def runs_of(room, zonewire):
     stream = zonewire.send(ZONE.read_bytes(), query, origin=NAME.encode())
     yield "python: the program's stored run", lambda: check_stored(zonewire)
     yield "python: there and back", check_python
+    yield "python: the faults of the header", lambda: check_header(zonewire)
     yield "the octets of build/zonewire", (lambda: check_program(stream)) if (BUILD / "zonewire").is_file() else None
     has_cc = shutil.which("cc")
     for title, name, flags, under in (

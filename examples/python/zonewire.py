@@ -22,7 +22,7 @@ class Fault(Exception):
 
     def __init__(self, answer):
         self.fault, self.number = answer.fault, answer.number
-        super().__init__(output_of("zonewire_fault_text", ctypes.c_uint32(answer.fault), ctypes.c_size_t(answer.number)).decode())
+        super().__init__(fault_text(answer.fault, answer.number))
 
 
 def passed(value):
@@ -49,6 +49,11 @@ def output_of(name, *values):
         if answer.count <= room:
             return buffer.raw[: answer.count]
         room = answer.count
+
+
+def fault_text(fault, number):
+    """The text of a fault, by its numbers. It is empty if there is no such fault."""
+    return output_of("zonewire_fault_text", ctypes.c_uint32(fault), ctypes.c_size_t(number)).decode()
 
 
 def count(text, origin=b"", class_number=IN):

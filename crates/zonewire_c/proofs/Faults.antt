@@ -1,5 +1,5 @@
 -- Why a zone is not read, from why its origin is not.
-use Rattle.std.proofs.Common.{◌≡◌, ℕ, List, [], ◌∷◌}
+use Rattle.std.proofs.Common.{◌≡◌, ℕ, List, [], ◌∷◌, refl}
 use Rattle.zonewire_c.specs.Given.{IsNameFault, IsTextFault}
 use Rattle.zonewire_c.specs.declared.fault.Fault.{Fault}
 use Rattle.zonewire_c.specs.declared.fault.Fault.TheVariants as fault

@@ -117,7 +117,13 @@ fn a_zone_is_sent_and_received(rt: HostRuntime) -> Result<(), Fail> {
     assert!(rt; hands_out(answer, &out, PRINTED));
     let begun = &stream.as_slice()[..115];
     assert!(rt; fails(zonewire_receive(alloc, QUERY, begun, 0, &mut out), 417, 0));
-    assert!(rt; fails(zonewire_receive(alloc, &QUERY[..18], begun, 0, &mut out), 205, 0));
+    assert!(rt;
+        fails(
+            zonewire_receive(alloc, &QUERY[..18], begun, 0, &mut out),
+            205,
+            0
+        )
+    );
     Ok(())
 }
 
