@@ -1,5 +1,5 @@
 -- What each call hands out, and why it fails.
-use Rattle.std.specs.Prelude.{◌≡◌, ℕ, List, false, ⊤}
+use Rattle.std.specs.Prelude.{◌≡◌, ◌⊎◌, ℕ, List, false, ⊤}
 use Rattle.dns_label.specs.NameText.{IsNameText}
 use Rattle.dns_text.specs.Layout.{layout_of}
 use Rattle.dns_text.specs.declared.layout.DisplayKind.{DisplayKind}
@@ -13,7 +13,7 @@ use Rattle.zone_send.specs.SentBy as sent
 use Rattle.zone_send.specs.declared.sending.Spelling.{Spelling}
 use Rattle.zone_send.specs.declared.sending.error.SendError.{SendError}
 use Rattle.zonewire.specs.Output.{IsNotReceived, IsReceived}
-use Rattle.zonewire_c.specs.Given.{IsLayout, IsNoLayout, IsNoSpelling, IsSpelling, IsTextFault, IsTextOf}
+use Rattle.zonewire_c.specs.Given.{HasLayout, HasSpelling, IsLayout, IsNoLayout, IsNoSpelling, IsSpelling, IsTextFault, IsTextOf}
 use Rattle.zonewire_c.specs.declared.fault.Fault.{Fault}
 use Rattle.zonewire_c.specs.declared.fault.Fault.TheVariants as fault
 
@@ -25,10 +25,10 @@ pub record IsPrintOutput (text origin : List ℕ) (class number : ℕ) (octets :
   pub read : IsTextOf text origin class records
   pub printed : IsPrinted (layout_of layout) records octets
 
--- The layout is judged first.
+-- No layout has the number; or one has it, and no zone is read from the text.
 abbrev pub IsPrintFault : List ℕ → List ℕ → ℕ → ℕ → Fault → Type 0
-IsPrintFault text origin class number fault.BadLayout = IsNoLayout number
-IsPrintFault text origin class number error = IsTextFault text origin class error
+IsPrintFault text origin class number error =
+    ((error ≡ fault.BadLayout) × IsNoLayout number) ⊎ (HasLayout number × IsTextFault text origin class error)
 
 -- The octets are the canonical ones of the zone of the text.
 pub record IsCanonicalOutput (text origin : List ℕ) (class : ℕ) (octets : List ℕ) : Type 0 where
@@ -59,11 +59,12 @@ pub record IsNotSent (text origin : List ℕ) (class : ℕ) (query : List ℕ) (
   pub refused : sent.IsSendFault spelling records (apex_of records) class query max error
   pub none : IfRecord error (FitsNoMessages spelling records query max)
 
--- The spelling is judged first, and then the text.
+-- No spelling has the number; or one has it, and no zone is read from the text, or nothing is sent for it.
 abbrev pub IsSendFault : List ℕ → List ℕ → ℕ → List ℕ → ℕ → ℕ → Fault → Type 0
-IsSendFault text origin class query max number fault.BadSpelling = IsNoSpelling number
-IsSendFault text origin class query max number (fault.Send error) = IsNotSent text origin class query max number error
-IsSendFault text origin class query max number error = IsTextFault text origin class error
+IsSendFault text origin class query max number error =
+    ((error ≡ fault.BadSpelling) × IsNoSpelling number)
+    ⊎ (HasSpelling number × (IsTextFault text origin class error
+        ⊎ ((why : SendError) × (error ≡ fault.Send why) × IsNotSent text origin class query max number why)))
 
 -- The octets are the printed text of the zone whose transfer the stream begins with.
 pub record IsReceiveOutput (query stream : List ℕ) (number : ℕ) (octets : List ℕ) : Type 0 where
@@ -73,12 +74,17 @@ pub record IsReceiveOutput (query stream : List ℕ) (number : ℕ) (octets : Li
   pub received : IsReceived query stream records
   pub printed : IsPrinted (layout_of layout) records octets
 
--- The layout is judged first.
+-- why no zone is received
+abbrev pub IsStreamFault : List ℕ → List ℕ → Fault → Type 0
+IsStreamFault query stream fault.OutOfMemory = ⊤
+IsStreamFault query stream fault.BadName = ⊥
+IsStreamFault query stream fault.BadLayout = ⊥
+IsStreamFault query stream fault.BadSpelling = ⊥
+IsStreamFault query stream (fault.Zone error) = ⊥
+IsStreamFault query stream (fault.Send error) = ⊥
+IsStreamFault query stream (fault.Receive error) = IsNotReceived query stream error
+
+-- No layout has the number; or one has it, and no zone is received.
 abbrev pub IsReceiveFault : List ℕ → List ℕ → ℕ → Fault → Type 0
-IsReceiveFault query stream number fault.OutOfMemory = ⊤
-IsReceiveFault query stream number fault.BadName = ⊥
-IsReceiveFault query stream number fault.BadLayout = IsNoLayout number
-IsReceiveFault query stream number fault.BadSpelling = ⊥
-IsReceiveFault query stream number (fault.Zone error) = ⊥
-IsReceiveFault query stream number (fault.Send error) = ⊥
-IsReceiveFault query stream number (fault.Receive error) = IsNotReceived query stream error
+IsReceiveFault query stream number error =
+    ((error ≡ fault.BadLayout) × IsNoLayout number) ⊎ (HasLayout number × IsStreamFault query stream error)

@@ -70,7 +70,14 @@ IsLayout number layout = layout_number layout ≡ number
 abbrev pub IsSpelling : ℕ → Spelling → Type 0
 IsSpelling number spelling = spelling_number spelling ≡ number
 
--- the number is that of no layout, or of no spelling
+-- the number is that of a layout, or of a spelling
+abbrev pub HasLayout : ℕ → Type 0
+HasLayout number = (layout : DisplayKind) × IsLayout number layout
+
+abbrev pub HasSpelling : ℕ → Type 0
+HasSpelling number = (spelling : Spelling) × IsSpelling number spelling
+
+-- the number is that of none
 abbrev pub IsNoLayout : ℕ → Type 0
 IsNoLayout number = (layout : DisplayKind) → IsLayout number layout → ⊥
 
