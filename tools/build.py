@@ -3,9 +3,10 @@
 build/libCRATE.a.
 
 The program is built by the gate, since only what is proved is built: `rt ci` runs in a copy of the crates that the program
-uses, without the crates of tests and the edits that must fail. It counts the crates as the gate is done with each. The gate
-keeps what it has proved, so a build that was stopped goes on from there. It compiles no static library: `rt lib` does so in the
-copy, once the gate has passed. The exit status is 1 if the gate refuses the copy; what was in build/ is then as it was."""
+uses, without the crates of tests and the edits that must fail. It counts the crates as the gate is done with each. Where the
+toolchain keeps what its gate has proved, a build that was stopped goes on from there. The gate compiles no static library:
+`rt lib` does so in the copy, once the gate has passed. The exit status is 1 if the gate refuses the copy; what was in build/ is
+then as it was."""
 import os
 import re
 import shutil
@@ -69,8 +70,8 @@ def main():
         room = Path(name)
         count = copy_to(room, program)
         what = "library" if is_library else "program"
-        print(f"The gate builds the {what} from {count} crates, and proves each of them first: an hour or more from nothing. It keeps what it")
-        print("has proved on this machine. If you stop it, the next run goes on from there, and so it does after `make prove`.", flush=True)
+        print(f"The gate builds the {what} from {count} crates, and proves each of them first: an hour or more from nothing. A toolchain that")
+        print("keeps what it has proved on this machine goes on from there: if you stop it, and after `make prove`.", flush=True)
         if not run_gate(room, count):
             return 1
         built = compiled_library(room, program) if is_library else room / "crates" / program / "out" / program

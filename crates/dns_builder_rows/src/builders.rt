@@ -35,7 +35,7 @@ fn build_over<Target: Composer + Drop>(
     };
     let mut stage = Stage::Start(builder);
     for _ in 0..u32::MAX {
-        if !row.has_more() {
+        if !row.has_step(out) {
             break;
         }
         let step = row.word()?;

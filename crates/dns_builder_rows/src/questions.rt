@@ -28,7 +28,7 @@ fn push_questions<Target: Composer + Drop>(
     };
     let mut builder = builder.question();
     for _ in 0..u32::MAX {
-        if !row.has_more() {
+        if !row.has_step(out) {
             break;
         }
         match row.word()? {

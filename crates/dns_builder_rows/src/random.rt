@@ -86,7 +86,7 @@ impl<Target: Composer> Steps<Target> {
             1 => self.append_octets(),
             _ => self.target.append_compressed_name(&self.draws.name(alloc)?),
         };
-        self.sum.take(&[u8::from(appended.is_err())]);
+        self.sum.take(&[u8::from(is_refused(appended)?)]);
         if let Some(octets) = self.target.octets().get(self.front..) {
             self.sum.take(octets);
         }
@@ -118,7 +118,7 @@ impl<Target: Composer> Steps<Target> {
     fn probe(&mut self, alloc: Global) -> Result<(), RowError> {
         let len = self.target.octets().len();
         let name = self.draws.name(alloc)?;
-        if self.target.append_compressed_name(&name).is_err() {
+        if is_refused(self.target.append_compressed_name(&name))? {
             self.sum.take(&[255]);
         }
         if let Some(spelled) = self.target.octets().get(len..) {
@@ -126,6 +126,15 @@ impl<Target: Composer> Steps<Target> {
         }
         self.target.truncate(len);
         Ok(())
+    }
+}
+
+/// Returns whether an append is refused for want of room.
+fn is_refused(appended: Result<(), AppendError>) -> Result<bool, RowError> {
+    match appended {
+        Ok(()) => Ok(false),
+        Err(AppendError::OutOfMemory) => Err(RowError::OutOfMemory),
+        Err(_) => Ok(true),
     }
 }
 

@@ -1,17 +1,23 @@
 //! Names and records as given in a row (RFC 1035 5.1).
 use dns_header::Record;
-use dns_name::{Name, Ttl, UnknownRecordData};
+use dns_name::{FromStrError, Name, Ttl, UnknownRecordData};
 use dns_rdata::ZoneRecordData;
-use dns_text::IterScanner;
+use dns_text::{IterScanner, StrError};
 use rows::{Row, RowError};
 use std::alloc::Global;
 
 type OwnedName = Name<Vec<u8>>;
 
-/// Returns the name of a text.
+/// Takes the next argument as a name.
 pub fn name_of(alloc: Global, row: &mut Row<'_>) -> Result<OwnedName, RowError> {
-    match Name::vec_from_str(alloc, row.word()?) {
+    name_of_text(alloc, row.word()?)
+}
+
+/// Returns the name of a text.
+pub fn name_of_text(alloc: Global, text: &str) -> Result<OwnedName, RowError> {
+    match Name::vec_from_str(alloc, text) {
         Ok(name) => Ok(name),
+        Err(FromStrError::ShortBuf) => Err(RowError::OutOfMemory),
         Err(_) => Err(RowError::BadWord),
     }
 }
@@ -30,6 +36,7 @@ pub fn record_of(
     let mut scanner = IterScanner::new(alloc, words.as_str().lines())?;
     match ZoneRecordData::scan(rtype, &mut scanner) {
         Ok(rdata) if scanner.is_exhausted() => Ok(Record::new(owner, class, ttl, rdata)),
+        Err(StrError::ShortBuf) => Err(RowError::OutOfMemory),
         _ => Err(RowError::BadWord),
     }
 }

@@ -124,7 +124,7 @@ fn filled<Target: Composer + Drop>(
     }
 }
 
-/// Fails unless the push failed for want of room, and the message still has its octets and its counts.
+/// Fails unless the push failed for want of room or memory, and the message still has its octets and its counts.
 fn is_as_before(
     error: PushError,
     now: &[u8],
@@ -132,9 +132,12 @@ fn is_as_before(
     counts: HeaderCounts,
     counts_before: HeaderCounts,
 ) -> Result<(), RowError> {
-    if error == PushError::ShortBuf && now == before && counts == counts_before {
-        Ok(())
-    } else {
-        Err(RowError::BadWord)
+    if now != before || counts != counts_before {
+        return Err(RowError::BadWord);
+    }
+    match error {
+        PushError::ShortBuf => Ok(()),
+        PushError::OutOfMemory => Err(RowError::OutOfMemory),
+        _ => Err(RowError::BadWord),
     }
 }

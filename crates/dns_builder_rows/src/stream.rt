@@ -22,7 +22,7 @@ pub fn new_stream_vec(alloc: Global, row: &mut Row<'_>, out: &mut Answer) -> Res
     };
     let mut builder = builder.question();
     for _ in 0..u32::MAX {
-        if !row.has_more() {
+        if !row.has_step(out) {
             break;
         }
         if let Err(error) = builder.push((name_of(alloc, row)?, row.value::<Rtype>()?)) {

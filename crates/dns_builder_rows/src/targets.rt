@@ -1,6 +1,7 @@
 //! Targets that names and octets are appended to (RFC 1035 4.1.4, 4.2.2).
+use crate::records::name_of_text;
 use dns_compress::{HashCompressor, StaticCompressor, StreamTarget, TreeCompressor};
-use dns_name::{AppendError, Composer, Name};
+use dns_name::Composer;
 use rows::{Answer, Row, RowError};
 use std::alloc::Global;
 
@@ -56,7 +57,7 @@ fn append_all<Target: Composer>(
     out: &mut Answer,
 ) -> Result<(), RowError> {
     for _ in 0..u32::MAX {
-        if !row.has_more() {
+        if !row.has_step(out) {
             break;
         }
         let appended = match row.word()? {
@@ -65,25 +66,13 @@ fn append_all<Target: Composer>(
                 target.truncate(row.value()?);
                 Ok(())
             }
-            text => append_name(alloc, target, text)?,
+            text => target.append_compressed_name(&name_of_text(alloc, text)?),
         };
         if let Err(error) = appended {
             out.refused(&error)?;
         }
     }
     Ok(())
-}
-
-/// Appends the name of a text.
-fn append_name<Target: Composer>(
-    alloc: Global,
-    target: &mut Target,
-    text: &str,
-) -> Result<Result<(), AppendError>, RowError> {
-    match Name::vec_from_str(alloc, text) {
-        Ok(name) => Ok(target.append_compressed_name(&name)),
-        Err(_) => Err(RowError::BadWord),
-    }
 }
 
 /// Writes the number of octets and the last 48 of them, or all of them if there are at most 120.

@@ -1,7 +1,7 @@
 //! Records in messages: headers, and data that is parsed at once or later (RFC 1035 4.1.3).
 use crate::records::hash_of;
 use dns_message::{ParsedRecord, Record, RecordHeader};
-use dns_name::{Name, ParseError, ParsedName, Parser, ToName, Ttl};
+use dns_name::{FromStrError, Name, ParseError, ParsedName, Parser, ToName, Ttl};
 use dns_rdata::ZoneRecordData;
 use rows::{Answer, Row, RowError};
 use std::alloc::Global;
@@ -15,6 +15,7 @@ pub fn name_of(alloc: Global, row: &mut Row<'_>) -> Result<Name<Vec<u8>>, RowErr
     let text = row.text(alloc)?;
     match Name::vec_from_str(alloc, text.as_str()) {
         Ok(name) => Ok(name),
+        Err(FromStrError::ShortBuf) => Err(RowError::OutOfMemory),
         Err(_) => Err(RowError::BadWord),
     }
 }

@@ -3,7 +3,7 @@ use crate::parsed::{answer_record, name_of};
 use dns_message::Record;
 use dns_name::{CanonicalOrd, Name, Ttl};
 use dns_rdata::ZoneRecordData;
-use dns_text::{DisplayKind, IterScanner, ZonefileFmt};
+use dns_text::{DisplayKind, IterScanner, StrError, ZonefileFmt};
 use rows::{Answer, Row, RowError};
 use std::alloc::Global;
 use std::hash::{DefaultHasher, Hash, Hasher};
@@ -21,6 +21,7 @@ fn record_of(alloc: Global, row: &mut Row<'_>) -> Result<Owned, RowError> {
     let mut scanner = IterScanner::new(alloc, words.as_str().lines())?;
     match ZoneRecordData::scan(rtype, &mut scanner) {
         Ok(rdata) if scanner.is_exhausted() => Ok(Record::new(owner, class, ttl, rdata)),
+        Err(StrError::ShortBuf) => Err(RowError::OutOfMemory),
         _ => Err(RowError::BadWord),
     }
 }

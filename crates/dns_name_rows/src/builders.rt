@@ -15,7 +15,10 @@ pub fn answer(alloc: Global, row: &mut Row<'_>, out: &mut Answer) -> Result<(), 
         "new_in_4" => build(alloc, NameBuilder::<ArrayVec<u8, 4>>::new(alloc), row, out),
         "vec_with_capacity" => match NameBuilder::vec_with_capacity(alloc, row.value()?) {
             Ok(name) => build(alloc, name, row, out),
-            Err(error) => out.refused(&error),
+            Err(error) => {
+                row.leave_rest();
+                out.refused(&error)
+            }
         },
         "from_builder" => match NameBuilder::from_builder(row.octets(alloc)?) {
             Ok(name) => build(alloc, name, row, out),
@@ -34,7 +37,7 @@ fn build<B: WriteOctets + Drop>(
     out: &mut Answer,
 ) -> Result<(), RowError> {
     for _ in 0..300 {
-        if !row.has_more() {
+        if !row.has_step(out) {
             break;
         }
         answer_step(alloc, &mut name, row, out)?;

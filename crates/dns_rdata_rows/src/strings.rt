@@ -84,7 +84,7 @@ fn outcome(out: &mut Answer, outcome: Result<(), TxtAppendError>) -> Result<(), 
 pub fn answer_builder(alloc: Global, row: &mut Row<'_>, out: &mut Answer) -> Result<(), RowError> {
     let mut builder = TxtBuilder::new_vec(alloc);
     for _ in 0..u32::MAX {
-        if !row.has_more() {
+        if !row.has_step(out) {
             break;
         }
         match row.word()? {

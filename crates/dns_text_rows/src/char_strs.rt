@@ -84,14 +84,32 @@ fn hashed(string: &CharStr<Vec<u8>>) -> u64 {
     state.finish()
 }
 
-/// Answers each append to a builder, and writes the finished string.
+/// Makes a builder, and answers each append to it and the finished string.
 pub fn answer_builder(alloc: Global, row: &mut Row<'_>, out: &mut Answer) -> Result<(), RowError> {
-    let mut builder = match CharStrBuilder::from_builder(row.octets(alloc)?) {
-        Ok(builder) => builder,
-        Err(error) => return out.refused(&error),
-    };
+    if row.method() == "with_capacity" {
+        return match CharStrBuilder::with_capacity(alloc, row.value()?) {
+            Ok(builder) => append_all(alloc, builder, row, out),
+            Err(error) => {
+                row.leave_rest();
+                out.refused(&error)
+            }
+        };
+    }
+    match CharStrBuilder::from_builder(row.octets(alloc)?) {
+        Ok(builder) => append_all(alloc, builder, row, out),
+        Err(error) => out.refused(&error),
+    }
+}
+
+/// Answers each append to a builder, and writes the finished string.
+fn append_all(
+    alloc: Global,
+    mut builder: CharStrBuilder<Vec<u8>>,
+    row: &mut Row<'_>,
+    out: &mut Answer,
+) -> Result<(), RowError> {
     for _ in 0..u32::MAX {
-        if !row.has_more() {
+        if !row.has_step(out) {
             break;
         }
         let octets = row.octets(alloc)?;

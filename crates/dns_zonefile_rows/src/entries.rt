@@ -1,5 +1,5 @@
 //! Readers that are given a text and asked for entries, step by step.
-use dns_name::{Class, ComposeRecordData, Name, ToName};
+use dns_name::{AppendError, Class, ComposeRecordData, Name, ToName};
 use dns_zonefile::{ComposedEntry, Entry, Error, ScannedRecord, Zonefile};
 use rows::{Answer, Row, RowError};
 use std::alloc::Global;
@@ -16,8 +16,13 @@ pub fn answer_with_capacity(
     row: &mut Row<'_>,
     out: &mut Answer,
 ) -> Result<(), RowError> {
-    let mut zonefile = Zonefile::with_capacity(alloc, row.value()?)?;
-    take_steps(alloc, &mut zonefile, row, out)
+    match Zonefile::with_capacity(alloc, row.value()?) {
+        Ok(mut zonefile) => take_steps(alloc, &mut zonefile, row, out),
+        Err(error) => {
+            row.leave_rest();
+            out.refused(&error)
+        }
+    }
 }
 
 /// Answers steps of a reader of a text.
@@ -136,7 +141,7 @@ fn take_steps(
     out: &mut Answer,
 ) -> Result<(), RowError> {
     for _ in 0..u32::MAX {
-        if !row.has_more() {
+        if !row.has_step(out) {
             return Ok(());
         }
         take_step(alloc, zonefile, row, out)?;
@@ -154,8 +159,10 @@ fn take_step(
     match row.word()? {
         "text" => {
             let text = row.text_octets(alloc)?;
-            zonefile.extend_from_slice(text.as_slice())?;
-            Ok(())
+            match zonefile.extend_from_slice(text.as_slice()) {
+                Ok(()) => Ok(()),
+                Err(error) => out.refused(&error),
+            }
         }
         "origin" => match Name::from_octets(row.octets(alloc)?) {
             Ok(origin) => {
@@ -218,6 +225,7 @@ fn show_record(alloc: Global, record: &ScannedRecord, out: &mut Answer) -> Resul
     let mut target = Vec::new(alloc);
     match record.data().compose_rdata(&mut target) {
         Ok(()) => out.octets(target.as_slice()),
+        Err(AppendError::OutOfMemory) => Err(RowError::OutOfMemory),
         Err(error) => out.refused(&error),
     }
 }

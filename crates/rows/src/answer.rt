@@ -9,12 +9,23 @@ pub struct Answer {
     line: String,
     /// Whether an error is written as its text, not as its name.
     says_why: bool,
+    /// How many errors were written.
+    refusals: usize,
 }
 
 impl Answer {
     /// Returns an answer without a value.
     pub(crate) fn new(line: String, says_why: bool) -> Self {
-        Answer { line, says_why }
+        Answer {
+            line,
+            says_why,
+            refusals: 0,
+        }
+    }
+
+    /// Returns how many errors were written.
+    pub(crate) fn refusals(&self) -> usize {
+        self.refusals
     }
 
     /// Returns the values that were written.
@@ -75,6 +86,7 @@ impl Answer {
 
     /// Writes `refused` and the name of an error, or its text if the row begins with `why`.
     pub fn refused<E: Error>(&mut self, error: &E) -> Result<(), RowError> {
+        self.refusals = self.refusals.saturating_add(1);
         self.separate()?;
         self.line.push_str("refused ")?;
         if self.says_why {

@@ -8,7 +8,8 @@
 //!   such as `Name::from_slice`, and the others are its arguments.
 //! - For each row the program prints one line: the values that the call returns with spaces between them, or `refused`
 //!   and the name of the error. If the first word of a row, before the call, is `why`, the text of the error is printed
-//!   instead of its name.
+//!   instead of its name. If it is `again`, and the arguments of the call are steps that it takes one after another,
+//!   a step that is refused is taken once more.
 //!
 //! So `paste -d'|' stdin stdout` shows each call next to its answer.
 //!

@@ -65,15 +65,21 @@ fn answer_line<C: Calls>(
 
 /// Returns the answer to a call.
 fn answer_call<C: Calls>(alloc: Global, calls: &C, line: &str) -> Result<String, RowError> {
-    let (says_why, line) = match line.strip_prefix("why ") {
-        Some(rest) => (true, rest),
-        None => (false, line),
-    };
-    let mut row = Row::new(line);
+    let (says_why, line) = without(line, "why ");
+    let (repeats, line) = without(line, "again ");
+    let mut row = Row::new(line, repeats);
     let mut answer = Answer::new(String::new(alloc), says_why);
     calls.answer(alloc, &mut row, &mut answer)?;
     if row.has_more() {
         return Err(RowError::TrailingWord);
     }
     Ok(answer.into_line())
+}
+
+/// Returns whether a line begins with a word, and the line without it.
+fn without<'a>(line: &'a str, word: &str) -> (bool, &'a str) {
+    match line.strip_prefix(word) {
+        Some(rest) => (true, rest),
+        None => (false, line),
+    }
 }

@@ -1,4 +1,5 @@
 //! The words of a row.
+use crate::Answer;
 use crate::octets::{octets_of, octets_of_text};
 use std::alloc::{AllocError, AllocFailed, Global};
 use std::str::FromStr;
@@ -53,20 +54,30 @@ impl<T: Drop> From<AllocFailed<T>> for RowError {
 pub struct Row<'a> {
     call: &'a str,
     words: Option<&'a str>,
+    /// Whether a step that is refused is taken once more.
+    repeats: bool,
+    /// The words from the last step on, if one was taken.
+    step: Option<&'a str>,
+    /// Whether that was its second time.
+    is_second: bool,
+    /// The number of refusals before it.
+    refusals: usize,
 }
 
 impl<'a> Row<'a> {
-    /// Returns the row of a line.
-    pub fn new(line: &'a str) -> Self {
-        match line.split_once(' ') {
-            Some((call, words)) => Row {
-                call,
-                words: Some(words),
-            },
-            None => Row {
-                call: line,
-                words: None,
-            },
+    /// Returns the row of a line. `repeats`: whether a step that is refused is taken once more.
+    pub fn new(line: &'a str, repeats: bool) -> Self {
+        let (call, words) = match line.split_once(' ') {
+            Some((call, words)) => (call, Some(words)),
+            None => (line, None),
+        };
+        Row {
+            call,
+            words,
+            repeats,
+            step: None,
+            is_second: false,
+            refusals: 0,
         }
     }
 
@@ -94,6 +105,25 @@ impl<'a> Row<'a> {
     /// Returns whether arguments are left.
     pub fn has_more(&self) -> bool {
         self.words.is_some()
+    }
+
+    /// Begins the next step, and returns whether there is one. In a row of `again` a step that was refused is taken once
+    /// more.
+    pub fn has_step(&mut self, out: &Answer) -> bool {
+        let is_refused = out.refusals() > self.refusals;
+        self.refusals = out.refusals();
+        self.is_second = self.repeats && is_refused && self.step.is_some() && !self.is_second;
+        if self.is_second {
+            self.words = self.step;
+        } else {
+            self.step = self.words;
+        }
+        self.has_more()
+    }
+
+    /// Leaves out the arguments that are left.
+    pub fn leave_rest(&mut self) {
+        self.words = None;
     }
 
     /// Takes the next argument as it is.

@@ -2,15 +2,17 @@
 //!
 //! A zone's text is one argument. A printed text is one word: `%20` is a space, `%0a` a line feed. A class that is not
 //! given is IN, and a limit 512 octets. An origin and a layout may be left out: then there is no origin, and the layout
-//! is `Simple`. A row of `run` or `program` has the input, and then the words of a command line of the program, as a
-//! row of `job` has. A spelling may be left out: then names are written in full. `sent_again` and `rival` compare what
+//! is `Simple`. A row of `run`, `program` or `steps` has the input, and then the words of a command line of the program,
+//! as a row of `job` has. A spelling may be left out: then names are written in full. `sent_again` and `rival` compare what
 //! several calls return.
 #![tactic(auto)]
 
 mod free;
 mod programs;
 mod queries;
+mod receivers;
 mod rivals;
+mod steps;
 mod streams;
 mod zones;
 
@@ -30,14 +32,18 @@ impl Calls for ZonewireCalls {
             "ZoneRecord::parse_data" => zones::answer_parse_data(alloc, row, out),
             "Zone::print" => zones::answer_print(alloc, row, out),
             "Zone::canonical" => zones::answer_canonical(alloc, row, out),
+            "Zone::asked" => zones::answer_asked(alloc, row, out),
             "send" => streams::answer_send(alloc, row, out),
             "sent_again" => streams::answer_sent_again(alloc, row, out),
             "rival" => rivals::answer(alloc, row, out),
             "Receiver::canonical" => streams::answer_received_canonical(alloc, row, out),
-            "Receiver" => streams::answer_receiver(alloc, row, out),
+            "Receiver" => receivers::answer(alloc, row, out),
+            "Receiver::long" => receivers::answer_long(alloc, row, out),
+            "Receiver::fed" => receivers::answer_fed(alloc, row, out),
             "run" => programs::answer(alloc, row, out),
             "job" => programs::answer_job(alloc, row, out),
             "program" => programs::answer_program(alloc, row, out),
+            "steps" => steps::answer(alloc, row, out),
             _ => Err(RowError::UnknownCall),
         }
     }

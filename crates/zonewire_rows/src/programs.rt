@@ -2,7 +2,7 @@
 use dns_name::Name;
 use rows::{Answer, Row, RowError};
 use std::alloc::Global;
-use zonewire::{Ending, Job, StdSink, StdSource, WordsFault, job, program, run};
+use zonewire::{Ending, Fault, Job, StdSink, StdSource, WordsFault, job, program, run};
 
 /// Answers `job WORD..`: the job that the program's words name, by its command and its fields in order, names as
 /// octets.
@@ -36,6 +36,9 @@ pub fn answer_program(alloc: Global, row: &mut Row<'_>, out: &mut Answer) -> Res
     let mut source = StdSource::new(input.as_slice());
     let mut sink = StdSink::new(&mut output);
     let ending = program(alloc, words.as_slice(), &mut source, &mut sink);
+    if let Ending::Failed(Fault::Write) = ending {
+        return Err(RowError::OutOfMemory);
+    }
     let text = error_text(alloc, &ending)?;
     out.shown(&ending.status())?;
     out.text(text.as_bytes())?;
@@ -55,7 +58,7 @@ fn error_text(alloc: Global, ending: &Ending) -> Result<String, RowError> {
 }
 
 /// Takes the input of a run.
-fn input_of(alloc: Global, row: &mut Row<'_>) -> Result<Vec<u8>, RowError> {
+pub fn input_of(alloc: Global, row: &mut Row<'_>) -> Result<Vec<u8>, RowError> {
     match row.word()? {
         "text" => row.text_octets(alloc),
         "octets" => row.octets(alloc),
@@ -74,7 +77,7 @@ fn job_of_words(alloc: Global, row: &mut Row<'_>) -> Result<Result<Job, WordsFau
 }
 
 /// Takes the rest of the row's words.
-fn words_of(alloc: Global, row: &mut Row<'_>) -> Result<Vec<String>, RowError> {
+pub fn words_of(alloc: Global, row: &mut Row<'_>) -> Result<Vec<String>, RowError> {
     let mut words = Vec::new(alloc);
     for _ in 0..u32::MAX {
         if !row.has_more() {
@@ -149,7 +152,8 @@ fn octets_of(name: &Option<Name<Vec<u8>>>) -> &[u8] {
     }
 }
 
-/// Writes the output of the job for the input. The row has no answer if a run that fails has written something.
+/// Writes the output of the job for the input. The row has no answer if a run that fails has written something. The sink
+/// is a vector, so a write fails only if out of memory.
 fn answer_run(alloc: Global, job: Job, input: &[u8], out: &mut Answer) -> Result<(), RowError> {
     let is_octets = matches!(&job, Job::Send { .. } | Job::Canon { .. });
     let mut output = Vec::new(alloc);
@@ -158,6 +162,7 @@ fn answer_run(alloc: Global, job: Job, input: &[u8], out: &mut Answer) -> Result
     match run(alloc, &mut source, &mut sink, job) {
         Ok(()) if is_octets => out.octets(output.as_slice()),
         Ok(()) => out.text(output.as_slice()),
+        Err(Fault::Write) => Err(RowError::OutOfMemory),
         Err(fault) if output.is_empty() => out.refused(&fault),
         Err(_) => Err(RowError::BadWord),
     }

@@ -1,5 +1,5 @@
 //! Queries.
-use dns_name::{Class, Name, ToName};
+use dns_name::{Class, FromStrError, Name, ToName};
 use rows::{Answer, Row, RowError};
 use std::alloc::Global;
 use zonewire::{axfr_query, check_query};
@@ -24,9 +24,16 @@ pub fn answer_axfr(alloc: Global, row: &mut Row<'_>, out: &mut Answer) -> Result
     let Some(class) = Class::from_bytes(row.word()?.as_bytes()) else {
         return Err(RowError::BadWord);
     };
-    let Ok(name) = Name::vec_from_str(alloc, row.word()?) else {
-        return Err(RowError::BadWord);
-    };
+    let name = name_of(alloc, row)?;
     let query = axfr_query(alloc, id, class, &name.for_ref())?;
     out.octets(query.as_slice())
+}
+
+/// Takes the next argument as a name.
+pub fn name_of(alloc: Global, row: &mut Row<'_>) -> Result<Name<Vec<u8>>, RowError> {
+    match Name::vec_from_str(alloc, row.word()?) {
+        Ok(name) => Ok(name),
+        Err(FromStrError::ShortBuf) => Err(RowError::OutOfMemory),
+        Err(_) => Err(RowError::BadWord),
+    }
 }

@@ -1,7 +1,8 @@
 //! Rivals of a sent stream: other streams of the same records, with names spelled freely and messages cut anywhere.
 use crate::free::{Carried, Flaw, Transfer};
 use crate::streams::received;
-use dns_name::{Class, ToName};
+use crate::zones::zone_of;
+use dns_name::ToName;
 use rows::{Answer, Row, RowError};
 use std::alloc::Global;
 use zonewire::{Spelling, Zone, ZoneRecord, check_query, send};
@@ -17,9 +18,7 @@ pub fn answer(alloc: Global, row: &mut Row<'_>, out: &mut Answer) -> Result<(), 
     let query = row.octets(alloc)?;
     let text = row.text_octets(alloc)?;
     let stream = row.octets(alloc)?;
-    let Ok(zone) = Zone::read(alloc, text.as_slice(), None, Class::IN) else {
-        return Err(RowError::BadWord);
-    };
+    let zone = zone_of(alloc, text.as_slice())?;
     match send(alloc, &zone, query.as_slice(), max, Spelling::Tree) {
         Ok(sent) => {
             show_received(alloc, query.as_slice(), stream.as_slice(), &zone, out)?;
@@ -97,6 +96,7 @@ fn show_messages(
     };
     match transfer.messages(alloc, sent) {
         Ok(sent) => show_lengths(rival.as_slice(), sent.as_slice(), out),
+        Err(Flaw::OutOfMemory) => Err(RowError::OutOfMemory),
         Err(_) => Err(RowError::BadWord),
     }
 }

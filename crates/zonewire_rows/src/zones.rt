@@ -1,8 +1,10 @@
 //! Zones that are read from text, printed, and written as canonical octets.
+use crate::queries::name_of;
+use crate::streams::spelling_of;
 use dns_name::{Class, Name, RecordData};
 use rows::{Answer, Row, RowError};
 use std::alloc::Global;
-use zonewire::{DisplayKind, Zone, ZoneError, ZoneRecord};
+use zonewire::{DisplayKind, Zone, ZoneError, ZoneRecord, send};
 
 /// Answers `Zone::read CLASS TEXT` and `Zone::read CLASS TEXT ORIGIN`: the apex, the class, the number of records that
 /// `Zone::count_records` returns, and each record. If the text is not a zone, writes the error, or those of both calls
@@ -36,8 +38,14 @@ fn read_origin(alloc: Global, row: &mut Row<'_>) -> Result<Option<Name<Vec<u8>>>
     if !row.has_more() {
         return Ok(None);
     }
-    match Name::vec_from_str(alloc, row.word()?) {
-        Ok(origin) => Ok(Some(origin)),
+    Ok(Some(name_of(alloc, row)?))
+}
+
+/// Returns the zone of class IN of a text.
+pub fn zone_of(alloc: Global, text: &[u8]) -> Result<Zone, RowError> {
+    match Zone::read(alloc, text, None, Class::IN) {
+        Ok(zone) => Ok(zone),
+        Err(ZoneError::OutOfMemory) => Err(RowError::OutOfMemory),
         Err(_) => Err(RowError::BadWord),
     }
 }
@@ -141,6 +149,68 @@ pub fn answer_canonical(
     let text = row.text_octets(alloc)?;
     match Zone::read(alloc, text.as_slice(), None, class) {
         Ok(zone) => out.octets(zone.canonical(alloc)?.as_slice()),
+        Err(error) => out.refused(&error),
+    }
+}
+
+/// Answers `Zone::asked CLASS TEXT STEP..`: what the zone of the text gives in each step, `print LAYOUT`, `canonical` or
+/// `send QUERY MAX SPELLING`.
+pub fn answer_asked(alloc: Global, row: &mut Row<'_>, out: &mut Answer) -> Result<(), RowError> {
+    let class = row.value()?;
+    let text = row.text_octets(alloc)?;
+    match Zone::read(alloc, text.as_slice(), None, class) {
+        Ok(zone) => answer_steps(alloc, &zone, row, out),
+        Err(error) => {
+            row.leave_rest();
+            out.refused(&error)
+        }
+    }
+}
+
+/// Answers the steps that are left.
+fn answer_steps(
+    alloc: Global,
+    zone: &Zone,
+    row: &mut Row<'_>,
+    out: &mut Answer,
+) -> Result<(), RowError> {
+    for _ in 0..u32::MAX {
+        if !row.has_step(out) {
+            break;
+        }
+        match row.word()? {
+            "print" => match zone.print(alloc, read_layout(row)?) {
+                Ok(text) => out.text(text.as_slice())?,
+                Err(error) => out.refused(&error)?,
+            },
+            "canonical" => match zone.canonical(alloc) {
+                Ok(octets) => out.octets(octets.as_slice())?,
+                Err(error) => out.refused(&error)?,
+            },
+            "send" => answer_sent(alloc, zone, row, out)?,
+            _ => return Err(RowError::BadWord),
+        }
+    }
+    Ok(())
+}
+
+/// Answers a step `send QUERY MAX SPELLING`.
+fn answer_sent(
+    alloc: Global,
+    zone: &Zone,
+    row: &mut Row<'_>,
+    out: &mut Answer,
+) -> Result<(), RowError> {
+    let query = row.octets(alloc)?;
+    let max = row.value()?;
+    match send(
+        alloc,
+        zone,
+        query.as_slice(),
+        max,
+        spelling_of(row.word()?)?,
+    ) {
+        Ok(stream) => out.octets(stream.as_slice()),
         Err(error) => out.refused(&error),
     }
 }
