@@ -1,12 +1,10 @@
 #!/usr/bin/env python3
-"""build.py [CRATE]: builds the proved program, at build/zonewire; or the program of another crate, at build/CRATE, or its static library, at
-build/libCRATE.a.
+"""build.py [CRATE]: builds the proved program, at build/zonewire; or the program of another crate, at build/CRATE.
 
 The program is built by the gate, since only what is proved is built: `rt ci` runs in a copy of the crates that the program
 uses, without the crates of tests and the edits that must fail. It counts the crates as the gate is done with each. Where the
-toolchain keeps what its gate has proved, a build that was stopped goes on from there. The gate compiles no static library:
-`rt lib` does so in the copy, once the gate has passed. The exit status is 1 if the gate refuses the copy; what was in build/ is
-then as it was."""
+toolchain keeps what its gate has proved, a build that was stopped goes on from there. The exit status is 1 if the gate refuses
+the copy; what was in build/ is then as it was."""
 import os
 import re
 import shutil
@@ -51,34 +49,18 @@ def run_gate(room, count):
     return gate.returncode == 0
 
 
-def compiled_library(room, crate):
-    """Compiles the static library of a crate whose copy the gate has passed. Returns its file, or None if that fails."""
-    folder = room / "crates" / crate
-    ran = subprocess.run(["rt", "lib"], cwd=folder, stdout=subprocess.PIPE, stderr=subprocess.STDOUT, text=True)
-    if ran.returncode == 0:
-        return folder / "out" / f"lib{crate}.a"
-    print(ran.stdout, file=sys.stderr)
-    return None
-
-
 def main():
     program = sys.argv[1] if sys.argv[1:] else PROGRAM
-    is_library = not (ROOT / "crates" / program / "src" / "main.rt").is_file()
-    name = f"lib{program}.a" if is_library else "zonewire" if program == PROGRAM else program
-    to = ROOT / "build" / name
+    to = ROOT / "build" / ("zonewire" if program == PROGRAM else program)
     with tempfile.TemporaryDirectory(prefix="zonewire-") as name:
         room = Path(name)
         count = copy_to(room, program)
-        what = "library" if is_library else "program"
-        print(f"The gate builds the {what} from {count} crates, and proves each of them first: an hour or more from nothing. A toolchain that")
+        print(f"The gate builds the program from {count} crates, and proves each of them first: an hour or more from nothing. A toolchain that")
         print("keeps what it has proved on this machine goes on from there: if you stop it, and after `make prove`.", flush=True)
         if not run_gate(room, count):
             return 1
-        built = compiled_library(room, program) if is_library else room / "crates" / program / "out" / program
-        if not built:
-            return 1
         to.parent.mkdir(exist_ok=True)
-        shutil.copy(built, to.with_suffix(".new"))
+        shutil.copy(room / "crates" / program / "out" / program, to.with_suffix(".new"))
         os.replace(to.with_suffix(".new"), to)
     return 0
 

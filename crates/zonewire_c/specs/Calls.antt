@@ -64,7 +64,7 @@ abbrev pub IsSendFault : List ℕ → List ℕ → ℕ → List ℕ → ℕ → 
 IsSendFault text origin class query max number error =
     ((error ≡ fault.BadSpelling) × IsNoSpelling number)
     ⊎ (HasSpelling number × (IsTextFault text origin class error
-        ⊎ ((why : SendError) × (error ≡ fault.Send why) × IsNotSent text origin class query max number why)))
+    ⊎ ((why : SendError) × (error ≡ fault.Send why) × IsNotSent text origin class query max number why)))
 
 -- The octets are the printed text of the zone whose transfer the stream begins with.
 pub record IsReceiveOutput (query stream : List ℕ) (number : ℕ) (octets : List ℕ) : Type 0 where
