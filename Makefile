@@ -13,13 +13,14 @@ run: | toolchain
 	@echo; echo "'zonewire $$(paste -sd' ' $(ZONE)/args)' reads this zone:"; echo; cat $(ZONE)/stdin
 	@echo; echo "and writes these octets:"; echo; od -An -v -tx1 build/run.out
 
-# Every test without a proof: test functions, rows, the stored run of the program; and first that the two pictures are those of
-# crates.txt and docs/PERFORMANCE.md, and that the man page has every option and fault text. JOBS=N runs so many crates at once,
-# CRATES="a b" these alone.
+# Every test without a proof: test functions, rows, the stored runs of the program and of the examples; and first that the two pictures
+# are those of crates.txt and docs/PERFORMANCE.md, that the man page has every option and fault text, and the examples in C and Python if
+# `make c` has built their library. JOBS=N runs so many crates at once, CRATES="a b" these alone.
 test: | toolchain
 	@python3 tools/crates_picture.py --check
 	@python3 bench/picture.py --check
 	@python3 tools/man_page.py
+	@python3 tools/c_examples.py
 	@python3 tools/test.py $(if $(JOBS),--jobs $(JOBS)) $(if $(CRATES),--only $(CRATES))
 
 # The gate: every proof from nothing, the must-fail edits, the tests, the programs as two compilers build them.
@@ -47,12 +48,26 @@ build: build/zonewire
 build/zonewire: $(SOURCES) | toolchain
 	@python3 tools/build.py
 
-# Copies the program and its man page to bin/ and share/man/man1/ of PREFIX. DESTDIR comes before PREFIX, as packages want it.
+# The proved library for C, at build/libzonewire.a and build/libzonewire.so, and the examples in C and Python over it.
+c: build/libzonewire.so
+	@python3 tools/c_examples.py --must
+
+build/libzonewire.so: $(SOURCES) include/zonewire.h tools/c_library.py | toolchain
+	@python3 tools/c_library.py
+
+# Copies the program and its man page to bin/ and share/man/man1/ of PREFIX, and what `make c` has built, with its header, to lib/ and
+# include/. DESTDIR comes before PREFIX, as packages want it.
 install:
 	@test -x build/zonewire || { echo "There is no build/zonewire to install yet: run 'make build' first, which proves the program." >&2; exit 1; }
 	install -d "$(DESTDIR)$(PREFIX)/bin" "$(DESTDIR)$(PREFIX)/share/man/man1"
 	install -m 755 build/zonewire "$(DESTDIR)$(PREFIX)/bin/zonewire"
 	install -m 644 docs/zonewire.1 "$(DESTDIR)$(PREFIX)/share/man/man1/zonewire.1"
+	@if test -f build/libzonewire.so; then set -x; \
+		install -d "$(DESTDIR)$(PREFIX)/lib" "$(DESTDIR)$(PREFIX)/include"; \
+		install -m 644 include/zonewire.h "$(DESTDIR)$(PREFIX)/include/zonewire.h"; \
+		install -m 644 build/libzonewire.a "$(DESTDIR)$(PREFIX)/lib/libzonewire.a"; \
+		install -m 755 build/libzonewire.so "$(DESTDIR)$(PREFIX)/lib/libzonewire.so"; \
+	else echo "The library for C is not installed, since it was not built: make c"; fi
 
 # Processor time and memory of the proved program, beside other zone readers that are installed (an idle machine, please).
 bench: build/zonewire
@@ -66,4 +81,4 @@ rows:
 toolchain:
 	@command -v rt > /dev/null || { echo "The Rattle toolchain is missing: no command 'rt' is on the PATH." >&2; exit 1; }
 
-.PHONY: run test prove edits memory picture build install bench rows toolchain
+.PHONY: run test prove edits memory picture build c install bench rows toolchain

@@ -2,9 +2,9 @@
 """build.py [CRATE]: builds the proved program, at build/zonewire; or the program of another crate, at build/CRATE.
 
 The program is built by the gate, since only what is proved is built: `rt ci` runs in a copy of the crates that the program
-uses, without the crates of tests and the edits that must fail. It counts the crates as the gate is done with each. The gate
-keeps what it has proved, so a build that was stopped goes on from there. The exit status is 1 if the gate refuses the copy;
-what was in build/ is then as it was."""
+uses, without the crates of tests and the edits that must fail. It counts the crates as the gate is done with each. Where the
+toolchain keeps what its gate has proved, a build that was stopped goes on from there. The exit status is 1 if the gate refuses
+the copy; what was in build/ is then as it was."""
 import os
 import re
 import shutil
@@ -55,8 +55,8 @@ def main():
     with tempfile.TemporaryDirectory(prefix="zonewire-") as name:
         room = Path(name)
         count = copy_to(room, program)
-        print(f"The gate builds the program from {count} crates, and proves each of them first: an hour or more from nothing. It keeps what it")
-        print("has proved on this machine. If you stop it, the next run goes on from there, and so it does after `make prove`.", flush=True)
+        print(f"The gate builds the program from {count} crates, and proves each of them first: an hour or more from nothing. A toolchain that")
+        print("keeps what it has proved on this machine goes on from there: if you stop it, and after `make prove`.", flush=True)
         if not run_gate(room, count):
             return 1
         to.parent.mkdir(exist_ok=True)

@@ -22,7 +22,7 @@ import sys
 from dataclasses import dataclass
 from pathlib import Path
 
-from crates import ROOT, lower, needs_of
+from crates import ROOT, lower, name_in, needs_of
 
 CHECKED = re.compile(r"^checked (\S+), \d+ of \d+$")
 BATCH = "so far:"
@@ -46,8 +46,8 @@ def kit():
 
 def named_by(crate):
     """All libraries that the line of a crate names, those of the toolchain too."""
-    lines = [it.partition(":") for it in (ROOT / "crates.txt").read_text().split("\n")]
-    return next(words.split() for name, _, words in lines if name == crate)
+    lines = (ROOT / "crates.txt").read_text().split("\n")
+    return next(it.partition(":")[2].split() for it in lines if name_in(it) == crate)
 
 
 def words_for(crate, needs):

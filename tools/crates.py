@@ -8,11 +8,17 @@ ROOT = Path(__file__).resolve().parent.parent
 QUOTA = Path("/sys/fs/cgroup/cpu.max")
 
 
+def name_in(line):
+    """The name of the crate that a line of crates.txt is about, empty if it is about none. `staticlib` may follow the name."""
+    words = line.partition(":")[0].split()
+    return words[0] if words and line[0] != "#" else ""
+
+
 def needs_of():
     """The crates of this repository that each crate names, by its name, in the order of crates.txt."""
-    rows = [it.partition(":") for it in (ROOT / "crates.txt").read_text().split("\n") if it and it[0] != "#"]
-    every = {name for name, _, _ in rows}
-    return {name: [it for it in words.split() if it in every] for name, _, words in rows}
+    rows = [(name_in(it), it.partition(":")[2]) for it in (ROOT / "crates.txt").read_text().split("\n") if name_in(it)]
+    every = {name for name, _ in rows}
+    return {name: [it for it in words.split() if it in every] for name, words in rows}
 
 
 @dataclass
@@ -33,8 +39,8 @@ def layers_of():
                 title, _, about = above.lstrip("# ").partition(":")
                 found.append(Layer(title.strip(), about.strip()))
             elif not found:
-                raise ValueError(f"crates.txt: no comment with the name of a layer is above {line.partition(':')[0]}")
-            found[-1].names.append(line.partition(":")[0])
+                raise ValueError(f"crates.txt: no comment with the name of a layer is above {name_in(line)}")
+            found[-1].names.append(name_in(line))
         above = line
     return found
 
@@ -46,7 +52,7 @@ def lower(name, needs):
 
 def lines_for(wanted):
     """The text of a crates.txt of these crates alone."""
-    lines = [it for it in (ROOT / "crates.txt").read_text().split("\n") if it.partition(":")[0] in wanted]
+    lines = [it for it in (ROOT / "crates.txt").read_text().split("\n") if name_in(it) in wanted]
     return "\n".join(lines) + "\n"
 
 

@@ -23,8 +23,8 @@ def minutes(count):
 def main():
     count = processors()
     least, most = minutes(count)
-    print(f"The gate takes {least} to {most} minutes on {count} processors from nothing, {PROCESSOR_SECONDS:,} processor seconds. It keeps")
-    print("each crate that it has proved on this machine, and goes on from there: what has not changed is not proved again.", flush=True)
+    print(f"The gate takes {least} to {most} minutes on {count} processors from nothing, {PROCESSOR_SECONDS:,} processor seconds. A toolchain")
+    print("that keeps what it has proved on this machine does not prove again what has not changed.", flush=True)
     os.execvp("rt", ["rt", "ci"])
 
 

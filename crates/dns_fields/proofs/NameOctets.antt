@@ -23,11 +23,11 @@ before n some = sym (nat_cmp_is 0 n Less some)
 behind : (n : ℕ) → 0 < n → nat_cmp n 0 ≡ Greater
 behind n some = sym (nat_cmp_is n 0 Greater some)
 
-same : (n m : ℕ) → nat_cmp n m ≡ Equal → n ≡ m
+pub same : (n m : ℕ) → nat_cmp n m ≡ Equal → n ≡ m
 same n m is = ranked n m Equal (sym is)
 
 -- what decides first goes on deciding
-head_seam : (head left right last : Ordering) → (head ≡ Equal → left ≡ ordering_then right last)
+pub head_seam : (head left right last : Ordering) → (head ≡ Equal → left ≡ ordering_then right last)
     → ordering_then head left ≡ ordering_then (ordering_then head right) last
 head_seam Less left right last is = refl
 head_seam Equal left right last is = is refl

@@ -11,3 +11,4 @@ pub mod Shown
 pub mod Comments
 pub mod Strings
 pub mod Held
+pub mod OctetsForm

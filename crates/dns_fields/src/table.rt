@@ -67,8 +67,14 @@ pub type AaaaRow = (Ipv6Addr, ());
 /// The fields of SRV data: a priority, a weight, a port and a host (RFC 2782).
 pub type SrvRow<N> = (u16, (u16, (u16, (Uncompressed<N>, ()))));
 
+/// The field of DNAME data: a name (RFC 6672 2.1).
+pub type DnameRow<N> = (Uncompressed<N>, ());
+
 /// The fields of DS data: a tag, two algorithms and a digest (RFC 4034 5.1).
 pub type DsRow<Octs> = (u16, (u8, (u8, Last<Rest16<Octs>>)));
+
+/// The fields of SSHFP data: two algorithms and a fingerprint (RFC 4255 3.1).
+pub type SshfpRow<Octs> = (u8, (u8, Last<Rest16<Octs>>));
 
 /// The fields of DNSKEY data: flags, a protocol, an algorithm and a key (RFC 4034 2.1).
 pub type DnskeyRow<Octs> = (u16, (u8, (u8, Last<Rest64<Octs>>)));
@@ -144,7 +150,15 @@ impl<N: ToName> RowOf<Number<33>> for SrvRow<N> {
     ghost of_type = { refl };
 }
 
+impl<N: ToName> RowOf<Number<39>> for DnameRow<N> {
+    ghost of_type = { refl };
+}
+
 impl<Octs: Octets> RowOf<Number<43>> for DsRow<Octs> {
+    ghost of_type = { refl };
+}
+
+impl<Octs: Octets> RowOf<Number<44>> for SshfpRow<Octs> {
     ghost of_type = { refl };
 }
 

@@ -4,6 +4,7 @@ pub use Rattle.dns_fields.specs.Written
 pub use Rattle.dns_fields.specs.Reading
 pub use Rattle.dns_fields.specs.Scanned
 pub use Rattle.dns_fields.specs.Shown
+pub use Rattle.dns_fields.specs.OctetsForm
 pub mod Data
 pub mod DataTokens
 pub mod DataOctets

@@ -9,9 +9,9 @@ pub mod rows;
 mod zone_record_data;
 
 pub use dns_fields::CanonicalOctetsOrd;
-pub use dns_rr_names::{Cname, Mb, Md, Mf, Mg, Minfo, Mr, Mx, Ns, Ptr, Rp, Soa, Srv};
+pub use dns_rr_names::{Cname, Dname, Mb, Md, Mf, Mg, Minfo, Mr, Mx, Ns, Ptr, Rp, Soa, Srv};
 pub use dns_rr_octets::{
-    A, Aaaa, Caa, Dnskey, Ds, Hinfo, Txt, TxtAppendError, TxtBuilder, TxtCharStrIter, TxtError,
-    TxtIter,
+    A, Aaaa, Caa, Dnskey, Ds, Hinfo, Sshfp, Txt, TxtAppendError, TxtBuilder, TxtCharStrIter,
+    TxtError, TxtIter,
 };
-pub use zone_record_data::ZoneRecordData;
+pub use zone_record_data::{ZoneRecordData, append_canonical_data, canonical_data_cmp};

@@ -4,8 +4,8 @@ ghost use Rattle.dns_rdata.specs.Data.{unknown_data, number_of, is_unknown};
 ghost use Rattle.dns_rdata.specs.ZoneData.{data_of};
 
 use crate::{
-    A, Aaaa, Caa, Cname, Dnskey, Ds, Hinfo, Mb, Md, Mf, Mg, Minfo, Mr, Mx, Ns, Ptr, Rp, Soa, Srv,
-    Txt,
+    A, Aaaa, Caa, Cname, Dname, Dnskey, Ds, Hinfo, Mb, Md, Mf, Mg, Minfo, Mr, Mx, Ns, Ptr, Rp, Soa,
+    Srv, Sshfp, Txt,
 };
 use dns_fields::{DataType, TypedData};
 use dns_name::{Octets, RecordData, Rtype, ToName, UnknownRecordData};
@@ -20,31 +20,36 @@ macro_rules! held {
     };
 }
 
-/// The types that have fields. Calls a macro with what is given to it, and with the variant and the mnemonic of each.
+/// The types that have fields. Calls a macro with what is given to it, and with the variant, the mnemonic and the row of each.
+///
+/// A row over names and octets names them `N` and `Octs`: a macro that uses the rows is called where types have these names.
+#[macro_export]
 macro_rules! with_types {
     ($called:ident, $($given:tt)*) => {
         $called! {
             ($($given)*)
-            A = A,
-            Ns = NS,
-            Md = MD,
-            Mf = MF,
-            Cname = CNAME,
-            Soa = SOA,
-            Mb = MB,
-            Mg = MG,
-            Mr = MR,
-            Ptr = PTR,
-            Hinfo = HINFO,
-            Minfo = MINFO,
-            Mx = MX,
-            Txt = TXT,
-            Rp = RP,
-            Aaaa = AAAA,
-            Srv = SRV,
-            Ds = DS,
-            Dnskey = DNSKEY,
-            Caa = CAA,
+            A = A: $crate::rows::ARow,
+            Ns = NS: $crate::rows::NameRow<N>,
+            Md = MD: $crate::rows::NameRow<N>,
+            Mf = MF: $crate::rows::NameRow<N>,
+            Cname = CNAME: $crate::rows::NameRow<N>,
+            Soa = SOA: $crate::rows::SoaRow<N>,
+            Mb = MB: $crate::rows::NameRow<N>,
+            Mg = MG: $crate::rows::NameRow<N>,
+            Mr = MR: $crate::rows::NameRow<N>,
+            Ptr = PTR: $crate::rows::NameRow<N>,
+            Hinfo = HINFO: $crate::rows::HinfoRow<Octs>,
+            Minfo = MINFO: $crate::rows::MinfoRow<N>,
+            Mx = MX: $crate::rows::MxRow<N>,
+            Txt = TXT: $crate::rows::TxtRow<Octs>,
+            Rp = RP: $crate::rows::RpRow<N>,
+            Aaaa = AAAA: $crate::rows::AaaaRow,
+            Srv = SRV: $crate::rows::SrvRow<N>,
+            Dname = DNAME: $crate::rows::DnameRow<N>,
+            Ds = DS: $crate::rows::DsRow<Octs>,
+            Sshfp = SSHFP: $crate::rows::SshfpRow<Octs>,
+            Dnskey = DNSKEY: $crate::rows::DnskeyRow<Octs>,
+            Caa = CAA: $crate::rows::CaaRow<Octs>,
         }
     };
 }
@@ -53,11 +58,13 @@ mod canonical;
 mod compare;
 mod compose;
 mod convert;
+mod octets_form;
 mod parse;
 mod scan;
 mod show;
 mod visit;
 
+pub use octets_form::{append_canonical_data, canonical_data_cmp};
 use visit::Visit;
 
 /// Data of a record of a zone: the fields of one of the types that have some, or data of any type as opaque octets.
@@ -99,8 +106,12 @@ pub enum ZoneRecordData<Octs: Octets, N: ToName> {
     Aaaa(Aaaa),
     /// A host that has a service (RFC 2782).
     Srv(Srv<N>),
+    /// The name that the owner is replaced by in the names under it (RFC 6672).
+    Dname(Dname<N>),
     /// A key that signs the owner's keys (RFC 4034 5).
     Ds(Ds<Octs>),
+    /// A key of an SSH server (RFC 4255).
+    Sshfp(Sshfp<Octs>),
     /// A key of the zone (RFC 4034 2).
     Dnskey(Dnskey<Octs>),
     /// Who may issue certificates (RFC 8659 4).

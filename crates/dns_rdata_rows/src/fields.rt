@@ -21,6 +21,7 @@ fn names(rdata: &Read<'_>, out: &mut Answer) -> Result<(), RowError> {
         ZoneRecordData::Mg(mg) => out.shown(mg.madname()),
         ZoneRecordData::Mr(mr) => out.shown(mr.newname()),
         ZoneRecordData::Ptr(ptr) => out.shown(ptr.ptrdname()),
+        ZoneRecordData::Dname(dname) => out.shown(dname.dname()),
         _ => rows_of_names(rdata, out),
     }
 }
@@ -73,6 +74,11 @@ fn rows_of_octets(rdata: &Read<'_>, out: &mut Answer) -> Result<(), RowError> {
             out.shown(&ds.algorithm())?;
             out.shown(&ds.digest_type())?;
             out.octets(ds.digest())
+        }
+        ZoneRecordData::Sshfp(sshfp) => {
+            out.shown(&sshfp.algorithm())?;
+            out.shown(&sshfp.fingerprint_type())?;
+            out.octets(sshfp.fingerprint())
         }
         ZoneRecordData::Dnskey(key) => {
             out.shown(&key.flags())?;

@@ -1,6 +1,6 @@
 //! Data that is made from its fields.
 use dns_name::{ComposeRecordData, LongRecordData};
-use dns_rdata::{A, Aaaa, Caa, Dnskey, Ds, Hinfo};
+use dns_rdata::{A, Aaaa, Caa, Dnskey, Ds, Hinfo, Sshfp};
 use dns_text::CharStr;
 use rows::{Answer, Row, RowError};
 use std::alloc::Global;
@@ -85,6 +85,19 @@ pub fn answer_ds(alloc: Global, row: &mut Row<'_>, out: &mut Answer) -> Result<(
         return digest(ds, out);
     }
     made(row.method(), ds, out)
+}
+
+/// Answers how SSHFP data is made, and which fingerprint is taken out of it.
+pub fn answer_sshfp(alloc: Global, row: &mut Row<'_>, out: &mut Answer) -> Result<(), RowError> {
+    let (algorithm, fingerprint_type) = (row.value()?, row.value()?);
+    let sshfp = Sshfp::new(algorithm, fingerprint_type, row.octets(alloc)?);
+    if row.method() == "into_fingerprint" {
+        return match sshfp {
+            Ok(sshfp) => out.octets(sshfp.into_fingerprint().as_slice()),
+            Err(error) => out.refused(&error),
+        };
+    }
+    made(row.method(), sshfp, out)
 }
 
 /// Writes the digest taken out of the data.

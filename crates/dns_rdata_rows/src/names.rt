@@ -1,7 +1,7 @@
 //! Data of the types with names: made from its fields, and parsed only as its own type.
 use crate::zone_data::{parser_at, placed};
 use dns_name::{Name, ParseError, ParseRecordData, ParsedName, Serial, Ttl};
-use dns_rdata::{Cname, Mb, Md, Mf, Mg, Minfo, Mr, Mx, Ns, Ptr, Rp, Soa, Srv};
+use dns_rdata::{Cname, Dname, Mb, Md, Mf, Mg, Minfo, Mr, Mx, Ns, Ptr, Rp, Soa, Srv};
 use rows::{Answer, Row, RowError};
 use std::alloc::Global;
 use std::fmt::Display;
@@ -20,7 +20,7 @@ pub fn answer_one(alloc: Global, row: &mut Row<'_>, out: &mut Answer) -> Result<
     let octets = row.octets(alloc)?;
     let name = name(octets.as_slice())?;
     match row.family() {
-        "Ns" | "Md" | "Mf" | "Cname" => host(row.family(), name, out),
+        "Ns" | "Md" | "Mf" | "Cname" | "Dname" => host(row.family(), name, out),
         _ => mailbox(row.family(), name, out),
     }
 }
@@ -41,6 +41,11 @@ fn host(family: &str, name: Name<&[u8]>, out: &mut Answer) -> Result<(), RowErro
             let mf = Mf::new(name);
             out.shown(mf.madname())?;
             out.shown(&mf.into_madname())
+        }
+        "Dname" => {
+            let dname = Dname::new(name);
+            out.shown(dname.dname())?;
+            out.shown(&dname.into_dname())
         }
         _ => {
             let cname = Cname::new(name);

@@ -1,6 +1,6 @@
 //! Scanning data of any type into octets.
 ghost use Rattle.std.specs.Prelude.{◌≡◌, ◌∷◌, [], ℕ, Some, None, false, true, IfErr, IfOk, IsTrue, OnErr, OnOk};
-ghost use Rattle.dns_fields.specs.Fields.{Compressible as one_name, kinds_of};
+ghost use Rattle.dns_fields.specs.Fields.{kinds_of};
 ghost use Rattle.dns_fields.specs.Scanned.{NoDataScans};
 ghost use Rattle.dns_rdata.specs.Data.{IsUnmarked, NoAnyDataScans};
 ghost use Rattle.dns_scan.specs.Token.{SameNames, marker};
@@ -8,11 +8,8 @@ ghost use Rattle.dns_scan_data.specs.Appended.{AppendsData, AppendsTyped, GoesOn
 
 use crate::ScanRowInto;
 use dns_entry_scanner::WireScanner;
-use dns_name::{LongRecordData, Octets, Rtype};
-use dns_rdata::rows::{
-    ARow, AaaaRow, CaaRow, DnskeyRow, DsRow, HinfoRow, MinfoRow, MxRow, NameRow, RpRow, SoaRow,
-    SrvRow, TxtRow,
-};
+use dns_name::{FromBuilder, LongRecordData, Octets, Rtype, ToName};
+use dns_rdata::with_types;
 use dns_text::{Scanner, ScannerError, scan_unknown_octets};
 
 /// Scans data of the type from the first tokens, takes these, and appends the octets of the data, every name in full
@@ -91,14 +88,25 @@ where
     }
 }
 
+/// The arms of `scan_row_of_type`.
+macro_rules! scanned_into {
+    (($type:ident, $scanner:ident, $octets:ident, $S:ident) $($variant:ident = $rtype:ident: $row:ty,)*) => {
+        match $type {
+            $(Rtype::$rtype => scan_row_into::<$S, $row>($type, $scanner, $octets),)*
+            _ => Err($S::Error::custom("'\\#' expected")),
+        }
+    };
+}
+
 /// Scans the row of the type. Fails if the type has none.
-fn scan_row_of_type<S: WireScanner>(
+fn scan_row_of_type<N, Octs, S: WireScanner<Name = N, Octets = Octs>>(
     rtype: Rtype,
     scanner: &mut S,
     octets: &mut Vec<u8>,
 ) -> Result<(), S::Error>
 where
-    S::Name: Drop,
+    N: ToName + Drop,
+    Octs: FromBuilder + Drop,
     S::Error: Drop,
     ensures ok { OnOk result (AppendsTyped (S.names scanner.old) rtype (S.tokens scanner.old) (S.tokens scanner.new)
         octets.old.items octets.new.items) }
@@ -107,42 +115,7 @@ where
     ensures same { OnErr result (octets.new.items ≡ octets.old.items) }
     ensures names { SameNames (S.names scanner.old) (S.names scanner.new) }
 {
-    if is_one_name(rtype) {
-        return scan_row_into::<S, NameRow<S::Name>>(rtype, scanner, octets);
-    }
-    match rtype {
-        Rtype::A => scan_row_into::<S, ARow>(rtype, scanner, octets),
-        Rtype::SOA => scan_row_into::<S, SoaRow<S::Name>>(rtype, scanner, octets),
-        Rtype::HINFO => scan_row_into::<S, HinfoRow<S::Octets>>(rtype, scanner, octets),
-        Rtype::MINFO => scan_row_into::<S, MinfoRow<S::Name>>(rtype, scanner, octets),
-        Rtype::MX => scan_row_into::<S, MxRow<S::Name>>(rtype, scanner, octets),
-        Rtype::TXT => scan_row_into::<S, TxtRow<S::Octets>>(rtype, scanner, octets),
-        Rtype::RP => scan_row_into::<S, RpRow<S::Name>>(rtype, scanner, octets),
-        Rtype::AAAA => scan_row_into::<S, AaaaRow>(rtype, scanner, octets),
-        Rtype::SRV => scan_row_into::<S, SrvRow<S::Name>>(rtype, scanner, octets),
-        Rtype::DS => scan_row_into::<S, DsRow<S::Octets>>(rtype, scanner, octets),
-        Rtype::DNSKEY => scan_row_into::<S, DnskeyRow<S::Octets>>(rtype, scanner, octets),
-        Rtype::CAA => scan_row_into::<S, CaaRow<S::Octets>>(rtype, scanner, octets),
-        _ => Err(S::Error::custom("'\\#' expected")),
-    }
-}
-
-/// Returns whether the data of the type is one name of RFC 1035.
-fn is_one_name(rtype: Rtype) -> bool
-    ensures yes { IsTrue result → kinds_of rtype ≡ Some (one_name ∷ []) }
-    ensures no { result ≡ false → kinds_of rtype ≡ Some (one_name ∷ []) → ⊥ }
-{
-    matches!(
-        rtype,
-        Rtype::NS
-            | Rtype::MD
-            | Rtype::MF
-            | Rtype::CNAME
-            | Rtype::MB
-            | Rtype::MG
-            | Rtype::MR
-            | Rtype::PTR
-    )
+    with_types!(scanned_into, rtype, scanner, octets, S)
 }
 
 /// Scans a row of the type. Fails if its fields have more than 65,535 octets.

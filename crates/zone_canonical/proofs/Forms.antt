@@ -13,9 +13,10 @@ use Rattle.dns_label.specs.Name.{low}
 use Rattle.dns_wire.specs.Order.{labels_order}
 use Rattle.dns_flat.specs.OrderLaws.{labels_ties}
 use Rattle.dns_rdata.specs.Fields.{Field, IsRow, kind_of, kinds_of, canonical_octets}
+use Rattle.dns_rdata.specs.OctetsForm.{IsCanonicalData, typed, unknown}
 use Rattle.dns_fields.proofs.ComposedRows.{same_octets}
 use Rattle.zone_records.specs.Record.{Record}
-use Rattle.zone_canonical.specs.Canonical.{IsCanonicalData, typed, unknown, IsCanonicalOf, canonical_cmp}
+use Rattle.zone_canonical.specs.Canonical.{IsCanonicalOf, canonical_cmp}
 
 low_label : (label : List ℕ) → map to_ascii_lowercase (map to_ascii_lowercase label) ≡ map to_ascii_lowercase label
 low_label [] = refl

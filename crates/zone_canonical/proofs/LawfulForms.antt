@@ -4,9 +4,10 @@ use Rattle.std.specs.List.{AllByRecursion}
 use Rattle.dns_label.specs.Name.{IsName}
 use Rattle.dns_wire.proofs.LowNames.{length-wire-low, low_name}
 use Rattle.dns_rdata.specs.Fields.{Field, number8, number16, number32, ipv4, ipv6, compressible, uncompressed, string, strings, tag, rest_text, rest16, rest64, IsField, field_octets, octets, lowered, canonical_octets}
+use Rattle.dns_rdata.specs.OctetsForm.{IsCanonicalData, typed, unknown}
 use Rattle.dns_message.specs.Record.{IsRecord}
 use Rattle.zone_records.specs.Record.{Record}
-use Rattle.zone_canonical.specs.Canonical.{IsCanonicalData, typed, unknown, IsCanonicalOf}
+use Rattle.zone_canonical.specs.Canonical.{IsCanonicalOf}
 
 length-lowered : (field : Field) → IsField field → length (field_octets (lowered field)) ≡ length (field_octets field)
 length-lowered (compressible name) is = length-wire-low name is

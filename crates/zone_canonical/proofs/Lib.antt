@@ -2,14 +2,12 @@ mod Ascending
 mod Forms
 mod SortedForms
 mod LawfulForms
+mod DataForms
 mod SameOctets
 pub mod Alike
 mod Orders
 mod KeyOrder
 mod KeyDigits
 mod OwnerKeys
-mod DataOctets
-mod LowerNames
-mod DataForms
 mod RecordForms
 mod SortedKeys

@@ -48,22 +48,25 @@ by_front one other first apart is =
     first_apart first (rest_cmp (form_of one) (form_of other)) apart
     ∙ ap (λ o. ordering_then o (rest_cmp (form_of one) (form_of other))) is ∙ in_two one other
 
+-- if owners and types are level, the types are one
+pub types_level : (one other : Record) (first : Ordering) → first ≡ Equal
+    → first ≡ ordering_then (labels_order one.owner other.owner) (nat_cmp one.rtype other.rtype) → one.rtype ≡ other.rtype
+types_level one other first tied is =
+    number_tie one.rtype other.rtype
+    (both_tie (labels_order one.owner other.owner) (nat_cmp one.rtype other.rtype) (ap is_eq (sym is ∙ tied))).1
+
 -- and else by what follows them
 pub by_rest : (one other : Record) (first rdata ttl class fixed whole : Ordering) → first ≡ Equal
     → first ≡ ordering_then (labels_order one.owner other.owner) (nat_cmp one.rtype other.rtype)
-    → rdata ≡ slice_cmp nat_cmp (data_form one.rtype one.rdata) (data_form one.rtype other.rdata) → ttl ≡ nat_cmp one.ttl other.ttl
+    → rdata ≡ slice_cmp nat_cmp (data_form one.rtype one.rdata) (data_form other.rtype other.rdata) → ttl ≡ nat_cmp one.ttl other.ttl
     → class ≡ nat_cmp one.class other.class → fixed ≡ ordering_then ttl class → whole ≡ ordering_then rdata fixed
     → whole ≡ canonical_cmp (form_of one) (form_of other)
 by_rest one other first rdata ttl class fixed whole tied is rdata_is ttl_is class_is fixed_is whole_is =
-    let owners = labels_order one.owner other.owner in
-    let types = nat_cmp one.rtype other.rtype in
-    let both : Equal ≡ ordering_then owners types = sym tied ∙ is in
-    let same : one.rtype ≡ other.rtype = number_tie one.rtype other.rtype (both_tie owners types (ap is_eq (sym both))).1 in
     let rest : whole ≡ rest_cmp (form_of one) (form_of other) =
     whole_is
     ∙ (λ i. ordering_then (rdata_is i) (fixed_is i))
-    ∙ (λ i. ordering_then (slice_cmp nat_cmp (data_form one.rtype one.rdata) (data_form (same i) other.rdata)) (ordering_then (ttl_is i) (class_is i))) in
-    rest ∙ ap (λ o. ordering_then o (rest_cmp (form_of one) (form_of other))) both ∙ in_two one other
+    ∙ (λ i. ordering_then (slice_cmp nat_cmp (data_form one.rtype one.rdata) (data_form other.rtype other.rdata)) (ordering_then (ttl_is i) (class_is i))) in
+    rest ∙ ap (λ o. ordering_then o (rest_cmp (form_of one) (form_of other))) (sym tied ∙ is) ∙ in_two one other
 
 -- by keys, if these differ
 pub by_key : (one other : Keyed) (first : Ordering) → (first ≡ Equal → ⊥) → first ≡ nat_cmp one.key other.key → first ≡ keyed_cmp one other

@@ -1,6 +1,6 @@
 -- The canonical form of a record, as a function and as octets.
-use Rattle.std.proofs.Common.{◌≡◌, ℕ, suc, ◌+◌, ◌-◌, List, [], ◌∷◌, ◌++◌, length, take, drop, map, true, refl, sym, ap, ◌∙◌, arith, append_assoc, length-append}
-use Rattle.std.specs.Prelude.{Option, Some, None, nat_eq}
+use Rattle.std.proofs.Common.{◌≡◌, ℕ, ◌+◌, ◌-◌, List, [], ◌∷◌, ◌++◌, length, take, drop, map, true, refl, sym, ap, ◌∙◌, subst, arith, append_assoc, length-append}
+use Rattle.std.specs.Prelude.{nat_eq}
 use Rattle.std.specs.Char.{to_ascii_lowercase}
 use Rattle.std.specs.Cmp.Lexicographic.{pointwise}
 use Rattle.std.specs.Int.{to_be_bytes, w16}
@@ -9,40 +9,35 @@ use Rattle.std.specs.declared.cmp.Ordering.TheVariants.{Equal}
 use Rattle.std.proofs.Math.Seq.{take-append_seam, drop-append_seam}
 use Rattle.std.proofs.lemmas.Cmp.{tied_itself}
 use lib.Pointwise.{bytes_decides}
-use Rattle.dns_label.specs.Name.{IsName, low, wire}
+use Rattle.dns_label.specs.Name.{low, wire}
 use Rattle.dns_wire.proofs.Case.{low_wire, wire_one}
 use Rattle.dns_wire.specs.Order.{labels_order}
 use Rattle.dns_flat.specs.OrderLaws.{labels_total}
 use Rattle.dns_header.specs.Head.{fixed_octets}
 use Rattle.dns_message.specs.Record.{record_octets}
-use Rattle.dns_rdata.specs.Fields as fields
 use Rattle.dns_rdata.specs.Fields.{IsData}
+use Rattle.dns_rdata.specs.OctetsForm.{IsCanonicalData}
 use Rattle.zone_records.specs.Record.{Record}
-use Rattle.zone_canonical.specs.Canonical.{IsCanonicalData, typed, unknown, IsCanonicalOf, HasCanonicalForm}
-use Rattle.zone_canonical.specs.DataForm.{data_form, form_with, lower_between, places_of}
+use Rattle.zone_canonical.specs.Canonical.{IsCanonicalOf, HasCanonicalForm}
+use Rattle.zone_canonical.specs.DataForm.{data_form}
 use Rattle.zone_canonical.specs.Form.{form_of}
-use Rattle.zone_canonical.specs.declared.data.NamePlaces.{NamePlaces}
-use Rattle.zone_canonical.proofs.DataForms.{row_form, unknown_form}
-
-data_formed : (rtype : ℕ) (data' : List ℕ) → IsData rtype data' → IsCanonicalData rtype data' (data_form rtype data')
-data_formed rtype data' (fields.typed row is are) = typed row is are (ap (data_form rtype) are ∙ sym (row_form rtype row is))
-data_formed rtype data' (fields.unknown none short) = unknown none (unknown_form rtype data' none)
+use Rattle.zone_canonical.proofs.DataForms.{data_formed}
+use Rattle.zone_canonical.proofs.LawfulForms.{length-form}
 
 -- a record's form is its canonical one
 is_formed : (r : Record) → HasCanonicalForm r → IsCanonicalOf r (form_of r)
 is_formed r has = record { owner = refl; rtype = refl; class = refl; ttl = refl; rdata = data_formed r.rtype r.rdata has.data_is }
 
+-- data that is read from a record has the form of the record's
+pub read_formed : (r : Record) (rtype : ℕ) (data' : List ℕ) → rtype ≡ r.rtype → data' ≡ r.rdata → HasCanonicalForm r
+    → IsCanonicalData rtype data' (data_form r.rtype r.rdata)
+read_formed r rtype data' rtype_is data_is has =
+    subst (λ n. IsCanonicalData n data' (data_form r.rtype r.rdata)) (sym rtype_is)
+    (subst (λ l. IsCanonicalData r.rtype l (data_form r.rtype r.rdata)) (sym data_is) (data_formed r.rtype r.rdata has.data_is))
+
 pub are_formed : (records : List Record) → AllByRecursion HasCanonicalForm records → AllZip IsCanonicalOf records (map form_of records)
 are_formed [] each = tt
 are_formed (r ∷ records) each = (is_formed r each.0, are_formed records each.1)
-
-length-lower : (start end index : ℕ) (octets : List ℕ) → length (lower_between start end index octets) ≡ length octets
-length-lower start end index [] = refl
-length-lower start end index (octet ∷ octets) = ap suc (length-lower start end (suc index) octets)
-
-length-form_with : (places : Option NamePlaces) (data' : List ℕ) → length (form_with places data') ≡ length data'
-length-form_with None data' = refl
-length-form_with (Some places) data' = length-lower places.before (length data' - places.after) 0 data'
 
 -- names with the same octets are one
 pub same_owner : (name other : List (List ℕ)) (octets others : List ℕ) → octets ≡ wire name → others ≡ wire other
@@ -76,31 +71,31 @@ middle_found r whole start end is from to =
     ∙ take-append_seam (middle_of r) r.rdata
 
 -- the owner in lower case, what follows it, and the data in canonical form
-form_written : (r : Record) (old : List ℕ) → IsName r.owner
+form_written : (r : Record) (old : List ℕ) → HasCanonicalForm r
     → ((old ++ map to_ascii_lowercase (wire r.owner)) ++ middle_of r) ++ data_form r.rtype r.rdata ≡ old ++ record_octets (form_of r)
 form_written r old is =
     let form = data_form r.rtype r.rdata in
     let owner = map to_ascii_lowercase (wire r.owner) in
     let long : middle_of r ≡ middle_of (form_of r) =
-    ap (λ n. fixed_octets r.rtype r.class r.ttl ++ to_be_bytes w16 n) (sym (length-form_with (places_of r.rtype) r.rdata)) in
+    ap (λ n. fixed_octets r.rtype r.class r.ttl ++ to_be_bytes w16 n) (sym (length-form r.rtype r.rdata form (data_formed r.rtype r.rdata is.data_is))) in
     append_assoc (old ++ owner) (middle_of r) form
     ∙ append_assoc old owner (middle_of r ++ form)
-    ∙ ap (λ l. old ++ (l ++ (middle_of r ++ form))) (low_wire r.owner is.labels)
+    ∙ ap (λ l. old ++ (l ++ (middle_of r ++ form))) (low_wire r.owner is.lawful.owner.labels)
     ∙ ap (λ l. old ++ (wire (low r.owner) ++ (l ++ form))) long
     ∙ ap (λ l. old ++ l) (sym (in_parts (form_of r)))
 
 -- the same, appended one after another
-pub form_appended : (r : Record) (name : List (List ℕ)) (old whole octets data' lowered extended new : List ℕ) (rtype start : ℕ) → IsName r.owner
-    → whole ≡ record_octets r → name ≡ r.owner → octets ≡ wire name → start ≡ length (wire name) → data' ≡ r.rdata → rtype ≡ r.rtype
+pub form_appended : (r : Record) (name : List (List ℕ)) (old whole octets data' lowered extended new : List ℕ) (start : ℕ) → HasCanonicalForm r
+    → whole ≡ record_octets r → name ≡ r.owner → octets ≡ wire name → start ≡ length (wire name) → data' ≡ r.rdata
     → lowered ≡ old ++ map to_ascii_lowercase octets
     → extended ≡ lowered ++ take ((length whole - length data') - start) (drop start whole)
-    → new ≡ extended ++ data_form rtype data' → new ≡ old ++ record_octets (form_of r)
-form_appended r name old whole octets data' lowered extended new rtype start is whole_is name_is octets_is start_is data_is rtype_is lowered_is extended_is new_is =
+    → new ≡ extended ++ data_form r.rtype r.rdata → new ≡ old ++ record_octets (form_of r)
+form_appended r name old whole octets data' lowered extended new start is whole_is name_is octets_is start_is data_is lowered_is extended_is new_is =
     let form = data_form r.rtype r.rdata in
     let middle = middle_found r whole start (length whole - length data') whole_is (start_is ∙ ap (λ (n : List (List ℕ)). length (wire n)) name_is)
     (ap (λ (l : List ℕ). length whole - length l) data_is) in
     new_is
-    ∙ (λ i. extended_is i ++ data_form (rtype_is i) (data_is i))
+    ∙ ap (λ l. l ++ form) extended_is
     ∙ (λ i. (lowered_is i ++ middle i) ++ form)
     ∙ ap (λ (l : List ℕ). ((old ++ map to_ascii_lowercase l) ++ middle_of r) ++ form) (octets_is ∙ ap wire name_is)
     ∙ form_written r old is

@@ -1,5 +1,5 @@
 -- Records in canonical form and order, and the octets of a list of them (RFC 4034 6).
-use Rattle.std.specs.Prelude.{◌≡◌, ℕ, List, None, flat_map}
+use Rattle.std.specs.Prelude.{◌≡◌, ℕ, List, flat_map}
 use Rattle.std.specs.List.{AllByRecursion, Contains}
 use Rattle.std.specs.List.Sorted.{IsStrictlySortedBy}
 use Rattle.std.specs.Ordering.{on, then_cmp, nat_cmp}
@@ -7,15 +7,10 @@ use Rattle.std.specs.Cmp.Lexicographic.{slice_cmp}
 use Rattle.std.specs.declared.cmp.Ordering.{Ordering}
 use Rattle.dns_label.specs.Name.{low}
 use Rattle.dns_wire.specs.Order.{labels_order}
-use Rattle.dns_rdata.specs.Fields.{Field, IsRow, IsData, kinds_of, octets, canonical_octets}
+use Rattle.dns_rdata.specs.Fields.{IsData}
+use Rattle.dns_rdata.specs.OctetsForm.{IsCanonicalData}
 use Rattle.dns_message.specs.Record.{IsRecord, record_octets}
 use Rattle.zone_records.specs.Record.{Record}
-
--- Data of a type in canonical form: its fields with their names in lower case. Unknown data is its octets (RFC 4034
--- 6.2, RFC 3597 7).
-pub data IsCanonicalData (rtype : ℕ) (data' canonical : List ℕ) : Type 0 where
-  typed : (row : List Field) → IsRow rtype row → data' ≡ octets row → canonical ≡ canonical_octets row → IsCanonicalData rtype data' canonical
-  unknown : kinds_of rtype ≡ None → canonical ≡ data' → IsCanonicalData rtype data' canonical
 
 -- a record in canonical form: its owner in lower case, its data in canonical form (RFC 4034 6.2)
 pub record IsCanonicalOf (r form : Record) : Type 0 where

@@ -6,7 +6,8 @@ use Rattle.std.proofs.Common.{arith}
 use Rattle.dns_label.specs.Name.{IsName}
 use Rattle.dns_rdata.specs.Fields.{Field, number32, ipv4, compressible, octets, IsRow}
 use Rattle.zone_records.specs.Record.{Record}
-use Rattle.zone_canonical.specs.Canonical.{IsCanonical, IsCanonicalOf, typed, canonical_cmp}
+use Rattle.dns_rdata.specs.OctetsForm.{typed}
+use Rattle.zone_canonical.specs.Canonical.{IsCanonical, IsCanonicalOf, canonical_cmp}
 
 abbrev soa_row : List Field
 soa_row =

@@ -3,6 +3,7 @@ ghost use Rattle.std.specs.Prelude.{◌≡◌, ◌++◌, OnOk};
 ghost use Rattle.std.proofs.Common.{refl};
 ghost use Rattle.std.specs.Cmp.{partial_equiv_from_equiv, partial_order_from_total, partial_order_from_own_ties, eq_by_cmp_equiv};
 ghost use Rattle.std.specs.Ordering.{as_partial_cmp, eq_by_cmp};
+ghost use Rattle.zone_canonical.specs.Canonical.{HasCanonicalForm};
 ghost use Rattle.zone_canonical.specs.Form.{form_of};
 ghost use Rattle.zone_canonical.specs.Keyed.{form_octets, keyed_cmp, keyed_total, with_key};
 
@@ -24,6 +25,7 @@ impl<'a> Model for Entry<'a> {
     ghost use Rattle.std.specs.Prelude.{length};
     ghost use Rattle.dns_label.specs.Name.{wire};
     ghost use Rattle.zone_records.specs.Stored.{IsStored, record_in};
+    ghost use Rattle.zone_canonical.specs.Canonical.{HasCanonicalForm};
     ghost use Rattle.zone_canonical.specs.Form.{form_of};
     ghost use Rattle.zone_canonical.specs.Keyed.{Keyed};
 
@@ -31,12 +33,14 @@ impl<'a> Model for Entry<'a> {
 
     ghost view = { λ e. record { key = e.key; form = form_of (record_in e.octets.now) } };
 
-    ghost invariant = { λ e. IsStored e.octets.now (length (wire (record_in e.octets.now).owner)) };
+    ghost invariant = { λ e. IsStored e.octets.now (length (wire (record_in e.octets.now).owner))
+        × HasCanonicalForm (record_in e.octets.now) };
 }
 
 impl<'a> Entry<'a> {
     /// Returns the entry of a record with a key.
     pub(crate) fn new(key: u128, source: &Record<'a>) -> Entry<'a>
+        requires { HasCanonicalForm source.now }
         ensures { result ≡ with_key key (form_of source.now) }
     {
         Entry {
@@ -47,7 +51,8 @@ impl<'a> Entry<'a> {
 
     /// Returns the stored record.
     fn stored(&self) -> Record<'a>
-        ensures { form_of result ≡ self.now.form }
+        ensures form { form_of result ≡ self.now.form }
+        ensures has { HasCanonicalForm result }
     {
         Record::from_octets(self.octets)
     }

@@ -4,17 +4,19 @@ ghost use Rattle.std.specs.Prelude.{◌≡◌, ◌++◌, OnOk, map};
 ghost use Rattle.std.specs.Char.{to_ascii_lowercase};
 ghost use Rattle.dns_message.specs.Record.{record_octets};
 ghost use Rattle.dns_wire.specs.Order.{labels_order};
-ghost use Rattle.zone_canonical.specs.Canonical.{canonical_cmp};
+ghost use Rattle.zone_canonical.specs.Canonical.{HasCanonicalForm, canonical_cmp};
 ghost use Rattle.zone_canonical.specs.Form.{form_of};
 
-use crate::data::{append_data, cmp_data};
 use dns_name::{Name, ToName};
+use dns_rdata::{append_canonical_data, canonical_data_cmp};
 use std::alloc::AllocError;
 use std::cmp::Ordering;
 use zone_records::record::Record;
 
 /// Compares two records in canonical form: by owner, type and data (RFC 4034 6.1, 6.3), then by TTL, then by class.
 pub(crate) fn cmp_forms(record: &Record<'_>, other: &Record<'_>) -> Ordering
+    requires one { HasCanonicalForm «record».now }
+    requires other { HasCanonicalForm other.now }
     ensures { result ≡ canonical_cmp (form_of «record».now) (form_of other.now) }
 {
     let owners = cmp_owners(&record.owner(), &other.owner());
@@ -24,7 +26,7 @@ pub(crate) fn cmp_forms(record: &Record<'_>, other: &Record<'_>) -> Ordering
                 .ttl()
                 .cmp(&other.ttl())
                 .then(record.class().cmp(&other.class()));
-            cmp_data(record.rtype(), record.data(), other.data()).then(fixed)
+            canonical_data_cmp(record.rtype(), record.data(), other.data()).then(fixed)
         }
         unequal => unequal,
     }
@@ -44,6 +46,7 @@ fn cmp_owners(owner: &Name<&[u8]>, other: &Name<&[u8]>) -> Ordering
 
 /// Appends the octets of a record in canonical form. Fails if out of memory.
 pub(crate) fn append_form(record: &Record<'_>, octets: &mut Vec<u8>) -> Result<(), AllocError>
+    requires { HasCanonicalForm «record».now }
     ensures { OnOk result (octets.new.items ≡ octets.old.items ++ record_octets (form_of «record».now)) }
 {
     let whole = record.as_octets();
@@ -52,7 +55,7 @@ pub(crate) fn append_form(record: &Record<'_>, octets: &mut Vec<u8>) -> Result<(
     append_lowered(owner.as_slice(), octets)?;
     // Data in canonical form has the same length, so RDLENGTH stays too.
     octets.extend_from_slice(&whole[owner.len()..whole.len() - data.len()])?;
-    append_data(record.rtype(), data, octets)
+    append_canonical_data(record.rtype(), data, octets)
 }
 
 /// Appends octets with ASCII letters in lower case. Fails if out of memory.

@@ -1,7 +1,6 @@
 //! The canonical octets of a zone's records, for the comparison of zones (RFC 4034 6).
 #![tactic(auto)]
 
-mod data;
 mod entry;
 mod form;
 pub mod laws;

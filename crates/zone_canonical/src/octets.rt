@@ -29,6 +29,7 @@ pub fn canonical(alloc: Global, records: &RecordList) -> Result<Vec<u8>, AllocEr
 /// Returns the entries of the records, in the order of the list, with keys relative to the first record's owner. A
 /// zone's first record is its SOA, at the apex. Fails if out of memory.
 fn entries_of<'a>(alloc: Global, records: &'a RecordList) -> Result<Vec<Entry<'a>>, AllocError>
+    requires { AllByRecursion HasCanonicalForm records.now }
     ensures { IfOk result (λ entries. (apex : List (List ℕ)) × (entries.items ≡ map (keyed apex) records.now)) }
 {
     let mut entries = Vec::with_capacity(alloc, records.len())?;
@@ -45,7 +46,8 @@ fn entries_of<'a>(alloc: Global, records: &'a RecordList) -> Result<Vec<Entry<'a
 
 /// Returns the entry of the record at `index`.
 fn entry_at<'a>(records: &'a RecordList, index: usize, apex: &Name<&[u8]>) -> Entry<'a>
-    requires { index < length records.now }
+    requires index { index < length records.now }
+    requires has { (r : spec.Record) → slice_get records.now index ≡ Some r → HasCanonicalForm r }
     ensures { (r : spec.Record) → slice_get records.now index ≡ Some r → result ≡ keyed apex.now r }
 {
     let record = records.record_at(index);

@@ -1,69 +1,35 @@
 -- Data of a type is parsed, in the fields of the type if it has some.
-use Rattle.std.proofs.Common.{◌≡◌, ◌⊎◌, ◌==◌, ℕ, Bool, true, false, List, [], ◌∷◌, map, refl, sym, ap, ◌∙◌, subst, arith, inl, inr}
-use Rattle.std.specs.Prelude.{Some, None, if◌then◌else◌}
-use Rattle.std.specs.List.{AllZip}
-use Rattle.std.proofs.lemmas.Bool.{eqb-true}
+use Rattle.std.proofs.Common.{◌≡◌, ℕ, List, [], map, refl, sym, ap, ◌∙◌, subst, arith}
+use Rattle.std.specs.Prelude.{Some, None}
 use Rattle.dns_header.specs.Record.{RecordOf}
 use Rattle.dns_message.specs.Held.{record_of}
 use Rattle.dns_rdata.specs.Fields as fields
-use Rattle.dns_rdata.specs.Fields.{Kind, Field, IsData, IsRow, kind_of, kinds_of, table, kinds_in, octets}
+use Rattle.dns_rdata.specs.Fields.{Field, IsData, IsRow, kind_of, kinds_of, octets}
 use Rattle.dns_rdata.specs.Reading.{ReadsRow}
 use Rattle.dns_rdata.specs.Data as rdata
 use Rattle.dns_rdata.specs.Data.{Data, ReadsData, number_of}
 use Rattle.dns_rdata.specs.DataOctets.{data_octets}
 use Rattle.dns_rdata.specs.ZoneData.{data_of}
 use Rattle.dns_rdata.specs.declared.zone_record_data.ZoneRecordData.{ZoneRecordData}
-use Rattle.dns_rdata.specs.declared.zone_record_data.ZoneRecordData.TheVariants.{A, Ns, Md, Mf, Cname, Soa, Mb, Mg, Mr, Ptr, Hinfo, Minfo, Mx, Txt, Rp, Aaaa, Srv, Ds, Dnskey, Caa, Unknown}
+use Rattle.dns_rdata.specs.declared.zone_record_data.ZoneRecordData.TheVariants.{Unknown}
 use Rattle.dns_rdata.proofs.ComposedRows.{row_parses, row_parses_only}
+use Rattle.dns_rdata.proofs.MadeData.{data_made}
 use Rattle.zone_records.specs.Record.{Record}
 use Rattle.zone_records.specs.Typed.{HasFieldsOfType, seen_of}
 
--- the number is that of a row of the table
-abbrev Names : List (ℕ × List Kind) → ℕ → Type 0
-Names [] rtype = ⊥
-Names (row ∷ rows) rtype = (rtype ≡ row.0) ⊎ Names rows rtype
-
-tested : (told : Bool) (row : ℕ × List Kind) (rows : List (ℕ × List Kind)) (rtype : ℕ) (kinds : List Kind) → rtype == row.0 ≡ told
-    → (if told then Some row.1 else kinds_in rows rtype) ≡ Some kinds → (kinds_in rows rtype ≡ Some kinds → Names rows rtype)
-    → (rtype ≡ row.0) ⊎ Names rows rtype
-tested true row rows rtype kinds told is rest = inl (eqb-true rtype row.0 told)
-tested false row rows rtype kinds told is rest = inr (rest is)
-
-named : (rows : List (ℕ × List Kind)) (rtype : ℕ) (kinds : List Kind) → kinds_in rows rtype ≡ Some kinds → Names rows rtype
-named [] rtype kinds is = absurd (let e : None ≡ Some kinds = is in cc)
-named (row ∷ rows) rtype kinds is = tested (rtype == row.0) row rows rtype kinds refl is (named rows rtype kinds)
-
 module _ (Octs N : Type 0) where
-  abbrev Makes : ℕ × List Kind → (List Field → ZoneRecordData Octs N) → Type 0
-  Makes row make = (fields : List Field) → data_of (make fields) ≡ rdata.typed row.0 fields
-
-  -- each row of the table has data
-  made : (rows : List (ℕ × List Kind)) (makers : List (List Field → ZoneRecordData Octs N)) → AllZip Makes rows makers → (rtype : ℕ)
-      → Names rows rtype → (row : List Field) → (value : ZoneRecordData Octs N) × (data_of value ≡ rdata.typed rtype row)
-  made [] makers zip rtype name row = absurd name
-  made (its ∷ rows) [] zip rtype name row = absurd zip
-  made (its ∷ rows) (make ∷ makers) zip rtype (inl same) row = (make row, zip.0 row ∙ ap (λ n. rdata.typed n row) (sym same))
-  made (its ∷ rows) (make ∷ makers) zip rtype (inr name) row = made rows makers zip.1 rtype name row
-
-  abbrev makers : List (List Field → ZoneRecordData Octs N)
-  makers =
-      A ∷ Ns ∷ Md ∷ Mf ∷ Cname ∷ Soa ∷ Mb ∷ Mg ∷ Mr ∷ Ptr ∷ Hinfo ∷ Minfo ∷ Mx ∷ Txt ∷ Rp ∷ Aaaa ∷ Srv ∷ Ds ∷ Dnskey ∷ Caa ∷ []
-
-  all_made : AllZip Makes table makers
-  all_made = (λ _. refl, (λ _. refl, (λ _. refl, (λ _. refl, (λ _. refl, (λ _. refl, (λ _. refl, (λ _. refl, (λ _. refl, (λ _. refl, (λ _. refl, (λ _. refl, (λ _. refl, (λ _. refl, (λ _. refl, (λ _. refl, (λ _. refl, (λ _. refl, (λ _. refl, (λ _. refl, tt))))))))))))))))))))
-
-  -- so all data in a message is the view of some value
+  -- all data in a message is the view of some value
   pub value_of_read : (message : List ℕ) (place rtype : ℕ) (found : Data) → ReadsData message place rtype found
       → (value : ZoneRecordData Octs N) × (data_of value ≡ found)
   value_of_read message place rtype (rdata.typed number row) reads =
-      let value = made table makers all_made rtype (named table rtype (map kind_of row) reads.1.is_row.kinds) row in
+      let value = data_made Octs N rtype (map kind_of row) reads.1.is_row.kinds row in
       (value.0, value.1 ∙ ap (λ n. rdata.typed n row) (sym reads.0))
   value_of_read message place rtype (rdata.unknown_data unknown) reads = (Unknown unknown, refl)
 
   -- data of a type is read as some data
   data_read : (rtype : ℕ) (data' : List ℕ) → IsData rtype data' → (value : ZoneRecordData Octs N) × ReadsData data' 0 rtype (data_of value)
   data_read rtype data' (fields.typed row is are) =
-      let found = made table makers all_made rtype (named table rtype (map kind_of row) is.kinds) row in
+      let found = data_made Octs N rtype (map kind_of row) is.kinds row in
       let reads : ReadsRow rtype data' 0 row = subst (λ l. ReadsRow rtype l 0 row) (sym are) (row_parses rtype [] row is) in
       (found.0, subst (ReadsData data' 0 rtype) (sym found.1) (refl, reads))
   data_read rtype data' (fields.unknown none short) =

@@ -1,7 +1,14 @@
-//! What the program `zonewire` does: its command line, its input and its output.
+//! Zones, read from text, sent, received, printed and compared; and what the program `zonewire` does: its command line,
+//! its input and its output.
 //!
 //! This crate re-exports what the crates below it are for: `zone` (zones and their text), `zone_core` (queries),
-//! `zone_send` and `zone_receive` (the stream of a transfer).
+//! `zone_send` and `zone_receive` (the stream of a transfer), and the types that their signatures name. So a program
+//! that reads, sends or receives zones needs no other crate.
+//!
+//! Programs of a page each show how it is used: `example_round_trip` reads the text of a zone, sends the zone, receives
+//! it and prints it; `example_receive` makes a query and takes the answers in pieces; `example_compare` compares two
+//! zones. Three more show the crates below: `example_entries` (`dns_zonefile`), `example_message` (`dns_message`) and
+//! `example_rdata` (`dns_rdata`, `dns_text`, `dns_name`).
 #![tactic(auto)]
 
 mod command_line;
@@ -16,6 +23,8 @@ mod step_sink;
 mod step_source;
 
 pub use command_line::{WordsFault, job};
+pub use dns_name::{Class, Name, ParsedName, Rtype, Ttl};
+pub use dns_rdata::ZoneRecordData;
 pub use dns_text::DisplayKind;
 pub use fault::Fault;
 pub use jobs::Job;
@@ -25,8 +34,7 @@ pub use sink::{Sink, SinkError, StdSink};
 pub use source::{Source, SourceError, StdSource};
 pub use step_sink::StepSink;
 pub use step_source::StepSource;
-pub use zone::{Zone, ZoneRecord, ZoneRecords};
+pub use zone::{Zone, ZoneError, ZoneRecord, ZoneRecords};
 pub use zone_core::{Query, QueryError, axfr_query, check_query};
 pub use zone_receive::{ReceiveError, Receiver};
-pub use zone_rules::ZoneError;
 pub use zone_send::{SendError, Spelling, send};

@@ -3,6 +3,7 @@ ghost use Rattle.std.specs.Prelude.{◌≡◌, ◌∷◌, [], List, length, fals
 ghost use Rattle.std.proofs.Common.{refl};
 ghost use Rattle.dns_fields.specs.Fields.{Kind, Field, field_octets};
 ghost use Rattle.dns_fields.specs.Last.{IsLast};
+ghost use Rattle.dns_fields.specs.OctetsForm.{is_name};
 ghost use Rattle.dns_fields.specs.Written.{may_point};
 
 use super::{HasFields, Row};
@@ -21,6 +22,8 @@ pub trait LastValue {
         ensures { result.now ≡ field_octets (field self.now) };
 
     ghost stays: { may_point kind ≡ false };
+
+    ghost unnamed: { is_name kind ≡ false };
 
     ghost is_last: { (x : Self) → IsLast kind (field x) };
 }

@@ -20,6 +20,8 @@ impl<Octs: Octets> LastValue for RestText<Octs> {
 
     ghost stays = { refl };
 
+    ghost unnamed = { refl };
+
     ghost is_last = { λ _. record { kind = refl; lowered = refl; folded = refl; written = refl } };
 }
 
@@ -38,6 +40,8 @@ impl<Octs: Octets> LastValue for Rest16<Octs> {
 
     ghost stays = { refl };
 
+    ghost unnamed = { refl };
+
     ghost is_last = { λ _. record { kind = refl; lowered = refl; folded = refl; written = refl } };
 }
 
@@ -55,6 +59,8 @@ impl<Octs: Octets> LastValue for Rest64<Octs> {
     }
 
     ghost stays = { refl };
+
+    ghost unnamed = { refl };
 
     ghost is_last = { λ _. record { kind = refl; lowered = refl; folded = refl; written = refl } };
 }

@@ -79,6 +79,8 @@ impl<Octs: Octets> LastValue for Strings<Octs> {
 
     ghost stays = { refl };
 
+    ghost unnamed = { refl };
+
     ghost is_last = { λ _. record { kind = refl; lowered = refl; folded = refl; written = refl } };
 }
 

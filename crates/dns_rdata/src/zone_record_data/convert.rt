@@ -13,7 +13,7 @@ use std::alloc::Global;
 
 /// The arms of `try_flatten_into`.
 macro_rules! flattened {
-    (($this:ident, $alloc:ident, $Octs:ident) $($variant:ident = $rtype:ident,)*) => {
+    (($this:ident, $alloc:ident, $Octs:ident) $($variant:ident = $rtype:ident: $row:ty,)*) => {
         match $this {
             $(ZoneRecordData::$variant(rdata) => {
                 held!($variant, FlattenData::<$Octs>::flatten_data(rdata, $alloc))

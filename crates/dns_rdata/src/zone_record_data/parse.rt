@@ -11,7 +11,7 @@ use dns_name::{
 
 /// The arms of `parse_any_rdata`.
 macro_rules! parsed {
-    (($type:ident, $parser:ident) $($variant:ident = $rtype:ident,)*) => {
+    (($type:ident, $parser:ident) $($variant:ident = $rtype:ident: $row:ty,)*) => {
         match $type {
             $(Rtype::$rtype => held!($variant, crate::$variant::parse_data($parser)),)*
             _ => held!(Unknown, UnknownRecordData::parse_any_rdata($type, $parser)),

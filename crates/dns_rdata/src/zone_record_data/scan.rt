@@ -12,7 +12,7 @@ use dns_text::{Scanner, ScannerError, scan_without_marker};
 
 /// The arms of `scan_fields`.
 macro_rules! scanned {
-    (($type:ident, $scanner:ident, $S:ident) $($variant:ident = $rtype:ident,)*) => {
+    (($type:ident, $scanner:ident, $S:ident) $($variant:ident = $rtype:ident: $row:ty,)*) => {
         match $type {
             $(Rtype::$rtype => held!($variant, crate::$variant::scan_data($scanner)),)*
             _ => Err($S::Error::custom("'\\#' expected")),

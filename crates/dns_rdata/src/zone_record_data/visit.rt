@@ -9,7 +9,7 @@ use dns_name::{Octets, ToName, UnknownRecordData};
 
 /// The arms of `visit`.
 macro_rules! visited {
-    (($this:ident, $V:ident, $state:ident) $($variant:ident = $rtype:ident,)*) => {
+    (($this:ident, $V:ident, $state:ident) $($variant:ident = $rtype:ident: $row:ty,)*) => {
         match $this {
             $(ZoneRecordData::$variant(rdata) => $V::fields(rdata, $state),)*
             ZoneRecordData::Unknown(rdata) => $V::unknown(rdata, $state),
@@ -19,7 +19,7 @@ macro_rules! visited {
 
 /// The arms of `visit_both`.
 macro_rules! both_visited {
-    (($this:ident, $other:ident, $V:ident) $($variant:ident = $rtype:ident,)*) => {
+    (($this:ident, $other:ident, $V:ident) $($variant:ident = $rtype:ident: $row:ty,)*) => {
         match ($this, $other) {
             $((ZoneRecordData::$variant(one), ZoneRecordData::$variant(two)) => {
                 Some($V::fields(one, two))

@@ -10,7 +10,7 @@ returns-in-Equal c =
     let tied : c.cmp.result ≡ Equal = search rules in
     by_form c.args.self.now c.args.other.now c.cmp.result c.cmp_forms.result tied
     (c.cmp.ensures ∙ (λ i. nat_cmp (c.self.view_is i).key (c.other.view_is i).key))
-    (c.cmp_forms.ensures ∙ (λ i. canonical_cmp (c.stored.ensures i) (c.stored-in-Equal.ensures i)))
+    (c.cmp_forms.ensures ∙ (λ i. canonical_cmp (c.stored.ensures.form i) (c.stored-in-Equal.ensures.form i)))
 
 pub returns-in_default : goal.returns-in_default
 returns-in_default c =

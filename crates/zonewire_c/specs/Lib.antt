@@ -1,0 +1,5 @@
+pub mod Fault
+pub mod FaultText
+pub mod Answer
+pub mod Given
+pub mod Calls
