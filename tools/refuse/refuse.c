@@ -222,7 +222,7 @@ static void give(int to, const void *from, size_t length) {
     }
 }
 
-/* What is asked of the server: the input's length, which follows, the milliseconds that a run may take, those that all runs of a way are
+/* What is asked of the server: the input's length, which follows, the milliseconds of a processor that a run may take, those that all runs of a way are
  * to take, and up to which request each is refused: all if this is 0, none if the other is 0. */
 struct asked {
     uint64_t length, milliseconds, whole, each;
@@ -241,6 +241,8 @@ static int in_file, out_file, err_file;
 /* How many microseconds of a processor the last run took, and how many a run may take whose requests are to be refused, unless each is. */
 static uint64_t taken;
 static const uint64_t SLOW = 2000000;
+/* How many times as long as a run may take of a processor it may wait for one. */
+static const int WAITS = 30;
 /* How many of the first requests are refused at least. */
 static const uint64_t FEWEST = 4;
 /* Whether each request was refused, or some, or none since the run takes long. */
@@ -276,10 +278,11 @@ static void keep(struct outcome it) {
 }
 
 /* The child of the server, in which the program runs. */
-static void become_run(int server) {
-    struct rlimit no_core = {0, 0};
+static void become_run(int server, uint64_t milliseconds) {
+    struct rlimit no_core = {0, 0}, seconds = {milliseconds / 1000, milliseconds / 1000 + 1};
     prctl(PR_SET_PDEATHSIG, SIGKILL);
     setrlimit(RLIMIT_CORE, &no_core);
+    setrlimit(RLIMIT_CPU, &seconds);
     dup2(in_file, 0);
     dup2(out_file, 1);
     dup2(err_file, 2);
@@ -301,7 +304,7 @@ static int run(int server, struct asked asked, enum way which, uint64_t at) {
     pid_t child = fork();
     if (child < 0) stop("no process can be started");
     if (!child) {
-        become_run(server);
+        become_run(server, asked.milliseconds);
         return 1;
     }
     int handle = syscall(SYS_pidfd_open, child, 0);
@@ -309,9 +312,10 @@ static int run(int server, struct asked asked, enum way which, uint64_t at) {
     struct pollfd ended = {handle, POLLIN, 0};
     struct rusage used;
     struct outcome it = {0, 0, which, at, 1, 0, 0, NULL, NULL};
-    it.is_late = poll(&ended, 1, asked.milliseconds) == 0;
+    it.is_late = poll(&ended, 1, asked.milliseconds * WAITS) == 0;
     if (it.is_late) kill(child, SIGKILL);
     wait4(child, &it.status, 0, &used);
+    it.is_late |= WIFSIGNALED(it.status) && WTERMSIG(it.status) == SIGXCPU;
     close(handle);
     taken = (uint64_t)(used.ru_utime.tv_sec + used.ru_stime.tv_sec) * 1000000 + used.ru_utime.tv_usec + used.ru_stime.tv_usec;
     it.out = content(out_file, &it.out_length);
