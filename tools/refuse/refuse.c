@@ -238,8 +238,13 @@ struct outcome {
 static struct outcome *outcomes;
 static uint64_t outcome_count;
 static int in_file, out_file, err_file;
-/* How many microseconds of a processor the last run took. */
+/* How many microseconds of a processor the last run took, and how many a run may take whose requests are to be refused, unless each is. */
 static uint64_t taken;
+static const uint64_t SLOW = 2000000;
+/* How many of the first requests are refused at least. */
+static const uint64_t FEWEST = 4;
+/* Whether each request was refused, or some, or none since the run takes long. */
+enum coverage { STEPPED, WHOLE, LEFT_OUT };
 
 /* What a file holds. */
 static char *content(int file, uint64_t *length) {
@@ -320,7 +325,7 @@ static int run(int server, struct asked asked, enum way which, uint64_t at) {
 static uint64_t each_up_to(struct asked asked) {
     uint64_t found = asked.whole * 1000 / (taken + 1);
     if (!asked.each) return 0;
-    return found < 16 ? 16 : found > asked.each ? asked.each : found;
+    return found < FEWEST ? FEWEST : found > asked.each ? asked.each : found;
 }
 
 /* Serves at a socket: takes an input, runs the program on it with no request refused, then with each request refused alone and then with
@@ -341,7 +346,11 @@ static void serve(int server) {
         __libc_free(input);
         if (run(server, asked, NONE, 0)) return;
         uint64_t runs = 1, refusals = 0, requests = counts->requests, each = each_up_to(asked);
-        uint64_t is_whole = !each || requests <= each;
+        uint64_t coverage = !each || requests <= each ? WHOLE : STEPPED;
+        if (each && taken > SLOW) {
+            coverage = LEFT_OUT;
+            asked.whole = 0;
+        }
         for (enum way which = AT; which <= FROM && asked.whole; which++)
             for (uint64_t at = 1;; at += each ? 1 + at / each : 1) {
                 if (run(server, asked, which, at)) return;
@@ -349,7 +358,7 @@ static void serve(int server) {
                 refusals += counts->refusals;
                 if (!counts->refusals) break;
             }
-        uint64_t heads[] = {runs, requests, refusals, is_whole, outcome_count};
+        uint64_t heads[] = {runs, requests, refusals, coverage, outcome_count};
         give(server, heads, sizeof heads);
         for (uint64_t n = 0; n < outcome_count; n++) {
             give(server, outcomes + n, offsetof(struct outcome, out));

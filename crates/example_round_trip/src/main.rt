@@ -18,12 +18,7 @@ fn main(rt: HostRuntime) -> Result<()> {
     let zone = Zone::from_text(alloc, text, None, Class::IN)?;
     let query = axfr_query(alloc, 4660, zone.class(), &zone.apex())?;
     let stream = send(alloc, &zone, query.as_slice(), MAX, Spelling::Tree)?;
-    println!(rt;
-        "; {} records of {} in {} octets",
-        zone.records().count(),
-        zone.apex(),
-        stream.len()
-    )?;
+    println!(rt; "; {} in {} octets", zone.apex(), stream.len())?;
 
     // And back.
     let mut receiver = Receiver::new(alloc, query.as_slice())?;

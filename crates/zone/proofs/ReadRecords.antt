@@ -29,13 +29,13 @@ use Rattle.zone_records.specs.Records.{AreRecordsOf, IsRecordOf}
 use Rattle.zone_records.specs.Stored.{AreStored}
 use Rattle.zone_records.specs.Zone.{IsBehindSoa, IsUnder, IsZone, IsZoneFront, any_class}
 use Rattle.zone_records.proofs.Each.{all_append, all_fronts, wire_back}
-use Rattle.zone_rules.specs.ZoneText.{IsWellTyped, IsZoneFault, IsZoneText, MayFollow, records_in}
-use Rattle.zone_rules.specs.declared.zone_error.ZoneError.{ZoneError}
-use Rattle.zone_rules.specs.declared.zone_error.ZoneError.TheVariants as zone_error
-use Rattle.zone_rules.proofs.KeptContexts.{IsFitting, IsRowed, entries_fit}
-use Rattle.zone_rules.proofs.KeptRules.{keeps_directives, keeps_none, records_behind}
-use Rattle.zone_rules.proofs.RecordClasses.{zone_text_class}
-use Rattle.zone_rules.proofs.ReaderSteps.{HasKept, MeetsRecord, ended_behind, first_fault, kept_record, meets, next_read, out_fault, second_fault, unspellable_fault, untyped_fault, zone_text}
+use Rattle.zone.specs.ZoneText.{IsWellTyped, IsZoneFault, IsZoneText, MayFollow, records_in}
+use Rattle.zone.specs.declared.zone_error.ZoneError.{ZoneError}
+use Rattle.zone.specs.declared.zone_error.ZoneError.TheVariants as zone_error
+use Rattle.zone.proofs.KeptContexts.{IsFitting, IsRowed, entries_fit}
+use Rattle.zone.proofs.KeptRules.{keeps_directives, keeps_none, records_behind}
+use Rattle.zone.proofs.RecordClasses.{zone_text_class}
+use Rattle.zone.proofs.ReaderSteps.{HasKept, MeetsRecord, ended_behind, first_fault, kept_record, meets, next_read, out_fault, second_fault, unspellable_fault, untyped_fault, zone_text}
 use Rattle.zone.specs.Reading.{BeginWith, BreaksRule, HasRead, IsCheckFault, AppendsRecord, MayStandUnder, StandsLast, apex_in, reader_at}
 
 -- in the words of the rules

@@ -14,9 +14,9 @@ use Rattle.dns_zonefile.specs.Entry.Entry.{Resource}
 use Rattle.dns_zonefile.specs.Reader.{Gives, GoesOver, Reader}
 use Rattle.zone_records.specs.Record.{Record}
 use Rattle.zone_records.specs.Zone.{IsUnder, any_class, soa_type}
-use Rattle.zone_rules.specs.ZoneText.{KeepRules, records_in, start_of}
-use Rattle.zone_rules.specs.declared.zone_error.ZoneError.{ZoneError}
-use Rattle.zone_rules.specs.declared.zone_error.ZoneError.TheVariants as zone_error
+use Rattle.zone.specs.ZoneText.{KeepRules, records_in, start_of}
+use Rattle.zone.specs.declared.zone_error.ZoneError.{ZoneError}
+use Rattle.zone.specs.declared.zone_error.ZoneError.TheVariants as zone_error
 
 -- the reader of a zone's text before its first row
 abbrev pub reader_at : List ℕ → Option (List (List ℕ)) → ℕ → Reader

@@ -1,14 +1,18 @@
 //! Zones: records read from the text of a zone file and printed as text (RFC 1035 5), and compared by canonical octets
-//! (RFC 4034 6).
+//! (RFC 4034 6). In definitions, which text is a zone's, and the first rule that another text breaks; laws of both.
 //!
 //! A part of `zonewire`, which re-exports its types. The functions of `zone` are for `zone_send`, which sends the
 //! records of a zone, and for `zone_receive`, which makes a zone of those that it received.
 #![tactic(auto)]
 
 mod keep;
+pub mod laws;
+mod print;
 mod read;
 mod records;
 pub mod zone;
+mod zone_error;
 
 pub use records::{ZoneRecord, ZoneRecords};
 pub use zone::Zone;
+pub use zone_error::ZoneError;

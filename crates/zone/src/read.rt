@@ -9,9 +9,10 @@ ghost use Rattle.dns_rdata.specs.Fields.{IsData};
 ghost use Rattle.zone_records.specs.Record as spec;
 ghost use Rattle.zone_records.specs.Records.{AreRecordsOf};
 ghost use Rattle.zone_records.specs.Zone.{any_class};
-ghost use Rattle.zone_rules.specs.ZoneText.{IsWellTyped, IsZoneFault, IsZoneText};
+ghost use Rattle.zone.specs.ZoneText.{IsWellTyped, IsZoneFault, IsZoneText};
 ghost use Rattle.zone.specs.Reading.{BreaksRule, IsCheckFault, AppendsNext, HasRead, MayStandUnder, StandsLast, reader_at};
 
+use crate::ZoneError;
 use crate::keep::{Count, Keeper, Places};
 use dns_name::{Class, Name, ToName, first_name};
 use dns_zonefile::{ComposedEntry, Zonefile};
@@ -20,7 +21,6 @@ use zone_records::checks::{is_data_of_type, is_spellable};
 use zone_records::octets::are_octets;
 use zone_records::record::Record;
 use zone_records::record_list::RecordList;
-use zone_rules::ZoneError;
 
 /// Reads the records of the text of a zone of the class. Names are relative to the origin, if there is one.
 ///

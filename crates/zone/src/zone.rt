@@ -4,11 +4,13 @@ ghost use Rattle.dns_text.specs.Layout.{layout_of};
 ghost use Rattle.zone_canonical.specs.Canonical.{IsCanonical};
 ghost use Rattle.zone_records.specs.Record.{Record};
 ghost use Rattle.zone_records.specs.Records.{AreRecordsOf};
-ghost use Rattle.zone_rules.specs.Printed.{IsPrinted};
-ghost use Rattle.zone_rules.specs.ZoneText.{IsZoneFault, IsZoneText};
+ghost use Rattle.zone.specs.Printed.{IsPrinted};
+ghost use Rattle.zone.specs.ZoneText.{IsZoneFault, IsZoneText};
 ghost use Rattle.zone_records.specs.Zone.{any_class};
 ghost use Rattle.zone.specs.View.{IsZoneOf, apex_of};
 
+use crate::ZoneError;
+use crate::print::print_records;
 use crate::read::{count_records, read_records};
 use crate::records::ZoneRecords;
 use dns_name::{Class, Name};
@@ -17,7 +19,6 @@ use std::alloc::{AllocError, Global};
 use std::marker::Model;
 use zone_records::record::ANY;
 use zone_records::record_list::RecordList;
-use zone_rules::ZoneError;
 
 /// A zone: one SOA record, then the others of its class, all at or under the SOA's owner (RFC 1035 5.2).
 #[derive(Debug, Drop)]
@@ -137,7 +138,7 @@ impl Zone {
     pub fn print(&self, alloc: Global, kind: DisplayKind) -> Result<Vec<u8>, AllocError>
         ensures { IfOk result (λ text. IsPrinted (layout_of kind) self.now.records text.items) }
     {
-        zone_print::print_records(alloc, &self.records, kind)
+        print_records(alloc, &self.records, kind)
     }
 }
 

@@ -9,10 +9,10 @@ use Rattle.dns_text.specs.declared.layout.DisplayKind.{DisplayKind}
 use Rattle.zone_records.specs.Record.{Record}
 use Rattle.zone_records.specs.Records.{AreRecordsOf, AreSendable}
 use Rattle.zone.specs.View.{apex_of}
-use Rattle.zone_rules.specs.Printed.{IsPrinted}
-use Rattle.zone_rules.specs.ZoneText.{IsZoneText}
-use Rattle.zone_rules.proofs.OneFault.{one_reading}
-use Rattle.zone_rules.proofs.PrintedOnce.{some_printed}
+use Rattle.zone.specs.Printed.{IsPrinted}
+use Rattle.zone.specs.ZoneText.{IsZoneText}
+use Rattle.zone.proofs.OneFault.{one_reading}
+use Rattle.zone.proofs.PrintedOnce.{some_printed}
 use Rattle.zone_core.specs.Query.{AxfrQuery, IsQuery, query_octets}
 use Rattle.zone_core.specs.Transfer.{IsTransfer}
 use Rattle.zone_core.proofs.MadeQueries.{made_query}

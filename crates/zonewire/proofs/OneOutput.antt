@@ -6,12 +6,12 @@ use Rattle.zone_records.specs.Record.{Record}
 use Rattle.zone_canonical.specs.Canonical.{IsCanonical}
 use Rattle.zone_canonical.proofs.Alike.{one_canonical}
 use Rattle.zone.specs.View.{apex_of}
-use Rattle.zone_rules.specs.Printed.{IsPrinted}
-use Rattle.zone_rules.specs.ZoneText.{IsZoneFault, IsZoneText}
-use Rattle.zone_rules.specs.declared.zone_error.ZoneError.{ZoneError}
-use Rattle.zone_rules.specs.declared.zone_error.ZoneError.TheVariants as zone_error
-use Rattle.zone_rules.proofs.OneFault.{one_fault, one_reading, zone_no_fault}
-use Rattle.zone_rules.proofs.PrintedOnce.{one_printed}
+use Rattle.zone.specs.Printed.{IsPrinted}
+use Rattle.zone.specs.ZoneText.{IsZoneFault, IsZoneText}
+use Rattle.zone.specs.declared.zone_error.ZoneError.{ZoneError}
+use Rattle.zone.specs.declared.zone_error.ZoneError.TheVariants as zone_error
+use Rattle.zone.proofs.OneFault.{one_fault, one_reading, zone_no_fault}
+use Rattle.zone.proofs.PrintedOnce.{one_printed}
 use Rattle.zone_core.specs.Query.{AxfrQuery, IsQuery, IsQueryFault, query_octets}
 use Rattle.zone_core.specs.Transfer.{IsTransfer}
 use Rattle.zone_core.specs.declared.query_error.QueryError.{QueryError}

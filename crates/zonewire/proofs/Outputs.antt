@@ -3,9 +3,9 @@ use Rattle.std.proofs.Common.{◌≡◌, ℕ, List, subst}
 use Rattle.std.specs.Prelude.{Option}
 use Rattle.zone_records.specs.Record.{Record}
 use Rattle.zone.specs.View.{apex_of}
-use Rattle.zone_rules.specs.ZoneText.{IsZoneFault, IsZoneText}
-use Rattle.zone_rules.specs.declared.zone_error.ZoneError.{ZoneError}
-use Rattle.zone_rules.specs.declared.zone_error.ZoneError.TheVariants.{OutOfMemory as NoMemory}
+use Rattle.zone.specs.ZoneText.{IsZoneFault, IsZoneText}
+use Rattle.zone.specs.declared.zone_error.ZoneError.{ZoneError}
+use Rattle.zone.specs.declared.zone_error.ZoneError.TheVariants.{OutOfMemory as NoMemory}
 use Rattle.zone_send.specs.SentBy.{IsSendFault}
 use Rattle.zone_send.specs.declared.sending.Spelling.{Spelling}
 use Rattle.zone_send.specs.declared.sending.error.SendError.{SendError}

@@ -18,8 +18,8 @@ use Rattle.dns_zonefile.specs.Statement.{Directs, HasOwner, IsTtl, Says, Stateme
 use Rattle.dns_zonefile.specs.Statement.Statement.{NameFile, SetOrigin, SetTtl, StateRecord}
 use Rattle.zone_records.specs.Record.{Record}
 use Rattle.zone_records.specs.Records.{AreSendable, IsSendable}
-use Rattle.zone_rules.specs.ZoneText.{IsWellTyped, IsZoneText, records_in, start_of}
-use Rattle.zone_rules.proofs.RecordClasses.{zone_text_class}
+use Rattle.zone.specs.ZoneText.{IsWellTyped, IsZoneText, records_in, start_of}
+use Rattle.zone.proofs.RecordClasses.{zone_text_class}
 use Rattle.zonewire.proofs.SpelledNumbers.{spelled_small, type_small}
 
 -- ---- what rows say

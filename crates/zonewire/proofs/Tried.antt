@@ -7,8 +7,8 @@ use Rattle.zone_records.specs.Record.{Record}
 use Rattle.dns_rdata.specs.OctetsForm.{typed}
 use Rattle.zone_canonical.specs.Canonical.{IsCanonical, IsCanonicalOf, canonical_cmp}
 use Rattle.zone_canonical.proofs.Alike.{one_canonical}
-use Rattle.zone_rules.proofs.OneFault.{one_reading}
-use Rattle.zone_rules.proofs.Tried.{address, address_is_row, address_row, soa, soa_is_row, soa_row, zone, zone_is_text}
+use Rattle.zone.proofs.OneFault.{one_reading}
+use Rattle.zone.proofs.Tried.{address, address_is_row, address_row, soa, soa_is_row, soa_row, zone, zone_is_text}
 use Rattle.zonewire.specs.Output.{IsOutput}
 use Rattle.zonewire.specs.declared.jobs.Job.TheVariants.{Canon, Check}
 

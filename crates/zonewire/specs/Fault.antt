@@ -1,6 +1,6 @@
 -- The program's fault for each error of a layer below. One fault, `OutOfMemory`, covers every allocation.
-use Rattle.zone_rules.specs.declared.zone_error.ZoneError.{ZoneError}
-use Rattle.zone_rules.specs.declared.zone_error.ZoneError.TheVariants as zone_error
+use Rattle.zone.specs.declared.zone_error.ZoneError.{ZoneError}
+use Rattle.zone.specs.declared.zone_error.ZoneError.TheVariants as zone_error
 use Rattle.zone_send.specs.declared.sending.error.SendError.{SendError}
 use Rattle.zone_send.specs.declared.sending.error.SendError.TheVariants as send_error
 use Rattle.zone_receive.specs.declared.error.ReceiveError.{ReceiveError}

@@ -6,16 +6,16 @@ use Rattle.zone_canonical.specs.Canonical.{IsCanonical}
 use Rattle.zone_records.specs.Record.{Record}
 use Rattle.zone.specs.View.{apex_of}
 use Rattle.zone_core.specs.Query.{AxfrQuery, IsQuery, query_octets}
-use Rattle.zone_rules.specs.ZoneText.{IsZoneText, IsZoneFault}
+use Rattle.zone.specs.ZoneText.{IsZoneText, IsZoneFault}
 use Rattle.zone_send.specs.Sent.{AsksFor}
 use Rattle.zone_send.specs.SentBy.{IsSentBy, IsSendFault}
 use Rattle.zone_send.specs.declared.sending.Spelling.{Spelling}
 use Rattle.zone_core.specs.Transfer.{IsTransfer}
 use Rattle.zone_receive.specs.Receiving.{IsAskFault, IsBegun, IsStreamFault}
-use Rattle.zone_rules.specs.Printed.{IsPrinted}
+use Rattle.zone.specs.Printed.{IsPrinted}
 use Rattle.zone_receive.specs.declared.error.ReceiveError.{ReceiveError}
 use Rattle.zone_receive.specs.declared.error.ReceiveError.TheVariants as receive_error
-use Rattle.zone_rules.specs.declared.zone_error.ZoneError.TheVariants as zone_error
+use Rattle.zone.specs.declared.zone_error.ZoneError.TheVariants as zone_error
 use Rattle.zone_send.specs.declared.sending.error.SendError.{SendError}
 use Rattle.zone_send.specs.declared.sending.error.SendError.TheVariants as send_error
 use Rattle.zonewire.specs.declared.jobs.Job.{Job}

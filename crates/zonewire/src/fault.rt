@@ -7,8 +7,8 @@ use crate::sink::SinkError;
 use crate::source::ReadAllError;
 use std::alloc::AllocError;
 use thiserror::Error;
+use zone::ZoneError;
 use zone_receive::ReceiveError;
-use zone_rules::ZoneError;
 use zone_send::SendError;
 
 /// Why a run failed. One variant, `OutOfMemory`, covers every allocation.

@@ -1,7 +1,7 @@
 //! A run of the program, from its input to its output.
 ghost use Rattle.std.specs.Prelude.{◌≡◌, ◌≢◌, ◌↔◌, ℕ, List, length, Option, false, IfOk, IfErr, IfSome, IsErrOf, IsTrue, OnOk};
 ghost use Rattle.zone_records.specs.Record.{Record};
-ghost use Rattle.zone_rules.specs.ZoneText.{IsZoneFault, IsZoneText};
+ghost use Rattle.zone.specs.ZoneText.{IsZoneFault, IsZoneText};
 ghost use Rattle.std.specs.Io.KnownBytes.{Appends, IsAtEnd};
 ghost use Rattle.zonewire.specs.Output.{IsOutput, IsJobFault, IsNotReceived, IsReceived, IsReceiveJobFault, IsReceiveOutput, IsSendOutput, IsSendJobFault, count_line, query_of};
 ghost use Rattle.zone_core.specs.Query.{query_octets};
@@ -15,10 +15,9 @@ use crate::source::{Source, read_all};
 use dns_name::{Class, Name};
 use dns_text::DisplayKind;
 use std::alloc::{AllocError, Global};
-use zone::Zone;
+use zone::{Zone, ZoneError};
 use zone_core::axfr_query;
 use zone_receive::{ReceiveError, Receiver};
-use zone_rules::ZoneError;
 use zone_send::{Spelling, send};
 
 /// Reads all the input, and writes the output of the job for it.

@@ -7,7 +7,7 @@ use Rattle.zone.specs.View.{apex_of}
 use Rattle.zone_canonical.specs.Canonical.{IsCanonical}
 use Rattle.zone_core.specs.Query.{query_octets}
 use Rattle.zone_records.specs.Record.{Record}
-use Rattle.zone_rules.specs.Printed.{IsPrinted}
+use Rattle.zone.specs.Printed.{IsPrinted}
 use Rattle.zone_send.specs.Best.{FitsNoMessages, IfRecord, IsSentFor}
 use Rattle.zone_send.specs.SentBy as sent
 use Rattle.zone_send.specs.declared.sending.Spelling.{Spelling}

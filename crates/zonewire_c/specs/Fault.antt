@@ -1,7 +1,7 @@
 -- The numbers by which C knows a fault: the hundreds are a table of docs/ERRORS.md, and the rest is its row.
 use Rattle.std.specs.Prelude.{ℕ}
-use Rattle.zone_rules.specs.declared.zone_error.ZoneError.{ZoneError}
-use Rattle.zone_rules.specs.declared.zone_error.ZoneError.TheVariants as zone_error
+use Rattle.zone.specs.declared.zone_error.ZoneError.{ZoneError}
+use Rattle.zone.specs.declared.zone_error.ZoneError.TheVariants as zone_error
 use Rattle.zone_core.specs.declared.query_error.QueryError.{QueryError}
 use Rattle.zone_core.specs.declared.query_error.QueryError.TheVariants as query_error
 use Rattle.zone_send.specs.declared.sending.error.SendError.{SendError}

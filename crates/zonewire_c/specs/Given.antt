@@ -5,8 +5,8 @@ use Rattle.dns_label.specs.NameText.{IsNameText}
 use Rattle.dns_text.specs.declared.layout.DisplayKind.{DisplayKind}
 use Rattle.dns_text.specs.declared.layout.DisplayKind.TheVariants.{Simple, Tabbed, Multiline}
 use Rattle.zone_records.specs.Record.{Record}
-use Rattle.zone_rules.specs.ZoneText.{IsZoneFault, IsZoneText}
-use Rattle.zone_rules.specs.declared.zone_error.ZoneError.{ZoneError}
+use Rattle.zone.specs.ZoneText.{IsZoneFault, IsZoneText}
+use Rattle.zone.specs.declared.zone_error.ZoneError.{ZoneError}
 use Rattle.zone_send.specs.declared.sending.Spelling.{Spelling}
 use Rattle.zone_send.specs.declared.sending.Spelling.TheVariants.{Plain, Static, Tree, Hash}
 use Rattle.zonewire_c.specs.declared.fault.Fault.{Fault}

@@ -3,8 +3,8 @@ use rows::{Answer, Row, RowError};
 use std::alloc::Global;
 use zonewire::{DisplayKind, ReceiveError, Receiver};
 
-/// From which end on a long stream is cut at each place.
-const NEAR: usize = 80;
+/// How many places at either end a long stream is cut at, too.
+const NEAR: usize = 4;
 
 /// What a receiver makes of a stream.
 #[derive(PartialEq, Drop)]
@@ -31,7 +31,7 @@ pub fn answer(alloc: Global, row: &mut Row<'_>, out: &mut Answer) -> Result<(), 
 /// zone's text. Between the octets in front and those at the back the piece stands `COUNT` times. The last two octets of
 /// each are a number that is greater by `STEP` than that of the one before.
 ///
-/// The stream is cut at each place near an end, and at each place between them that is a multiple of `EVERY`.
+/// The stream is cut at the first and the last places, and at each place between them that is a multiple of `EVERY`.
 pub fn answer_long(alloc: Global, row: &mut Row<'_>, out: &mut Answer) -> Result<(), RowError> {
     let query = row.octets(alloc)?;
     let every = row.value()?;

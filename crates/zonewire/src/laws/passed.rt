@@ -8,8 +8,8 @@ ghost use Rattle.dns_text.specs.declared.layout.DisplayKind.{DisplayKind};
 ghost use Rattle.zone_records.specs.Record.{Record};
 ghost use Rattle.zone_core.specs.Query.{AxfrQuery, IsQuery};
 ghost use Rattle.zone_core.specs.Transfer.{IsTransfer};
-ghost use Rattle.zone_rules.specs.Printed.{IsPrinted};
-ghost use Rattle.zone_rules.specs.ZoneText.{IsZoneText};
+ghost use Rattle.zone.specs.Printed.{IsPrinted};
+ghost use Rattle.zone.specs.ZoneText.{IsZoneText};
 ghost use Rattle.zone_send.specs.Best.{IsSentFor};
 ghost use Rattle.zone_send.specs.declared.sending.Spelling.{Spelling};
 ghost use Rattle.zone.specs.View.{apex_of};
@@ -17,7 +17,7 @@ ghost use Rattle.zonewire.specs.Output.{IsOutput};
 ghost use Rattle.zonewire.specs.Passed.{ArePassedBy, HasLawfulValues};
 ghost use Rattle.zonewire.specs.declared.jobs.Job.TheVariants as job;
 
-use zone_rules::laws::printed_text_is_the_zones;
+use zone::laws::printed_text_is_the_zones;
 
 /// What is sent for the zone of a text, under any spelling and limit, received and printed, in any layout, is a text of
 /// the records that were received, under any origin. They are the zone's records, octet for octet, if names keep their

@@ -1,7 +1,7 @@
 use Rattle.std.proofs.Common.{ap, sym, subst, ◌∙◌, Some, Ok}
 use Rattle.dns_zonefile.specs.Composed.{with_reason}
 use Rattle.dns_zonefile.specs.ReaderSeen.{reader_of}
-use Rattle.zone_rules.proofs.ReaderSteps.{HandsOver, gives_error, include_handed, number_given, number_refused, text_fault}
+use Rattle.zone.proofs.ReaderSteps.{HandsOver, gives_error, include_handed, number_given, number_refused, text_fault}
 use Rattle.zone.proofs.ReadRecords.{kept_of, record_handed}
 use Rattle.zone.proofs.read.append_next.Goals as goal
 

@@ -3,7 +3,7 @@ use Rattle.std.proofs.lemmas.Result.{IfErr-weaker, on_ok_weaker}
 use Rattle.dns_rdata.specs.Fields.{IsData}
 use Rattle.dns_message.specs.Record.{IsRecord, record_octets}
 use Rattle.zone_records.specs.Record as spec
-use Rattle.zone_rules.specs.ZoneText.{IsWellTyped}
+use Rattle.zone.specs.ZoneText.{IsWellTyped}
 use Rattle.zone.specs.Reading.{BeginWith, IsCheckFault, MayStandUnder}
 use Rattle.zone.proofs.LastRecord.{apex_found, back_is, begin_some, front_is, place_within}
 use Rattle.zone.proofs.read.check_last.Goals as goal

@@ -1,7 +1,7 @@
 use Rattle.std.proofs.Common.{◌≡◌, ◌≢◌, arith, refl, sym, subst, ◌∙◌, false, true}
 use Rattle.std.proofs.lemmas.Bool.{eqb-true}
 use Rattle.std.proofs.lemmas.Bool.Decides.{nat_tests}
-use Rattle.zone_rules.specs.declared.zone_error.ZoneError.TheVariants as zone_error
+use Rattle.zone.specs.declared.zone_error.ZoneError.TheVariants as zone_error
 use Rattle.zone.specs.Reading.{BreaksRule}
 use Rattle.zone.proofs.read.check_place.Goals as goal
 

@@ -1,7 +1,7 @@
 use Rattle.std.proofs.Common.{◌≡◌, ◌<◌, ◌^◌, length, arith, refl, rules, ◌∙◌}
 use Rattle.dns_message.specs.Held.{record_of}
 use Rattle.dns_entry_scanner.proofs.HandedOn.{handed_on}
-use Rattle.zone_rules.proofs.ReaderSteps.{number_given}
+use Rattle.zone.proofs.ReaderSteps.{number_given}
 use Rattle.zone.specs.Reading.{apex_in}
 use Rattle.zone.proofs.ReadRecords.{breaks, data_met, few_met, follows, front_read, more_read, record_is, record_met, shorter_read, stands_last}
 use Rattle.zone.proofs.read.read_next.Goals as goal

@@ -1,7 +1,7 @@
 use Rattle.std.proofs.Common.{option_copied, refl, sym, subst}
 use Rattle.zone_records.specs.Records.{AreRecordsOf}
 use Rattle.zone_records.proofs.StoredRecords.{stored_none}
-use Rattle.zone_rules.specs.ZoneText.{IsZoneText}
+use Rattle.zone.specs.ZoneText.{IsZoneText}
 use Rattle.zone.proofs.ReadRecords.{records_known}
 use Rattle.zone.proofs.read.read_records.Goals as goal
 

@@ -9,10 +9,9 @@ use Rattle.zone_canonical.proofs.entry.Entry.new.Goals as goal
 
 pub invariant_of-result : goal.invariant_of-result
 invariant_of-result c =
-    let found = record_in_whole c.as_octets.result.now c.args.source.now c.as_octets.ensures.known c.as_octets.ensures.octets in
-    (
+    let found = record_in_whole c.as_octets.result.now c.args.source.now c.as_octets.ensures.known c.as_octets.ensures.octets in (
       stored_of c.as_octets.result.now _ c.args.source.now c.as_octets.ensures.known c.as_octets.ensures.octets
-      (ap (λ (r : Record). length (wire r.owner)) found),
+          (ap (λ (r : Record). length (wire r.owner)) found),
       subst HasCanonicalForm (sym found) c.requires,
     )
 

@@ -1,5 +1,0 @@
-use Rattle.zone_rules.proofs.PrintedZones.{zone_text_made}
-use Rattle.zone_rules.proofs.laws.printed.printed_text_is_the_zones.Goals as goal
-
-pub returns : goal.returns
-returns c = zone_text_made c.texts_read_back.ensures.quoted c.texts_read_back.ensures.unquoted

@@ -1,5 +1,0 @@
-use Rattle.zone_rules.proofs.OneFault.{any_fault}
-use Rattle.zone_rules.proofs.laws.text.class_any_has_one_fault.Goals as goal
-
-pub returns : goal.returns
-returns c = any_fault

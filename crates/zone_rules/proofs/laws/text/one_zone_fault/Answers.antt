@@ -1,5 +1,0 @@
-use Rattle.zone_rules.proofs.OneFault.{one_fault}
-use Rattle.zone_rules.proofs.laws.text.one_zone_fault.Goals as goal
-
-pub returns : goal.returns
-returns c = one_fault

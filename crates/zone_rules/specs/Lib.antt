@@ -1,3 +1,0 @@
-pub mod ZoneText
-pub mod Printed
-pub mod Unknown
