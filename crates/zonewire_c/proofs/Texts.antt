@@ -1,5 +1,5 @@
 -- Looking a fault up among the rows of its texts.
-use Rattle.std.proofs.Common.{Option, Bool, ◌≡◌, ◌<◌, ℕ, false, List, length, Some, None, arith, refl, drop, ◌+◌, ◌≤◌, get_or, drop-cons, add-one, ◌==◌}
+use Rattle.std.proofs.Common.{Option, ◌≡◌, ◌<◌, ℕ, false, List, length, Some, None, arith, refl, drop, ◌+◌, ◌≤◌, get_or, drop-cons, add-one, ◌==◌}
 use Rattle.std.specs.Borrow.{Bor}
 use Rattle.std.proofs.lemmas.List.{drop_all}
 use Rattle.std.proofs.lemmas.Bool.Decides.{nat_tests, Decides-eqb}
