@@ -28,8 +28,8 @@ pub fn answer(alloc: Global, row: &mut Row<'_>, out: &mut Answer) -> Result<(), 
 }
 
 /// Answers `Receiver::long QUERY EVERY FRONT PIECE STEP COUNT BACK` in the same way, with the number of octets of the
-/// zone's text. Between the octets in front and those at the back the piece stands `COUNT` times. The last two octets of
-/// each are a number that is greater by `STEP` than that of the one before.
+/// zone's text. The stream is FRONT, then the piece `COUNT` times, then BACK. The last two octets of each piece are a number
+/// that is greater by `STEP` than that of the one before.
 ///
 /// The stream is cut at the first and the last places, and at each place between them that is a multiple of `EVERY`.
 pub fn answer_long(alloc: Global, row: &mut Row<'_>, out: &mut Answer) -> Result<(), RowError> {
@@ -49,8 +49,8 @@ pub fn answer_long(alloc: Global, row: &mut Row<'_>, out: &mut Answer) -> Result
     show(&heard, true, out)
 }
 
-/// Answers `Receiver::fed QUERY FRONT PIECE COUNT BACK` as `Receiver` does. The receiver is fed the octets in front, the
-/// piece as many times, and the octets at the back.
+/// Answers `Receiver::fed QUERY FRONT PIECE COUNT BACK` as `Receiver` does. The receiver is fed FRONT, the piece
+/// `COUNT` times, and BACK.
 pub fn answer_fed(alloc: Global, row: &mut Row<'_>, out: &mut Answer) -> Result<(), RowError> {
     let query = row.octets(alloc)?;
     let front = row.octets(alloc)?;

@@ -127,7 +127,8 @@ fn check_read(given: &Given, call: usize) -> Result<(), RowError> {
     }
 }
 
-/// Fails unless the run with no write left after so many has that fault, and writes so many octets of the output.
+/// Fails unless the run whose writes fail after `left` octets has that fault, and writes the first `left` octets of the
+/// output.
 fn check_write(
     given: &Given,
     output: &[u8],
