@@ -4,6 +4,9 @@ use Rattle.zone_canonical.specs.Keyed.{keyed, with_key}
 use Rattle.zone_canonical.specs.OwnerKey.{key_of}
 use Rattle.zone_canonical.proofs.octets.entry_at.Goals as goal
 
+pub new-requires : goal.new-requires
+new-requires c = c.requires.has c.record_at-record.result c.record_at-record.ensures
+
 pub returns : goal.returns
 returns c = λ r found.
     let both : Some c.record_at-record.result ≡ Some r = sym c.record_at-record.ensures ∙ found in
