@@ -4,11 +4,6 @@
 //! This crate re-exports what the crates below it are for: `zone` (zones and their text), `zone_core` (queries),
 //! `zone_send` and `zone_receive` (the stream of a transfer), and the types that their signatures name. So a program
 //! that reads, sends or receives zones needs no other crate.
-//!
-//! Programs of a page each show how it is used: `example_round_trip` reads the text of a zone, sends the zone, receives
-//! it and prints it; `example_receive` makes a query and takes the answers in pieces; `example_compare` compares two
-//! zones. Three more show the crates below: `example_entries` (`dns_zonefile`), `example_message` (`dns_message`) and
-//! `example_rdata` (`dns_rdata`, `dns_text`, `dns_name`).
 #![tactic(auto)]
 
 mod command_line;
