@@ -2,7 +2,6 @@ pub mod Writing
 pub mod Lengths
 pub mod NameOctets
 pub mod Prefixes
-pub mod OctetsForms
 pub mod Leaves
 pub mod FieldKinds
 pub mod ReadParts

@@ -8,26 +8,17 @@ mod compose;
 mod convert;
 mod field;
 pub mod laws;
-mod octets_form;
 mod octets_ord;
 mod read;
 mod row;
 mod scan;
 mod show;
-mod table;
-mod typed;
 
 pub use compose::{compose_canonical_row, compose_row, row_len};
 pub use convert::{ConvertField, ConvertRow, OverOctets};
 pub use field::{Compressible, FieldValue, HasField, Tag, Uncompressed};
-pub use octets_form::{FieldOctetsForm, RowOctetsForm, canonical_rows_cmp, make_canonical_row};
 pub use octets_ord::{CanonicalOctetsOrd, FieldOctetsOrd, RowOctetsOrd, canonical_row_cmp_octets};
 pub use read::{ReadError, ReadField, ReadRow, parse_row, read_row};
 pub use row::{HasFields, Last, LastValue, Rest16, Rest64, RestText, Row, Strings, StringsIter};
 pub use scan::{ScanField, ScanRow, scan_row, scan_row_of};
 pub use show::{ShowField, ShowLast, ShowRow, show_row};
-pub use table::{
-    ARow, AaaaRow, CaaRow, DataType, DnameRow, DnskeyRow, DsRow, HinfoRow, MinfoRow, MxRow,
-    NameRow, Number, RowOf, RpRow, SoaRow, SrvRow, SshfpRow, TxtRow,
-};
-pub use typed::{FlattenData, ParseData, ScanData, TypedData};

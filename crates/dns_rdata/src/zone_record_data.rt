@@ -7,8 +7,8 @@ use crate::{
     A, Aaaa, Caa, Cname, Dname, Dnskey, Ds, Hinfo, Mb, Md, Mf, Mg, Minfo, Mr, Mx, Ns, Ptr, Rp, Soa,
     Srv, Sshfp, Txt,
 };
-use dns_fields::{DataType, TypedData};
 use dns_name::{Octets, RecordData, Rtype, ToName, UnknownRecordData};
+use dns_rr_data::{DataType, TypedData};
 
 /// Makes data of any type of the data of one type, or hands on why there is none.
 macro_rules! held {

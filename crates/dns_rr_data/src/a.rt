@@ -1,10 +1,10 @@
 //! Data of type A (RFC 1035 3.4.1).
 ghost use Rattle.std.specs.Prelude.{◌≡◌, [], ◌∷◌, Some};
+ghost use Rattle.std.proofs.Common.{refl};
 ghost use Rattle.std.specs.Net.Addr.{ipv4_octets};
 ghost use Rattle.dns_fields.specs.Fields.{ipv4, field_at};
 
-use crate::RowData;
-use dns_fields::{ARow, FlattenData, Number, ParseData, ScanData, TypedData};
+use crate::{FlattenData, Number, ParseData, RowData, RowOf, ScanData, TypedData};
 use dns_name::{AppendError, EmptyBuilder, FromBuilder, ParseError, Parser};
 use dns_text::Scanner;
 use std::alloc::Global;
@@ -13,6 +13,13 @@ use std::net::Ipv4Addr;
 
 /// An address of version 4 of the Internet protocol.
 pub type A = RowData<Number<1>, ARow>;
+
+/// The field of A data: an address (RFC 1035 3.4.1).
+pub type ARow = (Ipv4Addr, ());
+
+impl RowOf<Number<1>> for ARow {
+    ghost of_type = { refl };
+}
 
 impl RowData<Number<1>, ARow> {
     /// Returns the data of an address.

@@ -1,10 +1,10 @@
 //! Data of type AAAA (RFC 3596 2.1).
 ghost use Rattle.std.specs.Prelude.{◌≡◌, [], ◌∷◌, Some};
+ghost use Rattle.std.proofs.Common.{refl};
 ghost use Rattle.std.specs.Net.Addr.{ipv6_octets};
 ghost use Rattle.dns_fields.specs.Fields.{ipv6, field_at};
 
-use crate::RowData;
-use dns_fields::{AaaaRow, FlattenData, Number, ParseData, ScanData, TypedData};
+use crate::{FlattenData, Number, ParseData, RowData, RowOf, ScanData, TypedData};
 use dns_name::{AppendError, EmptyBuilder, FromBuilder, ParseError, Parser};
 use dns_text::Scanner;
 use std::alloc::Global;
@@ -13,6 +13,13 @@ use std::net::Ipv6Addr;
 
 /// An address of version 6 of the Internet protocol.
 pub type Aaaa = RowData<Number<28>, AaaaRow>;
+
+/// The field of AAAA data: an address (RFC 3596 2.2).
+pub type AaaaRow = (Ipv6Addr, ());
+
+impl RowOf<Number<28>> for AaaaRow {
+    ghost of_type = { refl };
+}
 
 impl RowData<Number<28>, AaaaRow> {
     /// Returns the data of an address.

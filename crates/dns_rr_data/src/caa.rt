@@ -1,12 +1,11 @@
 //! Data of type CAA (RFC 8659 4.1).
 ghost use Rattle.std.specs.Prelude.{◌≡◌, ◌≤◌, ◌↔◌, length, [], ◌∷◌, Some, IsOk, IfOk};
+ghost use Rattle.std.proofs.Common.{refl};
 ghost use Rattle.dns_fields.specs.Fields as fields;
 ghost use Rattle.dns_fields.specs.Fields.{number8, rest_text, octets, field_at};
 
-use crate::RowData;
-use dns_fields::{
-    CaaRow, FlattenData, HasFields, Last, Number, ParseData, RestText, ScanData, Tag, TypedData,
-};
+use crate::{FlattenData, Number, ParseData, RowData, RowOf, ScanData, TypedData};
+use dns_fields::{HasFields, Last, RestText, Tag};
 use dns_name::{
     AppendError, EmptyBuilder, FlattenInto, FromBuilder, LongRecordData, Octets, ParseError, Parser,
 };
@@ -16,6 +15,13 @@ use std::marker::PhantomData;
 
 /// Who may issue certificates for the owner, as a property of it: a tag and a value.
 pub type Caa<Octs> = RowData<Number<257>, CaaRow<Octs>>;
+
+/// The fields of CAA data: flags, a tag and a value (RFC 8659 4.1).
+pub type CaaRow<Octs> = (u8, (Tag<Octs>, Last<RestText<Octs>>));
+
+impl<Octs: Octets> RowOf<Number<257>> for CaaRow<Octs> {
+    ghost of_type = { refl };
+}
 
 impl<Octs: Octets> RowData<Number<257>, CaaRow<Octs>> {
     /// Returns the data of a property, with its flags.

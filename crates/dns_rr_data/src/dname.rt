@@ -1,9 +1,10 @@
 //! Data of type DNAME (RFC 6672).
 ghost use Rattle.std.specs.Prelude.{◌≡◌, [], ◌∷◌, Some};
+ghost use Rattle.std.proofs.Common.{refl};
 ghost use Rattle.dns_fields.specs.Fields.{uncompressed, field_at};
 
-use crate::RowData;
-use dns_fields::{DnameRow, FlattenData, Number, ParseData, ScanData, TypedData, Uncompressed};
+use crate::{FlattenData, Number, ParseData, RowData, RowOf, ScanData, TypedData};
+use dns_fields::Uncompressed;
 use dns_name::{
     AppendError, EmptyBuilder, FlattenInto, FromBuilder, Name, ParseError, ParsedName, Parser,
     ToName,
@@ -14,6 +15,13 @@ use std::marker::PhantomData;
 
 /// The name that the owner is replaced by in all names under the owner. It is never compressed (RFC 6672 2.5).
 pub type Dname<N> = RowData<Number<39>, DnameRow<N>>;
+
+/// The field of DNAME data: a name (RFC 6672 2.1).
+pub type DnameRow<N> = (Uncompressed<N>, ());
+
+impl<N: ToName> RowOf<Number<39>> for DnameRow<N> {
+    ghost of_type = { refl };
+}
 
 impl<N: ToName> RowData<Number<39>, DnameRow<N>> {
     /// Returns the data of this name.

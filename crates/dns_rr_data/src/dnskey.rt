@@ -1,11 +1,10 @@
 //! Data of type DNSKEY (RFC 4034 2).
 ghost use Rattle.std.specs.Prelude.{◌≡◌, ◌≤◌, ◌↔◌, length, [], ◌∷◌, Some, IsOk, IfOk};
+ghost use Rattle.std.proofs.Common.{refl};
 ghost use Rattle.dns_fields.specs.Fields.{number8, number16, rest64, octets, field_at};
 
-use crate::RowData;
-use dns_fields::{
-    DnskeyRow, FlattenData, HasFields, Last, Number, ParseData, Rest64, ScanData, TypedData,
-};
+use crate::{FlattenData, Number, ParseData, RowData, RowOf, ScanData, TypedData};
+use dns_fields::{HasFields, Last, Rest64};
 use dns_name::{
     AppendError, EmptyBuilder, FlattenInto, FromBuilder, LongRecordData, Octets, ParseError, Parser,
 };
@@ -15,6 +14,13 @@ use std::marker::PhantomData;
 
 /// A public key by which signatures of the zone are checked.
 pub type Dnskey<Octs> = RowData<Number<48>, DnskeyRow<Octs>>;
+
+/// The fields of DNSKEY data: flags, a protocol, an algorithm and a key (RFC 4034 2.1).
+pub type DnskeyRow<Octs> = (u16, (u8, (u8, Last<Rest64<Octs>>)));
+
+impl<Octs: Octets> RowOf<Number<48>> for DnskeyRow<Octs> {
+    ghost of_type = { refl };
+}
 
 impl<Octs: Octets> RowData<Number<48>, DnskeyRow<Octs>> {
     /// Returns the data of a key and what it is for.

@@ -1,11 +1,10 @@
 //! Data of type DS (RFC 4034 5.1).
 ghost use Rattle.std.specs.Prelude.{◌≡◌, ◌≤◌, ◌↔◌, length, [], ◌∷◌, Some, IsOk, IfOk};
+ghost use Rattle.std.proofs.Common.{refl};
 ghost use Rattle.dns_fields.specs.Fields.{number8, number16, rest16, octets, field_at};
 
-use crate::RowData;
-use dns_fields::{
-    DsRow, FlattenData, HasFields, Last, Number, ParseData, Rest16, ScanData, TypedData,
-};
+use crate::{FlattenData, Number, ParseData, RowData, RowOf, ScanData, TypedData};
+use dns_fields::{HasFields, Last, Rest16};
 use dns_name::{
     AppendError, EmptyBuilder, FlattenInto, FromBuilder, LongRecordData, Octets, ParseError, Parser,
 };
@@ -15,6 +14,13 @@ use std::marker::PhantomData;
 
 /// A key that signs the keys of the owner, by a digest of it.
 pub type Ds<Octs> = RowData<Number<43>, DsRow<Octs>>;
+
+/// The fields of DS data: a tag, two algorithms and a digest (RFC 4034 5.1).
+pub type DsRow<Octs> = (u16, (u8, (u8, Last<Rest16<Octs>>)));
+
+impl<Octs: Octets> RowOf<Number<43>> for DsRow<Octs> {
+    ghost of_type = { refl };
+}
 
 impl<Octs: Octets> RowData<Number<43>, DsRow<Octs>> {
     /// Returns the data of the digest of a key, with the numbers of the key and of the digest.

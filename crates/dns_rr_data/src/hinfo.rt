@@ -1,9 +1,9 @@
 //! Data of type HINFO (RFC 1035 3.3.2).
 ghost use Rattle.std.specs.Prelude.{◌≡◌, [], ◌∷◌, Some};
+ghost use Rattle.std.proofs.Common.{refl};
 ghost use Rattle.dns_fields.specs.Fields.{string, field_at};
 
-use crate::RowData;
-use dns_fields::{FlattenData, HinfoRow, Number, ParseData, ScanData, TypedData};
+use crate::{FlattenData, Number, ParseData, RowData, RowOf, ScanData, TypedData};
 use dns_name::{AppendError, EmptyBuilder, FlattenInto, FromBuilder, Octets, ParseError, Parser};
 use dns_text::{CharStr, Scanner};
 use std::alloc::Global;
@@ -11,6 +11,13 @@ use std::marker::PhantomData;
 
 /// What kind of host the owner is.
 pub type Hinfo<Octs> = RowData<Number<13>, HinfoRow<Octs>>;
+
+/// The fields of HINFO data: a processor and an operating system (RFC 1035 3.3.2).
+pub type HinfoRow<Octs> = (CharStr<Octs>, (CharStr<Octs>, ()));
+
+impl<Octs: Octets> RowOf<Number<13>> for HinfoRow<Octs> {
+    ghost of_type = { refl };
+}
 
 impl<Octs: Octets> RowData<Number<13>, HinfoRow<Octs>> {
     /// Returns the data of the kinds of a processor and an operating system.

@@ -1,13 +1,17 @@
 //! Data of type MB (RFC 1035 3.3.3).
 ghost use Rattle.std.specs.Prelude.{◌≡◌, [], ◌∷◌, Some};
+ghost use Rattle.std.proofs.Common.{refl};
 ghost use Rattle.dns_fields.specs.Fields.{compressible, field_at};
 
-use crate::RowData;
-use dns_fields::{NameRow, Number};
+use crate::{NameRow, Number, RowData, RowOf};
 use dns_name::ToName;
 
 /// A host that has the mailbox of the owner.
 pub type Mb<N> = RowData<Number<7>, NameRow<N>>;
+
+impl<N: ToName> RowOf<Number<7>> for NameRow<N> {
+    ghost of_type = { refl };
+}
 
 impl<N: ToName> RowData<Number<7>, NameRow<N>> {
     /// Returns the name of the host.

@@ -1,13 +1,17 @@
 //! Data of type MF (RFC 1035 3.3.5).
 ghost use Rattle.std.specs.Prelude.{◌≡◌, [], ◌∷◌, Some};
+ghost use Rattle.std.proofs.Common.{refl};
 ghost use Rattle.dns_fields.specs.Fields.{compressible, field_at};
 
-use crate::RowData;
-use dns_fields::{NameRow, Number};
+use crate::{NameRow, Number, RowData, RowOf};
 use dns_name::ToName;
 
 /// A host that hands mail for the owner on; MX data has taken its place.
 pub type Mf<N> = RowData<Number<4>, NameRow<N>>;
+
+impl<N: ToName> RowOf<Number<4>> for NameRow<N> {
+    ghost of_type = { refl };
+}
 
 impl<N: ToName> RowData<Number<4>, NameRow<N>> {
     /// Returns the name of the host.

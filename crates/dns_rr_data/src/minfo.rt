@@ -1,9 +1,10 @@
 //! Data of type MINFO (RFC 1035 3.3.7).
 ghost use Rattle.std.specs.Prelude.{◌≡◌, [], ◌∷◌, Some};
+ghost use Rattle.std.proofs.Common.{refl};
 ghost use Rattle.dns_fields.specs.Fields.{compressible, field_at};
 
-use crate::RowData;
-use dns_fields::{Compressible, FlattenData, MinfoRow, Number, ParseData, ScanData, TypedData};
+use crate::{FlattenData, Number, ParseData, RowData, RowOf, ScanData, TypedData};
+use dns_fields::Compressible;
 use dns_name::{
     AppendError, EmptyBuilder, FlattenInto, FromBuilder, Name, ParseError, ParsedName, Parser,
     ToName,
@@ -14,6 +15,13 @@ use std::marker::PhantomData;
 
 /// Who is responsible for a mailing list or a mailbox.
 pub type Minfo<N> = RowData<Number<14>, MinfoRow<N>>;
+
+/// The fields of MINFO data: two mailboxes (RFC 1035 3.3.7).
+pub type MinfoRow<N> = (Compressible<N>, (Compressible<N>, ()));
+
+impl<N: ToName> RowOf<Number<14>> for MinfoRow<N> {
+    ghost of_type = { refl };
+}
 
 impl<N: ToName> RowData<Number<14>, MinfoRow<N>> {
     /// Returns the data of two mailboxes, each written as a name.

@@ -1,13 +1,17 @@
 //! Data of type MR (RFC 1035 3.3.8).
 ghost use Rattle.std.specs.Prelude.{◌≡◌, [], ◌∷◌, Some};
+ghost use Rattle.std.proofs.Common.{refl};
 ghost use Rattle.dns_fields.specs.Fields.{compressible, field_at};
 
-use crate::RowData;
-use dns_fields::{NameRow, Number};
+use crate::{NameRow, Number, RowData, RowOf};
 use dns_name::ToName;
 
 /// The mailbox that has taken the place of the owner.
 pub type Mr<N> = RowData<Number<9>, NameRow<N>>;
+
+impl<N: ToName> RowOf<Number<9>> for NameRow<N> {
+    ghost of_type = { refl };
+}
 
 impl<N: ToName> RowData<Number<9>, NameRow<N>> {
     /// Returns the mailbox, written as a name.

@@ -1,9 +1,10 @@
 //! Data of type MX (RFC 1035 3.3.9).
 ghost use Rattle.std.specs.Prelude.{◌≡◌, [], ◌∷◌, Some};
+ghost use Rattle.std.proofs.Common.{refl};
 ghost use Rattle.dns_fields.specs.Fields.{number16, compressible, field_at};
 
-use crate::RowData;
-use dns_fields::{Compressible, FlattenData, MxRow, Number, ParseData, ScanData, TypedData};
+use crate::{FlattenData, Number, ParseData, RowData, RowOf, ScanData, TypedData};
+use dns_fields::Compressible;
 use dns_name::{
     AppendError, EmptyBuilder, FlattenInto, FromBuilder, Name, ParseError, ParsedName, Parser,
     ToName,
@@ -14,6 +15,13 @@ use std::marker::PhantomData;
 
 /// A host that takes mail for the owner, and how it is preferred: the one with the lowest number comes first.
 pub type Mx<N> = RowData<Number<15>, MxRow<N>>;
+
+/// The fields of MX data: a preference and a host (RFC 1035 3.3.9).
+pub type MxRow<N> = (u16, (Compressible<N>, ()));
+
+impl<N: ToName> RowOf<Number<15>> for MxRow<N> {
+    ghost of_type = { refl };
+}
 
 impl<N: ToName> RowData<Number<15>, MxRow<N>> {
     /// Returns the data of a host and how it is preferred.

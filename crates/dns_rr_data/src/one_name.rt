@@ -2,10 +2,8 @@
 ghost use Rattle.std.specs.Prelude.{◌≡◌, [], ◌∷◌};
 ghost use Rattle.dns_fields.specs.Fields.{compressible};
 
-use crate::RowData;
-use dns_fields::{
-    Compressible, DataType, FlattenData, NameRow, ParseData, RowOf, ScanData, TypedData,
-};
+use crate::{DataType, FlattenData, ParseData, RowData, RowOf, ScanData, TypedData};
+use dns_fields::Compressible;
 use dns_name::{
     AppendError, EmptyBuilder, FlattenInto, FromBuilder, Name, ParseError, ParsedName, Parser,
     ToName,
@@ -13,6 +11,9 @@ use dns_name::{
 use dns_text::Scanner;
 use std::alloc::Global;
 use std::marker::PhantomData;
+
+/// The field of data that is one name of RFC 1035: NS, MD, MF, CNAME, MB, MG, MR and PTR.
+pub type NameRow<N> = (Compressible<N>, ());
 
 impl<T, N: ToName> RowData<T, NameRow<N>> {
     /// Returns the data of this name.

@@ -1,13 +1,17 @@
 //! Data of type PTR (RFC 1035 3.3.12).
 ghost use Rattle.std.specs.Prelude.{◌≡◌, [], ◌∷◌, Some};
+ghost use Rattle.std.proofs.Common.{refl};
 ghost use Rattle.dns_fields.specs.Fields.{compressible, field_at};
 
-use crate::RowData;
-use dns_fields::{NameRow, Number};
+use crate::{NameRow, Number, RowData, RowOf};
 use dns_name::ToName;
 
 /// A name that the owner points to.
 pub type Ptr<N> = RowData<Number<12>, NameRow<N>>;
+
+impl<N: ToName> RowOf<Number<12>> for NameRow<N> {
+    ghost of_type = { refl };
+}
 
 impl<N: ToName> RowData<Number<12>, NameRow<N>> {
     /// Returns the name that the owner points to.

@@ -19,10 +19,11 @@ ghost use Rattle.dns_text.specs.Document.{document_text};
 ghost use Rattle.dns_text.specs.Document.Layout.{Simple};
 ghost use Rattle.dns_text.specs.Documents.{block_of};
 
+use crate::{DataType, RowOf};
 use dns_fields::{
-    CanonicalOctetsOrd, ConvertRow, DataType, HasFields, OverOctets, ReadRow, Row, RowOctetsOrd,
-    RowOf, ScanRow, ShowRow, canonical_row_cmp_octets, compose_canonical_row, compose_row,
-    read_row, row_len, scan_row_of, show_row,
+    CanonicalOctetsOrd, ConvertRow, HasFields, OverOctets, ReadRow, Row, RowOctetsOrd, ScanRow,
+    ShowRow, canonical_row_cmp_octets, compose_canonical_row, compose_row, read_row, row_len,
+    scan_row_of, show_row,
 };
 use dns_name::{
     AppendError, CanonicalOrd, ComposeRecordData, Composer, EmptyBuilder, FlattenInto, FromBuilder,

@@ -1,9 +1,10 @@
 //! Data of type RP (RFC 1183 2.2).
 ghost use Rattle.std.specs.Prelude.{◌≡◌, [], ◌∷◌, Some};
+ghost use Rattle.std.proofs.Common.{refl};
 ghost use Rattle.dns_fields.specs.Fields.{uncompressed, field_at};
 
-use crate::RowData;
-use dns_fields::{FlattenData, Number, ParseData, RpRow, ScanData, TypedData, Uncompressed};
+use crate::{FlattenData, Number, ParseData, RowData, RowOf, ScanData, TypedData};
+use dns_fields::Uncompressed;
 use dns_name::{
     AppendError, EmptyBuilder, FlattenInto, FromBuilder, Name, ParseError, ParsedName, Parser,
     ToName,
@@ -14,6 +15,13 @@ use std::marker::PhantomData;
 
 /// Who is responsible for the owner.
 pub type Rp<N> = RowData<Number<17>, RpRow<N>>;
+
+/// The fields of RP data: a mailbox and a name with text (RFC 1183 2.2).
+pub type RpRow<N> = (Uncompressed<N>, (Uncompressed<N>, ()));
+
+impl<N: ToName> RowOf<Number<17>> for RpRow<N> {
+    ghost of_type = { refl };
+}
 
 impl<N: ToName> RowData<Number<17>, RpRow<N>> {
     /// Returns the data of a mailbox, and of the name that has TXT data.

@@ -1,9 +1,10 @@
 //! Data of type SOA (RFC 1035 3.3.13).
 ghost use Rattle.std.specs.Prelude.{◌≡◌, [], ◌∷◌, Some};
+ghost use Rattle.std.proofs.Common.{refl};
 ghost use Rattle.dns_fields.specs.Fields.{compressible, number32, field_at};
 
-use crate::RowData;
-use dns_fields::{Compressible, FlattenData, Number, ParseData, ScanData, SoaRow, TypedData};
+use crate::{FlattenData, Number, ParseData, RowData, RowOf, ScanData, TypedData};
+use dns_fields::Compressible;
 use dns_name::{
     AppendError, EmptyBuilder, FlattenInto, FromBuilder, Name, ParseError, ParsedName, Parser,
     Serial, ToName, Ttl,
@@ -14,6 +15,16 @@ use std::marker::PhantomData;
 
 /// The start of a zone: where it comes from, and how copies of it are kept.
 pub type Soa<N> = RowData<Number<6>, SoaRow<N>>;
+
+/// The fields of SOA data: two names and five numbers (RFC 1035 3.3.13).
+pub type SoaRow<N> = (
+    Compressible<N>,
+    (Compressible<N>, (u32, (u32, (u32, (u32, (u32, ())))))),
+);
+
+impl<N: ToName> RowOf<Number<6>> for SoaRow<N> {
+    ghost of_type = { refl };
+}
 
 impl<N: ToName> RowData<Number<6>, SoaRow<N>> {
     /// Returns the data of two names, the number of the version and four times.

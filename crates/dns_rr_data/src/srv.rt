@@ -1,9 +1,10 @@
 //! Data of type SRV (RFC 2782).
 ghost use Rattle.std.specs.Prelude.{◌≡◌, [], ◌∷◌, Some};
+ghost use Rattle.std.proofs.Common.{refl};
 ghost use Rattle.dns_fields.specs.Fields.{number16, uncompressed, field_at};
 
-use crate::RowData;
-use dns_fields::{FlattenData, Number, ParseData, ScanData, SrvRow, TypedData, Uncompressed};
+use crate::{FlattenData, Number, ParseData, RowData, RowOf, ScanData, TypedData};
+use dns_fields::Uncompressed;
 use dns_name::{
     AppendError, EmptyBuilder, FlattenInto, FromBuilder, Name, ParseError, ParsedName, Parser,
     ToName,
@@ -14,6 +15,13 @@ use std::marker::PhantomData;
 
 /// A host that offers a service.
 pub type Srv<N> = RowData<Number<33>, SrvRow<N>>;
+
+/// The fields of SRV data: a priority, a weight, a port and a host (RFC 2782).
+pub type SrvRow<N> = (u16, (u16, (u16, (Uncompressed<N>, ()))));
+
+impl<N: ToName> RowOf<Number<33>> for SrvRow<N> {
+    ghost of_type = { refl };
+}
 
 impl<N: ToName> RowData<Number<33>, SrvRow<N>> {
     /// Returns the data of a host and its port, and how they are preferred.

@@ -1,11 +1,10 @@
 //! Data of type SSHFP (RFC 4255).
 ghost use Rattle.std.specs.Prelude.{◌≡◌, ◌≤◌, ◌↔◌, length, [], ◌∷◌, Some, IsOk, IfOk};
+ghost use Rattle.std.proofs.Common.{refl};
 ghost use Rattle.dns_fields.specs.Fields.{number8, rest16, octets, field_at};
 
-use crate::RowData;
-use dns_fields::{
-    FlattenData, HasFields, Last, Number, ParseData, Rest16, ScanData, SshfpRow, TypedData,
-};
+use crate::{FlattenData, Number, ParseData, RowData, RowOf, ScanData, TypedData};
+use dns_fields::{HasFields, Last, Rest16};
 use dns_name::{
     AppendError, EmptyBuilder, FlattenInto, FromBuilder, LongRecordData, Octets, ParseError, Parser,
 };
@@ -15,6 +14,13 @@ use std::marker::PhantomData;
 
 /// A key of the owner's SSH server, by its fingerprint.
 pub type Sshfp<Octs> = RowData<Number<44>, SshfpRow<Octs>>;
+
+/// The fields of SSHFP data: two algorithms and a fingerprint (RFC 4255 3.1).
+pub type SshfpRow<Octs> = (u8, (u8, Last<Rest16<Octs>>));
+
+impl<Octs: Octets> RowOf<Number<44>> for SshfpRow<Octs> {
+    ghost of_type = { refl };
+}
 
 impl<Octs: Octets> RowData<Number<44>, SshfpRow<Octs>> {
     /// Returns the data of the fingerprint of a key, with the numbers of the key's algorithm and of the fingerprint's.

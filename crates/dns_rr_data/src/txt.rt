@@ -1,5 +1,6 @@
 //! Data of type TXT (RFC 1035 3.3.14).
 ghost use Rattle.std.specs.Prelude.{◌≡◌, ◌≤◌, ◌<◌, ◌↔◌, length, List, ℕ, [], ◌∷◌, Err, IsOk, IfOk, IfSome, IfNone};
+ghost use Rattle.std.proofs.Common.{refl};
 ghost use Rattle.std.specs.List.{concat};
 ghost use Rattle.dns_fields.specs.Fields as fields;
 ghost use Rattle.dns_fields.specs.Fields.{strings};
@@ -14,11 +15,11 @@ mod builder;
 mod cut;
 mod iter;
 
-use crate::RowData;
+use crate::{FlattenData, Number, ParseData, RowData, RowOf, ScanData, TypedData};
 pub use append_error::TxtAppendError;
 pub use builder::TxtBuilder;
 use cut::{append_joined, append_strings, fill, is_long};
-use dns_fields::{FlattenData, Last, Number, ParseData, ScanData, Strings, TxtRow, TypedData};
+use dns_fields::{Last, Strings};
 use dns_name::{AppendError, EmptyBuilder, FlattenInto, FromBuilder, Octets, ParseError, Parser};
 use dns_text::Scanner;
 pub use iter::{TxtCharStrIter, TxtIter};
@@ -33,6 +34,13 @@ pub struct TxtError;
 
 /// One or more strings for anyone to read.
 pub type Txt<Octs> = RowData<Number<16>, TxtRow<Octs>>;
+
+/// The field of TXT data: its strings (RFC 1035 3.3.14).
+pub type TxtRow<Octs> = Last<Strings<Octs>>;
+
+impl<Octs: Octets> RowOf<Number<16>> for TxtRow<Octs> {
+    ghost of_type = { refl };
+}
 
 impl<Octs: Octets> RowData<Number<16>, TxtRow<Octs>> {
     /// Returns the data of these octets. Fails if they are not one or more strings, or are more than 65,535.

@@ -8,7 +8,7 @@ use Rattle.std.proofs.Math.Seq.{take-append_seam, drop-append_seam}
 use Rattle.dns_rdata.specs.Fields as fields
 use Rattle.dns_rdata.specs.Fields.{Kind, Field, kind_of, kinds_in, kinds_of, table, IsField, IsRow, IsData, field_octets, octets, lowered, canonical_octets}
 use Rattle.dns_rdata.specs.OctetsForm.{IsCanonicalData, typed, unknown, form_of_kind, is_last, len_in}
-use Rattle.dns_fields.proofs.OctetsForms.{field_long, last_long, lowered_form}
+use Rattle.dns_canonical_form.proofs.OctetsForms.{field_long, last_long, lowered_form}
 use Rattle.zone_canonical.specs.DataForm.{data_form, fields_form, form_by}
 
 -- whether no field of these kinds but the last has all octets that are left

@@ -8,8 +8,9 @@ ghost use Rattle.dns_rdata.specs.ZoneData.{data_of};
 use super::ZoneRecordData;
 use super::visit::{Visit, VisitBoth};
 use crate::rows::{Row, canonical_row_cmp_octets};
-use dns_fields::{CanonicalOctetsOrd, TypedData};
+use dns_fields::CanonicalOctetsOrd;
 use dns_name::{CanonicalOrd, Octets, RecordData, ToName, UnknownRecordData};
+use dns_rr_data::TypedData;
 use std::cmp::Ordering;
 
 /// By the number of the type, and then by the canonical octets, whether the data is unknown or not (RFC 4034 6.3).

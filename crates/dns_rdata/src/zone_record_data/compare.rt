@@ -10,8 +10,8 @@ ghost use Rattle.dns_rdata.specs.ZoneData.{data_of};
 use super::ZoneRecordData;
 use super::visit::{Visit, VisitBoth};
 use crate::rows::{DataType, Row};
-use dns_fields::TypedData;
 use dns_name::{Octets, RecordData, ToName, UnknownRecordData};
+use dns_rr_data::TypedData;
 use std::cmp::Ordering;
 use std::hash::{Hash, Hasher};
 

@@ -10,8 +10,8 @@ ghost use Rattle.dns_rdata.specs.ZoneData.{data_of};
 use super::ZoneRecordData;
 use super::visit::Visit;
 use crate::rows::{compose_canonical_row, compose_row, row_len};
-use dns_fields::TypedData;
 use dns_name::{AppendError, ComposeRecordData, Composer, Octets, ToName, UnknownRecordData};
+use dns_rr_data::TypedData;
 
 /// Writes the fields, or the opaque octets as they are.
 impl<Octs: Octets, N: ToName> ComposeRecordData for ZoneRecordData<Octs, N> {

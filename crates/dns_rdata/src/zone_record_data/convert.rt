@@ -5,10 +5,10 @@ ghost use Rattle.dns_rdata.specs.Data.{HoldsPast};
 ghost use Rattle.dns_rdata.specs.ZoneData.{data_of};
 
 use super::ZoneRecordData;
-use dns_fields::FlattenData;
 use dns_name::{
     AppendError, EmptyBuilder, FlattenInto, FromBuilder, Name, Octets, OctetsFrom, ToName,
 };
+use dns_rr_data::FlattenData;
 use std::alloc::Global;
 
 /// The arms of `try_flatten_into`.

@@ -4,7 +4,7 @@ ghost use Rattle.std.specs.Cmp.Lexicographic.{slice_cmp};
 ghost use Rattle.std.specs.Ordering.{nat_cmp};
 ghost use Rattle.dns_fields.specs.OctetsForm.{IsCanonicalData};
 
-use dns_fields::{canonical_rows_cmp, make_canonical_row};
+use dns_canonical_form::{canonical_rows_cmp, make_canonical_row};
 use dns_name::Rtype;
 use std::alloc::AllocError;
 use std::cmp::Ordering;

@@ -4,10 +4,10 @@ ghost use Rattle.dns_rdata.specs.Data.{ReadsData};
 ghost use Rattle.dns_rdata.specs.ZoneData.{data_of};
 
 use super::ZoneRecordData;
-use dns_fields::ParseData;
 use dns_name::{
     ParseAnyRecordData, ParseError, ParseRecordData, ParsedName, Parser, Rtype, UnknownRecordData,
 };
+use dns_rr_data::ParseData;
 
 /// The arms of `parse_any_rdata`.
 macro_rules! parsed {

@@ -6,8 +6,8 @@ ghost use Rattle.dns_rdata.specs.Data.{IsUnmarked, NoAnyDataScans, ScansAnyData}
 ghost use Rattle.dns_rdata.specs.ZoneData.{data_of};
 
 use super::ZoneRecordData;
-use dns_fields::ScanData;
 use dns_name::{FromBuilder, Octets, Rtype, ToName};
+use dns_rr_data::ScanData;
 use dns_text::{Scanner, ScannerError, scan_without_marker};
 
 /// The arms of `scan_fields`.

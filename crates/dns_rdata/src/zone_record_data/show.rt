@@ -9,8 +9,8 @@ ghost use Rattle.dns_text.specs.Writing.{Adds};
 use super::ZoneRecordData;
 use super::visit::Visit;
 use crate::rows::{DataType, show_row};
-use dns_fields::TypedData;
 use dns_name::{Octets, ToName, UnknownRecordData};
+use dns_rr_data::TypedData;
 use dns_text::{DisplayKind, Formatter, ZonefileFmt};
 use std::fmt;
 

@@ -4,8 +4,8 @@ ghost use Rattle.dns_rdata.specs.Data.{Data, typed, unknown_data, AreOfOneKind};
 ghost use Rattle.dns_rdata.specs.ZoneData.{data_of};
 
 use super::ZoneRecordData;
-use dns_fields::TypedData;
 use dns_name::{Octets, ToName, UnknownRecordData};
+use dns_rr_data::TypedData;
 
 /// The arms of `visit`.
 macro_rules! visited {

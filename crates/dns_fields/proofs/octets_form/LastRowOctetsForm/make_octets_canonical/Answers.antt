@@ -1,5 +1,0 @@
-use Rattle.dns_fields.proofs.OctetsForms.{last_form}
-use Rattle.dns_fields.proofs.octets_form.LastRowOctetsForm.make_octets_canonical.Goals as goal
-
-pub returns : goal.returns
-returns g c row are = last_form row g.met.V.LastValue.unnamed are

@@ -1,5 +1,0 @@
-use Rattle.dns_fields.proofs.OctetsForms.{none_form}
-use Rattle.dns_fields.proofs.octets_form.UnitRowOctetsForm.make_octets_canonical.Goals as goal
-
-pub returns : goal.returns
-returns c row are = none_form row are
