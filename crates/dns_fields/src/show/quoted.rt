@@ -1,5 +1,5 @@
 //! Octets between quotes (RFC 1035 5.1).
-ghost use Rattle.std.specs.Prelude.{◌≡◌, ◌∷◌, List, ℕ, [], Some};
+ghost use Rattle.std.specs.Prelude.{◌≡◌, ◌∷◌, List, ℕ, [], Some, IfSome};
 ghost use Rattle.std.specs.Fmt.{DisplaysOnOk};
 ghost use Rattle.dns_scan.specs.StringText.{between_quotes, quoted_text};
 
@@ -40,6 +40,28 @@ impl fmt::Display for Quoted<'_> {
 
 /// Writes the octets as they are between quotes.
 fn write_octets<W: fmt::Write>(f: &mut fmt::Formatter<W>, octets: &[u8]) -> fmt::Result
+    ensures { DisplaysOnOk W.write_str_gives f.old result (Some (between_quotes octets.now)) f.new }
+{
+    match bare_text(octets) {
+        Some(text) => f.write_str(text),
+        None => write_symbols(f, octets),
+    }
+}
+
+/// Returns the octets as text if each is written as itself.
+fn bare_text(octets: &[u8]) -> Option<&str>
+    ensures { IfSome result (λ text. text.now ≡ between_quotes octets.now) }
+{
+    for &octet in octets {
+        if !matches!(Symbol::quoted_from_octet(octet), Symbol::Char(_)) {
+            return None;
+        }
+    }
+    str::from_utf8(octets).ok()
+}
+
+/// Writes each octet as its symbol.
+fn write_symbols<W: fmt::Write>(f: &mut fmt::Formatter<W>, octets: &[u8]) -> fmt::Result
     ensures { DisplaysOnOk W.write_str_gives f.old result (Some (between_quotes octets.now)) f.new }
 {
     for &octet in octets {

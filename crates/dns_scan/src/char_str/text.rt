@@ -1,5 +1,5 @@
 //! The texts of character strings (RFC 1035 5.1).
-ghost use Rattle.std.specs.Prelude.{◌≡◌, ◌≤◌, List, ℕ, length, take, Some, IfOk, IfErr, OnErr};
+ghost use Rattle.std.specs.Prelude.{◌≡◌, ◌≤◌, List, ℕ, length, take, Some, IfOk, IfErr, IfSome, OnErr};
 ghost use Rattle.std.specs.Fmt.{DisplaysOnOk};
 ghost use Rattle.dns_label.specs.Symbol.{IsSymbol, octet, spelled};
 ghost use Rattle.dns_scan.specs.StringText.{IsStringText, Spells, is_escaped, symbol_of, text_of, plain_text, quoted_text, unquoted_text};
@@ -196,6 +196,32 @@ impl fmt::Display for DisplayUnquoted<'_> {
 
 /// Writes the text of the octets.
 fn write_octets<W: fmt::Write>(
+    f: &mut fmt::Formatter<W>,
+    style: Style,
+    octets: &[u8],
+) -> fmt::Result
+    ensures { DisplaysOnOk W.write_str_gives f.old result (Some (text_of style octets.now)) f.new }
+{
+    match bare_text(style, octets) {
+        Some(text) => f.write_str(text),
+        None => write_symbols(f, style, octets),
+    }
+}
+
+/// Returns the octets as text if each is written as itself, as those of most strings are.
+fn bare_text(style: Style, octets: &[u8]) -> Option<&str>
+    ensures { IfSome result (λ text. text.now ≡ text_of style octets.now) }
+{
+    for &octet in octets {
+        if !matches!(style.symbol(octet), Symbol::Char(_)) {
+            return None;
+        }
+    }
+    str::from_utf8(octets).ok()
+}
+
+/// Writes each octet as its symbol.
+fn write_symbols<W: fmt::Write>(
     f: &mut fmt::Formatter<W>,
     style: Style,
     octets: &[u8],

@@ -3,7 +3,7 @@ use Rattle.std.proofs.Output.{has_written_append}
 use Rattle.std.proofs.lemmas.List.{drop_more}
 use Rattle.dns_scan.specs.StringText.{between_quotes}
 use Rattle.dns_fields.proofs.ShownTokens.{between_quotes-first}
-use Rattle.dns_fields.proofs.show.quoted.write_octets.Goals as goal
+use Rattle.dns_fields.proofs.show.quoted.write_symbols.Goals as goal
 
 pub loop-octet-preserved : goal.loop-octet-preserved
 loop-octet-preserved g c = λ plain.

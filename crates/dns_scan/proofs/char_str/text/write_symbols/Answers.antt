@@ -3,7 +3,7 @@ use Rattle.std.proofs.Output.{has_written_append}
 use Rattle.std.proofs.lemmas.List.{drop_more}
 use Rattle.dns_label.specs.Symbol.{spelled}
 use Rattle.dns_scan.specs.StringText.{symbol_of, text_of}
-use Rattle.dns_scan.proofs.char_str.text.write_octets.Goals as goal
+use Rattle.dns_scan.proofs.char_str.text.write_symbols.Goals as goal
 
 pub loop-octet-preserved : goal.loop-octet-preserved
 loop-octet-preserved g c = λ plain.

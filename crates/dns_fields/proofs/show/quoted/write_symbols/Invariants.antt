@@ -1,7 +1,7 @@
 use Rattle.std.proofs.Common.{◌≡◌, ℕ, List, ◌++◌, drop}
 use Rattle.std.specs.Fmt.{HasWritten, IsPlainFormatter}
 use Rattle.dns_scan.specs.StringText.{between_quotes}
-use Rattle.dns_fields.proofs.show.quoted.write_octets.Given as goal
+use Rattle.dns_fields.proofs.show.quoted.write_symbols.Given as goal
 
 abbrev pub invariant-loop-octet : goal.invariant-loop-octet
 invariant-loop-octet g l =
