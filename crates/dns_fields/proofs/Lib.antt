@@ -11,6 +11,7 @@ pub mod Shows
 pub mod ShownTokens
 pub mod ScanParts
 pub mod ScanLeaves
+pub mod DottedNumbers
 pub mod StringsOf
 pub mod TextStrings
 pub mod ReadEach

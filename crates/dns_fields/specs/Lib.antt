@@ -12,3 +12,4 @@ pub mod Comments
 pub mod Strings
 pub mod Held
 pub mod OctetsForm
+pub mod Digits

@@ -4,6 +4,7 @@ ghost use Rattle.dns_scan.specs.Token.{IsEnding, SameNames};
 ghost use Rattle.dns_fields.specs.Fields.{kinds_of, octets};
 ghost use Rattle.dns_fields.specs.Scanned.{ScansField, ScansRow, ScansData, NoFieldScans, NoRowScans, NoDataScans};
 
+mod dotted;
 mod leaves;
 mod rests;
 

@@ -4,6 +4,7 @@ ghost use Rattle.std.specs.Net.Addr.{ipv4_octets, ipv6_segments};
 ghost use Rattle.std.specs.Net.Grammar.{IsDotted, IsColonHex};
 
 use super::ScanField;
+use super::dotted::ipv4_in;
 use crate::{Compressible, Tag, Uncompressed};
 use dns_name::{FromBuilder, ToName};
 use dns_text::{CharStr, Scan, Scanner};
@@ -68,7 +69,7 @@ fn read_ipv4(text: &str) -> Option<Ipv4Addr>
     ensures some { IfSome result (λ address. IsDotted text.now (ipv4_octets address)) }
     ensures none { IfNone result ((octets : List ℕ) → IsDotted text.now octets → ⊥) }
 {
-    Ipv4Addr::parse_ascii(text.as_bytes()).ok()
+    ipv4_in(text.as_bytes())
 }
 
 /// The address that the text writes in groups of hex digits (RFC 4291 2.2).
