@@ -3,6 +3,17 @@
 //! It re-exports its parts: `dns_header` has headers, questions and records, `dns_sections` messages and the cursors
 //! over their sections, `dns_builder` the builders of messages, and `dns_compress` targets that compress, or send a
 //! message after its length.
+//!
+//! ```
+//! let target = TreeCompressor::new(alloc, Vec::new(alloc));
+//! let mut question = MessageBuilder::from_target(target)?.question();
+//! question.push((apex.for_ref(), Rtype::MX))?;
+//! let mut answer = question.answer();
+//! answer.push((apex.for_ref(), Ttl::HOUR, Mx::new(10, mail.for_ref())))?;
+//! let octets = answer.finish().into_target();
+//! ```
+//!
+//! The program of a page `example_message` builds such a message, and reads it with cursors.
 #![tactic(auto)]
 
 pub mod laws;

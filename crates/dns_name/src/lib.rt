@@ -4,6 +4,14 @@
 //! re-exports what the crates below are for: `dns_octets` (octets and how they are read), `dns_values` (the small
 //! values of records), `dns_label` (labels and symbols), `dns_wire` (names as octets and as text) and `dns_flat` (flat
 //! names).
+//!
+//! ```
+//! let name = Name::vec_from_str(alloc, "www.example.com.")?;
+//! let apex = Name::vec_from_str(alloc, "EXAMPLE.com.")?;
+//! println!(rt; "{name} is under {apex}: {}", name.ends_with(&apex))?;
+//! ```
+//!
+//! The program of a page `example_rdata` uses names, text and record data together.
 #![tactic(auto)]
 
 mod composer;

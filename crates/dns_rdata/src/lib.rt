@@ -2,6 +2,15 @@
 //!
 //! Data of a type is a row of fields, by one table of the types; `ZoneRecordData` is data of any type. The parts of this
 //! crate, which it hands on, are `dns_fields`, as `rows`, `dns_rr_names` and `dns_rr_octets`.
+//!
+//! ```
+//! let data: ZoneRecordData<Vec<u8>, Name<Vec<u8>>> = ZoneRecordData::scan(Rtype::MX, &mut scanner)?;
+//! let mut octets = Vec::new(alloc);
+//! data.compose_rdata(&mut octets)?;
+//! println!(rt; "{}", data.display_zonefile(DisplayKind::Multiline))?;
+//! ```
+//!
+//! The program of a page `example_rdata` does so for three types, in three layouts.
 #![tactic(auto)]
 
 pub mod laws;

@@ -4,6 +4,14 @@
 //! Re-exports `dns_scan` (character strings, encodings, scanners). Values show their documents through a `Formatter`,
 //! under one of three layouts; names may be absolute or relative. The crate also has the definitions of how a zone
 //! file's text is cut into rows of tokens.
+//!
+//! ```
+//! let mut scanner = IterScanner::new(alloc, "10 mail.example.com.".split(' '))?;
+//! let preference = u16::scan(&mut scanner)?;
+//! let host = scanner.scan_name()?;
+//! ```
+//!
+//! The program of a page `example_rdata` uses names, text and record data together.
 #![tactic(auto)]
 
 mod display;

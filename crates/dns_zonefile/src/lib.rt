@@ -4,6 +4,16 @@
 //! after them mean. `scan_statement` reads what a single row says.
 //!
 //! The crate re-exports its part `dns_entry_scanner`: the tokens and rows of a text, and the scanner over a row.
+//!
+//! ```
+//! let mut zonefile = Zonefile::new(alloc);
+//! zonefile.extend_from_slice(text)?;
+//! while let Some(entry) = zonefile.next_entry()? {
+//!     show(&entry)?;
+//! }
+//! ```
+//!
+//! The program of a page `example_entries` shows each entry, or the line and the reason of the first error.
 #![tactic(auto)]
 
 mod context;

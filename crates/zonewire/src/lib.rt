@@ -4,6 +4,19 @@
 //! This crate re-exports what the crates below it are for: `zone` (zones and their text), `zone_core` (queries),
 //! `zone_send` and `zone_receive` (the stream of a transfer), and the types that their signatures name. So a program
 //! that reads, sends or receives zones needs no other crate.
+//!
+//! ```
+//! let zone = Zone::read(alloc, text, None, Class::IN)?;
+//! let query = axfr_query(alloc, 4660, zone.class(), &zone.apex())?;
+//! let stream = send(alloc, &zone, query.as_slice(), 16384, Spelling::Tree)?;
+//!
+//! let mut receiver = Receiver::new(alloc, query.as_slice())?;
+//! receiver.feed(stream.as_slice())?;
+//! let again = receiver.into_zone()?;
+//! ```
+//!
+//! Programs of a page each show more: `example_round_trip` sends a zone, receives it and prints it; `example_receive` makes a
+//! query and takes the stream in pieces; `example_compare` compares two zones.
 #![tactic(auto)]
 
 mod command_line;
