@@ -2,8 +2,7 @@
 use Rattle.std.proofs.Common.{◌∷◌, [], ℕ, List}
 use Rattle.std.specs.Str.{chars}
 use Rattle.std.specs.Prelude.{Result, Ok, Err, IfNone}
-use Rattle.std.specs.Net.Grammar.{IsDotted, IsColonHex, IsIpv4Text, IsIpv6Text, Parses}
-use Rattle.std.specs.declared.net.ipv4_addr.Ipv4Addr.{Ipv4Addr}
+use Rattle.std.specs.Net.Grammar.{IsDotted, IsColonHex, IsIpv6Text, Parses}
 use Rattle.std.specs.declared.net.ipv6_addr.Ipv6Addr.{Ipv6Addr}
 use Rattle.std.specs.Result.{result_ok}
 use Rattle.dns_scan.specs.Encodings.{Decodes16, Decodes64}
@@ -46,11 +45,6 @@ module _ (names : List ℕ → List (List ℕ) → Type 0) (tokens : List Token)
       (λ field left is. of_rest64 (λ f. ScansField names f tokens left → ⊥) field (λ octets scans. none scans.0 octets scans.1 scans.2) is)
 
 -- octets that an address has
-pub no_dotted : {E : Type 0} (text : List ℕ) (r : Result Ipv4Addr E) → Parses IsIpv4Text text r
-    → IfNone (result_ok r) ((octets : List ℕ) → IsDotted text octets → ⊥)
-no_dotted text (Ok address) parsed = tt
-no_dotted text (Err error) parsed = λ octets dotted. parsed (record { octets = octets }) dotted
-
 pub no_colon_hex : {E : Type 0} (text : List ℕ) (r : Result Ipv6Addr E) → Parses IsIpv6Text text r
     → IfNone (result_ok r) ((segments : List ℕ) → IsColonHex text segments → ⊥)
 no_colon_hex text (Ok address) parsed = tt

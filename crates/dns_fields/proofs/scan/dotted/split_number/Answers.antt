@@ -1,4 +1,4 @@
-use Rattle.std.proofs.Common.{◌≡◌, sym, subst, arith}
+use Rattle.std.proofs.Common.{sym, subst, arith}
 use Rattle.dns_fields.proofs.DottedNumbers.{StartsWithOctet, none_without_digit, one_digit, two_of, three_of, none_with_zero, none_with_more, is_read, not_read}
 use Rattle.dns_fields.proofs.scan.dotted.split_number.Goals as goal
 
