@@ -7,7 +7,7 @@ ghost use Rattle.dns_sections.specs.Seen.{records_at};
 
 use crate::RecordSection;
 use dns_name::ParsedName;
-use dns_rr_names::Cname;
+use dns_rr_data::Cname;
 
 /// How many aliases are followed at most.
 const MAX_ALIASES: usize = 20;
