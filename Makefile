@@ -13,7 +13,7 @@ run: | toolchain
 	@echo; echo "'zonewire $$(paste -sd' ' $(ZONE)/args)' reads this zone:"; echo; cat $(ZONE)/stdin
 	@echo; echo "and writes these octets:"; echo; od -An -v -tx1 build/run.out
 
-# Every test without a proof: test functions, rows, the stored run of the program; and first that the two pictures
+# Every test without a proof: test functions, rows, the stored runs of the program and of the examples; and first that the two pictures
 # are those of crates.txt and docs/PERFORMANCE.md, that the man page has every option and fault text, and the examples in C and Python if
 # `make c` has built their library. JOBS=N runs so many crates at once, CRATES="a b" these alone.
 test: | toolchain
