@@ -29,9 +29,13 @@ fn build(alloc: Global) -> Result<Vec<u8>> {
     Ok(additional.finish().into_target())
 }
 
-/// Shows each record of a section, with its data.
-fn show_all(rt: &impl Print, mut section: RecordSection<'_>) -> Result<()> {
-    while let Some(record) = section.next() {
+/// Shows the question, and each record of the answer with its data.
+fn show(rt: &impl Print, message: &Message<&[u8]>) -> Result<()> {
+    if let Some(question) = message.first_question() {
+        println!(rt; "question: {question}")?;
+    }
+    let mut answer = message.answer()?;
+    while let Some(record) = answer.next() {
         let record = record?.into_any_record::<ZoneRecordData<&[u8], ParsedName<&[u8]>>>()?;
         println!(rt; "record:   {record}")?;
     }
@@ -51,9 +55,6 @@ fn main(rt: HostRuntime) -> Result<()> {
     let octets = build(rt.alloc())?;
     println!(rt; "{}", base16::display(octets.as_slice()))?;
     let message = Message::from_slice(octets.as_slice())?;
-    for question in message.question() {
-        println!(rt; "question: {}", question?)?;
-    }
-    show_all(&rt, message.answer()?)?;
+    show(&rt, &message)?;
     show_addresses(&rt, message.additional()?)
 }
