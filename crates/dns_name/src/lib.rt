@@ -11,7 +11,7 @@
 //! println!(rt; "{name} is under {apex}: {}", name.ends_with(&apex))?;
 //! ```
 //!
-//! The program of a page `example_rdata` uses names, text and record data together.
+//! The program of a page `example_message` uses names in a message that is built and read.
 #![tactic(auto)]
 
 mod composer;

@@ -10,7 +10,7 @@
 //! println!(rt; "{}", data.display_zonefile(DisplayKind::Multiline))?;
 //! ```
 //!
-//! The program of a page `example_rdata` does so for three types, in three layouts.
+//! The program of a page `example_message` puts data into a message, and reads it there.
 #![tactic(auto)]
 
 pub mod laws;
