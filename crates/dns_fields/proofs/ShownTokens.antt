@@ -1,5 +1,5 @@
 -- The tokens of addresses and of rests.
-use Rattle.std.proofs.Common.{◌≡◌, ◌+◌, ◌*◌, ◌/◌, ◌%◌, ◌<◌, ◌==◌, ℕ, Bool, true, false, List, [], ◌∷◌, ◌++◌, length, map, refl, sym, ap, arith, append-nil, length-append}
+use Rattle.std.proofs.Common.{◌≡◌, ◌+◌, ◌*◌, ◌/◌, ◌%◌, ◌<◌, ◌==◌, ℕ, Bool, true, false, List, [], ◌∷◌, ◌++◌, length, map, refl, arith, length-append}
 use Rattle.std.specs.Prelude.{if◌then◌else◌}
 use Rattle.std.proofs.lemmas.List.{length-map}
 use Rattle.std.specs.Net.Addr.{octets_of, segments_of}
@@ -7,7 +7,6 @@ use Rattle.dns_scan.specs.Bits.{bits, all_bits, grouped}
 use Rattle.dns_scan.specs.Encodings.{encoded_16, encoded_64}
 use Rattle.dns_scan.proofs.BitLists.{length-bits}
 use Rattle.dns_scan.proofs.Groups.{eq_differs}
-use Rattle.dns_scan.specs.StringText.{between_quotes}
 use Rattle.dns_text.specs.Document.Piece.{Token}
 use Rattle.dns_fields.specs.Fields.{rest16, rest64}
 use Rattle.dns_fields.specs.Shown.{one_unless_empty, field_pieces}
@@ -61,7 +60,3 @@ rest16_pieces octets some = one_token (encoded_16 octets) (text_some _ _ 4 octet
 
 pub rest64_pieces : (octets : List ℕ) → 0 < length octets → field_pieces (rest64 octets) ≡ Token (encoded_64 octets) ∷ []
 rest64_pieces octets some = one_token (encoded_64 octets) (text_some _ _ 6 octets _ some)
-
--- an octet before others between quotes
-pub between_quotes-first : (octet : ℕ) (octets : List ℕ) → between_quotes (octet ∷ octets) ≡ between_quotes (octet ∷ []) ++ between_quotes octets
-between_quotes-first octet octets = ap (λ l. l ++ between_quotes octets) (sym (append-nil _))

@@ -7,7 +7,6 @@ ghost use Rattle.dns_fields.specs.Comments.{texts, first_comment};
 
 mod comments;
 mod leaves;
-mod quoted;
 mod rests;
 
 use crate::{HasField, HasFields, Last, LastValue};

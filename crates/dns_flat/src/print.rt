@@ -5,9 +5,13 @@ ghost use Rattle.dns_label.specs.Printed.{printed_name};
 ghost use Rattle.dns_wire.specs.Chain.{AreOfName};
 ghost use Rattle.dns_flat.specs.PrintedLabels.{printed_behind, printed_relative, printed_seen};
 
+mod plain;
+
 use crate::{Chain, Name, RelativeName, ToName};
+use arrayvec::ArrayString;
 use dns_octets::Octets;
 use dns_wire::{LabelIter, ToLabelIter};
+use plain::push_name;
 use std::fmt;
 use std::marker::Model;
 
@@ -74,6 +78,20 @@ impl<L: ToLabelIter, R: ToLabelIter> fmt::Display for Chain<L, R> {
 fn write_name<N: ToLabelIter, W: fmt::Write>(f: &mut fmt::Formatter<W>, name: &N) -> fmt::Result
     ensures text { DisplaysOnOk W.write_str_gives f.old result (Some (printed_seen (N.labels name.now))) f.new }
     ensures are { ∥ AreOfName (N.labels name.now) ∥₁ }
+{
+    let mut text = ArrayString::new();
+    match push_name(&mut text, name) {
+        Some(()) => f.write_str(&text),
+        None => write_labels(f, name),
+    }
+}
+
+/// Writes the labels one by one, with a dot between two.
+fn write_labels<N: ToLabelIter, W: fmt::Write>(
+    f: &mut fmt::Formatter<W>,
+    name: &N,
+) -> fmt::Result
+    ensures { DisplaysOnOk W.write_str_gives f.old result (Some (printed_seen (N.labels name.now))) f.new }
 {
     let mut labels = name.iter_labels();
     let Some(first) = labels.next() else {

@@ -1,15 +1,14 @@
 //! Rests as tokens.
 use super::ShowLast;
-use super::quoted::Quoted;
 use crate::{LastValue, Rest16, Rest64, RestText, Strings};
 use dns_name::Octets;
-use dns_text::{Formatter, base16, base64};
+use dns_text::{DisplayQuoted, Formatter, base16, base64};
 use std::fmt;
 
 /// Between quotes.
 impl<Octs: Octets> ShowLast for RestText<Octs> {
     fn show_last<F: Formatter>(&self, formatter: &mut F) -> fmt::Result {
-        formatter.write_token(Quoted::of(self.last_octets()))
+        formatter.write_token(DisplayQuoted::of(self.last_octets()))
     }
 }
 

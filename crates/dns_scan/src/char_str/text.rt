@@ -54,7 +54,7 @@ enum Style {
     Unquoted,
 }
 
-/// A string as a quoted token, with its quotes.
+/// Octets as a quoted token, with its quotes.
 #[derive(Debug, Drop)]
 pub struct DisplayQuoted<'a> {
     octets: &'a [u8],
@@ -64,6 +64,16 @@ impl<'a> Model for DisplayQuoted<'a> {
     ghost Value = { List ℕ };
 
     ghost view = { λ shown. shown.octets.now };
+}
+
+impl<'a> DisplayQuoted<'a> {
+    /// Returns what shows the octets between quotes. There is a backslash before each quote and backslash; octets outside
+    /// 0x20 to 0x7E are a backslash and three digits.
+    pub fn of(octets: &'a [u8]) -> Self
+        ensures { result ≡ octets.now }
+    {
+        DisplayQuoted { octets }
+    }
 }
 
 /// A string as an unquoted token.
@@ -84,9 +94,7 @@ impl<Octs: Octets> CharStr<Octs> {
     pub fn display_quoted(&self) -> DisplayQuoted<'_>
         ensures { result ≡ self.now }
     {
-        DisplayQuoted {
-            octets: self.as_slice(),
-        }
+        DisplayQuoted::of(self.as_slice())
     }
 
     /// Returns what shows the string as a word. There is a backslash before each space, quote, parenthesis, semicolon
