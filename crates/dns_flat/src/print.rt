@@ -87,10 +87,7 @@ fn write_name<N: ToLabelIter, W: fmt::Write>(f: &mut fmt::Formatter<W>, name: &N
 }
 
 /// Writes the labels one by one, with a dot between two.
-fn write_labels<N: ToLabelIter, W: fmt::Write>(
-    f: &mut fmt::Formatter<W>,
-    name: &N,
-) -> fmt::Result
+fn write_labels<N: ToLabelIter, W: fmt::Write>(f: &mut fmt::Formatter<W>, name: &N) -> fmt::Result
     ensures { DisplaysOnOk W.write_str_gives f.old result (Some (printed_seen (N.labels name.now))) f.new }
 {
     let mut labels = name.iter_labels();

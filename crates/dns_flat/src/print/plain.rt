@@ -22,10 +22,7 @@ pub(super) fn push_name<N: ToLabelIter>(text: &mut ArrayString<255>, name: &N) -
 }
 
 /// Appends a dot before each label. Returns None if an octet is escaped.
-fn push_others<N: ToLabelIter>(
-    text: &mut ArrayString<255>,
-    labels: LabelIter<'_, N>,
-) -> Option<()>
+fn push_others<N: ToLabelIter>(text: &mut ArrayString<255>, labels: LabelIter<'_, N>) -> Option<()>
     ensures { OnSome result (text.new.bytes ≡ text.old.bytes ++ printed_behind labels.entry) }
 {
     for label in labels {
