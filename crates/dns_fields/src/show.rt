@@ -6,6 +6,7 @@ ghost use Rattle.dns_fields.specs.Shown.{field_pieces, commented, data_pieces};
 ghost use Rattle.dns_fields.specs.Comments.{texts, first_comment};
 
 mod comments;
+mod dotted;
 mod leaves;
 mod rests;
 

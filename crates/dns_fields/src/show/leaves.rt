@@ -1,10 +1,10 @@
-//! Numbers, addresses, names, strings and tags as tokens.
+//! Numbers, addresses of version 6, names, strings and tags as tokens.
 use super::ShowField;
 use crate::{Compressible, Tag, Uncompressed};
 use dns_name::{Octets, ToName};
 use dns_text::{CharStr, Formatter};
 use std::fmt;
-use std::net::{Ipv4Addr, Ipv6Addr};
+use std::net::Ipv6Addr;
 
 impl ShowField for u8 {
     fn show_field<F: Formatter>(&self, formatter: &mut F) -> fmt::Result {
@@ -19,12 +19,6 @@ impl ShowField for u16 {
 }
 
 impl ShowField for u32 {
-    fn show_field<F: Formatter>(&self, formatter: &mut F) -> fmt::Result {
-        formatter.write_token(*self)
-    }
-}
-
-impl ShowField for Ipv4Addr {
     fn show_field<F: Formatter>(&self, formatter: &mut F) -> fmt::Result {
         formatter.write_token(*self)
     }
