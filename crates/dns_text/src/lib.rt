@@ -10,6 +10,8 @@
 //! let preference = u16::scan(&mut scanner)?;
 //! let host = scanner.scan_name()?;
 //! ```
+//!
+//! The program of a page `example_rdata` uses names, text and record data together.
 #![tactic(auto)]
 
 mod display;
