@@ -22,3 +22,4 @@ pub mod ShortData
 pub mod Tried
 mod Documents
 mod Lines
+mod AppendedLines

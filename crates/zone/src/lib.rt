@@ -7,6 +7,7 @@
 
 mod keep;
 pub mod laws;
+mod line;
 mod print;
 mod read;
 mod records;

@@ -6,6 +6,7 @@ ghost use Rattle.zone_records.specs.Typed.{HasLawfulData};
 ghost use Rattle.zone.specs.Printing.{AddsRecord};
 ghost use Rattle.zone.specs.Printed.{IsPrinted};
 
+use crate::line::append_line;
 use dns_text::{DisplayKind, ZonefileFmt};
 use std::alloc::{AllocError, Global};
 use zone_records::record::Record;
@@ -39,5 +40,5 @@ fn print_record(text: &mut String, record: &Record<'_>, kind: DisplayKind) -> Re
     let typed = typed_record(record);
     // An error of the formatter would be an `AllocError` too. No contract excludes one, but the writer of documents
     // fails only if it opens more blocks than a `usize` counts, and a record has one block.
-    writeln!(text, "{}", typed.display_zonefile(kind))
+    append_line(text, &typed.display_zonefile(kind))
 }

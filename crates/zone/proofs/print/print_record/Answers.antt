@@ -11,7 +11,7 @@ pub returns : goal.returns
 returns c =
     let typed = c.typed_record-typed in
     let shown = c.display_zonefile.ensures in
-    on_ok_then c.writeln.result _ _
+    on_ok_then c.append_line.result _ _
     (λ written. record_added (layout_of c.args.kind) (seen_of typed.result) c.args.record.now _ _ typed.ensures.same typed.ensures.fields
     (written ∙ (λ i. string_bytes c.args.text.now ++ (document_text (layout_of (shown.kind i)) (held_document (seen_of (shown.value i))) ++ 10 ∷ []))))
-    c.writeln.ensures.bytes
+    c.append_line.ensures
