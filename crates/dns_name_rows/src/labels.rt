@@ -86,6 +86,10 @@ fn answer_of(
         "is_wildcard" => out.shown(&label.is_wildcard()),
         "compose_len" => out.shown(&label.compose_len()),
         "to_string" => out.shown(&label),
+        "plain_text" => match label.plain_text() {
+            Some(text) => out.shown(&text),
+            None => out.shown(&"none"),
+        },
         "compose" => {
             let appended = label.compose(&mut target);
             write_target(appended, &target, out)
