@@ -7,7 +7,7 @@ pub use dns_fields::{
     read_row, row_len, scan_row, scan_row_of, show_row,
 };
 pub use dns_rr_data::{
-    ARow, AaaaRow, CaaRow, DataType, DnameRow, DnskeyRow, DsRow, FlattenData, HinfoRow, MinfoRow,
-    MxRow, NameRow, Number, ParseData, RowOf, RpRow, ScanData, SoaRow, SrvRow, SshfpRow, TxtRow,
-    TypedData,
+    ARow, AaaaRow, CaaRow, DataType, DnameRow, DnskeyRow, DsRow, FlattenData, HasType, HinfoRow,
+    MinfoRow, MxRow, NameRow, Number, ParseData, RowOf, RpRow, ScanData, SoaRow, SrvRow, SshfpRow,
+    TxtRow, TypedData,
 };

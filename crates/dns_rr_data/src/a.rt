@@ -4,7 +4,7 @@ ghost use Rattle.std.proofs.Common.{refl};
 ghost use Rattle.std.specs.Net.Addr.{ipv4_octets};
 ghost use Rattle.dns_fields.specs.Fields.{ipv4, field_at};
 
-use crate::{FlattenData, Number, ParseData, RowData, RowOf, ScanData, TypedData};
+use crate::{FlattenData, HasType, Number, ParseData, RowData, RowOf, ScanData, TypedData};
 use dns_name::{AppendError, EmptyBuilder, FromBuilder, ParseError, Parser};
 use dns_text::Scanner;
 use std::alloc::Global;
@@ -55,12 +55,14 @@ impl RowData<Number<1>, ARow> {
     }
 }
 
-impl TypedData for A {
+impl HasType for A {
     type Type = Number<1>;
 
-    type Row = ARow;
-
     ghost held = { λ rdata. rdata };
+}
+
+impl TypedData for A {
+    type Row = ARow;
 
     fn typed_row(&self) -> &ARow {
         &self.row

@@ -4,7 +4,7 @@ ghost use Rattle.std.proofs.Common.{refl};
 ghost use Rattle.std.specs.Net.Addr.{ipv6_octets};
 ghost use Rattle.dns_fields.specs.Fields.{ipv6, field_at};
 
-use crate::{FlattenData, Number, ParseData, RowData, RowOf, ScanData, TypedData};
+use crate::{FlattenData, HasType, Number, ParseData, RowData, RowOf, ScanData, TypedData};
 use dns_name::{AppendError, EmptyBuilder, FromBuilder, ParseError, Parser};
 use dns_text::Scanner;
 use std::alloc::Global;
@@ -48,12 +48,14 @@ impl RowData<Number<28>, AaaaRow> {
     }
 }
 
-impl TypedData for Aaaa {
+impl HasType for Aaaa {
     type Type = Number<28>;
 
-    type Row = AaaaRow;
-
     ghost held = { λ rdata. rdata };
+}
+
+impl TypedData for Aaaa {
+    type Row = AaaaRow;
 
     fn typed_row(&self) -> &AaaaRow {
         &self.row

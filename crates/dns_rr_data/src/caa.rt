@@ -4,7 +4,7 @@ ghost use Rattle.std.proofs.Common.{refl};
 ghost use Rattle.dns_fields.specs.Fields as fields;
 ghost use Rattle.dns_fields.specs.Fields.{number8, rest_text, octets, field_at};
 
-use crate::{FlattenData, Number, ParseData, RowData, RowOf, ScanData, TypedData};
+use crate::{FlattenData, HasType, Number, ParseData, RowData, RowOf, ScanData, TypedData};
 use dns_fields::{HasFields, Last, RestText, Tag};
 use dns_name::{
     AppendError, EmptyBuilder, FlattenInto, FromBuilder, LongRecordData, Octets, ParseError, Parser,
@@ -69,12 +69,14 @@ impl<Octs: Octets> RowData<Number<257>, CaaRow<Octs>> {
     }
 }
 
-impl<Octs: Octets> TypedData for Caa<Octs> {
+impl<Octs: Octets> HasType for Caa<Octs> {
     type Type = Number<257>;
 
-    type Row = CaaRow<Octs>;
-
     ghost held = { λ rdata. rdata };
+}
+
+impl<Octs: Octets> TypedData for Caa<Octs> {
+    type Row = CaaRow<Octs>;
 
     fn typed_row(&self) -> &CaaRow<Octs> {
         &self.row

@@ -3,7 +3,7 @@ ghost use Rattle.std.specs.Prelude.{◌≡◌, [], ◌∷◌, Some};
 ghost use Rattle.std.proofs.Common.{refl};
 ghost use Rattle.dns_fields.specs.Fields.{uncompressed, field_at};
 
-use crate::{FlattenData, Number, ParseData, RowData, RowOf, ScanData, TypedData};
+use crate::{FlattenData, HasType, Number, ParseData, RowData, RowOf, ScanData, TypedData};
 use dns_fields::Uncompressed;
 use dns_name::{
     AppendError, EmptyBuilder, FlattenInto, FromBuilder, Name, ParseError, ParsedName, Parser,
@@ -51,12 +51,14 @@ impl<N: ToName> RowData<Number<39>, DnameRow<N>> {
     }
 }
 
-impl<N: ToName> TypedData for Dname<N> {
+impl<N: ToName> HasType for Dname<N> {
     type Type = Number<39>;
 
-    type Row = DnameRow<N>;
-
     ghost held = { λ rdata. rdata };
+}
+
+impl<N: ToName> TypedData for Dname<N> {
+    type Row = DnameRow<N>;
 
     fn typed_row(&self) -> &DnameRow<N> {
         &self.row

@@ -3,7 +3,7 @@ ghost use Rattle.std.specs.Prelude.{◌≡◌, ◌≤◌, ◌↔◌, length, [],
 ghost use Rattle.std.proofs.Common.{refl};
 ghost use Rattle.dns_fields.specs.Fields.{number8, number16, rest64, octets, field_at};
 
-use crate::{FlattenData, Number, ParseData, RowData, RowOf, ScanData, TypedData};
+use crate::{FlattenData, HasType, Number, ParseData, RowData, RowOf, ScanData, TypedData};
 use dns_fields::{HasFields, Last, Rest64};
 use dns_name::{
     AppendError, EmptyBuilder, FlattenInto, FromBuilder, LongRecordData, Octets, ParseError, Parser,
@@ -81,12 +81,14 @@ impl<Octs: Octets> RowData<Number<48>, DnskeyRow<Octs>> {
     }
 }
 
-impl<Octs: Octets> TypedData for Dnskey<Octs> {
+impl<Octs: Octets> HasType for Dnskey<Octs> {
     type Type = Number<48>;
 
-    type Row = DnskeyRow<Octs>;
-
     ghost held = { λ rdata. rdata };
+}
+
+impl<Octs: Octets> TypedData for Dnskey<Octs> {
+    type Row = DnskeyRow<Octs>;
 
     fn typed_row(&self) -> &DnskeyRow<Octs> {
         &self.row

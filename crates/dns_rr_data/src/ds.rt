@@ -3,7 +3,7 @@ ghost use Rattle.std.specs.Prelude.{◌≡◌, ◌≤◌, ◌↔◌, length, [],
 ghost use Rattle.std.proofs.Common.{refl};
 ghost use Rattle.dns_fields.specs.Fields.{number8, number16, rest16, octets, field_at};
 
-use crate::{FlattenData, Number, ParseData, RowData, RowOf, ScanData, TypedData};
+use crate::{FlattenData, HasType, Number, ParseData, RowData, RowOf, ScanData, TypedData};
 use dns_fields::{HasFields, Last, Rest16};
 use dns_name::{
     AppendError, EmptyBuilder, FlattenInto, FromBuilder, LongRecordData, Octets, ParseError, Parser,
@@ -90,12 +90,14 @@ impl<Octs: Octets> RowData<Number<43>, DsRow<Octs>> {
     }
 }
 
-impl<Octs: Octets> TypedData for Ds<Octs> {
+impl<Octs: Octets> HasType for Ds<Octs> {
     type Type = Number<43>;
 
-    type Row = DsRow<Octs>;
-
     ghost held = { λ rdata. rdata };
+}
+
+impl<Octs: Octets> TypedData for Ds<Octs> {
+    type Row = DsRow<Octs>;
 
     fn typed_row(&self) -> &DsRow<Octs> {
         &self.row

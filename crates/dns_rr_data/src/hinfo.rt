@@ -3,7 +3,7 @@ ghost use Rattle.std.specs.Prelude.{◌≡◌, [], ◌∷◌, Some};
 ghost use Rattle.std.proofs.Common.{refl};
 ghost use Rattle.dns_fields.specs.Fields.{string, field_at};
 
-use crate::{FlattenData, Number, ParseData, RowData, RowOf, ScanData, TypedData};
+use crate::{FlattenData, HasType, Number, ParseData, RowData, RowOf, ScanData, TypedData};
 use dns_name::{AppendError, EmptyBuilder, FlattenInto, FromBuilder, Octets, ParseError, Parser};
 use dns_text::{CharStr, Scanner};
 use std::alloc::Global;
@@ -47,12 +47,14 @@ impl<Octs: Octets> RowData<Number<13>, HinfoRow<Octs>> {
     }
 }
 
-impl<Octs: Octets> TypedData for Hinfo<Octs> {
+impl<Octs: Octets> HasType for Hinfo<Octs> {
     type Type = Number<13>;
 
-    type Row = HinfoRow<Octs>;
-
     ghost held = { λ rdata. rdata };
+}
+
+impl<Octs: Octets> TypedData for Hinfo<Octs> {
+    type Row = HinfoRow<Octs>;
 
     fn typed_row(&self) -> &HinfoRow<Octs> {
         &self.row

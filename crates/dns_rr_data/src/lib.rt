@@ -57,4 +57,4 @@ pub use soa::{Soa, SoaRow};
 pub use srv::{Srv, SrvRow};
 pub use sshfp::{Sshfp, SshfpRow};
 pub use txt::{Txt, TxtAppendError, TxtBuilder, TxtCharStrIter, TxtError, TxtIter, TxtRow};
-pub use typed::{FlattenData, ParseData, ScanData, TypedData};
+pub use typed::{FlattenData, HasType, ParseData, ScanData, TypedData};

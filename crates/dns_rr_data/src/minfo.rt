@@ -3,7 +3,7 @@ ghost use Rattle.std.specs.Prelude.{◌≡◌, [], ◌∷◌, Some};
 ghost use Rattle.std.proofs.Common.{refl};
 ghost use Rattle.dns_fields.specs.Fields.{compressible, field_at};
 
-use crate::{FlattenData, Number, ParseData, RowData, RowOf, ScanData, TypedData};
+use crate::{FlattenData, HasType, Number, ParseData, RowData, RowOf, ScanData, TypedData};
 use dns_fields::Compressible;
 use dns_name::{
     AppendError, EmptyBuilder, FlattenInto, FromBuilder, Name, ParseError, ParsedName, Parser,
@@ -51,12 +51,14 @@ impl<N: ToName> RowData<Number<14>, MinfoRow<N>> {
     }
 }
 
-impl<N: ToName> TypedData for Minfo<N> {
+impl<N: ToName> HasType for Minfo<N> {
     type Type = Number<14>;
 
-    type Row = MinfoRow<N>;
-
     ghost held = { λ rdata. rdata };
+}
+
+impl<N: ToName> TypedData for Minfo<N> {
+    type Row = MinfoRow<N>;
 
     fn typed_row(&self) -> &MinfoRow<N> {
         &self.row

@@ -3,7 +3,7 @@ ghost use Rattle.std.specs.Prelude.{◌≡◌, [], ◌∷◌, Some};
 ghost use Rattle.std.proofs.Common.{refl};
 ghost use Rattle.dns_fields.specs.Fields.{number16, compressible, field_at};
 
-use crate::{FlattenData, Number, ParseData, RowData, RowOf, ScanData, TypedData};
+use crate::{FlattenData, HasType, Number, ParseData, RowData, RowOf, ScanData, TypedData};
 use dns_fields::Compressible;
 use dns_name::{
     AppendError, EmptyBuilder, FlattenInto, FromBuilder, Name, ParseError, ParsedName, Parser,
@@ -51,12 +51,14 @@ impl<N: ToName> RowData<Number<15>, MxRow<N>> {
     }
 }
 
-impl<N: ToName> TypedData for Mx<N> {
+impl<N: ToName> HasType for Mx<N> {
     type Type = Number<15>;
 
-    type Row = MxRow<N>;
-
     ghost held = { λ rdata. rdata };
+}
+
+impl<N: ToName> TypedData for Mx<N> {
+    type Row = MxRow<N>;
 
     fn typed_row(&self) -> &MxRow<N> {
         &self.row

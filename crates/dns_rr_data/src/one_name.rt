@@ -2,7 +2,7 @@
 ghost use Rattle.std.specs.Prelude.{◌≡◌, [], ◌∷◌};
 ghost use Rattle.dns_fields.specs.Fields.{compressible};
 
-use crate::{DataType, FlattenData, ParseData, RowData, RowOf, ScanData, TypedData};
+use crate::{DataType, FlattenData, HasType, ParseData, RowData, RowOf, ScanData, TypedData};
 use dns_fields::Compressible;
 use dns_name::{
     AppendError, EmptyBuilder, FlattenInto, FromBuilder, Name, ParseError, ParsedName, Parser,
@@ -27,12 +27,14 @@ impl<T, N: ToName> RowData<T, NameRow<N>> {
     }
 }
 
-impl<T: DataType, N: ToName> TypedData for RowData<T, NameRow<N>> {
+impl<T: DataType, N: ToName> HasType for RowData<T, NameRow<N>> {
     type Type = T;
 
-    type Row = NameRow<N>;
-
     ghost held = { λ rdata. rdata };
+}
+
+impl<T: DataType, N: ToName> TypedData for RowData<T, NameRow<N>> {
+    type Row = NameRow<N>;
 
     fn typed_row(&self) -> &NameRow<N> {
         &self.row

@@ -3,7 +3,7 @@ ghost use Rattle.std.specs.Prelude.{◌≡◌, [], ◌∷◌, Some};
 ghost use Rattle.std.proofs.Common.{refl};
 ghost use Rattle.dns_fields.specs.Fields.{uncompressed, field_at};
 
-use crate::{FlattenData, Number, ParseData, RowData, RowOf, ScanData, TypedData};
+use crate::{FlattenData, HasType, Number, ParseData, RowData, RowOf, ScanData, TypedData};
 use dns_fields::Uncompressed;
 use dns_name::{
     AppendError, EmptyBuilder, FlattenInto, FromBuilder, Name, ParseError, ParsedName, Parser,
@@ -51,12 +51,14 @@ impl<N: ToName> RowData<Number<17>, RpRow<N>> {
     }
 }
 
-impl<N: ToName> TypedData for Rp<N> {
+impl<N: ToName> HasType for Rp<N> {
     type Type = Number<17>;
 
-    type Row = RpRow<N>;
-
     ghost held = { λ rdata. rdata };
+}
+
+impl<N: ToName> TypedData for Rp<N> {
+    type Row = RpRow<N>;
 
     fn typed_row(&self) -> &RpRow<N> {
         &self.row

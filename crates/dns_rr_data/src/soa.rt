@@ -3,7 +3,7 @@ ghost use Rattle.std.specs.Prelude.{◌≡◌, [], ◌∷◌, Some};
 ghost use Rattle.std.proofs.Common.{refl};
 ghost use Rattle.dns_fields.specs.Fields.{compressible, number32, field_at};
 
-use crate::{FlattenData, Number, ParseData, RowData, RowOf, ScanData, TypedData};
+use crate::{FlattenData, HasType, Number, ParseData, RowData, RowOf, ScanData, TypedData};
 use dns_fields::Compressible;
 use dns_name::{
     AppendError, EmptyBuilder, FlattenInto, FromBuilder, Name, ParseError, ParsedName, Parser,
@@ -115,12 +115,14 @@ impl<N: ToName> RowData<Number<6>, SoaRow<N>> {
     }
 }
 
-impl<N: ToName> TypedData for Soa<N> {
+impl<N: ToName> HasType for Soa<N> {
     type Type = Number<6>;
 
-    type Row = SoaRow<N>;
-
     ghost held = { λ rdata. rdata };
+}
+
+impl<N: ToName> TypedData for Soa<N> {
+    type Row = SoaRow<N>;
 
     fn typed_row(&self) -> &SoaRow<N> {
         &self.row

@@ -3,7 +3,7 @@ ghost use Rattle.std.specs.Prelude.{◌≡◌, [], ◌∷◌, Some};
 ghost use Rattle.std.proofs.Common.{refl};
 ghost use Rattle.dns_fields.specs.Fields.{number16, uncompressed, field_at};
 
-use crate::{FlattenData, Number, ParseData, RowData, RowOf, ScanData, TypedData};
+use crate::{FlattenData, HasType, Number, ParseData, RowData, RowOf, ScanData, TypedData};
 use dns_fields::Uncompressed;
 use dns_name::{
     AppendError, EmptyBuilder, FlattenInto, FromBuilder, Name, ParseError, ParsedName, Parser,
@@ -67,12 +67,14 @@ impl<N: ToName> RowData<Number<33>, SrvRow<N>> {
     }
 }
 
-impl<N: ToName> TypedData for Srv<N> {
+impl<N: ToName> HasType for Srv<N> {
     type Type = Number<33>;
 
-    type Row = SrvRow<N>;
-
     ghost held = { λ rdata. rdata };
+}
+
+impl<N: ToName> TypedData for Srv<N> {
+    type Row = SrvRow<N>;
 
     fn typed_row(&self) -> &SrvRow<N> {
         &self.row

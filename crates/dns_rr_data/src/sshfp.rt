@@ -3,7 +3,7 @@ ghost use Rattle.std.specs.Prelude.{◌≡◌, ◌≤◌, ◌↔◌, length, [],
 ghost use Rattle.std.proofs.Common.{refl};
 ghost use Rattle.dns_fields.specs.Fields.{number8, rest16, octets, field_at};
 
-use crate::{FlattenData, Number, ParseData, RowData, RowOf, ScanData, TypedData};
+use crate::{FlattenData, HasType, Number, ParseData, RowData, RowOf, ScanData, TypedData};
 use dns_fields::{HasFields, Last, Rest16};
 use dns_name::{
     AppendError, EmptyBuilder, FlattenInto, FromBuilder, LongRecordData, Octets, ParseError, Parser,
@@ -81,12 +81,14 @@ impl<Octs: Octets> RowData<Number<44>, SshfpRow<Octs>> {
     }
 }
 
-impl<Octs: Octets> TypedData for Sshfp<Octs> {
+impl<Octs: Octets> HasType for Sshfp<Octs> {
     type Type = Number<44>;
 
-    type Row = SshfpRow<Octs>;
-
     ghost held = { λ rdata. rdata };
+}
+
+impl<Octs: Octets> TypedData for Sshfp<Octs> {
+    type Row = SshfpRow<Octs>;
 
     fn typed_row(&self) -> &SshfpRow<Octs> {
         &self.row

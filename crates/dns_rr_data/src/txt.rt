@@ -15,7 +15,7 @@ mod builder;
 mod cut;
 mod iter;
 
-use crate::{FlattenData, Number, ParseData, RowData, RowOf, ScanData, TypedData};
+use crate::{FlattenData, HasType, Number, ParseData, RowData, RowOf, ScanData, TypedData};
 pub use append_error::TxtAppendError;
 pub use builder::TxtBuilder;
 use cut::{append_joined, append_strings, fill, is_long};
@@ -153,12 +153,14 @@ impl<Octs: Octets> RowData<Number<16>, TxtRow<Octs>> {
     }
 }
 
-impl<Octs: Octets> TypedData for Txt<Octs> {
+impl<Octs: Octets> HasType for Txt<Octs> {
     type Type = Number<16>;
 
-    type Row = TxtRow<Octs>;
-
     ghost held = { λ rdata. rdata };
+}
+
+impl<Octs: Octets> TypedData for Txt<Octs> {
+    type Row = TxtRow<Octs>;
 
     fn typed_row(&self) -> &TxtRow<Octs> {
         &self.row

@@ -17,21 +17,24 @@ use dns_name::{AppendError, EmptyBuilder, FromBuilder, ParseError, Parser};
 use dns_text::Scanner;
 use std::alloc::Global;
 
-/// Data of a type that has fields.
-pub trait TypedData {
+/// Data of a type that has fields. All that its parsing, scanning and conversion say of it.
+pub trait HasType {
     type Type: DataType;
 
-    type Row: Row + RowOctetsOrd + ShowRow;
-
     ghost held: { Self → List Field };
+}
+
+/// Data that is written, compared and printed as the row of its fields.
+pub trait TypedData: HasType {
+    type Row: Row + RowOctetsOrd + ShowRow;
 
     /// Returns the row of its fields.
     fn typed_row(&self) -> &Self::Row
-        ensures { Self.Row.fields result.now ≡ held self.now };
+        ensures { Self.Row.fields result.now ≡ Self.held self.now };
 }
 
 /// Data of a type, parsed from a message.
-pub trait ParseData<'a>: TypedData + Sized {
+pub trait ParseData<'a>: HasType + Sized {
     /// Parses the data up to the end of the parser. Fails if what is left is no data of the type. The parser then stays where
     /// it is.
     fn parse_data(parser: &mut Parser<'a>) -> Result<Self, ParseError>
@@ -42,7 +45,7 @@ pub trait ParseData<'a>: TypedData + Sized {
 }
 
 /// Data of a type, scanned from tokens.
-pub trait ScanData<S: Scanner>: TypedData + Sized {
+pub trait ScanData<S: Scanner>: HasType + Sized {
     /// Scans the data from the first tokens, and takes these. Tokens after the last field stay (RFC 1035 5.1).
     ///
     /// Fails with an error other than `short_buf` only if the tokens begin with no data of the type. The tokens left are then
@@ -57,11 +60,11 @@ pub trait ScanData<S: Scanner>: TypedData + Sized {
 }
 
 /// Data of a type, converted to data over octets of another kind.
-pub trait FlattenData<Octs: FromBuilder>: TypedData + Sized
+pub trait FlattenData<Octs: FromBuilder>: HasType + Sized
 where
     Octs::Builder: EmptyBuilder + Drop,
 {
-    type Flat: TypedData;
+    type Flat: HasType;
 
     /// Returns the same fields over such octets, with flat names. Fails with `ShortBuf` only if these can't hold as many as a
     /// field has, and with `OutOfMemory` only if out of memory.
