@@ -11,7 +11,8 @@ use Rattle.zone_canonical.proofs.LawfulForms.{form_lawful}
 use Rattle.zone_canonical.proofs.SameOctets.{same_records}
 use Rattle.zone_canonical.proofs.SortedForms.{itself, all_weaker}
 
-abbrev LikeOne : List Record → Record → Type 0
+-- one of the others is like the record
+abbrev pub LikeOne : List Record → Record → Type 0
 LikeOne others r = (other : Record) × Contains others other × AreAlike r other
 
 -- a form of one list is a form of another that has a record like each of the first

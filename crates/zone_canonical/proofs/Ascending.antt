@@ -28,17 +28,17 @@ contains_first x xs = (0, omega arith, refl)
 pub contains_more : {X : Type 0} (x z : X) (xs : List X) → Contains xs z → Contains (x ∷ xs) z
 contains_more x z xs has = (suc has.0, omega (arith, has.1), has.2)
 
-contains_none : {X : Type 0} (z : X) → Contains [] z → ⊥
+pub contains_none : {X : Type 0} (z : X) → Contains [] z → ⊥
 contains_none z has = omega (arith, has.1)
 
-less_tied : Less ≡ Equal → ⊥
+pub less_tied : Less ≡ Equal → ⊥
 less_tied e = cc
 
-less_greater : Less ≡ Greater → ⊥
+pub less_greater : Less ≡ Greater → ⊥
 less_greater e = cc
 
 module _ {X : Type 0} {R : X → X → Ordering} (o : IsTotalOrder R) where
-  never_below : (x : X) → R x x ≡ Less → ⊥
+  pub never_below : (x : X) → R x x ≡ Less → ⊥
   never_below x below = less_tied (sym below ∙ tied_itself o x)
 
   not_both : (x y : X) → R x y ≡ Less → R y x ≡ Less → ⊥

@@ -11,3 +11,8 @@ mod KeyDigits
 mod OwnerKeys
 mod RecordForms
 mod SortedKeys
+mod ChangeLists
+mod Merged
+mod MergeSteps
+mod FoundChanges
+mod ChangeLaws

@@ -14,7 +14,7 @@ use Rattle.zone_canonical.specs.Canonical.{canonical_cmp}
 use Rattle.zone_canonical.specs.CanonicalLaws.{canonical_total}
 use Rattle.zone_canonical.specs.DataForm.{data_form}
 use Rattle.zone_canonical.specs.Form.{form_of}
-use Rattle.zone_canonical.specs.Keyed.{Keyed, keyed_cmp, with_key}
+use Rattle.zone_canonical.specs.Keyed.{Keyed, keyed_cmp, tagged}
 use Rattle.zone_canonical.specs.OwnerKey.{key_from, key_of}
 use Rattle.zone_canonical.proofs.Forms.{low-low, both_tie, number_tie}
 use Rattle.zone_canonical.proofs.KeyOrder.{key_order}
@@ -80,10 +80,6 @@ pub by_form : (one other : Keyed) (first whole : Ordering) → first ≡ Equal �
 unfolding keyed_cmp
 by_form one other first whole tied is whole_is =
     whole_is ∙ ap (λ o. ordering_then o (canonical_cmp one.form other.form)) (sym tied ∙ is)
-
--- a form with the key of its owner relative to an apex
-abbrev pub tagged : List (List ℕ) → Record → Keyed
-tagged apex form = with_key (key_of apex form.owner) form
 
 owner_first : (one other : Record) → labels_order one.owner other.owner ≡ Less → canonical_cmp one other ≡ Less
 unfolding canonical_cmp

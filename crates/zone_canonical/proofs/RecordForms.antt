@@ -14,7 +14,7 @@ use Rattle.dns_wire.proofs.Case.{low_wire, wire_one}
 use Rattle.dns_wire.specs.Order.{labels_order}
 use Rattle.dns_flat.specs.OrderLaws.{labels_total}
 use Rattle.dns_header.specs.Head.{fixed_octets}
-use Rattle.dns_message.specs.Record.{record_octets}
+use Rattle.dns_message.specs.Record.{IsRecord, record_octets}
 use Rattle.dns_rdata.specs.Fields.{IsData}
 use Rattle.dns_rdata.specs.OctetsForm.{IsCanonicalData}
 use Rattle.zone_records.specs.Record.{Record}
@@ -22,11 +22,15 @@ use Rattle.zone_canonical.specs.Canonical.{IsCanonicalOf, HasCanonicalForm}
 use Rattle.zone_canonical.specs.DataForm.{data_form}
 use Rattle.zone_canonical.specs.Form.{form_of}
 use Rattle.zone_canonical.proofs.DataForms.{data_formed}
-use Rattle.zone_canonical.proofs.LawfulForms.{length-form}
+use Rattle.zone_canonical.proofs.LawfulForms.{form_lawful, length-form}
 
 -- a record's form is its canonical one
 is_formed : (r : Record) → HasCanonicalForm r → IsCanonicalOf r (form_of r)
 is_formed r has = record { owner = refl; rtype = refl; class = refl; ttl = refl; rdata = data_formed r.rtype r.rdata has.data_is }
+
+-- so it is a record
+pub formed_lawful : (r : Record) → HasCanonicalForm r → IsRecord (form_of r)
+formed_lawful r has = form_lawful r (form_of r) has.lawful (is_formed r has)
 
 -- data that is read from a record has the form of the record's
 pub read_formed : (r : Record) (rtype : ℕ) (data' : List ℕ) → rtype ≡ r.rtype → data' ≡ r.rdata → HasCanonicalForm r

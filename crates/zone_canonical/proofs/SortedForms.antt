@@ -1,6 +1,6 @@
--- The canonical forms of records, sorted and without repeats, are those that are written.
+-- The canonical forms of records, sorted and without repeats.
 use Rattle.std.proofs.Common.{◌≡◌, ℕ, List, [], ◌∷◌, refl, sym, subst}
-use Rattle.std.specs.List.{AllByRecursion, AllZip, All, Contains, dedup, flat_map}
+use Rattle.std.specs.List.{AllByRecursion, AllZip, All, Contains, dedup}
 use Rattle.std.specs.List.Sorted.{IsPermutation, IsSorted}
 use Rattle.std.specs.Ordering.{eq_by_cmp}
 use Rattle.std.specs.Cmp.{eq_by_cmp_equiv}
@@ -9,9 +9,8 @@ use Rattle.std.proofs.lemmas.List.Filters.{All-dedup}
 use Rattle.std.proofs.lemmas.List.Kept.{IsStrictlySortedBy-dedup, Any-dedup}
 use Rattle.std.proofs.lemmas.List.Sorted.{All-permutation, Contains-permutation}
 use Rattle.dns_label.specs.Name.{low}
-use Rattle.dns_message.specs.Record.{record_octets}
 use Rattle.zone_records.specs.Record.{Record}
-use Rattle.zone_canonical.specs.Canonical.{IsCanonicalOf, canonical_cmp, IsCanonical, IsFormOfOne, HaveFormOf}
+use Rattle.zone_canonical.specs.Canonical.{AreFormsOf, IsCanonicalOf, canonical_cmp, IsFormOfOne, HaveFormOf}
 use Rattle.zone_canonical.specs.CanonicalLaws.{canonical_total}
 use Rattle.zone_canonical.proofs.Ascending.{all_in}
 use Rattle.zone_canonical.proofs.Forms.{form_low, tied_forms}
@@ -39,10 +38,10 @@ forms_all whole [] (form ∷ forms) within zip = absurd zip
 forms_all whole (r ∷ records) [] within zip = absurd zip
 forms_all whole (r ∷ records) (form ∷ forms) within zip = ((form, within.0, zip.0), forms_all whole records forms within.1 zip.1)
 
-abbrev IsLow : Record → Type 0
+abbrev pub IsLow : Record → Type 0
 IsLow form = low form.owner ≡ form.owner
 
-only_low : (records : List Record) (form : Record) → IsFormOfOne records form → IsLow form
+pub only_low : (records : List Record) (form : Record) → IsFormOfOne records form → IsLow form
 only_low records form only = form_low only.0 form only.2
 
 -- a form is in the list also without repeats
@@ -56,20 +55,17 @@ kept sorted form lows has =
     let same = tied_forms form found.1 (all_in IsLow sorted form lows has) (all_in IsLow left found.1 lows' (found.0, found.2, found.3)) found.4 in
     subst (Contains left) (sym same) (found.0, found.2, found.3)
 
-pub sorted_canonical : (records forms sorted : List Record) (octets : List ℕ) → AllZip IsCanonicalOf records forms
-    → IsPermutation forms sorted → IsSorted canonical_cmp sorted
-    → octets ≡ flat_map record_octets (dedup (eq_by_cmp canonical_cmp) sorted) → IsCanonical records octets
-sorted_canonical records forms sorted octets zip moved ascend written =
+pub sorted_forms : (records forms sorted : List Record) → AllZip IsCanonicalOf records forms → IsPermutation forms sorted
+    → IsSorted canonical_cmp sorted → AreFormsOf records (dedup (eq_by_cmp canonical_cmp) sorted)
+sorted_forms records forms sorted zip moved ascend =
     let left = dedup (eq_by_cmp canonical_cmp) sorted in
     let only : All (IsFormOfOne records) sorted = All-permutation (IsFormOfOne records) forms sorted moved
     (All-from_recursion (IsFormOfOne records) forms (forms_only records records forms (itself records) zip)) in
     let lows = all_weaker (IsFormOfOne records) IsLow (only_low records) sorted (recursion_from_All (IsFormOfOne records) sorted only) in
     record {
-      forms = left;
       ascend = IsStrictlySortedBy-dedup canonical_total (λ x y. refl) sorted ascend;
       only = recursion_from_All (IsFormOfOne records) left (All-dedup (eq_by_cmp canonical_cmp) (IsFormOfOne records) sorted only);
       all = all_weaker (HaveFormOf forms) (HaveFormOf left)
           (λ r has. (has.0, kept sorted has.0 lows (Contains-permutation forms sorted has.0 moved has.1), has.2)) records
           (forms_all forms records forms (itself forms) zip);
-      written = written;
     }

@@ -8,15 +8,12 @@ use Rattle.std.proofs.lemmas.List.Elements.{All-from_recursion, recursion_from_A
 use Rattle.std.proofs.lemmas.List.Sorted.{All-permutation, IsPermutation-map}
 use Rattle.dns_message.specs.Record.{record_octets}
 use Rattle.zone_records.specs.Record.{Record}
-use Rattle.zone_canonical.specs.Canonical.{HasCanonicalForm, IsCanonical, canonical_cmp}
+use Rattle.zone_canonical.specs.Canonical.{AreFormsOf, HasCanonicalForm, IsCanonical, canonical_cmp}
 use Rattle.zone_canonical.specs.Form.{form_of}
-use Rattle.zone_canonical.specs.Keyed.{Keyed, form_octets, keyed, keyed_cmp, with_key}
-use Rattle.zone_canonical.proofs.Orders.{key_low, tagged, tagged_order}
+use Rattle.zone_canonical.specs.Keyed.{AreEntriesOf, Keyed, form_in, form_octets, keyed, keyed_cmp, tagged, with_key}
+use Rattle.zone_canonical.proofs.Orders.{key_low, tagged_order}
 use Rattle.zone_canonical.proofs.RecordForms.{are_formed}
-use Rattle.zone_canonical.proofs.SortedForms.{sorted_canonical}
-
-abbrev form_in : Keyed → Record
-form_in entry = entry.form
+use Rattle.zone_canonical.proofs.SortedForms.{sorted_forms}
 
 module _ (apex : List (List ℕ)) where
   -- the key is that of the owner
@@ -38,8 +35,8 @@ module _ (apex : List (List ℕ)) where
   forms_of [] = refl
   forms_of (r ∷ records) = ap (λ l. form_of r ∷ l) (forms_of records)
 
-  sorted_forms : (forms : List Record) → IsSorted keyed_cmp (map (tagged apex) forms) → IsSorted canonical_cmp forms
-  sorted_forms forms ascend k d from to =
+  ascend_tagged : (forms : List Record) → IsSorted keyed_cmp (map (tagged apex) forms) → IsSorted canonical_cmp forms
+  ascend_tagged forms ascend k d from to =
       let at = get_or-map (tagged apex) forms (k + 1) d (tagged apex d) to in
       let before = get_or-map (tagged apex) forms k d (tagged apex d) (omega arith) in
       ap is_lt (sym (tagged_order apex (get_or forms (k + 1) d) (get_or forms k d)))
@@ -69,18 +66,39 @@ module _ (apex : List (List ℕ)) where
   octets_tagged [] = refl
   octets_tagged (form ∷ forms) = ap (λ l. record_octets form ++ l) (octets_tagged forms)
 
-  -- what is written of sorted entries without repeats
-  pub sorted_keyed : (records : List Record) (entries sorted left : List Keyed) (octets : List ℕ) → AllByRecursion HasCanonicalForm records
+  -- sorted entries without repeats are those of the records
+  pub sorted_keyed : (records : List Record) (entries sorted left : List Keyed) → AllByRecursion HasCanonicalForm records
       → entries ≡ map (keyed apex) records → IsPermutation entries sorted → IsSorted keyed_cmp sorted
-      → left ≡ dedup (eq_by_cmp keyed_cmp) sorted → octets ≡ flat_map form_octets left → IsCanonical records octets
-  sorted_keyed records entries sorted left octets each are moved ascend left_is written =
+      → left ≡ dedup (eq_by_cmp keyed_cmp) sorted → AreEntriesOf apex records left
+  sorted_keyed records entries sorted left each are moved ascend left_is =
       let tags : All IsTagged entries = All-from_recursion IsTagged entries (subst (AllByRecursion IsTagged) (sym are) (all_tagged records)) in
       let forms = map form_in sorted in
       let is : sorted ≡ map (tagged apex) forms =
       are_tagged sorted (recursion_from_All IsTagged sorted (All-permutation IsTagged entries sorted moved tags)) in
-      let start : map form_in entries ≡ map form_of records = ap (map form_in) are ∙ forms_of records in
-      sorted_canonical records (map form_of records) forms octets (are_formed records each)
-      (subst (λ l. IsPermutation l forms) start (IsPermutation-map form_in entries sorted moved))
-      (sorted_forms forms (subst (IsSorted keyed_cmp) is ascend))
-      (written ∙ ap (flat_map form_octets) (left_is ∙ ap (dedup (eq_by_cmp keyed_cmp)) is ∙ dedup_tagged forms)
-      ∙ octets_tagged (dedup (eq_by_cmp canonical_cmp) forms))
+      let start : map form_in entries ≡ map form_of records = ap (map form_in) are ∙ forms_of records in (
+        dedup (eq_by_cmp canonical_cmp) forms,
+        left_is ∙ ap (dedup (eq_by_cmp keyed_cmp)) is ∙ dedup_tagged forms,
+        sorted_forms records (map form_of records) forms (are_formed records each)
+            (subst (λ l. IsPermutation l forms) start (IsPermutation-map form_in entries sorted moved))
+            (ascend_tagged forms (subst (IsSorted keyed_cmp) is ascend)),
+      )
+
+  forms_tagged : (forms : List Record) → map form_in (map (tagged apex) forms) ≡ forms
+  forms_tagged [] = refl
+  forms_tagged (form ∷ forms) = ap (λ l. form ∷ l) (forms_tagged forms)
+
+  -- the forms of entries are those of the records
+  pub entry_forms : (records : List Record) (entries : List Keyed) → AreEntriesOf apex records entries → AreFormsOf records (map form_in entries)
+  entry_forms records entries are =
+      subst (AreFormsOf records) (sym (ap (map form_in) are.1 ∙ forms_tagged are.0)) are.2
+
+  -- what is written of entries
+  pub entries_written : (records : List Record) (entries : List Keyed) (octets : List ℕ) → AreEntriesOf apex records entries
+      → octets ≡ flat_map form_octets entries → IsCanonical records octets
+  entries_written records entries octets are written = record {
+    forms = are.0;
+    ascend = are.2.ascend;
+    only = are.2.only;
+    all = are.2.all;
+    written = written ∙ ap (flat_map form_octets) are.1 ∙ octets_tagged are.0;
+  }

@@ -41,6 +41,12 @@ IsFormOfOne records form = (r : Record) × Contains records r × IsCanonicalOf r
 abbrev pub HaveFormOf : List Record → Record → Type 0
 HaveFormOf forms r = (form : Record) × Contains forms form × IsCanonicalOf r form
 
+-- The canonical forms of records, each once, in canonical order (RFC 4034 6.2, 6.3).
+pub record AreFormsOf (records forms : List Record) : Type 0 where
+  pub ascend : IsStrictlySortedBy canonical_cmp forms
+  pub only : AllByRecursion (IsFormOfOne records) forms
+  pub all : AllByRecursion (HaveFormOf forms) records
+
 -- The canonical octets of records: their canonical forms in canonical order, each written once (RFC 4034 6.3).
 pub record IsCanonical (records : List Record) (octets : List ℕ) : Type 0 where
   pub forms : List Record

@@ -1,12 +1,12 @@
 -- Records in canonical form, sorted by keys. Only contracts inside the crate name them.
-use Rattle.std.specs.Prelude.{ℕ, List}
+use Rattle.std.specs.Prelude.{◌≡◌, ℕ, List, map}
 use Rattle.std.specs.Cmp.{IsTotalOrder, on_total, nat_cmp_total}
 use Rattle.std.specs.Ordering.{on, then_cmp, nat_cmp}
 use Rattle.std.specs.declared.cmp.Ordering.{Ordering}
 use Rattle.std.proofs.lemmas.Cmp.{then_total}
 use Rattle.dns_message.specs.Record.{record_octets}
 use Rattle.zone_records.specs.Record.{Record}
-use Rattle.zone_canonical.specs.Canonical.{canonical_cmp}
+use Rattle.zone_canonical.specs.Canonical.{AreFormsOf, canonical_cmp}
 use Rattle.zone_canonical.specs.CanonicalLaws.{canonical_total}
 use Rattle.zone_canonical.specs.Form.{form_of}
 use Rattle.zone_canonical.specs.OwnerKey.{key_of}
@@ -19,6 +19,9 @@ pub record Keyed : Type 0 where
 abbrev pub with_key : ℕ → Record → Keyed
 with_key key form = record { key = key; form = form }
 
+abbrev pub form_in : Keyed → Record
+form_in entry = entry.form
+
 -- the octets of the form
 abbrev pub form_octets : Keyed → List ℕ
 form_octets entry = record_octets entry.form
@@ -26,6 +29,14 @@ form_octets entry = record_octets entry.form
 -- the canonical form of a record with the key of its owner relative to an apex
 abbrev pub keyed : List (List ℕ) → Record → Keyed
 keyed apex r = with_key (key_of apex r.owner) (form_of r)
+
+-- a form with the key of its owner relative to an apex
+abbrev pub tagged : List (List ℕ) → Record → Keyed
+tagged apex form = with_key (key_of apex form.owner) form
+
+-- the entries are the canonical forms of the records, each once and in canonical order, with keys relative to an apex
+abbrev pub AreEntriesOf : List (List ℕ) → List Record → List Keyed → Type 0
+AreEntriesOf apex records entries = (forms : List Record) × (entries ≡ map (tagged apex) forms) × AreFormsOf records forms
 
 -- by key, then by canonical form
 unfoldable pub keyed_cmp : Keyed → Keyed → Ordering

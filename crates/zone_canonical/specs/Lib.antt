@@ -1,7 +1,12 @@
 pub mod Canonical
 pub mod CanonicalLaws
+pub mod Changes
+pub mod ChangesSeen
+pub mod ChangeWriter
 pub mod DataForm
 pub mod Form
+pub mod FormWriter
 pub mod Keyed
+pub mod Merge
 pub mod OwnerKey
 pub mod Tried

@@ -2,7 +2,7 @@ use Rattle.std.proofs.Common.{◌≡◌, Some, sym, ap, ◌∙◌}
 use Rattle.zone_canonical.specs.Form.{form_of}
 use Rattle.zone_canonical.specs.Keyed.{keyed, with_key}
 use Rattle.zone_canonical.specs.OwnerKey.{key_of}
-use Rattle.zone_canonical.proofs.octets.entry_at.Goals as goal
+use Rattle.zone_canonical.proofs.entries.entry_at.Goals as goal
 
 pub new-requires : goal.new-requires
 new-requires c = c.requires.has c.record_at-record.result c.record_at-record.ensures

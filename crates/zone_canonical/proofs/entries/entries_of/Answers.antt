@@ -4,11 +4,11 @@ use Rattle.zone_records.specs.Record.{Record}
 use Rattle.zone_records.proofs.Indexed.{all_at, element_at, take-next}
 use Rattle.zone_canonical.specs.Canonical.{HasCanonicalForm}
 use Rattle.zone_canonical.specs.Keyed.{Keyed, keyed}
-use Rattle.zone_canonical.proofs.octets.entries_of.Goals as goal
+use Rattle.zone_canonical.proofs.entries.entries_of.Goals as goal
 
 pub loop-index-preserved : goal.loop-index-preserved
 loop-index-preserved c =
-    let apex = c.owner-apex.result in
+    let apex = c.args.apex.now in
     let front : List Record = take c.loop-index.index c.args.records.now in
     let there = element_at c.args.records.now c.loop-index.index (omega arith) in
     c.in_ok-push.ensures.items
