@@ -1,5 +1,6 @@
 """What crates.txt says of the crates of this repository, and how many processors there are. The other tools import it."""
 import os
+import re
 from dataclasses import dataclass, field
 from pathlib import Path
 
@@ -19,6 +20,12 @@ def needs_of():
     rows = [(name_in(it), it.partition(":")[2]) for it in (ROOT / "crates.txt").read_text().split("\n") if name_in(it)]
     every = {name for name, _ in rows}
     return {name: [it for it in words.split() if it in every] for name, words in rows}
+
+
+def words_of(name):
+    """The words of the option's list of this name in the program's command line, as `SPELLINGS`, in their order."""
+    source = (ROOT / "crates" / "zonewire" / "src" / "command_line.rt").read_text(encoding="utf-8")
+    return re.findall(r'"(\w+)"', re.search(rf"^static {name}: &\[&str\] = &\[(.*)\];$", source, re.M)[1])
 
 
 @dataclass

@@ -1,7 +1,7 @@
 #!/usr/bin/env python3
 """man_page.py: checks that docs/zonewire.1 has every command, option, value and fault text of the program.
 
-They are read from the sources: commands, options and their values from crates/zonewire/src/command_line.rt, fault texts from the
+A command has to be in the synopsis, as `zonewire NAME`. They are read from the sources: commands, options and their values from crates/zonewire/src/command_line.rt, fault texts from the
 `#[error("..")]` of the zone crates and from what `main` writes itself. A number in a text is an N in the page. The page may name no other
 option but `--help`. It prints what is missing or unknown; the exit status is then 1."""
 import re
@@ -39,7 +39,8 @@ def main():
     page, source = page_text(), COMMAND_LINE.read_text(encoding="utf-8")
     options = {f"--{it}" for it in OPTION.findall(source)}
     values = {it for words in VALUES.findall(source) for it in re.findall(r'"(\w+)"', words)}
-    wanted = sorted(set(COMMAND.findall(source)) | options | values) + fault_texts()
+    commands = {f"zonewire {it}" for it in COMMAND.findall(source) if it != "zonewire"}
+    wanted = sorted(commands | options | values) + fault_texts()
     wrong = [f"docs/zonewire.1 lacks: {it}" for it in wanted if not re.search(rf"(?<![\w-]){re.escape(it)}(?!\w)", page)]
     unknown = set(re.findall(r"--\w+", page)) - options - {"--help"}
     wrong += [f"docs/zonewire.1 has an option that the program has not: {it}" for it in sorted(unknown)]

@@ -18,12 +18,13 @@ import sys
 from collections import Counter
 from pathlib import Path
 
+from crates import words_of
 from memory import Program, Server, make_library
 from model import ANY, AXFR, CAA, CLASSES, FAR, FIELDS, SIZES, SOA, TYPES, Fault, Query, Record, Unreadable
 from model import canonical, canonical_data, head_of, is_under, lowered, parse_data, plain, read_fields, read_name, read_zone
 from model import receive, rows_of, send, show_name, show_number, show_zone, wire
 
-SPELLINGS, LAYOUTS = ("plain", "static", "tree", "hash"), ("simple", "tabbed", "multiline")
+SPELLINGS, LAYOUTS = words_of("SPELLINGS"), words_of("LAYOUTS")
 
 # -- Random zones and streams.
 
