@@ -1,4 +1,4 @@
--- Records that are printed one after another. Only contracts inside the crate name it.
+-- Records that are printed one after another.
 use Rattle.std.specs.Prelude.{◌≡◌, ℕ, List, [], ◌∷◌, ◌++◌}
 use Rattle.dns_text.specs.Document.{Layout, Piece, document_text}
 use Rattle.dns_text.specs.Document.Piece.{Newline}

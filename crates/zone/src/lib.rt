@@ -2,7 +2,8 @@
 //! (RFC 4034 6). In definitions, which text is a zone's, and the first rule that another text breaks; laws of both.
 //!
 //! A part of `zonewire`, which re-exports its types. The functions of `zone` are for `zone_send`, which sends the
-//! records of a zone, and for `zone_receive`, which makes a zone of those that it received.
+//! records of a zone, for `zone_receive`, which makes a zone of those that it received, and for `zone_tool`, which prints
+//! changed and sorted records.
 #![tactic(auto)]
 
 mod keep;
@@ -14,6 +15,7 @@ mod records;
 pub mod zone;
 mod zone_error;
 
+pub use print::print_record;
 pub use records::{ZoneRecord, ZoneRecords};
 pub use zone::Zone;
 pub use zone_error::ZoneError;

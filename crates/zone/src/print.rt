@@ -32,8 +32,12 @@ pub fn print_records(
     Ok(text.into_bytes())
 }
 
-/// Appends the text of a record, followed by a line feed. Fails if out of memory.
-fn print_record(text: &mut String, record: &Record<'_>, kind: DisplayKind) -> Result<(), AllocError>
+/// Appends the text of a record in the layout, followed by a line feed. Fails if out of memory.
+pub fn print_record(
+    text: &mut String,
+    record: &Record<'_>,
+    kind: DisplayKind,
+) -> Result<(), AllocError>
     requires { HasLawfulData «record».now }
     ensures { OnOk result (AddsRecord (layout_of kind) «record».now (string_bytes text.old) (string_bytes text.new)) }
 {
