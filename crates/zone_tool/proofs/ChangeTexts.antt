@@ -1,0 +1,31 @@
+-- The lines of changes, and that there are none exactly if nothing changed.
+use Rattle.std.proofs.Common.{◌≡◌, ◌+◌, ℕ, Some, List, [], ◌∷◌, ◌++◌, length, take, refl, sym, ap, ◌∙◌, subst, arith, append_assoc, append-nil}
+use Rattle.std.specs.Prelude.{slice_get}
+use Rattle.zone_records.proofs.Indexed.{take-next}
+use Rattle.zone_canonical.specs.declared.change_list.Change.{Change}
+use Rattle.zone_tool.specs.Differences.{AddsChange, IsChangeText, line_of}
+use Rattle.zone_tool.specs.Differences.IsChangeText.{more, none}
+
+-- one line more
+text_push : (changes : List Change) (change : Change) (front text : List ℕ) → IsChangeText changes front → AddsChange change front text
+    → IsChangeText (changes ++ change ∷ []) text
+text_push changes change front text none adds =
+    more adds.document adds.is none (adds.line ∙ sym (append-nil (line_of change adds.document)))
+text_push changes change front text (more {change = first} {changes = others} {rest = rest} document shown is written) adds =
+    let line = line_of change adds.document in
+    more document shown (text_push others change rest (rest ++ line) is (record { document = adds.document; is = adds.is; line = refl }))
+    (adds.line ∙ ap (λ l. l ++ line) written ∙ append_assoc (line_of first document) rest line)
+
+pub text_more : (changes : List Change) (index : ℕ) (change : Change) (front text : List ℕ) → slice_get changes index ≡ Some change
+    → IsChangeText (take index changes) front → AddsChange change front text → IsChangeText (take (index + 1) changes) text
+text_more changes index change front text at is adds =
+    subst (λ l. IsChangeText l text) (sym (take-next changes index change at)) (text_push (take index changes) change front text is adds)
+
+pub no_text : (changes : List Change) (text : List ℕ) → IsChangeText changes text → text ≡ [] → changes ≡ []
+no_text changes text none empty = refl
+no_text changes text (more {change = first} {changes = others} {rest = rest} document shown is written) empty =
+    absurd (omega (arith, ap (length {A = ℕ}) (sym written ∙ empty)))
+
+pub no_change : (changes : List Change) (text : List ℕ) → IsChangeText changes text → changes ≡ [] → text ≡ []
+no_change changes text none nothing = refl
+no_change changes text (more {change = first} {changes = others} {rest = rest} document shown is written) nothing = absurd cc

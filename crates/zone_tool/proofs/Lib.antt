@@ -1,0 +1,6 @@
+mod ChangeTexts
+mod ComparedRecords
+mod Queries
+mod SoaData
+mod SortedTexts
+mod ZoneRecords
