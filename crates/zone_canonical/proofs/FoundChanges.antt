@@ -1,16 +1,17 @@
 -- The changes between lists of records are those that a merge of their forms finds.
 use Rattle.std.proofs.Common.{◌≡◌, ℕ, List, [], ◌∷◌, refl, sym, ap, ◌∙◌, subst, inl, inr, ⊎_elim}
 use Rattle.std.specs.Prelude.{map}
-use Rattle.std.specs.List.{Contains}
+use Rattle.std.specs.List.{AllByRecursion, Contains}
 use Rattle.zone_records.specs.Record.{Record}
-use Rattle.zone_canonical.specs.Canonical.{AreFormsOf, HaveFormOf, IsFormOfOne, canonical_cmp}
-use Rattle.zone_canonical.specs.Changes.{AreChanges, HasFormOrChange, IsChange}
+use Rattle.zone_canonical.specs.Canonical.{AreFormsOf, HasCanonicalForm, HaveFormOf, IsFormOfOne, canonical_cmp}
+use Rattle.zone_canonical.specs.Changes.{AreChanges, ChangesForm, HasFormOrChange, IsChange, changed}
 use Rattle.zone_canonical.specs.Keyed.{AreEntriesOf, Keyed, form_in, keyed_cmp, tagged}
 use Rattle.zone_canonical.specs.Merge.{by_order, merged}
 use Rattle.zone_canonical.specs.declared.change_list.Change.{Change}
 use Rattle.zone_canonical.specs.declared.change_list.Change.TheVariants.{Added, Removed}
 use Rattle.zone_canonical.proofs.Ascending.{all_in}
 use Rattle.zone_canonical.proofs.Forms.{one_form}
+use Rattle.zone_canonical.proofs.LawfulForms.{form_has}
 use Rattle.zone_canonical.proofs.Merged.{Differs, IsLeft, is_merge, same}
 use Rattle.zone_canonical.proofs.Orders.{tagged_order}
 use Rattle.zone_canonical.proofs.SortedForms.{IsLow, all_weaker, only_low}
@@ -72,3 +73,20 @@ entry_changes apex old new old_entries new_entries changes are are' found =
     let all : changes ≡ merged canonical_cmp same are.0 are'.0 =
     found ∙ (λ i. merged keyed_cmp form_in (are.1 i) (are'.1 i)) ∙ merged_tagged apex are.0 are'.0 in
     subst (AreChanges old new) (sym all) (merged_changes old new are.0 are'.0 are.2 are'.2)
+
+-- the form of one of the records has a form
+one_has : (records : List Record) → AllByRecursion HasCanonicalForm records → (form : Record) → IsFormOfOne records form → HasCanonicalForm form
+one_has records each form one = form_has one.0 form (all_in HasCanonicalForm records one.0 each one.1) one.2
+
+pub forms_have : (records forms : List Record) → AllByRecursion HasCanonicalForm records → AreFormsOf records forms
+    → AllByRecursion HasCanonicalForm forms
+forms_have records forms each are = all_weaker (IsFormOfOne records) HasCanonicalForm (one_has records each) forms are.only
+
+change_has : (old new : List Record) → AllByRecursion HasCanonicalForm old → AllByRecursion HasCanonicalForm new → (change : Change)
+    → IsChange old new change → HasCanonicalForm (changed change)
+change_has old new each each' (Removed form) is = one_has old each form is.0
+change_has old new each each' (Added form) is = one_has new each' form is.0
+
+pub changes_have : (old new : List Record) (changes : List Change) → AllByRecursion HasCanonicalForm old → AllByRecursion HasCanonicalForm new
+    → AreChanges old new changes → AllByRecursion ChangesForm changes
+changes_have old new changes each each' are = all_weaker (IsChange old new) ChangesForm (change_has old new each each') changes are.only

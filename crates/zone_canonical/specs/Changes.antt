@@ -4,7 +4,7 @@ use Rattle.std.specs.List.{AllByRecursion, Contains}
 use Rattle.std.specs.List.Sorted.{IsStrictlySortedBy}
 use Rattle.std.specs.Ordering.{on}
 use Rattle.zone_records.specs.Record.{Record}
-use Rattle.zone_canonical.specs.Canonical.{IsCanonicalOf, IsFormOfOne, canonical_cmp}
+use Rattle.zone_canonical.specs.Canonical.{HasCanonicalForm, IsCanonicalOf, IsFormOfOne, canonical_cmp}
 use Rattle.zone_canonical.specs.declared.change_list.Change.{Change}
 use Rattle.zone_canonical.specs.declared.change_list.Change.TheVariants.{Added, Removed}
 
@@ -12,6 +12,10 @@ use Rattle.zone_canonical.specs.declared.change_list.Change.TheVariants.{Added, 
 abbrev pub changed : Change → Record
 changed (Removed form) = form
 changed (Added form) = form
+
+-- the record that is removed or added has a canonical form itself
+abbrev pub ChangesForm : Change → Type 0
+ChangesForm change = HasCanonicalForm (changed change)
 
 -- this is the canonical form of one of the records, and of none of the others
 abbrev pub IsOnlyOf : List Record → List Record → Record → Type 0

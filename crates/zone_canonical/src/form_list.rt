@@ -14,7 +14,8 @@ use zone_records::record_list::RecordList;
 /// Returns the distinct records in canonical form, in canonical order (RFC 4034 6). Fails if out of memory.
 pub fn canonical_forms(alloc: Global, records: &RecordList) -> Result<RecordList, AllocError>
     requires { AllByRecursion HasCanonicalForm records.now }
-    ensures { IfOk result (AreFormsOf records.now) }
+    ensures forms { IfOk result (AreFormsOf records.now) }
+    ensures lawful { IfOk result (AllByRecursion HasCanonicalForm) }
 {
     let entries = sorted_entries(alloc, records, &apex_of(records))?;
     list_of(alloc, entries.as_slice())

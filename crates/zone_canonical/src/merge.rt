@@ -2,7 +2,7 @@
 ghost use Rattle.std.specs.Prelude.{◌≡◌, IfOk};
 ghost use Rattle.std.specs.List.{AllByRecursion};
 ghost use Rattle.zone_canonical.specs.Canonical.{HasCanonicalForm};
-ghost use Rattle.zone_canonical.specs.Changes.{AreChanges};
+ghost use Rattle.zone_canonical.specs.Changes.{AreChanges, ChangesForm};
 ghost use Rattle.zone_canonical.specs.Keyed.{form_in, keyed_cmp};
 ghost use Rattle.zone_canonical.specs.Merge.{first_cmp, merged};
 
@@ -20,7 +20,8 @@ use zone_records::record_list::RecordList;
 pub fn changes(alloc: Global, old: &RecordList, new: &RecordList) -> Result<ChangeList, AllocError>
     requires old { AllByRecursion HasCanonicalForm old.now }
     requires new { AllByRecursion HasCanonicalForm «new».now }
-    ensures { IfOk result (AreChanges old.now «new».now) }
+    ensures changes { IfOk result (AreChanges old.now «new».now) }
+    ensures lawful { IfOk result (AllByRecursion ChangesForm) }
 {
     let apex = apex_of(if old.is_empty() { new } else { old });
     let old_entries = sorted_entries(alloc, old, &apex)?;

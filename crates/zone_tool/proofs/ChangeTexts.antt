@@ -1,6 +1,7 @@
 -- The lines of changes, and that there are none exactly if nothing changed.
-use Rattle.std.proofs.Common.{◌≡◌, ◌+◌, ℕ, Some, List, [], ◌∷◌, ◌++◌, length, take, refl, sym, ap, ◌∙◌, subst, arith, append_assoc, append-nil}
+use Rattle.std.proofs.Common.{◌≡◌, ◌+◌, ◌≤◌, ℕ, Some, List, [], ◌∷◌, ◌++◌, length, take, refl, sym, ap, ◌∙◌, subst, arith, append_assoc, append-nil}
 use Rattle.std.specs.Prelude.{slice_get}
+use Rattle.std.proofs.lemmas.List.{take_all}
 use Rattle.zone_records.proofs.Indexed.{take-next}
 use Rattle.zone_canonical.specs.declared.change_list.Change.{Change}
 use Rattle.zone_tool.specs.Differences.{AddsChange, IsChangeText, line_of}
@@ -20,6 +21,10 @@ pub text_more : (changes : List Change) (index : ℕ) (change : Change) (front t
     → IsChangeText (take index changes) front → AddsChange change front text → IsChangeText (take (index + 1) changes) text
 text_more changes index change front text at is adds =
     subst (λ l. IsChangeText l text) (sym (take-next changes index change at)) (text_push (take index changes) change front text is adds)
+
+pub text_all : (changes : List Change) (index : ℕ) (text : List ℕ) → length changes ≤ index → IsChangeText (take index changes) text
+    → IsChangeText changes text
+text_all changes index text past is = subst (λ (l : List Change). IsChangeText l text) (take_all index changes past) is
 
 pub no_text : (changes : List Change) (text : List ℕ) → IsChangeText changes text → text ≡ [] → changes ≡ []
 no_text changes text none empty = refl
