@@ -23,6 +23,7 @@ const NAME: &str = "zonetool";
 
 /// The exit status of `diff` if the zones differ, and that of a run that failed.
 const DIFFERENCE: u8 = 1;
+
 const TROUBLE: u8 = 2;
 
 fn main(rt: HostRuntime) -> ExitCode {
