@@ -1,6 +1,6 @@
 mod ChangeTexts
 mod ComparedRecords
-mod Queries
+mod ShortQueries
 mod SoaData
 mod SortedTexts
 mod ZoneRecords
