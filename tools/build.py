@@ -16,8 +16,6 @@ from pathlib import Path
 from crates import ROOT, lines_for, lower, needs_of
 
 PROGRAM = "zone_main"
-# How programs are called, where it is not by their crates.
-NAMES = {PROGRAM: "zonewire", "tool_main": "zonetool"}
 # What the gate says of a crate that it has proved, in this run or an earlier one.
 DONE = re.compile(r"rt: (\w+) (proved|is kept: .*)\n")
 
@@ -53,7 +51,7 @@ def run_gate(room, count):
 
 def main():
     program = sys.argv[1] if sys.argv[1:] else PROGRAM
-    to = ROOT / "build" / NAMES.get(program, program)
+    to = ROOT / "build" / ("zonewire" if program == PROGRAM else program)
     with tempfile.TemporaryDirectory(prefix="zonewire-") as name:
         room = Path(name)
         count = copy_to(room, program)

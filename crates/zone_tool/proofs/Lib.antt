@@ -1,6 +1,0 @@
-mod ChangeTexts
-mod ComparedRecords
-mod ShortQueries
-mod SoaData
-mod SortedTexts
-mod ZoneRecords

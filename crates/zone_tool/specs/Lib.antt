@@ -1,5 +1,0 @@
-pub mod Differences
-pub mod Framed
-pub mod RecordWriter
-pub mod Selected
-pub mod Sorted
