@@ -2,8 +2,8 @@
 //! (RFC 4034 6). In definitions, which text is a zone's, and the first rule that another text breaks; laws of both.
 //!
 //! A part of `zonewire`, which re-exports its types. The functions of `zone` are for `zone_send`, which sends the
-//! records of a zone, for `zone_receive`, which makes a zone of those that it received, and for `zone_tool`, which prints
-//! changed and sorted records.
+//! records of a zone, for `zone_receive`, which makes a zone of those that it received, and for a program that prints
+//! records one by one.
 #![tactic(auto)]
 
 mod keep;
