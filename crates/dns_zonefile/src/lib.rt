@@ -12,8 +12,6 @@
 //!     show(&entry)?;
 //! }
 //! ```
-//!
-//! The program of a page `example_entries` shows each entry, or the line and the reason of the first error.
 #![tactic(auto)]
 
 mod context;
