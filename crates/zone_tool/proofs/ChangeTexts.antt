@@ -3,8 +3,14 @@ use Rattle.std.proofs.Common.{◌≡◌, ◌+◌, ◌≤◌, ℕ, Some, List, []
 use Rattle.std.specs.Prelude.{slice_get}
 use Rattle.std.proofs.lemmas.List.{take_all}
 use Rattle.zone_records.proofs.Indexed.{take-next}
+use Rattle.dns_text.specs.Document.{document_text}
+use Rattle.dns_text.specs.Document.Piece.{Newline}
+use Rattle.dns_text.specs.Layout.{layout_of}
+use Rattle.dns_text.specs.declared.layout.DisplayKind.TheVariants.{Simple}
+use Rattle.zone.specs.Printing.{AddsRecord}
+use Rattle.zone_canonical.specs.Changes.{changed}
 use Rattle.zone_canonical.specs.declared.change_list.Change.{Change}
-use Rattle.zone_tool.specs.Differences.{AddsChange, IsChangeText, line_of}
+use Rattle.zone_tool.specs.Differences.{AddsChange, IsChangeText, line_of, sign_of}
 use Rattle.zone_tool.specs.Differences.IsChangeText.{more, none}
 
 -- one line more
@@ -34,3 +40,14 @@ no_text changes text (more {change = first} {changes = others} {rest = rest} doc
 pub no_change : (changes : List Change) (text : List ℕ) → IsChangeText changes text → changes ≡ [] → text ≡ []
 no_change changes text none nothing = refl
 no_change changes text (more {change = first} {changes = others} {rest = rest} document shown is written) nothing = absurd cc
+
+-- the line of a change, after its sign
+pub adds_line : (change : Change) (old signed new : List ℕ) → signed ≡ old ++ sign_of change ∷ []
+    → AddsRecord (layout_of Simple) (changed change) signed new → AddsChange change old new
+adds_line change old signed new signed_is adds =
+    let line = document_text (layout_of Simple) (adds.document ++ Newline ∷ []) in
+    record {
+      document = adds.document;
+      is = adds.is;
+      line = adds.added ∙ ap (λ l. l ++ line) signed_is ∙ append_assoc old (sign_of change ∷ []) line;
+    }

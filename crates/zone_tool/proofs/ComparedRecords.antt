@@ -1,18 +1,21 @@
 -- A record with what is ignored as 0 has a canonical form too.
-use Rattle.std.proofs.Common.{◌≡◌, ◌<◌, ◌^◌, ℕ, Bool, true, false, List, [], ◌∷◌, ◌++◌, length, map, refl, sym, ap, ◌∙◌, subst, arith, append-nil}
+use Rattle.std.proofs.Common.{◌≡◌, ◌≤◌, ◌<◌, ◌^◌, ◌-◌, take, drop, ℕ, Bool, true, false, List, [], ◌∷◌, ◌++◌, length, map, refl, sym, ap, ◌∙◌, subst, arith, append_assoc, append-nil}
 use Rattle.std.specs.Prelude.{◌==◌, ◌&&◌, filter}
 use Rattle.std.specs.Prelude.{if◌then◌else◌}
+use Rattle.std.specs.Int.{to_be_bytes, w16, w32}
 use Rattle.std.specs.List.{AllByRecursion, push}
 use Rattle.std.proofs.lemmas.Bool.{and_parts, eqb-true}
 use Rattle.std.proofs.lemmas.List.Elements.{filter-append}
 use Rattle.std.proofs.lemmas.List.{map-append}
+use Rattle.dns_label.specs.Name.{wire}
+use Rattle.dns_message.specs.Record.{record_octets}
 use Rattle.dns_rdata.specs.Fields.{IsData}
 use Rattle.zone_records.specs.Record.{Record}
 use Rattle.zone_records.specs.Zone.{soa_type}
 use Rattle.zone_canonical.specs.Canonical.{HasCanonicalForm}
 use Rattle.zone_tool.specs.Selected.{compared_data, compared_of, is_compared, selected_of, without_serial}
 use Rattle.zone_tool.specs.declared.selection.Selection.{Selection}
-use Rattle.zone_tool.proofs.SoaData.{length-without_serial, zeroed_data}
+use Rattle.zone_tool.proofs.SoaData.{length-without_serial, soa_long, zeroed_data}
 
 -- the data is kept, or the serial is ignored
 pub data Compared (selection : Selection) (r : Record) : Type 0 where
@@ -63,6 +66,25 @@ compared_has selection r has = record {
 pub length-compared_data : (selection : Selection) (r : Record) → HasCanonicalForm r → length (compared_data selection r) ≡ length r.rdata
 length-compared_data selection r has = compared_long selection r has.data_is
 
+grouped : (front a b c d e f : List ℕ) → (((((front ++ a) ++ b) ++ c) ++ d) ++ e) ++ f ≡ front ++ (a ++ (b ++ c ++ d) ++ (e ++ f))
+grouped front a b c d e f = simp append_assoc
+
+-- the octets of the record as it is compared, written field by field
+pub compared_written : (selection : Selection) (r : Record) (front owner rtype class ttl len octets : List ℕ) → HasCanonicalForm r
+    → owner ≡ front ++ wire r.owner → rtype ≡ owner ++ to_be_bytes w16 r.rtype → class ≡ rtype ++ to_be_bytes w16 r.class
+    → ttl ≡ class ++ to_be_bytes w32 (compared_of selection r).ttl → len ≡ ttl ++ to_be_bytes w16 (length r.rdata)
+    → octets ≡ len ++ compared_data selection r → octets ≡ front ++ record_octets (compared_of selection r)
+compared_written selection r front owner rtype class ttl len octets has owner_is rtype_is class_is ttl_is len_is octets_is =
+    let form = compared_of selection r in
+    octets_is ∙ ap (λ l. l ++ form.rdata)
+    (len_is ∙ ap (λ n. ttl ++ to_be_bytes w16 n) (sym (length-compared_data selection r has))
+    ∙ ap (λ l. l ++ to_be_bytes w16 (length form.rdata))
+    (ttl_is ∙ ap (λ l. l ++ to_be_bytes w32 form.ttl)
+    (class_is ∙ ap (λ l. l ++ to_be_bytes w16 r.class)
+    (rtype_is ∙ ap (λ l. l ++ to_be_bytes w16 r.rtype) owner_is))))
+    ∙ grouped front (wire r.owner) (to_be_bytes w16 r.rtype) (to_be_bytes w16 r.class) (to_be_bytes w32 form.ttl)
+    (to_be_bytes w16 (length form.rdata)) form.rdata
+
 filtered : {X : Type 0} (P : X → Type 0) (test : X → Bool) (xs : List X) → AllByRecursion P xs → AllByRecursion P (filter test xs)
 filtered P test [] each = tt
 filtered P test (x ∷ xs) each =
@@ -98,3 +120,30 @@ selected_same selection records r is =
     ap (map (compared_of selection))
     (filter-append (is_in selection) records (r ∷ []) ∙ ap (λ (b : Bool). filter (is_in selection) records ++ (if b then r ∷ [] else [])) is
     ∙ append-nil (filter (is_in selection) records))
+
+-- data with the serial 0, written in three parts
+pub zeroed_written : (selection : Selection) (r : Record) (data' front begun zeros octets : List ℕ) (names behind : ℕ) → data' ≡ r.rdata
+    → (selection.ignore_serial && (r.rtype == soa_type)) ≡ true → names ≡ length data' - 20 → behind ≡ length data' - 16
+    → begun ≡ front ++ take names data' → zeros ≡ begun ++ 0 ∷ 0 ∷ 0 ∷ 0 ∷ [] → octets ≡ zeros ++ drop behind data'
+    → octets ≡ front ++ compared_data selection r
+zeroed_written selection r data' front begun zeros octets names behind data_is ignored names_is behind_is begun_is zeros_is octets_is =
+    let first = take (length data' - 20) data' in
+    let last = drop (length data' - 16) data' in
+    octets_is ∙ ap (λ n. zeros ++ drop n data') behind_is ∙ ap (λ l. l ++ last) zeros_is
+    ∙ ap (λ l. (l ++ 0 ∷ 0 ∷ 0 ∷ 0 ∷ []) ++ last) (begun_is ∙ ap (λ n. front ++ take n data') names_is)
+    ∙ append_assoc (front ++ first) (0 ∷ 0 ∷ 0 ∷ 0 ∷ []) last
+    ∙ append_assoc front first ((0 ∷ 0 ∷ 0 ∷ 0 ∷ []) ++ last)
+    ∙ ap (λ l. front ++ without_serial l) data_is
+    ∙ sym (ap (λ (b : Bool). front ++ (if b then without_serial r.rdata else r.rdata)) ignored)
+
+-- data that stays
+pub kept_data : (selection : Selection) (r : Record) → (selection.ignore_serial && (r.rtype == soa_type)) ≡ false → compared_data selection r ≡ r.rdata
+kept_data selection r kept = ap (λ (b : Bool). if b then without_serial r.rdata else r.rdata) kept
+
+-- there are five numbers to cut off
+pub soa_enough : (selection : Selection) (r : Record) (data' : List ℕ) → HasCanonicalForm r → data' ≡ r.rdata
+    → (selection.ignore_serial && (r.rtype == soa_type)) ≡ true → 20 ≤ length data'
+soa_enough selection r data' has data_is ignored =
+    let soa : r.rtype ≡ soa_type = eqb-true r.rtype soa_type (and_parts selection.ignore_serial (r.rtype == soa_type) ignored).1 in
+    let is : IsData soa_type r.rdata = subst (λ n. IsData n r.rdata) soa has.data_is in
+    omega (arith, soa_long r.rdata is, ap (length {A = ℕ}) data_is)

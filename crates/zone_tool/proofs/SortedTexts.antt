@@ -55,3 +55,10 @@ module _ (layout : Layout) (test : Record → Bool) (records : List Record) (ind
       subst (λ l. AddsRecords layout l old new)
       (sym (chosen ∙ ap (λ (b : Bool). filter test (take index records) ++ (if b then r ∷ [] else [])) is
       ∙ append-nil (filter test (take index records)))) adds
+
+-- the texts of two lists, the first of them at the start
+pub printed_from_start : (layout : Layout) (records others : List Record) (old between new : List ℕ) → old ≡ []
+    → AddsRecords layout records old between → AddsRecords layout others between new → IsPrinted layout (records ++ others) new
+printed_from_start layout records others old between new empty adds adds' =
+    let both = adds_both layout records others old between new adds adds' in
+    subst (IsPrinted layout (records ++ others)) (sym (both.added ∙ ap (λ l. l ++ both.text) empty)) both.printed

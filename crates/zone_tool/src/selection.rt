@@ -1,7 +1,8 @@
 //! Which records of zones are compared, and which of their fields.
-ghost use Rattle.std.specs.Prelude.{◌≡◌, ◌++◌, length, IfOk, OnOk};
+ghost use Rattle.std.specs.Prelude.{◌≡◌, ◌==◌, ◌&&◌, ◌++◌, length, IfOk, OnOk};
 ghost use Rattle.std.specs.List.{AllByRecursion};
 ghost use Rattle.dns_message.specs.Record.{record_octets};
+ghost use Rattle.zone_records.specs.Zone.{soa_type};
 ghost use Rattle.zone_canonical.specs.Canonical.{HasCanonicalForm};
 ghost use Rattle.zone_tool.specs.Selected.{compared_data, compared_of, is_compared, selected_of};
 
@@ -46,6 +47,13 @@ impl Selection {
         }
     }
 
+    /// Returns whether the record's data has a serial that is ignored.
+    fn ignores_serial_of(&self, record: &Record<'_>) -> bool
+        ensures { result ≡ (self.now.ignore_serial && («record».now.rtype == soa_type)) }
+    {
+        self.ignore_serial && record.is_soa()
+    }
+
     /// Appends the record's data for the comparison: an SOA's with the serial 0 if serials are ignored. Fails if out of
     /// memory.
     pub(crate) fn append_data(
@@ -57,7 +65,7 @@ impl Selection {
         ensures { OnOk result (octets.new.items ≡ octets.old.items ++ compared_data self.now «record».now) }
     {
         let data = record.data();
-        if !self.ignore_serial || !record.is_soa() {
+        if !self.ignores_serial_of(record) {
             octets.extend_from_slice(data)?;
             return Ok(());
         }
