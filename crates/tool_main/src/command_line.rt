@@ -121,7 +121,7 @@ fn left_out(alloc: Global, options: &ArgMatches<'_>) -> Result<Vec<Rtype>, Words
         let Some(rtype) = Rtype::from_bytes(word.as_bytes()) else {
             return Err(WordsFault::BadType);
         };
-        types.push(rtype)?;
+        types.push(rtype).map_err(AllocError::from)?;
     }
     Ok(types)
 }
