@@ -1,9 +1,9 @@
 -- The words before a record's data, read one by one.
-use Rattle.std.proofs.Common.{◌≡◌, ◌^◌, ℕ, true, false, List, ◌∷◌, ◌++◌, Option, Some, None, refl, sym, ◌∙◌, ap, subst}
+use Rattle.std.proofs.Common.{Bool, ◌≡◌, ◌^◌, ℕ, true, false, List, ◌∷◌, ◌++◌, Option, Some, None, refl, sym, ◌∙◌, ap, subst}
 use Rattle.std.specs.List.{list_all}
 use Rattle.std.specs.Char.{is_ascii_digit}
-use Rattle.std.specs.Prelude.{codes}
-use Rattle.dns_values.specs.Mnemonic.{class_read, classes, number_behind, number_named, number_read, number_spelled, type_read, types}
+use Rattle.dns_values.specs.Mnemonic.{number_spelled, type_read}
+use Rattle.dns_values.proofs.Words.{number_spelled-other}
 use Rattle.dns_scan.specs.Token.{Token, Takes, IsWord}
 use Rattle.dns_zonefile.specs.Statement.{HasHead, IsClass, IsTtl, IsType, States}
 use Rattle.dns_zonefile.specs.Statement.States.{nothing, ttl, class, ttl_class, class_ttl}
@@ -171,17 +171,11 @@ pub class_behind : {word : HeadWord} {tokens mid left : List Token} {number rtyp
 class_behind {tokens = tokens} {mid = mid} {number = number} is takes head =
     behind_class {number = number} (subst (λ (w : HeadWord). Takes (IsHeadWord w) tokens mid) is takes) head
 
--- IN is a class, and no type
-in_no_type : type_read (codes "IN") ≡ None
-unfolding types number_read number_behind number_named number_spelled
-in_no_type = refl
+-- a number that digits spell is a TTL
+spelled_digits : (text : List ℕ) (seconds : ℕ) (all : Bool) → list_all is_ascii_digit text ≡ all → number_spelled (2 ^ 32) text ≡ Some seconds
+    → list_all is_ascii_digit text ≡ true
+spelled_digits text seconds true all is = all
+spelled_digits text seconds false all is = let bad : None ≡ Some seconds = sym (number_spelled-other (2 ^ 32) text all) ∙ is in absurd cc
 
-in_class : class_read (codes "IN") ≡ Some 1
-unfolding classes number_read number_behind number_named number_spelled
-in_class = refl
-
-pub internet_no_type : (text : List ℕ) → text ≡ codes "IN" → type_read text ≡ None
-internet_no_type text is = ap type_read is ∙ in_no_type
-
-pub internet_class : (text : List ℕ) → text ≡ codes "IN" → class_read text ≡ Some 1
-internet_class text is = ap class_read is ∙ in_class
+pub number_heads : (text : List ℕ) (seconds : ℕ) → Some seconds ≡ number_spelled (2 ^ 32) text → Heads text (Ttl seconds)
+number_heads text seconds is = (spelled_digits text seconds (list_all is_ascii_digit text) refl (sym is), sym is)

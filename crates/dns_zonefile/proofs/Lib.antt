@@ -14,4 +14,5 @@ pub mod Rests
 mod Forms
 mod ComposedRows
 mod LastOwners
-pub mod FrequentTypes
+mod FrequentWords
+mod Numbers

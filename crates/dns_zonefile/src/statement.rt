@@ -7,7 +7,7 @@ ghost use Rattle.dns_zonefile.specs.Statement.{IsDirective, Says};
 ghost use Rattle.dns_zonefile.specs.Seen.{row_of, statement_of};
 
 mod directive;
-mod frequent_type;
+mod frequent_word;
 mod head;
 mod owner;
 

@@ -7,9 +7,9 @@ ghost use Rattle.dns_scan.specs.Token.{Token, SameNames, Takes};
 ghost use Rattle.dns_zonefile.specs.Statement.{HasHead};
 ghost use Rattle.dns_zonefile.specs.HeadWord.{Heads, IsHeadWord};
 
-use super::frequent_type::frequent_type;
+use super::frequent_word::frequent_word;
 use dns_entry_scanner::EntryScanner;
-use dns_name::{Class, Rtype, Serial, Ttl};
+use dns_name::{Class, Rtype, Ttl};
 use dns_text::{Scanner, ScannerError};
 
 /// TTL, class and type of a record, as far as its row states them.
@@ -118,47 +118,60 @@ fn next_word<S: EntryScanner>(scanner: &mut S) -> Result<HeadWord, S::Error>
 }
 
 /// Returns what a word says: digits are a TTL; any other word is a type, and only if it is none, a class. Most words
-/// are the class IN or one of a few types, so these come before the search in the mnemonics of all types.
+/// are digits, the class IN or one of a few types, so these come before the search in the mnemonics of all types.
 #[inline(always)]
-#[tactic(auto, using(crate::proofs::Heads::number_alone))]
+#[tactic(auto, using(crate::proofs::Heads::number_alone, crate::proofs::Heads::number_heads))]
 fn word_of(text: &str) -> Option<HeadWord>
     ensures some { IfSome result (λ word. Heads text.now word) }
     ensures none { IfNone result ((word : HeadWord) → Heads text.now word → ⊥) }
 {
-    if are_digits(text) {
-        return match ttl_of(text) {
-            Some(ttl) => Some(HeadWord::Ttl(ttl)),
-            None => None,
-        };
+    let octets = text.as_bytes();
+    if let Some(seconds) = number_of(octets) {
+        return Some(HeadWord::Ttl(Ttl::from_secs(seconds)));
     }
-    if text == "IN" {
-        return Some(HeadWord::Class(Class::IN));
+    if let Some(word) = frequent_word(octets) {
+        return Some(word);
     }
-    if let Some(rtype) = frequent_type(text) {
+    if are_digits(octets) {
+        return None;
+    }
+    if let Some(rtype) = Rtype::from_bytes(octets) {
         return Some(HeadWord::Rtype(rtype));
     }
-    if let Some(rtype) = Rtype::from_bytes(text.as_bytes()) {
-        return Some(HeadWord::Rtype(rtype));
-    }
-    match Class::from_bytes(text.as_bytes()) {
+    match Class::from_bytes(octets) {
         Some(class) => Some(HeadWord::Class(class)),
         None => None,
     }
 }
 
-/// Returns whether the text consists of decimal digits.
-#[inline(always)]
-fn are_digits(text: &str) -> bool
-    ensures { result ≡ list_all is_ascii_digit text.now }
+/// Returns whether these are decimal digits.
+fn are_digits(octets: &[u8]) -> bool
+    ensures { result ≡ list_all is_ascii_digit octets.now }
 {
-    text.as_bytes().iter().all(u8::is_ascii_digit)
+    octets.iter().all(u8::is_ascii_digit)
 }
 
-/// Returns the TTL that digits spell.
+/// Returns the number of 32 bits that digits spell. Each octet is looked at once.
 #[inline(always)]
-fn ttl_of(text: &str) -> Option<Ttl>
-    ensures { result ≡ number_spelled (2 ^ 32) text.now }
+#[tactic(auto, using(crate::proofs::Numbers::number_other, crate::proofs::Numbers::number_large, crate::proofs::Numbers::number_more, crate::proofs::Numbers::number_none, crate::proofs::Numbers::number_whole))]
+fn number_of(digits: &[u8]) -> Option<u32>
+    ensures { result ≡ number_spelled (2 ^ 32) digits.now }
 {
-    let number: Serial = text.parse().ok()?;
-    Some(Ttl::from_secs(number.into_int()))
+    let mut number: u64 = 0;
+    let mut place = 0;
+    while place < digits.len() {
+        let digit = digits[place];
+        if !digit.is_ascii_digit() {
+            return None;
+        }
+        number = 10 * number + u64::from(digit - b'0');
+        if number > 0xFFFF_FFFF {
+            return None;
+        }
+        place += 1;
+    }
+    if digits.is_empty() {
+        return None;
+    }
+    Some(number as u32)
 }
