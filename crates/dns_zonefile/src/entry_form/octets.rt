@@ -224,7 +224,8 @@ fn append_fixed(
 /// them. Returns whether it is unknown data.
 ///
 /// Fails with an error other than `OutOfMemory` only if the tokens up to the row's end are no data of the type. It may
-/// then have appended a part of the octets.
+/// then have appended a part of the octets. It is called once per record, so it is inlined.
+#[inline(always)]
 fn append_data(
     rtype: Rtype,
     scanner: &mut RowScanner<'_, InlineName>,

@@ -28,7 +28,9 @@ pub(crate) enum HeadWord {
     Rtype(Rtype),
 }
 
-/// Reads the TTL and the class, if they are stated, in either order, and then the type (RFC 1035 5.1).
+/// Reads the TTL and the class, if they are stated, in either order, and then the type (RFC 1035 5.1). It is inlined, as are
+/// the calls that read the single words: so a word is passed on without memory.
+#[inline(always)]
 #[tactic(auto, using(crate::proofs::Heads::no_word, crate::proofs::Heads::with_type, crate::proofs::Heads::with_ttl, crate::proofs::Heads::with_class, crate::proofs::Heads::behind_ttl, crate::proofs::Heads::behind_class))]
 pub(crate) fn scan_head<S: EntryScanner>(scanner: &mut S) -> Result<RecordHead, S::Error>
     ensures ok { IfOk result (λ head. HasHead (S.tokens scanner.old) head.ttl head.class head.rtype (S.tokens scanner.new)) }
@@ -63,6 +65,7 @@ pub(crate) fn scan_head<S: EntryScanner>(scanner: &mut S) -> Result<RecordHead, 
 }
 
 /// Reads the class, if it is stated, and the type.
+#[inline(always)]
 #[tactic(auto, using(crate::proofs::Heads::no_word, crate::proofs::Heads::with_type, crate::proofs::Heads::with_class, crate::proofs::Heads::behind_class, crate::proofs::Heads::no_ttl))]
 fn scan_class_and_type<S: EntryScanner>(scanner: &mut S) -> Result<(Option<Class>, Rtype), S::Error>
     ensures ok { IfOk result (λ head. HasHead (S.tokens scanner.old) None head.0 head.1 (S.tokens scanner.new)) }
@@ -78,6 +81,7 @@ fn scan_class_and_type<S: EntryScanner>(scanner: &mut S) -> Result<(Option<Class
 }
 
 /// Reads the TTL, if it is stated, and the type.
+#[inline(always)]
 #[tactic(auto, using(crate::proofs::Heads::no_word, crate::proofs::Heads::with_type, crate::proofs::Heads::with_ttl, crate::proofs::Heads::behind_ttl, crate::proofs::Heads::no_class))]
 fn scan_ttl_and_type<S: EntryScanner>(scanner: &mut S) -> Result<(Option<Ttl>, Rtype), S::Error>
     ensures ok { IfOk result (λ head. HasHead (S.tokens scanner.old) head.0 None head.1 (S.tokens scanner.new)) }
@@ -93,6 +97,7 @@ fn scan_ttl_and_type<S: EntryScanner>(scanner: &mut S) -> Result<(Option<Ttl>, R
 }
 
 /// Reads the type.
+#[inline(always)]
 #[tactic(auto, using(crate::proofs::Heads::no_word, crate::proofs::Heads::with_type, crate::proofs::Heads::no_ttl, crate::proofs::Heads::no_class))]
 fn scan_type<S: EntryScanner>(scanner: &mut S) -> Result<Rtype, S::Error>
     ensures ok { IfOk result (λ rtype. HasHead (S.tokens scanner.old) None None rtype (S.tokens scanner.new)) }
@@ -108,6 +113,7 @@ fn scan_type<S: EntryScanner>(scanner: &mut S) -> Result<Rtype, S::Error>
 }
 
 /// Reads one word.
+#[inline(always)]
 fn next_word<S: EntryScanner>(scanner: &mut S) -> Result<HeadWord, S::Error>
     ensures ok { IfOk result (λ word. Takes (IsHeadWord word) (S.tokens scanner.old) (S.tokens scanner.new)) }
     ensures err { IfErr result (λ error. S.Error.is_short error ≡ false → (word : HeadWord) (left : List Token)
