@@ -59,8 +59,8 @@ kind_of (rest16 octets) = Rest16
 kind_of (rest64 octets) = Rest64
 
 -- The table: which fields the data of a type has, from the left (RFC 1035 3.3 and 3.4, RFC 3596 2.2, RFC 1183 2.2,
--- RFC 2782, RFC 6672 2.1, RFC 4034 2.1 and 5.1, RFC 4255 3.1, RFC 8659 4.1). A type that is not in it has unknown data. The rows
--- are A, NS, MD, MF, CNAME, SOA, MB, MG, MR, PTR, HINFO, MINFO, MX, TXT, RP, AAAA, SRV, DNAME, DS, SSHFP, DNSKEY and CAA.
+-- RFC 2782, RFC 3403 4.1, RFC 6672 2.1, RFC 4034 2.1 and 5.1, RFC 4255 3.1, RFC 8659 4.1). A type that is not in it has unknown data. The rows
+-- are A, NS, MD, MF, CNAME, SOA, MB, MG, MR, PTR, HINFO, MINFO, MX, TXT, RP, AAAA, SRV, NAPTR, DNAME, DS, SSHFP, DNSKEY and CAA.
 abbrev pub table : List (ℕ × List Kind)
 table =
     (1, Ipv4 ∷ [])
@@ -80,6 +80,7 @@ table =
     ∷ (17, Uncompressed ∷ Uncompressed ∷ [])
     ∷ (28, Ipv6 ∷ [])
     ∷ (33, Number16 ∷ Number16 ∷ Number16 ∷ Uncompressed ∷ [])
+    ∷ (35, Number16 ∷ Number16 ∷ String ∷ String ∷ String ∷ Uncompressed ∷ [])
     ∷ (39, Uncompressed ∷ [])
     ∷ (43, Number16 ∷ Number8 ∷ Number8 ∷ Rest16 ∷ [])
     ∷ (44, Number8 ∷ Number8 ∷ Rest16 ∷ [])

@@ -7,7 +7,7 @@ use Rattle.dns_fields.specs.Fields.{Kind, Field, kinds_of, kinds_in, table}
 use Rattle.dns_rdata.specs.Data as rdata
 use Rattle.dns_rdata.specs.ZoneData.{data_of}
 use Rattle.dns_rdata.specs.declared.zone_record_data.ZoneRecordData.{ZoneRecordData}
-use Rattle.dns_rdata.specs.declared.zone_record_data.ZoneRecordData.TheVariants.{A, Ns, Md, Mf, Cname, Soa, Mb, Mg, Mr, Ptr, Hinfo, Minfo, Mx, Txt, Rp, Aaaa, Srv, Dname, Ds, Sshfp, Dnskey, Caa}
+use Rattle.dns_rdata.specs.declared.zone_record_data.ZoneRecordData.TheVariants.{A, Ns, Md, Mf, Cname, Soa, Mb, Mg, Mr, Ptr, Hinfo, Minfo, Mx, Txt, Rp, Aaaa, Srv, Naptr, Dname, Ds, Sshfp, Dnskey, Caa}
 
 -- the number is that of a row of the table
 abbrev Names : List (ℕ × List Kind) → ℕ → Type 0
@@ -37,11 +37,11 @@ module _ (Octs N : Type 0) where
 
   abbrev makers : List (List Field → ZoneRecordData Octs N)
   makers =
-      A ∷ Ns ∷ Md ∷ Mf ∷ Cname ∷ Soa ∷ Mb ∷ Mg ∷ Mr ∷ Ptr ∷ Hinfo ∷ Minfo ∷ Mx ∷ Txt ∷ Rp ∷ Aaaa ∷ Srv ∷ Dname ∷ Ds ∷ Sshfp
-      ∷ Dnskey ∷ Caa ∷ []
+      A ∷ Ns ∷ Md ∷ Mf ∷ Cname ∷ Soa ∷ Mb ∷ Mg ∷ Mr ∷ Ptr ∷ Hinfo ∷ Minfo ∷ Mx ∷ Txt ∷ Rp ∷ Aaaa ∷ Srv ∷ Naptr ∷ Dname ∷ Ds
+      ∷ Sshfp ∷ Dnskey ∷ Caa ∷ []
 
   all_made : AllZip Makes table makers
-  all_made = (λ _. refl, (λ _. refl, (λ _. refl, (λ _. refl, (λ _. refl, (λ _. refl, (λ _. refl, (λ _. refl, (λ _. refl, (λ _. refl, (λ _. refl, (λ _. refl, (λ _. refl, (λ _. refl, (λ _. refl, (λ _. refl, (λ _. refl, (λ _. refl, (λ _. refl, (λ _. refl, (λ _. refl, (λ _. refl, tt))))))))))))))))))))))
+  all_made = (λ _. refl, (λ _. refl, (λ _. refl, (λ _. refl, (λ _. refl, (λ _. refl, (λ _. refl, (λ _. refl, (λ _. refl, (λ _. refl, (λ _. refl, (λ _. refl, (λ _. refl, (λ _. refl, (λ _. refl, (λ _. refl, (λ _. refl, (λ _. refl, (λ _. refl, (λ _. refl, (λ _. refl, (λ _. refl, (λ _. refl, tt)))))))))))))))))))))))
 
   -- the fields of a type in the table are the data of some value
   pub data_made : (rtype : ℕ) (kinds : List Kind) → kinds_of rtype ≡ Some kinds → (row : List Field)

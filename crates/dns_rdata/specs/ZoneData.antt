@@ -1,7 +1,7 @@
 -- What a value of data of any type is seen as.
 use Rattle.dns_rdata.specs.Data.{Data, typed, unknown_data}
 use Rattle.dns_rdata.specs.declared.zone_record_data.ZoneRecordData.{ZoneRecordData}
-use Rattle.dns_rdata.specs.declared.zone_record_data.ZoneRecordData.TheVariants.{A, Ns, Md, Mf, Cname, Soa, Mb, Mg, Mr, Ptr, Hinfo, Minfo, Mx, Txt, Rp, Aaaa, Srv, Dname, Ds, Sshfp, Dnskey, Caa, Unknown}
+use Rattle.dns_rdata.specs.declared.zone_record_data.ZoneRecordData.TheVariants.{A, Ns, Md, Mf, Cname, Soa, Mb, Mg, Mr, Ptr, Hinfo, Minfo, Mx, Txt, Rp, Aaaa, Srv, Naptr, Dname, Ds, Sshfp, Dnskey, Caa, Unknown}
 
 abbrev pub data_of : {Octs N : Type 0} → ZoneRecordData Octs N → Data
 data_of (A row) = typed 1 row
@@ -21,6 +21,7 @@ data_of (Txt row) = typed 16 row
 data_of (Rp row) = typed 17 row
 data_of (Aaaa row) = typed 28 row
 data_of (Srv row) = typed 33 row
+data_of (Naptr row) = typed 35 row
 data_of (Dname row) = typed 39 row
 data_of (Ds row) = typed 43 row
 data_of (Sshfp row) = typed 44 row

@@ -19,7 +19,7 @@ mod zone_record_data;
 
 pub use dns_fields::CanonicalOctetsOrd;
 pub use dns_rr_data::{
-    A, Aaaa, Caa, Cname, Dname, Dnskey, Ds, Hinfo, Mb, Md, Mf, Mg, Minfo, Mr, Mx, Ns, Ptr, Rp, Soa,
-    Srv, Sshfp, Txt, TxtAppendError, TxtBuilder, TxtCharStrIter, TxtError, TxtIter,
+    A, Aaaa, Caa, Cname, Dname, Dnskey, Ds, Hinfo, Mb, Md, Mf, Mg, Minfo, Mr, Mx, Naptr, Ns, Ptr,
+    Rp, Soa, Srv, Sshfp, Txt, TxtAppendError, TxtBuilder, TxtCharStrIter, TxtError, TxtIter,
 };
 pub use zone_record_data::{ZoneRecordData, append_canonical_data, canonical_data_cmp};

@@ -8,6 +8,6 @@ pub use dns_fields::{
 };
 pub use dns_rr_data::{
     ARow, AaaaRow, CaaRow, DataType, DnameRow, DnskeyRow, DsRow, FlattenData, HasType, HinfoRow,
-    MinfoRow, MxRow, NameRow, Number, ParseData, RowOf, RpRow, ScanData, SoaRow, SrvRow, SshfpRow,
-    TxtRow, TypedData,
+    MinfoRow, MxRow, NameRow, NaptrRow, Number, ParseData, RowOf, RpRow, ScanData, SoaRow, SrvRow,
+    SshfpRow, TxtRow, TypedData,
 };

@@ -4,8 +4,8 @@ ghost use Rattle.dns_rdata.specs.Data.{unknown_data, number_of, is_unknown};
 ghost use Rattle.dns_rdata.specs.ZoneData.{data_of};
 
 use crate::{
-    A, Aaaa, Caa, Cname, Dname, Dnskey, Ds, Hinfo, Mb, Md, Mf, Mg, Minfo, Mr, Mx, Ns, Ptr, Rp, Soa,
-    Srv, Sshfp, Txt,
+    A, Aaaa, Caa, Cname, Dname, Dnskey, Ds, Hinfo, Mb, Md, Mf, Mg, Minfo, Mr, Mx, Naptr, Ns, Ptr,
+    Rp, Soa, Srv, Sshfp, Txt,
 };
 use dns_name::{Octets, RecordData, Rtype, ToName, UnknownRecordData};
 use dns_rr_data::{DataType, TypedData};
@@ -45,6 +45,7 @@ macro_rules! with_types {
             Rp = RP: $crate::rows::RpRow<N>,
             Aaaa = AAAA: $crate::rows::AaaaRow,
             Srv = SRV: $crate::rows::SrvRow<N>,
+            Naptr = NAPTR: $crate::rows::NaptrRow<Octs, N>,
             Dname = DNAME: $crate::rows::DnameRow<N>,
             Ds = DS: $crate::rows::DsRow<Octs>,
             Sshfp = SSHFP: $crate::rows::SshfpRow<Octs>,
@@ -106,6 +107,8 @@ pub enum ZoneRecordData<Octs: Octets, N: ToName> {
     Aaaa(Aaaa),
     /// A host that has a service (RFC 2782).
     Srv(Srv<N>),
+    /// A rule by which a name is rewritten (RFC 3403).
+    Naptr(Naptr<Octs, N>),
     /// The name that the owner is replaced by in the names under it (RFC 6672).
     Dname(Dname<N>),
     /// A key that signs the owner's keys (RFC 4034 5).

@@ -4,5 +4,5 @@
 #![tactic(auto)]
 
 pub use dns_rr_data::{
-    Cname, Dname, Mb, Md, Mf, Mg, Minfo, Mr, Mx, Ns, Ptr, RowData, Rp, Soa, Srv,
+    Cname, Dname, Mb, Md, Mf, Mg, Minfo, Mr, Mx, Naptr, Ns, Ptr, RowData, Rp, Soa, Srv,
 };
