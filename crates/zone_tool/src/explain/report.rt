@@ -1,0 +1,152 @@
+//! A finding as text.
+
+use super::Finding;
+use super::reason::Reason;
+use std::alloc::{AllocError, Global};
+use std::fmt::Write;
+
+/// Returns the number of the line of an offset in the text, counted from 1.
+pub(crate) fn line_of(text: &[u8], offset: usize) -> usize {
+    let mut line: usize = 1;
+    for &octet in &text[..offset.min(text.len())] {
+        if octet == b'\n' {
+            line += 1;
+        }
+    }
+    line
+}
+
+/// Returns the finding as text: a line `FILE:LINE:COLUMN: reason`, the line of the text, and a line with a mark below the
+/// token. Lines and columns are counted from 1, columns in octets. An octet that is not printable ASCII is shown as `?`.
+///
+/// Fails if out of memory.
+pub fn finding_text(
+    alloc: Global,
+    file: &str,
+    text: &[u8],
+    finding: &Finding,
+) -> Result<String, AllocError> {
+    let located = finding.located;
+    let start = located.start.min(text.len());
+    let line_start = line_start(text, start);
+    let mut out = String::new(alloc);
+    let (line, column) = (line_of(text, start), start - line_start + 1);
+    write!(out, "{file}:{line}:{column}: ")?;
+    let token = &text[start..located.end.min(text.len()).max(start)];
+    push_reason(&mut out, located.reason, token)?;
+    out.push('\n')?;
+    if matches!(located.reason, Reason::ClassAny | Reason::NoSoa) {
+        return Ok(out);
+    }
+    let shown = &text[line_start..line_end(text, start)];
+    for &octet in shown {
+        out.push(shown_octet(octet))?;
+    }
+    out.push('\n')?;
+    for &octet in &shown[..(start - line_start).min(shown.len())] {
+        out.push(if octet == b'\t' { '\t' } else { ' ' })?;
+    }
+    let left = shown.len().saturating_sub(start - line_start);
+    for _ in 0..token.len().min(left).max(1) {
+        out.push('^')?;
+    }
+    out.push('\n')?;
+    Ok(out)
+}
+
+/// Returns the offset of the first octet of the line of an offset.
+fn line_start(text: &[u8], offset: usize) -> usize {
+    let mut start = offset;
+    while start > 0 && text[start - 1] != b'\n' {
+        start -= 1;
+    }
+    start
+}
+
+/// Returns the offset behind the last octet of the line of an offset.
+fn line_end(text: &[u8], offset: usize) -> usize {
+    let mut end = offset;
+    while end < text.len() && text[end] != b'\n' {
+        end += 1;
+    }
+    end
+}
+
+fn shown_octet(octet: u8) -> char {
+    match octet {
+        b'\t' | b' '..=b'~' => char::from(octet),
+        _ => '?',
+    }
+}
+
+/// Appends why the token is refused. Fails if out of memory.
+fn push_reason(out: &mut String, reason: Reason, token: &[u8]) -> Result<(), AllocError> {
+    match reason {
+        Reason::NoLineFeed => out.push_str("the last line has no line feed"),
+        Reason::OpenQuote => out.push_str("quote is not closed"),
+        Reason::OpenParenthesis => out.push_str("parenthesis is not closed"),
+        Reason::MisplacedParenthesis => out.push_str("parenthesis is misplaced"),
+        Reason::BadOctet => push_octet(out, token),
+        Reason::NoOrigin => {
+            out.push_str("relative name without an origin: give --origin or $ORIGIN")
+        }
+        Reason::NoOwner => out.push_str("no owner: the first record states its owner"),
+        Reason::Missing(wanted) => Ok(write!(out, "the entry ends where {wanted} is wanted")?),
+        Reason::Include => out.push_str("$INCLUDE: give one text without includes"),
+        Reason::Untyped => out.push_str("octets are no data of the type"),
+        Reason::FirstNotSoa => out.push_str("the first record is not an SOA"),
+        Reason::SecondSoa(line) => Ok(write!(out, "second SOA; the first is in line {line}")?),
+        Reason::Unspellable => out.push_str("the tag is empty"),
+        Reason::NoSoa => out.push_str("the text has no record"),
+        Reason::ClassAny => out.push_str("no zone has the class ANY"),
+        Reason::LongData => out.push_str("data has more than 65535 octets"),
+        Reason::OtherCount => {
+            push_token(out, token)?;
+            out.push_str(" is not the number of octets that follow")
+        }
+        Reason::GeneralFormOnly => {
+            out.push_str("data of this type is read only as \\# LENGTH OCTETS in base 16")
+        }
+        Reason::OutOfZone => {
+            push_token(out, token)?;
+            out.push_str(" is outside the zone")
+        }
+        reason => {
+            push_token(out, token)?;
+            push_word_reason(out, reason)
+        }
+    }
+}
+
+/// Appends what is wrong with a word. Fails if out of memory.
+fn push_word_reason(out: &mut String, reason: Reason) -> Result<(), AllocError> {
+    match reason {
+        Reason::UnknownDirective => out.push_str(" is no directive"),
+        Reason::TtlUnits(seconds) => {
+            Ok(write!(out, ": TTL units are not read: write {seconds}")?)
+        }
+        Reason::NearType(mnemonic) => { Ok(write!(out, " is no type; did you mean {mnemonic}?")?) }
+        Reason::StatedTwice => out.push_str(" states a TTL or a class again"),
+        Reason::OtherClass => out.push_str(" is not the zone's class"),
+        Reason::Not(wanted) => Ok(write!(out, " is not {wanted}")?),
+        _ => out.push_str(" is one token too many"),
+    }
+}
+
+/// Appends the token in single quotes. Fails if out of memory.
+fn push_token(out: &mut String, token: &[u8]) -> Result<(), AllocError> {
+    out.push('\'')?;
+    for &octet in token {
+        out.push(shown_octet(octet))?;
+    }
+    out.push('\'')
+}
+
+/// Appends what is wrong with an octet that begins no token. Fails if out of memory.
+fn push_octet(out: &mut String, token: &[u8]) -> Result<(), AllocError> {
+    match token.first() {
+        Some(b'\\') => out.push_str("escape is not whole: write three digits from 000 to 255"),
+        Some(&octet) => Ok(write!(out, "octet {octet} is not printable: write \\{octet:03}")?),
+        None => out.push_str("no token"),
+    }
+}
