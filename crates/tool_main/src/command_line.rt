@@ -64,11 +64,20 @@ pub(crate) fn task_of<'a>(alloc: Global, words: &'a [&'a str]) -> Result<Task<'a
         return Err(WordsFault::NoCommand);
     };
     match name {
+        "explain" => explain_task(alloc, options),
         "diff" => diff_task(alloc, options),
         "sort" => sort_task(alloc, options),
         "query" => query_task(alloc, options),
         _ => Err(WordsFault::NoCommand),
     }
+}
+
+fn explain_task<'a>(alloc: Global, options: &ArgMatches<'a>) -> Result<Task<'a>, WordsFault> {
+    let reading = reading(alloc, options)?;
+    Ok(Task::Explain {
+        file: options.get_str("file").unwrap_or(DEFAULT_FILE),
+        reading,
+    })
 }
 
 fn diff_task<'a>(alloc: Global, options: &ArgMatches<'a>) -> Result<Task<'a>, WordsFault> {
@@ -163,6 +172,7 @@ fn layout(options: &ArgMatches<'_>) -> DisplayKind {
 }
 
 fn command<'a>(alloc: Global) -> Result<Command<'a>, AllocError> {
+    let explain = explain_command(alloc)?;
     let diff = diff_command(alloc)?;
     let sort = sort_command(alloc)?;
     let query = query_command(alloc)?;
@@ -171,9 +181,17 @@ fn command<'a>(alloc: Global) -> Result<Command<'a>, AllocError> {
         .version("0.1.0")
         .subcommand_required(true)
         .disable_help_subcommand(true)
+        .subcommand(explain)?
         .subcommand(diff)?
         .subcommand(sort)?
         .subcommand(query)
+}
+
+fn explain_command<'a>(alloc: Global) -> Result<Command<'a>, AllocError> {
+    let bare = Command::new(alloc, "explain").about("Says why a zone is refused");
+    with_text_options(alloc, bare)?.arg(file(alloc, "file", "FILE").help(
+        "The zone, standard input where left out",
+    ))
 }
 
 fn diff_command<'a>(alloc: Global) -> Result<Command<'a>, AllocError> {

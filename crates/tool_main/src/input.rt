@@ -18,21 +18,27 @@ pub(crate) struct Reading {
     pub(crate) class: Class,
 }
 
-/// Reads the zone whose text is in the file, or in standard input if the file is `-`.
-pub(crate) fn read_zone<'a>(
-    rt: &HostRuntime,
-    file: &'a str,
-    reading: &Reading,
-) -> Result<Zone, Fault<'a>> {
+/// Reads the octets of the file, or of standard input if the file is `-`.
+pub(crate) fn read_text<'a>(rt: &HostRuntime, file: &'a str) -> Result<Vec<u8>, Fault<'a>> {
     let text = if file == STANDARD_INPUT {
         let mut text = Vec::new(rt.alloc());
         rt.stdin().read_to_end(&mut text).map(|_| text)
     } else {
         fs::read(rt, file)
     };
-    let Ok(text) = text else {
-        return Err(Fault::Read(file));
-    };
+    match text {
+        Ok(text) => Ok(text),
+        Err(_) => Err(Fault::Read(file)),
+    }
+}
+
+/// Reads the zone whose text is in the file, or in standard input if the file is `-`.
+pub(crate) fn read_zone<'a>(
+    rt: &HostRuntime,
+    file: &'a str,
+    reading: &Reading,
+) -> Result<Zone, Fault<'a>> {
+    let text = read_text(rt, file)?;
     let zone = match &reading.origin {
         Some(name) => {
             let name = name.for_ref();

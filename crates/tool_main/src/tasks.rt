@@ -1,15 +1,23 @@
 //! The tasks of the program.
 
 use crate::fault::Fault;
-use crate::input::{Reading, read_zone};
+use crate::input::{Reading, read_text, read_zone};
 use dns_name::{Class, Name};
 use dns_text::DisplayKind;
 use std::io::Write;
+use zone_tool::explain::{explain, finding_text};
 use zone_tool::{Selection, difference, framed_query, sorted};
 
 /// What the program does.
 #[derive(Debug, Drop)]
 pub(crate) enum Task<'a> {
+    /// Says why the text of a file is no zone's.
+    Explain {
+        /// The zone's file.
+        file: &'a str,
+        /// How the zone is read.
+        reading: Reading,
+    },
     /// Writes what changed between the zones of two files.
     Diff {
         /// The file of the old zone.
@@ -44,6 +52,19 @@ pub(crate) enum Task<'a> {
 /// Performs the task. Returns false if it writes a difference.
 pub(crate) fn perform<'a>(rt: &HostRuntime, task: &Task<'a>) -> Result<bool, Fault<'a>> {
     match task {
+        Task::Explain { file, reading } => {
+            let text = read_text(rt, *file)?;
+            let found = match &reading.origin {
+                Some(name) => explain(rt.alloc(), &text, Some(&name.for_ref()), reading.class)?,
+                None => explain(rt.alloc(), &text, None, reading.class)?,
+            };
+            let Some(finding) = found else {
+                return Ok(true);
+            };
+            let shown = finding_text(rt.alloc(), *file, &text, &finding)?;
+            write_all(rt, shown.as_bytes())?;
+            Ok(false)
+        }
         Task::Diff {
             old,
             new,

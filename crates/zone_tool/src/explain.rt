@@ -1,5 +1,5 @@
 //! Why a zone's text is refused.
-ghost use Rattle.std.specs.Prelude.{option_copied, IfOk};
+ghost use Rattle.std.specs.Prelude.{◌≡◌, option_copied, IfOk};
 ghost use Rattle.zone_tool.specs.Explained.{IsExplained};
 
 mod broken_row;
@@ -23,12 +23,14 @@ use token_row::TokenRow;
 use zone::{Zone, ZoneError};
 
 /// The first rule that a zone's text breaks, and where.
-#[derive(Clone, Copy, Debug, PartialEq, Eq)]
+#[derive(Debug, Drop)]
 pub struct Finding {
     /// The rule, with the number of the entry that breaks it.
     pub fault: ZoneError,
     /// The token that breaks it, and why.
     pub located: Located,
+    /// The zone's apex, if a record comes before the entry.
+    pub apex: Option<Name<Vec<u8>>>,
 }
 
 /// Returns the first rule of a zone of the class that the text breaks, and where, or None if it is a zone's text (RFC
@@ -48,37 +50,63 @@ pub fn explain(
         Err(ZoneError::OutOfMemory) => return Err(AllocError),
         Err(fault) => fault,
     };
-    let located = locate(alloc, text, origin, class, fault)?;
-    Ok(Some(Finding { fault, located }))
+    Ok(Some(finding_of(alloc, text, origin, class, fault)?))
 }
 
-/// Returns where the text breaks the rule. Fails if out of memory.
-fn locate(
+/// Returns the rule that the text breaks with the place. Fails if out of memory.
+fn finding_of(
     alloc: Global,
     text: &[u8],
     origin: Option<&Name<&[u8]>>,
     class: Class,
     fault: ZoneError,
-) -> Result<Located, AllocError> {
+) -> Result<Finding, AllocError>
+    ensures { IfOk result (λ finding. finding.fault ≡ fault) }
+{
     let Some(number) = entry_of(fault) else {
-        let reason = match fault {
-            ZoneError::ClassAny => Reason::ClassAny,
-            _ => Reason::NoSoa,
-        };
-        return Ok(Located {
-            reason,
-            start: 0,
-            end: 0,
+        return Ok(Finding {
+            fault,
+            located: whole_text(fault),
+            apex: None,
         });
     };
     let row = entry_row(alloc, text, origin, number)?;
+    let located = entry_fault(alloc, text, &row, class, fault)?;
+    Ok(Finding {
+        fault,
+        located,
+        apex: row.apex,
+    })
+}
+
+/// Returns where the entry of the row breaks the rule. Fails if out of memory.
+fn entry_fault(
+    alloc: Global,
+    text: &[u8],
+    row: &EntryRow,
+    class: Class,
+    fault: ZoneError,
+) -> Result<Located, AllocError> {
     let Some(blank_led) = row.blank_led else {
         return Ok(broken_row_fault(text, row.place));
     };
-    let tokens = TokenRow::of_entry(alloc, text, &row, blank_led, class);
-    match rule_reason(fault, text, &row) {
+    let tokens = TokenRow::of_entry(alloc, text, row, blank_led, class);
+    match rule_reason(fault, text, row) {
         Some(reason) => Ok(tokens.at(0, reason)),
         None => tokens.fault(),
+    }
+}
+
+/// Returns the place of a rule that no entry breaks.
+fn whole_text(fault: ZoneError) -> Located {
+    let reason = match fault {
+        ZoneError::ClassAny => Reason::ClassAny,
+        _ => Reason::NoSoa,
+    };
+    Located {
+        reason,
+        start: 0,
+        end: 0,
     }
 }
 

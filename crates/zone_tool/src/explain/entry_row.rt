@@ -18,6 +18,8 @@ pub(crate) struct EntryRow {
     pub(crate) origin: Option<Name<Vec<u8>>>,
     /// The offset of the first token of the first record before it.
     pub(crate) first_record: Option<usize>,
+    /// The owner of that record.
+    pub(crate) apex: Option<Name<Vec<u8>>>,
 }
 
 /// Returns the row of the entry with the number, or where the text is cut into no row before it. Fails if out of memory.
@@ -33,6 +35,7 @@ pub(crate) fn entry_row(
         spans: Vec::new(alloc),
         origin: None,
         first_record: None,
+        apex: None,
     };
     if let Some(origin) = origin {
         row.origin = Some(origin.to_vec(alloc)?);
@@ -58,31 +61,41 @@ pub(crate) fn entry_row(
 impl EntryRow {
     /// Applies what the row sets for those after it. Fails if out of memory.
     fn pass(&mut self, alloc: Global, text: &[u8]) -> Result<(), AllocError> {
-        let Some((first, behind)) = self.spans.split_first() else {
+        let spans = self.spans.as_slice();
+        let Some((first, behind)) = spans.split_first() else {
             return Ok(());
         };
         let word = first.text(text);
         if self.blank_led == Some(true) || first.is_quoted() || !begins_with_dollar(word) {
             if self.first_record.is_none() {
-                self.first_record = Some(first.start());
+                let start = first.start();
+                let apex = name_in(alloc, text, self.place, spans, self.origin.as_ref())?;
+                self.first_record = Some(start);
+                self.apex = apex;
             }
             return Ok(());
         }
         if !word.eq_ignore_ascii_case(b"$origin") {
             return Ok(());
         }
-        let mut scanner: RowScanner<'_> = RowScanner::new(
-            alloc,
-            text,
-            self.place,
-            behind,
-            self.origin.as_ref(),
-        );
-        let name = match read_or_refused(scanner.scan_name())? {
-            Some(name) => name.to_vec(alloc)?,
-            None => return Ok(()),
-        };
-        self.origin = Some(name);
+        if let Some(name) = name_in(alloc, text, self.place, behind, self.origin.as_ref())? {
+            self.origin = Some(name);
+        }
         Ok(())
+    }
+}
+
+/// Returns the name that the first of the tokens spells, if it spells one. Fails if out of memory.
+fn name_in(
+    alloc: Global,
+    text: &[u8],
+    place: usize,
+    tokens: &[TokenSpan],
+    origin: Option<&Name<Vec<u8>>>,
+) -> Result<Option<Name<Vec<u8>>>, AllocError> {
+    let mut scanner: RowScanner<'_> = RowScanner::new(alloc, text, place, tokens, origin);
+    match read_or_refused(scanner.scan_name())? {
+        Some(name) => Ok(Some(name.to_vec(alloc)?)),
+        None => Ok(None),
     }
 }

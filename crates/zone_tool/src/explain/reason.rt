@@ -1,5 +1,6 @@
 //! Why an entry of a zone's text is refused.
 
+use dns_name::Rtype;
 use thiserror::Error;
 
 /// What a token ought to be.
@@ -71,7 +72,7 @@ pub enum Reason {
     /// A TTL is written with units. It is this number of seconds.
     TtlUnits(u32),
     /// A word is neither a TTL, a class nor a type. This type differs from it in one letter.
-    NearType(&'static str),
+    NearType(Rtype),
     /// A TTL or a class is stated twice.
     StatedTwice,
     /// The class is not the zone's.
@@ -82,8 +83,8 @@ pub enum Reason {
     Not(Wanted),
     /// A token follows the end of the entry.
     Surplus,
-    /// Data of the type is only read in the general form (RFC 3597 5).
-    GeneralFormOnly,
+    /// Data of this type is only read in the general form (RFC 3597 5).
+    GeneralFormOnly(Rtype),
     /// The general form states another number of octets than follow.
     OtherCount,
     /// The data has more than 65,535 octets.

@@ -1,7 +1,7 @@
 //! A finding as text.
 
 use super::Finding;
-use super::reason::Reason;
+use super::reason::{Reason, Wanted};
 use std::alloc::{AllocError, Global};
 use std::fmt::Write;
 
@@ -33,7 +33,7 @@ pub fn finding_text(
     let (line, column) = (line_of(text, start), start - line_start + 1);
     write!(out, "{file}:{line}:{column}: ")?;
     let token = &text[start..located.end.min(text.len()).max(start)];
-    push_reason(&mut out, located.reason, token)?;
+    push_reason(&mut out, finding, token)?;
     out.push('\n')?;
     if matches!(located.reason, Reason::ClassAny | Reason::NoSoa) {
         return Ok(out);
@@ -79,9 +79,9 @@ fn shown_octet(octet: u8) -> char {
     }
 }
 
-/// Appends why the token is refused. Fails if out of memory.
-fn push_reason(out: &mut String, reason: Reason, token: &[u8]) -> Result<(), AllocError> {
-    match reason {
+/// Appends the finding's reason. Fails if out of memory.
+fn push_reason(out: &mut String, finding: &Finding, token: &[u8]) -> Result<(), AllocError> {
+    match finding.located.reason {
         Reason::NoLineFeed => out.push_str("the last line has no line feed"),
         Reason::OpenQuote => out.push_str("quote is not closed"),
         Reason::OpenParenthesis => out.push_str("parenthesis is not closed"),
@@ -91,62 +91,76 @@ fn push_reason(out: &mut String, reason: Reason, token: &[u8]) -> Result<(), All
             out.push_str("relative name without an origin: give --origin or $ORIGIN")
         }
         Reason::NoOwner => out.push_str("no owner: the first record states its owner"),
-        Reason::Missing(wanted) => Ok(write!(out, "the entry ends where {wanted} is wanted")?),
-        Reason::Include => out.push_str("$INCLUDE: give one text without includes"),
-        Reason::Untyped => out.push_str("octets are no data of the type"),
+        Reason::Missing(wanted) => write!(out, "the entry ends where {wanted} is wanted"),
+        Reason::LongData => out.push_str("data has more than 65535 octets"),
+        Reason::GeneralFormOnly(rtype) => {
+            write!(
+                out,
+                "data of {rtype} is read only as \\# LENGTH OCTETS in base 16"
+            )
+        }
+        Reason::OutOfZone => match &finding.apex {
+            Some(apex) => write!(out, "record outside the zone {apex}."),
+            None => out.push_str("record outside the zone"),
+        },
+        reason => push_other_reason(out, reason, token),
+    }
+}
+
+/// Appends a reason that names the token or that breaks a rule of zones. Fails if out of memory.
+fn push_other_reason(out: &mut String, reason: Reason, token: &[u8]) -> Result<(), AllocError> {
+    match reason {
+        Reason::Include => out.push_str("$INCLUDE is not read: give the zone as one text"),
+        Reason::Untyped => out.push_str("octets are no data of the record's type"),
         Reason::FirstNotSoa => out.push_str("the first record is not an SOA"),
-        Reason::SecondSoa(line) => Ok(write!(out, "second SOA; the first is in line {line}")?),
-        Reason::Unspellable => out.push_str("the tag is empty"),
+        Reason::SecondSoa(line) => write!(out, "second SOA; the first is in line {line}"),
+        Reason::Unspellable => out.push_str("the tag of a CAA record is empty"),
         Reason::NoSoa => out.push_str("the text has no record"),
         Reason::ClassAny => out.push_str("no zone has the class ANY"),
-        Reason::LongData => out.push_str("data has more than 65535 octets"),
-        Reason::OtherCount => {
-            push_token(out, token)?;
-            out.push_str(" is not the number of octets that follow")
-        }
-        Reason::GeneralFormOnly => {
-            out.push_str("data of this type is read only as \\# LENGTH OCTETS in base 16")
-        }
-        Reason::OutOfZone => {
-            push_token(out, token)?;
-            out.push_str(" is outside the zone")
-        }
-        reason => {
-            push_token(out, token)?;
-            push_word_reason(out, reason)
-        }
-    }
-}
-
-/// Appends what is wrong with a word. Fails if out of memory.
-fn push_word_reason(out: &mut String, reason: Reason) -> Result<(), AllocError> {
-    match reason {
-        Reason::UnknownDirective => out.push_str(" is no directive"),
+        Reason::UnknownDirective => push_about(out, "unknown directive ", token, ""),
         Reason::TtlUnits(seconds) => {
-            Ok(write!(out, ": TTL units are not read: write {seconds}")?)
+            push_about(out, "TTL units (", token, ") are not read: ")?;
+            write!(out, "write {seconds}")
         }
-        Reason::NearType(mnemonic) => { Ok(write!(out, " is no type; did you mean {mnemonic}?")?) }
-        Reason::StatedTwice => out.push_str(" states a TTL or a class again"),
-        Reason::OtherClass => out.push_str(" is not the zone's class"),
-        Reason::Not(wanted) => Ok(write!(out, " is not {wanted}")?),
-        _ => out.push_str(" is one token too many"),
+        Reason::NearType(mnemonic) => {
+            push_about(out, "unknown type ", token, "; did you mean ")?;
+            write!(out, "{mnemonic}?")
+        }
+        Reason::Not(Wanted::Type) => push_about(out, "unknown type ", token, ""),
+        Reason::StatedTwice => push_about(out, "", token, " states a TTL or a class again"),
+        Reason::OtherClass => push_about(out, "", token, " is not the zone's class"),
+        Reason::OtherCount => {
+            push_about(out, "", token, " is not the number of octets that follow")
+        }
+        Reason::Not(wanted) => {
+            push_about(out, "", token, " is not ")?;
+            write!(out, "{wanted}")
+        }
+        _ => push_about(out, "", token, " is one token too many"),
     }
 }
 
-/// Appends the token in single quotes. Fails if out of memory.
-fn push_token(out: &mut String, token: &[u8]) -> Result<(), AllocError> {
+/// Appends the token in single quotes between two texts. Fails if out of memory.
+fn push_about(
+    out: &mut String,
+    before: &str,
+    token: &[u8],
+    behind: &str,
+) -> Result<(), AllocError> {
+    out.push_str(before)?;
     out.push('\'')?;
     for &octet in token {
         out.push(shown_octet(octet))?;
     }
-    out.push('\'')
+    out.push('\'')?;
+    out.push_str(behind)
 }
 
 /// Appends what is wrong with an octet that begins no token. Fails if out of memory.
 fn push_octet(out: &mut String, token: &[u8]) -> Result<(), AllocError> {
     match token.first() {
         Some(b'\\') => out.push_str("escape is not whole: write three digits from 000 to 255"),
-        Some(&octet) => Ok(write!(out, "octet {octet} is not printable: write \\{octet:03}")?),
+        Some(&octet) => write!(out, "octet {octet} is not printable: write \\{octet:03}"),
         None => out.push_str("no token"),
     }
 }

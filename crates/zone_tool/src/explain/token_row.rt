@@ -234,9 +234,10 @@ impl<'t> TokenRow<'t> {
             }
             return Ok(self.context_fault(head));
         }
+        let rtype = head.rtype;
         let mut scanner = self.scanner(head.data, self.origin);
-        match typed_data(head.rtype, &mut scanner)? {
-            TypedData::NoFields => Ok(self.at(head.data, Reason::GeneralFormOnly)),
+        match typed_data(rtype, &mut scanner)? {
+            TypedData::NoFields => Ok(self.at(head.data, Reason::GeneralFormOnly(rtype))),
             TypedData::Fault(fault) => self.field_fault(head.data, fault),
             TypedData::Read(0) => Ok(self.context_fault(head)),
             TypedData::Read(left) => {

@@ -114,13 +114,13 @@ static TYPES: &[&str] = &[
 ];
 
 /// Returns the type whose mnemonic differs from the word in one letter, if there is one.
-fn near_type(word: &[u8]) -> Option<&'static str> {
+fn near_type(word: &[u8]) -> Option<Rtype> {
     if word.len() < 2 {
         return None;
     }
     for &mnemonic in TYPES {
         if is_near(word, mnemonic.as_bytes()) {
-            return Some(mnemonic);
+            return Rtype::from_bytes(mnemonic.as_bytes());
         }
     }
     None
