@@ -3,6 +3,7 @@ pub mod OneEntry
 pub mod Heads
 pub mod Directions
 pub mod Records
+pub mod PassedOver
 pub mod RowFronts
 pub mod OneList
 mod Tried

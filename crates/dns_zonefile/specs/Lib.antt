@@ -11,3 +11,4 @@ pub mod RowRead
 pub mod Composed
 pub mod ComposedRow
 pub mod LastOwner
+pub mod PassedOver

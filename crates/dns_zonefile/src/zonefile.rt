@@ -1,6 +1,7 @@
 //! Readers of zone files.
 ghost use Rattle.std.specs.Prelude.{◌≡◌, ◌≤◌, ◌++◌, [], Some, None, length, vec_capacity, OnOk, OnErr, IfOk};
 
+mod pass_over;
 mod read;
 
 use crate::Error;

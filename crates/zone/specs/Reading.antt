@@ -1,4 +1,4 @@
--- How far a zone's text has been read. Only contracts inside the crate name it.
+-- How far a zone's text has been read. Only contracts inside the crate and that of `check_record` name it.
 use Rattle.std.specs.Prelude.{◌≡◌, ◌≢◌, ◌++◌, ℕ, Bool, true, Option, Some, None, Result, Ok, List, [], ◌∷◌, length, IfSome}
 use Rattle.dns_label.specs.Name.{IsName}
 use Rattle.dns_header.specs.Record.{RecordOf}

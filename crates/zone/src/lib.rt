@@ -3,7 +3,7 @@
 //!
 //! A part of `zonewire`, which re-exports its types. The functions of `zone` are for `zone_send`, which sends the
 //! records of a zone, for `zone_receive`, which makes a zone of those that it received, and for a program that prints
-//! records one by one.
+//! or checks records one by one.
 #![tactic(auto)]
 
 mod keep;
@@ -16,6 +16,7 @@ pub mod zone;
 mod zone_error;
 
 pub use print::print_record;
+pub use read::check_record;
 pub use records::{ZoneRecord, ZoneRecords};
 pub use zone::Zone;
 pub use zone_error::ZoneError;

@@ -191,7 +191,7 @@ fn check_last(
 /// Checks a record, with the number of its entry. Fails if it breaks a rule of the zone with this apex, or cannot be a
 /// zone's first record if there is no apex yet; or if out of memory. The text may write its data in the form of unknown
 /// data although its type has fields.
-fn check_record(
+pub fn check_record(
     alloc: Global,
     apex: Option<Name<&[u8]>>,
     record: &Record<'_>,
