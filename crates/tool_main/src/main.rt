@@ -7,16 +7,13 @@ mod input;
 mod tasks;
 #[cfg(test)]
 mod tests;
-mod usage_error;
-mod words;
 
 use clap::error::ErrorKind;
 use command_line::{WordsFault, task_of};
 use fault::Fault;
+use program_words::{UsageError, words_after_path};
 use std::process::ExitCode;
 use tasks::perform;
-use usage_error::UsageError;
-use words::words_after_path;
 
 /// The program's name, as the first word of a command line.
 const NAME: &str = "zonetool";
