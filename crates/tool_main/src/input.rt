@@ -7,7 +7,7 @@ use std::io::Read;
 use zone::Zone;
 
 /// The name of standard input.
-const STANDARD_INPUT: &str = "-";
+pub(crate) const STANDARD_INPUT: &str = "-";
 
 /// What the words say of how a zone's text is read.
 #[derive(Debug, Drop)]
@@ -30,8 +30,9 @@ pub(crate) fn read_zone<'a>(
     } else {
         fs::read(rt, file)
     };
-    let Ok(text) = text else {
-        return Err(Fault::Read(file));
+    let text = match text {
+        Ok(text) => text,
+        Err(error) => return Err(Fault::of_read(file, error)),
     };
     let zone = match &reading.origin {
         Some(name) => {
@@ -42,6 +43,6 @@ pub(crate) fn read_zone<'a>(
     };
     match zone {
         Ok(zone) => Ok(zone),
-        Err(error) => Err(Fault::Zone(file, error)),
+        Err(error) => Err(Fault::of_zone(file, error)),
     }
 }

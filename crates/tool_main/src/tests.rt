@@ -1,5 +1,6 @@
 //! Tests of what the program writes, by examples worked out by hand.
 
+use crate::command_line::task_of;
 use dns_name::{Class, Name, Rtype};
 use dns_text::DisplayKind;
 use std::alloc::Global;
@@ -74,5 +75,15 @@ fn a_query_behind_its_length(rt: HostRuntime) -> Result<(), Fail> {
     let wanted: &[u8] =
         b"\x00\x13\x12\x34\x00\x00\x00\x01\x00\x00\x00\x00\x00\x00\x01a\x00\x00\xfc\x00\x01";
     assert!(rt; query.as_slice() == wanted);
+    Ok(())
+}
+
+#[test]
+fn standard_input_is_read_once(rt: HostRuntime) -> Result<(), Fail> {
+    let alloc = rt.alloc();
+    let words = ["zonetool", "diff", "-", "-"];
+    let fault = task_of(alloc, words.as_slice()).expect_err(&rt, "a fault");
+    let text = format!(in alloc; "{fault}")?;
+    assert!(rt; text.as_str() == "standard input is read once");
     Ok(())
 }
