@@ -55,8 +55,9 @@ def main():
     with tempfile.TemporaryDirectory(prefix="zonewire-") as name:
         room = Path(name)
         count = copy_to(room, programs)
-        print(f"The gate builds {', '.join(NAMES.get(it, it) for it in programs)} from {count} crates, and proves each of them first: an hour or more from nothing. A toolchain that")
-        print("keeps what it has proved on this machine goes on from there: if you stop it, and after `make prove`.", flush=True)
+        named = " and ".join(NAMES.get(it, it) for it in programs)
+        print(f"The gate builds {named} from {count} crates, and proves each of them first: an hour or more from nothing.")
+        print("A toolchain that keeps what it has proved on this machine goes on from there: if you stop it, and after `make prove`.", flush=True)
         if not run_gate(room, count):
             return 1
         for program in programs:

@@ -59,7 +59,7 @@ class Case:
 
 
 def query(name, number=0, cls=1):
-    """The octets of a query behind their length: the name is given as it is in a message."""
+    """The octets of a query after their length; the name is given as it is in a message."""
     octets = number.to_bytes(2, "big") + bytes([0, 0, 0, 1, 0, 0, 0, 0, 0, 0]) + name + bytes([0, 252, 0, cls])
     return len(octets).to_bytes(2, "big") + octets
 

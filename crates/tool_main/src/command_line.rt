@@ -221,7 +221,7 @@ fn sort_command<'a>(alloc: Global) -> Result<Command<'a>, AllocError> {
 
 fn query_command<'a>(alloc: Global) -> Result<Command<'a>, AllocError> {
     Command::new(alloc, "query")
-        .about("Writes the query for a zone's transfer behind its length")
+        .about("Writes the query for a zone's transfer after its length")
         .arg(
             argument(alloc, "apex", "APEX")
                 .required(true)

@@ -30,7 +30,7 @@ pub(crate) enum Task<'a> {
         /// How the text is laid out.
         layout: DisplayKind,
     },
-    /// Writes the query for a zone's transfer, behind its length.
+    /// Writes the query for a zone's transfer, after its length.
     Query {
         /// The zone's name.
         apex: Name<Vec<u8>>,

@@ -68,7 +68,7 @@ fn what_is_not_ignored(rt: HostRuntime) -> Result<(), Fail> {
 }
 
 #[test]
-fn a_query_behind_its_length(rt: HostRuntime) -> Result<(), Fail> {
+fn a_query_after_its_length(rt: HostRuntime) -> Result<(), Fail> {
     let alloc = rt.alloc();
     let apex = Name::vec_from_str(alloc, "a")?;
     let query = framed_query(alloc, 4660, Class::IN, &apex.for_ref())?;
