@@ -2,7 +2,7 @@
 ghost use Rattle.std.specs.Prelude.{◌≡◌};
 ghost use Rattle.tool_main.specs.declared.command_line.WordsFault.TheVariants.{Line, OutOfMemory};
 
-use crate::input::Reading;
+use crate::input::{Reading, STANDARD_INPUT};
 use crate::tasks::Task;
 use clap::{Arg, ArgAction, ArgMatches, Command, value_parser};
 use dns_name::{Class, FromStrError, Name, Rtype};
@@ -29,6 +29,9 @@ pub(crate) enum WordsFault {
     /// The value of an option is not a type.
     #[error("bad type")]
     BadType,
+    /// Both zones are to be read from standard input.
+    #[error("standard input is read once")]
+    InputTwice,
     /// Out of memory.
     #[error("out of memory")]
     OutOfMemory,
@@ -49,9 +52,6 @@ impl From<AllocError> for WordsFault {
         WordsFault::OutOfMemory
     }
 }
-
-/// The file that is read if none is named: standard input.
-const DEFAULT_FILE: &str = "-";
 
 /// The values of `--layout`.
 static LAYOUTS: &[&str] = &["simple", "tabbed", "multiline"];
@@ -75,12 +75,18 @@ pub(crate) fn task_of<'a>(alloc: Global, words: &'a [&'a str]) -> Result<Task<'a
 fn explain_task<'a>(alloc: Global, options: &ArgMatches<'a>) -> Result<Task<'a>, WordsFault> {
     let reading = reading(alloc, options)?;
     Ok(Task::Explain {
-        file: options.get_str("file").unwrap_or(DEFAULT_FILE),
+        file: file_or_input(options, "file"),
         reading,
+        all: options.get_flag("all"),
     })
 }
 
 fn diff_task<'a>(alloc: Global, options: &ArgMatches<'a>) -> Result<Task<'a>, WordsFault> {
+    let old = file_or_input(options, "old");
+    let new = file_or_input(options, "new");
+    if old == STANDARD_INPUT && new == STANDARD_INPUT {
+        return Err(WordsFault::InputTwice);
+    }
     let reading = reading(alloc, options)?;
     let selection = Selection {
         without: left_out(alloc, options)?,
@@ -88,8 +94,8 @@ fn diff_task<'a>(alloc: Global, options: &ArgMatches<'a>) -> Result<Task<'a>, Wo
         ignore_serial: options.get_flag("ignore-serial"),
     };
     Ok(Task::Diff {
-        old: options.get_str("old").unwrap_or(DEFAULT_FILE),
-        new: options.get_str("new").unwrap_or(DEFAULT_FILE),
+        old,
+        new,
         reading,
         selection,
     })
@@ -98,7 +104,7 @@ fn diff_task<'a>(alloc: Global, options: &ArgMatches<'a>) -> Result<Task<'a>, Wo
 fn sort_task<'a>(alloc: Global, options: &ArgMatches<'a>) -> Result<Task<'a>, WordsFault> {
     let reading = reading(alloc, options)?;
     Ok(Task::Sort {
-        file: options.get_str("file").unwrap_or(DEFAULT_FILE),
+        file: file_or_input(options, "file"),
         reading,
         layout: layout(options),
     })
@@ -111,6 +117,11 @@ fn query_task<'a>(alloc: Global, options: &ArgMatches<'a>) -> Result<Task<'a>, W
     let class = class(options)?;
     let id = options.get_one::<u16>("id").unwrap_or(0);
     Ok(Task::Query { apex, class, id })
+}
+
+/// Returns the file of this argument, or standard input if it is left out.
+fn file_or_input<'a>(options: &ArgMatches<'a>, argument: &str) -> &'a str {
+    options.get_str(argument).unwrap_or(STANDARD_INPUT)
 }
 
 /// Returns how the options say that a zone's text is read.
@@ -172,57 +183,47 @@ fn layout(options: &ArgMatches<'_>) -> DisplayKind {
 }
 
 fn command<'a>(alloc: Global) -> Result<Command<'a>, AllocError> {
-    let explain = explain_command(alloc)?;
     let diff = diff_command(alloc)?;
     let sort = sort_command(alloc)?;
     let query = query_command(alloc)?;
     Command::new(alloc, "zonetool")
-        .about("Compares and sorts DNS zones")
+        .about("Compares and sorts DNS zones, and asks for their transfers")
         .version("0.1.0")
         .subcommand_required(true)
         .disable_help_subcommand(true)
-        .subcommand(explain)?
         .subcommand(diff)?
         .subcommand(sort)?
         .subcommand(query)
-}
-
-fn explain_command<'a>(alloc: Global) -> Result<Command<'a>, AllocError> {
-    let bare = Command::new(alloc, "explain").about("Says why a zone is refused");
-    with_text_options(alloc, bare)?.arg(file(alloc, "file", "FILE").help(
-        "The zone, standard input where left out",
-    ))
 }
 
 fn diff_command<'a>(alloc: Global) -> Result<Command<'a>, AllocError> {
     let bare = Command::new(alloc, "diff").about("Prints what changed between two zones");
     with_text_options(alloc, bare)?
         .arg(
-            file(alloc, "old", "OLD")
+            argument(alloc, "old", "OLD")
                 .required(true)
                 .help("The old zone, - for standard input"),
         )?
         .arg(
-            file(alloc, "new", "NEW")
+            argument(alloc, "new", "NEW")
                 .required(true)
                 .help("The new zone, - for standard input"),
         )?
         .arg(
-            Arg::new(alloc, "without")
-                .long("without")
+            option(alloc, "without", "TYPE")
                 .action(ArgAction::Append)
-                .help("A type that is left out, several where given again"),
+                .help("A type whose records are not compared; may be given again"),
         )?
-        .arg(flag(alloc, "ignore-ttl").help("Records that differ only in their TTL are the same"))?
+        .arg(flag(alloc, "ignore-ttl").help("TTLs are not compared"))?
         .arg(flag(alloc, "ignore-serial").help("The SOA's serial is not compared"))
 }
 
 fn sort_command<'a>(alloc: Global) -> Result<Command<'a>, AllocError> {
     let bare = Command::new(alloc, "sort").about("Prints a zone in canonical order");
     with_text_options(alloc, bare)?
-        .arg(file(alloc, "file", "FILE").help("The zone, standard input where left out"))?
+        .arg(argument(alloc, "file", "FILE").help("The zone, - or left out for standard input"))?
         .arg(
-            option(alloc, "layout")
+            option(alloc, "layout", "LAYOUT")
                 .value_parser(LAYOUTS)
                 .help("How the text is laid out"),
         )
@@ -230,16 +231,15 @@ fn sort_command<'a>(alloc: Global) -> Result<Command<'a>, AllocError> {
 
 fn query_command<'a>(alloc: Global) -> Result<Command<'a>, AllocError> {
     Command::new(alloc, "query")
-        .about("Writes the query for a zone's transfer behind its length")
+        .about("Writes the query for a zone's transfer after its length")
         .arg(
-            Arg::new(alloc, "apex")
-                .value_name("APEX")
+            argument(alloc, "apex", "APEX")
                 .required(true)
                 .help("The zone's name"),
         )?
-        .arg(option(alloc, "class").help("The zone's class, IN where left out"))?
+        .arg(option(alloc, "class", "CLASS").help("The zone's class, IN where left out"))?
         .arg(
-            option(alloc, "id")
+            option(alloc, "id", "NUMBER")
                 .value_parser(value_parser!(u16))
                 .help("The query's ID, 0 where left out"),
         )
@@ -248,18 +248,18 @@ fn query_command<'a>(alloc: Global) -> Result<Command<'a>, AllocError> {
 /// Adds the options for reading zone text.
 fn with_text_options<'a>(alloc: Global, command: Command<'a>) -> Result<Command<'a>, AllocError> {
     command
-        .arg(option(alloc, "origin").help("What relative names stand under"))?
-        .arg(option(alloc, "class").help("The zone's class, IN where left out"))
+        .arg(option(alloc, "origin", "NAME").help("The origin of relative names"))?
+        .arg(option(alloc, "class", "CLASS").help("The zone's class, IN where left out"))
 }
 
-fn option<'a>(alloc: Global, name: &'a str) -> Arg<'a> {
-    Arg::new(alloc, name).long(name)
+fn option<'a>(alloc: Global, name: &'a str, shown: &'a str) -> Arg<'a> {
+    Arg::new(alloc, name).long(name).value_name(shown)
 }
 
 fn flag<'a>(alloc: Global, name: &'a str) -> Arg<'a> {
     Arg::new(alloc, name).long(name).action(ArgAction::SetTrue)
 }
 
-fn file<'a>(alloc: Global, name: &'a str, shown: &'a str) -> Arg<'a> {
+fn argument<'a>(alloc: Global, name: &'a str, shown: &'a str) -> Arg<'a> {
     Arg::new(alloc, name).value_name(shown)
 }

@@ -7,7 +7,7 @@ use std::io::Read;
 use zone::Zone;
 
 /// The name of standard input.
-const STANDARD_INPUT: &str = "-";
+pub(crate) const STANDARD_INPUT: &str = "-";
 
 /// What the words say of how a zone's text is read.
 #[derive(Debug, Drop)]
@@ -28,7 +28,7 @@ pub(crate) fn read_text<'a>(rt: &HostRuntime, file: &'a str) -> Result<Vec<u8>, 
     };
     match text {
         Ok(text) => Ok(text),
-        Err(_) => Err(Fault::Read(file)),
+        Err(error) => Err(Fault::of_read(file, error)),
     }
 }
 
@@ -48,6 +48,6 @@ pub(crate) fn read_zone<'a>(
     };
     match zone {
         Ok(zone) => Ok(zone),
-        Err(error) => Err(Fault::Zone(file, error)),
+        Err(error) => Err(Fault::of_zone(file, error)),
     }
 }

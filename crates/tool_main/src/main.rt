@@ -7,32 +7,27 @@ mod input;
 mod tasks;
 #[cfg(test)]
 mod tests;
-mod usage_error;
-mod words;
 
 use clap::error::ErrorKind;
 use command_line::{WordsFault, task_of};
 use fault::Fault;
+use program_words::{UsageError, words_after_path};
 use std::process::ExitCode;
 use tasks::perform;
-use usage_error::UsageError;
-use words::words_after_path;
 
 /// The program's name, as the first word of a command line.
 const NAME: &str = "zonetool";
 
-/// The exit status of `diff` if the zones differ, and that of a run that failed.
+/// The exit status of `diff` if the zones differ.
 const DIFFERENCE: u8 = 1;
 
+/// The exit status of a run that failed.
 const TROUBLE: u8 = 2;
 
 fn main(rt: HostRuntime) -> ExitCode {
     let status = match words_after_path(&rt) {
         Ok(words) => status_of(&rt, words.as_slice()),
-        Err(UsageError::OutOfMemory) => {
-            report(&rt, &Fault::OutOfMemory);
-            TROUBLE
-        }
+        Err(UsageError::OutOfMemory) => report(&rt, &Fault::OutOfMemory),
         Err(UsageError::NotText) => {
             let _ = eprintln!(rt; "zonetool: a word is not UTF-8");
             TROUBLE
@@ -45,11 +40,11 @@ fn main(rt: HostRuntime) -> ExitCode {
 fn status_of(rt: &HostRuntime, given: &[String]) -> u8 {
     let mut words = Vec::new(rt.alloc());
     if words.push(NAME).is_err() {
-        return TROUBLE;
+        return report(rt, &Fault::OutOfMemory);
     }
     for word in given {
         if words.push(word.as_str()).is_err() {
-            return TROUBLE;
+            return report(rt, &Fault::OutOfMemory);
         }
     }
     let task = match task_of(rt.alloc(), words.as_slice()) {
@@ -59,10 +54,7 @@ fn status_of(rt: &HostRuntime, given: &[String]) -> u8 {
     match perform(rt, &task) {
         Ok(true) => 0,
         Ok(false) => DIFFERENCE,
-        Err(fault) => {
-            report(rt, &fault);
-            TROUBLE
-        }
+        Err(fault) => report(rt, &fault),
     }
 }
 
@@ -71,14 +63,11 @@ fn status_of(rt: &HostRuntime, given: &[String]) -> u8 {
 fn refuse(rt: &HostRuntime, fault: &WordsFault) -> u8 {
     match fault {
         WordsFault::Line(error) => match error.kind() {
-            ErrorKind::DisplayHelp | ErrorKind::DisplayVersion => {
-                let _ = rt.print(error);
-                0
-            }
-            ErrorKind::OutOfMemory => {
-                report(rt, &Fault::OutOfMemory);
-                TROUBLE
-            }
+            ErrorKind::DisplayHelp | ErrorKind::DisplayVersion => match rt.print(error) {
+                Ok(()) => 0,
+                Err(_) => report(rt, &Fault::Write),
+            },
+            ErrorKind::OutOfMemory => report(rt, &Fault::OutOfMemory),
             _ => {
                 let _ = rt.eprint(error);
                 TROUBLE
@@ -91,12 +80,13 @@ fn refuse(rt: &HostRuntime, fault: &WordsFault) -> u8 {
     }
 }
 
-/// Writes on standard error why the task failed.
-fn report(rt: &HostRuntime, fault: &Fault<'_>) {
+/// Writes on standard error why the task failed. Returns the exit status.
+fn report(rt: &HostRuntime, fault: &Fault<'_>) -> u8 {
     let _ = match fault {
-        Fault::Read(file) => eprintln!(rt; "zonetool: {file}: read failed"),
+        Fault::Read(file, error) => eprintln!(rt; "zonetool: {file}: read failed: {error}"),
         Fault::Write => eprintln!(rt; "zonetool: write failed"),
         Fault::Zone(file, error) => eprintln!(rt; "zonetool: {file}: {error}"),
         Fault::OutOfMemory => eprintln!(rt; "zonetool: out of memory"),
     };
+    TROUBLE
 }

@@ -4,19 +4,22 @@ use crate::fault::Fault;
 use crate::input::{Reading, read_text, read_zone};
 use dns_name::{Class, Name};
 use dns_text::DisplayKind;
+use std::alloc::AllocError;
 use std::io::Write;
-use zone_tool::explain::{explain, finding_text};
+use zone_tool::explain::{Finding, explain, finding_text};
 use zone_tool::{Selection, difference, framed_query, sorted};
 
 /// What the program does.
 #[derive(Debug, Drop)]
 pub(crate) enum Task<'a> {
-    /// Says why the text of a file is no zone's.
+    /// Writes why the text of a file is no zone's.
     Explain {
         /// The zone's file.
         file: &'a str,
         /// How the zone is read.
         reading: Reading,
+        /// Whether each entry that is refused is explained, and not the first alone.
+        all: bool,
     },
     /// Writes what changed between the zones of two files.
     Diff {
@@ -38,7 +41,7 @@ pub(crate) enum Task<'a> {
         /// How the text is laid out.
         layout: DisplayKind,
     },
-    /// Writes the query for a zone's transfer, behind its length.
+    /// Writes the query for a zone's transfer, after its length.
     Query {
         /// The zone's name.
         apex: Name<Vec<u8>>,
@@ -49,21 +52,17 @@ pub(crate) enum Task<'a> {
     },
 }
 
-/// Performs the task. Returns false if it writes a difference.
+/// Performs the task. Returns false if it writes a difference, or why a text is no zone's.
 pub(crate) fn perform<'a>(rt: &HostRuntime, task: &Task<'a>) -> Result<bool, Fault<'a>> {
     match task {
-        Task::Explain { file, reading } => {
+        Task::Explain { file, reading, all } => {
             let text = read_text(rt, *file)?;
-            let found = match &reading.origin {
-                Some(name) => explain(rt.alloc(), &text, Some(&name.for_ref()), reading.class)?,
-                None => explain(rt.alloc(), &text, None, reading.class)?,
-            };
-            let Some(finding) = found else {
-                return Ok(true);
-            };
-            let shown = finding_text(rt.alloc(), *file, &text, &finding)?;
-            write_all(rt, shown.as_bytes())?;
-            Ok(false)
+            let findings = findings(rt, &text, reading, *all)?;
+            for finding in &findings {
+                let shown = finding_text(rt.alloc(), *file, &text, finding)?;
+                write_all(rt, shown.as_bytes())?;
+            }
+            Ok(findings.is_empty())
         }
         Task::Diff {
             old,
@@ -92,6 +91,19 @@ pub(crate) fn perform<'a>(rt: &HostRuntime, task: &Task<'a>) -> Result<bool, Fau
             write_all(rt, query.as_slice())?;
             Ok(true)
         }
+    }
+}
+
+/// Returns why the text is no zone's.
+fn findings<'a>(
+    rt: &HostRuntime,
+    text: &[u8],
+    reading: &Reading,
+    all: bool,
+) -> Result<Vec<Finding>, AllocError> {
+    match &reading.origin {
+        Some(name) => explain(rt.alloc(), text, Some(&name.for_ref()), reading.class, all),
+        None => explain(rt.alloc(), text, None, reading.class, all),
     }
 }
 

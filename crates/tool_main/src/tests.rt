@@ -1,5 +1,6 @@
 //! Tests of what the program writes, by examples worked out by hand.
 
+use crate::command_line::task_of;
 use dns_name::{Class, Name, Rtype};
 use dns_text::DisplayKind;
 use std::alloc::Global;
@@ -67,12 +68,22 @@ fn what_is_not_ignored(rt: HostRuntime) -> Result<(), Fail> {
 }
 
 #[test]
-fn a_query_behind_its_length(rt: HostRuntime) -> Result<(), Fail> {
+fn a_query_after_its_length(rt: HostRuntime) -> Result<(), Fail> {
     let alloc = rt.alloc();
     let apex = Name::vec_from_str(alloc, "a")?;
     let query = framed_query(alloc, 4660, Class::IN, &apex.for_ref())?;
     let wanted: &[u8] =
         b"\x00\x13\x12\x34\x00\x00\x00\x01\x00\x00\x00\x00\x00\x00\x01a\x00\x00\xfc\x00\x01";
     assert!(rt; query.as_slice() == wanted);
+    Ok(())
+}
+
+#[test]
+fn standard_input_is_read_once(rt: HostRuntime) -> Result<(), Fail> {
+    let alloc = rt.alloc();
+    let words = ["zonetool", "diff", "-", "-"];
+    let fault = task_of(alloc, words.as_slice()).expect_err(&rt, "a fault");
+    let text = format!(in alloc; "{fault}")?;
+    assert!(rt; text.as_str() == "standard input is read once");
     Ok(())
 }
