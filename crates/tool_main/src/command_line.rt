@@ -77,7 +77,6 @@ fn explain_task<'a>(alloc: Global, options: &ArgMatches<'a>) -> Result<Task<'a>,
     Ok(Task::Explain {
         file: file_or_input(options, "file"),
         reading,
-        all: options.get_flag("all"),
     })
 }
 
@@ -183,17 +182,25 @@ fn layout(options: &ArgMatches<'_>) -> DisplayKind {
 }
 
 fn command<'a>(alloc: Global) -> Result<Command<'a>, AllocError> {
+    let explain = explain_command(alloc)?;
     let diff = diff_command(alloc)?;
     let sort = sort_command(alloc)?;
     let query = query_command(alloc)?;
     Command::new(alloc, "zonetool")
-        .about("Compares and sorts DNS zones, and asks for their transfers")
+        .about("Checks, compares and sorts DNS zones, and asks for their transfers")
         .version("0.1.0")
         .subcommand_required(true)
         .disable_help_subcommand(true)
+        .subcommand(explain)?
         .subcommand(diff)?
         .subcommand(sort)?
         .subcommand(query)
+}
+
+fn explain_command<'a>(alloc: Global) -> Result<Command<'a>, AllocError> {
+    let bare = Command::new(alloc, "explain").about("Says why a zone is refused");
+    with_text_options(alloc, bare)?
+        .arg(argument(alloc, "file", "FILE").help("The zone, - or left out for standard input"))
 }
 
 fn diff_command<'a>(alloc: Global) -> Result<Command<'a>, AllocError> {

@@ -4,9 +4,8 @@ use crate::fault::Fault;
 use crate::input::{Reading, read_text, read_zone};
 use dns_name::{Class, Name};
 use dns_text::DisplayKind;
-use std::alloc::AllocError;
 use std::io::Write;
-use zone_tool::explain::{Finding, explain, finding_text};
+use zone_tool::explain::{explain, finding_text};
 use zone_tool::{Selection, difference, framed_query, sorted};
 
 /// What the program does.
@@ -18,8 +17,6 @@ pub(crate) enum Task<'a> {
         file: &'a str,
         /// How the zone is read.
         reading: Reading,
-        /// Whether each entry that is refused is explained, and not the first alone.
-        all: bool,
     },
     /// Writes what changed between the zones of two files.
     Diff {
@@ -55,15 +52,7 @@ pub(crate) enum Task<'a> {
 /// Performs the task. Returns false if it writes a difference, or why a text is no zone's.
 pub(crate) fn perform<'a>(rt: &HostRuntime, task: &Task<'a>) -> Result<bool, Fault<'a>> {
     match task {
-        Task::Explain { file, reading, all } => {
-            let text = read_text(rt, *file)?;
-            let findings = findings(rt, &text, reading, *all)?;
-            for finding in &findings {
-                let shown = finding_text(rt.alloc(), *file, &text, finding)?;
-                write_all(rt, shown.as_bytes())?;
-            }
-            Ok(findings.is_empty())
-        }
+        Task::Explain { file, reading } => explain_file(rt, *file, reading),
         Task::Diff {
             old,
             new,
@@ -94,17 +83,23 @@ pub(crate) fn perform<'a>(rt: &HostRuntime, task: &Task<'a>) -> Result<bool, Fau
     }
 }
 
-/// Returns why the text is no zone's.
-fn findings<'a>(
+/// Writes why the text of the file is no zone's. Returns false if it writes something.
+fn explain_file<'a>(
     rt: &HostRuntime,
-    text: &[u8],
+    file: &'a str,
     reading: &Reading,
-    all: bool,
-) -> Result<Vec<Finding>, AllocError> {
-    match &reading.origin {
-        Some(name) => explain(rt.alloc(), text, Some(&name.for_ref()), reading.class, all),
-        None => explain(rt.alloc(), text, None, reading.class, all),
-    }
+) -> Result<bool, Fault<'a>> {
+    let text = read_text(rt, file)?;
+    let found = match &reading.origin {
+        Some(name) => explain(rt.alloc(), &text, Some(&name.for_ref()), reading.class)?,
+        None => explain(rt.alloc(), &text, None, reading.class)?,
+    };
+    let Some(finding) = found else {
+        return Ok(true);
+    };
+    let shown = finding_text(rt.alloc(), file, &text, &finding)?;
+    write_all(rt, shown.as_bytes())?;
+    Ok(false)
 }
 
 /// Writes the octets to standard output.

@@ -8,19 +8,17 @@ use dns_entry_scanner::RowReader;
 pub(crate) fn broken_row_fault(text: &[u8], place: usize) -> Located {
     let mut reader = RowReader::new(text, place);
     let mut inside = false;
-    let mut open = place.min(text.len());
-    loop {
-        let start = reader.place();
-        let gap = Gap::of(text, start, inside);
-        if let Some(at) = gap.opened {
-            open = at;
-        }
+    let mut open = place;
+    for _ in 0..=text.len() {
+        let gap = gap_at(text, reader.place(), inside);
         inside = gap.inside;
+        open = gap.opened.unwrap_or(open);
         match reader.next_token() {
             Ok(Some(_)) => {}
-            _ => return gap.fault(text, open),
+            _ => return gap_fault(text, gap, open),
         }
     }
+    located(Reason::NoLineFeed, text.len(), 0)
 }
 
 /// The octets between two tokens of a row.
@@ -30,51 +28,56 @@ struct Gap {
     end: usize,
     /// Whether that octet is inside parentheses.
     inside: bool,
-    /// The offset of the last parenthesis that opens here.
+    /// The offset of the last parenthesis that opens among them.
     opened: Option<usize>,
 }
 
-impl Gap {
-    /// Returns the octets from the offset to the next token, or to an octet that may not be there.
-    fn of(text: &[u8], start: usize, was_inside: bool) -> Gap {
-        let mut gap = Gap {
-            end: start.min(text.len()),
-            inside: was_inside,
-            opened: None,
-        };
-        let mut in_comment = false;
-        while gap.end < text.len() {
-            let octet = text[gap.end];
-            if octet == b'\n' && gap.inside {
-                in_comment = false;
-            } else if octet == b'\n' {
-                return gap;
-            } else if in_comment {} else {
-                match octet {
-                    b' ' | b'\t' | b'\r' => {}
-                    b';' => in_comment = true,
-                    b'(' if !gap.inside => {
-                        gap.inside = true;
-                        gap.opened = Some(gap.end);
-                    }
-                    b')' if gap.inside => gap.inside = false,
-                    _ => return gap,
-                }
+/// Returns the octets from the offset to the next token, or to an octet that may not be there.
+fn gap_at(text: &[u8], start: usize, was_inside: bool) -> Gap {
+    let mut inside = was_inside;
+    let mut opened = None;
+    let mut in_comment = false;
+    let mut end = start;
+    while end < text.len() {
+        match text[end] {
+            b'\n' if inside => in_comment = false,
+            b'\n' => break,
+            _ if in_comment => {}
+            b' ' | b'\t' | b'\r' => {}
+            b';' => in_comment = true,
+            b'(' if !inside => {
+                inside = true;
+                opened = Some(end);
             }
-            gap.end += 1;
+            b')' if inside => inside = false,
+            _ => break,
         }
-        gap
+        end += 1;
     }
+    Gap {
+        end,
+        inside,
+        opened,
+    }
+}
 
-    /// Returns why no token and no line feed follows. `open` is the offset of the parenthesis that is open, if one is.
-    fn fault(self, text: &[u8], open: usize) -> Located {
-        let (reason, start, end) = match text.get(self.end) {
-            None if self.inside => (Reason::OpenParenthesis, open, open + 1),
-            None => (Reason::NoLineFeed, self.end, self.end),
-            Some(b'"') => (Reason::OpenQuote, self.end, self.end + 1),
-            Some(b'(') | Some(b')') => (Reason::MisplacedParenthesis, self.end, self.end + 1),
-            Some(_) => (Reason::BadOctet, self.end, self.end + 1),
-        };
-        Located { reason, start, end }
+/// Returns why no token and no line feed follows the octets. `open` is the offset of the parenthesis that is open, if one
+/// is.
+fn gap_fault(text: &[u8], gap: Gap, open: usize) -> Located {
+    match text.get(gap.end) {
+        None if gap.inside => located(Reason::OpenParenthesis, open, 1),
+        None => located(Reason::NoLineFeed, gap.end, 0),
+        Some(b'"') => located(Reason::OpenQuote, gap.end, 1),
+        Some(b'(') | Some(b')') => located(Reason::MisplacedParenthesis, gap.end, 1),
+        Some(_) => located(Reason::BadOctet, gap.end, 1),
+    }
+}
+
+/// Returns the reason with the place of so many octets from the offset on.
+fn located(reason: Reason, start: usize, len: usize) -> Located {
+    Located {
+        reason,
+        start,
+        end: start.saturating_add(len),
     }
 }

@@ -41,14 +41,14 @@ pub(crate) fn entry_row(
         row.origin = Some(origin.to_vec(alloc)?);
     }
     let mut count: usize = 0;
-    loop {
+    // A row has at least its line feed.
+    for _ in 0..=text.len() {
         let RowFound::Row { next, blank_led } = read_row(text, row.place, &mut row.spans)? else {
-            row.blank_led = None;
-            return Ok(row);
+            break;
         };
         row.blank_led = Some(blank_led);
         if !row.spans.is_empty() {
-            count += 1;
+            count = count.saturating_add(1);
             if count >= number {
                 return Ok(row);
             }
@@ -56,6 +56,8 @@ pub(crate) fn entry_row(
         }
         row.place = next;
     }
+    row.blank_led = None;
+    Ok(row)
 }
 
 impl EntryRow {

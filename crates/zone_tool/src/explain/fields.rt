@@ -2,7 +2,6 @@
 ghost use Rattle.std.specs.Prelude.{◌≡◌, IfOk, IfSome};
 ghost use Rattle.dns_fields.specs.Scanned.{NoRowScans};
 
-use super::outcome::read_or_refused;
 use super::reason::Wanted;
 use dns_entry_scanner::EntryError;
 use dns_name::{FromBuilder, ToName};
@@ -50,18 +49,20 @@ impl<S: Scanner<Error = EntryError>> FirstFault<S> for () {
 impl<S: Scanner<Error = EntryError>, A: WantedField + ScanField<S>, B: FirstFault<S>> FirstFault<S>
     for (A, B) {
     fn first_fault(scanner: &mut S) -> Result<Option<FieldFault>, AllocError> {
-        let Some(_field) = read_or_refused(A::scan_field(scanner))? else {
-            return Ok(Some(FieldFault {
+        match A::scan_field(scanner) {
+            Ok(_field) => match B::first_fault(scanner) {
+                Ok(Some(fault)) => Ok(Some(FieldFault {
+                    before: fault.before.saturating_add(1),
+                    wanted: fault.wanted,
+                })),
+                Ok(None) => Ok(None),
+                Err(error) => Err(error),
+            },
+            Err(EntryError::OutOfMemory) => Err(AllocError),
+            Err(_) => Ok(Some(FieldFault {
                 before: 0,
                 wanted: A::wanted(),
-            }));
-        };
-        match B::first_fault(scanner)? {
-            Some(fault) => Ok(Some(FieldFault {
-                before: fault.before.saturating_add(1),
-                wanted: fault.wanted,
             })),
-            None => Ok(None),
         }
     }
 }
@@ -71,9 +72,10 @@ where
     Last<V>: ScanRow<S>,
 {
     fn first_fault(scanner: &mut S) -> Result<Option<FieldFault>, AllocError> {
-        match read_or_refused(Last::<V>::scan_fields(scanner))? {
-            Some(_row) => Ok(None),
-            None => Ok(Some(FieldFault {
+        match Last::<V>::scan_fields(scanner) {
+            Ok(_row) => Ok(None),
+            Err(EntryError::OutOfMemory) => Err(AllocError),
+            Err(_) => Ok(Some(FieldFault {
                 before: 0,
                 wanted: V::wanted(),
             })),

@@ -1,5 +1,7 @@
 //! A finding as text.
 
+ghost use Rattle.std.specs.Prelude.{◌≤◌, length};
+
 use super::Finding;
 use super::reason::{Reason, Wanted};
 use std::alloc::{AllocError, Global};
@@ -7,10 +9,11 @@ use std::fmt::Write;
 
 /// Returns the number of the line of an offset in the text, counted from 1.
 pub(crate) fn line_of(text: &[u8], offset: usize) -> usize {
+    let before = &text[..offset.min(text.len())];
     let mut line: usize = 1;
-    for &octet in &text[..offset.min(text.len())] {
+    for &octet in before {
         if octet == b'\n' {
-            line += 1;
+            line = line.saturating_add(1);
         }
     }
     line
@@ -55,21 +58,27 @@ pub fn finding_text(
 }
 
 /// Returns the offset of the first octet of the line of an offset.
-fn line_start(text: &[u8], offset: usize) -> usize {
-    let mut start = offset;
-    while start > 0 && text[start - 1] != b'\n' {
-        start -= 1;
+fn line_start(text: &[u8], offset: usize) -> usize
+    ensures { result ≤ offset }
+{
+    match text[..offset.min(text.len())]
+        .iter()
+        .rposition(|&octet| octet == b'\n')
+    {
+        Some(feed) => feed + 1,
+        None => 0,
     }
-    start
 }
 
 /// Returns the offset behind the last octet of the line of an offset.
-fn line_end(text: &[u8], offset: usize) -> usize {
-    let mut end = offset;
-    while end < text.len() && text[end] != b'\n' {
-        end += 1;
+fn line_end(text: &[u8], offset: usize) -> usize
+    ensures { result ≤ length text.now }
+{
+    let start = offset.min(text.len());
+    match text[start..].iter().position(|&octet| octet == b'\n') {
+        Some(feed) => start + feed,
+        None => text.len(),
     }
-    end
 }
 
 fn shown_octet(octet: u8) -> char {

@@ -236,7 +236,7 @@ impl<'t> TokenRow<'t> {
         }
         let rtype = head.rtype;
         let mut scanner = self.scanner(head.data, self.origin);
-        match typed_data(rtype, &mut scanner)? {
+        match typed_data(rtype, &mut scanner, self.spans.len())? {
             TypedData::NoFields => Ok(self.at(head.data, Reason::GeneralFormOnly(rtype))),
             TypedData::Fault(fault) => self.field_fault(head.data, fault),
             TypedData::Read(0) => Ok(self.context_fault(head)),
@@ -283,7 +283,7 @@ impl<'t> TokenRow<'t> {
             None => return Some(self.unlike(index, Wanted::Number16)),
         };
         let mut digits: usize = 0;
-        for at in index + 1..self.spans.len() {
+        for at in index.saturating_add(1)..self.spans.len() {
             match self.bare(at) {
                 Some(text) if is_encoded(Wanted::Base16, text) => {
                     digits = digits.saturating_add(text.len());
@@ -319,10 +319,11 @@ macro_rules! first_fault {
     };
 }
 
-/// Returns how far the tokens read as data of the type. Fails if out of memory.
+/// Returns how far the tokens, of which there are at most so many, read as data of the type. Fails if out of memory.
 fn typed_data<N, Octs, S: Scanner<Name = N, Octets = Octs, Error = EntryError>>(
     rtype: Rtype,
     scanner: &mut S,
+    most: usize,
 ) -> Result<TypedData, AllocError>
 where
     N: ToName + Drop,
@@ -333,7 +334,10 @@ where
         return Ok(TypedData::Fault(fault));
     }
     let mut left = 0;
-    while scanner.continues() {
+    for _ in 0..most {
+        if !scanner.continues() {
+            break;
+        }
         scanner.skip_token();
         left += 1;
     }

@@ -128,18 +128,27 @@ fn near_type(word: &[u8]) -> Option<Rtype> {
 
 /// Returns whether the word becomes the other one where one letter is changed, added or left out, up to ASCII case.
 fn is_near(word: &[u8], other: &[u8]) -> bool {
-    let mut start = 0;
-    while start < word.len()
-        && start < other.len()
-        && word[start].eq_ignore_ascii_case(&other[start])
-    {
-        start += 1;
-    }
-    let (left, right) = (&word[start..], &other[start..]);
+    let same = common_len(word, other);
+    let (left, right) = (
+        &word[same.min(word.len())..],
+        &other[same.min(other.len())..],
+    );
     let (left_behind, right_behind) = (behind_first(left), behind_first(right));
     left_behind.eq_ignore_ascii_case(right_behind)
         || left_behind.eq_ignore_ascii_case(right)
         || left.eq_ignore_ascii_case(right_behind)
+}
+
+/// Returns how many octets the two begin with that are the same up to ASCII case.
+fn common_len(word: &[u8], other: &[u8]) -> usize {
+    let mut len = 0;
+    for (octet, another) in word.iter().zip(other) {
+        if !octet.eq_ignore_ascii_case(another) {
+            break;
+        }
+        len += 1;
+    }
+    len
 }
 
 /// Returns the octets behind the first one, or none.
