@@ -1,5 +1,5 @@
 -- What a reader passes over to go on after a row that was refused (RFC 1035 5.1).
-use Rattle.std.specs.Prelude.{◌≡◌, ◌==◌, ◌+◌, ℕ, true, if◌then◌else◌, List, [], ◌∷◌}
+use Rattle.std.specs.Prelude.{◌≡◌, ◌==◌, ◌+◌, ℕ, false, true, if◌then◌else◌, List, [], ◌∷◌}
 use Rattle.dns_scan.specs.Token.{Token}
 use Rattle.dns_text.specs.Tokens.{Row, is_end}
 use Rattle.dns_entry_scanner.specs.RowFound.{NoRow}
