@@ -2,6 +2,7 @@
 ghost use Rattle.std.specs.Prelude.{◌≡◌, IfOk, IfSome};
 ghost use Rattle.dns_fields.specs.Scanned.{NoRowScans};
 
+use super::outcome::is_want_of_memory;
 use super::reason::Wanted;
 use dns_entry_scanner::EntryError;
 use dns_name::{FromBuilder, ToName};
@@ -58,7 +59,7 @@ impl<S: Scanner<Error = EntryError>, A: WantedField + ScanField<S>, B: FirstFaul
                 Ok(None) => Ok(None),
                 Err(error) => Err(error),
             },
-            Err(EntryError::OutOfMemory) => Err(AllocError),
+            Err(error) if is_want_of_memory(error) => Err(AllocError),
             Err(_) => Ok(Some(FieldFault {
                 before: 0,
                 wanted: A::wanted(),
@@ -74,7 +75,7 @@ where
     fn first_fault(scanner: &mut S) -> Result<Option<FieldFault>, AllocError> {
         match Last::<V>::scan_fields(scanner) {
             Ok(_row) => Ok(None),
-            Err(EntryError::OutOfMemory) => Err(AllocError),
+            Err(error) if is_want_of_memory(error) => Err(AllocError),
             Err(_) => Ok(Some(FieldFault {
                 before: 0,
                 wanted: V::wanted(),

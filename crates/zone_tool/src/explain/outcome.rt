@@ -13,7 +13,14 @@ pub(crate) fn read_or_refused<T: Drop>(read: Result<T, EntryError>) -> Result<Op
 {
     match read {
         Ok(value) => Ok(Some(value)),
-        Err(EntryError::OutOfMemory) => Err(AllocError),
+        Err(error) if is_want_of_memory(error) => Err(AllocError),
         Err(_) => Ok(None),
     }
+}
+
+/// Returns whether the error is out of memory.
+pub(crate) fn is_want_of_memory(error: EntryError) -> bool
+    ensures { result ≡ is_memory error }
+{
+    matches!(error, EntryError::OutOfMemory)
 }

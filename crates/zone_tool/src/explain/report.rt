@@ -72,7 +72,8 @@ fn line_start(text: &[u8], offset: usize) -> usize
 
 /// Returns the offset behind the last octet of the line of an offset.
 fn line_end(text: &[u8], offset: usize) -> usize
-    ensures { result ≤ length text.now }
+    ensures within { result ≤ length text.now }
+    ensures behind { offset ≤ length text.now → offset ≤ result }
 {
     let start = offset.min(text.len());
     match text[start..].iter().position(|&octet| octet == b'\n') {
@@ -90,7 +91,7 @@ fn shown_octet(octet: u8) -> char {
 
 /// Appends the finding's reason. Fails if out of memory.
 fn push_reason(out: &mut String, finding: &Finding, token: &[u8]) -> Result<(), AllocError> {
-    match finding.located.reason {
+    match &finding.located.reason {
         Reason::NoLineFeed => out.push_str("the last line has no line feed"),
         Reason::OpenQuote => out.push_str("quote is not closed"),
         Reason::OpenParenthesis => out.push_str("parenthesis is not closed"),
@@ -117,7 +118,7 @@ fn push_reason(out: &mut String, finding: &Finding, token: &[u8]) -> Result<(), 
 }
 
 /// Appends a reason that names the token or that breaks a rule of zones. Fails if out of memory.
-fn push_other_reason(out: &mut String, reason: Reason, token: &[u8]) -> Result<(), AllocError> {
+fn push_other_reason(out: &mut String, reason: &Reason, token: &[u8]) -> Result<(), AllocError> {
     match reason {
         Reason::Include => out.push_str("$INCLUDE is not read: give the zone as one text"),
         Reason::Untyped => out.push_str("octets are no data of the record's type"),

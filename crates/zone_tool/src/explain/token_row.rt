@@ -229,7 +229,7 @@ impl<'t> TokenRow<'t> {
     /// Returns why the data is refused, or, if it is not, why the record is. Fails if out of memory.
     fn data_fault(&self, head: Head) -> Result<Located, AllocError> {
         if self.bare(head.data) == Some(b"\\#") {
-            if let Some(located) = self.general_fault(head.data + 1) {
+            if let Some(located) = self.general_fault(head.data.saturating_add(1)) {
                 return Ok(located);
             }
             return Ok(self.context_fault(head));
@@ -333,13 +333,13 @@ where
     if let Some(fault) = fault {
         return Ok(TypedData::Fault(fault));
     }
-    let mut left = 0;
+    let mut left: usize = 0;
     for _ in 0..most {
         if !scanner.continues() {
             break;
         }
         scanner.skip_token();
-        left += 1;
+        left = left.saturating_add(1);
     }
     Ok(TypedData::Read(left))
 }

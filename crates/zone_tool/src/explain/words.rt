@@ -141,12 +141,12 @@ fn is_near(word: &[u8], other: &[u8]) -> bool {
 
 /// Returns how many octets the two begin with that are the same up to ASCII case.
 fn common_len(word: &[u8], other: &[u8]) -> usize {
-    let mut len = 0;
+    let mut len: usize = 0;
     for (octet, another) in word.iter().zip(other) {
         if !octet.eq_ignore_ascii_case(another) {
             break;
         }
-        len += 1;
+        len = len.saturating_add(1);
     }
     len
 }
