@@ -34,7 +34,7 @@ class Program:
 
 
 def programs():
-    zone_crates = [it for it in needs_of() if it in ("zonewire", "zone") or it.startswith("zone_")]
+    zone_crates = [it for it in needs_of() if it in ("zonewire", "zone") or it.startswith("zone_") and it != "zone_tool"]
     return [
         Program("zonewire", "zonewire", "zone_main", zone_crates, frozenset({"--help"})),
         Program("zonetool", "tool_main", "tool_main", ["zone", "tool_main"], frozenset({"--help", "--version"})),
