@@ -1,0 +1,6 @@
+mod ChangeTexts
+mod ComparedRecords
+mod ShortQueries
+mod SoaData
+mod SortedTexts
+mod ZoneRecords

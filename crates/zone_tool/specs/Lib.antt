@@ -1,0 +1,5 @@
+pub mod Differences
+pub mod Framed
+pub mod RecordWriter
+pub mod Selected
+pub mod Sorted
