@@ -1,4 +1,6 @@
 mod InFull
 mod Names
 mod Strings
+mod HexDigits
+mod AppendedHex
 pub mod Appending

@@ -7,10 +7,11 @@ ghost use Rattle.dns_scan.specs.Token.{SameNames, marker};
 ghost use Rattle.dns_scan_data.specs.Appended.{AppendsData, AppendsTyped, GoesOn};
 
 use crate::ScanRowInto;
+use crate::hex::scan_hex_into;
 use dns_entry_scanner::WireScanner;
 use dns_name::{FromBuilder, LongRecordData, Octets, Rtype, ToName};
 use dns_rdata::with_types;
-use dns_text::{Scanner, ScannerError, scan_unknown_octets};
+use dns_text::{Scan, Scanner, ScannerError};
 
 /// Scans data of the type from the first tokens, takes these, and appends the octets of the data, every name in full
 /// (RFC 1035 5.1). Returns whether it is unknown data.
@@ -55,13 +56,23 @@ fn scan_unknown_into<S: Scanner>(
     ensures same { OnErr result (octets.new.items ≡ octets.old.items) }
     ensures names { SameNames (S.names scanner.old) (S.names scanner.new) }
 {
-    let unknown = match scan_unknown_octets(scanner) {
-        Ok(unknown) => unknown,
+    let number = match u16::scan(scanner) {
+        Ok(number) => number,
         Err(error) => return Err(error),
     };
-    match octets.extend_from_slice(unknown.octets()) {
-        Ok(()) => Ok(true),
-        Err(_) => Err(S::Error::short_buf()),
+    let len = octets.len();
+    match scan_hex_into(scanner, octets) {
+        Ok(()) => {
+            if octets.len() - len != usize::from(number) {
+                octets.truncate(len);
+                return Err(S::Error::custom("another number of octets"));
+            }
+            Ok(true)
+        }
+        Err(error) => {
+            octets.truncate(len);
+            Err(error)
+        }
     }
 }
 

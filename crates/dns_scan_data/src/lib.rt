@@ -6,6 +6,7 @@
 
 mod data;
 mod field;
+mod hex;
 mod row;
 
 pub use data::scan_data_into;

@@ -5,6 +5,7 @@ ghost use Rattle.dns_scan.specs.Token.{SameNames};
 ghost use Rattle.dns_scan_data.specs.Appended.{AppendsRow, GoesOn};
 
 use crate::ScanFieldInto;
+use crate::hex::scan_hex_into;
 use dns_entry_scanner::WireScanner;
 use dns_name::FromBuilder;
 use dns_rdata::rows::{HasFields, Last, Rest16, Rest64, RestText, Row, ScanRow, Strings};
@@ -55,8 +56,12 @@ impl<Octs: FromBuilder + Drop, S: WireScanner<Octets = Octs>> ScanRowInto<S>
 }
 
 impl<Octs: FromBuilder + Drop, S: Scanner<Octets = Octs>> ScanRowInto<S> for Last<Rest16<Octs>> {
+    #[tactic(auto, using(crate::proofs::AppendedHex::hex_row))]
     fn scan_fields_into(scanner: &mut S, octets: &mut Vec<u8>) -> Result<(), S::Error> {
-        scan_and_append::<S, Last<Rest16<Octs>>>(scanner, octets)
+        match scan_hex_into(scanner, octets) {
+            Ok(()) => Ok(()),
+            Err(error) => Err(error),
+        }
     }
 }
 

@@ -51,8 +51,8 @@ impl Zonefile {
     /// The octets are the record's, every name in full: owner, type, class, TTL, RDLENGTH and data (RFC 1035 3.2.1).
     /// Nothing is appended for an include, at the end, and on failure. Fails as `next_entry` does.
     ///
-    /// Each part of a record is appended as it is scanned. Only octets in base 16 or 64 and unknown data are first read
-    /// into a vector of their own. For a row with several faults, the error may differ from that of `next_entry`.
+    /// Each part of a record is appended as it is scanned. Only octets in base 64 are first read into a vector of their
+    /// own. For a row with several faults, the error may differ from that of `next_entry`.
     pub fn next_octets(&mut self, octets: &mut Vec<u8>) -> Result<Option<ComposedEntry>, Error>
         ensures gives { refused_in self.old ≡ None → (given : Result (Option spec.Entry) EntryError)
             × Gives (reader_of self.old) given (reader_of self.new)
