@@ -1,16 +1,32 @@
 -- The text of records that are chosen from a list.
 use Rattle.std.proofs.Common.{◌≡◌, ◌+◌, ℕ, Bool, true, false, Some, List, [], ◌∷◌, ◌++◌, take, refl, sym, ap, ◌∙◌, subst, append_assoc, append-nil}
-use Rattle.std.specs.Prelude.{filter, slice_get}
+use Rattle.std.proofs.Math.Bool.{beq}
+use Rattle.std.specs.Prelude.{filter, not, slice_get}
 use Rattle.std.specs.Prelude.{if◌then◌else◌}
 use Rattle.std.proofs.lemmas.List.Elements.{filter-append}
 use Rattle.dns_text.specs.Document.{Layout, document_text}
 use Rattle.dns_text.specs.Document.Piece.{Newline}
+use Rattle.std.specs.List.{AllByRecursion}
 use Rattle.zone_records.specs.Record.{Record}
+use Rattle.zone_records.specs.Typed.{HasLawfulData}
+use Rattle.zone_canonical.specs.Canonical.{HasCanonicalForm}
 use Rattle.zone_records.proofs.Indexed.{take-next}
 use Rattle.zone.specs.Printed.{IsPrinted}
 use Rattle.zone.specs.Printed.IsPrinted.{none, more}
 use Rattle.zone.specs.Printing.{AddsRecord}
 use Rattle.zone_tool.specs.Sorted.{AddsRecords}
+
+-- what has a canonical form has lawful data
+pub lawful_data : (records : List Record) → AllByRecursion HasCanonicalForm records → AllByRecursion HasLawfulData records
+lawful_data [] each = tt
+lawful_data (r ∷ records) each = (each.0.data_is, lawful_data records each.1)
+
+-- the test of the code is that of the definition
+pub one_of : (is are_soas : Bool) → (if are_soas then is else not is) ≡ beq is are_soas
+one_of true true = refl
+one_of true false = refl
+one_of false true = refl
+one_of false false = refl
 
 -- the texts of two lists, one after the other
 pub printed_both : (layout : Layout) (records others : List Record) (text rest : List ℕ) → IsPrinted layout records text → IsPrinted layout others rest

@@ -1,5 +1,4 @@
-use Rattle.std.proofs.Common.{◌≡◌, [], ◌∷◌, ◌++◌, length, ap, ◌∙◌, sym, arith, rules}
-use Rattle.std.specs.Int.{to_be_bytes, w16, w32}
+use Rattle.std.proofs.Common.{◌≡◌, [], ◌∷◌, ◌++◌, length, ap, ◌∙◌, rules}
 use Rattle.std.proofs.lemmas.Result.{on_ok_weaker}
 use Rattle.zone_records.proofs.StoredRecords.{stored_more}
 use Rattle.zone_tool.specs.Selected.{compared_of}
