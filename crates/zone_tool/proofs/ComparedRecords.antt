@@ -5,6 +5,7 @@ use Rattle.std.specs.Prelude.{if◌then◌else◌}
 use Rattle.std.specs.Int.{to_be_bytes, w16, w32}
 use Rattle.std.specs.List.{AllByRecursion}
 use Rattle.std.proofs.lemmas.Bool.{and_parts, eqb-true}
+use Rattle.std.proofs.lemmas.Bool.Decides.{nat_tests}
 use Rattle.std.proofs.lemmas.List.Elements.{filter-append}
 use Rattle.std.proofs.lemmas.List.{map-append, take_all}
 use Rattle.dns_label.specs.Name.{wire}
@@ -45,10 +46,6 @@ compared_is selection r has =
       | false ↦ λ is. (has.data_is, refl)
     ] refl
 
-compared_ttl : (ignored : Bool) (ttl : ℕ) → ttl < 2 ^ 32 → (if ignored then 0 else ttl) < 2 ^ 32
-compared_ttl true ttl few = omega arith
-compared_ttl false ttl few = few
-
 pub compared_has : (selection : Selection) (r : Record) → HasCanonicalForm r → HasCanonicalForm (compared_of selection r)
 compared_has selection r has =
     let is = compared_is selection r has in
@@ -57,14 +54,11 @@ compared_has selection r has =
         owner = has.lawful.owner;
         rtype = has.lawful.rtype;
         class = has.lawful.class;
-        ttl = compared_ttl selection.ignore_ttl r.ttl has.lawful.ttl;
+        ttl = grind (arith, nat_tests, has.lawful.ttl);
         rdata = subst (λ n. n < 2 ^ 16) (sym is.1) has.lawful.rdata;
       };
       data_is = is.0;
     }
-
-grouped : (front a b c d e f : List ℕ) → (((((front ++ a) ++ b) ++ c) ++ d) ++ e) ++ f ≡ front ++ (a ++ (b ++ c ++ d) ++ (e ++ f))
-grouped front a b c d e f = simp append_assoc
 
 -- the octets of the record as it is compared, written field by field
 pub compared_written : (selection : Selection) (r : Record) (front owner rtype class ttl len octets : List ℕ) → HasCanonicalForm r
@@ -72,10 +66,8 @@ pub compared_written : (selection : Selection) (r : Record) (front owner rtype c
     → ttl ≡ class ++ to_be_bytes w32 (compared_of selection r).ttl → len ≡ ttl ++ to_be_bytes w16 (length r.rdata)
     → octets ≡ len ++ compared_data selection r → octets ≡ front ++ record_octets (compared_of selection r)
 compared_written selection r front owner rtype class ttl len octets has owner_is rtype_is class_is ttl_is len_is octets_is =
-    let form = compared_of selection r in
-    let long : length form.rdata ≡ length r.rdata = (compared_is selection r has).1 in
-    rw (octets_is, len_is, ttl_is, class_is, rtype_is, owner_is, long)
-    (grouped front (wire r.owner) (to_be_bytes w16 r.rtype) (to_be_bytes w16 r.class) (to_be_bytes w32 form.ttl) (to_be_bytes w16 (length r.rdata)) form.rdata)
+    let long : length (compared_data selection r) ≡ length r.rdata = (compared_is selection r has).1 in
+    rw (octets_is, len_is, ttl_is, class_is, rtype_is, owner_is, long) (simp append_assoc)
 
 abbrev is_in : Selection → Record → Bool
 is_in selection r = is_compared selection r.rtype
@@ -112,8 +104,6 @@ zeroed_written data' front begun zeros octets begun_is zeros_is octets_is =
     let whole : take (length data' - (length data' - 16)) last ≡ last = take_all _ last (omega (arith, length-drop (length data' - 16) data')) in
     rw (octets_is, whole, zeros_is, begun_is) (simp append_assoc)
 
-pub zeroed_data : (selection : Selection) (r : Record) → is_zeroed selection r ≡ true → without_serial r.rdata ≡ compared_data selection r
-zeroed_data selection r is = sym (ap (λ (b : Bool). if b then without_serial r.rdata else r.rdata) is)
-
-pub whole_data : (selection : Selection) (r : Record) → is_zeroed selection r ≡ false → r.rdata ≡ compared_data selection r
-whole_data selection r is = sym (ap (λ (b : Bool). if b then without_serial r.rdata else r.rdata) is)
+pub data_is : (selection : Selection) (r : Record) (zeroed : Bool) → is_zeroed selection r ≡ zeroed
+    → (if zeroed then without_serial r.rdata else r.rdata) ≡ compared_data selection r
+data_is selection r zeroed is = sym (ap (λ (b : Bool). if b then without_serial r.rdata else r.rdata) is)

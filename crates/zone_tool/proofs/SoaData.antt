@@ -38,7 +38,7 @@ numbers_long (field ∷ row) [] same all = absurd cc
 numbers_long (field ∷ row) (kind ∷ kinds) same all =
     let first : kind_of field ≡ kind = cc in
     let rest : map kind_of row ≡ kinds = cc in
-    omega (arith, length-append (field_octets field) (octets row), four_octets field (first ∙ all.0), numbers_long row kinds rest all.1)
+    omega (arith, length-append {A = ℕ}, four_octets field (first ∙ all.0), numbers_long row kinds rest all.1)
 
 abbrev no_serial : List ℕ
 no_serial = 0 ∷ 0 ∷ 0 ∷ 0 ∷ []
@@ -47,8 +47,8 @@ zeroed_parts : (names serial others : List ℕ) → length serial ≡ 4 → leng
     → without_serial (names ++ (serial ++ others)) ≡ names ++ (no_serial ++ others)
 zeroed_parts names serial others four sixteen =
     let whole = names ++ (serial ++ others) in
-    let long : length whole ≡ length names + 20 = omega (arith, length-append names (serial ++ others), length-append serial others) in
-    let place : length whole - 16 ≡ length (names ++ serial) = omega (arith, length-append names serial) in
+    let long : length whole ≡ length names + 20 = omega (arith, length-append {A = ℕ}) in
+    let place : length whole - 16 ≡ length (names ++ serial) = omega (arith, length-append {A = ℕ}) in
     let front : take (length whole - 20) whole ≡ names =
     ap (λ n. take (n - 20) whole) long ∙ ap (λ n. take n whole) (omega arith) ∙ take-append_seam names (serial ++ others) in
     let back : drop (length whole - 16) whole ≡ others =
@@ -72,9 +72,9 @@ soa_row (a ∷ (b ∷ (s ∷ row))) kinds each short =
     let four = four_octets s third in
     let sixteen : length others ≡ 16 = numbers_long row _ behind (refl, (refl, (refl, (refl, tt)))) in
     let long : length (octets (a ∷ (b ∷ (s ∷ row)))) ≡ length first + length second + 20 =
-    omega (arith, length-append first (second ++ (serial ++ others)), length-append second (serial ++ others), length-append serial others, four, sixteen) in
+    omega (arith, length-append {A = ℕ}, four, sixteen) in
     let long' : length (octets (a ∷ (b ∷ (number32 0 ∷ row)))) ≡ length first + length second + 20 =
-    omega (arith, length-append first (second ++ (no_serial ++ others)), length-append second (no_serial ++ others), length-append no_serial others, sixteen) in
+    omega (arith, length-append {A = ℕ}, sixteen) in
     record {
       long = omega (arith, long);
       zeroed = fields.typed (a ∷ (b ∷ (number32 0 ∷ row)))
@@ -87,12 +87,8 @@ soa_row (a ∷ (b ∷ (s ∷ row))) kinds each short =
           ∙ append_assoc first second (no_serial ++ others));
     }
 
-no_unknown : kinds_of soa_type ≡ None → ⊥
-no_unknown none = cc
-
 pub soa_data : (data' : List ℕ) → IsData soa_type data' → IsSoaData data'
 soa_data data' (fields.typed row is are) =
-    let kinds : Some (map kind_of row) ≡ Some (Compressible ∷ Compressible ∷ Number32 ∷ Number32 ∷ Number32 ∷ Number32 ∷ Number32 ∷ []) = sym is.kinds in
     let same : map kind_of row ≡ Compressible ∷ Compressible ∷ Number32 ∷ Number32 ∷ Number32 ∷ Number32 ∷ Number32 ∷ [] = cc in
     subst IsSoaData (sym are) (soa_row row same is.each is.short)
-soa_data data' (fields.unknown none short) = absurd (no_unknown none)
+soa_data data' (fields.unknown none short) = absurd cc

@@ -6,8 +6,5 @@ use Rattle.zone_tool.proofs.differences.changes_between.Goals as goal
 
 pub returns-clause-changes : goal.returns-clause-changes
 returns-clause-changes c =
-    let old_is = c.in_ok-old_records.ensures.selected in
-    let new_is = c.in_ok-new_records.ensures.selected in
-    IfOk-weaker c.changes.result _ _
-    (λ changes are. rw (old_is, new_is, c.records_of.ensures.records, c.records_of-2.ensures.records) at are)
+    rw (← c.records_of.ensures.records, ← c.records_of-2.ensures.records, ← c.in_ok-old_records.ensures.selected, ← c.in_ok-new_records.ensures.selected)
     c.changes.ensures.changes

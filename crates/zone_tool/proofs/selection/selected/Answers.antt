@@ -1,17 +1,11 @@
-use Rattle.std.proofs.Common.{◌≡◌, true, false, List, take, ap, ◌∙◌, sym, subst, arith, append-nil}
-use Rattle.std.specs.List.{AllByRecursion}
+use Rattle.std.proofs.Common.{◌≡◌, true, false, take, ap, ◌∙◌, sym, arith, append-nil}
 use Rattle.std.proofs.lemmas.List.{take_all}
-use Rattle.zone_records.specs.Record.{Record}
 use Rattle.zone_records.proofs.Indexed.{all_at}
 use Rattle.zone_canonical.specs.Canonical.{HasCanonicalForm}
 use Rattle.zone_tool.specs.Selected.{is_compared, selected_of}
 use Rattle.zone_tool.proofs.ComparedRecords.{selected_has, selected_next}
 use Rattle.zone_tool.proofs.selection.selected.Goals as goal
-use Rattle.zone_tool.proofs.selection.selected.Goals.{After-loop-index, then-has+in_ok-push, else-has}
-
--- the whole list is selected
-all_selected : (c : After-loop-index) → selected_of c.args.selection.now (take c.loop-index.index c.args.records.now) ≡ selected_of c.args.selection.now c.args.records.now
-all_selected c = ap (selected_of c.args.selection.now) (take_all c.loop-index.index c.args.records.now (omega arith))
+use Rattle.zone_tool.proofs.selection.selected.Goals.{then-has+in_ok-push, else-has}
 
 pub push-requires : goal.push-requires
 push-requires c =
@@ -32,12 +26,8 @@ loop-index-preserved c =
 pub into_list-requires : goal.into_list-requires
 into_list-requires c = (selected_of c.args.selection.now (take c.loop-index.index c.args.records.now), c.loop-index.invariant)
 
-pub returns-clause-selected : goal.returns-clause-selected
-returns-clause-selected c =
-    c.into_list.ensures _ c.loop-index.invariant ∙ all_selected (goal.at.returns-clause-selected c).After-loop-index
-
-pub returns-clause-lawful : goal.returns-clause-lawful
-returns-clause-lawful c =
-    subst (λ (l : List Record). AllByRecursion HasCanonicalForm l)
-    (sym (c.into_list.ensures _ c.loop-index.invariant ∙ all_selected (goal.at.returns-clause-lawful c).After-loop-index))
-    (selected_has c.args.selection.now c.args.records.now c.requires)
+pub returns : goal.returns
+returns c =
+    let selection = c.args.selection.now in
+    let is = c.into_list.ensures _ c.loop-index.invariant ∙ ap (selected_of selection) (take_all c.loop-index.index c.args.records.now (omega arith)) in
+    record { selected = is; lawful = rw is (selected_has selection c.args.records.now c.requires) }

@@ -7,7 +7,7 @@ use Rattle.zone_records.specs.Record.{Record}
 use Rattle.zone_records.specs.Typed.{HasLawfulData}
 use Rattle.zone_records.proofs.Indexed.{all_at}
 use Rattle.zone_tool.specs.Sorted.{AddsRecords, is_one, is_soa}
-use Rattle.zone_tool.proofs.SortedTexts.{adds_chosen, adds_nothing, adds_other, one_of}
+use Rattle.zone_tool.proofs.SortedTexts.{adds_next, adds_nothing, adds_one, one_of}
 use Rattle.zone_tool.proofs.sorting.print_those.Goals as goal
 use Rattle.zone_tool.proofs.sorting.print_those.Goals.{then-is_soa-are_soas+in_ok-print_record, else-is_soa-are_soas}
 
@@ -24,15 +24,14 @@ loop-index-preserved c =
     let r = c.record_at-record.result in
     let are_soas = c.args.are_soas in
     let is : is_one are_soas r ≡ beq c.is_soa.result are_soas = one_of (is_soa r) are_soas ∙ ap (λ b. beq b are_soas) (sym c.is_soa.ensures) in
-    let chosen = adds_chosen layout (is_one are_soas) c.args.records.now c.loop-index.index r c.record_at-record.ensures in
-    let other = adds_other layout (is_one are_soas) c.args.records.now c.loop-index.index r c.record_at-record.ensures in
+    let next = adds_next layout (is_one are_soas) c.args.records.now c.loop-index.index r in
     elim c.if-is_soa-are_soas.branch [
       | then-is_soa-are_soas+in_ok-print_record w ↦
-          rw w.text-is (chosen _ _ _ (is ∙ w.if-is_soa-are_soas.true) c.loop-index.invariant w.in_ok-print_record.ensures)
-      | else-is_soa-are_soas w ↦ rw w.text-is (other _ _ (is ∙ w.if-is_soa-are_soas.false) c.loop-index.invariant)
+          rw w.text-is
+          (next true _ _ _ c.record_at-record.ensures (is ∙ w.if-is_soa-are_soas.true) c.loop-index.invariant (adds_one layout r _ _ w.in_ok-print_record.ensures))
+      | else-is_soa-are_soas w ↦
+          rw w.text-is (next false _ _ _ c.record_at-record.ensures (is ∙ w.if-is_soa-are_soas.false) c.loop-index.invariant (adds_nothing layout _))
     ]
 
 pub returns : goal.returns
-returns c =
-    let P : List Record → Type 0 = λ l. AddsRecords (layout_of c.args.kind) (filter (is_one c.args.are_soas) l) (string_bytes c.args.text.now) (string_bytes c.loop-index.text) in
-    subst P (take_all c.loop-index.index c.args.records.now (omega arith)) c.loop-index.invariant
+returns c = rw (take_all c.loop-index.index c.args.records.now (omega arith)) at c.loop-index.invariant

@@ -10,11 +10,10 @@ use Rattle.zone_tool.proofs.sorting.sorted.Goals as goal
 pub returns : goal.returns
 returns c =
     let forms = c.in_ok-forms.forms in
-    let P : Vec ℕ Global → Type 0 = λ v. IsSortedText (layout_of c.args.kind) c.args.zone.now.records v.items in
-    subst P (sym c.into_bytes.ensures.value)
+    rw c.into_bytes.ensures.value
     (record {
       forms = forms;
-      are = subst (λ (l : List Record). AreFormsOf l forms) c.records_of.ensures.records c.in_ok-forms.ensures.forms;
+      are = rw c.records_of.ensures.records at c.in_ok-forms.ensures.forms;
       printed = printed_from_start (layout_of c.args.kind) (filter is_soa forms) (filter (λ r. not (is_soa r)) forms)
           _ _ _ c.new-text.ensures.bytes c.in_ok-print_those.ensures c.in_ok-print_those-2.ensures;
     })
