@@ -1,9 +1,9 @@
 -- The data of an SOA ends with five numbers (RFC 1035 3.3.13), and with the serial 0 it is an SOA's data too.
-use Rattle.std.proofs.Common.{◌≡◌, ◌+◌, ◌-◌, ◌*◌, ◌≤◌, ◌<◌, ◌^◌, ℕ, Some, None, List, [], ◌∷◌, ◌++◌, length, map, take, drop, refl, sym, ap, ◌∙◌, subst, arith, append_assoc, length-append}
+use Rattle.std.proofs.Common.{◌≡◌, ◌+◌, ◌-◌, ◌*◌, ◌≤◌, ◌<◌, ◌^◌, ℕ, Some, List, [], ◌∷◌, ◌++◌, length, map, take, drop, refl, sym, ap, ◌∙◌, subst, arith, append_assoc, length-append}
 use Rattle.std.specs.List.{AllByRecursion}
 use Rattle.std.proofs.Math.Seq.{take-append_seam, drop-append_seam}
 use Rattle.dns_rdata.specs.Fields as fields
-use Rattle.dns_rdata.specs.Fields.{Field, IsData, IsField, Kind, field_octets, kind_of, kinds_of, octets}
+use Rattle.dns_rdata.specs.Fields.{Field, IsData, IsField, Kind, field_octets, kind_of, octets}
 use Rattle.dns_rdata.specs.Fields.Kind.{Compressible, Number32}
 use Rattle.dns_rdata.specs.Fields.Field.{number8, number16, number32, ipv4, ipv6, compressible, uncompressed, string, strings, tag, rest_text, rest16, rest64}
 use Rattle.zone_records.specs.Zone.{soa_type}

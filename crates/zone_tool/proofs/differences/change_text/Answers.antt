@@ -1,9 +1,7 @@
-use Rattle.std.proofs.Common.{ℕ, List, [], Vec, Global, sym, subst, arith}
-use Rattle.std.specs.Prelude.{string_bytes}
+use Rattle.std.proofs.Common.{arith}
 use Rattle.std.proofs.lemmas.List.{take_all}
 use Rattle.zone_records.proofs.Indexed.{all_at}
 use Rattle.zone_canonical.specs.Changes.{ChangesForm}
-use Rattle.zone_tool.specs.Differences.{IsChangeText}
 use Rattle.zone_tool.specs.Differences.IsChangeText.{none}
 use Rattle.zone_tool.proofs.ChangeTexts.{text_more}
 use Rattle.zone_tool.proofs.differences.change_text.Goals as goal

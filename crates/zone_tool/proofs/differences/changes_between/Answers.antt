@@ -1,7 +1,3 @@
-use Rattle.std.proofs.Common.{◌∙◌, List, sym, subst}
-use Rattle.std.proofs.lemmas.Result.{IfOk-weaker}
-use Rattle.zone_canonical.specs.Changes.{AreChanges}
-use Rattle.zone_tool.specs.Selected.{selected_of}
 use Rattle.zone_tool.proofs.differences.changes_between.Goals as goal
 
 pub returns-clause-changes : goal.returns-clause-changes

@@ -1,9 +1,7 @@
-use Rattle.std.proofs.Common.{◌≡◌, ◌++◌, ap, ◌∙◌, arith}
+use Rattle.std.proofs.Common.{◌++◌, ap, ◌∙◌, arith}
 use Rattle.std.specs.Prelude.{string_bytes}
 use Rattle.std.proofs.lemmas.Result.{on_ok_weaker}
-use Rattle.zone_canonical.specs.Changes.{ChangesForm}
 use Rattle.zone_canonical.specs.declared.change_list.Change.TheVariants.{Added, Removed}
-use Rattle.zone_tool.specs.Differences.{AddsChange}
 use Rattle.zone_tool.proofs.ChangeTexts.{adds_line}
 use Rattle.zone_tool.proofs.differences.print_change.Goals as goal
 

@@ -1,12 +1,11 @@
-use Rattle.std.proofs.Common.{◌≡◌, Bool, true, false, List, take, ap, ◌∙◌, sym, subst, arith, rules}
+use Rattle.std.proofs.Common.{◌≡◌, true, false, ap, ◌∙◌, sym, arith}
 use Rattle.std.proofs.Math.Bool.{beq}
-use Rattle.std.specs.Prelude.{filter, string_bytes}
+use Rattle.std.specs.Prelude.{string_bytes}
 use Rattle.std.proofs.lemmas.List.{take_all}
 use Rattle.dns_text.specs.Layout.{layout_of}
-use Rattle.zone_records.specs.Record.{Record}
 use Rattle.zone_records.specs.Typed.{HasLawfulData}
 use Rattle.zone_records.proofs.Indexed.{all_at}
-use Rattle.zone_tool.specs.Sorted.{AddsRecords, is_one, is_soa}
+use Rattle.zone_tool.specs.Sorted.{is_one, is_soa}
 use Rattle.zone_tool.proofs.SortedTexts.{adds_next, adds_nothing, adds_one, one_of}
 use Rattle.zone_tool.proofs.sorting.print_those.Goals as goal
 use Rattle.zone_tool.proofs.sorting.print_those.Goals.{then-is_soa-are_soas+in_ok-print_record, else-is_soa-are_soas}

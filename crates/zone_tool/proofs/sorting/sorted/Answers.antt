@@ -1,9 +1,6 @@
-use Rattle.std.proofs.Common.{Vec, Global, ℕ, List, sym, subst}
-use Rattle.std.specs.Prelude.{filter, not, string_bytes}
+use Rattle.std.specs.Prelude.{filter, not}
 use Rattle.dns_text.specs.Layout.{layout_of}
-use Rattle.zone_records.specs.Record.{Record}
-use Rattle.zone_canonical.specs.Canonical.{AreFormsOf}
-use Rattle.zone_tool.specs.Sorted.{IsSortedText, is_soa}
+use Rattle.zone_tool.specs.Sorted.{is_soa}
 use Rattle.zone_tool.proofs.SortedTexts.{printed_from_start}
 use Rattle.zone_tool.proofs.sorting.sorted.Goals as goal
 
