@@ -96,7 +96,13 @@ fn entry_fault(
     let Some(blank_led) = row.blank_led else {
         return Ok(broken_row_fault(text, row.place));
     };
-    let tokens = TokenRow::of_entry(alloc, text, row, blank_led, class);
+    let tokens = TokenRow {
+        alloc,
+        text,
+        entry: row,
+        blank_led,
+        class,
+    };
     match rule_reason(fault, text, row) {
         Some(reason) => Ok(tokens.at(0, reason)),
         None => tokens.fault(),
