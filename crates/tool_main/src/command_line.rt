@@ -199,8 +199,9 @@ fn command<'a>(alloc: Global) -> Result<Command<'a>, AllocError> {
 
 fn explain_command<'a>(alloc: Global) -> Result<Command<'a>, AllocError> {
     let bare = Command::new(alloc, "explain").about("Says why a zone is refused");
-    with_text_options(alloc, bare)?
-        .arg(argument(alloc, "file", "FILE").help("The zone, - or left out for standard input"))
+    with_text_options(alloc, bare)?.arg(argument(alloc, "file", "FILE").help(
+        "The zone, - or left out for standard input",
+    ))
 }
 
 fn diff_command<'a>(alloc: Global) -> Result<Command<'a>, AllocError> {

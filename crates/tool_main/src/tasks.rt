@@ -84,11 +84,7 @@ pub(crate) fn perform<'a>(rt: &HostRuntime, task: &Task<'a>) -> Result<bool, Fau
 }
 
 /// Writes why the text of the file is no zone's. Returns false if it writes something.
-fn explain_file<'a>(
-    rt: &HostRuntime,
-    file: &'a str,
-    reading: &Reading,
-) -> Result<bool, Fault<'a>> {
+fn explain_file<'a>(rt: &HostRuntime, file: &'a str, reading: &Reading) -> Result<bool, Fault<'a>> {
     let text = read_text(rt, file)?;
     let found = match &reading.origin {
         Some(name) => explain(rt.alloc(), &text, Some(&name.for_ref()), reading.class)?,

@@ -1,7 +1,6 @@
 -- The lines of changes, and that there are none exactly if nothing changed.
-use Rattle.std.proofs.Common.{◌≡◌, ◌+◌, ◌≤◌, ℕ, Some, List, [], ◌∷◌, ◌++◌, length, take, refl, sym, ap, ◌∙◌, subst, arith, append_assoc, append-nil}
+use Rattle.std.proofs.Common.{◌≡◌, ◌+◌, ℕ, Some, List, [], ◌∷◌, ◌++◌, length, take, refl, sym, ap, ◌∙◌, subst, arith, append_assoc, append-nil}
 use Rattle.std.specs.Prelude.{slice_get}
-use Rattle.std.proofs.lemmas.List.{take_all}
 use Rattle.zone_records.proofs.Indexed.{take-next}
 use Rattle.dns_text.specs.Document.{document_text}
 use Rattle.dns_text.specs.Document.Piece.{Newline}
@@ -28,18 +27,10 @@ pub text_more : (changes : List Change) (index : ℕ) (change : Change) (front t
 text_more changes index change front text at is adds =
     subst (λ l. IsChangeText l text) (sym (take-next changes index change at)) (text_push (take index changes) change front text is adds)
 
-pub text_all : (changes : List Change) (index : ℕ) (text : List ℕ) → length changes ≤ index → IsChangeText (take index changes) text
-    → IsChangeText changes text
-text_all changes index text past is = subst (λ (l : List Change). IsChangeText l text) (take_all index changes past) is
-
-pub no_text : (changes : List Change) (text : List ℕ) → IsChangeText changes text → text ≡ [] → changes ≡ []
-no_text changes text none empty = refl
-no_text changes text (more {change = first} {changes = others} {rest = rest} document shown is written) empty =
-    absurd (omega (arith, ap (length {A = ℕ}) (sym written ∙ empty)))
-
-pub no_change : (changes : List Change) (text : List ℕ) → IsChangeText changes text → changes ≡ [] → text ≡ []
-no_change changes text none nothing = refl
-no_change changes text (more {change = first} {changes = others} {rest = rest} document shown is written) nothing = absurd cc
+-- there is no line exactly if there is no change
+pub no_lines : (changes : List Change) (text : List ℕ) → IsChangeText changes text → (text ≡ [] → changes ≡ []) × (changes ≡ [] → text ≡ [])
+no_lines changes text none = (λ empty. refl, λ nothing. refl)
+no_lines changes text (more document shown is written) = (λ empty. absurd (omega (arith, ap (length {A = ℕ}) (sym written ∙ empty))), λ nothing. absurd cc)
 
 -- the line of a change, after its sign
 pub adds_line : (change : Change) (old signed new : List ℕ) → signed ≡ old ++ sign_of change ∷ []

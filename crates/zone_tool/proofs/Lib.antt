@@ -3,4 +3,3 @@ mod ComparedRecords
 mod ShortQueries
 mod SoaData
 mod SortedTexts
-mod ZoneRecords

@@ -1,27 +1,43 @@
 -- The text of records that are chosen from a list.
 use Rattle.std.proofs.Common.{◌≡◌, ◌+◌, ℕ, Bool, true, false, Some, List, [], ◌∷◌, ◌++◌, take, refl, sym, ap, ◌∙◌, subst, append_assoc, append-nil}
-use Rattle.std.specs.Prelude.{filter, slice_get}
+use Rattle.std.proofs.Math.Bool.{beq}
+use Rattle.std.specs.Prelude.{filter, not, slice_get}
 use Rattle.std.specs.Prelude.{if◌then◌else◌}
 use Rattle.std.proofs.lemmas.List.Elements.{filter-append}
 use Rattle.dns_text.specs.Document.{Layout, document_text}
 use Rattle.dns_text.specs.Document.Piece.{Newline}
+use Rattle.std.specs.List.{AllByRecursion}
 use Rattle.zone_records.specs.Record.{Record}
+use Rattle.zone_records.specs.Typed.{HasLawfulData}
+use Rattle.zone_canonical.specs.Canonical.{HasCanonicalForm}
 use Rattle.zone_records.proofs.Indexed.{take-next}
 use Rattle.zone.specs.Printed.{IsPrinted}
 use Rattle.zone.specs.Printed.IsPrinted.{none, more}
 use Rattle.zone.specs.Printing.{AddsRecord}
 use Rattle.zone_tool.specs.Sorted.{AddsRecords}
 
+-- what has a canonical form has lawful data
+pub lawful_data : (records : List Record) → AllByRecursion HasCanonicalForm records → AllByRecursion HasLawfulData records
+lawful_data [] each = tt
+lawful_data (r ∷ records) each = (each.0.data_is, lawful_data records each.1)
+
+-- the test of the code is that of the definition
+pub one_of : (is are_soas : Bool) → (if are_soas then is else not is) ≡ beq is are_soas
+one_of true true = refl
+one_of true false = refl
+one_of false true = refl
+one_of false false = refl
+
 -- the texts of two lists, one after the other
-pub printed_both : (layout : Layout) (records others : List Record) (text rest : List ℕ) → IsPrinted layout records text → IsPrinted layout others rest
+printed_both : (layout : Layout) (records others : List Record) (text rest : List ℕ) → IsPrinted layout records text → IsPrinted layout others rest
     → IsPrinted layout (records ++ others) (text ++ rest)
 printed_both layout records others text rest none is' = is'
 printed_both layout records others text rest (more {records = records'} {rest = rest'} document shown is written) is' =
     more document shown (printed_both layout records' others rest' rest is is')
     (ap (λ l. l ++ rest) written ∙ append_assoc (document_text layout (document ++ Newline ∷ [])) rest' rest)
 
-printed_one : (layout : Layout) (r : Record) (old new : List ℕ) → AddsRecord layout r old new → AddsRecords layout (r ∷ []) old new
-printed_one layout r old new adds = record {
+pub adds_one : (layout : Layout) (r : Record) (old new : List ℕ) → AddsRecord layout r old new → AddsRecords layout (r ∷ []) old new
+adds_one layout r old new adds = record {
   text = document_text layout (adds.document ++ Newline ∷ []);
   printed = more adds.document adds.is none (sym (append-nil (document_text layout (adds.document ++ Newline ∷ []))));
   added = adds.added;
@@ -30,7 +46,7 @@ printed_one layout r old new adds = record {
 pub adds_nothing : (layout : Layout) (text : List ℕ) → AddsRecords layout [] text text
 adds_nothing layout text = record { text = []; printed = none; added = sym (append-nil text) }
 
-pub adds_both : (layout : Layout) (records others : List Record) (old between new : List ℕ) → AddsRecords layout records old between
+adds_both : (layout : Layout) (records others : List Record) (old between new : List ℕ) → AddsRecords layout records old between
     → AddsRecords layout others between new → AddsRecords layout (records ++ others) old new
 adds_both layout records others old between new adds adds' = record {
   text = adds.text ++ adds'.text;
@@ -38,23 +54,15 @@ adds_both layout records others old between new adds adds' = record {
   added = adds'.added ∙ ap (λ l. l ++ adds'.text) adds.added ∙ append_assoc old adds.text adds'.text;
 }
 
-module _ (layout : Layout) (test : Record → Bool) (records : List Record) (index : ℕ) (r : Record) (at : slice_get records index ≡ Some r) where
-  chosen : filter test (take (index + 1) records) ≡ filter test (take index records) ++ (if test r then r ∷ [] else [])
-  chosen = ap (filter test) (take-next records index r at) ∙ filter-append test (take index records) (r ∷ [])
-
-  pub adds_chosen : (old between new : List ℕ) → test r ≡ true → AddsRecords layout (filter test (take index records)) old between
-      → AddsRecord layout r between new → AddsRecords layout (filter test (take (index + 1) records)) old new
-  adds_chosen old between new is adds one =
-      subst (λ l. AddsRecords layout l old new)
-      (sym (chosen ∙ ap (λ (b : Bool). filter test (take index records) ++ (if b then r ∷ [] else [])) is))
-      (adds_both layout (filter test (take index records)) (r ∷ []) old between new adds (printed_one layout r between new one))
-
-  pub adds_other : (old new : List ℕ) → test r ≡ false → AddsRecords layout (filter test (take index records)) old new
-      → AddsRecords layout (filter test (take (index + 1) records)) old new
-  adds_other old new is adds =
-      subst (λ l. AddsRecords layout l old new)
-      (sym (chosen ∙ ap (λ (b : Bool). filter test (take index records) ++ (if b then r ∷ [] else [])) is
-      ∙ append-nil (filter test (take index records)))) adds
+-- one record more, which is chosen or not
+pub adds_next : (layout : Layout) (test : Record → Bool) (records : List Record) (index : ℕ) (r : Record) (chosen : Bool) (old between new : List ℕ)
+    → slice_get records index ≡ Some r → test r ≡ chosen → AddsRecords layout (filter test (take index records)) old between
+    → AddsRecords layout (if chosen then r ∷ [] else []) between new → AddsRecords layout (filter test (take (index + 1) records)) old new
+adds_next layout test records index r chosen old between new at is adds adds' =
+    let front = filter test (take index records) in
+    let next = ap (filter test) (take-next records index r at) ∙ filter-append test (take index records) (r ∷ [])
+    ∙ ap (λ (b : Bool). front ++ (if b then r ∷ [] else [])) is in
+    rw next (adds_both layout front (if chosen then r ∷ [] else []) old between new adds adds')
 
 -- the texts of two lists, the first of them at the start
 pub printed_from_start : (layout : Layout) (records others : List Record) (old between new : List ℕ) → old ≡ []

@@ -1,5 +1,5 @@
 -- The records of a zone that are compared, and what is compared of them.
-use Rattle.std.specs.Prelude.{◌≡◌, ◌==◌, ◌&&◌, ◌-◌, ◌++◌, ℕ, Bool, not, List, [], ◌∷◌, length, take, drop, map, filter, nat_eq}
+use Rattle.std.specs.Prelude.{◌==◌, ◌&&◌, ◌-◌, ◌++◌, ℕ, Bool, not, List, [], ◌∷◌, length, take, drop, map, filter, nat_eq}
 use Rattle.std.specs.Prelude.{if◌then◌else◌}
 use Rattle.std.specs.List.{list_any}
 use Rattle.zone_records.specs.Record.{Record}

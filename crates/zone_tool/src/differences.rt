@@ -31,6 +31,7 @@ pub fn difference(
 }
 
 /// Returns the changes between the records of two zones that are compared. Fails if out of memory.
+#[tactic(auto, using(zone::proofs::ZoneForms::zone_forms))]
 fn changes_between(
     alloc: Global,
     old: &Zone,

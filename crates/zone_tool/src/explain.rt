@@ -1,10 +1,12 @@
 //! Why a zone's text is refused.
 ghost use Rattle.std.specs.Prelude.{◌≡◌, option_copied, IfOk};
+ghost use Rattle.dns_zonefile.specs.Reader.{line_at};
 ghost use Rattle.zone_tool.specs.Explained.{IsExplained};
 
 mod broken_row;
 mod entry_row;
 mod fields;
+mod line;
 mod located;
 mod outcome;
 mod reason;
@@ -15,6 +17,7 @@ mod words;
 use broken_row::broken_row_fault;
 use dns_name::{Class, Name};
 use entry_row::{EntryRow, entry_row};
+use line::line_of;
 pub use located::Located;
 pub use reason::{Reason, Wanted};
 pub use report::finding_text;
@@ -29,6 +32,8 @@ pub struct Finding {
     pub fault: ZoneError,
     /// The token that breaks it, and why.
     pub located: Located,
+    /// The number of the token's line, counted from 1.
+    pub line: usize,
     /// The zone's apex, if a record comes before the entry.
     pub apex: Option<Name<Vec<u8>>>,
 }
@@ -61,21 +66,22 @@ fn finding_of(
     class: Class,
     fault: ZoneError,
 ) -> Result<Finding, AllocError>
-    ensures { IfOk result (λ finding. finding.fault ≡ fault) }
+    ensures fault { IfOk result (λ finding. finding.fault ≡ fault) }
+    ensures line { IfOk result (λ finding. finding.line ≡ line_at text.now finding.located.start) }
 {
-    let Some(number) = entry_of(fault) else {
-        return Ok(Finding {
-            fault,
-            located: whole_text(fault),
-            apex: None,
-        });
+    let (located, apex) = match entry_of(fault) {
+        Some(number) => {
+            let row = entry_row(alloc, text, origin, number)?;
+            (entry_fault(alloc, text, &row, class, fault)?, row.apex)
+        }
+        None => (whole_text(fault), None),
     };
-    let row = entry_row(alloc, text, origin, number)?;
-    let located = entry_fault(alloc, text, &row, class, fault)?;
+    let line = line_of(text, located.start);
     Ok(Finding {
         fault,
         located,
-        apex: row.apex,
+        line,
+        apex,
     })
 }
 
@@ -90,7 +96,13 @@ fn entry_fault(
     let Some(blank_led) = row.blank_led else {
         return Ok(broken_row_fault(text, row.place));
     };
-    let tokens = TokenRow::of_entry(alloc, text, row, blank_led, class);
+    let tokens = TokenRow {
+        alloc,
+        text,
+        entry: row,
+        blank_led,
+        class,
+    };
     match rule_reason(fault, text, row) {
         Some(reason) => Ok(tokens.at(0, reason)),
         None => tokens.fault(),
@@ -132,7 +144,7 @@ fn rule_reason(fault: ZoneError, text: &[u8], row: &EntryRow) -> Option<Reason> 
         ZoneError::FirstNotSoa(_) => Some(Reason::FirstNotSoa),
         ZoneError::SecondSoa(_) => {
             let first = row.first_record.unwrap_or(0);
-            Some(Reason::SecondSoa(report::line_of(text, first)))
+            Some(Reason::SecondSoa(line_of(text, first)))
         }
         ZoneError::OutOfZone(_) => Some(Reason::OutOfZone),
         ZoneError::Unspellable(_) => Some(Reason::Unspellable),

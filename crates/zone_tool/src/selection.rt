@@ -33,7 +33,7 @@ impl Selection {
     pub(crate) fn has(&self, rtype: Rtype) -> bool
         ensures { result ≡ is_compared self.now rtype }
     {
-        !self.without.iter().any(|&left_out| left_out == rtype)
+        !self.without.contains(&rtype)
     }
 
     /// Returns the TTL of a record for the comparison: 0 if TTLs are ignored.

@@ -1,9 +1,9 @@
 //! A zone's text in canonical order.
-ghost use Rattle.std.specs.Prelude.{◌≡◌, ◌==◌, List, IfOk, OnOk, filter, string_bytes};
+ghost use Rattle.std.specs.Prelude.{IfOk, OnOk, filter, string_bytes};
 ghost use Rattle.std.specs.List.{AllByRecursion};
 ghost use Rattle.dns_text.specs.Layout.{layout_of};
 ghost use Rattle.zone_records.specs.Typed.{HasLawfulData};
-ghost use Rattle.zone_tool.specs.Sorted.{AddsRecords, IsSortedText, is_soa};
+ghost use Rattle.zone_tool.specs.Sorted.{AddsRecords, IsSortedText, is_one};
 
 use dns_text::DisplayKind;
 use std::alloc::{AllocError, Global};
@@ -14,6 +14,7 @@ use zone_records::record_list::RecordList;
 
 /// Returns the text of the zone's records in canonical form, each once (RFC 4034 6): the SOA, and then the others in
 /// canonical order. So it is a zone's text again. Fails if out of memory.
+#[tactic(auto, using(zone::proofs::ZoneForms::zone_forms, crate::proofs::SortedTexts::lawful_data))]
 pub fn sorted(alloc: Global, zone: &Zone, kind: DisplayKind) -> Result<Vec<u8>, AllocError>
     ensures { IfOk result (λ text. IsSortedText (layout_of kind) zone.now.records text.items) }
 {
@@ -32,7 +33,7 @@ fn print_those(
     are_soas: bool,
 ) -> Result<(), AllocError>
     requires { AllByRecursion HasLawfulData records.now }
-    ensures { OnOk result (AddsRecords (layout_of kind) (filter (λ r. is_soa r == are_soas) records.now)
+    ensures { OnOk result (AddsRecords (layout_of kind) (filter (is_one are_soas) records.now)
         (string_bytes text.old) (string_bytes text.new)) }
 {
     for index in 0..records.len() {

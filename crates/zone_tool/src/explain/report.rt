@@ -7,18 +7,6 @@ use super::reason::{Reason, Wanted};
 use std::alloc::{AllocError, Global};
 use std::fmt::Write;
 
-/// Returns the number of the line of an offset in the text, counted from 1.
-pub(crate) fn line_of(text: &[u8], offset: usize) -> usize {
-    let before = &text[..offset.min(text.len())];
-    let mut line: usize = 1;
-    for &octet in before {
-        if octet == b'\n' {
-            line = line.saturating_add(1);
-        }
-    }
-    line
-}
-
 /// Returns the finding as text: a line `FILE:LINE:COLUMN: reason`, the line of the text, and a line with a mark below the
 /// token. Lines and columns are counted from 1, columns in octets. An octet that is not printable ASCII is shown as `?`.
 ///
@@ -33,7 +21,7 @@ pub fn finding_text(
     let start = located.start.min(text.len());
     let line_start = line_start(text, start);
     let mut out = String::new(alloc);
-    let (line, column) = (line_of(text, start), start - line_start + 1);
+    let (line, column) = (finding.line, start - line_start + 1);
     write!(out, "{file}:{line}:{column}: ")?;
     let token = &text[start..located.end.min(text.len()).max(start)];
     push_reason(&mut out, finding, token)?;

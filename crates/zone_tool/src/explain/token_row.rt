@@ -12,18 +12,13 @@ use dns_rdata::with_types;
 use dns_text::Scanner;
 use std::alloc::{AllocError, Global};
 
-/// A row with tokens, and what the rows before it have set.
+/// A row with tokens of a zone's text, and what the rows before it have set.
 #[derive(Clone, Copy)]
 pub(crate) struct TokenRow<'t> {
     pub(crate) alloc: Global,
     pub(crate) text: &'t [u8],
-    /// The offset of the row in the text.
-    pub(crate) place: usize,
-    pub(crate) spans: &'t [TokenSpan],
+    pub(crate) entry: &'t EntryRow,
     pub(crate) blank_led: bool,
-    pub(crate) origin: Option<&'t Name<Vec<u8>>>,
-    /// Whether a record comes before the row.
-    pub(crate) has_owner: bool,
     /// The zone's class.
     pub(crate) class: Class,
 }
@@ -48,26 +43,6 @@ enum TypedData {
 }
 
 impl<'t> TokenRow<'t> {
-    /// Returns the row of an entry of the text of a zone of the class.
-    pub(crate) fn of_entry(
-        alloc: Global,
-        text: &'t [u8],
-        row: &'t EntryRow,
-        blank_led: bool,
-        class: Class,
-    ) -> TokenRow<'t> {
-        TokenRow {
-            alloc,
-            text,
-            place: row.place,
-            spans: row.spans.as_slice(),
-            blank_led,
-            origin: row.origin.as_ref(),
-            has_owner: row.first_record.is_some(),
-            class,
-        }
-    }
-
     /// Returns why the row is no entry. Fails if out of memory.
     pub(crate) fn fault(&self) -> Result<Located, AllocError> {
         if self.begins_directive() {
@@ -87,7 +62,7 @@ impl<'t> TokenRow<'t> {
 
     /// Returns the reason with the place of the token at the index, or that behind the last token.
     pub(crate) fn at(&self, index: usize, reason: Reason) -> Located {
-        if let Some(span) = self.spans.get(index) {
+        if let Some(span) = self.spans().get(index) {
             let start = span.start().min(self.text.len());
             return Located {
                 reason,
@@ -95,9 +70,9 @@ impl<'t> TokenRow<'t> {
                 end: start + span.text(self.text).len(),
             };
         }
-        let end = match self.spans.last() {
+        let end = match self.spans().last() {
             Some(span) => span.start().min(self.text.len()) + span.text(self.text).len(),
-            None => self.place.min(self.text.len()),
+            None => self.entry.place.min(self.text.len()),
         };
         Located {
             reason,
@@ -108,7 +83,7 @@ impl<'t> TokenRow<'t> {
 
     /// Returns that the token at the index is not what is wanted, or is missing.
     fn unlike(&self, index: usize, wanted: Wanted) -> Located {
-        let reason = if index < self.spans.len() {
+        let reason = if index < self.spans().len() {
             Reason::Not(wanted)
         } else {
             Reason::Missing(wanted)
@@ -116,15 +91,32 @@ impl<'t> TokenRow<'t> {
         self.at(index, reason)
     }
 
+    /// Returns the places of the tokens.
+    fn spans(&self) -> &'t [TokenSpan] {
+        self.entry.spans.as_slice()
+    }
+
+    /// Returns the places of the tokens from the index on.
+    fn spans_from(&self, index: usize) -> &'t [TokenSpan] {
+        let spans = self.spans();
+        &spans[index.min(spans.len())..]
+    }
+
     /// Returns a scanner over the tokens from the index on.
-    fn scanner(&self, index: usize, origin: Option<&'t Name<Vec<u8>>>) -> RowScanner<'t> {
-        let left = &self.spans[index.min(self.spans.len())..];
-        RowScanner::new(self.alloc, self.text, self.place, left, origin)
+    fn scanner(&self, index: usize) -> RowScanner<'t> {
+        let origin = self.entry.origin.as_ref();
+        RowScanner::new(
+            self.alloc,
+            self.text,
+            self.entry.place,
+            self.spans_from(index),
+            origin,
+        )
     }
 
     /// Returns the text of the token at the index, if it is unquoted.
     fn bare(&self, index: usize) -> Option<&'t [u8]> {
-        let span = self.spans.get(index)?;
+        let span = self.spans().get(index)?;
         if span.is_quoted() {
             return None;
         }
@@ -146,7 +138,7 @@ impl<'t> TokenRow<'t> {
             (self.ttl_fault(1), 2)
         } else if word.eq_ignore_ascii_case(b"$include") {
             let path = self.bare(1).is_some_and(<[u8]>::is_ascii);
-            let origin = self.spans.len() > 2;
+            let origin = self.spans().len() > 2;
             let fault = if !path {
                 Some(self.unlike(1, Wanted::Path))
             } else if origin {
@@ -163,11 +155,11 @@ impl<'t> TokenRow<'t> {
 
     /// Returns why the token at the index is no name, or None if it is one. Fails if out of memory.
     fn name_fault(&self, index: usize) -> Result<Option<Located>, AllocError> {
-        if read_or_refused(self.scanner(index, self.origin).scan_name())?.is_some() {
+        if read_or_refused(self.scanner(index).scan_name())?.is_some() {
             return Ok(None);
         }
         let root = Name::root_vec(self.alloc)?;
-        let is_relative = self.origin.is_none() && self.is_name_under(index, &root)?;
+        let is_relative = self.entry.origin.is_none() && self.is_name_under(index, &root)?;
         if is_relative {
             return Ok(Some(self.at(index, Reason::NoOrigin)));
         }
@@ -176,11 +168,11 @@ impl<'t> TokenRow<'t> {
 
     /// Returns whether the token at the index is a name under the origin. Fails if out of memory.
     fn is_name_under(&self, index: usize, origin: &Name<Vec<u8>>) -> Result<bool, AllocError> {
-        let left = &self.spans[index.min(self.spans.len())..];
+        let left = self.spans_from(index);
         let mut scanner: RowScanner<'_> = RowScanner::new(
             self.alloc,
             self.text,
-            self.place,
+            self.entry.place,
             left,
             Some(origin),
         );
@@ -201,7 +193,7 @@ impl<'t> TokenRow<'t> {
     fn head(&self, index: usize) -> Result<Head, Located> {
         let mut has_ttl = false;
         let mut class = None;
-        for at in index..self.spans.len() {
+        for at in index..self.spans().len() {
             let Some(text) = self.bare(at) else {
                 return Err(self.unlike(at, Wanted::Type));
             };
@@ -223,7 +215,7 @@ impl<'t> TokenRow<'t> {
                 HeadWord::Other => return Err(self.at(at, word_reason(text, Wanted::Type))),
             }
         }
-        Err(self.unlike(self.spans.len(), Wanted::Type))
+        Err(self.unlike(self.spans().len(), Wanted::Type))
     }
 
     /// Returns why the data is refused, or, if it is not, why the record is. Fails if out of memory.
@@ -235,13 +227,13 @@ impl<'t> TokenRow<'t> {
             return Ok(self.context_fault(head));
         }
         let rtype = head.rtype;
-        let mut scanner = self.scanner(head.data, self.origin);
-        match typed_data(rtype, &mut scanner, self.spans.len())? {
+        let mut scanner = self.scanner(head.data);
+        match typed_data(rtype, &mut scanner, self.spans().len())? {
             TypedData::NoFields => Ok(self.at(head.data, Reason::GeneralFormOnly(rtype))),
             TypedData::Fault(fault) => self.field_fault(head.data, fault),
             TypedData::Read(0) => Ok(self.context_fault(head)),
             TypedData::Read(left) => {
-                Ok(self.at(self.spans.len().saturating_sub(left), Reason::Surplus))
+                Ok(self.at(self.spans().len().saturating_sub(left), Reason::Surplus))
             }
         }
     }
@@ -264,13 +256,13 @@ impl<'t> TokenRow<'t> {
 
     /// Returns the index of the first token from the index on that has characters of another encoding, or of the last one.
     fn first_unlike(&self, index: usize, encoding: Wanted) -> usize {
-        for at in index..self.spans.len() {
+        for at in index..self.spans().len() {
             match self.bare(at) {
                 Some(text) if is_encoded(encoding, text) => {}
                 _ => return at,
             }
         }
-        index.max(self.spans.len().saturating_sub(1))
+        index.max(self.spans().len().saturating_sub(1))
     }
 
     /// Returns why the general form is refused, whose length is at the index (RFC 3597 5), or None if it is read.
@@ -283,7 +275,7 @@ impl<'t> TokenRow<'t> {
             None => return Some(self.unlike(index, Wanted::Number16)),
         };
         let mut digits: usize = 0;
-        for at in index.saturating_add(1)..self.spans.len() {
+        for at in index.saturating_add(1)..self.spans().len() {
             match self.bare(at) {
                 Some(text) if is_encoded(Wanted::Base16, text) => {
                     digits = digits.saturating_add(text.len());
@@ -299,7 +291,7 @@ impl<'t> TokenRow<'t> {
 
     /// Returns why the record is refused although its row reads.
     fn context_fault(&self, head: Head) -> Located {
-        if self.blank_led && !self.has_owner {
+        if self.blank_led && self.entry.first_record.is_none() {
             return self.at(0, Reason::NoOwner);
         }
         match head.other_class {

@@ -1,27 +1,6 @@
-use Rattle.std.proofs.Common.{◌∙◌, List, sym, subst}
-use Rattle.std.specs.List.{AllByRecursion}
-use Rattle.std.proofs.lemmas.Result.{IfOk-weaker}
-use Rattle.zone_records.specs.Record.{Record}
-use Rattle.zone_canonical.specs.Canonical.{HasCanonicalForm}
-use Rattle.zone_canonical.specs.Changes.{AreChanges}
-use Rattle.zone_tool.specs.Selected.{selected_of}
-use Rattle.zone_tool.proofs.ZoneRecords.{zone_forms}
 use Rattle.zone_tool.proofs.differences.changes_between.Goals as goal
-
-pub selected-requires : goal.selected-requires
-selected-requires c =
-    subst (λ (l : List Record). AllByRecursion HasCanonicalForm l) (sym c.records_of.ensures.records)
-    (zone_forms c.args.old.now.class c.args.old.now.records c.records_of.ensures.known)
-
-pub selected-requires-2 : goal.selected-requires-2
-selected-requires-2 c =
-    subst (λ (l : List Record). AllByRecursion HasCanonicalForm l) (sym c.records_of-2.ensures.records)
-    (zone_forms c.args.new.now.class c.args.new.now.records c.records_of-2.ensures.known)
 
 pub returns-clause-changes : goal.returns-clause-changes
 returns-clause-changes c =
-    let old_is = c.in_ok-old_records.ensures.selected in
-    let new_is = c.in_ok-new_records.ensures.selected in
-    IfOk-weaker c.changes.result _ _
-    (λ changes are. rw (old_is, new_is, c.records_of.ensures.records, c.records_of-2.ensures.records) at are)
+    rw (← c.records_of.ensures.records, ← c.records_of-2.ensures.records, ← c.in_ok-old_records.ensures.selected, ← c.in_ok-new_records.ensures.selected)
     c.changes.ensures.changes

@@ -1,5 +1,4 @@
-use Rattle.std.proofs.Common.{◌≡◌, [], ◌∷◌, ◌++◌, length, ap, ◌∙◌, sym, arith, rules}
-use Rattle.std.specs.Int.{to_be_bytes, w16, w32}
+use Rattle.std.proofs.Common.{◌≡◌, length, rules}
 use Rattle.std.proofs.lemmas.Result.{on_ok_weaker}
 use Rattle.zone_records.proofs.StoredRecords.{stored_more}
 use Rattle.zone_tool.specs.Selected.{compared_of}
@@ -17,5 +16,5 @@ returns c =
     (compared_written selection r c.args.self.now.octets.items c.extend_from_slice.new.self.items c.extend_from_slice-2.new.self.items
     c.extend_from_slice-3.new.self.items c.extend_from_slice-4.new.self.items c.extend_from_slice-5.new.self.items c.append_data.new.octets.items c.requires
     (search rules) (search rules) (search rules) (search rules) (search rules) appended)
-    (c.in_ok-push.ensures.items ∙ ap (λ n. c.args.self.now.places.items ++ n ∷ []) place))
+    (rw place at c.in_ok-push.ensures.items))
     c.append_data.ensures
