@@ -14,7 +14,7 @@ run: | toolchain
 	@echo; echo "and writes these octets:"; echo; od -An -v -tx1 build/run.out
 
 # Every test without a proof: test functions, rows, the stored runs of the program and of the examples; and first that the two pictures
-# are those of crates.txt and docs/PERFORMANCE.md, that the man page has every option and fault text, and the examples in C and Python if
+# are those of crates.txt and docs/PERFORMANCE.md, that the man pages have every option and fault text, and the examples in C and Python if
 # `make c` has built their library. JOBS=N runs so many crates at once, CRATES="a b" these alone.
 test: | toolchain
 	@python3 tools/crates_picture.py --check
@@ -41,11 +41,11 @@ picture:
 	@python3 tools/crates_picture.py
 	@python3 bench/picture.py
 
-# The proved program, at build/zonewire.
-build: build/zonewire
-	@echo "The proved program is at build/zonewire."
+# The proved programs, at build/zonewire and build/zonetool.
+build: build/zonewire build/zonetool
+	@echo "The proved programs are at build/zonewire and build/zonetool."
 
-build/zonewire: $(SOURCES) | toolchain
+build/zonewire build/zonetool &: $(SOURCES) | toolchain
 	@python3 tools/build.py
 
 # The proved library for C, at build/libzonewire.a and build/libzonewire.so, and the examples in C and Python over it.
@@ -55,13 +55,14 @@ c: build/libzonewire.so
 build/libzonewire.so: $(SOURCES) include/zonewire.h tools/c_library.py | toolchain
 	@python3 tools/c_library.py
 
-# Copies the program and its man page to bin/ and share/man/man1/ of PREFIX, and what `make c` has built, with its header, to lib/ and
+# Copies the programs and their man pages to bin/ and share/man/man1/ of PREFIX, and what `make c` has built, with its header, to lib/ and
 # include/. DESTDIR comes before PREFIX, as packages want it.
 install:
-	@test -x build/zonewire || { echo "There is no build/zonewire to install yet: run 'make build' first, which proves the program." >&2; exit 1; }
+	@for it in zonewire zonetool; do test -x build/$$it || \
+		{ echo "There is no build/$$it to install yet: run 'make build' first, which proves the programs." >&2; exit 1; }; done
 	install -d "$(DESTDIR)$(PREFIX)/bin" "$(DESTDIR)$(PREFIX)/share/man/man1"
-	install -m 755 build/zonewire "$(DESTDIR)$(PREFIX)/bin/zonewire"
-	install -m 644 docs/zonewire.1 "$(DESTDIR)$(PREFIX)/share/man/man1/zonewire.1"
+	install -m 755 build/zonewire build/zonetool "$(DESTDIR)$(PREFIX)/bin"
+	install -m 644 docs/zonewire.1 docs/zonetool.1 "$(DESTDIR)$(PREFIX)/share/man/man1"
 	@if test -f build/libzonewire.so; then set -x; \
 		install -d "$(DESTDIR)$(PREFIX)/lib" "$(DESTDIR)$(PREFIX)/include"; \
 		install -m 644 include/zonewire.h "$(DESTDIR)$(PREFIX)/include/zonewire.h"; \

@@ -149,7 +149,7 @@ fn take_steps(
     Ok(())
 }
 
-/// Takes a step: `text` and a text, `origin` and octets, `class` and a number, `next`, `number`.
+/// Takes a step: `text` and a text, `origin` and octets, `class` and a number, `next`, `pass`, `number`.
 fn take_step(
     alloc: Global,
     zonefile: &mut Zonefile,
@@ -176,6 +176,10 @@ fn take_step(
             Ok(())
         }
         "next" => show_next(alloc, zonefile, out),
+        "pass" => match zonefile.pass_over() {
+            Ok(()) => Ok(()),
+            Err(error) => out.refused(&error),
+        },
         "number" => out.shown(&zonefile.entry_number()),
         _ => Err(RowError::BadWord),
     }

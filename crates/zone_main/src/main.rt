@@ -3,13 +3,10 @@
 
 #[cfg(test)]
 mod tests;
-mod usage_error;
-mod words;
 
 use clap::error::ErrorKind;
+use program_words::{UsageError, words_after_path};
 use std::process::ExitCode;
-use usage_error::UsageError;
-use words::words_after_path;
 use zonewire::{Ending, StdSink, StdSource, WordsFault, program};
 
 /// The program's name, as the first word of a command line.

@@ -1,8 +1,7 @@
 //! Which words are read, the text of a command line that fails, and layouts that are compared. The fields of jobs are
 //! tested by rows of `zonewire_rows`.
 
-use crate::usage_error::UsageError;
-use crate::words::words_after_path;
+use program_words::{UsageError, words_after_path};
 use std::env::{Env, FillError};
 use std::process::Abort;
 use std::test::Fail;

@@ -1,12 +1,12 @@
 //! Why the words of the command line are not known.
 ghost use Rattle.std.specs.Prelude.{◌≡◌};
-ghost use Rattle.zone_main.specs.declared.usage_error.UsageError.TheVariants.{OutOfMemory};
+ghost use Rattle.program_words.specs.declared.usage_error.UsageError.TheVariants.{OutOfMemory};
 
 use std::alloc::AllocError;
 
 /// Why the words are not known.
 #[derive(Debug, Drop, PartialEq, Eq)]
-pub(crate) enum UsageError {
+pub enum UsageError {
     /// A word is not UTF-8.
     NotText,
     /// Out of memory.

@@ -10,9 +10,7 @@ const USUAL_LEN: usize = 256;
 /// Returns the words after the program's path, which is not read: it may be any octets.
 ///
 /// Fails with `NotText` if one of the words is not UTF-8, and with `OutOfMemory` if out of memory.
-pub(crate) fn words_after_path<R: Env + Alloc>(
-    rt: &R,
-) -> Result<Vec<String<R::A>, R::A>, UsageError> {
+pub fn words_after_path<R: Env + Alloc>(rt: &R) -> Result<Vec<String<R::A>, R::A>, UsageError> {
     let mut words = Vec::new(rt.alloc());
     for index in 1..usize::MAX {
         let Some(word) = word_at(rt, index)? else {

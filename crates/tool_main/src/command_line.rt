@@ -1,0 +1,273 @@
+//! The program's command line.
+ghost use Rattle.std.specs.Prelude.{◌≡◌};
+ghost use Rattle.tool_main.specs.declared.command_line.WordsFault.TheVariants.{Line, OutOfMemory};
+
+use crate::input::{Reading, STANDARD_INPUT};
+use crate::tasks::Task;
+use clap::{Arg, ArgAction, ArgMatches, Command, value_parser};
+use dns_name::{Class, FromStrError, Name, Rtype};
+use dns_text::DisplayKind;
+use std::alloc::{AllocError, Global};
+use thiserror::Error;
+use zone_tool::Selection;
+
+/// Why a command line names no task.
+#[derive(Debug, Drop, Error)]
+pub(crate) enum WordsFault {
+    /// The words are not a command line of the program, or ask for help or the version.
+    #[error("{0}")]
+    Line(clap::Error),
+    /// No command is named. `clap` rejects such words before.
+    #[error("no command")]
+    NoCommand,
+    /// The value of an option is not a name.
+    #[error("bad name")]
+    BadName,
+    /// The value of an option is not a class.
+    #[error("bad class")]
+    BadClass,
+    /// The value of an option is not a type.
+    #[error("bad type")]
+    BadType,
+    /// Both zones are to be read from standard input.
+    #[error("standard input is read once")]
+    InputTwice,
+    /// Out of memory.
+    #[error("out of memory")]
+    OutOfMemory,
+}
+
+impl From<clap::Error> for WordsFault {
+    ghost from_gives = { λ error fault. fault ≡ Line error };
+
+    fn from(error: clap::Error) -> WordsFault {
+        WordsFault::Line(error)
+    }
+}
+
+impl From<AllocError> for WordsFault {
+    ghost from_gives = { λ _ fault. fault ≡ OutOfMemory };
+
+    fn from(_error: AllocError) -> WordsFault {
+        WordsFault::OutOfMemory
+    }
+}
+
+/// The values of `--layout`.
+static LAYOUTS: &[&str] = &["simple", "tabbed", "multiline"];
+
+/// Returns the task that the words of a command line name. The first word is the program's name.
+pub(crate) fn task_of<'a>(alloc: Global, words: &'a [&'a str]) -> Result<Task<'a>, WordsFault> {
+    let command = command(alloc)?;
+    let matches = command.try_get_matches_from(words)?;
+    let Some((name, options)) = matches.subcommand() else {
+        return Err(WordsFault::NoCommand);
+    };
+    match name {
+        "explain" => explain_task(alloc, options),
+        "diff" => diff_task(alloc, options),
+        "sort" => sort_task(alloc, options),
+        "query" => query_task(alloc, options),
+        _ => Err(WordsFault::NoCommand),
+    }
+}
+
+fn explain_task<'a>(alloc: Global, options: &ArgMatches<'a>) -> Result<Task<'a>, WordsFault> {
+    let reading = reading(alloc, options)?;
+    Ok(Task::Explain {
+        file: file_or_input(options, "file"),
+        reading,
+    })
+}
+
+fn diff_task<'a>(alloc: Global, options: &ArgMatches<'a>) -> Result<Task<'a>, WordsFault> {
+    let old = file_or_input(options, "old");
+    let new = file_or_input(options, "new");
+    if old == STANDARD_INPUT && new == STANDARD_INPUT {
+        return Err(WordsFault::InputTwice);
+    }
+    let reading = reading(alloc, options)?;
+    let selection = Selection {
+        without: left_out(alloc, options)?,
+        ignore_ttl: options.get_flag("ignore-ttl"),
+        ignore_serial: options.get_flag("ignore-serial"),
+    };
+    Ok(Task::Diff {
+        old,
+        new,
+        reading,
+        selection,
+    })
+}
+
+fn sort_task<'a>(alloc: Global, options: &ArgMatches<'a>) -> Result<Task<'a>, WordsFault> {
+    let reading = reading(alloc, options)?;
+    Ok(Task::Sort {
+        file: file_or_input(options, "file"),
+        reading,
+        layout: layout(options),
+    })
+}
+
+fn query_task<'a>(alloc: Global, options: &ArgMatches<'a>) -> Result<Task<'a>, WordsFault> {
+    let Some(apex) = name_or_none(alloc, options, "apex")? else {
+        return Err(WordsFault::BadName);
+    };
+    let class = class(options)?;
+    let id = options.get_one::<u16>("id").unwrap_or(0);
+    Ok(Task::Query { apex, class, id })
+}
+
+/// Returns the file of this argument, or standard input if it is left out.
+fn file_or_input<'a>(options: &ArgMatches<'a>, argument: &str) -> &'a str {
+    options.get_str(argument).unwrap_or(STANDARD_INPUT)
+}
+
+/// Returns how the options say that a zone's text is read.
+fn reading(alloc: Global, options: &ArgMatches<'_>) -> Result<Reading, WordsFault> {
+    let origin = name_or_none(alloc, options, "origin")?;
+    let class = class(options)?;
+    Ok(Reading { origin, class })
+}
+
+/// Returns the types that the options leave out.
+fn left_out(alloc: Global, options: &ArgMatches<'_>) -> Result<Vec<Rtype>, WordsFault> {
+    let mut types = Vec::new(alloc);
+    let Some(words) = options.get_strs("without") else {
+        return Ok(types);
+    };
+    for word in words {
+        let Some(rtype) = Rtype::from_bytes(word.as_bytes()) else {
+            return Err(WordsFault::BadType);
+        };
+        types.push(rtype).map_err(AllocError::from)?;
+    }
+    Ok(types)
+}
+
+/// Returns the name that an option gives, or None if the option is left out.
+fn name_or_none(
+    alloc: Global,
+    options: &ArgMatches<'_>,
+    option: &str,
+) -> Result<Option<Name<Vec<u8>>>, WordsFault> {
+    let Some(text) = options.get_str(option) else {
+        return Ok(None);
+    };
+    match Name::vec_from_str(alloc, text) {
+        Ok(name) => Ok(Some(name)),
+        Err(FromStrError::Presentation(_)) => Err(WordsFault::BadName),
+        Err(FromStrError::ShortBuf) => Err(WordsFault::OutOfMemory),
+    }
+}
+
+/// Returns the class that the options give, or IN if the option is left out.
+fn class(options: &ArgMatches<'_>) -> Result<Class, WordsFault> {
+    let Some(word) = options.get_str("class") else {
+        return Ok(Class::IN);
+    };
+    match Class::from_bytes(word.as_bytes()) {
+        Some(class) => Ok(class),
+        None => Err(WordsFault::BadClass),
+    }
+}
+
+/// Returns the layout that the options give, or the simple one if the option is left out.
+fn layout(options: &ArgMatches<'_>) -> DisplayKind {
+    match options.get_str("layout") {
+        Some("tabbed") => DisplayKind::Tabbed,
+        Some("multiline") => DisplayKind::Multiline,
+        _ => DisplayKind::Simple,
+    }
+}
+
+fn command<'a>(alloc: Global) -> Result<Command<'a>, AllocError> {
+    let explain = explain_command(alloc)?;
+    let diff = diff_command(alloc)?;
+    let sort = sort_command(alloc)?;
+    let query = query_command(alloc)?;
+    Command::new(alloc, "zonetool")
+        .about("Checks, compares and sorts DNS zones, and asks for their transfers")
+        .version("0.1.0")
+        .subcommand_required(true)
+        .disable_help_subcommand(true)
+        .subcommand(explain)?
+        .subcommand(diff)?
+        .subcommand(sort)?
+        .subcommand(query)
+}
+
+fn explain_command<'a>(alloc: Global) -> Result<Command<'a>, AllocError> {
+    let bare = Command::new(alloc, "explain").about("Says why a zone is refused");
+    with_text_options(alloc, bare)?.arg(argument(alloc, "file", "FILE").help(
+        "The zone, - or left out for standard input",
+    ))
+}
+
+fn diff_command<'a>(alloc: Global) -> Result<Command<'a>, AllocError> {
+    let bare = Command::new(alloc, "diff").about("Prints what changed between two zones");
+    with_text_options(alloc, bare)?
+        .arg(
+            argument(alloc, "old", "OLD")
+                .required(true)
+                .help("The old zone, - for standard input"),
+        )?
+        .arg(
+            argument(alloc, "new", "NEW")
+                .required(true)
+                .help("The new zone, - for standard input"),
+        )?
+        .arg(
+            option(alloc, "without", "TYPE")
+                .action(ArgAction::Append)
+                .help("A type whose records are not compared; may be given again"),
+        )?
+        .arg(flag(alloc, "ignore-ttl").help("TTLs are not compared"))?
+        .arg(flag(alloc, "ignore-serial").help("The SOA's serial is not compared"))
+}
+
+fn sort_command<'a>(alloc: Global) -> Result<Command<'a>, AllocError> {
+    let bare = Command::new(alloc, "sort").about("Prints a zone in canonical order");
+    with_text_options(alloc, bare)?
+        .arg(argument(alloc, "file", "FILE").help("The zone, - or left out for standard input"))?
+        .arg(
+            option(alloc, "layout", "LAYOUT")
+                .value_parser(LAYOUTS)
+                .help("How the text is laid out"),
+        )
+}
+
+fn query_command<'a>(alloc: Global) -> Result<Command<'a>, AllocError> {
+    Command::new(alloc, "query")
+        .about("Writes the query for a zone's transfer after its length")
+        .arg(
+            argument(alloc, "apex", "APEX")
+                .required(true)
+                .help("The zone's name"),
+        )?
+        .arg(option(alloc, "class", "CLASS").help("The zone's class, IN where left out"))?
+        .arg(
+            option(alloc, "id", "NUMBER")
+                .value_parser(value_parser!(u16))
+                .help("The query's ID, 0 where left out"),
+        )
+}
+
+/// Adds the options for reading zone text.
+fn with_text_options<'a>(alloc: Global, command: Command<'a>) -> Result<Command<'a>, AllocError> {
+    command
+        .arg(option(alloc, "origin", "NAME").help("The origin of relative names"))?
+        .arg(option(alloc, "class", "CLASS").help("The zone's class, IN where left out"))
+}
+
+fn option<'a>(alloc: Global, name: &'a str, shown: &'a str) -> Arg<'a> {
+    Arg::new(alloc, name).long(name).value_name(shown)
+}
+
+fn flag<'a>(alloc: Global, name: &'a str) -> Arg<'a> {
+    Arg::new(alloc, name).long(name).action(ArgAction::SetTrue)
+}
+
+fn argument<'a>(alloc: Global, name: &'a str, shown: &'a str) -> Arg<'a> {
+    Arg::new(alloc, name).value_name(shown)
+}

@@ -1,0 +1,53 @@
+//! The text of zones, from files or standard input.
+
+use crate::fault::Fault;
+use dns_name::{Class, Name};
+use std::fs;
+use std::io::Read;
+use zone::Zone;
+
+/// The name of standard input.
+pub(crate) const STANDARD_INPUT: &str = "-";
+
+/// What the words say of how a zone's text is read.
+#[derive(Debug, Drop)]
+pub(crate) struct Reading {
+    /// The origin of relative names in the text.
+    pub(crate) origin: Option<Name<Vec<u8>>>,
+    /// The zone's class.
+    pub(crate) class: Class,
+}
+
+/// Reads the octets of the file, or of standard input if the file is `-`.
+pub(crate) fn read_text<'a>(rt: &HostRuntime, file: &'a str) -> Result<Vec<u8>, Fault<'a>> {
+    let text = if file == STANDARD_INPUT {
+        let mut text = Vec::new(rt.alloc());
+        rt.stdin().read_to_end(&mut text).map(|_| text)
+    } else {
+        fs::read(rt, file)
+    };
+    match text {
+        Ok(text) => Ok(text),
+        Err(error) => Err(Fault::of_read(file, error)),
+    }
+}
+
+/// Reads the zone whose text is in the file, or in standard input if the file is `-`.
+pub(crate) fn read_zone<'a>(
+    rt: &HostRuntime,
+    file: &'a str,
+    reading: &Reading,
+) -> Result<Zone, Fault<'a>> {
+    let text = read_text(rt, file)?;
+    let zone = match &reading.origin {
+        Some(name) => {
+            let name = name.for_ref();
+            Zone::from_text(rt.alloc(), text, Some(&name), reading.class)
+        }
+        None => Zone::from_text(rt.alloc(), text, None, reading.class),
+    };
+    match zone {
+        Ok(zone) => Ok(zone),
+        Err(error) => Err(Fault::of_zone(file, error)),
+    }
+}

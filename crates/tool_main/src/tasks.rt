@@ -1,0 +1,107 @@
+//! The tasks of the program.
+
+use crate::fault::Fault;
+use crate::input::{Reading, read_text, read_zone};
+use dns_name::{Class, Name};
+use dns_text::DisplayKind;
+use std::io::Write;
+use zone_tool::explain::{explain, finding_text};
+use zone_tool::{Selection, difference, framed_query, sorted};
+
+/// What the program does.
+#[derive(Debug, Drop)]
+pub(crate) enum Task<'a> {
+    /// Writes why the text of a file is no zone's.
+    Explain {
+        /// The zone's file.
+        file: &'a str,
+        /// How the zone is read.
+        reading: Reading,
+    },
+    /// Writes what changed between the zones of two files.
+    Diff {
+        /// The file of the old zone.
+        old: &'a str,
+        /// The file of the new zone.
+        new: &'a str,
+        /// How the zones are read.
+        reading: Reading,
+        /// Which records are compared.
+        selection: Selection,
+    },
+    /// Writes the zone of a file in canonical order.
+    Sort {
+        /// The zone's file.
+        file: &'a str,
+        /// How the zone is read.
+        reading: Reading,
+        /// How the text is laid out.
+        layout: DisplayKind,
+    },
+    /// Writes the query for a zone's transfer, after its length.
+    Query {
+        /// The zone's name.
+        apex: Name<Vec<u8>>,
+        /// The zone's class.
+        class: Class,
+        /// The ID of the query.
+        id: u16,
+    },
+}
+
+/// Performs the task. Returns false if it writes a difference, or why a text is no zone's.
+pub(crate) fn perform<'a>(rt: &HostRuntime, task: &Task<'a>) -> Result<bool, Fault<'a>> {
+    match task {
+        Task::Explain { file, reading } => explain_file(rt, *file, reading),
+        Task::Diff {
+            old,
+            new,
+            reading,
+            selection,
+        } => {
+            let old = read_zone(rt, *old, reading)?;
+            let new = read_zone(rt, *new, reading)?;
+            let lines = difference(rt.alloc(), &old, &new, selection)?;
+            write_all(rt, lines.as_slice())?;
+            Ok(lines.is_empty())
+        }
+        Task::Sort {
+            file,
+            reading,
+            layout,
+        } => {
+            let zone = read_zone(rt, *file, reading)?;
+            let text = sorted(rt.alloc(), &zone, *layout)?;
+            write_all(rt, text.as_slice())?;
+            Ok(true)
+        }
+        Task::Query { apex, class, id } => {
+            let query = framed_query(rt.alloc(), *id, *class, &apex.for_ref())?;
+            write_all(rt, query.as_slice())?;
+            Ok(true)
+        }
+    }
+}
+
+/// Writes why the text of the file is no zone's. Returns false if it writes something.
+fn explain_file<'a>(rt: &HostRuntime, file: &'a str, reading: &Reading) -> Result<bool, Fault<'a>> {
+    let text = read_text(rt, file)?;
+    let found = match &reading.origin {
+        Some(name) => explain(rt.alloc(), &text, Some(&name.for_ref()), reading.class)?,
+        None => explain(rt.alloc(), &text, None, reading.class)?,
+    };
+    let Some(finding) = found else {
+        return Ok(true);
+    };
+    let shown = finding_text(rt.alloc(), file, &text, &finding)?;
+    write_all(rt, shown.as_bytes())?;
+    Ok(false)
+}
+
+/// Writes the octets to standard output.
+fn write_all<'a>(rt: &HostRuntime, octets: &[u8]) -> Result<(), Fault<'a>> {
+    match rt.stdout().write_all(octets) {
+        Ok(()) => Ok(()),
+        Err(_) => Err(Fault::Write),
+    }
+}

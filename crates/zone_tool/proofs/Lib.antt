@@ -1,0 +1,5 @@
+mod ChangeTexts
+mod ComparedRecords
+mod ShortQueries
+mod SoaData
+mod SortedTexts

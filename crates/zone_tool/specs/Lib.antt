@@ -1,0 +1,6 @@
+pub mod Differences
+pub mod Explained
+pub mod Framed
+pub mod RecordWriter
+pub mod Selected
+pub mod Sorted

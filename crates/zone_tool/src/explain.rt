@@ -1,0 +1,153 @@
+//! Why a zone's text is refused.
+ghost use Rattle.std.specs.Prelude.{◌≡◌, option_copied, IfOk};
+ghost use Rattle.dns_zonefile.specs.Reader.{line_at};
+ghost use Rattle.zone_tool.specs.Explained.{IsExplained};
+
+mod broken_row;
+mod entry_row;
+mod fields;
+mod line;
+mod located;
+mod outcome;
+mod reason;
+mod report;
+mod token_row;
+mod words;
+
+use broken_row::broken_row_fault;
+use dns_name::{Class, Name};
+use entry_row::{EntryRow, entry_row};
+use line::line_of;
+pub use located::Located;
+pub use reason::{Reason, Wanted};
+pub use report::finding_text;
+use std::alloc::{AllocError, Global};
+use token_row::TokenRow;
+use zone::{Zone, ZoneError};
+
+/// The first rule that a zone's text breaks, and where.
+#[derive(Debug, Drop)]
+pub struct Finding {
+    /// The rule, with the number of the entry that breaks it.
+    pub fault: ZoneError,
+    /// The token that breaks it, and why.
+    pub located: Located,
+    /// The number of the token's line, counted from 1.
+    pub line: usize,
+    /// The zone's apex, if a record comes before the entry.
+    pub apex: Option<Name<Vec<u8>>>,
+}
+
+/// Returns the first rule of a zone of the class that the text breaks, and where, or None if it is a zone's text (RFC
+/// 1035 5). Names are relative to the origin, if there is one.
+///
+/// Fails if out of memory.
+pub fn explain(
+    alloc: Global,
+    text: &[u8],
+    origin: Option<&Name<&[u8]>>,
+    class: Class,
+) -> Result<Option<Finding>, AllocError>
+    ensures { IfOk result (IsExplained text.now (option_copied origin.entry) class) }
+{
+    let fault = match Zone::count_records(alloc, Vec::from_slice(alloc, text)?, origin, class) {
+        Ok(_) => return Ok(None),
+        Err(ZoneError::OutOfMemory) => return Err(AllocError),
+        Err(fault) => fault,
+    };
+    Ok(Some(finding_of(alloc, text, origin, class, fault)?))
+}
+
+/// Returns the rule that the text breaks with the place. Fails if out of memory.
+fn finding_of(
+    alloc: Global,
+    text: &[u8],
+    origin: Option<&Name<&[u8]>>,
+    class: Class,
+    fault: ZoneError,
+) -> Result<Finding, AllocError>
+    ensures fault { IfOk result (λ finding. finding.fault ≡ fault) }
+    ensures line { IfOk result (λ finding. finding.line ≡ line_at text.now finding.located.start) }
+{
+    let (located, apex) = match entry_of(fault) {
+        Some(number) => {
+            let row = entry_row(alloc, text, origin, number)?;
+            (entry_fault(alloc, text, &row, class, fault)?, row.apex)
+        }
+        None => (whole_text(fault), None),
+    };
+    let line = line_of(text, located.start);
+    Ok(Finding {
+        fault,
+        located,
+        line,
+        apex,
+    })
+}
+
+/// Returns where the entry of the row breaks the rule. Fails if out of memory.
+fn entry_fault(
+    alloc: Global,
+    text: &[u8],
+    row: &EntryRow,
+    class: Class,
+    fault: ZoneError,
+) -> Result<Located, AllocError> {
+    let Some(blank_led) = row.blank_led else {
+        return Ok(broken_row_fault(text, row.place));
+    };
+    let tokens = TokenRow {
+        alloc,
+        text,
+        entry: row,
+        blank_led,
+        class,
+    };
+    match rule_reason(fault, text, row) {
+        Some(reason) => Ok(tokens.at(0, reason)),
+        None => tokens.fault(),
+    }
+}
+
+/// Returns the place of a rule that no entry breaks.
+fn whole_text(fault: ZoneError) -> Located {
+    let reason = match fault {
+        ZoneError::ClassAny => Reason::ClassAny,
+        _ => Reason::NoSoa,
+    };
+    Located {
+        reason,
+        start: 0,
+        end: 0,
+    }
+}
+
+/// Returns the number of the entry that breaks the rule.
+fn entry_of(fault: ZoneError) -> Option<usize> {
+    match fault {
+        ZoneError::Text(number)
+        | ZoneError::Include(number)
+        | ZoneError::Untyped(number)
+        | ZoneError::FirstNotSoa(number)
+        | ZoneError::SecondSoa(number)
+        | ZoneError::OutOfZone(number)
+        | ZoneError::Unspellable(number) => Some(number),
+        ZoneError::ClassAny | ZoneError::NoSoa | ZoneError::OutOfMemory => None,
+    }
+}
+
+/// Returns why an entry that reads breaks the rule, or None if it does not read.
+fn rule_reason(fault: ZoneError, text: &[u8], row: &EntryRow) -> Option<Reason> {
+    match fault {
+        ZoneError::Include(_) => Some(Reason::Include),
+        ZoneError::Untyped(_) => Some(Reason::Untyped),
+        ZoneError::FirstNotSoa(_) => Some(Reason::FirstNotSoa),
+        ZoneError::SecondSoa(_) => {
+            let first = row.first_record.unwrap_or(0);
+            Some(Reason::SecondSoa(line_of(text, first)))
+        }
+        ZoneError::OutOfZone(_) => Some(Reason::OutOfZone),
+        ZoneError::Unspellable(_) => Some(Reason::Unspellable),
+        _ => None,
+    }
+}

@@ -1,0 +1,83 @@
+//! Where a text fails that is cut into no row.
+
+use super::located::Located;
+use super::reason::Reason;
+use dns_entry_scanner::RowReader;
+
+/// Returns why there is no row at the place of the text, although the text goes on there.
+pub(crate) fn broken_row_fault(text: &[u8], place: usize) -> Located {
+    let mut reader = RowReader::new(text, place);
+    let mut inside = false;
+    let mut open = place;
+    for _ in 0..=text.len() {
+        let gap = gap_at(text, reader.place(), inside);
+        inside = gap.inside;
+        open = gap.opened.unwrap_or(open);
+        match reader.next_token() {
+            Ok(Some(_)) => {}
+            _ => return gap_fault(text, gap, open),
+        }
+    }
+    located(Reason::NoLineFeed, text.len(), 0)
+}
+
+/// The octets between two tokens of a row.
+#[derive(Clone, Copy)]
+struct Gap {
+    /// The offset of the first octet behind them.
+    end: usize,
+    /// Whether that octet is inside parentheses.
+    inside: bool,
+    /// The offset of the last parenthesis that opens among them.
+    opened: Option<usize>,
+}
+
+/// Returns the octets from the offset to the next token, or to an octet that may not be there.
+fn gap_at(text: &[u8], start: usize, was_inside: bool) -> Gap {
+    let mut inside = was_inside;
+    let mut opened = None;
+    let mut in_comment = false;
+    let mut end = start;
+    while end < text.len() {
+        match text[end] {
+            b'\n' if inside => in_comment = false,
+            b'\n' => break,
+            _ if in_comment => {}
+            b' ' | b'\t' | b'\r' => {}
+            b';' => in_comment = true,
+            b'(' if !inside => {
+                inside = true;
+                opened = Some(end);
+            }
+            b')' if inside => inside = false,
+            _ => break,
+        }
+        end += 1;
+    }
+    Gap {
+        end,
+        inside,
+        opened,
+    }
+}
+
+/// Returns why no token and no line feed follows the octets. `open` is the offset of the parenthesis that is open, if one
+/// is.
+fn gap_fault(text: &[u8], gap: Gap, open: usize) -> Located {
+    match text.get(gap.end) {
+        None if gap.inside => located(Reason::OpenParenthesis, open, 1),
+        None => located(Reason::NoLineFeed, gap.end, 0),
+        Some(b'"') => located(Reason::OpenQuote, gap.end, 1),
+        Some(b'(') | Some(b')') => located(Reason::MisplacedParenthesis, gap.end, 1),
+        Some(_) => located(Reason::BadOctet, gap.end, 1),
+    }
+}
+
+/// Returns the reason with the place of so many octets from the offset on.
+fn located(reason: Reason, start: usize, len: usize) -> Located {
+    Located {
+        reason,
+        start,
+        end: start.saturating_add(len),
+    }
+}

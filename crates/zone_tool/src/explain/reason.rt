@@ -1,0 +1,108 @@
+//! Why an entry of a zone's text is refused.
+
+use dns_name::Rtype;
+use thiserror::Error;
+
+/// What a token ought to be.
+#[derive(Clone, Copy, Debug, PartialEq, Eq, Error)]
+pub enum Wanted {
+    /// A domain name (RFC 1035 5.1).
+    #[error("a name")]
+    Name,
+    /// A TTL (RFC 1035 5.1).
+    #[error("a number of seconds from 0 to 4294967295")]
+    Ttl,
+    /// A type, perhaps after a TTL and a class (RFC 1035 5.1).
+    #[error("a TTL, a class or a type")]
+    Type,
+    /// A number of 8 bits.
+    #[error("a number from 0 to 255")]
+    Number8,
+    /// A number of 16 bits.
+    #[error("a number from 0 to 65535")]
+    Number16,
+    /// A number of 32 bits.
+    #[error("a number from 0 to 4294967295")]
+    Number32,
+    /// An IPv4 address (RFC 1035 3.4.1).
+    #[error("an IPv4 address")]
+    Ipv4Address,
+    /// An IPv6 address (RFC 4291 2.2).
+    #[error("an IPv6 address")]
+    Ipv6Address,
+    /// A character string (RFC 1035 5.1).
+    #[error("a string of at most 255 octets")]
+    CharacterString,
+    /// The tag of a CAA record (RFC 8659 4.1).
+    #[error("a tag of letters and digits")]
+    Tag,
+    /// Octets as characters.
+    #[error("a string")]
+    Text,
+    /// Octets in base 16 (RFC 4648 8).
+    #[error("base 16")]
+    Base16,
+    /// Octets in base 64 (RFC 4648 4).
+    #[error("base 64")]
+    Base64,
+    /// The path of a file, unquoted.
+    #[error("a path without quotes")]
+    Path,
+}
+
+/// Why a row of a zone's text is refused.
+#[derive(Clone, Copy, Debug, PartialEq, Eq)]
+pub enum Reason {
+    /// The text ends before the row does.
+    NoLineFeed,
+    /// No quote closes a quoted token.
+    OpenQuote,
+    /// The text ends inside parentheses.
+    OpenParenthesis,
+    /// A parenthesis opens inside parentheses, or closes outside.
+    MisplacedParenthesis,
+    /// An octet begins no token: it is not printable ASCII, or an escape that is not whole.
+    BadOctet,
+    /// A word after a dollar sign is no directive.
+    UnknownDirective,
+    /// A relative name has no origin to stand under.
+    NoOrigin,
+    /// A record states no owner, and none comes before it.
+    NoOwner,
+    /// A TTL is written with units. It is this number of seconds.
+    TtlUnits(u32),
+    /// A word is neither a TTL, a class nor a type. This type differs from it in one letter.
+    NearType(Rtype),
+    /// A TTL or a class is stated twice.
+    StatedTwice,
+    /// The class is not the zone's.
+    OtherClass,
+    /// The entry ends where a token is wanted.
+    Missing(Wanted),
+    /// A token is not what is wanted.
+    Not(Wanted),
+    /// A token follows the end of the entry.
+    Surplus,
+    /// Data of this type is only read in the general form (RFC 3597 5).
+    GeneralFormOnly(Rtype),
+    /// The general form states another number of octets than follow.
+    OtherCount,
+    /// The data has more than 65,535 octets.
+    LongData,
+    /// The entry includes a file.
+    Include,
+    /// The octets in the general form are no data of their type.
+    Untyped,
+    /// The first record is not an SOA.
+    FirstNotSoa,
+    /// A later record is an SOA. The first is in this line.
+    SecondSoa(usize),
+    /// The owner is not at or under the zone's apex.
+    OutOfZone,
+    /// The tag of a CAA record is empty.
+    Unspellable,
+    /// The text has no record.
+    NoSoa,
+    /// The class ANY is no zone's.
+    ClassAny,
+}

@@ -1,0 +1,337 @@
+//! A row of a zone's text that has tokens, and how far it reads as an entry.
+
+use super::entry_row::EntryRow;
+use super::fields::{FieldFault, FirstFault};
+use super::located::Located;
+use super::outcome::read_or_refused;
+use super::reason::{Reason, Wanted};
+use super::words::{HeadWord, begins_with_dollar, head_word, is_encoded, number16, word_reason};
+use dns_entry_scanner::{EntryError, RowScanner, ScannedName, TokenSpan};
+use dns_name::{Class, FromBuilder, Name, Rtype, ToName};
+use dns_rdata::with_types;
+use dns_text::Scanner;
+use std::alloc::{AllocError, Global};
+
+/// A row with tokens of a zone's text, and what the rows before it have set.
+#[derive(Clone, Copy)]
+pub(crate) struct TokenRow<'t> {
+    pub(crate) alloc: Global,
+    pub(crate) text: &'t [u8],
+    pub(crate) entry: &'t EntryRow,
+    pub(crate) blank_led: bool,
+    /// The zone's class.
+    pub(crate) class: Class,
+}
+
+/// The type of a record, the index of its first token of data, and that of its class if it states another than the zone's.
+#[derive(Clone, Copy)]
+struct Head {
+    rtype: Rtype,
+    data: usize,
+    other_class: Option<usize>,
+}
+
+/// How far data of a type reads.
+#[derive(Clone, Copy)]
+enum TypedData {
+    /// The type has no fields.
+    NoFields,
+    /// A field cannot be read.
+    Fault(FieldFault),
+    /// All fields are read, and so many tokens are left.
+    Read(usize),
+}
+
+impl<'t> TokenRow<'t> {
+    /// Returns why the row is no entry. Fails if out of memory.
+    pub(crate) fn fault(&self) -> Result<Located, AllocError> {
+        if self.begins_directive() {
+            return self.directive_fault();
+        }
+        let owners = usize::from(!self.blank_led);
+        if owners > 0 {
+            if let Some(located) = self.name_fault(0)? {
+                return Ok(located);
+            }
+        }
+        match self.head(owners) {
+            Ok(head) => self.data_fault(head),
+            Err(located) => Ok(located),
+        }
+    }
+
+    /// Returns the reason with the place of the token at the index, or that behind the last token.
+    pub(crate) fn at(&self, index: usize, reason: Reason) -> Located {
+        if let Some(span) = self.spans().get(index) {
+            let start = span.start().min(self.text.len());
+            return Located {
+                reason,
+                start,
+                end: start + span.text(self.text).len(),
+            };
+        }
+        let end = match self.spans().last() {
+            Some(span) => span.start().min(self.text.len()) + span.text(self.text).len(),
+            None => self.entry.place.min(self.text.len()),
+        };
+        Located {
+            reason,
+            start: end,
+            end,
+        }
+    }
+
+    /// Returns that the token at the index is not what is wanted, or is missing.
+    fn unlike(&self, index: usize, wanted: Wanted) -> Located {
+        let reason = if index < self.spans().len() {
+            Reason::Not(wanted)
+        } else {
+            Reason::Missing(wanted)
+        };
+        self.at(index, reason)
+    }
+
+    /// Returns the places of the tokens.
+    fn spans(&self) -> &'t [TokenSpan] {
+        self.entry.spans.as_slice()
+    }
+
+    /// Returns the places of the tokens from the index on.
+    fn spans_from(&self, index: usize) -> &'t [TokenSpan] {
+        let spans = self.spans();
+        &spans[index.min(spans.len())..]
+    }
+
+    /// Returns a scanner over the tokens from the index on.
+    fn scanner(&self, index: usize) -> RowScanner<'t> {
+        let origin = self.entry.origin.as_ref();
+        RowScanner::new(
+            self.alloc,
+            self.text,
+            self.entry.place,
+            self.spans_from(index),
+            origin,
+        )
+    }
+
+    /// Returns the text of the token at the index, if it is unquoted.
+    fn bare(&self, index: usize) -> Option<&'t [u8]> {
+        let span = self.spans().get(index)?;
+        if span.is_quoted() {
+            return None;
+        }
+        Some(span.text(self.text))
+    }
+
+    fn begins_directive(&self) -> bool {
+        match self.bare(0) {
+            Some(text) => !self.blank_led && begins_with_dollar(text),
+            None => false,
+        }
+    }
+
+    fn directive_fault(&self) -> Result<Located, AllocError> {
+        let word = self.bare(0).unwrap_or(&[]);
+        let (fault, most) = if word.eq_ignore_ascii_case(b"$origin") {
+            (self.name_fault(1)?, 2)
+        } else if word.eq_ignore_ascii_case(b"$ttl") {
+            (self.ttl_fault(1), 2)
+        } else if word.eq_ignore_ascii_case(b"$include") {
+            let path = self.bare(1).is_some_and(<[u8]>::is_ascii);
+            let origin = self.spans().len() > 2;
+            let fault = if !path {
+                Some(self.unlike(1, Wanted::Path))
+            } else if origin {
+                self.name_fault(2)?
+            } else {
+                None
+            };
+            (fault, 3)
+        } else {
+            (Some(self.at(0, Reason::UnknownDirective)), 1)
+        };
+        Ok(fault.unwrap_or(self.at(most, Reason::Surplus)))
+    }
+
+    /// Returns why the token at the index is no name, or None if it is one. Fails if out of memory.
+    fn name_fault(&self, index: usize) -> Result<Option<Located>, AllocError> {
+        if read_or_refused(self.scanner(index).scan_name())?.is_some() {
+            return Ok(None);
+        }
+        let root = Name::root_vec(self.alloc)?;
+        let is_relative = self.entry.origin.is_none() && self.is_name_under(index, &root)?;
+        if is_relative {
+            return Ok(Some(self.at(index, Reason::NoOrigin)));
+        }
+        Ok(Some(self.unlike(index, Wanted::Name)))
+    }
+
+    /// Returns whether the token at the index is a name under the origin. Fails if out of memory.
+    fn is_name_under(&self, index: usize, origin: &Name<Vec<u8>>) -> Result<bool, AllocError> {
+        let left = self.spans_from(index);
+        let mut scanner: RowScanner<'_> = RowScanner::new(
+            self.alloc,
+            self.text,
+            self.entry.place,
+            left,
+            Some(origin),
+        );
+        Ok(read_or_refused(scanner.scan_name())?.is_some())
+    }
+
+    fn ttl_fault(&self, index: usize) -> Option<Located> {
+        match self.bare(index) {
+            Some(text) => match head_word(text) {
+                HeadWord::Ttl => None,
+                _ => Some(self.at(index, word_reason(text, Wanted::Ttl))),
+            },
+            None => Some(self.unlike(index, Wanted::Ttl)),
+        }
+    }
+
+    /// Reads the TTL and the class, if they are stated, and the type. They begin at the index.
+    fn head(&self, index: usize) -> Result<Head, Located> {
+        let mut has_ttl = false;
+        let mut class = None;
+        for at in index..self.spans().len() {
+            let Some(text) = self.bare(at) else {
+                return Err(self.unlike(at, Wanted::Type));
+            };
+            match head_word(text) {
+                HeadWord::Ttl if !has_ttl => has_ttl = true,
+                HeadWord::Class(stated) if class.is_none() => class = Some((at, stated)),
+                HeadWord::Ttl | HeadWord::Class(_) => return Err(self.at(at, Reason::StatedTwice)),
+                HeadWord::Type(rtype) => {
+                    let other_class = match class {
+                        Some((at, stated)) if stated != self.class => Some(at),
+                        _ => None,
+                    };
+                    return Ok(Head {
+                        rtype,
+                        data: at + 1,
+                        other_class,
+                    });
+                }
+                HeadWord::Other => return Err(self.at(at, word_reason(text, Wanted::Type))),
+            }
+        }
+        Err(self.unlike(self.spans().len(), Wanted::Type))
+    }
+
+    /// Returns why the data is refused, or, if it is not, why the record is. Fails if out of memory.
+    fn data_fault(&self, head: Head) -> Result<Located, AllocError> {
+        if self.bare(head.data) == Some(b"\\#") {
+            if let Some(located) = self.general_fault(head.data.saturating_add(1)) {
+                return Ok(located);
+            }
+            return Ok(self.context_fault(head));
+        }
+        let rtype = head.rtype;
+        let mut scanner = self.scanner(head.data);
+        match typed_data(rtype, &mut scanner, self.spans().len())? {
+            TypedData::NoFields => Ok(self.at(head.data, Reason::GeneralFormOnly(rtype))),
+            TypedData::Fault(fault) => self.field_fault(head.data, fault),
+            TypedData::Read(0) => Ok(self.context_fault(head)),
+            TypedData::Read(left) => {
+                Ok(self.at(self.spans().len().saturating_sub(left), Reason::Surplus))
+            }
+        }
+    }
+
+    /// Returns why a field of data is refused. Data begins at the index. Fails if out of memory.
+    fn field_fault(&self, index: usize, fault: FieldFault) -> Result<Located, AllocError> {
+        let at = index.saturating_add(fault.before);
+        match fault.wanted {
+            Wanted::Name => {
+                let located = self.name_fault(at)?;
+                Ok(located.unwrap_or(self.unlike(at, Wanted::Name)))
+            }
+            Wanted::Base16 | Wanted::Base64 => {
+                let last = self.first_unlike(at, fault.wanted);
+                Ok(self.unlike(last, fault.wanted))
+            }
+            wanted => Ok(self.unlike(at, wanted)),
+        }
+    }
+
+    /// Returns the index of the first token from the index on that has characters of another encoding, or of the last one.
+    fn first_unlike(&self, index: usize, encoding: Wanted) -> usize {
+        for at in index..self.spans().len() {
+            match self.bare(at) {
+                Some(text) if is_encoded(encoding, text) => {}
+                _ => return at,
+            }
+        }
+        index.max(self.spans().len().saturating_sub(1))
+    }
+
+    /// Returns why the general form is refused, whose length is at the index (RFC 3597 5), or None if it is read.
+    fn general_fault(&self, index: usize) -> Option<Located> {
+        let count = match self.bare(index) {
+            Some(text) => match number16(text) {
+                Some(count) => usize::from(count),
+                None => return Some(self.unlike(index, Wanted::Number16)),
+            },
+            None => return Some(self.unlike(index, Wanted::Number16)),
+        };
+        let mut digits: usize = 0;
+        for at in index.saturating_add(1)..self.spans().len() {
+            match self.bare(at) {
+                Some(text) if is_encoded(Wanted::Base16, text) => {
+                    digits = digits.saturating_add(text.len());
+                }
+                _ => return Some(self.unlike(at, Wanted::Base16)),
+            }
+        }
+        if digits != 2 * count {
+            return Some(self.at(index, Reason::OtherCount));
+        }
+        None
+    }
+
+    /// Returns why the record is refused although its row reads.
+    fn context_fault(&self, head: Head) -> Located {
+        if self.blank_led && self.entry.first_record.is_none() {
+            return self.at(0, Reason::NoOwner);
+        }
+        match head.other_class {
+            Some(index) => self.at(index, Reason::OtherClass),
+            None => self.at(head.data, Reason::LongData),
+        }
+    }
+}
+
+/// Returns how far the tokens read as data of the type.
+macro_rules! first_fault {
+    (($type:ident, $scanner:ident, $S:ident) $($variant:ident = $rtype:ident: $row:ty,)*) => {
+        match $type {
+            $(Rtype::$rtype => <$row as FirstFault<$S>>::first_fault($scanner)?,)*
+            _ => return Ok(TypedData::NoFields),
+        }
+    };
+}
+
+/// Returns how far the tokens, of which there are at most so many, read as data of the type. Fails if out of memory.
+fn typed_data<N, Octs, S: Scanner<Name = N, Octets = Octs, Error = EntryError>>(
+    rtype: Rtype,
+    scanner: &mut S,
+    most: usize,
+) -> Result<TypedData, AllocError>
+where
+    N: ToName + Drop,
+    Octs: FromBuilder + Drop,
+{
+    let fault = with_types!(first_fault, rtype, scanner, S);
+    if let Some(fault) = fault {
+        return Ok(TypedData::Fault(fault));
+    }
+    let mut left: usize = 0;
+    for _ in 0..most {
+        if !scanner.continues() {
+            break;
+        }
+        scanner.skip_token();
+        left = left.saturating_add(1);
+    }
+    Ok(TypedData::Read(left))
+}

@@ -1,0 +1,16 @@
+//! Work on zones beside their transfers: what changed between two zones, a zone in canonical order (RFC 4034 6), and
+//! the query for a zone's transfer as TCP sends it.
+#![tactic(auto)]
+
+mod differences;
+pub mod explain;
+pub mod laws;
+mod queries;
+mod record_writer;
+mod selection;
+mod sorting;
+
+pub use differences::difference;
+pub use queries::framed_query;
+pub use selection::Selection;
+pub use sorting::sorted;
