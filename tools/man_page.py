@@ -9,7 +9,7 @@ import re
 import sys
 from dataclasses import dataclass
 
-from crates import ROOT, needs_of
+from crates import ROOT, lower, needs_of
 
 COMMAND = re.compile(r'(?:Command::new|text_command)\(alloc, "(\w+)"')
 OPTION = re.compile(r'\b(?:\w+_option|option|flag)\(alloc, "([\w-]+)"')
@@ -34,7 +34,8 @@ class Program:
 
 
 def programs():
-    zone_crates = [it for it in needs_of() if it in ("zonewire", "zone") or it.startswith("zone_") and it != "zone_tool"]
+    needs = needs_of()
+    zone_crates = [it for it in lower("zone_main", needs) if it in ("zonewire", "zone") or it.startswith("zone_")]
     return [
         Program("zonewire", "zonewire", "zone_main", zone_crates, frozenset({"--help"})),
         Program("zonetool", "tool_main", "tool_main", ["zone", "tool_main"], frozenset({"--help", "--version"})),

@@ -12,6 +12,8 @@
 //!     show(&entry)?;
 //! }
 //! ```
+//!
+//! The program of a page `example_entries` shows each entry, or the line and the reason of an error.
 #![tactic(auto)]
 
 mod context;

@@ -1,8 +1,7 @@
 //! A zone file read entry by entry.
 //!
-//! Shows each record and each file that is included, and why an entry cannot be read: its line, and the reason. Standard
-//! input has several zone files, with an empty line between two. To run it:
-//! `cd crates/example_entries && rt try < stdin`.
+//! Shows each record and each file that is included, and why an entry cannot be read: its line, and the reason. Reading goes
+//! on after it. To run it: `cd crates/example_entries && rt try < stdin`.
 #![tactic(auto)]
 
 use dns_name::{Class, Name};
@@ -16,7 +15,6 @@ fn reader_of(alloc: Global, text: &str) -> anyhow::Result<Zonefile> {
     zonefile.set_origin(Name::vec_from_str(alloc, "example.com.")?);
     zonefile.set_default_class(Class::IN);
     zonefile.extend_from_slice(text.as_bytes())?;
-    zonefile.extend_from_slice(b"\n")?;
     Ok(zonefile)
 }
 
@@ -26,29 +24,26 @@ fn show(rt: &impl Print, next: &Result<Option<Entry>, Error>) -> io::Result<bool
         Ok(Some(Entry::Record(record))) => println!(rt; "{record}")?,
         Ok(Some(Entry::Include { path, .. })) => println!(rt; "includes {path}")?,
         Ok(None) => return Ok(false),
-        Err(error) => {
-            println!(rt; "line {}: {}", error.line(), error.reason())?;
-            return Ok(false);
-        }
+        Err(error) => println!(rt; "line {}: {}", error.line(), error.reason())?,
     }
     Ok(true)
 }
 
-/// Shows the next entry, or why it cannot be read. Returns whether there may be another one.
-fn show_next(rt: &impl Print, zonefile: &mut Zonefile) -> io::Result<bool> {
-    show(rt, &zonefile.next_entry())
+/// Shows the next entry, or why it cannot be read, and passes over it. Returns whether there may be another one.
+fn show_next(rt: &impl Print, zonefile: &mut Zonefile) -> anyhow::Result<bool> {
+    let may_go_on = show(rt, &zonefile.next_entry())?;
+    zonefile.pass_over()?;
+    Ok(may_go_on)
 }
 
 fn main(rt: HostRuntime) -> anyhow::Result<()> {
-    let input = io::read_to_string(rt.alloc(), rt.reader())?;
-    for text in input.as_str().split("\n\n") {
-        let mut zonefile = reader_of(rt.alloc(), text)?;
-        for _ in 0..u64::MAX {
-            if !show_next(&rt, &mut zonefile)? {
-                break;
-            }
+    let text = io::read_to_string(rt.alloc(), rt.reader())?;
+    let mut zonefile = reader_of(rt.alloc(), text.as_str())?;
+    for _ in 0..u64::MAX {
+        if !show_next(&rt, &mut zonefile)? {
+            break;
         }
-        println!(rt; "entries: {}\n", zonefile.entry_number())?;
     }
+    println!(rt; "entries: {}", zonefile.entry_number())?;
     Ok(())
 }
