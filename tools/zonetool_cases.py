@@ -167,7 +167,7 @@ RELATIVE, OUTSIDE = "relative name without an origin: give --origin or $ORIGIN",
 ENDS, MUCH, AGAIN_STATED = "the entry ends where {} is wanted", "{} is one token too many", "{} states a TTL or a class again"
 SECONDS, OF_8, OF_16, OF_32 = "a number of seconds from 0 to 4294967295", "a number from 0 to 255", "a number from 0 to 65535", "a number from 0 to 4294967295"
 HEAD, STRING, GENERAL = "a TTL, a class or a type", "a string of at most 255 octets", "data of {} is read only as \\# LENGTH OCTETS in base 16"
-TAG, FIRST, LONG = "a tag of letters and digits", "the first record is not an SOA", "data has more than 65535 octets"
+TAG, FIRST, LONG = "a tag of at most 255 octets", "the first record is not an SOA", "data has more than 65535 octets"
 UNTYPED, EMPTY_TAG = "octets are no data of the record's type", "the tag of a CAA record is empty"
 X63, X255, NL = "x" * 63, "x" * 255, "\n"
 LONGEST = ".".join([X63] * 3 + ["y" * 59, "a."])
@@ -183,7 +183,7 @@ ROWS = [
     ("a. TXT ( a ) ( b ; )\n", "2:14: " + OPEN),
     ("a. TXT (\n a\n", "2:8: " + OPEN),
     ("a. TXT a )\n", "2:10: " + MISPLACED),
-    ("a. TXT ( a\n\t( b )\n", "3:2: " + MISPLACED),
+    ("a. TXT ( a\n\t( b )\n", "3:2: " + MISPLACED + "; one is open since line 2"),
     ("a. TXT ab\x7f\n", "2:10: octet 127 is not printable: write \\127"),
     ("a. TXT \xe9\n", "2:8: octet 195 is not printable: write \\195"),
     ("\x00\n", "2:1: octet 0 is not printable: write \\000"),
@@ -252,6 +252,11 @@ DATA = [
     ("a. TXT\n", "2:7: " + ENDS.format(STRING)),
     ("a. HINFO x\n", "2:11: " + ENDS.format(STRING)),
     (f"a. TXT a x{X255}\n", f"2:10: 'x{X255}' is not {STRING}"),
+    ('a. MX "10" b.\n', "2:8: '10' is quoted: only strings are"),
+    ('"a." A 192.0.2.1\n', "2:2: 'a.' is quoted: only strings are"),
+    ("a. 4294967296 A 192.0.2.1\n", "2:4: '4294967296' is not a number of seconds from 0 to 4294967295"),
+    (" a. A 192.0.2.1\n", "2:2: unknown type 'a.'"),
+    ("a. TXT ( x ( y\n", "2:12: parenthesis is misplaced; one is open since line 2"),
     ("a. CAA 0\n", "2:9: " + ENDS.format(TAG)),
     (f"a. CAA 0 x{X255} v\n", f"2:10: 'x{X255}' is not {TAG}"),
     ("a. CAA 0 issue\n", "2:15: " + ENDS.format("a string")),

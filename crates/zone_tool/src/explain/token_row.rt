@@ -322,9 +322,12 @@ impl<'t> TokenRow<'t> {
     }
 }
 
-/// Returns whether a token of the kind may be quoted.
+/// Returns whether the reason for a token says itself whether it may be quoted.
 fn is_string(wanted: Wanted) -> bool {
-    matches!(wanted, Wanted::CharacterString | Wanted::Tag | Wanted::Text)
+    matches!(
+        wanted,
+        Wanted::CharacterString | Wanted::Tag | Wanted::Text | Wanted::Path
+    )
 }
 
 /// Returns how far the tokens read as data of the type.
