@@ -4,8 +4,10 @@
     python3 tools/zonetool_cases.py build/zonetool
 
 A case has the words of a command line, the status, standard output, and the first line of standard error, which is the only one if it
-begins with `zonetool: `. Help has a line of usage, and more. The files that words name are those of FILES, in a folder of their own. It
-prints each case that differs and how many there were. The exit status is 1 if one differs."""
+begins with `zonetool: `. Help has a line of usage, and more. The files that words name are those of FILES, in a folder of their own. A
+case of `explain` is a text and what is said of it. It prints each case that differs and how many there were. The exit status is 1 if one
+differs."""
+import re
 import subprocess
 import sys
 import tempfile
@@ -156,9 +158,181 @@ QUERY = [
     Case("query z --origin z", 2, said=unexpected("--origin")),
     Case("query z", 2, said="zonetool: write failed", is_full=True),
 ]
+# -- What `explain` says of a zone's text. The tables have the text after the line of this SOA, and the place and the reason, whose token is marked;
+# a reason that names no token says how wide the mark is.
+TOP = "a. 60 IN SOA b. c. 1 2 3 4 5\n"
+NO_FEED, OPEN, MISPLACED = "the last line has no line feed", "parenthesis is not closed", "parenthesis is misplaced"
+QUOTE, ESCAPE = "quote is not closed", "escape is not whole: write three digits from 000 to 255"
+RELATIVE, OUTSIDE = "relative name without an origin: give --origin or $ORIGIN", "record outside the zone a."
+ENDS, MUCH, AGAIN_STATED = "the entry ends where {} is wanted", "{} is one token too many", "{} states a TTL or a class again"
+SECONDS, OF_8, OF_16, OF_32 = "a number of seconds from 0 to 4294967295", "a number from 0 to 255", "a number from 0 to 65535", "a number from 0 to 4294967295"
+HEAD, STRING, GENERAL = "a TTL, a class or a type", "a string of at most 255 octets", "data of {} is read only as \\# LENGTH OCTETS in base 16"
+TAG, FIRST, LONG = "a tag of at most 255 octets", "the first record is not an SOA", "data has more than 65535 octets"
+UNTYPED, EMPTY_TAG = "octets are no data of the record's type", "the tag of a CAA record is empty"
+X63, X255, NL = "x" * 63, "x" * 255, "\n"
+LONGEST = ".".join([X63] * 3 + ["y" * 59, "a."])
+ROWS = [
+    # Rows: line feeds, quotes, parentheses, octets.
+    ("a. 60 IN A 1.2.3.4", "2:19: " + NO_FEED),
+    ("a. A 1.2.3.4 ; c", "2:17: " + NO_FEED),
+    ("a. A\t1.2.3.4\t ", "2:15: " + NO_FEED),
+    ('a. TXT "no end\n', "2:8: " + QUOTE),
+    ('a. TXT "a\\"\n', "2:8: " + QUOTE),
+    ('a. TXT a "b" (\n"c" "d )\n', "3:5: " + QUOTE),
+    ("a. TXT ( a\n b\n", "2:8: " + OPEN),
+    ("a. TXT ( a ) ( b ; )\n", "2:14: " + OPEN),
+    ("a. TXT (\n a\n", "2:8: " + OPEN),
+    ("a. TXT a )\n", "2:10: " + MISPLACED),
+    ("a. TXT ( a\n\t( b )\n", "3:2: " + MISPLACED + "; one is open since line 2"),
+    ("a. TXT ab\x7f\n", "2:10: octet 127 is not printable: write \\127"),
+    ("a. TXT \xe9\n", "2:8: octet 195 is not printable: write \\195"),
+    ("\x00\n", "2:1: octet 0 is not printable: write \\000"),
+    ("a. TXT x\\99\n", "2:9: " + ESCAPE),
+    ("a. TXT \\256\n", "2:8: " + ESCAPE),
+    ("a. TXT ab\\\n", "2:10: " + ESCAPE),
+    ('a. TXT "x\\99"\n', "2:10: " + ESCAPE),
+    ('a. TXT "x\ty"\n', "2:10: octet 9 is not printable: write \\009"),
+    ('a. TXT "\xe9\n', "2:9: octet 195 is not printable: write \\195"),
+]
+DIRECTIVES = [
+    ("$FOO x\n", "2:1: unknown directive '$FOO'"),
+    ("$ORIGIN ; c\n", "2:8: " + ENDS.format("a name")),
+    ("$ORIGIN b\n", "2:9: " + RELATIVE, 1),
+    ("$ORIGIN b..\n", "2:9: 'b..' is not a name"),
+    ("$origin b. c.\n", "2:12: " + MUCH.format("'c.'")),
+    ("$ORIGIN b.\nw A 1.2.3.4\n", "3:1: " + OUTSIDE, 1),
+    ("$TTL\n", "2:5: " + ENDS.format(SECONDS)),
+    ("$TTL 4294967296\n", "2:6: '4294967296' is not " + SECONDS),
+    ("$TTL -1\n", "2:6: '-1' is not " + SECONDS),
+    ("$ttl 1d2h3M4s\n", "2:6: TTL units ('1d2h3M4s') are not read: write 93784"),
+    ("$TTL 1 2\n", "2:8: " + MUCH.format("'2'")),
+    ("$INCLUDE\n", "2:9: " + ENDS.format("a path without quotes")),
+    ('$INCLUDE "x"\n', "2:11: 'x' is not a path without quotes"),
+    ("$INCLUDE x y\n", "2:12: " + RELATIVE, 1),
+    ("$INCLUDE x y. z\n", "2:15: " + MUCH.format("'z'")),
+    ("$include x y.\n", "2:1: $INCLUDE is not read: give the zone as one text", 8),
+]
+HEADS = [
+    ("www A 1.2.3.4\n", "2:1: " + RELATIVE, 3),
+    ("@ A 1.2.3.4\n", "2:1: " + RELATIVE, 1),
+    ("b..a. A 1.2.3.4\n", "2:1: 'b..a.' is not a name"),
+    (f"x{X63}.a. A 1.2.3.4\n", f"2:1: 'x{X63}.a.' is not a name"),
+    (f"y{LONGEST} A 1.2.3.4\n", f"2:1: 'y{LONGEST}' is not a name"),
+    ("b.a.\n", "2:5: " + ENDS.format(HEAD)),
+    ("a. 60 IN ; A\n", "2:9: " + ENDS.format(HEAD)),
+    (" 60\n", "2:4: " + ENDS.format(HEAD)),
+    ("a. 1h IN A 1.2.3.4\n", "2:4: TTL units ('1h') are not read: write 3600"),
+    ("a. IN 1W A 1.2.3.4\n", "2:7: TTL units ('1W') are not read: write 604800"),
+    ("a. 60 60 A 1.2.3.4\n", "2:7: " + AGAIN_STATED.format("'60'")),
+    ("a. IN 60 in A 1.2.3.4\n", "2:10: " + AGAIN_STATED.format("'in'")),
+    ("a. CH A 1.2.3.4\n", "2:4: 'CH' is not the zone's class"),
+    ("a. CH A 1.2.3\n", "2:9: '1.2.3' is not an IPv4 address"),
+    ("a. 60 IN MXX 10 b.\n", "2:10: unknown type 'MXX'; did you mean MX?"),
+    ("a. aaa ::1\n", "2:4: unknown type 'aaa'; did you mean AAAA?"),
+    ("a. CNAM b.\n", "2:4: unknown type 'CNAM'; did you mean CNAME?"),
+    ("\tSVR 1 2 3 b.\n", "2:2: unknown type 'SVR'"),
+    ("a. TYPE65536 \\# 0\n", "2:4: unknown type 'TYPE65536'"),
+]
+DATA = [
+    ("a. A 1.2.3.256\n", "2:6: '1.2.3.256' is not an IPv4 address"),
+    ("a.\t60\tIN\tA\t1.2.3\n", "2:12: '1.2.3' is not an IPv4 address"),
+    ("a. A (\n  1.2.3.4.5 ; c\n)\n", "3:3: '1.2.3.4.5' is not an IPv4 address"),
+    ("a. AAAA ::g\n", "2:9: '::g' is not an IPv6 address"),
+    ("a. AAAA\n", "2:8: " + ENDS.format("an IPv6 address")),
+    ("a. CAA 256 t v\n", "2:8: '256' is not " + OF_8),
+    ("a. DS 1 2\n", "2:10: " + ENDS.format(OF_8)),
+    ("a. MX 65536 b.\n", "2:7: '65536' is not " + OF_16),
+    ("a. SRV 1 2\n", "2:11: " + ENDS.format(OF_16)),
+    ("a. SOA b. c. 4294967296 2 3 4 5\n", "2:14: '4294967296' is not " + OF_32),
+    ("a. SOA b. c. (\n 1 2 ; 3\n 4 )\n", "4:3: " + ENDS.format(OF_32)),
+    ("a. MX (\n 10 ; b.\n)\n", "3:4: " + ENDS.format("a name")),
+    ("a. NS b..\n", "2:7: 'b..' is not a name"),
+    ("a. MX 10 b\n", "2:10: " + RELATIVE, 1),
+    ("a. MX (\n 10 ; c\n b. c. )\n", "4:5: " + MUCH.format("'c.'")),
+    ("a. TXT\n", "2:7: " + ENDS.format(STRING)),
+    ("a. HINFO x\n", "2:11: " + ENDS.format(STRING)),
+    (f"a. TXT a x{X255}\n", f"2:10: 'x{X255}' is not {STRING}"),
+    ('a. MX "10" b.\n', "2:8: '10' is quoted: only strings are"),
+    ('"a." A 192.0.2.1\n', "2:2: 'a.' is quoted: only strings are"),
+    ("a. 4294967296 A 192.0.2.1\n", "2:4: '4294967296' is not a number of seconds from 0 to 4294967295"),
+    (" a. A 192.0.2.1\n", "2:2: unknown type 'a.'"),
+    ("a. TXT ( x ( y\n", "2:12: parenthesis is misplaced; one is open since line 2"),
+    ("a. CAA 0\n", "2:9: " + ENDS.format(TAG)),
+    (f"a. CAA 0 x{X255} v\n", f"2:10: 'x{X255}' is not {TAG}"),
+    ("a. CAA 0 issue\n", "2:15: " + ENDS.format("a string")),
+    ("a. CAA 0 issue x y\n", "2:18: " + MUCH.format("'y'")),
+    ('a. TXT "a" (\n"b" ' + "y" * 256 + ' "c" )\n', "3:5: '" + "y" * 256 + "' is not " + STRING),
+    ("a. SSHFP 1 2 zz\n", "2:14: 'zz' is not base 16"),
+    ("a. DS 1 2 3 ab cg ef\n", "2:16: 'cg' is not base 16"),
+    ("a. DS 1 2 3 ab c\n", "2:16: 'c' is not base 16"),
+    ("a. DNSKEY 256 3 5 AQ*=\n", "2:19: 'AQ*=' is not base 64"),
+    ("a. DNSKEY 256 3 5 AQ=\n", "2:19: 'AQ=' is not base 64"),
+    ("a. NSEC b. A\n", "2:9: " + GENERAL.format("NSEC"), 2),
+    ("a. TYPE65280\n", "2:13: " + GENERAL.format("TYPE65280")),
+    ("a. TYPE65280 \\#\n", "2:16: " + ENDS.format(OF_16)),
+    ("a. TYPE65280 \\# 65536 00\n", "2:17: '65536' is not " + OF_16),
+    ("a. TYPE65280 \\# 4 010203\n", "2:17: '4' is not the number of octets that follow"),
+    ("a. TYPE65280 \\# 3 0102 0g\n", "2:24: '0g' is not base 16"),
+    (f"a. TXT (\n{(X255 + NL) * 256})\n", "3:1: " + LONG, 255),
+]
+RULES = [
+    ("a. A \\# 3 010203\n", "2:1: " + UNTYPED, 2),
+    ("; c\n\na. TXT x\n" + TOP, "5:1: second SOA; the first is in line 1", 2),
+    ("b. 60 IN A 1.2.3.4\n", "2:1: " + OUTSIDE, 2),
+    ("b.a. A 1.2.3.4\n\n ; c\nba. A 1.2.3.4\n", "5:1: " + OUTSIDE, 3),
+    ('a. CAA 0 "" x\n', "2:1: " + EMPTY_TAG, 2),
+]
+# Texts that keep the rule that one above breaks, after the line of the SOA.
+KEPT = [
+    "", " \t; c", "a. A 1.2.3.4\n; c", 'a. TXT "an end" "a\\"" "(" \\( ";"\n', "a. TXT ( a\n b\n)\n", "a. TXT \\195\\255\n", "$ORIGIN b.a.\nw A 1.2.3.4\n",
+    "$TTL 4294967295\n", f"{X63}.a. A 1.2.3.4\n", f"{LONGEST} A 1.2.3.4\n", " 60 A 1.2.3.4\n", "a. IN 60 A 1.2.3.4\n", "a. 4294967295 A 1.2.3.255\n",
+    "a. TYPE65535 \\# 0\n", "a. AAAA ::f\n", "a. CAA 255 t v\n", "a. MX 65535 b.\n", f"a. TXT {X255}\n", "a. CAA 0 ab1 v\n", "a. DS 1 2 3 ab c d\n",
+    "a. DNSKEY 256 3 5 AQ==\n", "a. NSEC \\# 3 016200\n", "a. A \\# 4 0102 0304\n", "B.A. A 1.2.3.4\n", f"a. TXT (\n{(X255 + NL) * 255}{'x' * 254})\n",
+]
+
+
+def explained(text, said, width=None, words="explain", file="-"):
+    """The case of a text of which this is said. The mark is as wide as the token in quotes, or as said, or 1."""
+    line, column, reason = re.fullmatch(r"(\d+):(\d+): (.*)", said).groups()
+    token = re.search(r"'([^']*)'", reason)
+    width = width or (len(token[1]) if token else 1)
+    octets = text.encode().split(b"\n")[int(line) - 1]
+    shown = "".join(chr(it) if it == 9 or 32 <= it < 127 else "?" for it in octets)
+    mark = re.sub(r"[^\t]", " ", shown[: int(column) - 1]) + "^" * width
+    return Case(words, 1, f"{file}:{said}\n{shown}\n{mark}\n", given=text)
+
+
+EXPLAIN = [
+    *(explained(TOP + text, *said) for text, *said in ROWS + DIRECTIVES + HEADS + DATA + RULES),
+    *(Case("explain", given=TOP + text) for text in KEPT),
+    explained("; c\n$TTL 5\na. A 1.2.3.4\n", "3:1: " + FIRST, 2),
+    explained("\n\n" + TOP + " TXT x\n" + TOP, "5:1: second SOA; the first is in line 3", 2),
+    explained("\t60 IN SOA b. c. 1 2 3 4 5\n", "1:2: no owner: the first record states its owner", 2),
+    explained("a. SOA b. c. 4294967296 2 3 4 5\n", "1:14: '4294967296' is not " + OF_32),
+    explained("www A 1.2.3.4\n", "1:1: " + FIRST, 3, words="explain - --origin z"),
+    explained("@ 60 IN SOA b. c. 1 2 3 4 5\n$ORIGIN Y\n@ A 1.2.3.4\n$ORIGIN y.\n@ A 1.2.3.4\n", "5:1: record outside the zone Z.", 1, words="explain --origin Z."),
+    explained(FILES["chaos"] + "z. IN A 1.2.3.4\n", "3:4: 'IN' is not the zone's class", words="explain --class CH"),
+    explained(FILES["outside"], "2:1: record outside the zone z.", 2, words="explain outside", file="outside"),
+    explained(FILES["unended"], "2:23: " + NO_FEED, words="explain --class in unended", file="unended"),
+    explained(FILES["relative"], "1:1: " + RELATIVE, words="explain ./relative", file="./relative"),
+    Case("explain relative --origin z"),
+    Case("explain", given="a. 60 IN SOA b. c. 4294967295 2 3 4 5\n"),
+    Case("explain chaos --class class3"),
+    Case("explain --class CLASS255 one", 1, "one:1:1: no zone has the class ANY\n"),
+    Case("explain empty", 1, "empty:1:1: the text has no record\n"),
+    Case("explain -", 1, "-:1:1: the text has no record\n", given="\n; c\n$TTL 5\n"),
+    Case("explain missing", 2, said="zonetool: missing: read failed: No such file or directory (os error 2)"),
+    Case("explain folder", 2, said="zonetool: folder: read failed: Is a directory (os error 21)"),
+    Case("explain one --class no", 2, said="zonetool: bad class"),
+    Case("explain one --origin a..b", 2, said="zonetool: bad name"),
+    Case("explain one one", 2, said=unexpected("one")),
+    Case("explain one --layout simple", 2, said=unexpected("--layout")),
+    Case("explain outside", 2, said="zonetool: write failed", is_full=True),
+    Case("explain one", is_full=True),
+]
 LINES = [
     Case("", 2, said="error: 'zonetool' requires a subcommand but one was not provided"),
-    Case("explain one", 2, said="error: unrecognized subcommand 'explain'"),
+    Case("check one", 2, said="error: unrecognized subcommand 'check'"),
     Case("--origin z", 2, said=unexpected("--origin")),
     Case("diff \udcff one", 2, said="zonetool: a word is not UTF-8"),
     Case("--version", 0, "zonetool 0.1.0\n"),
@@ -166,6 +340,7 @@ LINES = [
     Case("diff --help", 0, "Usage: zonetool diff [OPTIONS] <OLD> <NEW>"),
     Case("sort -h", 0, "Usage: zonetool sort [OPTIONS] [FILE]"),
     Case("query --help", 0, "Usage: zonetool query [OPTIONS] <APEX>"),
+    Case("explain --help", 0, "Usage: zonetool explain [OPTIONS] [FILE]"),
     Case("--help", 2, said="zonetool: write failed", is_full=True),
 ]
 
@@ -195,7 +370,7 @@ def main():
         print("usage: zonetool_cases.py PROGRAM", file=sys.stderr)
         return 2
     program, differing = str(Path(sys.argv[1]).resolve()), 0
-    cases = DIFF + SORT + QUERY + LINES
+    cases = DIFF + SORT + QUERY + EXPLAIN + LINES
     with tempfile.TemporaryDirectory(prefix="zonetool-") as name:
         folder = Path(name)
         (folder / "folder").mkdir()

@@ -1,4 +1,5 @@
-//! The program `zonetool`: what changed between two zones, a zone in canonical order, and the query for a transfer.
+//! The program `zonetool`: why a zone is refused, what changed between two zones, a zone in canonical order, and the query
+//! for a transfer.
 #![tactic(auto)]
 
 mod command_line;
@@ -18,7 +19,7 @@ use tasks::perform;
 /// The program's name, as the first word of a command line.
 const NAME: &str = "zonetool";
 
-/// The exit status of `diff` if the zones differ.
+/// The exit status of `diff` if the zones differ, and of `explain` if the text is no zone's.
 const DIFFERENCE: u8 = 1;
 
 /// The exit status of a run that failed.
@@ -36,7 +37,8 @@ fn main(rt: HostRuntime) -> ExitCode {
     ExitCode::from(status)
 }
 
-/// Performs the task that the words name, and returns the exit status: 0, 1 if there is a difference, and 2 if it fails.
+/// Performs the task that the words name, and returns the exit status: 0, 1 if there is a difference or something to
+/// explain, and 2 if it fails.
 fn status_of(rt: &HostRuntime, given: &[String]) -> u8 {
     let mut words = Vec::new(rt.alloc());
     if words.push(NAME).is_err() {

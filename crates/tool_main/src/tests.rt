@@ -6,6 +6,7 @@ use dns_text::DisplayKind;
 use std::alloc::Global;
 use std::test::Fail;
 use zone::{Zone, ZoneError};
+use zone_tool::explain::{explain, finding_text};
 use zone_tool::{Selection, difference, framed_query, sorted};
 
 /// A zone whose records are not in order, one of them twice.
@@ -85,5 +86,17 @@ fn standard_input_is_read_once(rt: HostRuntime) -> Result<(), Fail> {
     let fault = task_of(alloc, words.as_slice()).expect_err(&rt, "a fault");
     let text = format!(in alloc; "{fault}")?;
     assert!(rt; text.as_str() == "standard input is read once");
+    Ok(())
+}
+
+#[test]
+fn the_token_that_is_refused(rt: HostRuntime) -> Result<(), Fail> {
+    let alloc = rt.alloc();
+    assert!(rt; explain(alloc, MIXED, None, Class::IN)?.is_none());
+    let text: &[u8] = b"z. 60 IN SOA b. c. 1 2 3 4 5\na.z. 60 IN MXX 10 b.\n";
+    let finding = explain(alloc, text, None, Class::IN)?.expect(&rt, "a finding");
+    let wanted =
+        "z:2:12: unknown type 'MXX'; did you mean MX?\na.z. 60 IN MXX 10 b.\n           ^^^\n";
+    assert!(rt; finding_text(alloc, "z", text, &finding)?.as_str() == wanted);
     Ok(())
 }

@@ -1,8 +1,10 @@
 //! Where a text fails that is cut into no row.
 
+use super::line::line_of;
 use super::located::Located;
 use super::reason::Reason;
 use dns_entry_scanner::RowReader;
+use dns_name::Symbol;
 
 /// Returns why there is no row at the place of the text, although the text goes on there.
 pub(crate) fn broken_row_fault(text: &[u8], place: usize) -> Located {
@@ -24,7 +26,7 @@ pub(crate) fn broken_row_fault(text: &[u8], place: usize) -> Located {
 /// The octets between two tokens of a row.
 #[derive(Clone, Copy)]
 struct Gap {
-    /// The offset of the first octet behind them.
+    /// The offset of the first octet after them.
     end: usize,
     /// Whether that octet is inside parentheses.
     inside: bool,
@@ -67,13 +69,29 @@ fn gap_fault(text: &[u8], gap: Gap, open: usize) -> Located {
     match text.get(gap.end) {
         None if gap.inside => located(Reason::OpenParenthesis, open, 1),
         None => located(Reason::NoLineFeed, gap.end, 0),
-        Some(b'"') => located(Reason::OpenQuote, gap.end, 1),
-        Some(b'(') | Some(b')') => located(Reason::MisplacedParenthesis, gap.end, 1),
+        Some(b'"') => quote_fault(text, gap.end),
+        Some(b'(') => located(Reason::NestedParenthesis(line_of(text, open)), gap.end, 1),
+        Some(b')') => located(Reason::MisplacedParenthesis, gap.end, 1),
         Some(_) => located(Reason::BadOctet, gap.end, 1),
     }
 }
 
-/// Returns the reason with the place of so many octets from the offset on.
+/// Returns why the quote at the offset begins no token: an octet before its end is no symbol, or it has no end.
+fn quote_fault(text: &[u8], quote: usize) -> Located {
+    let mut at = quote.saturating_add(1);
+    for _ in quote..text.len() {
+        match Symbol::split_from(&text[at.min(text.len())..]) {
+            Some((_, behind)) => at = text.len() - behind.len(),
+            None => break,
+        }
+    }
+    match text.get(at) {
+        None | Some(b'\n') => located(Reason::OpenQuote, quote, 1),
+        Some(_) => located(Reason::BadOctet, at, 1),
+    }
+}
+
+/// Returns the reason with the place of octets from the offset on.
 fn located(reason: Reason, start: usize, len: usize) -> Located {
     Located {
         reason,

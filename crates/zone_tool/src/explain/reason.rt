@@ -34,7 +34,7 @@ pub enum Wanted {
     #[error("a string of at most 255 octets")]
     CharacterString,
     /// The tag of a CAA record (RFC 8659 4.1).
-    #[error("a tag of letters and digits")]
+    #[error("a tag of at most 255 octets")]
     Tag,
     /// Octets as characters.
     #[error("a string")]
@@ -59,8 +59,10 @@ pub enum Reason {
     OpenQuote,
     /// The text ends inside parentheses.
     OpenParenthesis,
-    /// A parenthesis opens inside parentheses, or closes outside.
+    /// A parenthesis closes outside parentheses.
     MisplacedParenthesis,
+    /// A parenthesis opens inside parentheses, which opened in this line.
+    NestedParenthesis(usize),
     /// An octet begins no token: it is not printable ASCII, or an escape that is not whole.
     BadOctet,
     /// A word after a dollar sign is no directive.
@@ -81,6 +83,8 @@ pub enum Reason {
     Missing(Wanted),
     /// A token is not what is wanted.
     Not(Wanted),
+    /// A token is quoted, but is no string.
+    Quoted,
     /// A token follows the end of the entry.
     Surplus,
     /// Data of this type is only read in the general form (RFC 3597 5).

@@ -84,6 +84,12 @@ fn push_reason(out: &mut String, finding: &Finding, token: &[u8]) -> Result<(), 
         Reason::OpenQuote => out.push_str("quote is not closed"),
         Reason::OpenParenthesis => out.push_str("parenthesis is not closed"),
         Reason::MisplacedParenthesis => out.push_str("parenthesis is misplaced"),
+        Reason::NestedParenthesis(line) => {
+            write!(
+                out,
+                "parenthesis is misplaced; one is open since line {line}"
+            )
+        }
         Reason::BadOctet => push_octet(out, token),
         Reason::NoOrigin => {
             out.push_str("relative name without an origin: give --origin or $ORIGIN")
@@ -98,7 +104,7 @@ fn push_reason(out: &mut String, finding: &Finding, token: &[u8]) -> Result<(), 
             )
         }
         Reason::OutOfZone => match &finding.apex {
-            Some(apex) => write!(out, "record outside the zone {apex}."),
+            Some(apex) => write!(out, "record outside the zone {apex}"),
             None => out.push_str("record outside the zone"),
         },
         reason => push_other_reason(out, reason, token),
@@ -127,6 +133,7 @@ fn push_other_reason(out: &mut String, reason: &Reason, token: &[u8]) -> Result<
         Reason::Not(Wanted::Type) => push_about(out, "unknown type ", token, ""),
         Reason::StatedTwice => push_about(out, "", token, " states a TTL or a class again"),
         Reason::OtherClass => push_about(out, "", token, " is not the zone's class"),
+        Reason::Quoted => push_about(out, "", token, " is quoted: only strings are"),
         Reason::OtherCount => {
             push_about(out, "", token, " is not the number of octets that follow")
         }

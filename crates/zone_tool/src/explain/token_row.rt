@@ -71,7 +71,7 @@ impl<'t> TokenRow<'t> {
             };
         }
         let end = match self.spans().last() {
-            Some(span) => span.start().min(self.text.len()) + span.text(self.text).len(),
+            Some(span) => self.end_of(span),
             None => self.entry.place.min(self.text.len()),
         };
         Located {
@@ -81,12 +81,18 @@ impl<'t> TokenRow<'t> {
         }
     }
 
+    /// Returns the offset after the token, and after its closing quote if it has one.
+    fn end_of(&self, span: &TokenSpan) -> usize {
+        let end = span.start().min(self.text.len()) + span.text(self.text).len();
+        end.saturating_add(usize::from(span.is_quoted()))
+    }
+
     /// Returns that the token at the index is not what is wanted, or is missing.
     fn unlike(&self, index: usize, wanted: Wanted) -> Located {
-        let reason = if index < self.spans().len() {
-            Reason::Not(wanted)
-        } else {
-            Reason::Missing(wanted)
+        let reason = match self.spans().get(index) {
+            Some(span) if span.is_quoted() && !is_string(wanted) => Reason::Quoted,
+            Some(_) => Reason::Not(wanted),
+            None => Reason::Missing(wanted),
         };
         self.at(index, reason)
     }
@@ -246,12 +252,27 @@ impl<'t> TokenRow<'t> {
                 let located = self.name_fault(at)?;
                 Ok(located.unwrap_or(self.unlike(at, Wanted::Name)))
             }
+            Wanted::CharacterString => {
+                let first = self.first_no_string(at)?;
+                Ok(self.unlike(first, fault.wanted))
+            }
             Wanted::Base16 | Wanted::Base64 => {
                 let last = self.first_unlike(at, fault.wanted);
                 Ok(self.unlike(last, fault.wanted))
             }
             wanted => Ok(self.unlike(at, wanted)),
         }
+    }
+
+    /// Returns the index of the first token from the index on that is no string of at most 255 octets, or the number of
+    /// tokens. Fails if out of memory.
+    fn first_no_string(&self, index: usize) -> Result<usize, AllocError> {
+        for at in index..self.spans().len() {
+            if read_or_refused(self.scanner(at).scan_charstr())?.is_none() {
+                return Ok(at);
+            }
+        }
+        Ok(self.spans().len())
     }
 
     /// Returns the index of the first token from the index on that has characters of another encoding, or of the last one.
@@ -299,6 +320,14 @@ impl<'t> TokenRow<'t> {
             None => self.at(head.data, Reason::LongData),
         }
     }
+}
+
+/// Returns whether the reason for a token says itself whether it may be quoted.
+fn is_string(wanted: Wanted) -> bool {
+    matches!(
+        wanted,
+        Wanted::CharacterString | Wanted::Tag | Wanted::Text | Wanted::Path
+    )
 }
 
 /// Returns how far the tokens read as data of the type.

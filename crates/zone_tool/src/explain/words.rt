@@ -39,6 +39,9 @@ pub(crate) fn head_word(word: &[u8]) -> HeadWord {
 
 /// Returns why a word is not what is wanted.
 pub(crate) fn word_reason(word: &[u8], wanted: Wanted) -> Reason {
+    if word.iter().all(u8::is_ascii_digit) {
+        return Reason::Not(Wanted::Ttl);
+    }
     if let Some(seconds) = seconds_with_units(word) {
         return Reason::TtlUnits(seconds);
     }
@@ -115,7 +118,7 @@ static TYPES: &[&str] = &[
 
 /// Returns the type whose mnemonic differs from the word in one letter, if there is one.
 fn near_type(word: &[u8]) -> Option<Rtype> {
-    if word.len() < 2 {
+    if word.len() < 2 || !word.iter().all(u8::is_ascii_alphanumeric) {
         return None;
     }
     for &mnemonic in TYPES {
