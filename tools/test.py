@@ -3,8 +3,9 @@
 
 Which tests there are is read from crates.txt and the crates: the test functions of each crate that has some, the rows of each program
 `NAME_rows`, and the stored run of each other program (its files `args`, `stdin`, `data/`, `stdout` and `status`, read as the gate reads
-them: no `stdout` is no output, no `status` is 0). All run by `rt try`, which compiles with checks. `make prove` is the gate: it proves
-the crates, and runs the same tests and programs as two compilers build them.
+them: no `stdout` is no output, no `status` is 0); and `tools/zonetool_cases.py` has cases of `zonetool`. All run by `rt try`, which
+compiles with checks. `make prove` is the gate: it proves the crates, and runs the same tests and programs, but no cases, as two compilers
+build them.
 
 A run has ten minutes, since it is compiled with checks and a machine may be busy. Rows are run in parts, since a run has 1 MiB of
 output at most, and each part begins with the `let` lines before it. The rows of a part that stops early are run again one by one, so
@@ -12,7 +13,7 @@ that the row that stopped it is named. `--jobs` runs so many crates at once; wit
 
 It prints a line for each of them as it ends, with its seconds and processor seconds, and after one that failed the first rows that
 differ, or what else is wrong. The last line counts rows and test functions, and a stored run as one: `N passed, M failed`. The exit
-status is 1 if one failed. Nothing is written in the tree, so it may run beside another run of it, or beside `rt ci`."""
+status is 1 if one failed. Nothing is written in the tree but in `build/`, so it may run beside `rt ci`."""
 import argparse
 import re
 import resource
@@ -25,7 +26,9 @@ from dataclasses import dataclass
 from itertools import zip_longest
 from pathlib import Path
 
+import zonetool_cases
 from crates import ROOT, lower, needs_of, processors
+from memory import try_program
 
 # How many rows a part of a program's rows has.
 PART = 100
@@ -239,6 +242,12 @@ def run_stored(folder):
     return Outcome(0, 1, shown([difference(f"line {at}", a, b) for at, (a, b) in pairs if a != b]))
 
 
+def run_cases(folder):
+    """Runs the program on the cases of its command line."""
+    count, found = zonetool_cases.judged(str(try_program(folder.name).path))
+    return Outcome(count - len(found), len(found), shown(found))
+
+
 def jobs_of(crate):
     """What is to be run of a crate."""
     folder = ROOT / "crates" / crate
@@ -246,6 +255,8 @@ def jobs_of(crate):
     if (folder / "src/main.rt").is_file() or (folder / "stdout").is_file():
         is_rows = crate.endswith("_rows") and not (folder / "args").is_file()
         found.append(Job(crate, "rows", run_rows) if is_rows else Job(crate, "stored run", run_stored))
+    if crate == zonetool_cases.CRATE:
+        found.append(Job(crate, "cases", run_cases))
     return found
 
 

@@ -7,6 +7,7 @@ A case has the words of a command line, the status, standard output, and the fir
 begins with `zonetool: `. Help has a line of usage, and more. The files that words name are those of FILES, in a folder of their own. A
 case of `explain` is a text and what is said of it. It prints each case that differs and how many there were. The exit status is 1 if one
 differs."""
+import os
 import re
 import subprocess
 import sys
@@ -14,6 +15,8 @@ import tempfile
 from dataclasses import dataclass
 from pathlib import Path
 
+# The program's crate.
+CRATE = "tool_main"
 SOA, A, TXT = "z. 60 IN SOA b. c. 1 2 3 4 5\n", "a.z. 60 IN A 192.0.2.1\n", 'b.z. 60 IN TXT "t"\n'
 # The records that the first zone has, and others.
 NEW_SOA, LATE_A, RAW = "z. 60 IN SOA b. c. 2 2 3 4 5\n", "a.z. 61 IN A 192.0.2.1\n", "z. 60 IN TYPE65280 \\# 2 0aff\n"
@@ -345,12 +348,16 @@ LINES = [
 ]
 
 
+# A program of `rt try` looks for faults of memory, and leaves its own to the system as it ends.
+SETTINGS = {**os.environ, "ASAN_OPTIONS": "detect_leaks=0:allocator_may_return_null=1"}
+
+
 def run(program, folder, case):
     """How the program ends for a case, with what it writes, and what it says."""
     with open("/dev/full", "wb") as full:
         out = full if case.is_full else subprocess.PIPE
         words = [program, *case.words.split()]
-        ran = subprocess.run(words, cwd=folder, input=case.given.encode(), stdout=out, stderr=subprocess.PIPE)
+        ran = subprocess.run(words, cwd=folder, env=SETTINGS, input=case.given.encode(), stdout=out, stderr=subprocess.PIPE)
     return ran.returncode, ran.stdout or b"", ran.stderr.decode(errors="replace")
 
 
@@ -365,12 +372,9 @@ def differences(case, status, out, said):
     return [f"    {name}: wanted {a!r}, given {b!r}" for name, a, b in pairs if a != b]
 
 
-def main():
-    if len(sys.argv) != 2:
-        print("usage: zonetool_cases.py PROGRAM", file=sys.stderr)
-        return 2
-    program, differing = str(Path(sys.argv[1]).resolve()), 0
-    cases = DIFF + SORT + QUERY + EXPLAIN + LINES
+def judged(program):
+    """How many cases there are, and the lines of each that differs."""
+    cases, found = DIFF + SORT + QUERY + EXPLAIN + LINES, []
     with tempfile.TemporaryDirectory(prefix="zonetool-") as name:
         folder = Path(name)
         (folder / "folder").mkdir()
@@ -379,10 +383,19 @@ def main():
         for case in cases:
             notes = differences(case, *run(program, folder, case))
             if notes:
-                differing += 1
-                print("\n".join([f"zonetool {case.words}", *notes]))
-    print(f"{len(cases)} cases, {differing} differ")
-    return 1 if differing else 0
+                found.append((f"zonetool {case.words}", *notes))
+    return len(cases), found
+
+
+def main():
+    if len(sys.argv) != 2:
+        print("usage: zonetool_cases.py PROGRAM", file=sys.stderr)
+        return 2
+    count, found = judged(str(Path(sys.argv[1]).resolve()))
+    for lines in found:
+        print("\n".join(lines))
+    print(f"{count} cases, {len(found)} differ")
+    return 1 if found else 0
 
 
 if __name__ == "__main__":
