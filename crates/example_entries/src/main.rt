@@ -29,11 +29,9 @@ fn show(rt: &impl Print, next: &Result<Option<Entry>, Error>) -> io::Result<bool
     Ok(true)
 }
 
-/// Shows the next entry, or why it cannot be read, and passes over it. Returns whether there may be another one.
-fn show_next(rt: &impl Print, zonefile: &mut Zonefile) -> anyhow::Result<bool> {
-    let may_go_on = show(rt, &zonefile.next_entry())?;
-    zonefile.pass_over()?;
-    Ok(may_go_on)
+/// Shows the next entry, or why it cannot be read. Returns whether there may be another one.
+fn show_next(rt: &impl Print, zonefile: &mut Zonefile) -> io::Result<bool> {
+    show(rt, &zonefile.next_entry())
 }
 
 fn main(rt: HostRuntime) -> anyhow::Result<()> {
@@ -43,6 +41,7 @@ fn main(rt: HostRuntime) -> anyhow::Result<()> {
         if !show_next(&rt, &mut zonefile)? {
             break;
         }
+        zonefile.pass_over()?;
     }
     println!(rt; "entries: {}", zonefile.entry_number())?;
     Ok(())
