@@ -1,7 +1,9 @@
 //! Why a zone's text is refused.
-ghost use Rattle.std.specs.Prelude.{◌≡◌, option_copied, IfOk};
+ghost use Rattle.std.specs.Prelude.{◌≡◌, ℕ, List, Option, Some, option_copied, IfOk, IfNone};
 ghost use Rattle.dns_zonefile.specs.Reader.{line_at};
-ghost use Rattle.zone_tool.specs.Explained.{IsExplained};
+ghost use Rattle.zone.specs.ZoneText.{IsZoneFault};
+ghost use Rattle.zone_tool.specs.EntryRow.{IsEntryRow, number_of};
+ghost use Rattle.zone_tool.specs.Explained.{IsExplained, IsRulePlace};
 
 mod broken_row;
 mod entry_row;
@@ -68,6 +70,7 @@ fn finding_of(
 ) -> Result<Finding, AllocError>
     ensures fault { IfOk result (λ finding. finding.fault ≡ fault) }
     ensures line { IfOk result (λ finding. finding.line ≡ line_at text.now finding.located.start) }
+    ensures entry { IsZoneFault text.now (option_copied origin.entry) class fault → IfOk result (λ finding. IsRulePlace text.now fault finding.located.start) }
 {
     let (located, apex) = match entry_of(fault) {
         Some(number) => {
@@ -92,10 +95,17 @@ fn entry_fault(
     row: &EntryRow,
     class: Class,
     fault: ZoneError,
-) -> Result<Located, AllocError> {
+) -> Result<Located, AllocError>
+    ensures { (origin : Option (List (List ℕ))) (n : ℕ) → IsZoneFault text.now origin class fault → number_of fault ≡ Some n
+        → IsEntryRow text.now n row.now.place row.now.spans.items row.now.blank_led
+        → IfOk result (λ located. IsRulePlace text.now fault located.start) }
+{
     let Some(blank_led) = row.blank_led else {
         return Ok(broken_row_fault(text, row.place));
     };
+    if let Some(reason) = rule_reason(fault, text, row) {
+        return Ok(row.at_start(text, reason));
+    }
     let tokens = TokenRow {
         alloc,
         text,
@@ -103,10 +113,7 @@ fn entry_fault(
         blank_led,
         class,
     };
-    match rule_reason(fault, text, row) {
-        Some(reason) => Ok(tokens.at(0, reason)),
-        None => tokens.fault(),
-    }
+    tokens.fault()
 }
 
 /// Returns the place of a rule that no entry breaks.
@@ -123,7 +130,9 @@ fn whole_text(fault: ZoneError) -> Located {
 }
 
 /// Returns the number of the entry that breaks the rule.
-fn entry_of(fault: ZoneError) -> Option<usize> {
+fn entry_of(fault: ZoneError) -> Option<usize>
+    ensures { result ≡ number_of fault }
+{
     match fault {
         ZoneError::Text(number)
         | ZoneError::Include(number)
@@ -137,7 +146,9 @@ fn entry_of(fault: ZoneError) -> Option<usize> {
 }
 
 /// Returns why an entry that reads breaks the rule, or None if it does not read.
-fn rule_reason(fault: ZoneError, text: &[u8], row: &EntryRow) -> Option<Reason> {
+fn rule_reason(fault: ZoneError, text: &[u8], row: &EntryRow) -> Option<Reason>
+    ensures { IfNone result ((other : List ℕ) (place : ℕ) → IsRulePlace other fault place) }
+{
     match fault {
         ZoneError::Include(_) => Some(Reason::Include),
         ZoneError::Untyped(_) => Some(Reason::Untyped),
@@ -148,6 +159,7 @@ fn rule_reason(fault: ZoneError, text: &[u8], row: &EntryRow) -> Option<Reason> 
         }
         ZoneError::OutOfZone(_) => Some(Reason::OutOfZone),
         ZoneError::Unspellable(_) => Some(Reason::Unspellable),
-        _ => None,
+        ZoneError::ClassAny | ZoneError::Text(_) | ZoneError::NoSoa | ZoneError::OutOfMemory =>
+            None,
     }
 }
