@@ -1,6 +1,6 @@
 -- The row of the entry that breaks a rule.
-use Rattle.std.proofs.Common.{◌≡◌, ◌<◌, ◌≤◌, ◌-◌, ◌+◌, ◌++◌, ◌∙◌, ℕ, suc, min, Bool, true, List, [], ◌∷◌, Option, Some, None, drop, length, map, cond, refl, ap, arith, length-append}
-use Rattle.std.specs.Prelude.{count_by}
+use Rattle.std.proofs.Common.{◌≡◌, ◌<◌, ◌≤◌, ◌-◌, ◌+◌, ◌++◌, ◌∙◌, ℕ, suc, min, Bool, true, List, [], ◌∷◌, Option, Some, None, Result, Ok, Err, drop, length, map, cond, refl, ap, arith, length-append}
+use Rattle.std.specs.Prelude.{count_by, IfOk}
 use Rattle.std.proofs.lemmas.List.Sums.{sum_by-append}
 use Rattle.dns_scan.specs.Token.{Token}
 use Rattle.dns_text.specs.Rows.{BeginsWithRows, TokenRow, is_led}
@@ -18,7 +18,8 @@ use Rattle.dns_zonefile.proofs.RowFronts.{all_rows}
 use Rattle.zone.specs.ZoneText.{IsZoneFault, Reaches}
 use Rattle.zone.specs.declared.zone_error.ZoneError.{ZoneError}
 use Rattle.zone.specs.declared.zone_error.ZoneError.TheVariants as zone_error
-use Rattle.zone_tool.specs.EntryRow.{HasPassed, IsEntryRow, number_of}
+use Rattle.zone_tool.specs.declared.explain.located.Located.{Located}
+use Rattle.zone_tool.specs.EntryRow.{HasPassed, IsEntryRow, IsFaultRow, number_of}
 use Rattle.zone_tool.specs.Explained.{BeginsAt, IsRulePlace, any_tokens, behind_blanks, has_tokens}
 
 some_true : (tokens : List Token) → (tokens ≡ [] → ⊥) → any_tokens tokens ≡ true
@@ -30,9 +31,9 @@ entries_counted : {context after : Context} {rows : List TokenRow} {entries : Li
     → count_by has_tokens rows ≡ length entries
 entries_counted AreEntries.none = refl
 entries_counted (AreEntries.bare are) = entries_counted are
-entries_counted (AreEntries.entry {row = row} {rows = rows} is are) =
+entries_counted (AreEntries.entry {row = row} {rows = rows} {entries = entries} is are) =
     let one : cond (has_tokens row) 1 0 ≡ 1 = ap (λ (b : Bool). cond {A = ℕ} b 1 0) (some_true row.tokens (entry_has_tokens is)) in
-    omega (arith, one, entries_counted are)
+    omega (arith, one, sum_by-append (λ (r : TokenRow). cond (has_tokens r) 1 0) (row ∷ []) rows, entries_counted are)
 
 spans_true : (text : List ℕ) (spans : List TokenSpan) → 0 < length spans → any_tokens (map (λ span. token_in text span) spans) ≡ true
 spans_true text [] some = absurd (omega (arith, some))
@@ -91,47 +92,61 @@ breaks (zone_error.Unspellable n) is = reached refl is.2.2 (λ place there. ther
 breaks zone_error.NoSoa is = other (λ place. tt)
 breaks zone_error.OutOfMemory is = other (λ place. tt)
 
-module _ (text : List ℕ) (origin : Option (List (List ℕ))) (class n place : ℕ) (spans : List TokenSpan) (fault : ZoneError)
-    (is : IsZoneFault text origin class fault) (numbered : number_of fault ≡ Some n) where
-  -- the entry of the row
-  pub found_at : (blank_led : Bool) (start : ℕ) → IsEntryRow text n place spans (Some blank_led)
-      → drop start text ≡ behind_blanks (drop place text) → IsRulePlace text fault start
-  found_at blank_led start row there = by (breaks fault is)
-    where
-      by : Breaks text origin class fault → IsRulePlace text fault start
-      by (other all) = all start
-      by (reached {n = m} same reaches needs) =
-          let numbers : m ≡ n = cc in
-          needs start (record {
-            rows = row.0.rows;
-            row = record { blank_led = is_led (drop place text); tokens = map (λ span. token_in text span) spans };
-            left = drop place text;
-            rest = drop row.2.0 text;
-            begins = row.0.begins;
-            counted = omega (arith, numbers, reaches.counted, row.0.counted);
-            entry = BeginsWithRows.more row.2.1.row BeginsWithRows.none;
-            some = spans_true text spans row.1;
-            place_is = there;
-          })
+-- the entry of the row
+pub found_at : (text : List ℕ) (class place start : ℕ) (fault : ZoneError) (spans : List TokenSpan) (blank_led : Bool)
+    → IsFaultRow text class fault place spans (Some blank_led) → drop start text ≡ behind_blanks (drop place text)
+    → IsRulePlace text fault start
+found_at text class place start fault spans blank_led is there = by (breaks fault is.breaks)
+  where
+    row : IsEntryRow text is.n place spans (Some blank_led)
+    row = is.row
 
-  -- the rows reach as far as the entry
-  pub stopped_at : (start : ℕ) → IsEntryRow text n place spans None → IsRulePlace text fault start
-  stopped_at start stopped = by (breaks fault is)
-    where
-      by : Breaks text origin class fault → IsRulePlace text fault start
-      by (other all) = all start
-      by (reached {n = m} {before = before} {entry = entry} same reaches needs) =
-          let numbers : m ≡ n = cc in
-          let passed = stopped.1.1 in
-          let rows = all_rows passed.begins stopped.0 reaches.begins in
-          absurd (omega (
-            arith,
-            numbers,
-            reaches.counted,
-            stopped.1.2,
-            passed.counted,
-            ap (count_by has_tokens) rows.is,
-            sum_by-append (λ (r : TokenRow). cond (has_tokens r) 1 0) reaches.rows rows.behind,
-            entries_counted reaches.are,
-            length-append before (entry ∷ []),
-          ))
+    by : Breaks text is.origin class fault → IsRulePlace text fault start
+    by (other all) = all start
+    by (reached {n = m} same reaches needs) =
+        let numbered = is.numbered in
+        let numbers : m ≡ is.n = cc in
+        needs start (record {
+          rows = row.0.rows;
+          row = record { blank_led = is_led (drop place text); tokens = map (λ span. token_in text span) spans };
+          left = drop place text;
+          rest = drop row.2.0 text;
+          begins = row.0.begins;
+          counted = omega (arith, numbers, reaches.counted, row.0.counted);
+          entry = BeginsWithRows.more row.2.1.row BeginsWithRows.none;
+          some = spans_true text spans row.1;
+          place_is = there;
+        })
+
+-- the rows reach as far as the entry
+pub stopped_at : (text : List ℕ) (class place start : ℕ) (fault : ZoneError) (spans : List TokenSpan)
+    → IsFaultRow text class fault place spans None → IsRulePlace text fault start
+stopped_at text class place start fault spans is = by (breaks fault is.breaks)
+  where
+    stopped : IsEntryRow text is.n place spans None
+    stopped = is.row
+
+    by : Breaks text is.origin class fault → IsRulePlace text fault start
+    by (other all) = all start
+    by (reached {n = m} {before = before} {entry = entry} same reaches needs) =
+        let numbered = is.numbered in
+        let numbers : m ≡ is.n = cc in
+        let passed = stopped.1.1 in
+        let rows = all_rows passed.begins stopped.0 reaches.begins in
+        absurd (omega (
+          arith,
+          numbers,
+          reaches.counted,
+          stopped.1.2,
+          passed.counted,
+          ap (count_by has_tokens) rows.is,
+          sum_by-append (λ (r : TokenRow). cond (has_tokens r) 1 0) reaches.rows rows.behind,
+          entries_counted reaches.are,
+          length-append before (entry ∷ []),
+        ))
+
+-- a rule that breaks at no entry's start
+pub any_place : {E : Type 0} (P : Type 0) (text : List ℕ) (fault : ZoneError) (result : Result Located E)
+    → ((place : ℕ) → IsRulePlace text fault place) → IfOk result (λ located. P → IsRulePlace text fault located.start)
+any_place P text fault (Ok located) all = λ _. all located.start
+any_place P text fault (Err error) all = tt

@@ -3,6 +3,7 @@ use Rattle.std.specs.Prelude.{◌≡◌, ◌<◌, ◌≤◌, ◌-◌, ℕ, Bool,
 use Rattle.dns_text.specs.Rows.{BeginsWithRows, TokenRow}
 use Rattle.dns_entry_scanner.specs.RowFound.{IsRowAt, NoRow}
 use Rattle.dns_entry_scanner.specs.declared.token_span.TokenSpan.{TokenSpan}
+use Rattle.zone.specs.ZoneText.{IsZoneFault}
 use Rattle.zone.specs.declared.zone_error.ZoneError.{ZoneError}
 use Rattle.zone.specs.declared.zone_error.ZoneError.TheVariants as zone_error
 use Rattle.zone_tool.specs.Explained.{has_tokens}
@@ -32,3 +33,11 @@ IsEntryRow text n place spans (Some blank_led) =
     HasPassed text place (n - 1) × (0 < length spans) × ((next : ℕ) × IsRowAt text place spans next blank_led)
 IsEntryRow text n place spans None =
     NoRow (drop place text) × ((count : ℕ) × HasPassed text place count × (count ≤ n - 1))
+
+-- The entry that breaks the rule is looked for at the place: its row is found there, or no row.
+pub record IsFaultRow (text : List ℕ) (class : ℕ) (fault : ZoneError) (place : ℕ) (spans : List TokenSpan) (blank_led : Option Bool) : Type 0 where
+  pub origin : Option (List (List ℕ))
+  pub n : ℕ
+  pub breaks : IsZoneFault text origin class fault
+  pub numbered : number_of fault ≡ Some n
+  pub row : IsEntryRow text n place spans blank_led

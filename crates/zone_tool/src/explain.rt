@@ -1,8 +1,8 @@
 //! Why a zone's text is refused.
-ghost use Rattle.std.specs.Prelude.{◌≡◌, ℕ, List, Option, Some, option_copied, IfOk, IfNone};
+ghost use Rattle.std.specs.Prelude.{◌≡◌, ℕ, List, option_copied, IfOk, IfNone};
 ghost use Rattle.dns_zonefile.specs.Reader.{line_at};
 ghost use Rattle.zone.specs.ZoneText.{IsZoneFault};
-ghost use Rattle.zone_tool.specs.EntryRow.{IsEntryRow, number_of};
+ghost use Rattle.zone_tool.specs.EntryRow.{IsFaultRow, number_of};
 ghost use Rattle.zone_tool.specs.Explained.{IsExplained, IsRulePlace};
 
 mod broken_row;
@@ -70,21 +70,25 @@ fn finding_of(
 ) -> Result<Finding, AllocError>
     ensures fault { IfOk result (λ finding. finding.fault ≡ fault) }
     ensures line { IfOk result (λ finding. finding.line ≡ line_at text.now finding.located.start) }
-    ensures entry { IsZoneFault text.now (option_copied origin.entry) class fault → IfOk result (λ finding. IsRulePlace text.now fault finding.located.start) }
+    ensures entry { IfOk result (λ finding. IsZoneFault text.now (option_copied origin.entry) class fault
+        → IsRulePlace text.now fault finding.located.start) }
 {
-    let (located, apex) = match entry_of(fault) {
-        Some(number) => {
-            let row = entry_row(alloc, text, origin, number)?;
-            (entry_fault(alloc, text, &row, class, fault)?, row.apex)
-        }
-        None => (whole_text(fault), None),
+    let Some(number) = entry_of(fault) else {
+        let located = whole_text(fault);
+        return Ok(Finding {
+            fault,
+            located,
+            line: line_of(text, located.start),
+            apex: None,
+        });
     };
-    let line = line_of(text, located.start);
+    let row = entry_row(alloc, text, origin, number)?;
+    let located = entry_fault(alloc, text, &row, class, fault)?;
     Ok(Finding {
         fault,
         located,
-        line,
-        apex,
+        line: line_of(text, located.start),
+        apex: row.apex,
     })
 }
 
@@ -96,9 +100,8 @@ fn entry_fault(
     class: Class,
     fault: ZoneError,
 ) -> Result<Located, AllocError>
-    ensures { (origin : Option (List (List ℕ))) (n : ℕ) → IsZoneFault text.now origin class fault → number_of fault ≡ Some n
-        → IsEntryRow text.now n row.now.place row.now.spans.items row.now.blank_led
-        → IfOk result (λ located. IsRulePlace text.now fault located.start) }
+    ensures { IfOk result (λ located. IsFaultRow text.now class fault row.now.place row.now.spans.items row.now.blank_led
+        → IsRulePlace text.now fault located.start) }
 {
     let Some(blank_led) = row.blank_led else {
         return Ok(broken_row_fault(text, row.place));
@@ -131,7 +134,8 @@ fn whole_text(fault: ZoneError) -> Located {
 
 /// Returns the number of the entry that breaks the rule.
 fn entry_of(fault: ZoneError) -> Option<usize>
-    ensures { result ≡ number_of fault }
+    ensures number { result ≡ number_of fault }
+    ensures whole { IfNone result ((text : List ℕ) (place : ℕ) → IsRulePlace text fault place) }
 {
     match fault {
         ZoneError::Text(number)
