@@ -1,5 +1,5 @@
 -- The row of the entry that breaks a rule.
-use Rattle.std.proofs.Common.{◌≡◌, ◌<◌, ◌≤◌, ◌-◌, ◌+◌, ◌++◌, ◌∙◌, ℕ, suc, min, Bool, true, List, [], ◌∷◌, Option, Some, None, Result, Ok, Err, drop, length, map, cond, refl, ap, arith, length-append}
+use Rattle.std.proofs.Common.{◌≡◌, ◌<◌, ◌+◌, ◌++◌, ◌∙◌, ℕ, min, Bool, true, List, [], ◌∷◌, Option, Some, None, Result, Ok, Err, drop, length, map, cond, refl, ap, arith, length-append}
 use Rattle.std.specs.Prelude.{count_by, IfOk}
 use Rattle.std.proofs.lemmas.List.Sums.{sum_by-append}
 use Rattle.dns_scan.specs.Token.{Token}

@@ -21,20 +21,20 @@ number_of (zone_error.Unspellable n) = Some n
 number_of zone_error.NoSoa = None
 number_of zone_error.OutOfMemory = None
 
--- before the place there are rows, and so many of them are entries
+-- rows begin the text up to the place, and so many of them are entries
 pub record HasPassed (text : List ℕ) (place count : ℕ) : Type 0 where
   pub rows : List TokenRow
   pub begins : BeginsWithRows text rows (drop place text)
   pub counted : count ≡ count_by has_tokens rows
 
--- At the place is the row of the n-th entry. With None there is no row, and no n entries are before it.
+-- At the place is the row of the n-th entry. With None there is no row, and at most n - 1 entries are before it.
 abbrev pub IsEntryRow : List ℕ → ℕ → ℕ → List TokenSpan → Option Bool → Type 0
 IsEntryRow text n place spans (Some blank_led) =
     HasPassed text place (n - 1) × (0 < length spans) × ((next : ℕ) × IsRowAt text place spans next blank_led)
 IsEntryRow text n place spans None =
     NoRow (drop place text) × ((count : ℕ) × HasPassed text place count × (count ≤ n - 1))
 
--- The entry that breaks the rule is looked for at the place: its row is found there, or no row.
+-- Of the entry that breaks the rule, this row is found, or none.
 pub record IsFaultRow (text : List ℕ) (class : ℕ) (fault : ZoneError) (place : ℕ) (spans : List TokenSpan) (blank_led : Option Bool) : Type 0 where
   pub origin : Option (List (List ℕ))
   pub n : ℕ

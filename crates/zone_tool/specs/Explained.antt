@@ -1,5 +1,5 @@
 -- Which rule of a zone's text is broken first, and where (RFC 1035 5).
-use Rattle.std.specs.Prelude.{◌≡◌, ◌≢◌, ◌≤◌, ℕ, suc, Bool, true, false, if◌then◌else◌, ⊤, List, [], ◌∷◌, Option, Some, None, drop, length, count_by}
+use Rattle.std.specs.Prelude.{◌≡◌, ◌≢◌, ℕ, suc, Bool, true, false, if◌then◌else◌, ⊤, List, [], ◌∷◌, Option, Some, None, drop, count_by}
 use Rattle.dns_scan.specs.Token.{Token}
 use Rattle.dns_text.specs.Rows.{BeginsWithRows, TokenRow}
 use Rattle.dns_text.specs.Tokens.{is_gap}
@@ -10,6 +10,7 @@ use Rattle.zone.specs.declared.zone_error.ZoneError.{ZoneError}
 use Rattle.zone.specs.declared.zone_error.ZoneError.TheVariants as zone_error
 use Rattle.zone_tool.specs.declared.explain.Finding.{Finding}
 
+-- whether there are tokens
 abbrev pub any_tokens : List Token → Bool
 any_tokens [] = false
 any_tokens (token ∷ tokens) = true
@@ -23,7 +24,8 @@ abbrev pub behind_blanks : List ℕ → List ℕ
 behind_blanks [] = []
 behind_blanks (octet ∷ rest) = if is_gap octet then behind_blanks rest else octet ∷ rest
 
--- The n-th entry of the text begins at the place, behind the white space that its row begins with.
+-- The n-th entry of the text begins at the place, behind the white space that its row begins with: rows with n - 1 entries
+-- are before its row, which has tokens.
 pub record BeginsAt (text : List ℕ) (n place : ℕ) : Type 0 where
   pub rows : List TokenRow
   pub row : TokenRow
@@ -35,7 +37,7 @@ pub record BeginsAt (text : List ℕ) (n place : ℕ) : Type 0 where
   pub some : has_tokens row ≡ true
   pub place_is : drop place text ≡ behind_blanks left
 
--- the place of a rule: where an entry reads and breaks the rule, it begins there
+-- If an entry reads but breaks the rule, it begins at the place.
 abbrev pub IsRulePlace : List ℕ → ZoneError → ℕ → Type 0
 IsRulePlace text zone_error.ClassAny place = ⊤
 IsRulePlace text (zone_error.Text n) place = ⊤

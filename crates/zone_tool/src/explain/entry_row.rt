@@ -1,5 +1,5 @@
 //! The row of an entry of a zone's text.
-ghost use Rattle.std.specs.Prelude.{◌≡◌, ◌<◌, drop, IfOk, OnOk};
+ghost use Rattle.std.specs.Prelude.{◌≡◌, drop, IfOk};
 ghost use Rattle.zone_tool.specs.Explained.{behind_blanks as spec_behind_blanks};
 ghost use Rattle.zone_tool.specs.EntryRow.{IsEntryRow};
 
@@ -48,6 +48,7 @@ pub(crate) fn entry_row(
         first_record: None,
         apex: None,
     };
+    // The number of entries from the place up to that one.
     let mut left = number;
     loop {
         let RowFound::Row { next, blank_led } = read_row(text, row.place, &mut row.spans)? else {
@@ -67,17 +68,19 @@ pub(crate) fn entry_row(
 }
 
 impl EntryRow {
-    /// Returns the reason with the place of the first octet of the row that is no white space, and with the end of the
-    /// token that begins there, if one does.
+    /// Returns the reason with the place of the first octet of the row that is no white space. It goes up to the end of
+    /// the token that begins there, if one does.
     pub(crate) fn at_start(&self, text: &[u8], reason: Reason) -> Located
         ensures { drop result.start text.now ≡ spec_behind_blanks (drop self.now.place text.now) }
     {
         let start = behind_blanks(text, self.place);
-        let end = match self.spans.first() {
-            Some(first) if first.start() == start.saturating_add(usize::from(first.is_quoted())) =>
-                { first.start().saturating_add(first.len()) }
-            _ => start.saturating_add(1),
-        };
+        let mut end = start.saturating_add(1);
+        if let Some(first) = self.spans.first() {
+            let quotes = usize::from(first.is_quoted());
+            if first.start() == start.saturating_add(quotes) {
+                end = first.start().saturating_add(first.len());
+            }
+        }
         Located { reason, start, end }
     }
 

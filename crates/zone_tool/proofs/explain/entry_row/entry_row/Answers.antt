@@ -1,4 +1,4 @@
-use Rattle.std.proofs.Common.{◌≡◌, ◌≤◌, ◌-◌, arith, length}
+use Rattle.std.proofs.Common.{◌≡◌, ◌≤◌, arith, length}
 use Rattle.std.proofs.lemmas.Bool.Decides.{nat_tests}
 use Rattle.zone_tool.proofs.EntryRows.{no_row, passes_also, passes_nothing, passes_row}
 use Rattle.zone_tool.proofs.explain.entry_row.entry_row.Goals as goal
