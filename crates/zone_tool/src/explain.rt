@@ -32,7 +32,7 @@ use zone::{Zone, ZoneError};
 pub struct Finding {
     /// The rule, with the number of the entry that breaks it.
     pub fault: ZoneError,
-    /// The token that breaks it, and why. If an entry reads but breaks it, the place is where the entry begins, behind
+    /// The token that breaks it, and why. If an entry reads but breaks it, the place is where the entry begins, after
     /// white space.
     pub located: Located,
     /// The number of the token's line, counted from 1.
