@@ -1,5 +1,6 @@
 mod ChangeTexts
 mod ComparedRecords
+mod EntryRows
 mod ShortQueries
 mod SoaData
 mod SortedTexts

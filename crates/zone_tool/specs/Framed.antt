@@ -1,4 +1,4 @@
--- A message behind its length, as TCP sends it (RFC 1035 4.2.2).
+-- A message after its length, as TCP sends it (RFC 1035 4.2.2).
 use Rattle.std.specs.Prelude.{ℕ, List, length, ◌++◌}
 use Rattle.std.specs.Int.{to_be_bytes, w16}
 

@@ -1,4 +1,5 @@
 pub mod Differences
+pub mod EntryRow
 pub mod Explained
 pub mod Framed
 pub mod RecordWriter

@@ -1,7 +1,9 @@
 //! Why a zone's text is refused.
-ghost use Rattle.std.specs.Prelude.{◌≡◌, option_copied, IfOk};
+ghost use Rattle.std.specs.Prelude.{◌≡◌, ℕ, List, option_copied, IfOk, IfNone};
 ghost use Rattle.dns_zonefile.specs.Reader.{line_at};
-ghost use Rattle.zone_tool.specs.Explained.{IsExplained};
+ghost use Rattle.zone.specs.ZoneText.{IsZoneFault};
+ghost use Rattle.zone_tool.specs.EntryRow.{IsFaultRow, number_of};
+ghost use Rattle.zone_tool.specs.Explained.{IsExplained, IsRulePlace};
 
 mod broken_row;
 mod entry_row;
@@ -30,7 +32,8 @@ use zone::{Zone, ZoneError};
 pub struct Finding {
     /// The rule, with the number of the entry that breaks it.
     pub fault: ZoneError,
-    /// The token that breaks it, and why.
+    /// The token that breaks it, and why. If an entry reads but breaks it, the place is where the entry begins, after
+    /// white space.
     pub located: Located,
     /// The number of the token's line, counted from 1.
     pub line: usize,
@@ -68,20 +71,25 @@ fn finding_of(
 ) -> Result<Finding, AllocError>
     ensures fault { IfOk result (λ finding. finding.fault ≡ fault) }
     ensures line { IfOk result (λ finding. finding.line ≡ line_at text.now finding.located.start) }
+    ensures entry { IfOk result (λ finding. IsZoneFault text.now (option_copied origin.entry) class fault
+        → IsRulePlace text.now fault finding.located.start) }
 {
-    let (located, apex) = match entry_of(fault) {
-        Some(number) => {
-            let row = entry_row(alloc, text, origin, number)?;
-            (entry_fault(alloc, text, &row, class, fault)?, row.apex)
-        }
-        None => (whole_text(fault), None),
+    let Some(number) = entry_of(fault) else {
+        let located = whole_text(fault);
+        return Ok(Finding {
+            fault,
+            located,
+            line: line_of(text, located.start),
+            apex: None,
+        });
     };
-    let line = line_of(text, located.start);
+    let row = entry_row(alloc, text, origin, number)?;
+    let located = entry_fault(alloc, text, &row, class, fault)?;
     Ok(Finding {
         fault,
         located,
-        line,
-        apex,
+        line: line_of(text, located.start),
+        apex: row.apex,
     })
 }
 
@@ -92,10 +100,16 @@ fn entry_fault(
     row: &EntryRow,
     class: Class,
     fault: ZoneError,
-) -> Result<Located, AllocError> {
+) -> Result<Located, AllocError>
+    ensures { IfOk result (λ located. IsFaultRow text.now class fault row.now.place row.now.spans.items row.now.blank_led
+        → IsRulePlace text.now fault located.start) }
+{
     let Some(blank_led) = row.blank_led else {
         return Ok(broken_row_fault(text, row.place));
     };
+    if let Some(reason) = rule_reason(fault, text, row) {
+        return Ok(row.at_start(text, reason));
+    }
     let tokens = TokenRow {
         alloc,
         text,
@@ -103,10 +117,7 @@ fn entry_fault(
         blank_led,
         class,
     };
-    match rule_reason(fault, text, row) {
-        Some(reason) => Ok(tokens.at(0, reason)),
-        None => tokens.fault(),
-    }
+    tokens.fault()
 }
 
 /// Returns the place of a rule that no entry breaks.
@@ -123,7 +134,10 @@ fn whole_text(fault: ZoneError) -> Located {
 }
 
 /// Returns the number of the entry that breaks the rule.
-fn entry_of(fault: ZoneError) -> Option<usize> {
+fn entry_of(fault: ZoneError) -> Option<usize>
+    ensures number { result ≡ number_of fault }
+    ensures whole { IfNone result ((text : List ℕ) (place : ℕ) → IsRulePlace text fault place) }
+{
     match fault {
         ZoneError::Text(number)
         | ZoneError::Include(number)
@@ -137,7 +151,9 @@ fn entry_of(fault: ZoneError) -> Option<usize> {
 }
 
 /// Returns why an entry that reads breaks the rule, or None if it does not read.
-fn rule_reason(fault: ZoneError, text: &[u8], row: &EntryRow) -> Option<Reason> {
+fn rule_reason(fault: ZoneError, text: &[u8], row: &EntryRow) -> Option<Reason>
+    ensures { IfNone result ((other : List ℕ) (place : ℕ) → IsRulePlace other fault place) }
+{
     match fault {
         ZoneError::Include(_) => Some(Reason::Include),
         ZoneError::Untyped(_) => Some(Reason::Untyped),
@@ -148,6 +164,7 @@ fn rule_reason(fault: ZoneError, text: &[u8], row: &EntryRow) -> Option<Reason> 
         }
         ZoneError::OutOfZone(_) => Some(Reason::OutOfZone),
         ZoneError::Unspellable(_) => Some(Reason::Unspellable),
-        _ => None,
+        ZoneError::ClassAny | ZoneError::Text(_) | ZoneError::NoSoa | ZoneError::OutOfMemory =>
+            None,
     }
 }

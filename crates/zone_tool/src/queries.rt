@@ -7,7 +7,7 @@ use dns_name::{Class, Name};
 use std::alloc::{AllocError, Global};
 use zone_core::axfr_query;
 
-/// Returns the query for the transfer of the zone with this name and class (RFC 5936 2.1), behind its length, as TCP
+/// Returns the query for the transfer of the zone with this name and class (RFC 5936 2.1), after its length, as TCP
 /// sends it (RFC 1035 4.2.2). Fails if out of memory.
 pub fn framed_query(
     alloc: Global,

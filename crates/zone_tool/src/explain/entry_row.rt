@@ -1,6 +1,11 @@
 //! The row of an entry of a zone's text.
+ghost use Rattle.std.specs.Prelude.{◌≡◌, drop, IfOk};
+ghost use Rattle.zone_tool.specs.Explained.{behind_blanks as spec_behind_blanks};
+ghost use Rattle.zone_tool.specs.EntryRow.{IsEntryRow};
 
+use super::located::Located;
 use super::outcome::read_or_refused;
+use super::reason::Reason;
 use super::words::begins_with_dollar;
 use dns_entry_scanner::{RowFound, RowScanner, TokenSpan, read_row};
 use dns_name::{Name, ToName};
@@ -28,41 +33,61 @@ pub(crate) fn entry_row(
     text: &[u8],
     origin: Option<&Name<&[u8]>>,
     number: usize,
-) -> Result<EntryRow, AllocError> {
+) -> Result<EntryRow, AllocError>
+    ensures { IfOk result (λ row. IsEntryRow text.now number row.place row.spans.items row.blank_led) }
+{
+    let origin = match origin {
+        Some(origin) => Some(origin.to_vec(alloc)?),
+        None => None,
+    };
     let mut row = EntryRow {
         place: 0,
         blank_led: None,
         spans: Vec::new(alloc),
-        origin: None,
+        origin,
         first_record: None,
         apex: None,
     };
-    if let Some(origin) = origin {
-        row.origin = Some(origin.to_vec(alloc)?);
-    }
-    let mut count: usize = 0;
-    // A row has at least its line feed.
-    for _ in 0..=text.len() {
+    // The number of entries from the place up to that one.
+    let mut left = number;
+    loop {
         let RowFound::Row { next, blank_led } = read_row(text, row.place, &mut row.spans)? else {
-            break;
+            row.blank_led = None;
+            return Ok(row);
         };
         row.blank_led = Some(blank_led);
         if !row.spans.is_empty() {
-            count = count.saturating_add(1);
-            if count >= number {
+            if left <= 1 {
                 return Ok(row);
             }
+            left -= 1;
             row.pass(alloc, text)?;
         }
         row.place = next;
     }
-    row.blank_led = None;
-    Ok(row)
 }
 
 impl EntryRow {
+    /// Returns the reason with the place of the first octet of the row that is no white space. It goes up to the end of
+    /// the token that begins there, if one does.
+    pub(crate) fn at_start(&self, text: &[u8], reason: Reason) -> Located
+        ensures { drop result.start text.now ≡ spec_behind_blanks (drop self.now.place text.now) }
+    {
+        let start = behind_blanks(text, self.place);
+        let mut end = start.saturating_add(1);
+        if let Some(first) = self.spans.first() {
+            let quotes = usize::from(first.is_quoted());
+            if first.start() == start.saturating_add(quotes) {
+                end = first.start().saturating_add(first.len());
+            }
+        }
+        Located { reason, start, end }
+    }
+
     /// Applies what the row sets for those after it. Fails if out of memory.
-    fn pass(&mut self, alloc: Global, text: &[u8]) -> Result<(), AllocError> {
+    fn pass(&mut self, alloc: Global, text: &[u8]) -> Result<(), AllocError>
+        ensures { self.new.place ≡ self.old.place }
+    {
         let spans = self.spans.as_slice();
         let Some((first, behind)) = spans.split_first() else {
             return Ok(());
@@ -100,4 +125,18 @@ fn name_in(
         Some(name) => Ok(Some(name.to_vec(alloc)?)),
         None => Ok(None),
     }
+}
+
+/// Returns the offset of the first octet from this offset on that is no white space.
+fn behind_blanks(text: &[u8], offset: usize) -> usize
+    ensures { drop result text.now ≡ spec_behind_blanks (drop offset text.now) }
+{
+    let mut at = offset;
+    while at < text.len() {
+        match text[at] {
+            b' ' | b'\t' | b'\r' => at += 1,
+            _ => break,
+        }
+    }
+    at
 }

@@ -58,7 +58,7 @@ fn line_start(text: &[u8], offset: usize) -> usize
     }
 }
 
-/// Returns the offset behind the last octet of the line of an offset.
+/// Returns the offset after the last octet of the line of an offset.
 fn line_end(text: &[u8], offset: usize) -> usize
     ensures within { result ≤ length text.now }
     ensures behind { offset ≤ length text.now → offset ≤ result }

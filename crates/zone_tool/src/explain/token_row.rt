@@ -60,7 +60,7 @@ impl<'t> TokenRow<'t> {
         }
     }
 
-    /// Returns the reason with the place of the token at the index, or that behind the last token.
+    /// Returns the reason with the place of the token at the index, or that after the last token.
     pub(crate) fn at(&self, index: usize, reason: Reason) -> Located {
         if let Some(span) = self.spans().get(index) {
             let start = span.start().min(self.text.len());

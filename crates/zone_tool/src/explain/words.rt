@@ -83,7 +83,7 @@ fn is_base64(octet: u8) -> bool {
     octet.is_ascii_alphanumeric() || octet == b'+' || octet == b'/' || octet == b'='
 }
 
-/// Returns the seconds of a TTL with units, as other programs write it: numbers, each with a letter of `smhdw` behind it.
+/// Returns the seconds of a TTL with units, as other programs write it: numbers, each with a letter of `smhdw` after it.
 fn seconds_with_units(word: &[u8]) -> Option<u32> {
     let mut whole: u32 = 0;
     let mut number: Option<u32> = None;
@@ -154,7 +154,7 @@ fn common_len(word: &[u8], other: &[u8]) -> usize {
     len
 }
 
-/// Returns the octets behind the first one, or none.
+/// Returns the octets after the first one, or none.
 fn behind_first(octets: &[u8]) -> &[u8] {
     match octets.split_first() {
         Some((_, behind)) => behind,

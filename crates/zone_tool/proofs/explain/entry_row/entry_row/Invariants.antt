@@ -1,0 +1,13 @@
+use Rattle.std.proofs.Common.{◌≤◌, ◌-◌, length}
+use Rattle.zone_tool.specs.EntryRow.{HasPassed}
+use Rattle.zone_tool.proofs.explain.entry_row.entry_row.Given as goal
+
+abbrev pub invariant-loop-row : goal.invariant-loop-row
+invariant-loop-row l = record {
+  passed : HasPassed l.text l.row.place (l.number - l.left);
+  most : l.left ≤ l.number;
+  few : l.number - l.left ≤ l.number - 1;
+}
+
+abbrev pub decreases-loop-row : goal.decreases-loop-row
+decreases-loop-row l = length l.text - l.row.place
