@@ -1,5 +1,10 @@
+mod Ascending
 mod ChangeTexts
 mod ComparedRecords
+mod CountedOwners
+mod Counters
+mod Elements
+mod OwnQueries
 mod ShortQueries
 mod SoaData
 mod SortedTexts

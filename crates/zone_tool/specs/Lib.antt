@@ -1,6 +1,8 @@
+pub mod Counting
 pub mod Differences
 pub mod Explained
 pub mod Framed
 pub mod RecordWriter
 pub mod Selected
 pub mod Sorted
+pub mod Statistics
