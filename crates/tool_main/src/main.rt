@@ -5,6 +5,7 @@
 mod command_line;
 mod fault;
 mod input;
+mod table;
 mod tasks;
 #[cfg(test)]
 mod tests;
