@@ -305,6 +305,22 @@ def explained(text, said, width=None, words="explain", file="-"):
     return Case(words, 1, f"{file}:{said}\n{shown}\n{mark}\n", given=text)
 
 
+def stats(*rows):
+    """The table of `stats`: the numbers of records and names, and the octets of each spelling, the same for both sizes of messages."""
+    *numbers, octets = rows
+    sizes = [(f"{word} {most}", count) for word, count in zip(("plain", "static", "tree", "hash"), octets) for most in (16384, 65535)]
+    return "".join(f"{name:16}{count}\n" for name, count in [*numbers, *sizes])
+
+
+# A stream has a message: its length, its header and its question, and each record of the zone with the SOA again.
+STATS = [
+    Case("stats soa", 0, stats(("records", 1), ("SOA", 1), ("names", 1), ("delegations", 0), (99, 95, 95, 95))),
+    Case("stats", 0, stats(("records", 1), ("SOA", 1), ("names", 1), ("delegations", 0), (99, 95, 95, 95)), given=SOA),
+    Case("stats missing", 2, said="zonetool: missing: read failed: No such file or directory (os error 2)"),
+    Case("stats two-soas", 2, said="zonetool: two-soas: entry 3: second SOA"),
+    Case("stats one one", 2, said=unexpected("one")),
+    Case("stats one --layout simple", 2, said=unexpected("--layout")),
+]
 EXPLAIN = [
     *(explained(TOP + text, *said) for text, *said in ROWS + DIRECTIVES + HEADS + DATA + RULES),
     *(Case("explain", given=TOP + text) for text in KEPT),
@@ -374,7 +390,7 @@ def differences(case, status, out, said):
 
 def judged(program):
     """How many cases there are, and the lines of each that differs."""
-    cases, found = DIFF + SORT + QUERY + EXPLAIN + LINES, []
+    cases, found = DIFF + SORT + STATS + QUERY + EXPLAIN + LINES, []
     with tempfile.TemporaryDirectory(prefix="zonetool-") as name:
         folder = Path(name)
         (folder / "folder").mkdir()

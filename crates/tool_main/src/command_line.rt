@@ -67,6 +67,7 @@ pub(crate) fn task_of<'a>(alloc: Global, words: &'a [&'a str]) -> Result<Task<'a
         "explain" => explain_task(alloc, options),
         "diff" => diff_task(alloc, options),
         "sort" => sort_task(alloc, options),
+        "stats" => stats_task(alloc, options),
         "query" => query_task(alloc, options),
         _ => Err(WordsFault::NoCommand),
     }
@@ -106,6 +107,14 @@ fn sort_task<'a>(alloc: Global, options: &ArgMatches<'a>) -> Result<Task<'a>, Wo
         file: file_or_input(options, "file"),
         reading,
         layout: layout(options),
+    })
+}
+
+fn stats_task<'a>(alloc: Global, options: &ArgMatches<'a>) -> Result<Task<'a>, WordsFault> {
+    let reading = reading(alloc, options)?;
+    Ok(Task::Stats {
+        file: file_or_input(options, "file"),
+        reading,
     })
 }
 
@@ -185,15 +194,17 @@ fn command<'a>(alloc: Global) -> Result<Command<'a>, AllocError> {
     let explain = explain_command(alloc)?;
     let diff = diff_command(alloc)?;
     let sort = sort_command(alloc)?;
+    let stats = stats_command(alloc)?;
     let query = query_command(alloc)?;
     Command::new(alloc, "zonetool")
-        .about("Checks, compares and sorts DNS zones, and asks for their transfers")
+        .about("Checks, compares, sorts and counts DNS zones, and asks for their transfers")
         .version("0.1.0")
         .subcommand_required(true)
         .disable_help_subcommand(true)
         .subcommand(explain)?
         .subcommand(diff)?
         .subcommand(sort)?
+        .subcommand(stats)?
         .subcommand(query)
 }
 
@@ -235,6 +246,15 @@ fn sort_command<'a>(alloc: Global) -> Result<Command<'a>, AllocError> {
                 .value_parser(LAYOUTS)
                 .help("How the text is laid out"),
         )
+}
+
+fn stats_command<'a>(alloc: Global) -> Result<Command<'a>, AllocError> {
+    let bare = Command::new(alloc, "stats").about(
+        "Prints the numbers of a zone and of its transfer",
+    );
+    with_text_options(alloc, bare)?.arg(argument(alloc, "file", "FILE").help(
+        "The zone, - or left out for standard input",
+    ))
 }
 
 fn query_command<'a>(alloc: Global) -> Result<Command<'a>, AllocError> {

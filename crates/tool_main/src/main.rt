@@ -1,10 +1,11 @@
-//! The program `zonetool`: why a zone is refused, what changed between two zones, a zone in canonical order, and the query
-//! for a transfer.
+//! The program `zonetool`: why a zone is refused, what changed between two zones, a zone in canonical order, the numbers of
+//! a zone, and the query for a transfer.
 #![tactic(auto)]
 
 mod command_line;
 mod fault;
 mod input;
+mod table;
 mod tasks;
 #[cfg(test)]
 mod tests;

@@ -2,6 +2,7 @@
 
 use crate::fault::Fault;
 use crate::input::{Reading, read_text, read_zone};
+use crate::table::table_of;
 use dns_name::{Class, Name};
 use dns_text::DisplayKind;
 use std::io::Write;
@@ -38,6 +39,13 @@ pub(crate) enum Task<'a> {
         /// How the text is laid out.
         layout: DisplayKind,
     },
+    /// Writes the numbers of the zone of a file.
+    Stats {
+        /// The zone's file.
+        file: &'a str,
+        /// How the zone is read.
+        reading: Reading,
+    },
     /// Writes the query for a zone's transfer, after its length.
     Query {
         /// The zone's name.
@@ -73,6 +81,11 @@ pub(crate) fn perform<'a>(rt: &HostRuntime, task: &Task<'a>) -> Result<bool, Fau
             let zone = read_zone(rt, *file, reading)?;
             let text = sorted(rt.alloc(), &zone, *layout)?;
             write_all(rt, text.as_slice())?;
+            Ok(true)
+        }
+        Task::Stats { file, reading } => {
+            let zone = read_zone(rt, *file, reading)?;
+            write_all(rt, table_of(rt.alloc(), &zone)?.as_bytes())?;
             Ok(true)
         }
         Task::Query { apex, class, id } => {

@@ -1,6 +1,7 @@
 //! Tests of what the program writes, by examples worked out by hand.
 
 use crate::command_line::task_of;
+use crate::table::table_of;
 use dns_name::{Class, Name, Rtype};
 use dns_text::DisplayKind;
 use std::alloc::Global;
@@ -76,6 +77,16 @@ fn a_query_after_its_length(rt: HostRuntime) -> Result<(), Fail> {
     let wanted: &[u8] =
         b"\x00\x13\x12\x34\x00\x00\x00\x01\x00\x00\x00\x00\x00\x00\x01a\x00\x00\xfc\x00\x01";
     assert!(rt; query.as_slice() == wanted);
+    Ok(())
+}
+
+#[test]
+fn numbers_of_a_zone(rt: HostRuntime) -> Result<(), Fail> {
+    let alloc = rt.alloc();
+    let table = table_of(alloc, &zone_of(alloc, MIXED)?)?;
+    let wanted =
+        "records         4\nA               3\nSOA             1\nnames           3\ndelegations     0\n";
+    assert!(rt; table.as_str().starts_with(wanted));
     Ok(())
 }
 

@@ -1,6 +1,11 @@
+mod Ascending
 mod ChangeTexts
 mod ComparedRecords
 mod EntryRows
+mod CountedOwners
+mod Counters
+mod Elements
+mod OwnQueries
 mod ShortQueries
 mod SoaData
 mod SortedTexts

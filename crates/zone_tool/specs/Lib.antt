@@ -1,3 +1,4 @@
+pub mod Counting
 pub mod Differences
 pub mod EntryRow
 pub mod Explained
@@ -5,3 +6,4 @@ pub mod Framed
 pub mod RecordWriter
 pub mod Selected
 pub mod Sorted
+pub mod Statistics
