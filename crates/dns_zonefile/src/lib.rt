@@ -32,4 +32,4 @@ pub use dns_entry_scanner::{
 pub use entry::{ComposedEntry, Entry, IncludedFile, ScannedRecord, ScannedRecordData};
 pub use error::Error;
 pub use statement::{Stated, Statement, scan_statement};
-pub use zonefile::Zonefile;
+pub use zonefile::{Zonefile, line_behind};

@@ -1,5 +1,5 @@
 //! Readers of zone files.
-ghost use Rattle.std.specs.Prelude.{◌≡◌, ◌≤◌, ◌++◌, [], Some, None, length, vec_capacity, OnOk, OnErr, IfOk};
+ghost use Rattle.std.specs.Prelude.{◌≡◌, ◌≤◌, ◌++◌, [], Some, None, length, option_copied, vec_capacity, OnOk, OnErr, IfOk};
 
 mod pass_over;
 mod read;
@@ -8,6 +8,7 @@ use crate::Error;
 use crate::context::Context;
 use dns_entry_scanner::TokenSpan;
 use dns_name::{Class, Name};
+pub use read::line_behind;
 use std::alloc::{AllocError, Global};
 
 /// A reader of a zone file. The caller supplies its text, at once or in pieces.
@@ -104,6 +105,20 @@ impl Zonefile {
         ensures refused { refused_in self.new ≡ refused_in self.old }
     {
         self.context.class = Some(class);
+    }
+
+    /// Returns the offset in the text of the first row that is not yet read.
+    pub fn place(&self) -> usize
+        ensures { result ≡ (reader_of self.now).place }
+    {
+        self.place
+    }
+
+    /// Returns the origin of the names in the rows that are not yet read, if there is one.
+    pub fn origin(&self) -> Option<&Name<Vec<u8>>>
+        ensures { option_copied result ≡ (reader_of self.now).context.origin }
+    {
+        self.context.origin.as_ref()
     }
 
     /// Returns the number of entries that were read: records, includes and directives. An entry that failed counts too.

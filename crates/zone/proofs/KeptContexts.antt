@@ -81,3 +81,10 @@ entries_fit named AreEntries.none = tt
 entries_fit named (AreEntries.bare are) = entries_fit named are
 entries_fit named (AreEntries.entry is are) =
     let here = entered named is.says is.enters in (here.1, entries_fit here.0 are)
+
+-- and the origin after them is a name too
+pub entries_named : {context after : Context} {rows : List TokenRow} {all : List Entry} → IfSome context.origin IsName
+    → AreEntries context rows all after → IfSome after.origin IsName
+entries_named named AreEntries.none = named
+entries_named named (AreEntries.bare are) = entries_named named are
+entries_named named (AreEntries.entry is are) = entries_named (entered named is.says is.enters).0 are

@@ -1,5 +1,5 @@
-mod LastRecord
-mod ReadRecords
+pub mod LastRecord
+pub mod ReadRecords
 pub mod ZoneForms
 mod ReadZoneData
 pub mod ScannedRows

@@ -32,10 +32,10 @@ use Rattle.zone_records.proofs.Each.{all_append, all_fronts, wire_back}
 use Rattle.zone.specs.ZoneText.{IsWellTyped, IsZoneFault, IsZoneText, MayFollow, records_in}
 use Rattle.zone.specs.declared.zone_error.ZoneError.{ZoneError}
 use Rattle.zone.specs.declared.zone_error.ZoneError.TheVariants as zone_error
-use Rattle.zone.proofs.KeptContexts.{IsFitting, IsRowed, entries_fit}
+use Rattle.zone.proofs.KeptContexts.{IsFitting, IsRowed, entries_fit, entries_named}
 use Rattle.zone.proofs.KeptRules.{keeps_directives, keeps_none, records_behind}
 use Rattle.zone.proofs.RecordClasses.{zone_text_class}
-use Rattle.zone.proofs.ReaderSteps.{HasKept, MeetsRecord, ended_behind, first_fault, kept_record, meets, next_read, out_fault, second_fault, unspellable_fault, untyped_fault, zone_text}
+use Rattle.zone.proofs.ReaderSteps.{HasKept, MeetsRecord, ended_behind, first_fault, kept_record, meets, out_fault, second_fault, unspellable_fault, untyped_fault, zone_text}
 use Rattle.zone.specs.Reading.{BeginWith, BreaksRule, HasRead, IsCheckFault, AppendsRecord, MayStandUnder, StandsLast, apex_in, reader_at}
 
 -- in the words of the rules
@@ -85,14 +85,28 @@ record_met {reader = reader} {new = new} {rr = rr} read gives is counted = recor
   is = refl;
 }
 
--- its data, if the text does not write it in the form of unknown data
+-- the data of a record that a reader returns
+given_rowed : {reader new : Reader} {given : Result (Option Entry) EntryError} {rr : RecordOf (List (List ℕ)) Data}
+    → IfSome reader.context.origin IsName → given ≡ Ok (Some (Resource rr)) → Gives reader given new → IsRowed rr.rdata
+given_rowed {rr = rr} named same (Gives.given directives {entry = entry} are other goes) =
+    let is : entry ≡ Resource rr = cc in
+    subst IsFitting is (fitting_last directives entry (entries_fit named goes.are))
+given_rowed named same (Gives.ended are goes ends) = absurd cc
+given_rowed named same (Gives.refused are goes at real) = absurd cc
+given_rowed named same (Gives.out_of_memory are goes memory) = absurd cc
+
+-- is that of its type, if the text does not write it in the form of unknown data
+pub data_given : {reader new : Reader} {old after : List ℕ} {told : Bool} {given : Result (Option Entry) EntryError}
+    → IfSome reader.context.origin IsName → Gives reader given new → (handed : AppendsRecord old told given after) → told ≡ false
+    → IsData (record_of handed.rr).rtype (record_of handed.rr).rdata
+data_given named gives handed bare =
+    rowed_data handed.rr.rdata (sym handed.unknown_is ∙ bare) (given_rowed named handed.is gives)
+
+-- the same of a text whose entries before it keep the rules
 pub data_met : {text : List ℕ} {origin : Option (List (List ℕ))} {class : ℕ} {reader new : Reader} {records : List Record} {old after : List ℕ}
     {told : Bool} {given : Result (Option Entry) EntryError} → HasRead text origin class reader records → Gives reader given new
     → (handed : AppendsRecord old told given after) → told ≡ false → IsData (record_of handed.rr).rtype (record_of handed.rr).rdata
-data_met {reader = reader} {new = new} read gives handed bare =
-    let next = next_read (record { goes = read.goes }) (subst (λ g. Gives reader g new) handed.is gives) in
-    let fit = fitting_last (read.entries ++ next.0) (Resource handed.rr) (entries_fit read.named next.2.goes.are) in
-    rowed_data handed.rr.rdata (sym handed.unknown_is ∙ bare) fit
+data_met read gives handed bare = data_given (entries_named read.named read.goes.are) gives handed bare
 
 -- a record that may be there may follow the others
 pub follows : (records : List Record) (apex : Option (List (List ℕ))) (r : Record) → apex ≡ apex_in records → IsZoneFront records

@@ -1,4 +1,5 @@
--- How far a zone's text has been read. Only contracts inside the crate and that of `check_record` name it.
+-- How far a zone's text has been read, and the rules that a record may break. Of the calls of this crate that others see, only the contract of
+-- `check_record` names it; `zone_tool` names it for each fault of a text.
 use Rattle.std.specs.Prelude.{◌≡◌, ◌≢◌, ◌++◌, ℕ, Bool, true, Option, Some, None, Result, Ok, List, [], ◌∷◌, length, IfSome}
 use Rattle.dns_label.specs.Name.{IsName}
 use Rattle.dns_header.specs.Record.{RecordOf}
