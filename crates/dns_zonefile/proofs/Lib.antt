@@ -17,3 +17,4 @@ mod ComposedRows
 mod LastOwners
 mod FrequentWords
 mod Numbers
+pub mod MarkedLines

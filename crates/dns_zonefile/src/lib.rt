@@ -22,6 +22,7 @@ mod entry_form;
 mod error;
 mod last_owner;
 pub mod laws;
+mod line_mark;
 mod statement;
 mod zonefile;
 
@@ -31,5 +32,6 @@ pub use dns_entry_scanner::{
 };
 pub use entry::{ComposedEntry, Entry, IncludedFile, ScannedRecord, ScannedRecordData};
 pub use error::Error;
+pub use line_mark::LineMark;
 pub use statement::{Stated, Statement, scan_statement};
-pub use zonefile::{Zonefile, line_behind};
+pub use zonefile::Zonefile;

@@ -1,14 +1,14 @@
 //! Readers of zone files.
 ghost use Rattle.std.specs.Prelude.{◌≡◌, ◌≤◌, ◌++◌, [], Some, None, length, option_copied, vec_capacity, OnOk, OnErr, IfOk};
+ghost use Rattle.dns_zonefile.specs.LineMark.{MarksLine};
 
 mod pass_over;
 mod read;
 
-use crate::Error;
 use crate::context::Context;
+use crate::{Error, LineMark};
 use dns_entry_scanner::TokenSpan;
 use dns_name::{Class, Name};
-pub use read::line_behind;
 use std::alloc::{AllocError, Global};
 
 /// A reader of a zone file. The caller supplies its text, at once or in pieces.
@@ -29,10 +29,13 @@ pub struct Zonefile {
     context: Context,
     /// The number of entries that were read.
     count: usize,
+    /// The line of the place of the last error.
+    mark: LineMark,
     /// The error after which nothing more is read.
     refused: Option<Error>,
     ghost within: { place ≤ length text.items },
     ghost few: { count ≤ place },
+    ghost marked: { MarksLine text.items mark },
 }
 
 impl Zonefile {
@@ -70,6 +73,7 @@ impl Zonefile {
             spans: Vec::new(alloc),
             context: Context::new(),
             count: 0,
+            mark: LineMark::start(),
             refused: None,
         }
     }

@@ -16,7 +16,7 @@ pub mod zone;
 mod zone_error;
 
 pub use print::print_record;
-pub use read::check_record;
+pub use read::{check_record, zonefile_of};
 pub use records::{ZoneRecord, ZoneRecords};
 pub use zone::Zone;
 pub use zone_error::ZoneError;

@@ -92,7 +92,7 @@ fn read_all<K: Keeper>(
 
 /// Returns a reader of the text of a zone of the class. Names are relative to the origin, if there is one. Fails if out
 /// of memory.
-fn zonefile_of(
+pub fn zonefile_of(
     alloc: Global,
     text: Vec<u8>,
     origin: Option<&Name<&[u8]>>,

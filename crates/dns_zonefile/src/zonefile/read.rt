@@ -8,7 +8,7 @@ ghost use Rattle.dns_entry_scanner.specs.declared.entry_error.EntryError.{EntryE
 ghost use Rattle.dns_zonefile.specs.Composed.{HandsOn, with_reason};
 ghost use Rattle.dns_zonefile.specs.Entry as spec;
 ghost use Rattle.dns_zonefile.specs.Error.{line_of as error_line};
-ghost use Rattle.dns_zonefile.specs.Reader.{Gives, IsRefusedAt, line_at, line_behind as spec_line_behind};
+ghost use Rattle.dns_zonefile.specs.Reader.{Gives, IsRefusedAt, line_at};
 ghost use Rattle.dns_zonefile.specs.RowRead.{GivesInForm, ReadsRow};
 ghost use Rattle.dns_zonefile.specs.ReaderSeen.{given_of, reader_of, refused_in};
 
@@ -84,7 +84,8 @@ impl Zonefile {
         match self.read_entry(form) {
             Ok(given) => Ok(given),
             Err(reason) => {
-                let error = Error::new(line_behind(&self.text[..self.place]), reason);
+                self.mark = self.mark.at(&self.text, self.place);
+                let error = Error::new(self.mark.line(), reason);
                 self.refused = Some(error);
                 Err(error)
             }
@@ -158,19 +159,4 @@ impl Zonefile {
             None => Ok(RowRead::Passed),
         }
     }
-}
-
-/// Returns the number of the line after these octets, counted from 1.
-pub fn line_behind(before: &[u8]) -> usize
-    ensures { result ≡ spec_line_behind before.now }
-{
-    let mut line = 1;
-    let mut left = before;
-    while let Some((&octet, behind)) = left.split_first() {
-        if octet == b'\n' {
-            line += 1;
-        }
-        left = behind;
-    }
-    line
 }

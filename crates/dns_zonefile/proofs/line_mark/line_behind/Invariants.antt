@@ -1,6 +1,6 @@
 use Rattle.std.proofs.Common.{◌≡◌, ◌+◌, ◌≤◌, length}
 use Rattle.dns_zonefile.specs.Reader.{line_behind}
-use Rattle.dns_zonefile.proofs.zonefile.read.line_behind.Given as goal
+use Rattle.dns_zonefile.proofs.line_mark.line_behind.Given as goal
 
 abbrev pub invariant-loop-octet : goal.invariant-loop-octet
 invariant-loop-octet l = record {
