@@ -78,6 +78,7 @@ fn explain_task<'a>(alloc: Global, options: &ArgMatches<'a>) -> Result<Task<'a>,
     Ok(Task::Explain {
         file: file_or_input(options, "file"),
         reading,
+        all: options.get_flag("all"),
     })
 }
 
@@ -210,9 +211,9 @@ fn command<'a>(alloc: Global) -> Result<Command<'a>, AllocError> {
 
 fn explain_command<'a>(alloc: Global) -> Result<Command<'a>, AllocError> {
     let bare = Command::new(alloc, "explain").about("Says why a zone is refused");
-    with_text_options(alloc, bare)?.arg(argument(alloc, "file", "FILE").help(
-        "The zone, - or left out for standard input",
-    ))
+    with_text_options(alloc, bare)?
+        .arg(argument(alloc, "file", "FILE").help("The zone, - or left out for standard input"))?
+        .arg(flag(alloc, "all").help("Each fault is told, not only the first"))
 }
 
 fn diff_command<'a>(alloc: Global) -> Result<Command<'a>, AllocError> {

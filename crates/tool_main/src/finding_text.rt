@@ -2,16 +2,15 @@
 
 ghost use Rattle.std.specs.Prelude.{◌≤◌, length};
 
-use super::Finding;
-use super::reason::{Reason, Wanted};
 use std::alloc::{AllocError, Global};
 use std::fmt::Write;
+use zone_tool::explain::{Finding, Reason, Wanted};
 
 /// Returns the finding as text: a line `FILE:LINE:COLUMN: reason`, the line of the text, and a line with a mark below the
 /// token. Lines and columns are counted from 1, columns in octets. An octet that is not printable ASCII is shown as `?`.
 ///
 /// Fails if out of memory.
-pub fn finding_text(
+pub(crate) fn finding_text(
     alloc: Global,
     file: &str,
     text: &[u8],

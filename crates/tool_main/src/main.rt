@@ -4,6 +4,7 @@
 
 mod command_line;
 mod fault;
+mod finding_text;
 mod input;
 mod table;
 mod tasks;

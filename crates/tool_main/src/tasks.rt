@@ -1,12 +1,14 @@
 //! The tasks of the program.
 
 use crate::fault::Fault;
+use crate::finding_text::finding_text;
 use crate::input::{Reading, read_text, read_zone};
 use crate::table::table_of;
 use dns_name::{Class, Name};
 use dns_text::DisplayKind;
+use std::alloc::{AllocError, Global};
 use std::io::Write;
-use zone_tool::explain::{explain, finding_text};
+use zone_tool::explain::{Finding, explain, explain_all};
 use zone_tool::{Selection, difference, framed_query, sorted};
 
 /// What the program does.
@@ -18,6 +20,8 @@ pub(crate) enum Task<'a> {
         file: &'a str,
         /// How the zone is read.
         reading: Reading,
+        /// Whether each fault is written, not only the first.
+        all: bool,
     },
     /// Writes what changed between the zones of two files.
     Diff {
@@ -60,7 +64,7 @@ pub(crate) enum Task<'a> {
 /// Performs the task. Returns false if it writes a difference, or why a text is no zone's.
 pub(crate) fn perform<'a>(rt: &HostRuntime, task: &Task<'a>) -> Result<bool, Fault<'a>> {
     match task {
-        Task::Explain { file, reading } => explain_file(rt, *file, reading),
+        Task::Explain { file, reading, all } => explain_file(rt, *file, reading, *all),
         Task::Diff {
             old,
             new,
@@ -96,19 +100,41 @@ pub(crate) fn perform<'a>(rt: &HostRuntime, task: &Task<'a>) -> Result<bool, Fau
     }
 }
 
-/// Writes why the text of the file is no zone's. Returns false if it writes something.
-fn explain_file<'a>(rt: &HostRuntime, file: &'a str, reading: &Reading) -> Result<bool, Fault<'a>> {
+/// Writes why the text of the file is no zone's: the first fault, or all of them. Returns false if it writes something.
+fn explain_file<'a>(
+    rt: &HostRuntime,
+    file: &'a str,
+    reading: &Reading,
+    all: bool,
+) -> Result<bool, Fault<'a>> {
     let text = read_text(rt, file)?;
-    let found = match &reading.origin {
-        Some(name) => explain(rt.alloc(), &text, Some(&name.for_ref()), reading.class)?,
-        None => explain(rt.alloc(), &text, None, reading.class)?,
+    let findings = match &reading.origin {
+        Some(name) => findings_of(rt.alloc(), &text, Some(&name.for_ref()), reading.class, all)?,
+        None => findings_of(rt.alloc(), &text, None, reading.class, all)?,
     };
-    let Some(finding) = found else {
-        return Ok(true);
-    };
-    let shown = finding_text(rt.alloc(), file, &text, &finding)?;
-    write_all(rt, shown.as_bytes())?;
-    Ok(false)
+    for finding in findings.as_slice() {
+        let shown = finding_text(rt.alloc(), file, &text, finding)?;
+        write_all(rt, shown.as_bytes())?;
+    }
+    Ok(findings.is_empty())
+}
+
+/// Returns the first fault of the text, or all of them. Fails if out of memory.
+fn findings_of(
+    alloc: Global,
+    text: &[u8],
+    origin: Option<&Name<&[u8]>>,
+    class: Class,
+    all: bool,
+) -> Result<Vec<Finding>, AllocError> {
+    if all {
+        return explain_all(alloc, text, origin, class);
+    }
+    let mut findings = Vec::new(alloc);
+    if let Some(finding) = explain(alloc, text, origin, class)? {
+        findings.push(finding)?;
+    }
+    Ok(findings)
 }
 
 /// Writes the octets to standard output.

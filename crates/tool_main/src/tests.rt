@@ -1,13 +1,14 @@
 //! Tests of what the program writes, by examples worked out by hand.
 
 use crate::command_line::task_of;
+use crate::finding_text::finding_text;
 use crate::table::table_of;
 use dns_name::{Class, Name, Rtype};
 use dns_text::DisplayKind;
 use std::alloc::Global;
 use std::test::Fail;
 use zone::{Zone, ZoneError};
-use zone_tool::explain::{explain, finding_text};
+use zone_tool::explain::{explain, explain_all};
 use zone_tool::{Selection, difference, framed_query, sorted};
 
 /// A zone whose records are not in order, one of them twice.
@@ -109,5 +110,19 @@ fn the_token_that_is_refused(rt: HostRuntime) -> Result<(), Fail> {
     let wanted =
         "z:2:12: unknown type 'MXX'; did you mean MX?\na.z. 60 IN MXX 10 b.\n           ^^^\n";
     assert!(rt; finding_text(alloc, "z", text, &finding)?.as_str() == wanted);
+    Ok(())
+}
+
+#[test]
+fn each_fault_of_a_text(rt: HostRuntime) -> Result<(), Fail> {
+    let alloc = rt.alloc();
+    let text: &[u8] =
+        b"z. 60 IN SOA b. c. 1 2 3 4 5\na.z. 60 IN MXX 10 b.\nb.z. A 1.2.3.4\ny. A 1.2.3.4\n$INCLUDE x\nz. SOA b. c. 1 2 3 4 5\nz. TXT (\n";
+    let findings = explain_all(alloc, text, None, Class::IN)?;
+    let mut lines = Vec::new(alloc);
+    for finding in findings.as_slice() {
+        lines.push(finding.line)?;
+    }
+    assert!(rt; lines.as_slice() == [2, 4, 5, 6, 7].as_slice());
     Ok(())
 }

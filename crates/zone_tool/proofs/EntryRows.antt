@@ -1,5 +1,5 @@
 -- The row of the entry that breaks a rule.
-use Rattle.std.proofs.Common.{◌≡◌, ◌<◌, ◌+◌, ◌++◌, ◌∙◌, ℕ, min, Bool, true, List, [], ◌∷◌, Option, Some, None, Result, Ok, Err, drop, length, map, cond, refl, ap, arith, length-append}
+use Rattle.std.proofs.Common.{◌≡◌, ◌<◌, ◌+◌, ◌++◌, ◌∙◌, ℕ, min, Bool, true, false, List, [], ◌∷◌, Option, Some, None, Result, Ok, Err, drop, length, map, cond, refl, ap, arith, length-append}
 use Rattle.std.specs.Prelude.{count_by, IfOk}
 use Rattle.std.proofs.lemmas.List.Sums.{sum_by-append}
 use Rattle.dns_scan.specs.Token.{Token}
@@ -19,7 +19,7 @@ use Rattle.zone.specs.ZoneText.{IsZoneFault, Reaches}
 use Rattle.zone.specs.declared.zone_error.ZoneError.{ZoneError}
 use Rattle.zone.specs.declared.zone_error.ZoneError.TheVariants as zone_error
 use Rattle.zone_tool.specs.declared.explain.located.Located.{Located}
-use Rattle.zone_tool.specs.EntryRow.{HasPassed, IsEntryRow, IsFaultRow, number_of}
+use Rattle.zone_tool.specs.EntryRow.{HasPassed, IsEntryRow, IsFaultRow, breaks_entry, number_of}
 use Rattle.zone_tool.specs.Explained.{BeginsAt, IsRulePlace, any_tokens, behind_blanks, has_tokens}
 
 some_true : (tokens : List Token) → (tokens ≡ [] → ⊥) → any_tokens tokens ≡ true
@@ -27,7 +27,7 @@ some_true [] some = absurd (some refl)
 some_true (token ∷ tokens) some = refl
 
 -- so many rows are entries
-entries_counted : {context after : Context} {rows : List TokenRow} {entries : List Entry} → AreEntries context rows entries after
+pub entries_counted : {context after : Context} {rows : List TokenRow} {entries : List Entry} → AreEntries context rows entries after
     → count_by has_tokens rows ≡ length entries
 entries_counted AreEntries.none = refl
 entries_counted (AreEntries.bare are) = entries_counted are
@@ -35,7 +35,7 @@ entries_counted (AreEntries.entry {row = row} {rows = rows} {entries = entries} 
     let one : cond (has_tokens row) 1 0 ≡ 1 = ap (λ (b : Bool). cond {A = ℕ} b 1 0) (some_true row.tokens (entry_has_tokens is)) in
     omega (arith, one, sum_by-append (λ (r : TokenRow). cond (has_tokens r) 1 0) (row ∷ []) rows, entries_counted are)
 
-spans_true : (text : List ℕ) (spans : List TokenSpan) → 0 < length spans → any_tokens (map (λ span. token_in text span) spans) ≡ true
+pub spans_true : (text : List ℕ) (spans : List TokenSpan) → 0 < length spans → any_tokens (map (λ span. token_in text span) spans) ≡ true
 spans_true text [] some = absurd (omega (arith, some))
 spans_true text (span ∷ spans) some = refl
 
@@ -44,15 +44,15 @@ spans_counted : (text : List ℕ) (spans : List TokenSpan)
 spans_counted text [] = refl
 spans_counted text (span ∷ spans) = omega arith
 
-pub passes_nothing : (text : List ℕ) (count : ℕ) → count ≡ 0 → HasPassed text 0 count
-passes_nothing text count is = record { rows = []; begins = BeginsWithRows.none; counted = is }
+pub passes_nothing : (text : List ℕ) (start count : ℕ) → count ≡ 0 → HasPassed text start start count
+passes_nothing text start count is = record { rows = []; begins = BeginsWithRows.none; counted = is }
 
-pub passes_also : {text : List ℕ} {place count same : ℕ} → HasPassed text place count → same ≡ count → HasPassed text place same
+pub passes_also : {text : List ℕ} {start place count same : ℕ} → HasPassed text start place count → same ≡ count → HasPassed text start place same
 passes_also passed is = record { rows = passed.rows; begins = passed.begins; counted = is ∙ passed.counted }
 
-pub passes_row : {text : List ℕ} {place next count behind : ℕ} {spans : List TokenSpan} {blank_led : Bool} → HasPassed text place count
-    → IsRowAt text place spans next blank_led → behind ≡ count + min 1 (length spans) → HasPassed text next behind
-passes_row {text} {place} {next} {count} {behind} {spans} passed at is =
+pub passes_row : {text : List ℕ} {start place next count behind : ℕ} {spans : List TokenSpan} {blank_led : Bool} → HasPassed text start place count
+    → IsRowAt text place spans next blank_led → behind ≡ count + min 1 (length spans) → HasPassed text start next behind
+passes_row {text} {place = place} {spans = spans} passed at is =
     let row : TokenRow = record { blank_led = is_led (drop place text); tokens = map (λ span. token_in text span) spans } in
     record {
       rows = passed.rows ++ row ∷ [];
@@ -98,7 +98,7 @@ pub found_at : (text : List ℕ) (class place start : ℕ) (fault : ZoneError) (
     → IsRulePlace text fault start
 found_at text class place start fault spans blank_led is there = by (breaks fault is.breaks)
   where
-    row : IsEntryRow text is.n place spans (Some blank_led)
+    row : IsEntryRow text 0 is.n place spans (Some blank_led)
     row = is.row
 
     by : Breaks text is.origin class fault → IsRulePlace text fault start
@@ -123,7 +123,7 @@ pub stopped_at : (text : List ℕ) (class place start : ℕ) (fault : ZoneError)
     → IsFaultRow text class fault place spans None → IsRulePlace text fault start
 stopped_at text class place start fault spans is = by (breaks fault is.breaks)
   where
-    stopped : IsEntryRow text is.n place spans None
+    stopped : IsEntryRow text 0 is.n place spans None
     stopped = is.row
 
     by : Breaks text is.origin class fault → IsRulePlace text fault start
@@ -146,7 +146,24 @@ stopped_at text class place start fault spans is = by (breaks fault is.breaks)
         ))
 
 -- a rule that breaks at no entry's start
+any : (text : List ℕ) (place : ℕ) (fault : ZoneError) → breaks_entry fault ≡ false → IsRulePlace text fault place
+any text place zone_error.ClassAny none = tt
+any text place (zone_error.Text n) none = tt
+any text place (zone_error.Include n) none = absurd cc
+any text place (zone_error.Untyped n) none = absurd cc
+any text place (zone_error.FirstNotSoa n) none = absurd cc
+any text place (zone_error.SecondSoa n) none = absurd cc
+any text place (zone_error.OutOfZone n) none = absurd cc
+any text place (zone_error.Unspellable n) none = absurd cc
+any text place zone_error.NoSoa none = tt
+any text place zone_error.OutOfMemory none = tt
+
 pub any_place : {E : Type 0} (P : Type 0) (text : List ℕ) (fault : ZoneError) (result : Result Located E)
-    → ((place : ℕ) → IsRulePlace text fault place) → IfOk result (λ located. P → IsRulePlace text fault located.start)
-any_place P text fault (Ok located) all = λ _. all located.start
-any_place P text fault (Err error) all = tt
+    → breaks_entry fault ≡ false → IfOk result (λ located. P → IsRulePlace text fault located.start)
+any_place P text fault (Ok located) none = λ _. any text located.start fault none
+any_place P text fault (Err error) none = tt
+
+pub no_start : {E : Type 0} (P : Located → Type 0) (fault : ZoneError) (result : Result Located E) → breaks_entry fault ≡ false
+    → IfOk result (λ located. breaks_entry fault ≡ true → P located)
+no_start P fault (Ok located) none = λ some. absurd cc
+no_start P fault (Err error) none = tt

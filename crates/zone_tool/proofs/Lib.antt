@@ -9,3 +9,4 @@ mod OwnQueries
 mod ShortQueries
 mod SoaData
 mod SortedTexts
+mod Walks

@@ -1,3 +1,4 @@
+pub mod AllFaults
 pub mod Counting
 pub mod Differences
 pub mod EntryRow
@@ -7,3 +8,4 @@ pub mod RecordWriter
 pub mod Selected
 pub mod Sorted
 pub mod Statistics
+pub mod Walk

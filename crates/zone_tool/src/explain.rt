@@ -1,28 +1,29 @@
 //! Why a zone's text is refused.
-ghost use Rattle.std.specs.Prelude.{◌≡◌, ℕ, List, option_copied, IfOk, IfNone};
+ghost use Rattle.std.specs.Prelude.{◌≡◌, ◌≢◌, ℕ, List, None, true, false, drop, option_copied, IfOk, IfNone};
+ghost use Rattle.dns_zonefile.specs.LineMark.{MarksLine};
 ghost use Rattle.dns_zonefile.specs.Reader.{line_at};
 ghost use Rattle.zone.specs.ZoneText.{IsZoneFault};
-ghost use Rattle.zone_tool.specs.EntryRow.{IsFaultRow, number_of};
-ghost use Rattle.zone_tool.specs.Explained.{IsExplained, IsRulePlace};
+ghost use Rattle.zone_tool.specs.EntryRow.{IsFaultRow, breaks_entry, number_of};
+ghost use Rattle.zone_tool.specs.Explained.{IsExplained, IsRulePlace, behind_blanks};
 
+mod all;
 mod broken_row;
 mod entry_row;
 mod fields;
-mod line;
 mod located;
 mod outcome;
 mod reason;
-mod report;
 mod token_row;
+mod walk;
 mod words;
 
+pub use all::explain_all;
 use broken_row::broken_row_fault;
 use dns_name::{Class, Name};
+use dns_zonefile::LineMark;
 use entry_row::{EntryRow, entry_row};
-use line::line_of;
 pub use located::Located;
 pub use reason::{Reason, Wanted};
-pub use report::finding_text;
 use std::alloc::{AllocError, Global};
 use token_row::TokenRow;
 use zone::{Zone, ZoneError};
@@ -79,16 +80,34 @@ fn finding_of(
         return Ok(Finding {
             fault,
             located,
-            line: line_of(text, located.start),
+            line: LineMark::start().line_of(text, located.start),
             apex: None,
         });
     };
     let row = entry_row(alloc, text, origin, number)?;
+    finding_in(alloc, text, row, class, fault)
+}
+
+/// Returns the rule that the entry of the row breaks with the place. Fails if out of memory.
+pub(crate) fn finding_in(
+    alloc: Global,
+    text: &[u8],
+    row: EntryRow,
+    class: Class,
+    fault: ZoneError,
+) -> Result<Finding, AllocError>
+    ensures fault { IfOk result (λ finding. finding.fault ≡ fault) }
+    ensures line { MarksLine text.now row.mark → IfOk result (λ finding. finding.line ≡ line_at text.now finding.located.start) }
+    ensures entry { IfOk result (λ finding. IsFaultRow text.now class fault row.place row.spans.items row.blank_led
+        → IsRulePlace text.now fault finding.located.start) }
+    ensures start { IfOk result (λ finding. breaks_entry fault ≡ true → row.blank_led ≢ None
+        → drop finding.located.start text.now ≡ behind_blanks (drop row.place text.now)) }
+{
     let located = entry_fault(alloc, text, &row, class, fault)?;
     Ok(Finding {
         fault,
         located,
-        line: line_of(text, located.start),
+        line: row.mark.line_of(text, located.start),
         apex: row.apex,
     })
 }
@@ -101,13 +120,15 @@ fn entry_fault(
     class: Class,
     fault: ZoneError,
 ) -> Result<Located, AllocError>
-    ensures { IfOk result (λ located. IsFaultRow text.now class fault row.now.place row.now.spans.items row.now.blank_led
+    ensures entry { IfOk result (λ located. IsFaultRow text.now class fault row.now.place row.now.spans.items row.now.blank_led
         → IsRulePlace text.now fault located.start) }
+    ensures start { IfOk result (λ located. breaks_entry fault ≡ true → row.now.blank_led ≢ None
+        → drop located.start text.now ≡ behind_blanks (drop row.now.place text.now)) }
 {
     let Some(blank_led) = row.blank_led else {
-        return Ok(broken_row_fault(text, row.place));
+        return Ok(broken_row_fault(text, row));
     };
-    if let Some(reason) = rule_reason(fault, text, row) {
+    if let Some(reason) = rule_reason(fault, row.soa_line) {
         return Ok(row.at_start(text, reason));
     }
     let tokens = TokenRow {
@@ -134,7 +155,7 @@ fn whole_text(fault: ZoneError) -> Located {
 }
 
 /// Returns the number of the entry that breaks the rule.
-fn entry_of(fault: ZoneError) -> Option<usize>
+pub(crate) fn entry_of(fault: ZoneError) -> Option<usize>
     ensures number { result ≡ number_of fault }
     ensures whole { IfNone result ((text : List ℕ) (place : ℕ) → IsRulePlace text fault place) }
 {
@@ -150,18 +171,15 @@ fn entry_of(fault: ZoneError) -> Option<usize>
     }
 }
 
-/// Returns why an entry that reads breaks the rule, or None if it does not read.
-fn rule_reason(fault: ZoneError, text: &[u8], row: &EntryRow) -> Option<Reason>
-    ensures { IfNone result ((other : List ℕ) (place : ℕ) → IsRulePlace other fault place) }
+/// Returns why an entry that reads breaks the rule, or None if it does not read. The zone's SOA is in the line.
+fn rule_reason(fault: ZoneError, soa_line: Option<usize>) -> Option<Reason>
+    ensures { IfNone result (breaks_entry fault ≡ false) }
 {
     match fault {
         ZoneError::Include(_) => Some(Reason::Include),
         ZoneError::Untyped(_) => Some(Reason::Untyped),
         ZoneError::FirstNotSoa(_) => Some(Reason::FirstNotSoa),
-        ZoneError::SecondSoa(_) => {
-            let first = row.first_record.unwrap_or(0);
-            Some(Reason::SecondSoa(line_of(text, first)))
-        }
+        ZoneError::SecondSoa(_) => Some(Reason::SecondSoa(soa_line.unwrap_or(1))),
         ZoneError::OutOfZone(_) => Some(Reason::OutOfZone),
         ZoneError::Unspellable(_) => Some(Reason::Unspellable),
         ZoneError::ClassAny | ZoneError::Text(_) | ZoneError::NoSoa | ZoneError::OutOfMemory =>

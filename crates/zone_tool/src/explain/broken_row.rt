@@ -1,23 +1,23 @@
 //! Where a text fails that is cut into no row.
 
-use super::line::line_of;
+use super::entry_row::EntryRow;
 use super::located::Located;
 use super::reason::Reason;
 use dns_entry_scanner::RowReader;
 use dns_name::Symbol;
 
-/// Returns why there is no row at the place of the text, although the text goes on there.
-pub(crate) fn broken_row_fault(text: &[u8], place: usize) -> Located {
-    let mut reader = RowReader::new(text, place);
+/// Returns why there is no row at the row's place in the text, although the text goes on there.
+pub(crate) fn broken_row_fault(text: &[u8], row: &EntryRow) -> Located {
+    let mut reader = RowReader::new(text, row.place);
     let mut inside = false;
-    let mut open = place;
+    let mut open = row.place;
     for _ in 0..=text.len() {
         let gap = gap_at(text, reader.place(), inside);
         inside = gap.inside;
         open = gap.opened.unwrap_or(open);
         match reader.next_token() {
             Ok(Some(_)) => {}
-            _ => return gap_fault(text, gap, open),
+            _ => return gap_fault(text, gap, open, row),
         }
     }
     located(Reason::NoLineFeed, text.len(), 0)
@@ -65,12 +65,15 @@ fn gap_at(text: &[u8], start: usize, was_inside: bool) -> Gap {
 
 /// Returns why no token and no line feed follows the octets. `open` is the offset of the parenthesis that is open, if one
 /// is.
-fn gap_fault(text: &[u8], gap: Gap, open: usize) -> Located {
+fn gap_fault(text: &[u8], gap: Gap, open: usize, row: &EntryRow) -> Located {
     match text.get(gap.end) {
         None if gap.inside => located(Reason::OpenParenthesis, open, 1),
         None => located(Reason::NoLineFeed, gap.end, 0),
         Some(b'"') => quote_fault(text, gap.end),
-        Some(b'(') => located(Reason::NestedParenthesis(line_of(text, open)), gap.end, 1),
+        Some(b'(') => {
+            let line = row.mark.line_of(text, open);
+            located(Reason::NestedParenthesis(line), gap.end, 1)
+        }
         Some(b')') => located(Reason::MisplacedParenthesis, gap.end, 1),
         Some(_) => located(Reason::BadOctet, gap.end, 1),
     }

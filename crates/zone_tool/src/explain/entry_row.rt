@@ -1,6 +1,7 @@
 //! The row of an entry of a zone's text.
 ghost use Rattle.std.specs.Prelude.{◌≡◌, drop, IfOk};
 ghost use Rattle.zone_tool.specs.Explained.{behind_blanks as spec_behind_blanks};
+ghost use Rattle.dns_zonefile.specs.LineMark.{MarksLine};
 ghost use Rattle.zone_tool.specs.EntryRow.{IsEntryRow};
 
 use super::located::Located;
@@ -10,6 +11,7 @@ use super::words::begins_with_dollar;
 use dns_entry_scanner::{RowFound, RowScanner, TokenSpan, read_row};
 use dns_name::{Name, ToName};
 use dns_text::Scanner;
+use dns_zonefile::LineMark;
 use std::alloc::{AllocError, Global};
 
 /// The row of an entry, and what the rows before it have set.
@@ -20,10 +22,14 @@ pub(crate) struct EntryRow {
     /// Whether it begins with white space. None if the text is cut into no row there.
     pub(crate) blank_led: Option<bool>,
     pub(crate) spans: Vec<TokenSpan>,
+    /// The line of the row, or of one before it.
+    pub(crate) mark: LineMark,
     pub(crate) origin: Option<Name<Vec<u8>>>,
-    /// The offset of the first token of the first record before it.
-    pub(crate) first_record: Option<usize>,
-    /// The owner of that record.
+    /// Whether a record is before it.
+    pub(crate) has_owner: bool,
+    /// The number of the line of the zone's SOA, if that is before it.
+    pub(crate) soa_line: Option<usize>,
+    /// The zone's apex, if its SOA is before it.
     pub(crate) apex: Option<Name<Vec<u8>>>,
 }
 
@@ -34,20 +40,38 @@ pub(crate) fn entry_row(
     origin: Option<&Name<&[u8]>>,
     number: usize,
 ) -> Result<EntryRow, AllocError>
-    ensures { IfOk result (λ row. IsEntryRow text.now number row.place row.spans.items row.blank_led) }
+    ensures row { IfOk result (λ row. IsEntryRow text.now 0 number row.place row.spans.items row.blank_led) }
+    ensures line { IfOk result (λ row. MarksLine text.now row.mark) }
 {
     let origin = match origin {
         Some(origin) => Some(origin.to_vec(alloc)?),
         None => None,
     };
-    let mut row = EntryRow {
+    let start = EntryRow {
         place: 0,
         blank_led: None,
         spans: Vec::new(alloc),
+        mark: LineMark::start(),
         origin,
-        first_record: None,
+        has_owner: false,
+        soa_line: None,
         apex: None,
     };
+    row_behind(alloc, text, start, number)
+}
+
+/// Returns the row of the entry with the number, which counts from the place of `start` on, or where the text is cut into
+/// no row before it. Fails if out of memory.
+pub(crate) fn row_behind(
+    alloc: Global,
+    text: &[u8],
+    start: EntryRow,
+    number: usize,
+) -> Result<EntryRow, AllocError>
+    ensures row { IfOk result (λ row. IsEntryRow text.now start.place number row.place row.spans.items row.blank_led) }
+    ensures line { IfOk result (λ row. row.mark ≡ start.mark) }
+{
+    let mut row = start;
     // The number of entries from the place up to that one.
     let mut left = number;
     loop {
@@ -84,9 +108,16 @@ impl EntryRow {
         Located { reason, start, end }
     }
 
+    /// Returns the number of the line of its first token.
+    pub(crate) fn first_line(&self, text: &[u8]) -> usize {
+        let start = self.spans.first().map_or(self.place, TokenSpan::start);
+        self.mark.line_of(text, start)
+    }
+
     /// Applies what the row sets for those after it. Fails if out of memory.
     fn pass(&mut self, alloc: Global, text: &[u8]) -> Result<(), AllocError>
-        ensures { self.new.place ≡ self.old.place }
+        ensures place { self.new.place ≡ self.old.place }
+        ensures line { self.new.mark ≡ self.old.mark }
     {
         let spans = self.spans.as_slice();
         let Some((first, behind)) = spans.split_first() else {
@@ -94,10 +125,11 @@ impl EntryRow {
         };
         let word = first.text(text);
         if self.blank_led == Some(true) || first.is_quoted() || !begins_with_dollar(word) {
-            if self.first_record.is_none() {
-                let start = first.start();
+            if !self.has_owner {
+                let line = self.mark.line_of(text, first.start());
                 let apex = name_in(alloc, text, self.place, spans, self.origin.as_ref())?;
-                self.first_record = Some(start);
+                self.has_owner = true;
+                self.soa_line = Some(line);
                 self.apex = apex;
             }
             return Ok(());

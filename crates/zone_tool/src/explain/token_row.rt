@@ -312,7 +312,7 @@ impl<'t> TokenRow<'t> {
 
     /// Returns why the record is refused although its row reads.
     fn context_fault(&self, head: Head) -> Located {
-        if self.blank_led && self.entry.first_record.is_none() {
+        if self.blank_led && !self.entry.has_owner {
             return self.at(0, Reason::NoOwner);
         }
         match head.other_class {
