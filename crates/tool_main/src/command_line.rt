@@ -2,6 +2,7 @@
 ghost use Rattle.std.specs.Prelude.{◌≡◌};
 ghost use Rattle.tool_main.specs.declared.command_line.WordsFault.TheVariants.{Line, OutOfMemory};
 
+use crate::color::ColorChoice;
 use crate::input::{Reading, STANDARD_INPUT};
 use crate::tasks::Task;
 use clap::{Arg, ArgAction, ArgMatches, Command, value_parser};
@@ -56,6 +57,9 @@ impl From<AllocError> for WordsFault {
 /// The values of `--layout`.
 static LAYOUTS: &[&str] = &["simple", "tabbed", "multiline"];
 
+/// The values of `--color`.
+static COLORS: &[&str] = &["auto", "always", "never"];
+
 /// Returns the task that the words of a command line name. The first word is the program's name.
 pub(crate) fn task_of<'a>(alloc: Global, words: &'a [&'a str]) -> Result<Task<'a>, WordsFault> {
     let command = command(alloc)?;
@@ -79,6 +83,7 @@ fn explain_task<'a>(alloc: Global, options: &ArgMatches<'a>) -> Result<Task<'a>,
         file: file_or_input(options, "file"),
         reading,
         all: options.get_flag("all"),
+        color: color(options),
     })
 }
 
@@ -99,6 +104,7 @@ fn diff_task<'a>(alloc: Global, options: &ArgMatches<'a>) -> Result<Task<'a>, Wo
         new,
         reading,
         selection,
+        color: color(options),
     })
 }
 
@@ -182,6 +188,15 @@ fn class(options: &ArgMatches<'_>) -> Result<Class, WordsFault> {
     }
 }
 
+/// Returns when the output has colours, by the options: on a terminal if the option is left out.
+fn color(options: &ArgMatches<'_>) -> ColorChoice {
+    match options.get_str("color") {
+        Some("always") => ColorChoice::Always,
+        Some("never") => ColorChoice::Never,
+        _ => ColorChoice::Auto,
+    }
+}
+
 /// Returns the layout that the options give, or the simple one if the option is left out.
 fn layout(options: &ArgMatches<'_>) -> DisplayKind {
     match options.get_str("layout") {
@@ -213,7 +228,8 @@ fn explain_command<'a>(alloc: Global) -> Result<Command<'a>, AllocError> {
     let bare = Command::new(alloc, "explain").about("Says why a zone is refused");
     with_text_options(alloc, bare)?
         .arg(argument(alloc, "file", "FILE").help("The zone, - or left out for standard input"))?
-        .arg(flag(alloc, "all").help("Each fault is told, not only the first"))
+        .arg(flag(alloc, "all").help("Each fault is told, not only the first"))?
+        .arg(color_option(alloc))
 }
 
 fn diff_command<'a>(alloc: Global) -> Result<Command<'a>, AllocError> {
@@ -235,7 +251,8 @@ fn diff_command<'a>(alloc: Global) -> Result<Command<'a>, AllocError> {
                 .help("A type whose records are not compared; may be given again"),
         )?
         .arg(flag(alloc, "ignore-ttl").help("TTLs are not compared"))?
-        .arg(flag(alloc, "ignore-serial").help("The SOA's serial is not compared"))
+        .arg(flag(alloc, "ignore-serial").help("The SOA's serial is not compared"))?
+        .arg(color_option(alloc))
 }
 
 fn sort_command<'a>(alloc: Global) -> Result<Command<'a>, AllocError> {
@@ -279,6 +296,12 @@ fn with_text_options<'a>(alloc: Global, command: Command<'a>) -> Result<Command<
     command
         .arg(option(alloc, "origin", "NAME").help("The origin of relative names"))?
         .arg(option(alloc, "class", "CLASS").help("The zone's class, IN where left out"))
+}
+
+fn color_option<'a>(alloc: Global) -> Arg<'a> {
+    option(alloc, "color", "WHEN").value_parser(COLORS).help(
+        "Whether the output has colours, auto where left out: on a terminal",
+    )
 }
 
 fn option<'a>(alloc: Global, name: &'a str, shown: &'a str) -> Arg<'a> {

@@ -2,12 +2,14 @@
 
 ghost use Rattle.std.specs.Prelude.{◌≤◌, length};
 
+use crate::color::{BOLD, PLAIN, RED};
 use std::alloc::{AllocError, Global};
 use std::fmt::Write;
 use zone_tool::explain::{Finding, Reason, Wanted};
 
 /// Returns the finding as text: a line `FILE:LINE:COLUMN: reason`, the line of the text, and a line with a mark below the
-/// token. Lines and columns are counted from 1, columns in octets. An octet that is not printable ASCII is shown as `?`.
+/// token. Lines and columns are counted from 1, columns in octets. An octet that is not printable ASCII is shown as `?`. With
+/// colours the place is bold, and the mark is red.
 ///
 /// Fails if out of memory.
 pub(crate) fn finding_text(
@@ -15,13 +17,19 @@ pub(crate) fn finding_text(
     file: &str,
     text: &[u8],
     finding: &Finding,
+    colored: bool,
 ) -> Result<String, AllocError> {
     let located = finding.located;
     let start = located.start.min(text.len());
     let line_start = line_start(text, start);
     let mut out = String::new(alloc);
     let (line, column) = (finding.line, start - line_start + 1);
-    write!(out, "{file}:{line}:{column}: ")?;
+    let (bold, red, plain) = if colored {
+        (BOLD, RED, PLAIN)
+    } else {
+        ("", "", "")
+    };
+    write!(out, "{bold}{file}:{line}:{column}:{plain} ")?;
     let token = &text[start..located.end.min(text.len()).max(start)];
     push_reason(&mut out, finding, token)?;
     out.push('\n')?;
@@ -36,10 +44,12 @@ pub(crate) fn finding_text(
     for &octet in &shown[..(start - line_start).min(shown.len())] {
         out.push(if octet == b'\t' { '\t' } else { ' ' })?;
     }
+    out.push_str(red)?;
     let left = shown.len().saturating_sub(start - line_start);
     for _ in 0..token.len().min(left).max(1) {
         out.push('^')?;
     }
+    out.push_str(plain)?;
     out.push('\n')?;
     Ok(out)
 }

@@ -2,6 +2,7 @@
 //! a zone, and the query for a transfer.
 #![tactic(auto)]
 
+mod color;
 mod command_line;
 mod fault;
 mod finding_text;

@@ -1,5 +1,6 @@
 //! The tasks of the program.
 
+use crate::color::{ColorChoice, colored_difference, is_colored};
 use crate::fault::Fault;
 use crate::finding_text::finding_text;
 use crate::input::{Reading, read_text, read_zone};
@@ -22,6 +23,8 @@ pub(crate) enum Task<'a> {
         reading: Reading,
         /// Whether each fault is written, not only the first.
         all: bool,
+        /// Whether it has colours.
+        color: ColorChoice,
     },
     /// Writes what changed between the zones of two files.
     Diff {
@@ -33,6 +36,8 @@ pub(crate) enum Task<'a> {
         reading: Reading,
         /// Which records are compared.
         selection: Selection,
+        /// Whether the lines have colours.
+        color: ColorChoice,
     },
     /// Writes the zone of a file in canonical order.
     Sort {
@@ -64,17 +69,27 @@ pub(crate) enum Task<'a> {
 /// Performs the task. Returns false if it writes a difference, or why a text is no zone's.
 pub(crate) fn perform<'a>(rt: &HostRuntime, task: &Task<'a>) -> Result<bool, Fault<'a>> {
     match task {
-        Task::Explain { file, reading, all } => explain_file(rt, *file, reading, *all),
+        Task::Explain {
+            file,
+            reading,
+            all,
+            color,
+        } => explain_file(rt, *file, reading, *all, *color),
         Task::Diff {
             old,
             new,
             reading,
             selection,
+            color,
         } => {
             let old = read_zone(rt, *old, reading)?;
             let new = read_zone(rt, *new, reading)?;
             let lines = difference(rt.alloc(), &old, &new, selection)?;
-            write_all(rt, lines.as_slice())?;
+            if is_colored(rt, *color) {
+                write_all(rt, colored_difference(rt.alloc(), &lines)?.as_slice())?;
+            } else {
+                write_all(rt, lines.as_slice())?;
+            }
             Ok(lines.is_empty())
         }
         Task::Sort {
@@ -106,16 +121,20 @@ fn explain_file<'a>(
     file: &'a str,
     reading: &Reading,
     all: bool,
+    color: ColorChoice,
 ) -> Result<bool, Fault<'a>> {
     let text = read_text(rt, file)?;
     let findings = match &reading.origin {
         Some(name) => findings_of(rt.alloc(), &text, Some(&name.for_ref()), reading.class, all)?,
         None => findings_of(rt.alloc(), &text, None, reading.class, all)?,
     };
+    let colored = is_colored(rt, color);
+    let mut shown = Vec::new(rt.alloc());
     for finding in findings.as_slice() {
-        let shown = finding_text(rt.alloc(), file, &text, finding)?;
-        write_all(rt, shown.as_bytes())?;
+        let one = finding_text(rt.alloc(), file, &text, finding, colored)?;
+        shown.extend_from_slice(one.as_bytes())?;
     }
+    write_all(rt, shown.as_slice())?;
     Ok(findings.is_empty())
 }
 

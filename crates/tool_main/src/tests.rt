@@ -1,5 +1,6 @@
 //! Tests of what the program writes, by examples worked out by hand.
 
+use crate::color::colored_difference;
 use crate::command_line::task_of;
 use crate::finding_text::finding_text;
 use crate::table::table_of;
@@ -109,7 +110,7 @@ fn the_token_that_is_refused(rt: HostRuntime) -> Result<(), Fail> {
     let finding = explain(alloc, text, None, Class::IN)?.expect(&rt, "a finding");
     let wanted =
         "z:2:12: unknown type 'MXX'; did you mean MX?\na.z. 60 IN MXX 10 b.\n           ^^^\n";
-    assert!(rt; finding_text(alloc, "z", text, &finding)?.as_str() == wanted);
+    assert!(rt; finding_text(alloc, "z", text, &finding, false)?.as_str() == wanted);
     Ok(())
 }
 
@@ -124,5 +125,13 @@ fn each_fault_of_a_text(rt: HostRuntime) -> Result<(), Fail> {
         lines.push(finding.line)?;
     }
     assert!(rt; lines.as_slice() == [2, 4, 5, 6, 7].as_slice());
+    Ok(())
+}
+
+#[test]
+fn lines_in_colours(rt: HostRuntime) -> Result<(), Fail> {
+    let lines = colored_difference(rt.alloc(), b"-a. 1 IN A 1.2.3.4\n+b. 1 IN A 1.2.3.4\n")?;
+    let wanted: &[u8] = b"\x1b[31m-a. 1 IN A 1.2.3.4\x1b[0m\n\x1b[32m+b. 1 IN A 1.2.3.4\x1b[0m\n";
+    assert!(rt; lines.as_slice() == wanted);
     Ok(())
 }

@@ -5,6 +5,7 @@ mod EntryRows
 mod CountedOwners
 mod Counters
 mod Elements
+mod FoundFaults
 mod OwnQueries
 mod ShortQueries
 mod SoaData
