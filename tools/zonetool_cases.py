@@ -305,6 +305,12 @@ def explained(text, said, width=None, words="explain", file="-"):
     return Case(words, 1, f"{file}:{said}\n{shown}\n{mark}\n", given=text)
 
 
+def together(text, *said, front=""):
+    """The case of `explain --all` of a text after the front, of which all this is said: places with reasons, and how wide the mark is."""
+    each = [explained(front + text, reason, width).out for reason, width in said]
+    return Case("explain --all", 1, "".join(each), given=front + text)
+
+
 def stats(*rows):
     """The table of `stats`: the numbers of records and names, and the octets of each spelling, the same for both sizes of messages."""
     *numbers, octets = rows
@@ -337,6 +343,19 @@ EXPLAIN = [
     Case("explain relative --origin z"),
     Case("explain", given="a. 60 IN SOA b. c. 4294967295 2 3 4 5\n"),
     Case("explain chaos --class class3"),
+    explained(TOP + "b. A 1.2.3.4\n", "2:1: " + OUTSIDE, 2, words="explain --all"),
+    Case("explain --all one"),
+    Case("explain --all empty", 1, "empty:1:1: the text has no record\n"),
+    Case("explain --all --class CLASS255 one", 1, "one:1:1: no zone has the class ANY\n"),
+    Case("explain --all missing", 2, said="zonetool: missing: read failed: No such file or directory (os error 2)"),
+    together("a. 60 IN MXX 10 b.\nb. A 1.2.3.4\n$INCLUDE x\nc.a. A 1.2.3.4\n" + TOP, ("2:10: unknown type 'MXX'; did you mean MX?", 3), ("3:1: " + OUTSIDE, 2),
+             ("4:1: $INCLUDE is not read: give the zone as one text", 8), ("6:1: second SOA; the first is in line 1", 2), front=TOP),
+    together("a. TXT ( x\nb.a. A 1.2.3\n", ("2:8: " + OPEN, 1), ("3:8: '1.2.3' is not an IPv4 address", 5), front=TOP),
+    together("a. 60 IN SOA b. c. 1 2 3 4\nb. A 1.2.3.4\nc. A 1.2.3\n", ("1:27: " + ENDS.format(OF_32), 1), ("3:6: '1.2.3' is not an IPv4 address", 5)),
+    together("b. 60 A 1.2.3.4\nc. A 1.2.3.4\n" + TOP + "b. A 1.2.3.4\n", ("1:1: " + FIRST, 2), ("4:1: " + OUTSIDE, 2)),
+    Case("explain --color always outside", 1, "\x1b[1moutside:2:1:\x1b[0m record outside the zone z.\ny. 60 IN A 192.0.2.1\n\x1b[31m^^\x1b[0m\n"),
+    Case("explain --color never outside", 1, "outside:2:1: record outside the zone z.\ny. 60 IN A 192.0.2.1\n^^\n"),
+    Case("diff --color always one late", 1, "\x1b[31m-" + A[:-1] + "\x1b[0m\n\x1b[32m+" + LATE_A[:-1] + "\x1b[0m\n"),
     Case("explain --class CLASS255 one", 1, "one:1:1: no zone has the class ANY\n"),
     Case("explain empty", 1, "empty:1:1: the text has no record\n"),
     Case("explain -", 1, "-:1:1: the text has no record\n", given="\n; c\n$TTL 5\n"),
