@@ -181,6 +181,11 @@ fn take_step(
             Err(error) => out.refused(&error),
         },
         "number" => out.shown(&zonefile.entry_number()),
+        "place" => out.shown(&zonefile.place()),
+        "origin-now" => match zonefile.origin() {
+            Some(origin) => out.shown(origin),
+            None => out.shown(&"none"),
+        },
         _ => Err(RowError::BadWord),
     }
 }

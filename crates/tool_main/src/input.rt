@@ -1,6 +1,7 @@
 //! The text of zones, from files or standard input.
 
 use crate::fault::Fault;
+use crate::progress::{is_told, tell, wipe};
 use dns_name::{Class, Name};
 use std::fs;
 use std::io::Read;
@@ -32,13 +33,25 @@ pub(crate) fn read_text<'a>(rt: &HostRuntime, file: &'a str) -> Result<Vec<u8>, 
     }
 }
 
+/// A zone that was read from a file.
+#[derive(Drop)]
+pub(crate) struct ZoneRead {
+    pub(crate) zone: Zone,
+    /// Whether work on it is told.
+    pub(crate) is_told: bool,
+}
+
 /// Reads the zone whose text is in the file, or in standard input if the file is `-`.
 pub(crate) fn read_zone<'a>(
     rt: &HostRuntime,
     file: &'a str,
     reading: &Reading,
-) -> Result<Zone, Fault<'a>> {
+) -> Result<ZoneRead, Fault<'a>> {
     let text = read_text(rt, file)?;
+    let told = is_told(rt, text.len());
+    if told {
+        tell(rt, "checking", file);
+    }
     let zone = match &reading.origin {
         Some(name) => {
             let name = name.for_ref();
@@ -46,8 +59,14 @@ pub(crate) fn read_zone<'a>(
         }
         None => Zone::from_text(rt.alloc(), text, None, reading.class),
     };
+    if told {
+        wipe(rt);
+    }
     match zone {
-        Ok(zone) => Ok(zone),
+        Ok(zone) => Ok(ZoneRead {
+            zone,
+            is_told: told,
+        }),
         Err(error) => Err(Fault::of_zone(file, error)),
     }
 }

@@ -7,6 +7,7 @@ mod command_line;
 mod fault;
 mod finding_text;
 mod input;
+mod progress;
 mod table;
 mod tasks;
 #[cfg(test)]

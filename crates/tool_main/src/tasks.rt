@@ -4,6 +4,7 @@ use crate::color::{ColorChoice, colored_difference, is_colored};
 use crate::fault::Fault;
 use crate::finding_text::finding_text;
 use crate::input::{Reading, read_text, read_zone};
+use crate::progress::{is_told, tell, wipe};
 use crate::table::table_of;
 use dns_name::{Class, Name};
 use dns_text::DisplayKind;
@@ -81,32 +82,13 @@ pub(crate) fn perform<'a>(rt: &HostRuntime, task: &Task<'a>) -> Result<bool, Fau
             reading,
             selection,
             color,
-        } => {
-            let old = read_zone(rt, *old, reading)?;
-            let new = read_zone(rt, *new, reading)?;
-            let lines = difference(rt.alloc(), &old, &new, selection)?;
-            if is_colored(rt, *color) {
-                write_all(rt, colored_difference(rt.alloc(), &lines)?.as_slice())?;
-            } else {
-                write_all(rt, lines.as_slice())?;
-            }
-            Ok(lines.is_empty())
-        }
+        } => diff_files(rt, *old, *new, reading, selection, *color),
         Task::Sort {
             file,
             reading,
             layout,
-        } => {
-            let zone = read_zone(rt, *file, reading)?;
-            let text = sorted(rt.alloc(), &zone, *layout)?;
-            write_all(rt, text.as_slice())?;
-            Ok(true)
-        }
-        Task::Stats { file, reading } => {
-            let zone = read_zone(rt, *file, reading)?;
-            write_all(rt, table_of(rt.alloc(), &zone)?.as_bytes())?;
-            Ok(true)
-        }
+        } => sort_file(rt, *file, reading, *layout),
+        Task::Stats { file, reading } => count_file(rt, *file, reading),
         Task::Query { apex, class, id } => {
             let query = framed_query(rt.alloc(), *id, *class, &apex.for_ref())?;
             write_all(rt, query.as_slice())?;
@@ -124,10 +106,18 @@ fn explain_file<'a>(
     color: ColorChoice,
 ) -> Result<bool, Fault<'a>> {
     let text = read_text(rt, file)?;
+    let told = is_told(rt, text.len());
+    if told {
+        tell(rt, "checking", file);
+    }
     let findings = match &reading.origin {
-        Some(name) => findings_of(rt.alloc(), &text, Some(&name.for_ref()), reading.class, all)?,
-        None => findings_of(rt.alloc(), &text, None, reading.class, all)?,
+        Some(name) => findings_of(rt.alloc(), &text, Some(&name.for_ref()), reading.class, all),
+        None => findings_of(rt.alloc(), &text, None, reading.class, all),
     };
+    if told {
+        wipe(rt);
+    }
+    let findings = findings?;
     let colored = is_colored(rt, color);
     let mut shown = Vec::new(rt.alloc());
     for finding in findings.as_slice() {
@@ -136,6 +126,67 @@ fn explain_file<'a>(
     }
     write_all(rt, shown.as_slice())?;
     Ok(findings.is_empty())
+}
+
+/// Writes what changed between the zones of two files. Returns false if something did.
+fn diff_files<'a>(
+    rt: &HostRuntime,
+    old: &'a str,
+    new: &'a str,
+    reading: &Reading,
+    selection: &Selection,
+    color: ColorChoice,
+) -> Result<bool, Fault<'a>> {
+    let before = read_zone(rt, old, reading)?;
+    let after = read_zone(rt, new, reading)?;
+    let is_told = before.is_told || after.is_told;
+    if is_told {
+        tell(rt, "comparing with", new);
+    }
+    let lines = difference(rt.alloc(), &before.zone, &after.zone, selection);
+    if is_told {
+        wipe(rt);
+    }
+    let lines = lines?;
+    if is_colored(rt, color) {
+        write_all(rt, colored_difference(rt.alloc(), &lines)?.as_slice())?;
+    } else {
+        write_all(rt, lines.as_slice())?;
+    }
+    Ok(lines.is_empty())
+}
+
+/// Writes the zone of the file in canonical order.
+fn sort_file<'a>(
+    rt: &HostRuntime,
+    file: &'a str,
+    reading: &Reading,
+    layout: DisplayKind,
+) -> Result<bool, Fault<'a>> {
+    let read = read_zone(rt, file, reading)?;
+    if read.is_told {
+        tell(rt, "sorting", file);
+    }
+    let text = sorted(rt.alloc(), &read.zone, layout);
+    if read.is_told {
+        wipe(rt);
+    }
+    write_all(rt, text?.as_slice())?;
+    Ok(true)
+}
+
+/// Writes the numbers of the zone of the file.
+fn count_file<'a>(rt: &HostRuntime, file: &'a str, reading: &Reading) -> Result<bool, Fault<'a>> {
+    let read = read_zone(rt, file, reading)?;
+    if read.is_told {
+        tell(rt, "counting", file);
+    }
+    let table = table_of(rt.alloc(), &read.zone);
+    if read.is_told {
+        wipe(rt);
+    }
+    write_all(rt, table?.as_bytes())?;
+    Ok(true)
 }
 
 /// Returns the first fault of the text, or all of them. Fails if out of memory.
