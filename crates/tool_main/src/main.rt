@@ -10,8 +10,6 @@ mod input;
 mod progress;
 mod table;
 mod tasks;
-#[cfg(test)]
-mod tests;
 
 use clap::error::ErrorKind;
 use command_line::{WordsFault, task_of};
