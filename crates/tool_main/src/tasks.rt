@@ -3,7 +3,7 @@
 use crate::color::{ColorChoice, colored_difference, is_colored};
 use crate::fault::Fault;
 use crate::finding_text::finding_text;
-use crate::input::{Reading, read_text, read_zone};
+use crate::input::{Reading, ZoneRead, read_text, read_zone};
 use crate::progress::{is_told, tell, wipe};
 use crate::table::table_of;
 use dns_name::{Class, Name};
@@ -163,12 +163,12 @@ fn sort_file<'a>(
     reading: &Reading,
     layout: DisplayKind,
 ) -> Result<bool, Fault<'a>> {
-    let read = read_zone(rt, file, reading)?;
-    if read.is_told {
+    let ZoneRead { zone, is_told } = read_zone(rt, file, reading)?;
+    if is_told {
         tell(rt, "sorting", file);
     }
-    let text = sorted(rt.alloc(), &read.zone, layout);
-    if read.is_told {
+    let text = sorted(rt.alloc(), zone, layout);
+    if is_told {
         wipe(rt);
     }
     write_all(rt, text?.as_slice())?;

@@ -13,12 +13,15 @@ use zone_canonical::canonical_forms;
 use zone_records::record_list::RecordList;
 
 /// Returns the text of the zone's records in canonical form, each once (RFC 4034 6): the SOA, and then the others in
-/// canonical order. So it is a zone's text again. Fails if out of memory.
+/// canonical order. So it is a zone's text again. The memory of the zone is free before the text is written.
+///
+/// Fails if out of memory.
 #[tactic(auto, using(zone::proofs::ZoneForms::zone_forms, crate::proofs::SortedTexts::lawful_data))]
-pub fn sorted(alloc: Global, zone: &Zone, kind: DisplayKind) -> Result<Vec<u8>, AllocError>
-    ensures { IfOk result (λ text. IsSortedText (layout_of kind) zone.now.records text.items) }
+pub fn sorted(alloc: Global, zone: Zone, kind: DisplayKind) -> Result<Vec<u8>, AllocError>
+    ensures { IfOk result (λ text. IsSortedText (layout_of kind) zone.records text.items) }
 {
-    let forms = canonical_forms(alloc, records_of(zone))?;
+    let forms = canonical_forms(alloc, records_of(&zone))?;
+    drop(zone);
     let mut text = String::new(alloc);
     print_those(&mut text, &forms, kind, true)?;
     print_those(&mut text, &forms, kind, false)?;
