@@ -5,7 +5,7 @@ ghost use Rattle.std.specs.Prelude.{◌≤◌, length};
 use crate::color::{BOLD, PLAIN, RED};
 use std::alloc::{AllocError, Global};
 use std::fmt::Write;
-use zone_tool::explain::{Finding, Reason, Wanted};
+use zone_explain::explain::{Finding, Reason, Wanted};
 
 /// Returns the finding as text: a line `FILE:LINE:COLUMN: reason`, the line of the text, and a line with a mark below the
 /// token. Lines and columns are counted from 1, columns in octets. An octet that is not printable ASCII is shown as `?`. With

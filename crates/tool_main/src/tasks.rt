@@ -10,7 +10,7 @@ use dns_name::{Class, Name};
 use dns_text::DisplayKind;
 use std::alloc::{AllocError, Global};
 use std::io::Write;
-use zone_tool::explain::{Finding, explain, explain_all};
+use zone_explain::explain::{Finding, explain, explain_all};
 use zone_tool::{Selection, difference, framed_query, sorted};
 
 /// What the program does.

@@ -1,13 +1,10 @@
 mod Ascending
 mod ChangeTexts
 mod ComparedRecords
-mod EntryRows
 mod CountedOwners
 mod Counters
 mod Elements
-mod FoundFaults
 mod OwnQueries
 mod ShortQueries
 mod SoaData
 mod SortedTexts
-mod Walks

@@ -1,11 +1,7 @@
-pub mod AllFaults
 pub mod Counting
 pub mod Differences
-pub mod EntryRow
-pub mod Explained
 pub mod Framed
 pub mod RecordWriter
 pub mod Selected
 pub mod Sorted
 pub mod Statistics
-pub mod Walk

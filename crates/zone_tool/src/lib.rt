@@ -1,9 +1,8 @@
-//! Work on zones beside their transfers: why a text is no zone's, what changed between two zones, a zone in canonical
-//! order (RFC 4034 6), the numbers of a zone, and the query for a zone's transfer as TCP sends it.
+//! Work on zones beside their transfers: what changed between two zones, a zone in canonical order (RFC 4034 6), the numbers
+//! of a zone, and the query for a zone's transfer as TCP sends it.
 #![tactic(auto)]
 
 mod differences;
-pub mod explain;
 pub mod laws;
 mod queries;
 mod record_writer;

@@ -1,0 +1,3 @@
+mod EntryRows
+mod FoundFaults
+mod Walks

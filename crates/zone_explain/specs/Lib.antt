@@ -1,0 +1,4 @@
+pub mod AllFaults
+pub mod EntryRow
+pub mod Explained
+pub mod Walk
