@@ -36,7 +36,7 @@ def toolchain_needs():
 
 
 def newest_kept(name):
-    """The newest library of a crate that the gate keeps, as a folder in build/early, or None."""
+    """The newest library of a crate that the gate keeps, as a folder of links in build/early, or None."""
     entries = sorted(STORE.glob(f"proof-{name}-*"), key=lambda it: it.stat().st_mtime)
     if not entries:
         return None
@@ -45,7 +45,7 @@ def newest_kept(name):
     for number, (path, _) in enumerate(json.loads((entries[-1] / "made.json").read_text())["files"]):
         file = PLACE / path.replace(f"rlib/{name}.rlib", f"rlib/{name}.rlib", 1)
         file.parent.mkdir(parents=True, exist_ok=True)
-        shutil.copyfile(entries[-1] / str(number), file)
+        file.symlink_to(entries[-1] / str(number))
     return to
 
 
