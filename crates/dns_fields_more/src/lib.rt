@@ -4,3 +4,13 @@
 //! A part of `dns_rdata_more`. `zonewire` takes data of these types as unknown data (RFC 3597).
 #![tactic(auto)]
 
+mod bitmap;
+mod form;
+mod location;
+mod row;
+mod service;
+mod value;
+
+pub use form::{Form, forms_of};
+pub use row::is_further_data;
+pub use value::Value;
