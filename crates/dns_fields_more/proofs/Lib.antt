@@ -1,3 +1,4 @@
 pub mod Numbers
 pub mod Sole
 pub mod Rows
+pub mod Scans

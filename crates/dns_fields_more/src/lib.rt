@@ -4,11 +4,10 @@
 //! A part of `dns_rdata_more`. `zonewire` takes data of these types as unknown data (RFC 3597).
 #![tactic(auto)]
 
-mod bitmap;
 mod form;
-mod location;
 mod row;
-mod service;
+mod scan;
+mod show;
 mod value;
 
 pub use form::{Form, forms_of};
