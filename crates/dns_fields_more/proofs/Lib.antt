@@ -1,0 +1,2 @@
+mod TriedService
+mod TriedLocation

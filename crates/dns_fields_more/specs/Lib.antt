@@ -1,0 +1,4 @@
+pub mod Service
+pub mod ServiceText
+pub mod Location
+pub mod LocationText
