@@ -13,3 +13,4 @@ mod value;
 pub use form::{Form, forms_of};
 pub use row::is_further_data;
 pub use value::Value;
+mod service;
