@@ -4,3 +4,4 @@
 //! A part of `dns_rdata_more`. `zonewire` takes data of these types as unknown data (RFC 3597).
 #![tactic(auto)]
 
+mod type_words;
