@@ -1,1 +1,6 @@
 pub mod TypeWords
+pub mod Time
+pub mod HashWords
+pub mod Hardware
+pub mod TypeBitmap
+pub mod Tried
