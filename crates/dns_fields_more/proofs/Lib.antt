@@ -1,1 +1,3 @@
 pub mod TypeWords
+pub mod Calendar
+pub mod Moments

@@ -5,6 +5,7 @@ use Rattle.std.specs.Char.{is_ascii_digit}
 use Rattle.std.specs.List.{list_all}
 use Rattle.std.specs.Str.Parse.{digits_value}
 use Rattle.dns_values.specs.Mnemonic.{number_spelled}
+use Rattle.dns_fields_more.specs.declared.time.Moment.{Moment}
 
 -- every fourth year, but of the centuries only every fourth
 abbrev pub is_leap_year : ℕ → Bool
@@ -28,15 +29,6 @@ days_of_years (suc count) = days_of_years count + days_in_year (1970 + count)
 unfoldable pub days_of_months : ℕ → ℕ → ℕ
 days_of_months year zero = 0
 days_of_months year (suc count) = days_of_months year count + days_in_month year (suc count)
-
--- a date, and a time of day, in UTC
-pub record Moment : Type 0 where
-  pub year : ℕ
-  pub month : ℕ
-  pub day : ℕ
-  pub hour : ℕ
-  pub minute : ℕ
-  pub second : ℕ
 
 abbrev pub is_from_to : ℕ → ℕ → ℕ → Bool
 is_from_to low high number = nat_le low number && nat_le number high
@@ -113,11 +105,17 @@ moment_after seconds =
 abbrev pub two_digits : ℕ → List ℕ
 two_digits number = (48 + number / 10) ∷ (48 + number % 10) ∷ []
 
+-- a date in eight digits, and a time of day in six
+unfoldable pub date_written : ℕ → ℕ → ℕ → List ℕ
+date_written year month day = two_digits (year / 100) ++ two_digits (year % 100) ++ two_digits month ++ two_digits day
+
+unfoldable pub clock_written : ℕ → ℕ → ℕ → List ℕ
+clock_written hour minute second = two_digits hour ++ two_digits minute ++ two_digits second
+
 -- a moment in 14 digits
 unfoldable pub moment_written : Moment → List ℕ
 moment_written moment =
-    two_digits (moment.year / 100) ++ two_digits (moment.year % 100) ++ two_digits moment.month ++ two_digits moment.day
-    ++ two_digits moment.hour ++ two_digits moment.minute ++ two_digits moment.second
+    date_written moment.year moment.month moment.day ++ clock_written moment.hour moment.minute moment.second
 
 -- how a time is written
 unfoldable pub time_written : ℕ → List ℕ

@@ -3,7 +3,7 @@ use Rattle.std.specs.Prelude.{◌≡◌, [], ◌∷◌, ◌++◌, codes, decimal
 use Rattle.dns_scan.specs.Bits.{bits}
 use Rattle.dns_values.specs.Mnemonic.{types, number_read, number_named, number_behind, number_spelled, text_of, text_written}
 use Rattle.dns_fields_more.specs.TypeWords.{more_types, type_word_read, type_word_written}
-use Rattle.dns_fields_more.specs.Time.{days_of_years, days_of_months, day_number, seconds_before, moment_of, moment_read, time_read, greatest, year_after, month_after, moment_after, moment_written, time_written}
+use Rattle.dns_fields_more.specs.Time.{days_of_years, days_of_months, day_number, seconds_before, moment_of, moment_read, time_read, greatest, year_after, month_after, moment_after, date_written, clock_written, moment_written, time_written}
 use Rattle.dns_fields_more.specs.Hardware.{hardware_written}
 use Rattle.dns_fields_more.specs.HashWords.{salt_written, hash_written}
 use Rattle.dns_fields_more.specs.TypeBitmap.{windows_up_to, types_in}
@@ -39,12 +39,12 @@ unfolding time_read number_spelled
 number = refl
 
 pub written : time_written 1048354263 ≡ codes "20030322173103"
-unfolding time_written moment_written moment_after year_after month_after greatest days_of_years days_of_months
+unfolding time_written moment_written date_written clock_written moment_after year_after month_after greatest days_of_years days_of_months
 written = refl
 
 -- the last second that a time has, and the first one after it
 pub last : time_written 4294967295 ≡ codes "21060207062815"
-unfolding time_written moment_written moment_after year_after month_after greatest days_of_years days_of_months
+unfolding time_written moment_written date_written clock_written moment_after year_after month_after greatest days_of_years days_of_months
 last = refl
 
 pub wrapped : time_read (codes "21060207062816") ≡ Some 0
