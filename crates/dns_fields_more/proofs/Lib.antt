@@ -4,3 +4,6 @@ pub mod Rows
 pub mod Scans
 mod TriedService
 mod TriedLocation
+pub mod TypeWords
+pub mod Calendar
+pub mod Moments

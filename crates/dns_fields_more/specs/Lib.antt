@@ -6,3 +6,9 @@ pub mod Service
 pub mod ServiceText
 pub mod Location
 pub mod LocationText
+pub mod TypeWords
+pub mod Time
+pub mod HashWords
+pub mod Hardware
+pub mod TypeBitmap
+pub mod Tried

@@ -14,3 +14,5 @@ pub use form::{Form, forms_of};
 pub use row::is_further_data;
 pub use value::Value;
 mod service;
+mod time;
+mod type_words;
