@@ -1,9 +1,9 @@
+pub mod TypeWords
+pub mod Calendar
+pub mod Moments
+mod TriedService
+mod TriedLocation
 pub mod Numbers
 pub mod Sole
 pub mod Rows
 pub mod Scans
-mod TriedService
-mod TriedLocation
-pub mod TypeWords
-pub mod Calendar
-pub mod Moments

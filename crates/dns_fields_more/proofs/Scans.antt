@@ -1,14 +1,16 @@
 -- Fields that are scanned, and appended to octets.
 use Rattle.std.proofs.Common.{◌≡◌, ◌<◌, ◌^◌, ◌++◌, ◌∙◌, ℕ, List, ap, refl, sym, append_assoc}
-use Rattle.std.specs.Prelude.{Result, Ok, Err, OnOk}
+use Rattle.std.specs.Prelude.{None, Result, Ok, Err, OnOk}
 use Rattle.std.specs.Str.{chars}
 use Rattle.dns_scan.specs.Encodings.{Decodes16, Decodes64}
-use Rattle.dns_scan.specs.Token.{Token, IsEntry, IsWord}
+use Rattle.dns_scan.specs.Token.{Token, IsEntry, IsWord, Takes}
 use Rattle.dns_fields.specs.Fields.{Field, field_octets}
-use Rattle.dns_fields.proofs.FieldKinds.{of_rest16, of_rest64}
+use Rattle.dns_fields.proofs.FieldKinds.{of_number16, of_number32, of_rest16, of_rest64}
+use Rattle.dns_fields_more.specs.Time.{time_read}
+use Rattle.dns_fields_more.specs.TypeWords.{type_word_read}
 use Rattle.dns_fields_more.specs.Text.{AppendsForm, NoFormScans, ScansForm}
 use Rattle.dns_fields_more.specs.declared.form.Form.{Form}
-use Rattle.dns_fields_more.specs.declared.form.Form.TheVariants.{Rest16, Rest64}
+use Rattle.dns_fields_more.specs.declared.form.Form.TheVariants.{Rest16, Rest64, Rtype as RtypeForm, Time}
 
 pub scanned : {T E : Type 0} {names : List ℕ → List (List ℕ) → Type 0} {form : Form} {tokens left : List Token} (old new more : List ℕ) (field : Field)
     → ScansForm names form field tokens left → more ≡ field_octets field → (result : Result T E) → OnOk result (new ≡ old ++ more)
@@ -37,3 +39,13 @@ module _ {names : List ℕ → List (List ℕ) → Type 0} {tokens : List Token}
   pub no_rest64 : ((text octets : List ℕ) → IsEntry IsWord tokens text → Decodes64 (chars text) octets → ⊥) → NoFormScans names Rest64 tokens
   no_rest64 none field left scans =
       of_rest64 (λ f. ScansForm names Rest64 f tokens left → ⊥) field (λ octets s. none s.spelled.0 octets s.spelled.1 s.spelled.2) scans.is.kind scans
+
+  pub no_rtype : ((text : List ℕ) (left : List Token) → Takes (IsWord text) tokens left → None ≡ type_word_read text) → NoFormScans names RtypeForm tokens
+  no_rtype none field left scans =
+      of_number16 (λ f. ScansForm names RtypeForm f tokens left → ⊥) field
+      (λ n s. let read = none s.spelled.text left s.spelled.takes ∙ s.spelled.reads_as in absurd (cc)) scans.is.kind scans
+
+  pub no_time : ((text : List ℕ) (left : List Token) → Takes (IsWord text) tokens left → None ≡ time_read text) → NoFormScans names Time tokens
+  no_time none field left scans =
+      of_number32 (λ f. ScansForm names Time f tokens left → ⊥) field
+      (λ n s. let read = none s.spelled.text left s.spelled.takes ∙ s.spelled.reads_as in absurd (cc)) scans.is.kind scans

@@ -4,8 +4,8 @@ use Rattle.std.specs.Prelude.{◌≡◌, ◌≢◌, ◌<◌, ◌^◌, ◌++◌, 
 use Rattle.dns_fields.specs.Fields.{Kind, Field, kind_of, field_octets, octets, IsField, lowered}
 use Rattle.dns_fields.specs.Fields as kinds
 use Rattle.dns_fields_more.specs.TypeBitmap.{IsTypeBitmap}
-use Rattle.dns_fields_more.specs.Service.{AreParameters}
-use Rattle.dns_fields_more.specs.Location.{IsLocation}
+use Rattle.dns_fields_more.specs.Service.{HoldsParameters}
+use Rattle.dns_fields_more.specs.Location.{HoldsLocation}
 use Rattle.dns_fields_more.specs.declared.form.Form.{Form}
 use Rattle.dns_fields_more.specs.declared.form.Form.TheVariants.{Number8, Number16, Number32, Name, CasedName, String, RestText, Rest16, Rest64, Rtype as RtypeForm, Time, Salt, Hash, Types, Parameters, Location, Eui48, Eui64}
 
@@ -80,8 +80,8 @@ forms_of rtype = forms_in further rtype
 abbrev pub Keeps : Form → List ℕ → Type 0
 Keeps Hash octets = octets ≢ 0 ∷ []
 Keeps Types octets = IsTypeBitmap octets
-Keeps Parameters octets = AreParameters octets
-Keeps Location octets = IsLocation octets
+Keeps Parameters octets = HoldsParameters octets
+Keeps Location octets = HoldsLocation octets
 Keeps Eui48 octets = length octets ≡ 6
 Keeps Eui64 octets = length octets ≡ 8
 Keeps form octets = ⊤

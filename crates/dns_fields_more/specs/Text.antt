@@ -1,16 +1,37 @@
 -- Fields of forms as text: the tokens of a row (RFC 1035 5.1).
-use Rattle.std.specs.Prelude.{◌≡◌, ◌++◌, ℕ, Bool, false, List, [], ◌∷◌}
-use Rattle.dns_scan.specs.Token.{Token}
-use Rattle.dns_fields.specs.Fields.{Field, field_octets, octets, number16, number32, string, rest16}
+use Rattle.std.specs.Prelude.{◌≡◌, ◌++◌, ℕ, List, [], ◌∷◌, map}
 use Rattle.dns_label.specs.Name.{IsName, wire}
+use Rattle.dns_scan.specs.Scans.{ScansWord}
+use Rattle.dns_scan.specs.Token.{Token, Takes, IsWord}
+use Rattle.dns_fields.specs.Fields.{Field, field_octets, octets, number16, number32, string, rest16}
 use Rattle.dns_fields.specs.Scanned.{ScansField, TakesName}
 use Rattle.dns_fields.specs.Shown.{field_tokens}
+use Rattle.dns_fields_more.specs.TypeWords.{type_word_read, type_word_written}
+use Rattle.dns_fields_more.specs.Time.{time_read, time_written}
+use Rattle.dns_fields_more.specs.HashWords.{IsSaltWord, IsHashWord, salt_written, hash_written}
+use Rattle.dns_fields_more.specs.Hardware.{IsHardwareText, hardware_written}
+use Rattle.dns_fields_more.specs.TypeBitmap.{ScansTypes, types_in}
+use Rattle.dns_fields_more.specs.Service.{AreParameters, Parameter, octets_of}
+use Rattle.dns_fields_more.specs.ServiceText.{ScansParameters, parameter_text}
+use Rattle.dns_fields_more.specs.Location.{IsLocation, Location, location_octets}
+use Rattle.dns_fields_more.specs.LocationText.{ScansLocation, location_words}
 use Rattle.dns_fields_more.specs.Forms.{IsFieldOf, AreFieldsOf}
 use Rattle.dns_fields_more.specs.declared.form.Form.{Form}
-use Rattle.dns_fields_more.specs.declared.form.Form.TheVariants.{Rtype as RtypeForm, Time, Salt, Hash, Types, Parameters, Location, Eui48, Eui64}
+use Rattle.dns_fields_more.specs.declared.form.Form.TheVariants.{Rtype as RtypeForm, Time, Salt, Hash, Types, Parameters, Location as LocationForm, Eui48, Eui64}
 
--- The tokens begin with the text of the form, and these are left.
+-- The tokens begin with the text of the field in this form, and these are left. A field of any other form is read as one of its kind.
 abbrev pub SpellsForm : (List ℕ → List (List ℕ) → Type 0) → Form → Field → List Token → List Token → Type 0
+SpellsForm names RtypeForm (number16 n) tokens left = ScansWord type_word_read tokens n left
+SpellsForm names Time (number32 n) tokens left = ScansWord time_read tokens n left
+SpellsForm names Salt (string octets) tokens left = (text : List ℕ) × Takes (IsWord text) tokens left × IsSaltWord text octets
+SpellsForm names Hash (string octets) tokens left = (text : List ℕ) × Takes (IsWord text) tokens left × IsHashWord text octets
+SpellsForm names Types (rest16 octets) tokens left = ScansTypes tokens left octets
+SpellsForm names Parameters (rest16 octets) tokens left =
+    (parameters : List Parameter) × ScansParameters parameters tokens × (octets ≡ octets_of parameters) × (left ≡ [])
+SpellsForm names LocationForm (rest16 octets) tokens left =
+    (location : Location) × ScansLocation location tokens × (octets ≡ location_octets location) × (left ≡ [])
+SpellsForm names Eui48 (rest16 octets) tokens left = (text : List ℕ) × Takes (IsWord text) tokens left × IsHardwareText 6 text octets
+SpellsForm names Eui64 (rest16 octets) tokens left = (text : List ℕ) × Takes (IsWord text) tokens left × IsHardwareText 8 text octets
 SpellsForm names form field tokens left = ScansField names field tokens left
 
 -- They begin with the text of a field of the form, and these are left.
@@ -57,6 +78,25 @@ pub record AppendsName (names : List ℕ → List (List ℕ) → Type 0) (tokens
 abbrev pub NoNameScans : (List ℕ → List (List ℕ) → Type 0) → List Token → Type 0
 NoNameScans names tokens = (name : List (List ℕ)) (left : List Token) → TakesName names name tokens left → ⊥
 
--- how a field of the form is printed
-abbrev pub form_tokens : Form → Field → List (List ℕ)
-form_tokens form field = field_tokens field
+-- The field is printed as these tokens. A field of any other form is printed as one of its kind.
+abbrev pub PrintsForm : Form → Field → List (List ℕ) → Type 0
+PrintsForm RtypeForm (number16 n) tokens = tokens ≡ type_word_written n ∷ []
+PrintsForm Time (number32 n) tokens = tokens ≡ time_written n ∷ []
+PrintsForm Salt (string octets) tokens = tokens ≡ salt_written octets ∷ []
+PrintsForm Hash (string octets) tokens = tokens ≡ hash_written octets ∷ []
+PrintsForm Types (rest16 octets) tokens = tokens ≡ map type_word_written (types_in octets)
+PrintsForm Parameters (rest16 octets) tokens =
+    (parameters : List Parameter) × AreParameters parameters × (octets ≡ octets_of parameters) × (tokens ≡ map parameter_text parameters)
+PrintsForm LocationForm (rest16 octets) tokens =
+    (location : Location) × IsLocation location × (octets ≡ location_octets location) × (tokens ≡ location_words location)
+PrintsForm Eui48 (rest16 octets) tokens = tokens ≡ hardware_written octets ∷ []
+PrintsForm Eui64 (rest16 octets) tokens = tokens ≡ hardware_written octets ∷ []
+PrintsForm form field tokens = tokens ≡ field_tokens field
+
+-- the fields of the forms are printed as these tokens, one after another
+abbrev pub PrintsForms : List Form → List Field → List (List ℕ) → Type 0
+PrintsForms [] [] tokens = tokens ≡ []
+PrintsForms [] (field ∷ row) tokens = ⊥
+PrintsForms (form ∷ forms) [] tokens = ⊥
+PrintsForms (form ∷ forms) (field ∷ row) tokens =
+    (first : List (List ℕ)) × (others : List (List ℕ)) × PrintsForm form field first × PrintsForms forms row others × (tokens ≡ first ++ others)

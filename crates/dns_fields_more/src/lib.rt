@@ -5,14 +5,15 @@
 #![tactic(auto)]
 
 mod form;
+mod pending;
 mod row;
 mod scan;
+mod service;
 mod show;
+mod time;
+mod type_words;
 mod value;
 
 pub use form::{Form, forms_of};
 pub use row::is_further_data;
 pub use value::Value;
-mod service;
-mod time;
-mod type_words;

@@ -1,12 +1,17 @@
 //! Fields that are scanned into octets.
-ghost use Rattle.std.specs.Prelude.{◌≡◌, ◌++◌, false, true, IfErr, OnOk};
-ghost use Rattle.dns_scan.specs.Token.{SameNames};
+ghost use Rattle.std.specs.Prelude.{◌≡◌, ◌++◌, false, true, List, ℕ, IfErr, IfOk, IfSome, IsSome, OnOk};
+ghost use Rattle.dns_scan.specs.Token.{IsWord, SameNames, Takes, Token};
 ghost use Rattle.dns_fields_more.specs.Text.{AppendsForm, AppendsName, GoesOn, NoFormScans, NoNameScans};
+ghost use Rattle.dns_fields_more.specs.Time.{time_read};
+ghost use Rattle.dns_fields_more.specs.TypeWords.{type_word_read};
 ghost use Rattle.dns_fields_more.specs.declared.form.Form.TheVariants as form_of;
 
 use crate::Form;
-use dns_name::{Octets, ToName};
+use crate::time::read_time;
+use crate::type_words::read_type;
+use dns_name::{Octets, Rtype, ToName};
 use dns_text::{Scan, Scanner, ScannerError, base16, base64};
+use std::alloc::{AllocError, Global};
 
 /// Scans a number of one octet.
 fn scan_number8<S: Scanner>(scanner: &mut S, octets: &mut Vec<u8>) -> Result<(), S::Error>
@@ -141,6 +146,68 @@ where
     match name.compose(octets) {
         Ok(()) => Ok(()),
         Err(_) => Err(S::Error::short_buf()),
+    }
+}
+
+/// Scans a type.
+fn scan_rtype<S: Scanner>(scanner: &mut S, octets: &mut Vec<u8>) -> Result<(), S::Error>
+    ensures ok { OnOk result (AppendsForm (S.names scanner.old) form_of.Rtype (S.tokens scanner.old) (S.tokens scanner.new)
+        octets.old.items octets.new.items) }
+    ensures err { IfErr result (λ error. S.Error.is_short error ≡ false
+        → NoFormScans (S.names scanner.old) form_of.Rtype (S.tokens scanner.old)) }
+    ensures names { SameNames (S.names scanner.old) (S.names scanner.new) }
+    ensures more { GoesOn octets.old.items octets.new.items }
+{
+    match scanner.scan_ascii_str(type_in) {
+        Ok(number) => append::<S>(octets, &number.to_be_bytes()),
+        Err(error) => Err(error),
+    }
+}
+
+/// Returns the number of the type that the text is a word of.
+fn type_in(text: &str) -> Option<u16>
+    ensures { result ≡ type_word_read text.now }
+{
+    read_type(text.as_bytes()).map(Rtype::to_int)
+}
+
+/// Scans a point in time.
+fn scan_time<S: Scanner>(scanner: &mut S, octets: &mut Vec<u8>) -> Result<(), S::Error>
+    ensures ok { OnOk result (AppendsForm (S.names scanner.old) form_of.Time (S.tokens scanner.old) (S.tokens scanner.new)
+        octets.old.items octets.new.items) }
+    ensures err { IfErr result (λ error. S.Error.is_short error ≡ false
+        → NoFormScans (S.names scanner.old) form_of.Time (S.tokens scanner.old)) }
+    ensures names { SameNames (S.names scanner.old) (S.names scanner.new) }
+    ensures more { GoesOn octets.old.items octets.new.items }
+{
+    match scanner.scan_ascii_str(time_in) {
+        Ok(time) => append::<S>(octets, &time.to_be_bytes()),
+        Err(error) => Err(error),
+    }
+}
+
+/// Returns the time that the text is of.
+fn time_in(text: &str) -> Option<u32>
+    ensures { result ≡ time_read text.now }
+{
+    read_time(text.as_bytes())
+}
+
+/// Scans a word, and returns a copy of its text.
+fn scan_word<S: Scanner>(alloc: Global, scanner: &mut S) -> Result<Vec<u8>, S::Error>
+    ensures ok { IfOk result (λ text. Takes (IsWord text.items) (S.tokens scanner.old) (S.tokens scanner.new)) }
+    ensures err { IfErr result (λ error. S.Error.is_short error ≡ false
+        → (text : List ℕ) (left : List Token) → Takes (IsWord text) (S.tokens scanner.old) left → ⊥) }
+    ensures names { SameNames (S.names scanner.old) (S.names scanner.new) }
+{
+    let copy = move |text: &str| -> Option<Result<Vec<u8>, AllocError>>
+        ensures copy { IfSome result (λ copied. IfOk copied (λ octets. octets.items ≡ text.now)) }
+        ensures some { IsSome result }
+    { Some(Vec::from_slice(alloc, text.as_bytes())) };
+    match scanner.scan_ascii_str(copy) {
+        Ok(Ok(text)) => Ok(text),
+        Ok(Err(_)) => Err(S::Error::short_buf()),
+        Err(error) => Err(error),
     }
 }
 
