@@ -1,3 +1,4 @@
 pub mod TypeWords
 pub mod Calendar
 pub mod Moments
+pub mod HashWords

@@ -4,5 +4,8 @@
 //! A part of `dns_rdata_more`. `zonewire` takes data of these types as unknown data (RFC 3597).
 #![tactic(auto)]
 
+mod append;
+mod hardware;
+mod hash_words;
 mod time;
 mod type_words;
