@@ -7,3 +7,4 @@ pub mod Numbers
 pub mod Sole
 pub mod Rows
 pub mod Scans
+pub mod HashWords

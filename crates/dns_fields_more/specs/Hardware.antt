@@ -29,6 +29,10 @@ pub record IsHardwareText (count : ℕ) (text octets : List ℕ) : Type 0 where
 abbrev pub small_digit : ℕ → ℕ
 small_digit number = if nat_lt number 10 then 48 + number else 87 + number
 
+-- an octet in two digits
+abbrev pub small_pair : ℕ → List ℕ
+small_pair octet = small_digit (octet / 16) ∷ small_digit (octet % 16) ∷ []
+
 -- how an address is written
 abbrev pub hardware_written : List ℕ → List ℕ
-hardware_written octets = join_with_byte 45 (map (λ octet. small_digit (octet / 16) ∷ small_digit (octet % 16) ∷ []) octets)
+hardware_written octets = join_with_byte 45 (map small_pair octets)

@@ -1,10 +1,6 @@
--- Salts and hashes of owners as words (RFC 5155, section 3.3), each on the wire after its length octet (section 3.2).
+-- Salts and hashes of owners as words (RFC 5155, section 3.3).
 use Rattle.std.specs.Prelude.{◌≡◌, ◌≤◌, ◌<◌, ◌⊎◌, ℕ, List, [], ◌∷◌, length, codes}
 use Rattle.dns_scan.specs.Encodings.{Decodes16, Decodes32, encoded_16, encoded_32}
-
--- octets after their length octet
-abbrev pub counted : List ℕ → List ℕ
-counted octets = length octets ∷ octets
 
 -- at least one octet, and as many as a length octet can count
 pub record IsCountable (octets : List ℕ) : Type 0 where

@@ -1,7 +1,9 @@
+pub mod Appended
 pub mod TypeWords
 pub mod Time
 pub mod HashWords
 pub mod Hardware
+pub mod HardwareParts
 pub mod TypeBitmap
 pub mod Service
 pub mod ServiceText

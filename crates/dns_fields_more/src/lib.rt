@@ -4,7 +4,10 @@
 //! A part of `dns_rdata_more`. `zonewire` takes data of these types as unknown data (RFC 3597).
 #![tactic(auto)]
 
+mod append;
 mod form;
+mod hardware;
+mod hash_words;
 mod pending;
 mod row;
 mod scan;
