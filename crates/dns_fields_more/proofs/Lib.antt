@@ -8,3 +8,4 @@ pub mod Sole
 pub mod Rows
 pub mod Scans
 pub mod HashWords
+pub mod ScanRows

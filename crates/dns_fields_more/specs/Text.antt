@@ -51,6 +51,10 @@ ScansForms names (form ∷ forms) [] tokens left = ⊥
 ScansForms names (form ∷ forms) (field ∷ row) tokens left =
     (behind : List Token) × ScansForm names form field tokens behind × ScansForms names forms row behind left
 
+-- they begin with no such texts
+abbrev pub NoFormsScan : (List ℕ → List (List ℕ) → Type 0) → List Form → List Token → Type 0
+NoFormsScan names forms tokens = (row : List Field) (left : List Token) → ScansForms names forms row tokens left → ⊥
+
 -- A field of the form is scanned, and its octets follow the old ones.
 pub record AppendsForm (names : List ℕ → List (List ℕ) → Type 0) (form : Form) (tokens left : List Token) (old new : List ℕ) : Type 0 where
   pub field : Field
@@ -62,11 +66,6 @@ pub record AppendsForms (names : List ℕ → List (List ℕ) → Type 0) (forms
   pub row : List Field
   pub scans : ScansForms names forms row tokens left
   pub behind : new ≡ old ++ octets row
-
--- the new octets begin with the old ones
-pub record GoesOn (old new : List ℕ) : Type 0 where
-  pub more : List ℕ
-  pub is : new ≡ old ++ more
 
 -- A name is scanned, and its octets follow the old ones.
 pub record AppendsName (names : List ℕ → List (List ℕ) → Type 0) (tokens left : List Token) (old new : List ℕ) : Type 0 where

@@ -1,17 +1,82 @@
 //! Fields that are scanned into octets.
 ghost use Rattle.std.specs.Prelude.{◌≡◌, ◌++◌, false, true, List, ℕ, IfErr, IfOk, IfSome, IsSome, OnOk};
 ghost use Rattle.dns_scan.specs.Token.{IsWord, SameNames, Takes, Token};
-ghost use Rattle.dns_fields_more.specs.Text.{AppendsForm, AppendsName, GoesOn, NoFormScans, NoNameScans};
+ghost use Rattle.dns_fields_more.specs.Appended.{GoesOn};
+ghost use Rattle.dns_fields_more.specs.Text.{AppendsForm, AppendsForms, AppendsName, NoFormScans, NoFormsScan, NoNameScans};
 ghost use Rattle.dns_fields_more.specs.Time.{time_read};
 ghost use Rattle.dns_fields_more.specs.TypeWords.{type_word_read};
+ghost use Rattle.dns_fields_more.specs.declared.append.WordError.TheVariants.{Invalid};
 ghost use Rattle.dns_fields_more.specs.declared.form.Form.TheVariants as form_of;
 
 use crate::Form;
+use crate::append::WordError;
+use crate::hardware::append_hardware;
+use crate::hash_words::{append_hash, append_salt};
+use crate::pending::{scan_location_into, scan_parameters_into, scan_types_into};
 use crate::time::read_time;
 use crate::type_words::read_type;
 use dns_name::{Octets, Rtype, ToName};
 use dns_text::{Scan, Scanner, ScannerError, base16, base64};
 use std::alloc::{AllocError, Global};
+
+/// Scans fields of the forms one after another, takes their tokens, and appends their octets, every name in full.
+///
+/// Fails with an error other than `short_buf` only if the tokens do not begin with such fields. It may then have appended
+/// some of them.
+pub(crate) fn scan_forms<S: Scanner>(
+    forms: &[Form],
+    scanner: &mut S,
+    octets: &mut Vec<u8>,
+) -> Result<(), S::Error>
+where
+    S::Name: Drop,
+    ensures ok { OnOk result (AppendsForms (S.names scanner.old) forms.now (S.tokens scanner.old) (S.tokens scanner.new)
+        octets.old.items octets.new.items) }
+    ensures err { IfErr result (λ error. S.Error.is_short error ≡ false
+        → NoFormsScan (S.names scanner.old) forms.now (S.tokens scanner.old)) }
+    ensures names { SameNames (S.names scanner.old) (S.names scanner.new) }
+    ensures more { GoesOn octets.old.items octets.new.items }
+{
+    let Some((form, others)) = forms.split_first() else {
+        return Ok(());
+    };
+    match scan_form(*form, scanner, octets) {
+        Ok(()) => scan_forms(others, scanner, octets),
+        Err(error) => Err(error),
+    }
+}
+
+/// Scans a field of the form.
+fn scan_form<S: Scanner>(form: Form, scanner: &mut S, octets: &mut Vec<u8>) -> Result<(), S::Error>
+where
+    S::Name: Drop,
+    ensures ok { OnOk result (AppendsForm (S.names scanner.old) form (S.tokens scanner.old) (S.tokens scanner.new)
+        octets.old.items octets.new.items) }
+    ensures err { IfErr result (λ error. S.Error.is_short error ≡ false → NoFormScans (S.names scanner.old) form (S.tokens scanner.old)) }
+    ensures names { SameNames (S.names scanner.old) (S.names scanner.new) }
+    ensures more { GoesOn octets.old.items octets.new.items }
+{
+    match form {
+        Form::Number8 => scan_number8(scanner, octets),
+        Form::Number16 => scan_number16(scanner, octets),
+        Form::Number32 => scan_number32(scanner, octets),
+        Form::Name => scan_lowered_name(scanner, octets),
+        Form::CasedName => scan_cased_name(scanner, octets),
+        Form::String => scan_string(scanner, octets),
+        Form::RestText => scan_text(scanner, octets),
+        Form::Rest16 => scan_base16(scanner, octets),
+        Form::Rest64 => scan_base64(scanner, octets),
+        Form::Rtype => scan_rtype(scanner, octets),
+        Form::Time => scan_time(scanner, octets),
+        Form::Salt => scan_salt(scanner, octets),
+        Form::Hash => scan_hash(scanner, octets),
+        Form::Types => scan_types(scanner, octets),
+        Form::Parameters => scan_parameters(scanner, octets),
+        Form::Location => scan_location(scanner, octets),
+        Form::Eui48 => scan_eui48(scanner, octets),
+        Form::Eui64 => scan_eui64(scanner, octets),
+    }
+}
 
 /// Scans a number of one octet.
 fn scan_number8<S: Scanner>(scanner: &mut S, octets: &mut Vec<u8>) -> Result<(), S::Error>
@@ -125,6 +190,85 @@ fn scan_base64<S: Scanner>(scanner: &mut S, octets: &mut Vec<u8>) -> Result<(), 
     }
 }
 
+/// Scans a name that is in lower case in canonical form.
+fn scan_lowered_name<S: Scanner>(scanner: &mut S, octets: &mut Vec<u8>) -> Result<(), S::Error>
+where
+    S::Name: Drop,
+    ensures ok { OnOk result (AppendsForm (S.names scanner.old) form_of.Name (S.tokens scanner.old) (S.tokens scanner.new)
+        octets.old.items octets.new.items) }
+    ensures err { IfErr result (λ error. S.Error.is_short error ≡ false
+        → NoFormScans (S.names scanner.old) form_of.Name (S.tokens scanner.old)) }
+    ensures names { SameNames (S.names scanner.old) (S.names scanner.new) }
+    ensures more { GoesOn octets.old.items octets.new.items }
+{
+    match scan_name(scanner, octets) {
+        Ok(()) => Ok(()),
+        Err(error) => Err(error),
+    }
+}
+
+/// Scans a name that keeps its case.
+fn scan_cased_name<S: Scanner>(scanner: &mut S, octets: &mut Vec<u8>) -> Result<(), S::Error>
+where
+    S::Name: Drop,
+    ensures ok { OnOk result (AppendsForm (S.names scanner.old) form_of.CasedName (S.tokens scanner.old) (S.tokens scanner.new)
+        octets.old.items octets.new.items) }
+    ensures err { IfErr result (λ error. S.Error.is_short error ≡ false
+        → NoFormScans (S.names scanner.old) form_of.CasedName (S.tokens scanner.old)) }
+    ensures names { SameNames (S.names scanner.old) (S.names scanner.new) }
+    ensures more { GoesOn octets.old.items octets.new.items }
+{
+    match scan_name(scanner, octets) {
+        Ok(()) => Ok(()),
+        Err(error) => Err(error),
+    }
+}
+
+/// Scans types, up to the end.
+fn scan_types<S: Scanner>(scanner: &mut S, octets: &mut Vec<u8>) -> Result<(), S::Error>
+    ensures ok { OnOk result (AppendsForm (S.names scanner.old) form_of.Types (S.tokens scanner.old) (S.tokens scanner.new)
+        octets.old.items octets.new.items) }
+    ensures err { IfErr result (λ error. S.Error.is_short error ≡ false
+        → NoFormScans (S.names scanner.old) form_of.Types (S.tokens scanner.old)) }
+    ensures names { SameNames (S.names scanner.old) (S.names scanner.new) }
+    ensures more { GoesOn octets.old.items octets.new.items }
+{
+    match scan_types_into(scanner, octets) {
+        Ok(()) => Ok(()),
+        Err(error) => Err(error),
+    }
+}
+
+/// Scans service parameters, up to the end.
+fn scan_parameters<S: Scanner>(scanner: &mut S, octets: &mut Vec<u8>) -> Result<(), S::Error>
+    ensures ok { OnOk result (AppendsForm (S.names scanner.old) form_of.Parameters (S.tokens scanner.old) (S.tokens scanner.new)
+        octets.old.items octets.new.items) }
+    ensures err { IfErr result (λ error. S.Error.is_short error ≡ false
+        → NoFormScans (S.names scanner.old) form_of.Parameters (S.tokens scanner.old)) }
+    ensures names { SameNames (S.names scanner.old) (S.names scanner.new) }
+    ensures more { GoesOn octets.old.items octets.new.items }
+{
+    match scan_parameters_into(scanner, octets) {
+        Ok(()) => Ok(()),
+        Err(error) => Err(error),
+    }
+}
+
+/// Scans a location, up to the end.
+fn scan_location<S: Scanner>(scanner: &mut S, octets: &mut Vec<u8>) -> Result<(), S::Error>
+    ensures ok { OnOk result (AppendsForm (S.names scanner.old) form_of.Location (S.tokens scanner.old) (S.tokens scanner.new)
+        octets.old.items octets.new.items) }
+    ensures err { IfErr result (λ error. S.Error.is_short error ≡ false
+        → NoFormScans (S.names scanner.old) form_of.Location (S.tokens scanner.old)) }
+    ensures names { SameNames (S.names scanner.old) (S.names scanner.new) }
+    ensures more { GoesOn octets.old.items octets.new.items }
+{
+    match scan_location_into(scanner, octets) {
+        Ok(()) => Ok(()),
+        Err(error) => Err(error),
+    }
+}
+
 /// Scans a name, and appends it in full.
 fn scan_name<S: Scanner>(scanner: &mut S, octets: &mut Vec<u8>) -> Result<(), S::Error>
 where
@@ -191,6 +335,92 @@ fn time_in(text: &str) -> Option<u32>
     ensures { result ≡ time_read text.now }
 {
     read_time(text.as_bytes())
+}
+
+/// Scans a salt.
+fn scan_salt<S: Scanner>(scanner: &mut S, octets: &mut Vec<u8>) -> Result<(), S::Error>
+    ensures ok { OnOk result (AppendsForm (S.names scanner.old) form_of.Salt (S.tokens scanner.old) (S.tokens scanner.new)
+        octets.old.items octets.new.items) }
+    ensures err { IfErr result (λ error. S.Error.is_short error ≡ false
+        → NoFormScans (S.names scanner.old) form_of.Salt (S.tokens scanner.old)) }
+    ensures names { SameNames (S.names scanner.old) (S.names scanner.new) }
+    ensures more { GoesOn octets.old.items octets.new.items }
+{
+    let word = match scan_word(*octets.allocator(), scanner) {
+        Ok(word) => word,
+        Err(error) => return Err(error),
+    };
+    match append_salt(word.as_slice(), octets) {
+        Ok(()) => Ok(()),
+        Err(error) => Err(word_error(error)),
+    }
+}
+
+/// Scans a hash.
+fn scan_hash<S: Scanner>(scanner: &mut S, octets: &mut Vec<u8>) -> Result<(), S::Error>
+    ensures ok { OnOk result (AppendsForm (S.names scanner.old) form_of.Hash (S.tokens scanner.old) (S.tokens scanner.new)
+        octets.old.items octets.new.items) }
+    ensures err { IfErr result (λ error. S.Error.is_short error ≡ false
+        → NoFormScans (S.names scanner.old) form_of.Hash (S.tokens scanner.old)) }
+    ensures names { SameNames (S.names scanner.old) (S.names scanner.new) }
+    ensures more { GoesOn octets.old.items octets.new.items }
+{
+    let word = match scan_word(*octets.allocator(), scanner) {
+        Ok(word) => word,
+        Err(error) => return Err(error),
+    };
+    match append_hash(word.as_slice(), octets) {
+        Ok(()) => Ok(()),
+        Err(error) => Err(word_error(error)),
+    }
+}
+
+/// Scans a hardware address of six octets.
+fn scan_eui48<S: Scanner>(scanner: &mut S, octets: &mut Vec<u8>) -> Result<(), S::Error>
+    ensures ok { OnOk result (AppendsForm (S.names scanner.old) form_of.Eui48 (S.tokens scanner.old) (S.tokens scanner.new)
+        octets.old.items octets.new.items) }
+    ensures err { IfErr result (λ error. S.Error.is_short error ≡ false
+        → NoFormScans (S.names scanner.old) form_of.Eui48 (S.tokens scanner.old)) }
+    ensures names { SameNames (S.names scanner.old) (S.names scanner.new) }
+    ensures more { GoesOn octets.old.items octets.new.items }
+{
+    let word = match scan_word(*octets.allocator(), scanner) {
+        Ok(word) => word,
+        Err(error) => return Err(error),
+    };
+    match append_hardware(word.as_slice(), 6, octets) {
+        Ok(()) => Ok(()),
+        Err(error) => Err(word_error(error)),
+    }
+}
+
+/// Scans a hardware address of eight octets.
+fn scan_eui64<S: Scanner>(scanner: &mut S, octets: &mut Vec<u8>) -> Result<(), S::Error>
+    ensures ok { OnOk result (AppendsForm (S.names scanner.old) form_of.Eui64 (S.tokens scanner.old) (S.tokens scanner.new)
+        octets.old.items octets.new.items) }
+    ensures err { IfErr result (λ error. S.Error.is_short error ≡ false
+        → NoFormScans (S.names scanner.old) form_of.Eui64 (S.tokens scanner.old)) }
+    ensures names { SameNames (S.names scanner.old) (S.names scanner.new) }
+    ensures more { GoesOn octets.old.items octets.new.items }
+{
+    let word = match scan_word(*octets.allocator(), scanner) {
+        Ok(word) => word,
+        Err(error) => return Err(error),
+    };
+    match append_hardware(word.as_slice(), 8, octets) {
+        Ok(()) => Ok(()),
+        Err(error) => Err(word_error(error)),
+    }
+}
+
+/// Returns the scanner's error for a word whose octets were not appended.
+fn word_error<Error: ScannerError>(error: WordError) -> Error
+    ensures { Error.is_short result ≡ false → error ≡ Invalid }
+{
+    match error {
+        WordError::Invalid => Error::custom("illegal word"),
+        WordError::OutOfMemory => Error::short_buf(),
+    }
 }
 
 /// Scans a word, and returns a copy of its text.
