@@ -1,2 +1,6 @@
 mod TriedService
 mod TriedLocation
+mod ServiceParts
+mod ServiceValues
+mod ServicePieces
+mod ServiceKeys
