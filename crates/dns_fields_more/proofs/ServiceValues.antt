@@ -70,8 +70,11 @@ pub keys_value : {octets : List ℕ} → HoldsKeys 1 octets → octets ≢ [] �
 keys_value {octets} holds some = record {
   value = keys holds.each;
   formed = refl;
-  fits = (λ none. some (sym holds.written ∙ ap (flat_map (to_be_bytes w16)) none),
-      above_one holds.each (ascend_above 1 holds.each holds.ascend) holds.small, ascend_to 1 holds.each holds.ascend);
+  fits = (
+    λ none. some (sym holds.written ∙ ap (flat_map (to_be_bytes w16)) none),
+    above_one holds.each (ascend_above 1 holds.each holds.ascend) holds.small,
+    ascend_to 1 holds.each holds.ascend,
+  );
   written = holds.written;
 }
 

@@ -1,5 +1,5 @@
 //! Whether octets are service parameters (RFC 9460 2.2).
-ghost use Rattle.std.specs.Prelude.{◌≡◌, ◌%◌, ◌<◌, ◌^◌, ◌↔◌, ◌++◌, ◌∷◌, [], length, IsTrue, IfSome, IfNone};
+ghost use Rattle.std.specs.Prelude.{◌≡◌, ◌⊎◌, ◌%◌, ◌<◌, ◌^◌, ◌↔◌, ◌++◌, ◌∷◌, [], List, ℕ, length, IsTrue, IfSome, IfNone};
 ghost use Rattle.std.specs.Int.{to_be_bytes, w16};
 ghost use Rattle.dns_fields_more.specs.declared.service.form.Form.TheVariants.{Keys, Strings};
 ghost use Rattle.dns_fields_more.specs.Service.{HoldsParameters, IsAmong, keys_of};
@@ -12,9 +12,16 @@ use super::keys::form_at;
 pub(crate) fn are_parameters(octets: &[u8]) -> bool
     ensures { IsTrue result ↔ HoldsParameters octets.now }
 {
-    are_ordered(octets)
-        && has_mandatory(octets)
-        && (!has_key(octets, 2) || has_key(octets, 1))
+    if !are_ordered(octets) {
+        return false;
+    }
+    if !has_mandatory(octets) {
+        return false;
+    }
+    if !has_key(octets, 2) {
+        return true;
+    }
+    has_key(octets, 1)
 }
 
 /// Returns whether the octets are parameters with ascending keys.
@@ -51,19 +58,29 @@ fn has_key(octets: &[u8], wanted: u16) -> bool
 fn has_mandatory(octets: &[u8]) -> bool
     ensures { Decides octets.now HasMandatory result }
 {
-    let Some((0, mut wanted, _)) = split_part(octets) else {
+    let Some((first_key, mut wanted, _)) = split_part(octets) else {
         return true;
     };
+    if first_key != 0 {
+        return true;
+    }
     let mut rest = octets;
     while let Some((key, _, behind)) = split_part(rest) {
-        if let Some((first, others)) = split_number(wanted)
-            && first == key
-        {
-            wanted = others;
-        }
+        wanted = behind_key(wanted, key);
         rest = behind;
     }
     wanted.is_empty()
+}
+
+/// Returns what is behind the key, if the octets begin with it, and else the octets.
+fn behind_key(octets: &[u8], key: u16) -> &[u8]
+    ensures { (octets.now ≡ to_be_bytes w16 key ++ result.now)
+        ⊎ ((result.now ≡ octets.now) × ((behind : List ℕ) → octets.now ≡ to_be_bytes w16 key ++ behind → ⊥)) }
+{
+    match split_number(octets) {
+        Some((first, behind)) if first == key => behind,
+        _ => octets,
+    }
 }
 
 /// Returns whether the octets are a value of the form.

@@ -25,15 +25,16 @@ loop-len-preserved c =
 
 pub returns-then-len-eq0 : goal.returns-then-len-eq0
 returns-then-len-eq0 c = (
-    λ yes. absurd (cc),
-    λ holds.
-        let is : c.loop-len.rest.now ≡ c.in-Some.len ∷ c.in-Some.behind.now = c.in-Some.ensures.some.1 in
-        let less = strings_less is (c.loop-len.invariant.0 (value_strings holds).0) in
-        let above = less.0 in
-        let enough = less.1 in elim c.then-len-eq0.branch [
-          then-len-eq0-via-then-len-eq0 w ↦ absurd (omega (arith, above)) |
-          then-len-eq0-via-else-len-eq0+then-behind-len w ↦ absurd (omega (arith, enough))
-        ])
+  λ yes. absurd (cc),
+  λ holds.
+      let is : c.loop-len.rest.now ≡ c.in-Some.len ∷ c.in-Some.behind.now = c.in-Some.ensures.some.1 in
+      let less = strings_less is (c.loop-len.invariant.0 (value_strings holds).0) in
+      let above = less.0 in
+      let enough = less.1 in elim c.then-len-eq0.branch [
+        | then-len-eq0-via-then-len-eq0 w ↦ absurd (omega (arith, above))
+        | then-len-eq0-via-else-len-eq0+then-behind-len w ↦ absurd (omega (arith, enough))
+      ],
+)
 
 pub returns : goal.returns
 returns c =
