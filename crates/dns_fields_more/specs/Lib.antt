@@ -7,6 +7,7 @@ pub mod HardwareParts
 pub mod TypeBitmap
 pub mod Service
 pub mod ServiceText
+pub mod ServiceParts
 pub mod Location
 pub mod LocationText
 pub mod Forms

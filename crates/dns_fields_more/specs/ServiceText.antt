@@ -1,6 +1,6 @@
 -- Service parameters as text (RFC 9460 2.1).
-use Rattle.std.specs.Prelude.{◌≡◌, ◌<◌, ◌^◌, ◌==◌, ◌||◌, ◌⊎◌, ℕ, true, List, [], ◌∷◌, ◌++◌, map, codes, decimal, Some, unwrap_or, if◌then◌else◌}
-use Rattle.std.specs.List.{AllByRecursion, AllZip, flat_map, join_with_byte}
+use Rattle.std.specs.Prelude.{◌≡◌, ◌<◌, ◌^◌, ◌==◌, ◌||◌, ◌⊎◌, ℕ, List, [], ◌∷◌, ◌++◌, length, map, codes, decimal, Some, unwrap_or, if◌then◌else◌}
+use Rattle.std.specs.List.{AllZip, flat_map, join_with_byte}
 use Rattle.std.specs.List.Sorted.{IsPermutation}
 use Rattle.std.specs.Net.Addr.{segments_of}
 use Rattle.std.specs.Net.Addr.{octets_of as octets_of_segments}
@@ -9,8 +9,8 @@ use Rattle.std.specs.Net.Text.{ipv4_text, hex_groups_text}
 use Rattle.dns_values.specs.Mnemonic.{number_spelled}
 use Rattle.dns_scan.specs.Encodings.{Decodes64, encoded_64}
 use Rattle.dns_scan.specs.StringText.{Spells, unquoted_text}
-use Rattle.dns_scan.specs.Token.{Token, unquoted}
-use Rattle.dns_fields_more.specs.Service.{AreParameters, IsParameter, Parameter, Value, keys, strings, nothing, number, ipv4s, ipv6s, encoded, plain, name_of, octets_of, value_octets}
+use Rattle.dns_scan.specs.Token.{Token, Takes, HasText, SpellsOctets}
+use Rattle.dns_fields_more.specs.Service.{AreParameters, Parameter, Value, keys, strings, nothing, number, ipv4s, ipv6s, encoded, plain, name_of, octets_of, value_octets}
 
 -- `key` and the number, without leading zeros
 abbrev pub number_word : ℕ → List ℕ
@@ -53,13 +53,13 @@ SpellsParameter word text parameter =
     ((name_of parameter.key ≡ Some word) × SpellsValue text parameter.value)
     ⊎ ((word ≡ number_word parameter.key) × (text ≡ value_octets parameter.value))
 
--- The tokens begin with a word and its value, and these are left: `word`, without a value; `word=value`; or `word="value"`, whose quote
--- begins a token.
+-- The tokens begin with a word and its value, and these are left: `word`, without a value; `word=value`; or `word=` and the token after
+-- it, since the quote of `word="value"` begins a token. Quotes around `word` or `word=value` change nothing.
 abbrev pub TakesWord : List ℕ → List ℕ → List Token → List Token → Type 0
 TakesWord word text tokens left =
-    ((tokens ≡ unquoted word ∷ left) × (text ≡ []))
-    ⊎ (((written : List ℕ) × (tokens ≡ unquoted (word ++ 61 ∷ written) ∷ left) × Spells written text)
-    ⊎ ((written : List ℕ) × (tokens ≡ unquoted (word ++ 61 ∷ []) ∷ record { quoted = true; text = written } ∷ left) × Spells written text))
+    (Takes (HasText word) tokens left × (text ≡ []))
+    ⊎ (((written : List ℕ) × (0 < length written) × Takes (HasText (word ++ 61 ∷ written)) tokens left × Spells written text)
+    ⊎ ((behind : List Token) × Takes (HasText (word ++ 61 ∷ [])) tokens behind × Takes (SpellsOctets text) behind left))
 
 -- the tokens begin with a parameter, and these are left
 pub record ScansParameter (parameter : Parameter) (tokens left : List Token) : Type 0 where

@@ -1,5 +1,5 @@
 -- Fields of forms as text: the tokens of a row (RFC 1035 5.1).
-use Rattle.std.specs.Prelude.{◌≡◌, ◌++◌, ℕ, List, [], ◌∷◌, map}
+use Rattle.std.specs.Prelude.{◌≡◌, ◌<◌, ◌≤◌, ◌++◌, ℕ, List, [], ◌∷◌, length, map, Some}
 use Rattle.dns_label.specs.Name.{IsName, wire}
 use Rattle.dns_scan.specs.Scans.{ScansWord}
 use Rattle.dns_scan.specs.Token.{Token, Takes, IsWord}
@@ -15,7 +15,7 @@ use Rattle.dns_fields_more.specs.Service.{AreParameters, Parameter, octets_of}
 use Rattle.dns_fields_more.specs.ServiceText.{ScansParameters, parameter_text}
 use Rattle.dns_fields_more.specs.Location.{IsLocation, Location, location_octets}
 use Rattle.dns_fields_more.specs.LocationText.{ScansLocation, location_words}
-use Rattle.dns_fields_more.specs.Forms.{IsFieldOf, AreFieldsOf}
+use Rattle.dns_fields_more.specs.Forms.{IsFieldOf, forms_of}
 use Rattle.dns_fields_more.specs.declared.form.Form.{Form}
 use Rattle.dns_fields_more.specs.declared.form.Form.TheVariants.{Rtype as RtypeForm, Time, Salt, Hash, Types, Parameters, Location as LocationForm, Eui48, Eui64}
 
@@ -99,3 +99,30 @@ PrintsForms [] (field ∷ row) tokens = ⊥
 PrintsForms (form ∷ forms) [] tokens = ⊥
 PrintsForms (form ∷ forms) (field ∷ row) tokens =
     (first : List (List ℕ)) × (others : List (List ℕ)) × PrintsForm form field first × PrintsForms forms row others × (tokens ≡ first ++ others)
+
+-- The tokens begin with the text of a row of the forms, and these are left; its octets follow the old ones.
+pub record ScansFurther (names : List ℕ → List (List ℕ) → Type 0) (rtype : ℕ) (row : List Field) (tokens left : List Token) : Type 0 where
+  pub forms : List Form
+  pub its : forms_of rtype ≡ Some forms
+  pub scans : ScansForms names forms row tokens left
+  pub short : length (octets row) ≤ 65535
+
+-- the same, if the fields have more octets than a record's data may have (RFC 1035 3.2.1)
+pub record ScansLongRow (names : List ℕ → List (List ℕ) → Type 0) (rtype : ℕ) (tokens : List Token) : Type 0 where
+  pub forms : List Form
+  pub row : List Field
+  pub left : List Token
+  pub its : forms_of rtype ≡ Some forms
+  pub scans : ScansForms names forms row tokens left
+  pub long : 65535 < length (octets row)
+
+-- If the tokens do not begin with such a row of too many octets, they begin with none.
+abbrev pub NoFurtherScans : (List ℕ → List (List ℕ) → Type 0) → ℕ → List Token → Type 0
+NoFurtherScans names rtype tokens =
+    (ScansLongRow names rtype tokens → ⊥) → (row : List Field) (left : List Token) → ScansFurther names rtype row tokens left → ⊥
+
+-- data of the further type is scanned, and its octets follow the old ones
+pub record AppendsFurther (names : List ℕ → List (List ℕ) → Type 0) (rtype : ℕ) (tokens left : List Token) (old new : List ℕ) : Type 0 where
+  pub row : List Field
+  pub scans : ScansFurther names rtype row tokens left
+  pub behind : new ≡ old ++ octets row

@@ -18,5 +18,5 @@ mod type_words;
 mod value;
 
 pub use form::{Form, forms_of};
-pub use row::is_further_data;
+pub use row::{is_further_data, scan_further_into};
 pub use value::Value;
