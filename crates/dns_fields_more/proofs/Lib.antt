@@ -2,3 +2,4 @@ pub mod TypeWords
 pub mod Calendar
 pub mod Moments
 pub mod HashWords
+pub mod HardwareText
