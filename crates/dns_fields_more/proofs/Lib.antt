@@ -3,3 +3,4 @@ pub mod Calendar
 pub mod Moments
 pub mod HashWords
 pub mod HardwareText
+pub mod TypeBits

@@ -5,4 +5,5 @@ pub mod HashWords
 pub mod Hardware
 pub mod HardwareParts
 pub mod TypeBitmap
+pub mod Windows
 pub mod Tried

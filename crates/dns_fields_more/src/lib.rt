@@ -5,6 +5,7 @@
 #![tactic(auto)]
 
 mod append;
+mod bitmap;
 mod hardware;
 mod hash_words;
 mod time;
