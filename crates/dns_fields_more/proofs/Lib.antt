@@ -13,3 +13,5 @@ mod ServiceParts
 mod ServiceValues
 mod ServicePieces
 mod ServiceKeys
+pub mod HardwareText
+pub mod TypeBits

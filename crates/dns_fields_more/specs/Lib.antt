@@ -14,4 +14,5 @@ pub mod Forms
 pub mod Values
 pub mod Rows
 pub mod Text
+pub mod Windows
 pub mod Tried

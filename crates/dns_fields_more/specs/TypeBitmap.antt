@@ -1,9 +1,11 @@
 -- Bitmaps of types: windows of 256 types each, in ascending order (RFC 4034, section 4.1.2).
-use Rattle.std.specs.Prelude.{◌≡◌, ◌↔◌, ◌+◌, ◌*◌, ◌≤◌, ◌<◌, ◌-◌, ◌==◌, ℕ, zero, suc, List, [], ◌∷◌, ◌++◌, Option, Some, length, take, drop, slice_index, if◌then◌else◌}
+use Rattle.std.specs.Prelude.{◌≡◌, ◌↔◌, ◌+◌, ◌*◌, ◌≤◌, ◌<◌, ◌-◌, ◌==◌, ℕ, zero, suc, List, [], ◌∷◌, ◌++◌, Option, Some, length, map, take, drop, slice_index, if◌then◌else◌}
 use Rattle.std.specs.List.{flat_map, Contains}
 use Rattle.dns_scan.specs.Bits.{all_bits}
 use Rattle.dns_scan.specs.Token.{Token, IsWord}
-use Rattle.dns_fields_more.specs.TypeWords.{type_word_read}
+use Rattle.dns_text.specs.Document.{Piece}
+use Rattle.dns_text.specs.Document.Piece.{Token as printed}
+use Rattle.dns_fields_more.specs.TypeWords.{type_word_read, type_word_written}
 
 -- a window: the high octet of its types' numbers, and its octets
 pub record Window : Type 0 where
@@ -80,3 +82,17 @@ pub record ScansTypes (tokens left : List Token) (octets : List ℕ) : Type 0 wh
   pub spelled : SpellTypes tokens types
   pub none : left ≡ []
   pub bitmap : IsBitmapOf types octets
+
+-- the same, and the bitmap follows the old octets
+pub record AppendsTypes (tokens left : List Token) (old new : List ℕ) : Type 0 where
+  pub octets : List ℕ
+  pub scans : ScansTypes tokens left octets
+  pub behind : new ≡ old ++ octets
+
+-- the tokens are not all of types
+abbrev pub SpellsNoTypes : List Token → Type 0
+SpellsNoTypes tokens = (types : List ℕ) → SpellTypes tokens types → ⊥
+
+-- how types are printed: a token for each
+abbrev pub type_pieces : List ℕ → List Piece
+type_pieces types = map (λ type. printed (type_word_written type)) types

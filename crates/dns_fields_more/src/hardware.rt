@@ -3,9 +3,10 @@
 ghost use Rattle.std.specs.Prelude.{◌≡◌, ◌<◌, ◌∷◌, ◌++◌, List, ℕ, Some, IfErr, IfSome, IfNone, OnOk};
 ghost use Rattle.std.specs.Char.{digit_value};
 ghost use Rattle.std.specs.Fmt.{DisplaysOnOk};
+ghost use Rattle.std.specs.List.{flat_map};
 ghost use Rattle.dns_fields_more.specs.Appended.{GoesOn, Appends};
 ghost use Rattle.dns_fields_more.specs.Hardware.{IsHexPair, IsHardwareText, hardware_written, small_digit, small_pair};
-ghost use Rattle.dns_fields_more.specs.HardwareParts.{IsBehind, BeginsWithPair};
+ghost use Rattle.dns_fields_more.specs.HardwareParts.{IsBehind, BeginsWithPair, minus_pair};
 ghost use Rattle.dns_fields_more.specs.declared.append.WordError.TheVariants.{Invalid};
 
 use crate::append::WordError;
@@ -61,12 +62,9 @@ fn split_pair(text: &[u8]) -> Option<(u8, &[u8])>
     ensures some { IfSome result (λ parts. BeginsWithPair text.now parts.0 parts.1.now) }
     ensures none { IfNone result ((octet : ℕ) (behind : List ℕ) → BeginsWithPair text.now octet behind → ⊥) }
 {
-    let [high, low, behind @ ..] = text else {
-        return None;
-    };
-    let high = hex_value(*high)?;
-    let low = hex_value(*low)?;
-    Some((16 * high + low, behind))
+    let (&high, behind) = text.split_first()?;
+    let (&low, behind) = behind.split_first()?;
+    Some((16 * hex_value(high)? + hex_value(low)?, behind))
 }
 
 /// Returns the value of a hexadecimal digit, in upper or lower case.
@@ -90,16 +88,30 @@ impl fmt::Display for DisplayHardware<'_> {
     ghost output = { λ address. Some (hardware_written address.0.now) };
 
     fn fmt<W: fmt::Write>(&self, f: &mut fmt::Formatter<W>) -> fmt::Result {
-        let Some((first, behind)) = self.0.split_first() else {
-            return Ok(());
-        };
-        write_octet(f, *first)?;
-        for octet in behind {
-            f.write_char('-')?;
-            write_octet(f, *octet)?;
-        }
-        Ok(())
+        write_hardware(f, self.0)
     }
+}
+
+/// Writes a hardware address.
+fn write_hardware<W: fmt::Write>(f: &mut fmt::Formatter<W>, octets: &[u8]) -> fmt::Result
+    ensures { DisplaysOnOk W.write_str_gives f.old result (Some (hardware_written octets.now)) f.new }
+{
+    let Some((&first, behind)) = octets.split_first() else {
+        return Ok(());
+    };
+    write_octet(f, first)?;
+    write_behind(f, behind)
+}
+
+/// Writes the octets, each behind a minus sign.
+fn write_behind<W: fmt::Write>(f: &mut fmt::Formatter<W>, octets: &[u8]) -> fmt::Result
+    ensures { DisplaysOnOk W.write_str_gives f.old result (Some (flat_map minus_pair octets.now)) f.new }
+{
+    for octet in octets {
+        f.write_char('-')?;
+        write_octet(f, *octet)?;
+    }
+    Ok(())
 }
 
 /// Writes an octet in two digits.

@@ -5,6 +5,7 @@
 #![tactic(auto)]
 
 mod append;
+mod bitmap;
 mod form;
 mod hardware;
 mod hash_words;
