@@ -15,3 +15,4 @@ mod ServicePieces
 mod ServiceKeys
 pub mod HardwareText
 pub mod TypeBits
+pub mod Shown

@@ -11,7 +11,7 @@ use Rattle.dns_fields_more.specs.HashWords.{IsHashWord, IsSaltWord}
 use Rattle.dns_fields_more.specs.Hardware.{IsHardwareText}
 use Rattle.dns_fields_more.specs.Time.{time_read}
 use Rattle.dns_fields_more.specs.TypeWords.{type_word_read}
-use Rattle.dns_fields_more.specs.TypeBitmap.{ScansTypes}
+use Rattle.dns_fields_more.specs.TypeBitmap.{AppendsTypes, SpellsNoTypes}
 use Rattle.dns_fields_more.specs.Service.{Parameter, octets_of}
 use Rattle.dns_fields_more.specs.ServiceText.{AppendsParameters, ScansParameters}
 use Rattle.dns_fields_more.specs.Location.{Location}
@@ -133,10 +133,10 @@ module _ {names : List ℕ → List (List ℕ) → Type 0} {tokens left : List T
     behind = appends.behind;
   }
 
-  pub types_scanned : Appends (ScansTypes tokens left) old new → AppendsForm names Types tokens left old new
+  pub types_scanned : AppendsTypes tokens left old new → AppendsForm names Types tokens left old new
   types_scanned appends = record {
     field = rest16 appends.octets;
-    scans = record { is = record { kind = refl; is_field = tt; keeps = appends.are.bitmap.bitmap }; spelled = appends.are };
+    scans = record { is = record { kind = refl; is_field = tt; keeps = appends.scans.bitmap.bitmap }; spelled = appends.scans };
     behind = appends.behind;
   }
 
@@ -162,6 +162,10 @@ module _ {names : List ℕ → List (List ℕ) → Type 0} {tokens : List Token}
   pub no_cased : NoNameScans names tokens → NoFormScans names CasedName tokens
   no_cased none field left scans =
       of_uncompressed (λ f. ScansForm names CasedName f tokens left → ⊥) field (λ name s. none name left s.spelled) scans.is.kind scans
+
+  pub no_types : SpellsNoTypes tokens → NoFormScans names Types tokens
+  no_types none field left scans =
+      of_rest16 (λ f. ScansForm names Types f tokens left → ⊥) field (λ octets s. none s.spelled.types s.spelled.spelled) scans.is.kind scans
 
   pub no_parameters : ((parameters : List Parameter) → ScansParameters parameters tokens → ⊥) → NoFormScans names Parameters tokens
   no_parameters none field left scans =

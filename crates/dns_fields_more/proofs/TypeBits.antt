@@ -28,8 +28,9 @@ unfolding up_to
 below p zero n all small = absurd (omega arith)
 below p (suc limit) n all small =
     elim (n == limit) as (λ v. (n == limit) ≡ v → p n ≡ true) [
-      true ↦ (λ is. ap p ((Decides-eqb n limit).0 is) ∙ and_left _ _ all)
-    | false ↦ (λ is. below p limit n (and_right _ _ all) (grind (arith, nat_tests))) ] refl
+      | true ↦ (λ is. ap p ((Decides-eqb n limit).0 is) ∙ and_left _ _ all)
+      | false ↦ (λ is. below p limit n (and_right _ _ all) (grind (arith, nat_tests)))
+    ] refl
 
 -- an octet with one bit set
 sets : ℕ → ℕ → Bool

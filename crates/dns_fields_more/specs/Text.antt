@@ -5,17 +5,21 @@ use Rattle.dns_scan.specs.Scans.{ScansWord}
 use Rattle.dns_scan.specs.Token.{Token, Takes, IsWord}
 use Rattle.dns_fields.specs.Fields.{Field, field_octets, octets, number16, number32, string, rest16}
 use Rattle.dns_fields.specs.Scanned.{ScansField, TakesName}
-use Rattle.dns_fields.specs.Shown.{field_tokens}
+use Rattle.dns_text.specs.Document.{Piece}
+use Rattle.dns_text.specs.Document.Piece.{Token as printed}
+use Rattle.dns_text.specs.Documents.{block_of}
+use Rattle.dns_text.specs.Writing.{Adds}
+use Rattle.dns_fields.specs.Shown.{field_pieces}
 use Rattle.dns_fields_more.specs.TypeWords.{type_word_read, type_word_written}
 use Rattle.dns_fields_more.specs.Time.{time_read, time_written}
 use Rattle.dns_fields_more.specs.HashWords.{IsSaltWord, IsHashWord, salt_written, hash_written}
 use Rattle.dns_fields_more.specs.Hardware.{IsHardwareText, hardware_written}
-use Rattle.dns_fields_more.specs.TypeBitmap.{ScansTypes, types_in}
+use Rattle.dns_fields_more.specs.TypeBitmap.{ScansTypes, type_pieces, types_in}
 use Rattle.dns_fields_more.specs.Service.{AreParameters, Parameter, octets_of}
 use Rattle.dns_fields_more.specs.ServiceText.{ScansParameters, parameter_text}
 use Rattle.dns_fields_more.specs.Location.{IsLocation, Location, location_octets}
 use Rattle.dns_fields_more.specs.LocationText.{ScansLocation, location_words}
-use Rattle.dns_fields_more.specs.Forms.{IsFieldOf, forms_of}
+use Rattle.dns_fields_more.specs.Forms.{AreFieldsOf, IsFieldOf, IsFurtherRow, forms_of}
 use Rattle.dns_fields_more.specs.declared.form.Form.{Form}
 use Rattle.dns_fields_more.specs.declared.form.Form.TheVariants.{Rtype as RtypeForm, Time, Salt, Hash, Types, Parameters, Location as LocationForm, Eui48, Eui64}
 
@@ -77,28 +81,55 @@ pub record AppendsName (names : List ℕ → List (List ℕ) → Type 0) (tokens
 abbrev pub NoNameScans : (List ℕ → List (List ℕ) → Type 0) → List Token → Type 0
 NoNameScans names tokens = (name : List (List ℕ)) (left : List Token) → TakesName names name tokens left → ⊥
 
--- The field is printed as these tokens. A field of any other form is printed as one of its kind.
-abbrev pub PrintsForm : Form → Field → List (List ℕ) → Type 0
-PrintsForm RtypeForm (number16 n) tokens = tokens ≡ type_word_written n ∷ []
-PrintsForm Time (number32 n) tokens = tokens ≡ time_written n ∷ []
-PrintsForm Salt (string octets) tokens = tokens ≡ salt_written octets ∷ []
-PrintsForm Hash (string octets) tokens = tokens ≡ hash_written octets ∷ []
-PrintsForm Types (rest16 octets) tokens = tokens ≡ map type_word_written (types_in octets)
-PrintsForm Parameters (rest16 octets) tokens =
-    (parameters : List Parameter) × AreParameters parameters × (octets ≡ octets_of parameters) × (tokens ≡ map parameter_text parameters)
-PrintsForm LocationForm (rest16 octets) tokens =
-    (location : Location) × IsLocation location × (octets ≡ location_octets location) × (tokens ≡ location_words location)
-PrintsForm Eui48 (rest16 octets) tokens = tokens ≡ hardware_written octets ∷ []
-PrintsForm Eui64 (rest16 octets) tokens = tokens ≡ hardware_written octets ∷ []
-PrintsForm form field tokens = tokens ≡ field_tokens field
+-- The field is printed as these pieces. A field of any other form is printed as one of its kind.
+abbrev pub PrintsForm : Form → Field → List Piece → Type 0
+PrintsForm RtypeForm (number16 n) pieces = pieces ≡ printed (type_word_written n) ∷ []
+PrintsForm Time (number32 n) pieces = pieces ≡ printed (time_written n) ∷ []
+PrintsForm Salt (string octets) pieces = pieces ≡ printed (salt_written octets) ∷ []
+PrintsForm Hash (string octets) pieces = pieces ≡ printed (hash_written octets) ∷ []
+PrintsForm Types (rest16 octets) pieces = pieces ≡ type_pieces (types_in octets)
+PrintsForm Parameters (rest16 octets) pieces =
+    (parameters : List Parameter) × AreParameters parameters × (octets ≡ octets_of parameters)
+    × (pieces ≡ map (λ parameter. printed (parameter_text parameter)) parameters)
+PrintsForm LocationForm (rest16 octets) pieces =
+    (location : Location) × IsLocation location × (octets ≡ location_octets location) × (pieces ≡ map printed (location_words location))
+PrintsForm Eui48 (rest16 octets) pieces = pieces ≡ printed (hardware_written octets) ∷ []
+PrintsForm Eui64 (rest16 octets) pieces = pieces ≡ printed (hardware_written octets) ∷ []
+PrintsForm form field pieces = pieces ≡ field_pieces field
 
--- the fields of the forms are printed as these tokens, one after another
-abbrev pub PrintsForms : List Form → List Field → List (List ℕ) → Type 0
-PrintsForms [] [] tokens = tokens ≡ []
-PrintsForms [] (field ∷ row) tokens = ⊥
-PrintsForms (form ∷ forms) [] tokens = ⊥
-PrintsForms (form ∷ forms) (field ∷ row) tokens =
-    (first : List (List ℕ)) × (others : List (List ℕ)) × PrintsForm form field first × PrintsForms forms row others × (tokens ≡ first ++ others)
+-- the fields of the forms are printed as these pieces, one after another
+abbrev pub PrintsForms : List Form → List Field → List Piece → Type 0
+PrintsForms [] [] pieces = pieces ≡ []
+PrintsForms [] (field ∷ row) pieces = ⊥
+PrintsForms (form ∷ forms) [] pieces = ⊥
+PrintsForms (form ∷ forms) (field ∷ row) pieces =
+    (first : List Piece) × (others : List Piece) × PrintsForm form field first × PrintsForms forms row others × (pieces ≡ first ++ others)
+
+-- a formatter has printed the field
+pub record ShowsForm {F : Type 0} (writes : F → List Piece → F → Type 0) (form : Form) (field : Field) (old new : F) : Type 0 where
+  pub pieces : List Piece
+  pub prints : PrintsForm form field pieces
+  pub adds : Adds writes old pieces new
+
+-- the octets are fields of the forms, which a formatter has printed one after another
+pub record ShowsFields {F : Type 0} (writes : F → List Piece → F → Type 0) (forms : List Form) (whole : List ℕ) (old new : F) : Type 0 where
+  pub row : List Field
+  pub each : AreFieldsOf forms row
+  pub written : whole ≡ octets row
+  pub pieces : List Piece
+  pub prints : PrintsForms forms row pieces
+  pub adds : Adds writes old pieces new
+
+-- the octets are data of the further type, which a formatter has printed as a block
+pub record ShowsFurther {F : Type 0} (writes : F → List Piece → F → Type 0) (rtype : ℕ) (whole : List ℕ) (old new : F) : Type 0 where
+  pub row : List Field
+  pub is_row : IsFurtherRow rtype row
+  pub written : whole ≡ octets row
+  pub forms : List Form
+  pub its : forms_of rtype ≡ Some forms
+  pub pieces : List Piece
+  pub prints : PrintsForms forms row pieces
+  pub adds : Adds writes old (block_of pieces) new
 
 -- The tokens begin with the text of a row of the forms, and these are left; its octets follow the old ones.
 pub record ScansFurther (names : List ℕ → List (List ℕ) → Type 0) (rtype : ℕ) (row : List Field) (tokens left : List Token) : Type 0 where

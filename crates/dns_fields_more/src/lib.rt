@@ -20,4 +20,5 @@ mod value;
 
 pub use form::{Form, forms_of};
 pub use row::{is_further_data, scan_further_into};
+pub use show::show_further;
 pub use value::Value;

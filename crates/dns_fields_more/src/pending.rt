@@ -2,45 +2,25 @@
 ghost use Rattle.std.specs.Prelude.{◌≡◌, ◌↔◌, IsTrue, false, List, ℕ, IfErr, OnOk};
 ghost use Rattle.dns_scan.specs.Token.{SameNames, Token};
 ghost use Rattle.dns_fields_more.specs.Appended.{Appends, GoesOn};
-ghost use Rattle.dns_fields_more.specs.TypeBitmap.{ScansTypes};
 ghost use Rattle.dns_fields_more.specs.Service.{Parameter};
 ghost use Rattle.dns_fields_more.specs.ServiceText.{AppendsParameters, ScansParameters};
 ghost use Rattle.dns_fields_more.specs.Location.{Location};
 ghost use Rattle.dns_fields_more.specs.LocationText.{AppendsLocation, ScansLocation};
-ghost use Rattle.dns_fields_more.specs.TypeBitmap.{IsTypeBitmap};
+ghost use Rattle.dns_fields.specs.Fields.{rest16};
+ghost use Rattle.dns_fields_more.specs.Text.{ShowsForm};
+ghost use Rattle.dns_fields_more.specs.declared.form.Form.TheVariants as form_of;
 ghost use Rattle.dns_fields_more.specs.Service.{HoldsParameters};
 ghost use Rattle.dns_fields_more.specs.Location.{HoldsLocation};
+ghost use Rattle.dns_text.specs.Writing.{Adds};
+ghost use Rattle.dns_fields_more.specs.TypeBitmap.{IsTypeBitmap, types_in, type_pieces};
 
-use dns_text::{Scanner, ScannerError};
-
-pub(crate) fn is_type_bitmap(octets: &[u8]) -> bool
-    ensures { IsTrue result ↔ IsTypeBitmap octets.now }
-{
-    true
-}
-
-pub(crate) fn are_parameters(octets: &[u8]) -> bool
-    ensures { IsTrue result ↔ HoldsParameters octets.now }
-{
-    true
-}
+use dns_text::{Formatter, Scanner, ScannerError};
+use std::fmt;
 
 pub(crate) fn is_location(octets: &[u8]) -> bool
     ensures { IsTrue result ↔ HoldsLocation octets.now }
 {
     true
-}
-
-pub(crate) fn scan_types_into<S: Scanner>(
-    scanner: &mut S,
-    octets: &mut Vec<u8>,
-) -> Result<(), S::Error>
-    ensures ok { OnOk result (Appends (ScansTypes (S.tokens scanner.old) (S.tokens scanner.new)) octets.old.items octets.new.items) }
-    ensures err { IfErr result (λ error. S.Error.is_short error ≡ false → (bitmap : List ℕ) (left : List Token) → ScansTypes (S.tokens scanner.old) left bitmap → ⊥) }
-    ensures names { SameNames (S.names scanner.old) (S.names scanner.new) }
-    ensures more { GoesOn octets.old.items octets.new.items }
-{
-    Err(S::Error::short_buf())
 }
 
 pub(crate) fn scan_parameters_into<S: Scanner>(
@@ -65,4 +45,25 @@ pub(crate) fn scan_location_into<S: Scanner>(
     ensures more { GoesOn octets.old.items octets.new.items }
 {
     Err(S::Error::short_buf())
+}
+
+pub(crate) fn show_parameters<F: Formatter>(octets: &[u8], formatter: &mut F) -> fmt::Result
+    requires { HoldsParameters octets.now }
+    ensures { OnOk result (ShowsForm F.writes form_of.Parameters (rest16 octets.now) formatter.old formatter.new) }
+{
+    Err(fmt::Error)
+}
+
+pub(crate) fn show_location<F: Formatter>(octets: &[u8], formatter: &mut F) -> fmt::Result
+    requires { HoldsLocation octets.now }
+    ensures { OnOk result (ShowsForm F.writes form_of.Location (rest16 octets.now) formatter.old formatter.new) }
+{
+    Err(fmt::Error)
+}
+
+pub(crate) fn show_types<F: Formatter>(octets: &[u8], formatter: &mut F) -> fmt::Result
+    requires { IsTypeBitmap octets.now }
+    ensures { OnOk result (Adds F.writes formatter.old (type_pieces (types_in octets.now)) formatter.new) }
+{
+    Err(fmt::Error)
 }

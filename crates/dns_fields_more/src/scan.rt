@@ -10,9 +10,10 @@ ghost use Rattle.dns_fields_more.specs.declared.form.Form.TheVariants as form_of
 
 use crate::Form;
 use crate::append::WordError;
+use crate::bitmap::scan_types_into;
 use crate::hardware::append_hardware;
 use crate::hash_words::{append_hash, append_salt};
-use crate::pending::{scan_location_into, scan_parameters_into, scan_types_into};
+use crate::pending::{scan_location_into, scan_parameters_into};
 use crate::time::read_time;
 use crate::type_words::read_type;
 use dns_name::{Octets, Rtype, ToName};
