@@ -88,7 +88,7 @@ behind form forms whole rest field well stands row =
 pub no_first : (form : Form) (forms : List Form) (whole : List ℕ) → EndWell (form ∷ forms) → NoneStandsIn form whole → StandAs (form ∷ forms) whole → ⊥
 no_first form forms whole well none row = let its = parted form forms whole well row in none its.field its.rest its.stands
 
-none_left : {A : Type 0} (whole : List A) → length whole ≡ 0 → whole ≡ []
+pub none_left : {A : Type 0} (whole : List A) → length whole ≡ 0 → whole ≡ []
 none_left [] none = refl
 none_left (octet ∷ rest) none = absurd (omega (arith, none))
 

@@ -1,15 +1,18 @@
 -- Fields that are printed.
-use Rattle.std.proofs.Common.{◌≡◌, ℕ, List, refl, subst, sym}
-use Rattle.std.specs.Prelude.{Result, Ok, Err, OnOk}
+use Rattle.std.proofs.Common.{◌≡◌, ◌≤◌, ◌∙◌, ◌++◌, ◌∷◌, [], ℕ, List, length, refl, subst, sym, ap, arith}
+use Rattle.std.specs.Prelude.{Some, Result, Ok, Err, OnOk}
 use Rattle.dns_text.specs.Document.{Piece}
+use Rattle.dns_text.specs.Document.Piece.{Open, Close}
+use Rattle.dns_text.proofs.Writings.{adds_append}
 use Rattle.dns_text.specs.Writing.{Adds}
 use Rattle.dns_fields.specs.Fields as kinds
-use Rattle.dns_fields.specs.Fields.{Field, kind_of, number8, number16, number32, uncompressed, string}
+use Rattle.dns_fields.specs.Fields.{Field, field_octets, kind_of, number8, number16, number32, uncompressed, string}
 use Rattle.dns_fields.specs.Shown.{field_pieces}
-use Rattle.dns_fields_more.specs.Forms.{kind_of_form}
-use Rattle.dns_fields_more.specs.Values.{field_of, rest_field}
+use Rattle.dns_fields_more.specs.Forms.{forms_of, kind_of_form}
+use Rattle.dns_fields_more.specs.Values.{StandsIn, field_of, rest_field}
 use Rattle.dns_fields_more.specs.declared.value.Value.{Value}
-use Rattle.dns_fields_more.specs.Text.{PrintsForm, ShowsForm}
+use Rattle.dns_fields_more.specs.Text.{PrintsForm, ShowsFields, ShowsForm, ShowsFurther}
+use Rattle.dns_fields_more.proofs.Rows.{none_left}
 use Rattle.dns_fields_more.specs.declared.form.Form.{Form}
 use Rattle.dns_fields_more.specs.declared.form.Form.TheVariants.{Number8, Number16, Number32, Name, CasedName, String, RestText, Rest16, Rest64, Rtype as RtypeForm, Time, Salt, Hash, Types, Parameters, Location as LocationForm, Eui48, Eui64}
 
@@ -163,3 +166,54 @@ pub rest_shown : {T E F : Type 0} {form f : Form} (writes : F → List Piece →
     → OnOk result (ShowsForm writes form (rest_field form octets) old new)
 rest_shown {f = f} writes octets pieces old new is prints result adds =
     subst (λ x. OnOk result (ShowsForm writes x (rest_field x octets) old new)) (sym is) (shown writes f (rest_field f octets) pieces old new prints result adds)
+
+-- no fields are left, and none is printed
+pub fields_ended : {F : Type 0} {forms : List Form} {whole : List ℕ} {count : ℕ} (writes : F → List Piece → F → Type 0) (a : F) → length forms ≡ 0
+    → count ≡ length whole → count ≡ 0 → ShowsFields writes forms whole a a
+fields_ended {forms = forms} {whole} writes a none counted ended =
+    subst (λ l. ShowsFields writes l whole a a) (sym (none_left forms none))
+    (record {
+      row = [];
+      each = tt;
+      written = none_left whole (sym counted ∙ ended);
+      pieces = [];
+      prints = refl;
+      adds = λ start front so_far. so_far;
+    })
+
+-- a field is printed, and then the others
+pub fields_step : {T E F : Type 0} {form : Form} {others all : List Form} {whole rest : List ℕ} {field : Field} (writes : F → List Piece → F → Type 0)
+    (a b c : F) → all ≡ form ∷ others → StandsIn form whole field rest → ShowsForm writes form field a b → (result : Result T E)
+    → OnOk result (ShowsFields writes others rest b c) → OnOk result (ShowsFields writes all whole a c)
+fields_step {whole = whole} {field = field} writes a b c is stands first (Ok value) behind =
+    subst (λ l. ShowsFields writes l whole a c) (sym is)
+    (record {
+      row = field ∷ behind.row;
+      each = (stands.is, behind.each);
+      written = stands.written ∙ ap (λ l. field_octets field ++ l) behind.written;
+      pieces = first.pieces ++ behind.pieces;
+      prints = (first.pieces, behind.pieces, first.prints, behind.prints, refl);
+      adds = adds_append writes a b c first.pieces behind.pieces first.adds behind.adds;
+    })
+fields_step writes a b c is stands first (Err error) behind = tt
+
+-- the fields of a further type are printed between the marks of a block
+pub further_shown : {T E F : Type 0} {forms : List Form} {whole : List ℕ} (rtype : ℕ) (writes : F → List Piece → F → Type 0) (a b c d : F)
+    → forms_of rtype ≡ Some forms → length whole ≤ 65535 → Adds writes a (Open ∷ []) b → ShowsFields writes forms whole b c → (result : Result T E)
+    → OnOk result (Adds writes c (Close ∷ []) d) → OnOk result (ShowsFurther writes rtype whole a d)
+further_shown {forms = forms} {whole} rtype writes a b c d its short opens fields (Ok value) closes = record {
+  row = fields.row;
+  is_row = record {
+    forms = forms;
+    its = its;
+    each = fields.each;
+    short = omega (arith, short, ap (length {A = ℕ}) fields.written);
+  };
+  written = fields.written;
+  forms = forms;
+  its = its;
+  pieces = fields.pieces;
+  prints = fields.prints;
+  adds = adds_append writes a b d (Open ∷ []) (fields.pieces ++ Close ∷ []) opens (adds_append writes b c d fields.pieces (Close ∷ []) fields.adds closes);
+}
+further_shown rtype writes a b c d its short opens fields (Err error) closes = tt

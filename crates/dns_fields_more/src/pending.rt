@@ -67,3 +67,9 @@ pub(crate) fn show_types<F: Formatter>(octets: &[u8], formatter: &mut F) -> fmt:
 {
     Err(fmt::Error)
 }
+
+pub(crate) fn is_type_bitmap(octets: &[u8]) -> bool
+    ensures { IsTrue result ↔ IsTypeBitmap octets.now }
+{
+    true
+}
