@@ -16,3 +16,4 @@ mod ServiceKeys
 pub mod HardwareText
 pub mod TypeBits
 pub mod Shown
+pub mod Lowered

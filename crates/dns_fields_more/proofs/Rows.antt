@@ -51,7 +51,7 @@ pub record Parted (form : Form) (forms : List Form) (whole : List ℕ) : Type 0 
   pub stands : StandsIn form whole field rest
   pub others : StandAs forms rest
 
-last_of : (form : Form) (forms : List Form) (row : List Field) → EndWell (form ∷ forms) → AreFieldsOf forms row → is_last form ≡ true
+pub last_of : (form : Form) (forms : List Form) (row : List Field) → EndWell (form ∷ forms) → AreFieldsOf forms row → is_last form ≡ true
     → octets row ≡ []
 last_of form [] [] well each last = refl
 last_of form [] (field ∷ row) well each last = absurd each

@@ -111,3 +111,22 @@ pub record IsFurtherData (rtype : ℕ) (data' : List ℕ) : Type 0 where
   pub row : List Field
   pub is_row : IsFurtherRow rtype row
   pub written : data' ≡ octets row
+
+-- A field in canonical form: a name is in lower case where its form asks for it (RFC 4034 6.2, RFC 6840 5.1).
+abbrev pub lowered_as : Form → Field → Field
+lowered_as Name field = lowered field
+lowered_as form field = field
+
+abbrev pub lowered_row : List Form → List Field → List Field
+lowered_row [] row = row
+lowered_row (form ∷ forms) [] = []
+lowered_row (form ∷ forms) (field ∷ row) = lowered_as form field ∷ lowered_row forms row
+
+-- The canonical form of data of the further type: its fields in canonical form.
+pub record IsFurtherCanonical (rtype : ℕ) (data' canonical : List ℕ) : Type 0 where
+  pub forms : List Form
+  pub its : forms_of rtype ≡ Some forms
+  pub row : List Field
+  pub is_row : IsFurtherRow rtype row
+  pub written : data' ≡ octets row
+  pub lowers : canonical ≡ octets (lowered_row forms row)

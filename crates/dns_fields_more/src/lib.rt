@@ -6,6 +6,7 @@
 
 mod append;
 mod bitmap;
+mod canonical;
 mod form;
 mod hardware;
 mod hash_words;
@@ -18,6 +19,7 @@ mod time;
 mod type_words;
 mod value;
 
+pub use canonical::make_further_canonical;
 pub use form::{Form, forms_of};
 pub use row::{is_further_data, scan_further_into};
 pub use show::show_further;
