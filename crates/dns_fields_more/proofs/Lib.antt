@@ -4,3 +4,6 @@ pub mod Moments
 pub mod HashWords
 pub mod HardwareText
 pub mod TypeBits
+pub mod TypeWindows
+pub mod ShownTypes
+pub mod ScannedTypes
