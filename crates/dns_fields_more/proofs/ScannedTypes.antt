@@ -1,5 +1,5 @@
 -- Facts on types that are scanned.
-use Rattle.std.proofs.Common.{◌≡◌, ◌≢◌, ◌⊎◌, ◌↔◌, ℕ, zero, suc, List, [], ◌∷◌, ◌++◌, length, take, get_or, arith, refl, sym, ap, subst, inl, inr, ⊎_elim, ◌∙◌, append_assoc, append-nil, add-one, Option, Some, None, ◌<◌, ◌+◌}
+use Rattle.std.proofs.Common.{◌≡◌, ◌≢◌, ◌⊎◌, ◌↔◌, ℕ, zero, suc, List, [], ◌∷◌, ◌++◌, length, take, get_or, arith, refl, sym, ap, subst, inl, inr, ⊎_elim, ◌∙◌, append_assoc, append-nil, add-one, Option, Some, None, ◌<◌, ◌+◌, Result, Ok, Err, OnOk}
 use Rattle.std.specs.List.{Contains}
 use Rattle.std.proofs.Math.Seq.{take-suc}
 use Rattle.std.proofs.lemmas.List.Elements.{Contains-append_left, Contains-append_right, Contains-append_cases}
@@ -38,8 +38,15 @@ bitmap_of types set old new same is = record {
   octets = is.octets;
   are = record {
     bitmap = is.are.bitmap;
-    same = λ t. subst (λ (l : List ℕ). Contains l t ↔ Contains types t) (sym is.are.are) (same t) };
-  behind = is.behind }
+    same = λ t. subst (λ (l : List ℕ). Contains l t ↔ Contains types t) (sym is.are.are) (same t);
+  };
+  behind = is.behind;
+}
+
+pub bitmap_on_ok : {T E : Type 0} (result : Result T E) (types set old new : List ℕ) → ((t : ℕ) → Contains set t ↔ Contains types t)
+    → OnOk result (Appends (IsBitmapWith set) old new) → OnOk result (Appends (IsBitmapOf types) old new)
+bitmap_on_ok (Ok value) types set old new same is = bitmap_of types set old new same is
+bitmap_on_ok (Err error) types set old new same is = is
 
 -- the types that are scanned so far
 pub record Scanned (before left : List Token) (set : List ℕ) : Type 0 where
@@ -68,7 +75,8 @@ module _ (before left : List Token) (set : List ℕ) (so_far : Scanned before le
         let parts = so_far.back all is in
         let first = subst (λ (l : List Token). SpellTypes l parts.0) takes.is parts.1 in
         (first.1, first.3);
-    same = also_pushed set new so_far.types type also so_far.same }
+    same = also_pushed set new so_far.types type also so_far.same;
+  }
 
   -- a token that is no type
   pub no_type : ((text : List ℕ) (rest : List Token) → Takes (IsWord text) left rest → type_word_read text ≡ None) → (left ≡ [] → ⊥)
@@ -94,5 +102,7 @@ module _ (before left : List Token) (set : List ℕ) (so_far : Scanned before le
           spelled = subst (λ (l : List ℕ). SpellTypes before l) (append-nil so_far.types)
               (so_far.there [] (subst (λ (l : List Token). SpellTypes l []) (sym none) refl));
           none = none;
-          bitmap = bitmap.are };
-        behind = bitmap.behind }
+          bitmap = bitmap.are;
+        };
+        behind = bitmap.behind;
+      }

@@ -80,10 +80,13 @@ module _ {F : Type 0} (writes : F → List Piece → F → Type 0) where
     where
       taken : take (index + 1) window ≡ take index window ++ octet ∷ []
       taken = rw add-one (take-suc window index 0 within ∙ ap (λ n. take index window ++ n ∷ []) is)
+
       long : length (take index window) ≡ index
       long = omega (arith, length-take index window)
+
       one : all_bits 8 (octet ∷ []) ≡ bits 8 octet
       one = append-nil (bits 8 octet)
+
       step : ones_from (256 * number) (all_bits 8 (take (index + 1) window))
           ≡ ones_from (256 * number) (all_bits 8 (take index window)) ++ ones_from (256 * number + 8 * index) (bits 8 octet)
       step =
@@ -104,7 +107,14 @@ module _ {F : Type 0} (writes : F → List Piece → F → Type 0) where
 
   pub nothing_shown : (start : F) (octets : List ℕ) → IsTypeBitmap octets → Shown start octets octets start
   nothing_shown start octets is = record {
-    done = []; rest = is.windows; low = 0; are = is.are; left_is = is.written; whole = is.written; shown = shows_none start }
+    done = [];
+    rest = is.windows;
+    low = 0;
+    are = is.are;
+    left_is = is.written;
+    whole = is.written;
+    shown = shows_none start;
+  }
 
   -- the next window has at most 32 octets
   pub few_octets : (start now : F) (octets left : List ℕ) → Shown start octets left now → (number : ℕ) (window behind : List ℕ)
@@ -119,26 +129,31 @@ module _ {F : Type 0} (writes : F → List Piece → F → Type 0) where
   show_more start now after octets left so_far number window behind begins more =
       let parts = uncons so_far.low number left window behind begins so_far.rest so_far.are so_far.left_is in
       let types : window_types parts.first ≡ ones_from (256 * number) (all_bits 8 window) =
-          ap (λ n. ones_from (256 * n) (all_bits 8 parts.first.octets)) parts.number_is
-          ∙ ap (λ (l : List ℕ). ones_from (256 * number) (all_bits 8 l)) parts.octets_are in
+      ap (λ n. ones_from (256 * n) (all_bits 8 parts.first.octets)) parts.number_is
+      ∙ ap (λ (l : List ℕ). ones_from (256 * number) (all_bits 8 l)) parts.octets_are in
       let one : flat_map window_types (parts.first ∷ []) ≡ ones_from (256 * number) (all_bits 8 window) =
-          append-nil (window_types parts.first) ∙ types in
+      append-nil (window_types parts.first) ∙ types in
       let all : flat_map window_types (so_far.done ++ parts.first ∷ [])
-          ≡ flat_map window_types so_far.done ++ ones_from (256 * number) (all_bits 8 window) =
-          flat_map-append window_types so_far.done (parts.first ∷ [])
-          ∙ ap (λ (l : List ℕ). flat_map window_types so_far.done ++ l) one in
+      ≡ flat_map window_types so_far.done ++ ones_from (256 * number) (all_bits 8 window) =
+      flat_map-append window_types so_far.done (parts.first ∷ [])
+      ∙ ap (λ (l : List ℕ). flat_map window_types so_far.done ++ l) one in
       record {
-        done = so_far.done ++ parts.first ∷ []; rest = parts.rest; low = parts.first.number + 1; are = parts.are; left_is = parts.behind_is;
+        done = so_far.done ++ parts.first ∷ [];
+        rest = parts.rest;
+        low = parts.first.number + 1;
+        are = parts.are;
+        left_is = parts.behind_is;
         whole = so_far.whole ∙ ap (λ (l : List Window). flat_map window_octets l)
             (ap (λ (l : List Window). so_far.done ++ l) parts.are_all ∙ sym (append_assoc so_far.done (parts.first ∷ []) parts.rest));
-        shown = subst (λ (l : List ℕ). Shows start l after) (sym all) (shows_more start now after (flat_map window_types so_far.done) (ones_from (256 * number) (all_bits 8 window)) so_far.shown more) }
+        shown = subst (λ (l : List ℕ). Shows start l after) (sym all) (shows_more start now after (flat_map window_types so_far.done) (ones_from (256 * number) (all_bits 8 window)) so_far.shown more);
+      }
 
   pub all_shown : (start now : F) (octets left : List ℕ) → Shown start octets left now
       → ((number : ℕ) (window behind : List ℕ) → BeginsWithWindow left number window behind → ⊥) → Shows start (types_in octets) now
   all_shown start now octets left so_far none =
       let rest : so_far.rest ≡ [] = no_windows so_far.low left so_far.rest so_far.are so_far.left_is none in
       let whole : octets ≡ flat_map window_octets so_far.done =
-          so_far.whole ∙ ap (λ (l : List Window). flat_map window_octets (so_far.done ++ l)) rest
-          ∙ ap (λ (l : List Window). flat_map window_octets l) (append-nil so_far.done) in
+      so_far.whole ∙ ap (λ (l : List Window). flat_map window_octets (so_far.done ++ l)) rest
+      ∙ ap (λ (l : List Window). flat_map window_octets l) (append-nil so_far.done) in
       let types : types_in octets ≡ flat_map window_types so_far.done = ap types_in whole ∙ types_of so_far.done in
       subst (λ (l : List ℕ). Shows start l now) (sym types) so_far.shown

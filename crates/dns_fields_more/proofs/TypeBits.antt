@@ -28,8 +28,9 @@ unfolding up_to
 below p zero n all small = absurd (omega arith)
 below p (suc limit) n all small =
     elim (n == limit) as (λ v. (n == limit) ≡ v → p n ≡ true) [
-      true ↦ (λ is. ap p ((Decides-eqb n limit).0 is) ∙ and_left _ _ all)
-    | false ↦ (λ is. below p limit n (and_right _ _ all) (grind (arith, nat_tests))) ] refl
+      | true ↦ (λ is. ap p ((Decides-eqb n limit).0 is) ∙ and_left _ _ all)
+      | false ↦ (λ is. below p limit n (and_right _ _ all) (grind (arith, nat_tests)))
+    ] refl
 
 -- an octet with one bit set
 sets : ℕ → ℕ → Bool
@@ -194,6 +195,7 @@ also_in first (suc k) (x ∷ xs) number within is =
     shift : In (ones_from (first + 1) xs) number ⊎ (number ≡ first + 1 + k) → In (ones_from (first + 1) xs) number ⊎ (number ≡ first + suc k)
     shift (inl h) = inl h
     shift (inr h) = inr (omega (arith, h))
+
     by_bit : (one : Bool)
         → (In (ones_from (first + 1) (slice_set xs k 1)) number → In (ones_from (first + 1) xs) number ⊎ (number ≡ first + suc k))
         → In (cond one (first ∷ ones_from (first + 1) (slice_set xs k 1)) (ones_from (first + 1) (slice_set xs k 1))) number
@@ -218,6 +220,7 @@ in_also first (suc k) (x ∷ xs) number within is =
     shift : In (ones_from (first + 1) xs) number ⊎ (number ≡ first + suc k) → In (ones_from (first + 1) xs) number ⊎ (number ≡ first + 1 + k)
     shift (inl h) = inl h
     shift (inr h) = inr (omega (arith, h))
+
     by_bit : (one : Bool)
         → (In (ones_from (first + 1) xs) number ⊎ (number ≡ first + suc k) → In (ones_from (first + 1) (slice_set xs k 1)) number)
         → In (cond one (first ∷ ones_from (first + 1) xs) (ones_from (first + 1) xs)) number ⊎ (number ≡ first + suc k)
@@ -230,19 +233,23 @@ in_also first (suc k) (x ∷ xs) number within is =
 pub has_also : (old new rest : List ℕ) (count rtype : ℕ) → rtype < 8 * length rest → rest ≡ old ++ replicate count 0
     → all_bits 8 new ≡ slice_set (all_bits 8 rest) rtype 1
     → HasAlso (ones_from 0 (all_bits 8 old)) (ones_from 0 (all_bits 8 new)) rtype
-has_also old new rest count rtype within filled set = λ other.
-    (λ has. ⊎_elim (λ h. inl (in_to _ other h)) (λ h. inr (omega (arith, h)))
-        (also_there other (in_from _ other has)),
-    λ has. in_to _ other (there other (⊎_elim (λ h. inl (in_from _ other h)) (λ h. inr (omega (arith, h))) has)))
+has_also old new rest count rtype within filled set = λ other. (
+  λ has. ⊎_elim (λ h. inl (in_to _ other h)) (λ h. inr (omega (arith, h)))
+      (also_there other (in_from _ other has)),
+  λ has. in_to _ other (there other (⊎_elim (λ h. inl (in_from _ other h)) (λ h. inr (omega (arith, h))) has)),
+)
   where
     long : rtype < length (all_bits 8 rest)
     long = let l = length-all rest in omega (arith, l)
+
     same : ones_from 0 (all_bits 8 rest) ≡ ones_from 0 (all_bits 8 old)
     same = ap (λ (l : List ℕ). ones_from 0 (all_bits 8 l)) filled ∙ types_zeros 0 old count
+
     also_there : (other : ℕ) → In (ones_from 0 (all_bits 8 new)) other → In (ones_from 0 (all_bits 8 old)) other ⊎ (other ≡ 0 + rtype)
     also_there other has =
         subst (λ (l : List ℕ). In l other ⊎ (other ≡ 0 + rtype)) same
         (also_in 0 rtype (all_bits 8 rest) other long (subst (λ (l : List ℕ). In (ones_from 0 l) other) set has))
+
     there : (other : ℕ) → In (ones_from 0 (all_bits 8 old)) other ⊎ (other ≡ 0 + rtype) → In (ones_from 0 (all_bits 8 new)) other
     there other has =
         subst (λ (l : List ℕ). In (ones_from 0 l) other) (sym set)

@@ -21,7 +21,7 @@ windows_back (window ∷ windows) (suc more) enough =
     let back : drop (length window.octets) (window.octets ++ rest) ≡ rest = drop-append_seam window.octets rest in
     let again : windows_up_to more rest ≡ windows = windows_back windows more (omega arith) in
     let parts : ◌≡◌ {A = Window} (record { number = window.number; octets = take (length window.octets) (window.octets ++ rest) }) window =
-        ap (λ (l : List ℕ). record { number = window.number; octets = l }) front in
+    ap (λ (l : List ℕ). record { number = window.number; octets = l }) front in
     ap (λ w. w ∷ windows_up_to more (drop (length window.octets) (window.octets ++ rest))) parts
     ∙ ap (λ (l : List Window). window ∷ l) (ap (windows_up_to more) back ∙ again)
 
@@ -73,7 +73,16 @@ pub record Written (bits old new : List ℕ) (number : ℕ) (left : List ℕ) : 
 
 pub none_written : (bits old : List ℕ) → length bits ≤ 8192 → Written bits old old 0 bits
 none_written bits old small = record {
-  done = []; whole = refl; long = omega arith; at = λ some. refl; windows = []; behind = sym (append-nil old); are = tt; before = tt; types = refl }
+  done = [];
+  whole = refl;
+  long = omega arith;
+  at = λ some. refl;
+  windows = [];
+  behind = sym (append-nil old);
+  are = tt;
+  before = tt;
+  types = refl;
+}
 
 module _ (bits old new : List ℕ) (number : ℕ) (left : List ℕ) (so_far : Written bits old new number left) (some : 0 < length left)
     (window behind : List ℕ) (split : left ≡ window ++ behind) (few : length window ≡ min 32 (length left)) where
@@ -97,9 +106,16 @@ module _ (bits old new : List ℕ) (number : ℕ) (left : List ℕ) (so_far : Wr
 
   pub write_none : (count : ℕ) (after : List ℕ) → window ≡ replicate count 0 → after ≡ new → Written bits old after (number + 1) behind
   write_none count after zeros same = record {
-    done = so_far.done ++ window; whole = whole_more; long = long_more; at = at_more; windows = so_far.windows;
-    behind = same ∙ so_far.behind; are = so_far.are; before = before_more so_far.windows number so_far.before;
-    types = so_far.types ∙ sym (ap (λ (l : List ℕ). ones_from 0 (all_bits 8 (so_far.done ++ l))) zeros ∙ types_zeros 0 so_far.done count) }
+    done = so_far.done ++ window;
+    whole = whole_more;
+    long = long_more;
+    at = at_more;
+    windows = so_far.windows;
+    behind = same ∙ so_far.behind;
+    are = so_far.are;
+    before = before_more so_far.windows number so_far.before;
+    types = so_far.types ∙ sym (ap (λ (l : List ℕ). ones_from 0 (all_bits 8 (so_far.done ++ l))) zeros ∙ types_zeros 0 so_far.done count);
+  }
 
   module _ (trimmed : List ℕ) (count : ℕ) (after : List ℕ) (is : window ≡ trimmed ++ replicate count 0) (any : 0 < length trimmed)
       (last : slice_index trimmed (length trimmed - 1) ≡ 0 → ⊥)
@@ -120,14 +136,19 @@ module _ (bits old new : List ℕ) (number : ℕ) (left : List ℕ) (so_far : Wr
     write_one =
         let w : Window = record { number = number; octets = trimmed } in
         record {
-          done = so_far.done ++ window; whole = whole_more; long = long_more; at = at_more; windows = so_far.windows ++ w ∷ [];
+          done = so_far.done ++ window;
+          whole = whole_more;
+          long = long_more;
+          at = at_more;
+          windows = so_far.windows ++ w ∷ [];
           behind = written ∙ ap (λ (l : List ℕ). l ++ window_octets w) so_far.behind
               ∙ append_assoc old (flat_map window_octets so_far.windows) (window_octets w)
               ∙ ap (λ (l : List ℕ). old ++ l) (sym (flat_push window_octets so_far.windows w));
           are = are_push 0 so_far.windows w so_far.are so_far.before (omega arith) is_window;
           before = before_push so_far.windows w (number + 1) (before_more so_far.windows number so_far.before) (omega arith);
           types = flat_push window_types so_far.windows w
-              ∙ ap (λ (l : List ℕ). l ++ window_types w) so_far.types ∙ sym types_more }
+              ∙ ap (λ (l : List ℕ). l ++ window_types w) so_far.types ∙ sym types_more;
+        }
 
   pub write_more : (trimmed after : List ℕ) → IsTrimmed window trimmed → after ≡ new ++ window_or_none number trimmed
       → Written bits old after (number + 1) behind
@@ -146,8 +167,10 @@ all_written bits old new number left so_far none =
       octets = flat_map window_octets so_far.windows;
       are = record {
         bitmap = record { windows = so_far.windows; are = so_far.are; written = refl };
-        are = types_of so_far.windows ∙ so_far.types ∙ ap (λ (l : List ℕ). ones_from 0 (all_bits 8 l)) (sym whole) };
-      behind = so_far.behind }
+        are = types_of so_far.windows ∙ so_far.types ∙ ap (λ (l : List ℕ). ones_from 0 (all_bits 8 l)) (sym whole);
+      };
+      behind = so_far.behind;
+    }
 
 pub goes_on : (bits old new : List ℕ) (number : ℕ) (left : List ℕ) → Written bits old new number left → GoesOn old new
 goes_on bits old new number left so_far = record { more = flat_map window_octets so_far.windows; is = so_far.behind }
@@ -172,7 +195,8 @@ bitmap_cons low number octets window behind begins from are rest =
     record {
       windows = w ∷ rest.windows;
       are = (from, record { small = begins.small; some = are.some; few = are.few; last = are.last }, rest.are);
-      written = begins.written ∙ ap (λ (l : List ℕ). number ∷ length window ∷ (window ++ l)) rest.written }
+      written = begins.written ∙ ap (λ (l : List ℕ). number ∷ length window ∷ (window ++ l)) rest.written;
+    }
 
 nil_cons : (x : ℕ) (xs ys : List ℕ) → ys ≡ x ∷ xs → ys ≡ [] → ⊥
 nil_cons x xs ys is none = cc
@@ -195,13 +219,22 @@ uncons low number octets window behind begins [] are written =
     absurd (nil_cons number (length window ∷ (window ++ behind)) octets begins.written written)
 uncons low number octets window behind begins (first ∷ rest) are written =
     let all : number ∷ length window ∷ (window ++ behind) ≡ first.number ∷ length first.octets ∷ (first.octets ++ flat_map window_octets rest) =
-        sym begins.written ∙ written in
+    sym begins.written ∙ written in
     let numbers : first.number ≡ number = cc in
     let long : length first.octets ≡ length window = cc in
     let tails : first.octets ++ flat_map window_octets rest ≡ window ++ behind = cc in
     let both = front_one first.octets window (flat_map window_octets rest) behind long tails in
     record {
-      first = first; rest = rest; are_all = refl; from = are.0; is = are.1; are = are.2; number_is = numbers; octets_are = both.0; behind_is = sym both.1 }
+      first = first;
+      rest = rest;
+      are_all = refl;
+      from = are.0;
+      is = are.1;
+      are = are.2;
+      number_is = numbers;
+      octets_are = both.0;
+      behind_is = sym both.1;
+    }
 
 pub record Follows (low number : ℕ) (window behind : List ℕ) : Type 0 where
   pub from : low ≤ number
@@ -221,7 +254,9 @@ bitmap_uncons low number octets window behind begins is =
       rest = record {
         windows = parts.rest;
         are = subst (λ n. AreWindows (n + 1) parts.rest) parts.number_is parts.are;
-        written = parts.behind_is } }
+        written = parts.behind_is;
+      };
+    }
 
 -- octets that begin with no window are those of none
 pub begins_window : (window : Window) (octets rest : List ℕ) → window.number < 256 → octets ≡ window_octets window ++ rest

@@ -10,10 +10,9 @@ mod windows;
 
 pub(crate) use scan::scan_types_into;
 pub(crate) use show::show_types;
-pub(crate) use windows::is_type_bitmap;
-
 use std::alloc::AllocError;
 use type_set::TypeSet;
+pub(crate) use windows::is_type_bitmap;
 
 /// Appends the bitmap of the types, which may be in any order and repeated. Fails if out of memory. It may then have
 /// appended some octets.

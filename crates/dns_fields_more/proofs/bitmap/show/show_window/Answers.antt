@@ -9,5 +9,6 @@ loop-octet-preserved g c =
       first = omega arith;
       shown =
           window_more g.F.Formatter.writes c.args.formatter.now c.loop-octet.formatter c.show_octet.new.formatter c.args.number
-              c.loop-octet.octet-index _ c.args.window.now c.loop-octet-test.true refl c.loop-octet.invariant.shown
-              (rw first at c.in_ok-show_octet.ensures) }
+          c.loop-octet.octet-index _ c.args.window.now c.loop-octet-test.true refl c.loop-octet.invariant.shown
+          (rw first at c.in_ok-show_octet.ensures);
+    }

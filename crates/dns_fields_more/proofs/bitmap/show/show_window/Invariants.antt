@@ -7,4 +7,5 @@ use Rattle.dns_fields_more.proofs.bitmap.show.show_window.Given as goal
 abbrev pub invariant-loop-octet : goal.invariant-loop-octet
 invariant-loop-octet g l = record {
   first : l.first ≡ 256 * l.number + 8 * l.octet-index;
-  shown : Shows g.F.Formatter.writes l.initial.formatter (ones_from (256 * l.number) (all_bits 8 (take l.octet-index l.window))) l.formatter }
+  shown : Shows g.F.Formatter.writes l.initial.formatter (ones_from (256 * l.number) (all_bits 8 (take l.octet-index l.window))) l.formatter;
+}

@@ -12,5 +12,7 @@ loop-bits-preserved c =
     record {
       zeros = (
         suc at.0,
-        items ∙ ap (λ (l : List ℕ). l ++ 0 ∷ []) at.1 ∙ append_assoc old (replicate at.0 0) (0 ∷ []) ∙ ap (λ (l : List ℕ). old ++ l) (zeros_more at.0));
-      few = λ small less. omega (arith, long, one) }
+        items ∙ ap (λ (l : List ℕ). l ++ 0 ∷ []) at.1 ∙ append_assoc old (replicate at.0 0) (0 ∷ []) ∙ ap (λ (l : List ℕ). old ++ l) (zeros_more at.0),
+      );
+      few = λ small less. omega (arith, long, one);
+    }

@@ -11,7 +11,7 @@ returns-then-not-can_follow c = (
   λ is. absurd (false_true is),
   λ bitmap.
       let follows = bitmap_uncons c.loop-number.low c.in-Some.number c.loop-number.left.now c.in-Some.window.now c.in-Some.behind.now
-          c.in-Some.ensures.some (c.loop-number.invariant.back bitmap) in
+      c.in-Some.ensures.some (c.loop-number.invariant.back bitmap) in
       absurd (c.if-not-can_follow.ensures.no false_true follows.from follows.are),
 )
 
@@ -29,7 +29,8 @@ loop-number-preserved c =
           (bitmap_cons c.loop-number.low number c.loop-number.left.now c.in-Some.window.now c.in-Some.behind.now begins can.0 can.1 rest);
       back = λ bitmap.
           let follows = bitmap_uncons c.loop-number.low number c.loop-number.left.now c.in-Some.window.now c.in-Some.behind.now begins
-              (c.loop-number.invariant.back bitmap) in follows.rest })
+          (c.loop-number.invariant.back bitmap) in follows.rest;
+    })
 
 pub returns : goal.returns
 returns c = (
@@ -37,7 +38,7 @@ returns c = (
       c.loop-number.invariant.there (bitmap_nil c.loop-number.low c.loop-number.left.now (nil_from_length _ (grind (arith, nat_tests)))),
   λ bitmap.
       let none : c.loop-number.left.now ≡ [] =
-          bitmap_end c.loop-number.low c.loop-number.left.now (c.loop-number.invariant.back bitmap) c.in_default.ensures.none in
+      bitmap_end c.loop-number.low c.loop-number.left.now (c.loop-number.invariant.back bitmap) c.in_default.ensures.none in
       let long : length c.loop-number.left.now ≡ 0 = ap length none in
       grind (arith, nat_tests),
 )

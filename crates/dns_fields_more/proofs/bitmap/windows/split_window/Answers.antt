@@ -19,4 +19,5 @@ returns-clause-some c =
     let long : count ≡ length window = size ∙ sym cut.3 in
     record {
       written = at ∙ ap (λ (l : List ℕ). number ∷ count ∷ l) whole ∙ ap (λ n. number ∷ n ∷ (window ++ behind)) long;
-      small = (let h = c.type_inv.octets 0 in let g : Fits w8 number = rw at at h in omega (arith, g)) }
+      small = (let h = c.type_inv.octets 0 in let g : Fits w8 number = rw at at h in omega (arith, g));
+    }
