@@ -7,3 +7,5 @@ pub mod TypeBits
 pub mod TypeWindows
 pub mod ShownTypes
 pub mod ScannedTypes
+pub mod PrintedTypes
+pub mod OneBitmap

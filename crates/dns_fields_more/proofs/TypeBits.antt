@@ -86,7 +86,7 @@ bit_set octet place small within = (bytes_eq-Decides _ _).0 (below (sets place) 
 pub ruleset bit_rules = (bit_set)
 
 -- the bits of octets of which one has another bit set
-length-8 : (octet : ℕ) → length (bits 8 octet) ≡ 8
+pub length-8 : (octet : ℕ) → length (bits 8 octet) ≡ 8
 length-8 octet = length-bits 8 octet
 
 set_left : (xs ys : List ℕ) (k y : ℕ) → k < length xs → slice_set (xs ++ ys) k y ≡ slice_set xs k y ++ ys

@@ -8,5 +8,6 @@ mod append;
 mod bitmap;
 mod hardware;
 mod hash_words;
+pub mod laws;
 mod time;
 mod type_words;
