@@ -2,7 +2,7 @@
 use Rattle.std.specs.Prelude.{◌≡◌, ◌↔◌, ◌+◌, ◌*◌, ◌≤◌, ◌<◌, ◌-◌, ◌==◌, ℕ, zero, suc, List, [], ◌∷◌, ◌++◌, Option, Some, length, map, take, drop, slice_index, if◌then◌else◌}
 use Rattle.std.specs.List.{flat_map, Contains}
 use Rattle.dns_scan.specs.Bits.{all_bits}
-use Rattle.dns_scan.specs.Token.{Token, IsWord}
+use Rattle.dns_scan.specs.Token.{Token, unquoted, IsWord}
 use Rattle.dns_text.specs.Document.{Piece}
 use Rattle.dns_text.specs.Document.Piece.{Token as printed}
 use Rattle.dns_fields_more.specs.TypeWords.{type_word_read, type_word_written}
@@ -96,3 +96,7 @@ SpellsNoTypes tokens = (types : List ℕ) → SpellTypes tokens types → ⊥
 -- how types are printed: a token for each
 abbrev pub type_pieces : List ℕ → List Piece
 type_pieces types = map (λ type. printed (type_word_written type)) types
+
+-- these tokens
+abbrev pub printed_types : List ℕ → List Token
+printed_types types = map (λ type. unquoted (type_word_written type)) types

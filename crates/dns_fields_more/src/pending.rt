@@ -11,8 +11,6 @@ ghost use Rattle.dns_fields_more.specs.Text.{ShowsForm};
 ghost use Rattle.dns_fields_more.specs.declared.form.Form.TheVariants as form_of;
 ghost use Rattle.dns_fields_more.specs.Service.{HoldsParameters};
 ghost use Rattle.dns_fields_more.specs.Location.{HoldsLocation};
-ghost use Rattle.dns_text.specs.Writing.{Adds};
-ghost use Rattle.dns_fields_more.specs.TypeBitmap.{IsTypeBitmap, types_in, type_pieces};
 
 use dns_text::{Formatter, Scanner, ScannerError};
 use std::fmt;
@@ -61,15 +59,4 @@ pub(crate) fn show_location<F: Formatter>(octets: &[u8], formatter: &mut F) -> f
     Err(fmt::Error)
 }
 
-pub(crate) fn show_types<F: Formatter>(octets: &[u8], formatter: &mut F) -> fmt::Result
-    requires { IsTypeBitmap octets.now }
-    ensures { OnOk result (Adds F.writes formatter.old (type_pieces (types_in octets.now)) formatter.new) }
-{
-    Err(fmt::Error)
-}
 
-pub(crate) fn is_type_bitmap(octets: &[u8]) -> bool
-    ensures { IsTrue result ↔ IsTypeBitmap octets.now }
-{
-    true
-}

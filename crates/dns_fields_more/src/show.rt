@@ -8,7 +8,8 @@ ghost use Rattle.dns_fields_more.specs.Values.{field_of, rest_field};
 
 use crate::hardware::DisplayHardware;
 use crate::hash_words::DisplaySalt;
-use crate::pending::{show_location, show_parameters, show_types};
+use crate::bitmap::show_types;
+use crate::pending::{show_location, show_parameters};
 use crate::time::DisplayTime;
 use crate::type_words::DisplayType;
 use crate::{Form, Value, forms_of};

@@ -9,7 +9,8 @@ ghost use Rattle.dns_fields_more.specs.Values.{NoneStandsIn, StandsIn, field_of,
 ghost use Rattle.dns_fields_more.specs.declared.form.Form.TheVariants as form_of;
 
 use crate::Form;
-use crate::pending::{is_location, is_type_bitmap};
+use crate::bitmap::is_type_bitmap;
+use crate::pending::is_location;
 use crate::service::are_parameters;
 use dns_name::{Name, ParseError, Parser};
 use dns_text::CharStr;

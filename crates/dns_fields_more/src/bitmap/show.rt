@@ -1,5 +1,5 @@
 //! Bitmaps as tokens.
-ghost use Rattle.std.specs.Prelude.{◌≡◌, ◌+◌, ◌≤◌, ◌*◌, length, OnOk};
+ghost use Rattle.std.specs.Prelude.{◌≡◌, ◌+◌, ◌≤◌, ◌<◌, ◌*◌, [], ◌∷◌, length, OnOk};
 ghost use Rattle.dns_scan.specs.Bits.{bits, all_bits};
 ghost use Rattle.dns_text.specs.Writing.{Adds};
 ghost use Rattle.dns_fields_more.specs.TypeBitmap.{IsTypeBitmap, ones_from, types_in, type_pieces};
@@ -42,10 +42,19 @@ fn show_octet<F: Formatter>(first: u32, octet: u8, formatter: &mut F) -> fmt::Re
     ensures { OnOk result (Adds F.writes formatter.old (type_pieces (ones_from first (bits 8 octet))) formatter.new) }
 {
     for place in 0..8u32 {
-        if (octet >> (7 - place)) % 2 == 1 {
-            let rtype = Rtype::from_int((first + place) as u16);
-            formatter.write_token(DisplayType(rtype))?;
-        }
+        show_bit(first + place, (octet >> (7 - place)) % 2, formatter)?;
     }
     Ok(())
+}
+
+/// Writes a token for the type whose bit this is, if it is one.
+fn show_bit<F: Formatter>(rtype: u32, bit: u8, formatter: &mut F) -> fmt::Result
+    requires { rtype < 65536 }
+    ensures { OnOk result (Adds F.writes formatter.old (type_pieces (ones_from rtype (bit ∷ []))) formatter.new) }
+{
+    if bit == 1 {
+        formatter.write_token(DisplayType(Rtype::from_int(rtype as u16)))
+    } else {
+        Ok(())
+    }
 }

@@ -37,14 +37,11 @@ impl TypeSet {
         }
     }
 
-    /// Inserts a type, which may be there already. Fails if out of memory; the types are then as before.
+    /// Inserts a type, which may be there already. Fails if out of memory.
     pub(super) fn insert(&mut self, rtype: u16) -> Result<(), AllocError>
         ensures ok { OnOk result (HasAlso self.old self.new rtype) }
     {
-        let place = usize::from(rtype);
-        fill_up(&mut self.bits, place / 8 + 1)?;
-        set_bit(self.bits.as_mut_slice(), place);
-        Ok(())
+        insert_bit(&mut self.bits, rtype)
     }
 
     /// Appends the bitmap of the types. Fails if out of memory. It may then have appended some octets.
@@ -54,6 +51,18 @@ impl TypeSet {
     {
         append_bits(self.bits.as_slice(), octets)
     }
+}
+
+/// Inserts the type whose number is `rtype`, which may be there already. Fails if out of memory.
+fn insert_bit(bits: &mut Vec<u8>, rtype: u16) -> Result<(), AllocError>
+    requires { length bits.old.items ≤ 8192 }
+    ensures ok { OnOk result (HasAlso (ones_from 0 (all_bits 8 bits.old.items)) (ones_from 0 (all_bits 8 bits.new.items)) rtype) }
+    ensures few { length bits.new.items ≤ 8192 }
+{
+    let place = usize::from(rtype);
+    fill_up(bits, place / 8 + 1)?;
+    set_bit(bits, place);
+    Ok(())
 }
 
 /// Appends zeros up to that many octets. Fails if out of memory. It may then have appended some.
@@ -69,11 +78,14 @@ fn fill_up(bits: &mut Vec<u8>, len: usize) -> Result<(), AllocError>
 }
 
 /// Sets a bit, which is counted from the highest of the first octet.
-fn set_bit(octets: &mut [u8], place: usize)
-    requires { place < 8 * length octets.old }
-    ensures { all_bits 8 octets.new ≡ slice_set (all_bits 8 octets.old) place 1 }
+#[tactic(auto, using(crate::proofs::TypeBits::set_rules))]
+fn set_bit(bits: &mut Vec<u8>, place: usize)
+    requires { place < 8 * length bits.old.items }
+    ensures set { all_bits 8 bits.new.items ≡ slice_set (all_bits 8 bits.old.items) place 1 }
+    ensures len { length bits.new.items ≡ length bits.old.items }
 {
-    octets[place / 8] = with_bit(octets[place / 8], (place % 8) as u32);
+    let octet = with_bit(bits[place / 8], (place % 8) as u32);
+    bits[place / 8] = octet;
 }
 
 /// Returns the octet with a bit set, which is counted from the highest.

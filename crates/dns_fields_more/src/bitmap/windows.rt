@@ -10,13 +10,21 @@ pub(crate) fn is_type_bitmap(octets: &[u8]) -> bool
     let mut left = octets;
     let mut low = 0;
     while let Some((number, window, behind)) = split_window(left) {
-        if u16::from(number) < low || !are_window_octets(window) {
+        if !can_follow(low, number, window) {
             return false;
         }
         low = u16::from(number) + 1;
         left = behind;
     }
     left.is_empty()
+}
+
+/// Returns whether the window's number is at least `low`, and its octets are ones of a window.
+fn can_follow(low: u16, number: u8, window: &[u8]) -> bool
+    ensures yes { IsTrue result → (low ≤ number) × AreWindowOctets window.now }
+    ensures no { (IsTrue result → ⊥) → low ≤ number → AreWindowOctets window.now → ⊥ }
+{
+    low <= u16::from(number) && are_window_octets(window)
 }
 
 /// Returns the number and the octets of the window that the octets begin with, and what is behind it.
