@@ -15,13 +15,10 @@ mod ServicePieces
 mod ServiceKeys
 pub mod HardwareText
 pub mod TypeBits
-<<<<<<< HEAD
 pub mod Shown
 pub mod Lowered
-=======
 pub mod TypeWindows
 pub mod ShownTypes
 pub mod ScannedTypes
 pub mod PrintedTypes
 pub mod OneBitmap
->>>>>>> 537499e1051552c7da22b68ff9322f74acda2cbe

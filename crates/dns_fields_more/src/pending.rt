@@ -58,5 +58,3 @@ pub(crate) fn show_location<F: Formatter>(octets: &[u8], formatter: &mut F) -> f
 {
     Err(fmt::Error)
 }
-
-

@@ -6,9 +6,9 @@ ghost use Rattle.dns_octets.specs.Parser.{rest_of};
 ghost use Rattle.dns_fields_more.specs.Text.{ShowsFields, ShowsForm, ShowsFurther};
 ghost use Rattle.dns_fields_more.specs.Values.{field_of, rest_field};
 
+use crate::bitmap::show_types;
 use crate::hardware::DisplayHardware;
 use crate::hash_words::DisplaySalt;
-use crate::bitmap::show_types;
 use crate::pending::{show_location, show_parameters};
 use crate::time::DisplayTime;
 use crate::type_words::DisplayType;
