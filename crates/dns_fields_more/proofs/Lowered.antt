@@ -55,12 +55,12 @@ lowers Eui48 field is = refl
 lowers Eui64 field is = refl
 
 -- a field in canonical form, and the others behind it
-pub lowered_step : {form : Form} {others all : List Form} {whole front back first behind : List ℕ} {count : ℕ} → all ≡ form ∷ others → EndWell all
+pub lowered_step : {form : Form} {others all : List Form} {whole back first behind : List ℕ} {count : ℕ} (front : List ℕ) → all ≡ form ∷ others → EndWell all
     → ((field : Field) (rest : List ℕ) → StandsIn form whole field rest → count ≡ length (field_octets field))
     → whole ≡ front ++ back → length front ≡ count → first ≡ form_lowered form front
     → ((canonical : List ℕ) → LowersTo others back canonical → behind ≡ canonical)
     → (canonical : List ℕ) → LowersTo all whole canonical → first ++ behind ≡ canonical
-lowered_step {form} {others} {all} {whole} {front} {back} {first} {behind} {count} is well long cut size low_is behind_is canonical lowers_to =
+lowered_step {form} {others} {all} {whole} {back} {first} {behind} {count} front is well long cut size low_is behind_is canonical lowers_to =
     let well' : EndWell (form ∷ others) = subst EndWell is well in
     let its : LowersTo (form ∷ others) whole canonical = subst (λ l. LowersTo l whole canonical) is lowers_to in
     by its.row its.each its.written its.lowers well'

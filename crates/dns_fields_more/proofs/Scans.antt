@@ -1,5 +1,5 @@
 -- Fields that are scanned, and appended to octets.
-use Rattle.std.proofs.Common.{◌≡◌, ◌<◌, ◌≤◌, ◌++◌, ◌∙◌, ◌∷◌, ℕ, List, length, ap, refl, sym, append_assoc, arith, inl, inr}
+use Rattle.std.proofs.Common.{◌≡◌, ◌<◌, ◌≤◌, ◌++◌, ◌∙◌, ◌∷◌, ℕ, List, length, ap, refl, sym, append_assoc, arith, inl, inr, subst}
 use Rattle.std.specs.Prelude.{None, Result, Ok, Err, OnOk}
 use Rattle.std.specs.Str.{chars}
 use Rattle.dns_scan.specs.Encodings.{Decodes16, Decodes64}
@@ -174,3 +174,22 @@ module _ {names : List ℕ → List (List ℕ) → Type 0} {tokens : List Token}
   pub no_location : ((location : Location) → ScansLocation location tokens → ⊥) → NoFormScans names LocationForm tokens
   no_location none field left scans =
       of_rest16 (λ f. ScansForm names LocationForm f tokens left → ⊥) field (λ octets s. none s.spelled.0 s.spelled.1) scans.is.kind scans
+
+-- the first word is one
+same_word : {tokens left behind : List Token} {text other : List ℕ} → Takes (IsWord text) tokens left → Takes (IsWord other) tokens behind
+    → other ≡ text
+same_word takes also =
+    let first : takes.token ≡ also.token = (let both = sym takes.is ∙ also.is in cc) in
+    ap (λ token. token.text) (sym also.fits.0 ∙ sym first ∙ takes.fits.0)
+
+-- a word that is of no hardware address
+module _ {names : List ℕ → List (List ℕ) → Type 0} {tokens left : List Token} {text : List ℕ} (takes : Takes (IsWord text) tokens left) where
+  pub no_eui48_word : ((address : List ℕ) → IsHardwareText 6 text address → ⊥) → NoFormScans names Eui48 tokens
+  no_eui48_word none field behind scans =
+      of_rest16 (λ f. ScansForm names Eui48 f tokens behind → ⊥) field
+      (λ octets s. none octets (subst (λ t. IsHardwareText 6 t octets) (same_word takes s.spelled.1) s.spelled.2)) scans.is.kind scans
+
+  pub no_eui64_word : ((address : List ℕ) → IsHardwareText 8 text address → ⊥) → NoFormScans names Eui64 tokens
+  no_eui64_word none field behind scans =
+      of_rest16 (λ f. ScansForm names Eui64 f tokens behind → ⊥) field
+      (λ octets s. none octets (subst (λ t. IsHardwareText 8 t octets) (same_word takes s.spelled.1) s.spelled.2)) scans.is.kind scans

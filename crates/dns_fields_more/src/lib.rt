@@ -10,6 +10,7 @@ mod canonical;
 mod form;
 mod hardware;
 mod hash_words;
+pub mod laws;
 mod pending;
 mod row;
 mod scan;
