@@ -1,9 +1,9 @@
 -- Facts on the calendar.
-use Rattle.std.proofs.Common.{◌≡◌, ◌<◌, ◌≤◌, ◌+◌, ◌-◌, ◌*◌, ◌/◌, ◌%◌, ◌==◌, ◌&&◌, ◌||◌, not, ℕ, zero, suc, Bool, true, false, cond, if◌then◌else◌, arith, refl, add-one, add-zero, add-suc, nat_le, nat_lt, List, [], ◌∷◌, length, slice_index_or, slice_range}
+use Rattle.std.proofs.Common.{◌≡◌, ◌<◌, ◌≤◌, ◌+◌, ◌-◌, ◌*◌, ◌/◌, ◌&&◌, ℕ, zero, suc, Bool, true, false, cond, if◌then◌else◌, arith, refl, add-one, add-zero, add-suc, nat_le, nat_lt, List, [], ◌∷◌, length, slice_index_or, slice_range}
 use Rattle.std.specs.Char.{digit_value}
 use Rattle.std.specs.Str.Parse.{digits_value}
 use Rattle.std.proofs.lemmas.Bool.Decides.{nat_tests}
-use Rattle.dns_fields_more.specs.Time.{is_leap_year, days_in_year, days_in_month, days_of_years, days_of_months, greatest, year_after, month_after}
+use Rattle.dns_fields_more.specs.Time.{is_leap_year, days_in_year, days_of_years, days_of_months, greatest, year_after, month_after}
 
 -- one more leap day for each year that is one
 leap_step : (y : ℕ) → 0 < y → days_in_year y + (y - 1) / 4 + (y - 1) / 400 + y / 100 ≡ 365 + y / 4 + y / 400 + (y - 1) / 100

@@ -1,9 +1,8 @@
 -- Facts on hardware addresses: what is written of one reads as it.
-use Rattle.std.proofs.Common.{◌≡◌, ◌≤◌, ◌<◌, ◌+◌, ◌*◌, ◌/◌, ◌%◌, ℕ, zero, suc, List, [], ◌∷◌, ◌++◌, length, map, take, drop, get_or, arith, refl, sym, subst, ap, ◌∙◌, append_assoc, append-nil, add-one, length-append, false, true}
+use Rattle.std.proofs.Common.{◌≡◌, ◌<◌, ◌+◌, ◌*◌, ◌/◌, ◌%◌, ℕ, zero, suc, List, [], ◌∷◌, ◌++◌, length, map, arith, refl, sym, subst, ap, ◌∙◌, append_assoc, append-nil, add-one, length-append}
 use Rattle.std.specs.Char.{digit_value}
 use Rattle.std.specs.List.{join_with_byte, flat_map}
 use Rattle.std.proofs.lemmas.Bool.Decides.{nat_tests}
-use Rattle.std.proofs.lemmas.List.{nil_from_length}
 use Rattle.dns_label.specs.Octets.{AreOctets}
 use Rattle.dns_fields_more.specs.Appended.{Appends, GoesOn}
 use Rattle.dns_fields_more.specs.Hardware.{IsHexPair, AreHexPairs, IsHardwareText, small_digit, small_pair, hardware_written}

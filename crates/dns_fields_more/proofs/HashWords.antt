@@ -1,20 +1,20 @@
 -- Facts on words of salts and hashes: what is written reads as the octets, and as no others.
-use Rattle.std.proofs.Common.{◌≡◌, ◌≤◌, ◌<◌, ◌⊎◌, ℕ, List, [], ◌∷◌, length, true, false, arith, refl, sym, subst, inl, inr, ◌∙◌}
+use Rattle.std.proofs.Common.{◌≡◌, ◌≤◌, ◌<◌, ℕ, List, [], ◌∷◌, length, true, false, arith, refl, sym, subst, inl, inr, ◌∙◌}
 use Rattle.std.specs.Char.{digit_value}
 use Rattle.std.specs.List.{AllByRecursion}
 use Rattle.std.specs.Str.{chars, IsAscii, IsNotAscii}
 use Rattle.std.proofs.lemmas.Bool.Decides.{nat_tests}
 use Rattle.dns_label.specs.Octets.{AreOctets}
 use Rattle.dns_scan.specs.Base.{IsCharacter}
-use Rattle.dns_scan.specs.Encodings.{Decodes16, Decodes32, encoded_16, encoded_32}
+use Rattle.dns_scan.specs.Encodings.{Decodes16, Decodes32}
 use Rattle.dns_scan.specs.Decoding.{NoneIs, WhyNoText}
 use Rattle.dns_scan.specs.ScanError.{is_want_of_room}
 use Rattle.dns_scan.specs.declared.encoding.base.Base.{Base}
-use Rattle.dns_scan.specs.declared.encoding.base.Base.TheVariants.{Sixteen, ThirtyTwoHex, SixtyFour}
+use Rattle.dns_scan.specs.declared.encoding.base.Base.TheVariants.{Sixteen, ThirtyTwoHex}
 use Rattle.dns_scan.specs.declared.encoding.decode_error.DecodeError.{DecodeError}
 use Rattle.dns_scan.specs.declared.encoding.decode_error.DecodeError.TheVariants.{IllegalChar, TrailingInput, ShortInput, ShortBuf}
 use Rattle.dns_scan.proofs.Encodings.{Ascii, encoded_decodes, decodes_one, is_ascii}
-use Rattle.dns_fields_more.specs.HashWords.{IsCountable, IsBase16Word, IsNoSalt, IsSaltWord, IsHashWord, salt_written, hash_written}
+use Rattle.dns_fields_more.specs.HashWords.{IsCountable, IsSaltWord, IsHashWord, salt_written, hash_written}
 
 -- a text that was refused for what it is, is none of octets
 pub refused : (base : Base) (text : List ℕ) (error : DecodeError) → WhyNoText base text error → is_want_of_room error ≡ false

@@ -1,14 +1,13 @@
 -- Bitmaps with the same types are the same octets.
-use Rattle.std.proofs.Common.{◌≡◌, ◌≤◌, ◌<◌, ◌+◌, ◌*◌, ◌-◌, ◌^◌, ◌==◌, ◌⊎◌, ◌↔◌, ℕ, zero, suc, Bool, true, false, cond, List, [], ◌∷◌, ◌++◌, length, get_or, slice_index, nat_lt, arith, refl, sym, subst, ap, inl, inr, ⊎_elim, ◌∙◌}
+use Rattle.std.proofs.Common.{◌≡◌, ◌≤◌, ◌<◌, ◌+◌, ◌*◌, ◌-◌, ◌^◌, ◌↔◌, ℕ, zero, suc, List, [], ◌∷◌, ◌++◌, length, slice_index, arith, refl, sym, subst, ap, inl, inr, ⊎_elim, ◌∙◌}
 use Rattle.std.specs.List.{flat_map, AllByRecursion, Contains}
-use Rattle.std.proofs.lemmas.Bool.Decides.{nat_tests}
 use Rattle.dns_label.specs.Octets.{AreOctets}
 use Rattle.dns_scan.specs.Bits.{bits, all_bits, number_of}
-use Rattle.dns_scan.proofs.BitLists.{IsBit, length-bits, bits_are, number-bits}
+use Rattle.dns_scan.proofs.BitLists.{IsBit, bits_are, number-bits}
 use Rattle.dns_fields_more.specs.TypeBitmap.{Window, window_octets, IsWindow, AreWindows, IsTypeBitmap, ones_from, window_types, types_in}
 use Rattle.dns_fields_more.proofs.TypeBits.{In, in_from, in_to, ones_append, length-8}
 use Rattle.dns_fields_more.proofs.TypeWindows.{types_of}
-use Rattle.dns_fields_more.proofs.PrintedTypes.{in_append, in_left, in_right, Within, ones_within, window_within, windows_from}
+use Rattle.dns_fields_more.proofs.PrintedTypes.{in_append, in_left, in_right, ones_within, window_within, windows_from}
 
 -- each element of the first list is one of the second
 abbrev AllIn : List ℕ → List ℕ → Type 0

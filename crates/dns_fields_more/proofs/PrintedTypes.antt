@@ -1,14 +1,10 @@
 -- Facts on bitmaps: one that is printed scans back, and bitmaps with the same types are the same octets.
-use Rattle.std.proofs.Common.{◌≡◌, ◌≤◌, ◌<◌, ◌+◌, ◌*◌, ◌-◌, ◌^◌, ◌==◌, ◌⊎◌, ◌↔◌, ℕ, zero, suc, Bool, true, false, cond, List, [], ◌∷◌, ◌++◌, length, map, get_or, slice_index, nat_lt, arith, refl, sym, subst, ap, inl, inr, ⊎_elim, ◌∙◌, length-append}
-use Rattle.std.specs.List.{flat_map, AllByRecursion, Contains}
-use Rattle.std.proofs.lemmas.Bool.Decides.{nat_tests}
-use Rattle.dns_label.specs.Octets.{AreOctets}
-use Rattle.dns_scan.specs.Bits.{bits, all_bits, number_of}
-use Rattle.dns_scan.specs.Token.{Token, unquoted, IsWord}
-use Rattle.dns_scan.proofs.BitLists.{IsBit, length-bits, bits_are, number-bits}
+use Rattle.std.proofs.Common.{◌≡◌, ◌≤◌, ◌<◌, ◌+◌, ◌*◌, ◌==◌, ◌⊎◌, ℕ, suc, true, false, cond, List, [], ◌∷◌, ◌++◌, length, arith, refl, subst, ap, inl, inr, ⊎_elim, ◌∙◌}
+use Rattle.std.specs.List.{flat_map}
+use Rattle.dns_scan.specs.Bits.{all_bits}
 use Rattle.dns_fields_more.specs.TypeWords.{type_word_written}
 use Rattle.dns_fields_more.specs.TypeBitmap.{Window, window_octets, IsWindow, AreWindows, IsTypeBitmap, ones_from, window_types, types_in, SpellTypes, ScansTypes, printed_types}
-use Rattle.dns_fields_more.proofs.TypeBits.{In, in_from, in_to, ones_append, length-all, length-8}
+use Rattle.dns_fields_more.proofs.TypeBits.{In, length-all}
 use Rattle.dns_fields_more.proofs.TypeWords.{type_word_reads_back, type_word_plain}
 use Rattle.dns_fields_more.proofs.TypeWindows.{types_of}
 

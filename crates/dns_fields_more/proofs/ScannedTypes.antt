@@ -1,11 +1,10 @@
 -- Facts on types that are scanned.
-use Rattle.std.proofs.Common.{◌≡◌, ◌≢◌, ◌⊎◌, ◌↔◌, ℕ, zero, suc, List, [], ◌∷◌, ◌++◌, length, take, get_or, arith, refl, sym, ap, subst, inl, inr, ⊎_elim, ◌∙◌, append_assoc, append-nil, add-one, Option, Some, None, ◌<◌, ◌+◌, Result, Ok, Err, OnOk}
+use Rattle.std.proofs.Common.{◌≡◌, ◌↔◌, ℕ, zero, suc, List, [], ◌∷◌, ◌++◌, get_or, arith, refl, sym, subst, inl, inr, ⊎_elim, append_assoc, append-nil, Some, None, ◌<◌, Result, Ok, Err, OnOk}
 use Rattle.std.specs.List.{Contains}
-use Rattle.std.proofs.Math.Seq.{take-suc}
 use Rattle.std.proofs.lemmas.List.Elements.{Contains-append_left, Contains-append_right, Contains-append_cases}
 use Rattle.dns_scan.specs.Token.{Token, IsWord, Takes}
-use Rattle.dns_fields_more.specs.Appended.{Appends, GoesOn}
-use Rattle.dns_fields_more.specs.TypeBitmap.{IsTypeBitmap, types_in, IsBitmapOf, SpellsType, SpellTypes, ScansTypes, AppendsTypes, SpellsNoTypes}
+use Rattle.dns_fields_more.specs.Appended.{Appends}
+use Rattle.dns_fields_more.specs.TypeBitmap.{IsBitmapOf, SpellTypes, AppendsTypes, SpellsNoTypes}
 use Rattle.dns_fields_more.specs.TypeWords.{type_word_read}
 use Rattle.dns_fields_more.specs.Windows.{IsBitmapWith, HasAlso}
 

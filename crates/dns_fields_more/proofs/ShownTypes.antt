@@ -1,16 +1,15 @@
 -- Facts on bitmaps that are printed.
-use Rattle.std.proofs.Common.{◌≡◌, ◌≤◌, ◌<◌, ◌+◌, ◌*◌, ◌-◌, ◌/◌, ◌%◌, ◌^◌, ◌==◌, ℕ, zero, suc, Bool, true, false, cond, List, [], ◌∷◌, ◌++◌, length, map, take, get_or, arith, refl, sym, subst, ap, ◌∙◌, append_assoc, append-nil, add-one, length-take}
+use Rattle.std.proofs.Common.{◌≡◌, ◌≤◌, ◌<◌, ◌+◌, ◌*◌, ◌-◌, ◌/◌, ◌%◌, ◌^◌, ℕ, suc, List, [], ◌∷◌, ◌++◌, length, take, get_or, arith, refl, sym, subst, ap, ◌∙◌, append_assoc, append-nil, add-one, length-take}
 use Rattle.std.specs.List.{flat_map}
 use Rattle.std.proofs.Math.Seq.{take-suc}
 use Rattle.std.proofs.Math.Nat.{pow-suc, div-div-eq-div-mul}
 use Rattle.std.proofs.lemmas.Grind.{flat_map-append}
-use Rattle.std.proofs.lemmas.Bool.Decides.{nat_tests, Decides-eqb}
 use Rattle.dns_scan.specs.Bits.{bits, all_bits}
 use Rattle.dns_scan.proofs.BitLists.{length-bits}
 use Rattle.dns_text.specs.Document.{Piece}
 use Rattle.dns_text.specs.Writing.{Adds}
 use Rattle.dns_text.proofs.Writings.{adds_append}
-use Rattle.dns_fields_more.specs.TypeBitmap.{Window, window_octets, IsWindow, AreWindows, IsBitmapFrom, IsTypeBitmap, ones_from, window_types, types_in, type_pieces}
+use Rattle.dns_fields_more.specs.TypeBitmap.{Window, window_octets, AreWindows, IsTypeBitmap, ones_from, window_types, types_in, type_pieces}
 use Rattle.dns_fields_more.specs.Windows.{BeginsWithWindow}
 use Rattle.dns_fields_more.proofs.TypeBits.{types_append, ones_append}
 use Rattle.dns_fields_more.proofs.TypeWindows.{types_of, uncons, no_windows}

@@ -1,13 +1,12 @@
 -- Facts on the windows of bitmaps.
-use Rattle.std.proofs.Common.{◌≡◌, ◌≤◌, ◌<◌, ◌+◌, ◌*◌, ◌-◌, ◌⊎◌, ◌↔◌, ℕ, zero, suc, Bool, true, false, List, [], ◌∷◌, ◌++◌, length, take, drop, min, replicate, get_or, slice_index, arith, refl, sym, subst, ap, inl, inr, ⊎_elim, ◌∙◌, append_assoc, append-nil, add-one, length-append}
+use Rattle.std.proofs.Common.{◌≡◌, ◌≤◌, ◌<◌, ◌+◌, ◌*◌, ◌-◌, ℕ, zero, suc, List, [], ◌∷◌, ◌++◌, length, take, drop, min, replicate, slice_index, arith, refl, sym, subst, ap, ⊎_elim, ◌∙◌, append_assoc, append-nil, length-append}
 use Rattle.std.specs.List.{flat_map, AllByRecursion}
 use Rattle.std.proofs.Math.Seq.{take-append_seam, drop-append_seam}
-use Rattle.dns_label.specs.Octets.{AreOctets}
 use Rattle.dns_scan.specs.Bits.{bits, all_bits}
 use Rattle.dns_fields_more.specs.Appended.{Appends, GoesOn}
-use Rattle.dns_fields_more.specs.TypeBitmap.{Window, window_octets, IsWindow, AreWindows, IsBitmapFrom, IsTypeBitmap, windows_up_to, ones_from, window_types, types_in}
+use Rattle.dns_fields_more.specs.TypeBitmap.{Window, window_octets, IsWindow, AreWindows, IsBitmapFrom, windows_up_to, ones_from, window_types, types_in}
 use Rattle.dns_fields_more.specs.Windows.{BeginsWithWindow, AreWindowOctets, IsBitmapWith, IsTrimmed, window_or_none}
-use Rattle.dns_fields_more.proofs.TypeBits.{types_append, types_zeros, length-all}
+use Rattle.dns_fields_more.proofs.TypeBits.{types_append, types_zeros}
 
 -- the windows of their octets are these
 windows_back : (windows : List Window) (more : ℕ) → length windows ≤ more → windows_up_to more (flat_map window_octets windows) ≡ windows

@@ -7,7 +7,7 @@ use Rattle.std.specs.Fmt.{decimal}
 use Rattle.std.proofs.lemmas.Fmt.{digits_decimal}
 use Rattle.std.proofs.lemmas.Bool.Decides.{nat_tests, Decides-eqb}
 use Rattle.dns_label.specs.Symbol.{is_plain}
-use Rattle.dns_values.specs.Mnemonic.{Mnemonics, types, number_spelled, number_behind, number_named, number_read, text_of, text_written, type_read, type_written}
+use Rattle.dns_values.specs.Mnemonic.{Mnemonics, types, number_spelled, number_behind, number_named, number_read, text_of, type_written}
 use Rattle.dns_values.proofs.Words.{digits_model, text_written-named, text_written-other}
 use Rattle.dns_values.proofs.ReadsBack.{type_reads_back}
 use Rattle.dns_fields_more.specs.TypeWords.{more_types, type_word_read, type_word_written}

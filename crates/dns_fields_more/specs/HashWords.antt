@@ -1,5 +1,5 @@
 -- Salts and hashes of owners as words (RFC 5155, section 3.3).
-use Rattle.std.specs.Prelude.{◌≡◌, ◌≤◌, ◌<◌, ◌⊎◌, ℕ, List, [], ◌∷◌, length, codes}
+use Rattle.std.specs.Prelude.{◌≡◌, ◌≤◌, ◌<◌, ◌⊎◌, ℕ, List, [], ◌∷◌, length}
 use Rattle.dns_scan.specs.Encodings.{Decodes16, Decodes32, encoded_16, encoded_32}
 
 -- at least one octet, and as many as a length octet can count

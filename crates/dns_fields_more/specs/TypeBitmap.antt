@@ -1,5 +1,5 @@
 -- Bitmaps of types: windows of 256 types each, in ascending order (RFC 4034, section 4.1.2).
-use Rattle.std.specs.Prelude.{◌≡◌, ◌↔◌, ◌+◌, ◌*◌, ◌≤◌, ◌<◌, ◌-◌, ◌==◌, ℕ, zero, suc, List, [], ◌∷◌, ◌++◌, Option, Some, length, map, take, drop, slice_index, if◌then◌else◌}
+use Rattle.std.specs.Prelude.{◌≡◌, ◌↔◌, ◌+◌, ◌*◌, ◌≤◌, ◌<◌, ◌-◌, ◌==◌, ℕ, zero, suc, List, [], ◌∷◌, ◌++◌, Some, length, map, take, drop, slice_index, if◌then◌else◌}
 use Rattle.std.specs.List.{flat_map, Contains}
 use Rattle.dns_scan.specs.Bits.{all_bits}
 use Rattle.dns_scan.specs.Token.{Token, unquoted, IsWord}

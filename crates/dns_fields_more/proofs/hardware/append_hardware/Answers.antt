@@ -1,4 +1,4 @@
-use Rattle.std.proofs.Common.{◌≡◌, ◌≤◌, ◌<◌, List, ℕ, [], length, refl, arith, rules, ap}
+use Rattle.std.proofs.Common.{◌≡◌, length, arith, rules, ap}
 use Rattle.std.proofs.lemmas.Bool.Decides.{nat_tests}
 use Rattle.std.proofs.lemmas.List.{nil_from_length}
 use Rattle.dns_fields_more.proofs.HardwareText.{no_minus, no_pair, no_end, all_read, read_more}

@@ -1,4 +1,4 @@
-use Rattle.std.proofs.Common.{◌≡◌, ◌<◌, ◌+◌, ◌*◌, List, ℕ, [], ◌∷◌, ◌++◌, refl, arith, rules}
+use Rattle.std.proofs.Common.{◌≡◌, ◌<◌, [], ◌∷◌, refl, arith, rules}
 use Rattle.std.specs.Char.{digit_value}
 use Rattle.dns_fields_more.proofs.hardware.split_pair.Goals as goal
 

@@ -1,4 +1,4 @@
-use Rattle.std.proofs.Common.{◌≡◌, List, ℕ, ◌∷◌, ◌++◌, sym, subst, rules}
+use Rattle.std.proofs.Common.{◌≡◌, List, ℕ, ◌∷◌, sym, subst, rules}
 use Rattle.std.specs.Fmt.{HasWritten}
 use Rattle.std.specs.List.{flat_map}
 use Rattle.std.proofs.Output.{has_written_append}

@@ -1,4 +1,4 @@
-use Rattle.std.proofs.Common.{◌≡◌, ℕ, List, true, false, sym, subst}
+use Rattle.std.proofs.Common.{sym, subst}
 use Rattle.dns_fields_more.specs.HashWords.{IsCountable}
 use Rattle.dns_fields_more.proofs.HashWords.{no_counted_hash, false_true}
 use Rattle.dns_fields_more.proofs.hash_words.append_hash.Goals as goal

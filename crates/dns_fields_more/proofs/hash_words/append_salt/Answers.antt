@@ -1,4 +1,4 @@
-use Rattle.std.proofs.Common.{◌≡◌, ℕ, List, [], ◌∷◌, true, false, sym, subst}
+use Rattle.std.proofs.Common.{sym, subst}
 use Rattle.dns_fields_more.specs.HashWords.{IsCountable}
 use Rattle.dns_fields_more.proofs.HashWords.{no_salt, no_counted_salt, false_true}
 use Rattle.dns_fields_more.proofs.hash_words.append_salt.Goals as goal

@@ -1,7 +1,6 @@
 use Rattle.std.proofs.lemmas.Str.{IsUtf8-from_ascii, chars-IsAscii}
-use Rattle.std.proofs.Common.{◌≡◌, ◌∙◌, List, ℕ, ap}
+use Rattle.std.proofs.Common.{◌∙◌, ap}
 use Rattle.std.specs.Str.{chars}
-use Rattle.dns_fields_more.proofs.HashWords.{not_ascii}
 use Rattle.dns_fields_more.proofs.hash_words.ascii.Goals as goal
 
 pub from_utf8_unchecked-requires : goal.from_utf8_unchecked-requires

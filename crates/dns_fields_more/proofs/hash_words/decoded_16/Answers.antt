@@ -1,5 +1,5 @@
 use Rattle.dns_scan.specs.declared.encoding.base.Base.TheVariants.{Sixteen}
-use Rattle.dns_fields_more.proofs.HashWords.{none_decodes, ascii_16}
+use Rattle.dns_fields_more.proofs.HashWords.{none_decodes}
 use Rattle.dns_fields_more.proofs.hash_words.decoded_16.Goals as goal
 
 pub returns-in-Err-clause-err : goal.returns-in-Err-clause-err

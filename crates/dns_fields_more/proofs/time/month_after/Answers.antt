@@ -1,4 +1,4 @@
-use Rattle.std.proofs.Common.{◌≡◌, ◌+◌, ◌-◌, ◌≤◌, ◌<◌, arith}
+use Rattle.std.proofs.Common.{◌≡◌, ◌+◌, ◌-◌, arith}
 use Rattle.dns_fields_more.specs.Time.{days_of_months}
 use Rattle.dns_fields_more.proofs.Calendar.{month_after-is}
 use Rattle.dns_fields_more.proofs.time.month_after.Goals as goal

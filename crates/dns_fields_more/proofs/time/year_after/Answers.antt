@@ -1,5 +1,4 @@
-use Rattle.std.proofs.Common.{◌≡◌, ◌+◌, ◌-◌, ◌*◌, ◌/◌, ◌≤◌, ◌<◌, arith}
-use Rattle.dns_fields_more.specs.Time.{days_of_years}
+use Rattle.std.proofs.Common.{◌≡◌, ◌+◌, ◌-◌, ◌/◌, arith}
 use Rattle.dns_fields_more.proofs.Calendar.{years_at_most, year_after-is, years_end}
 use Rattle.dns_fields_more.proofs.time.year_after.Goals as goal
 

@@ -1,4 +1,4 @@
-use Rattle.std.proofs.Common.{ℕ, ◌+◌, ◌-◌, ◌<◌, ◌≤◌}
+use Rattle.std.proofs.Common.{◌-◌, ◌≤◌}
 use Rattle.dns_fields_more.specs.Time.{days_of_years}
 use Rattle.dns_fields_more.proofs.time.year_after.Given as goal
 

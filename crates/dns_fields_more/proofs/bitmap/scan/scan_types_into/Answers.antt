@@ -1,6 +1,6 @@
-use Rattle.std.proofs.Common.{◌≡◌, ◌∙◌, List, ℕ, [], Some, None, refl, ap, sym, subst, rules}
+use Rattle.std.proofs.Common.{◌≡◌, ◌∙◌, List, [], refl, ap, sym, subst, rules}
 use Rattle.dns_scan.specs.Token.{Token}
-use Rattle.dns_scan.proofs.SymbolsRead.{nil_by, same_names_here, same_names_join}
+use Rattle.dns_scan.proofs.SymbolsRead.{nil_by, same_names_join}
 use Rattle.dns_fields_more.specs.TypeWords.{type_word_read}
 use Rattle.dns_fields_more.proofs.ScannedTypes.{Scanned, scan_more, no_type, scanned_all}
 use Rattle.dns_fields_more.proofs.bitmap.scan.scan_types_into.Goals as goal

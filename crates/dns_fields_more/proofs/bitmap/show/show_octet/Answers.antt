@@ -1,5 +1,5 @@
 use Rattle.std.proofs.Common.{◌/◌}
-use Rattle.dns_fields_more.proofs.ShownTypes.{no_bit_shown, bit_shown, octet_shown}
+use Rattle.dns_fields_more.proofs.ShownTypes.{no_bit_shown, bit_shown}
 use Rattle.dns_fields_more.proofs.bitmap.show.show_octet.Goals as goal
 
 pub loop-place-init : goal.loop-place-init

@@ -1,4 +1,4 @@
-use Rattle.std.proofs.Common.{◌≡◌, ◌+◌, ◌*◌, arith, refl}
+use Rattle.std.proofs.Common.{arith, refl}
 use Rattle.dns_fields_more.proofs.ShownTypes.{window_more}
 use Rattle.dns_fields_more.proofs.bitmap.show.show_window.Goals as goal
 

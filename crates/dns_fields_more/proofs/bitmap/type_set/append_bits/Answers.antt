@@ -1,4 +1,4 @@
-use Rattle.std.proofs.Common.{◌≡◌, ◌<◌, ◌++◌, ◌∙◌, List, ℕ, length, take, drop, min, sym, arith, rules}
+use Rattle.std.proofs.Common.{◌≡◌, ◌<◌, ◌++◌, length, take, drop, min, rules}
 use Rattle.std.proofs.lemmas.List.{take-append-drop, nil_from_length}
 use Rattle.dns_fields_more.proofs.TypeWindows.{none_written, write_more, all_written}
 use Rattle.dns_fields_more.proofs.bitmap.type_set.append_bits.Goals as goal

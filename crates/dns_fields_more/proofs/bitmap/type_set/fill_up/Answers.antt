@@ -1,4 +1,4 @@
-use Rattle.std.proofs.Common.{◌≡◌, ◌∙◌, ◌≤◌, ◌∷◌, ◌++◌, [], List, ℕ, suc, length, replicate, arith, ap, append_assoc, length-append}
+use Rattle.std.proofs.Common.{◌∙◌, ◌∷◌, ◌++◌, [], List, ℕ, suc, length, replicate, arith, ap, append_assoc, length-append}
 use Rattle.dns_fields_more.proofs.TypeBits.{zeros_more}
 use Rattle.dns_fields_more.proofs.bitmap.type_set.fill_up.Goals as goal
 

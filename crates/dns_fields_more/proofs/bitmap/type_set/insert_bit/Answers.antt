@@ -1,4 +1,4 @@
-use Rattle.std.proofs.Common.{◌≡◌, ◌<◌, ◌*◌, length, arith}
+use Rattle.std.proofs.Common.{arith}
 use Rattle.dns_fields_more.proofs.TypeBits.{has_also}
 use Rattle.dns_fields_more.proofs.bitmap.type_set.insert_bit.Goals as goal
 

@@ -1,7 +1,6 @@
-use Rattle.std.proofs.Common.{◌≡◌, ◌≤◌, ◌<◌, ◌+◌, List, ℕ, [], true, false, length, arith, ap, sym, subst, rules}
+use Rattle.std.proofs.Common.{◌≡◌, [], length, arith, ap}
 use Rattle.std.proofs.lemmas.Bool.Decides.{nat_tests}
 use Rattle.std.proofs.lemmas.List.{nil_from_length}
-use Rattle.dns_fields_more.specs.TypeBitmap.{IsBitmapFrom}
 use Rattle.dns_fields_more.proofs.HashWords.{false_true}
 use Rattle.dns_fields_more.proofs.TypeWindows.{bitmap_cons, bitmap_uncons, bitmap_end, bitmap_nil}
 use Rattle.dns_fields_more.proofs.bitmap.windows.is_type_bitmap.Goals as goal

@@ -1,6 +1,6 @@
-use Rattle.std.proofs.Common.{◌≡◌, ◌+◌, ◌-◌, ◌*◌, ◌/◌, ◌%◌, ◌≤◌, ◌<◌, arith, sym, subst, true}
+use Rattle.std.proofs.Common.{◌≡◌, ◌-◌, arith, sym, subst, true}
 use Rattle.dns_fields_more.specs.declared.time.Moment.{Moment}
-use Rattle.dns_fields_more.specs.Time.{is_moment, moment_after, days_of_years}
+use Rattle.dns_fields_more.specs.Time.{is_moment, moment_after}
 use Rattle.dns_fields_more.proofs.Calendar.{year_days}
 use Rattle.dns_fields_more.proofs.Moments.{moment_exists}
 use Rattle.dns_fields_more.proofs.time.Moment.after.Goals as goal

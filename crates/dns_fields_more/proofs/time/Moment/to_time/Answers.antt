@@ -1,4 +1,4 @@
-use Rattle.std.proofs.Common.{◌≡◌, ◌+◌, ◌-◌, ◌*◌, ◌%◌, ◌≤◌, ◌<◌, arith, ap}
+use Rattle.std.proofs.Common.{◌%◌, arith, ap}
 use Rattle.dns_fields_more.specs.Time.{seconds_before, day_number}
 use Rattle.dns_fields_more.proofs.Moments.{InCalendar, in_calendar}
 use Rattle.dns_fields_more.proofs.time.Moment.to_time.Goals as goal
