@@ -1,5 +1,7 @@
 pub mod Service
 pub mod ServiceText
 pub mod ServiceParts
+pub mod ServiceShown
 pub mod Location
 pub mod LocationText
+pub mod Behind
