@@ -4,3 +4,5 @@ mod ServiceParts
 mod ServiceValues
 mod ServicePieces
 mod ServiceKeys
+mod ServiceShown
+mod ServicePrinted

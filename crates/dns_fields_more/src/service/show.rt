@@ -1,5 +1,5 @@
 //! Service parameters as tokens (RFC 9460 2.1).
-ghost use Rattle.std.specs.Prelude.{◌≡◌, ◌<◌, ◌++◌, [], List, ℕ, Some, OnOk, length, map};
+ghost use Rattle.std.specs.Prelude.{◌≡◌, ◌∷◌, [], List, Some, OnOk, map};
 ghost use Rattle.std.specs.Fmt.{DisplaysOnOk};
 ghost use Rattle.std.specs.List.{flat_map};
 ghost use Rattle.dns_scan.specs.StringText.{unquoted_text};
@@ -80,7 +80,7 @@ fn write_value<W: fmt::Write>(f: &mut fmt::Formatter<W>, form: Form, octets: &[u
 
 /// Writes the items of a list, with a comma between any two.
 fn write_items<W: fmt::Write>(f: &mut fmt::Formatter<W>, form: Form, octets: &[u8]) -> fmt::Result
-    ensures { DisplaysOnOk W.write_str_gives f.old result (Some (unquoted_text (list_text (map (shown.item_text form) (shown.items form octets.now))))) f.new }
+    ensures { DisplaysOnOk W.write_str_gives f.old result (Some (unquoted_text (shown.shown_items form octets.now))) f.new }
 {
     let Some((first, mut rest)) = split_item(form, octets) else {
         return Ok(());
@@ -96,27 +96,37 @@ fn write_items<W: fmt::Write>(f: &mut fmt::Formatter<W>, form: Form, octets: &[u
 
 /// Writes an item of a list.
 fn write_item<W: fmt::Write>(f: &mut fmt::Formatter<W>, form: Form, item: &[u8]) -> fmt::Result
+    requires { shown.IsItem form item.now }
     ensures { DisplaysOnOk W.write_str_gives f.old result (Some (unquoted_text (flat_map item_octet (shown.item_text form item.now)))) f.new }
 {
     match form {
         Form::Keys => write_key(f, first_number(item)),
         Form::Ipv4s => write!(f, "{}", ipv4_of(item)),
         Form::Ipv6s => write!(f, "{}", ipv6_of(item).hex_groups()),
-        _ => write_string(f, item),
+        Form::Strings | Form::Nothing | Form::Number | Form::Encoded | Form::Plain => {
+            write_string(f, item)
+        }
     }
 }
 
-/// Writes a string of a list.
+/// Writes a string of a list: a comma and a backslash are behind a backslash.
 fn write_string<W: fmt::Write>(f: &mut fmt::Formatter<W>, octets: &[u8]) -> fmt::Result
     ensures { DisplaysOnOk W.write_str_gives f.old result (Some (unquoted_text (flat_map item_octet octets.now))) f.new }
 {
     for &octet in octets {
-        if octet == b',' || octet == b'\\' {
-            f.write_str("\\\\")?;
-        }
-        write_octet(f, octet)?;
+        write_item_octet(f, octet)?;
     }
     Ok(())
+}
+
+/// Writes an octet of a string of a list.
+fn write_item_octet<W: fmt::Write>(f: &mut fmt::Formatter<W>, octet: u8) -> fmt::Result
+    ensures { DisplaysOnOk W.write_str_gives f.old result (Some (unquoted_text (item_octet octet))) f.new }
+{
+    if octet == b',' || octet == b'\\' {
+        write_octet(f, b'\\')?;
+    }
+    write_octet(f, octet)
 }
 
 /// Writes octets as an unquoted token.
@@ -134,11 +144,11 @@ fn write_octet<W: fmt::Write>(f: &mut fmt::Formatter<W>, octet: u8) -> fmt::Resu
     ensures { DisplaysOnOk W.write_str_gives f.old result (Some (unquoted_text (octet ∷ []))) f.new }
 {
     match octet {
-        b' ' | b'"' | b'(' | b')' | b';' | b'\\' => {
+        b' '..=b'~' if is_marked(octet) => {
             f.write_char('\\')?;
             f.write_char(char::from(octet))
         }
-        b'!'..=b'~' => f.write_char(char::from(octet)),
+        b' '..=b'~' => f.write_char(char::from(octet)),
         _ => {
             f.write_char('\\')?;
             f.write_char(char::from(b'0' + octet / 100))?;
@@ -146,4 +156,11 @@ fn write_octet<W: fmt::Write>(f: &mut fmt::Formatter<W>, octet: u8) -> fmt::Resu
             f.write_char(char::from(b'0' + octet % 10))
         }
     }
+}
+
+/// Returns whether the octet is behind a backslash in an unquoted token.
+fn is_marked(octet: u8) -> bool
+    ensures { result ≡ shown.is_marked octet }
+{
+    matches!(octet, b' ' | b'"' | b'(' | b')' | b';' | b'\\')
 }
