@@ -87,7 +87,7 @@ fn write_items<W: fmt::Write>(f: &mut fmt::Formatter<W>, form: Form, octets: &[u
     };
     write_item(f, form, first)?;
     while let Some((item, behind)) = split_item(form, rest) {
-        f.write_char(',')?;
+        f.write_str(",")?;
         write_item(f, form, item)?;
         rest = behind;
     }

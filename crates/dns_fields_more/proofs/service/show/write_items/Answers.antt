@@ -25,7 +25,7 @@ loop-item-preserved g c = λ plain.
     let item = c.in-Some-split_item.item.now in
     let behind = c.in-Some-split_item.behind.now in
     let next = next_shown form c.loop-item.rest.now item behind c.in-Some-split_item.ensures.some.0 in
-    let up_to : HasWritten g.W.Write.write_str_gives c.args.f.now (so_far.0 ++ 44 ∷ []) c.write_char.new.self = has_written_append _ _ _ _ _ _ so_far.1 (search rules) in (
+    let up_to : HasWritten g.W.Write.write_str_gives c.args.f.now (so_far.0 ++ 44 ∷ []) c.write_str.new.self = has_written_append _ _ _ _ _ _ so_far.1 (search rules) in (
       (so_far.0 ++ 44 ∷ []) ++ item_shown form item,
       has_written_append _ _ _ _ _ _ up_to (search rules),
       append_assoc (so_far.0 ++ 44 ∷ []) _ _ ∙ append_assoc so_far.0 (44 ∷ []) _ ∙ ap (λ l. so_far.0 ++ l) (sym next) ∙ so_far.2,
