@@ -4,4 +4,5 @@ pub mod ServiceParts
 pub mod ServiceShown
 pub mod Location
 pub mod LocationText
+pub mod LocationParts
 pub mod Behind

@@ -1,7 +1,7 @@
 //! Locations as octets (RFC 1876 2).
-ghost use Rattle.std.specs.Prelude.{◌≡◌, ◌+◌, ◌*◌, ◌<◌, ◌≤◌, ◌^◌, ◌↔◌, ◌++◌, IsTrue, IfSome, IfNone};
-ghost use Rattle.std.specs.Int.{to_be_bytes, w32};
-ghost use Rattle.dns_fields_more.specs.Location.{HoldsLocation};
+ghost use Rattle.std.specs.Prelude.{◌≡◌, ◌+◌, ◌*◌, ◌<◌, ◌≤◌, ◌↔◌, IsTrue, IfSome, IfNone};
+ghost use Rattle.dns_fields_more.specs.Location.{HoldsLocation, IsPrecision, IsWithin, precision_octet};
+ghost use Rattle.dns_fields_more.specs.LocationParts.{HoldsPrecision, IsPlace, precision_of};
 
 /// A length: a digit times a power of ten, in centimetres.
 #[derive(Clone, Copy, Debug, PartialEq, Eq)]
@@ -30,52 +30,49 @@ pub(crate) fn is_location(octets: &[u8]) -> bool
 }
 
 /// Returns the location of these octets, if they are one.
-pub(crate) fn read_place(octets: &[u8]) -> Option<Place> {
-    let [0, size, horizontal, vertical, behind @ ..] = octets else {
+pub(crate) fn read_place(octets: &[u8]) -> Option<Place>
+    ensures some { IfSome result (IsPlace octets.now) }
+    ensures none { IfNone result (HoldsLocation octets.now → ⊥) }
+{
+    if octets.len() != 16 || octets[0] != 0 {
         return None;
-    };
-    let size = read_precision(*size)?;
-    let horizontal = read_precision(*horizontal)?;
-    let vertical = read_precision(*vertical)?;
-    let (latitude, behind) = split_number(behind)?;
-    let (longitude, behind) = split_number(behind)?;
-    let (altitude, behind) = split_number(behind)?;
-    if is_within(90, latitude) && is_within(180, longitude) && behind.is_empty() {
-        Some(Place {
-            size,
-            horizontal,
-            vertical,
-            latitude,
-            longitude,
-            altitude,
-        })
-    } else {
-        None
     }
+    let place = Place {
+        size: read_precision(octets[1])?,
+        horizontal: read_precision(octets[2])?,
+        vertical: read_precision(octets[3])?,
+        latitude: u32::from_be_bytes([octets[4], octets[5], octets[6], octets[7]]),
+        longitude: u32::from_be_bytes([octets[8], octets[9], octets[10], octets[11]]),
+        altitude: u32::from_be_bytes([octets[12], octets[13], octets[14], octets[15]]),
+    };
+    if !is_within(90, place.latitude) {
+        return None;
+    }
+    if !is_within(180, place.longitude) {
+        return None;
+    }
+    Some(place)
 }
 
 /// Returns whether the number is at most that many degrees from 2^31.
-fn is_within(most: u32, value: u32) -> bool {
+fn is_within(most: u32, value: u32) -> bool
+    requires { most ≤ 180 }
+    ensures { IsTrue result ↔ IsWithin most value }
+{
     value.abs_diff(1 << 31) <= most * 3_600_000
 }
 
 /// Returns the length that an octet stands for: two digits, the second 0 if the first is.
-fn read_precision(octet: u8) -> Option<Precision> {
+fn read_precision(octet: u8) -> Option<Precision>
+    ensures some { IfSome result (λ digits. IsPrecision (precision_of digits) × (octet ≡ precision_octet (precision_of digits))) }
+    ensures none { IfNone result (HoldsPrecision octet → ⊥) }
+{
     let mantissa = octet / 16;
     let power = octet % 16;
-    if mantissa < 10 && power < 10 && (mantissa != 0 || power == 0) {
-        Some(Precision { mantissa, power })
-    } else {
-        None
+    if mantissa > 9 || power > 9 || (mantissa == 0 && power != 0) {
+        return None;
     }
-}
-
-/// Splits a number of 32 bits off the front.
-fn split_number(octets: &[u8]) -> Option<(u32, &[u8])> {
-    match octets {
-        [a, b, c, d, rest @ ..] => Some((u32::from_be_bytes([*a, *b, *c, *d]), rest)),
-        _ => None,
-    }
+    Some(Precision { mantissa, power })
 }
 
 impl Precision {
