@@ -1,5 +1,5 @@
 //! Locations as octets (RFC 1876 2).
-ghost use Rattle.std.specs.Prelude.{◌≡◌, ◌+◌, ◌*◌, ◌<◌, ◌≤◌, ◌↔◌, IsTrue, IfSome, IfNone};
+ghost use Rattle.std.specs.Prelude.{◌≡◌, ◌+◌, ◌*◌, ◌^◌, ◌<◌, ◌≤◌, ◌↔◌, IsTrue, IfSome, IfNone};
 ghost use Rattle.dns_fields_more.specs.Location.{HoldsLocation, IsPrecision, IsWithin, precision_octet};
 ghost use Rattle.dns_fields_more.specs.LocationParts.{HoldsPrecision, IsPlace, precision_of};
 
@@ -86,12 +86,12 @@ impl Precision {
     }
 
     /// Returns the length in centimetres.
-    pub(crate) fn centimetres(self) -> u64 {
-        let mut length = u64::from(self.mantissa);
-        for _ in 0..self.power {
-            length = length.saturating_mul(10);
-        }
-        length
+    pub(crate) fn centimetres(self) -> u64
+        requires mantissa { self.mantissa < 10 }
+        requires power { self.power < 10 }
+        ensures { result ≡ self.mantissa * 10 ^ self.power }
+    {
+        u64::from(self.mantissa) * 10_u64.pow(u32::from(self.power))
     }
 
     /// Returns the greatest length that is not above this one.
