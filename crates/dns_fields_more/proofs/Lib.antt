@@ -6,3 +6,4 @@ mod ServicePieces
 mod ServiceKeys
 mod ServiceShown
 mod ServicePrinted
+mod LocationParts

@@ -53,11 +53,7 @@ fn show_arc<F: Formatter>(
 }
 
 /// Writes an angle in thousandths of a second, and a direction.
-fn show_angle<F: Formatter>(
-    angle: u32,
-    direction: &'static str,
-    formatter: &mut F,
-) -> fmt::Result
+fn show_angle<F: Formatter>(angle: u32, direction: &'static str, formatter: &mut F) -> fmt::Result
     ensures { OnOk result (Adds F.writes formatter.old (map Token (shown.angle_words angle ++ direction.now ∷ [])) formatter.new) }
 {
     formatter.write_token(angle / 3_600_000)?;
