@@ -266,3 +266,21 @@ next_shown form octets front behind is = ap (behind_text form) (items_some form 
 
 pub none_shown : (form : Form) (octets : List ℕ) → take_item form octets ≡ None → unquoted_text (shown_items form octets) ≡ []
 none_shown form octets is = ap (λ (l : List (List ℕ)). unquoted_text (list_text (map (item_text form) l))) (items_none form octets is)
+
+-- the keys with a name
+rows_low : (key : ℕ) (word : List ℕ) (rows : List (ℕ × List ℕ × Form)) → AllByRecursion (λ (row : ℕ × List ℕ × Form). row.0 < 9) rows
+    → option_map (λ row. row.1) (find (λ row. row.0 == key) rows) ≡ Some word → key < 9
+rows_low key word [] low is = absurd (cc)
+rows_low key word (row ∷ rows) low is = by (rows_low key word rows low.1) (row.0 == key) refl is
+  where
+    by : (option_map (λ row. row.1) (find (λ row. row.0 == key) rows) ≡ Some word → key < 9) → (b : Bool) → (row.0 == key) ≡ b
+        → option_map (λ row. row.1) (cond b (Some row) (find (λ row. row.0 == key) rows)) ≡ Some word → key < 9
+    by on true same is = let first = low.0 in let equal : row.0 ≡ key = grind (arith, nat_tests) in omega (arith, first, equal)
+    by on false same is = on is
+
+table_low : AllByRecursion (λ (row : ℕ × List ℕ × Form). row.0 < 9) table
+table_low = (omega arith, (omega arith, (omega arith, (omega arith, (omega arith, (omega arith, (omega arith, (omega arith, (omega arith, tt)))))))))
+
+pub name_low : (key : ℕ) (word : List ℕ) → name_of key ≡ Some word → key < 9
+unfolding name_of
+name_low key word is = rows_low key word table table_low is

@@ -2,6 +2,7 @@ pub mod Service
 pub mod ServiceText
 pub mod ServiceParts
 pub mod ServiceShown
+pub mod ServiceRead
 pub mod Location
 pub mod LocationText
 pub mod LocationParts

@@ -6,6 +6,7 @@ mod items;
 mod keys;
 mod scan;
 mod show;
+mod text;
 mod values;
 
 pub(crate) use check::are_parameters;

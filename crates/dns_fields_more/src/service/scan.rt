@@ -1,5 +1,6 @@
 //! Scanning service parameters (RFC 9460 2.1).
-ghost use Rattle.std.specs.Prelude.{◌≡◌, List, false, IfErr, OnOk};
+ghost use Rattle.std.specs.Prelude.{◌≡◌, ◌++◌, List, ℕ, false, true, IfErr, OnOk};
+ghost use Rattle.dns_scan.specs.StringText.{Spells};
 ghost use Rattle.dns_scan.specs.Token.{SameNames};
 ghost use Rattle.dns_fields_more.specs.Service.{Parameter};
 ghost use Rattle.dns_fields_more.specs.ServiceText.{AppendsParameters, ScansParameters};
@@ -7,6 +8,7 @@ ghost use Rattle.dns_fields_more.specs.Behind.{GoesOn};
 
 use super::check::{are_parameters, is_value};
 use super::keys::{form_at, read_key};
+use super::text::split_first;
 use super::values::append_value;
 use dns_name::Symbol;
 use dns_text::{Scanner, ScannerError};
@@ -66,7 +68,11 @@ fn append_parameters<Error: ScannerError>(
 }
 
 /// Appends octets.
-fn append_octets<Error: ScannerError>(added: &[u8], octets: &mut Vec<u8>) -> Result<(), Error> {
+fn append_octets<Error: ScannerError>(added: &[u8], octets: &mut Vec<u8>) -> Result<(), Error>
+    ensures ok { OnOk result (octets.new.items ≡ octets.old.items ++ added.now) }
+    ensures err { IfErr result (λ error. Error.is_short error ≡ true) }
+    ensures more { GoesOn octets.old.items octets.new.items }
+{
     match octets.extend_from_slice(added) {
         Ok(()) => Ok(()),
         Err(_) => Err(Error::short_buf()),
@@ -76,7 +82,7 @@ fn append_octets<Error: ScannerError>(added: &[u8], octets: &mut Vec<u8>) -> Res
 /// Scans a parameter.
 fn scan_parameter<S: Scanner>(scanner: &mut S, alloc: Global) -> Result<Written, S::Error> {
     let mut text = Vec::new(alloc);
-    let (word, written) = split_word(scanner.peek_text()?);
+    let (word, written) = split_first(scanner.peek_text()?, b'=');
     let Some(word) = read_key(word) else {
         return Err(S::Error::custom("unknown key"));
     };
@@ -106,16 +112,12 @@ fn scan_parameter<S: Scanner>(scanner: &mut S, alloc: Global) -> Result<Written,
     })
 }
 
-/// Splits a token's text at its first `=`: the word before it, and what is after it, if there is one.
-fn split_word(text: &[u8]) -> (&[u8], Option<&[u8]>) {
-    match text.iter().position(|&octet| octet == b'=') {
-        Some(at) => (&text[..at], Some(&text[at + 1..])),
-        None => (text, None),
-    }
-}
-
 /// Appends the octets that the symbols of a text stand for.
-fn read_text<Error: ScannerError>(text: &[u8], octets: &mut Vec<u8>) -> Result<(), Error> {
+fn read_text<Error: ScannerError>(text: &[u8], octets: &mut Vec<u8>) -> Result<(), Error>
+    ensures ok { OnOk result ((new : List ℕ) × Spells text.now new × (octets.new.items ≡ octets.old.items ++ new)) }
+    ensures err { IfErr result (λ error. Error.is_short error ≡ false → (new : List ℕ) → Spells text.now new → ⊥) }
+    ensures more { GoesOn octets.old.items octets.new.items }
+{
     let mut rest = text;
     while !rest.is_empty() {
         let Some((symbol, behind)) = Symbol::split_from(rest) else {
@@ -124,10 +126,10 @@ fn read_text<Error: ScannerError>(text: &[u8], octets: &mut Vec<u8>) -> Result<(
         let Ok(octet) = symbol.into_octet() else {
             return Err(Error::custom("bad symbol"));
         };
-        if octets.push(octet).is_err() {
-            return Err(Error::short_buf());
+        match octets.push(octet) {
+            Ok(()) => rest = behind,
+            Err(_) => return Err(Error::short_buf()),
         }
-        rest = behind;
     }
     Ok(())
 }

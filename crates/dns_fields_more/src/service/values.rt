@@ -1,6 +1,10 @@
 //! The values of named keys in text (RFC 9460 7, 8 and A.1).
+ghost use Rattle.std.specs.Prelude.{◌≡◌, ◌++◌, false, true, IfErr, OnOk};
+ghost use Rattle.dns_fields_more.specs.ServiceRead.{AppendsValue, SpellsNoValue};
+
 use super::form::Form;
 use super::keys::{read_key, read_number};
+use super::text::split_first;
 use dns_text::{ScannerError, base64};
 use std::net::{Ipv4Addr, Ipv6Addr};
 
@@ -11,7 +15,10 @@ pub(crate) fn append_value<Error: ScannerError>(
     form: Form,
     text: &[u8],
     value: &mut Vec<u8>,
-) -> Result<(), Error> {
+) -> Result<(), Error>
+    ensures ok { OnOk result (AppendsValue form text.now value.old.items value.new.items) }
+    ensures err { IfErr result (λ error. Error.is_short error ≡ false → SpellsNoValue form text.now) }
+{
     match form {
         Form::Keys => append_keys(text, value),
         Form::Strings => append_strings(text, value),
@@ -34,7 +41,10 @@ pub(crate) fn append_value<Error: ScannerError>(
 }
 
 /// Appends octets.
-fn append_octets<Error: ScannerError>(octets: &[u8], value: &mut Vec<u8>) -> Result<(), Error> {
+fn append_octets<Error: ScannerError>(octets: &[u8], value: &mut Vec<u8>) -> Result<(), Error>
+    ensures ok { OnOk result (value.new.items ≡ value.old.items ++ octets.now) }
+    ensures err { IfErr result (λ error. Error.is_short error ≡ true) }
+{
     match value.extend_from_slice(octets) {
         Ok(()) => Ok(()),
         Err(_) => Err(Error::short_buf()),
@@ -46,7 +56,7 @@ fn append_keys<Error: ScannerError>(text: &[u8], value: &mut Vec<u8>) -> Result<
     let mut keys: Vec<u16> = Vec::new(*value.allocator());
     let mut left = Some(text);
     while let Some(items) = left {
-        let (item, rest) = split_item(items);
+        let (item, rest) = split_first(items, b',');
         let Some(word) = read_key(item) else {
             return Err(Error::custom("bad key"));
         };
@@ -111,7 +121,7 @@ fn append_string<'a, Error: ScannerError>(
 fn append_ipv4s<Error: ScannerError>(text: &[u8], value: &mut Vec<u8>) -> Result<(), Error> {
     let mut left = Some(text);
     while let Some(items) = left {
-        let (item, rest) = split_item(items);
+        let (item, rest) = split_first(items, b',');
         let Ok(address) = Ipv4Addr::parse_ascii(item) else {
             return Err(Error::custom("bad address"));
         };
@@ -125,7 +135,7 @@ fn append_ipv4s<Error: ScannerError>(text: &[u8], value: &mut Vec<u8>) -> Result
 fn append_ipv6s<Error: ScannerError>(text: &[u8], value: &mut Vec<u8>) -> Result<(), Error> {
     let mut left = Some(text);
     while let Some(items) = left {
-        let (item, rest) = split_item(items);
+        let (item, rest) = split_first(items, b',');
         let Ok(address) = Ipv6Addr::parse_ascii(item) else {
             return Err(Error::custom("bad address"));
         };
@@ -149,12 +159,4 @@ fn append_encoded<Error: ScannerError>(text: &[u8], value: &mut Vec<u8>) -> Resu
         Err(_) => return Err(Error::custom("bad base 64")),
     };
     append_octets(&octets, value)
-}
-
-/// Splits a list at its first comma: an item, and the items after it, if there are any.
-fn split_item(text: &[u8]) -> (&[u8], Option<&[u8]>) {
-    match text.iter().position(|&octet| octet == b',') {
-        Some(at) => (&text[..at], Some(&text[at + 1..])),
-        None => (text, None),
-    }
 }
