@@ -1,5 +1,6 @@
 //! The values of named keys in text (RFC 9460 7, 8 and A.1).
 ghost use Rattle.std.specs.Prelude.{◌≡◌, ◌++◌, false, true, IfErr, OnOk};
+ghost use Rattle.dns_fields_more.specs.declared.service.form.Form.TheVariants.{Encoded, Ipv4s, Ipv6s, Keys, Strings};
 ghost use Rattle.dns_fields_more.specs.ServiceRead.{AppendsValue, SpellsNoValue};
 
 use super::form::Form;
@@ -52,7 +53,10 @@ fn append_octets<Error: ScannerError>(octets: &[u8], value: &mut Vec<u8>) -> Res
 }
 
 /// Appends the keys of a list, ascending.
-fn append_keys<Error: ScannerError>(text: &[u8], value: &mut Vec<u8>) -> Result<(), Error> {
+fn append_keys<Error: ScannerError>(text: &[u8], value: &mut Vec<u8>) -> Result<(), Error>
+    ensures ok { OnOk result (AppendsValue Keys text.now value.old.items value.new.items) }
+    ensures err { IfErr result (λ error. Error.is_short error ≡ false → SpellsNoValue Keys text.now) }
+{
     let mut keys: Vec<u16> = Vec::new(*value.allocator());
     let mut left = Some(text);
     while let Some(items) = left {
@@ -78,7 +82,10 @@ fn append_keys<Error: ScannerError>(text: &[u8], value: &mut Vec<u8>) -> Result<
 }
 
 /// Appends the strings of a list, each behind its length.
-fn append_strings<Error: ScannerError>(text: &[u8], value: &mut Vec<u8>) -> Result<(), Error> {
+fn append_strings<Error: ScannerError>(text: &[u8], value: &mut Vec<u8>) -> Result<(), Error>
+    ensures ok { OnOk result (AppendsValue Strings text.now value.old.items value.new.items) }
+    ensures err { IfErr result (λ error. Error.is_short error ≡ false → SpellsNoValue Strings text.now) }
+{
     let mut left = Some(text);
     while let Some(items) = left {
         left = append_string(items, value)?;
@@ -118,7 +125,10 @@ fn append_string<'a, Error: ScannerError>(
 }
 
 /// Appends the addresses of a list.
-fn append_ipv4s<Error: ScannerError>(text: &[u8], value: &mut Vec<u8>) -> Result<(), Error> {
+fn append_ipv4s<Error: ScannerError>(text: &[u8], value: &mut Vec<u8>) -> Result<(), Error>
+    ensures ok { OnOk result (AppendsValue Ipv4s text.now value.old.items value.new.items) }
+    ensures err { IfErr result (λ error. Error.is_short error ≡ false → SpellsNoValue Ipv4s text.now) }
+{
     let mut left = Some(text);
     while let Some(items) = left {
         let (item, rest) = split_first(items, b',');
@@ -132,7 +142,10 @@ fn append_ipv4s<Error: ScannerError>(text: &[u8], value: &mut Vec<u8>) -> Result
 }
 
 /// Appends the addresses of a list.
-fn append_ipv6s<Error: ScannerError>(text: &[u8], value: &mut Vec<u8>) -> Result<(), Error> {
+fn append_ipv6s<Error: ScannerError>(text: &[u8], value: &mut Vec<u8>) -> Result<(), Error>
+    ensures ok { OnOk result (AppendsValue Ipv6s text.now value.old.items value.new.items) }
+    ensures err { IfErr result (λ error. Error.is_short error ≡ false → SpellsNoValue Ipv6s text.now) }
+{
     let mut left = Some(text);
     while let Some(items) = left {
         let (item, rest) = split_first(items, b',');
@@ -146,7 +159,10 @@ fn append_ipv6s<Error: ScannerError>(text: &[u8], value: &mut Vec<u8>) -> Result
 }
 
 /// Appends the octets of a text in base 64.
-fn append_encoded<Error: ScannerError>(text: &[u8], value: &mut Vec<u8>) -> Result<(), Error> {
+fn append_encoded<Error: ScannerError>(text: &[u8], value: &mut Vec<u8>) -> Result<(), Error>
+    ensures ok { OnOk result (AppendsValue Encoded text.now value.old.items value.new.items) }
+    ensures err { IfErr result (λ error. Error.is_short error ≡ false → SpellsNoValue Encoded text.now) }
+{
     if text.is_empty() || !text.is_ascii() {
         return Err(Error::custom("bad base 64"));
     }

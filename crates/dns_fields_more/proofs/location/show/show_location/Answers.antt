@@ -1,4 +1,4 @@
-use Rattle.std.proofs.Common.{◌≡◌, sym, ◌∙◌, subst}
+use Rattle.std.proofs.Common.{sym, ◌∙◌, subst}
 use Rattle.std.specs.Prelude.{OnOk, map}
 use Rattle.dns_text.specs.Document.Piece.{Token}
 use Rattle.dns_text.specs.Writing.{Adds}

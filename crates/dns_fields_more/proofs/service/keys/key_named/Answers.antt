@@ -1,4 +1,4 @@
-use Rattle.std.proofs.Common.{◌≡◌, ◌<◌, ℕ, Some, arith}
+use Rattle.std.proofs.Common.{arith}
 use Rattle.dns_fields_more.proofs.ServiceShown.{name_low}
 use Rattle.dns_fields_more.proofs.service.keys.key_named.Goals as goal
 

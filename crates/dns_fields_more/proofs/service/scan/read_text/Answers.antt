@@ -1,4 +1,4 @@
-use Rattle.std.proofs.Common.{◌≡◌, ◌++◌, ◌∷◌, [], ℕ, List, length, sym, ◌∙◌, ap, append_assoc, arith, rules}
+use Rattle.std.proofs.Common.{◌≡◌, ◌++◌, ◌∷◌, [], ℕ, List, ◌∙◌, ap, append_assoc, arith, rules}
 use Rattle.std.proofs.lemmas.Grind.{common_steps}
 use Rattle.dns_label.specs.Symbol.{octet}
 use Rattle.dns_scan.proofs.Texts.{reading_end, reading_more, reading_none}

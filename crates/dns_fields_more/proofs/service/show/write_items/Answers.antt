@@ -2,7 +2,7 @@ use Rattle.std.proofs.Common.{◌≡◌, ◌∷◌, [], ◌++◌, sym, ◌∙◌
 use Rattle.std.specs.Fmt.{HasWritten}
 use Rattle.std.proofs.Output.{has_written_append}
 use Rattle.dns_scan.specs.StringText.{unquoted_text}
-use Rattle.dns_fields_more.specs.ServiceShown.{items, shown_items}
+use Rattle.dns_fields_more.specs.ServiceShown.{shown_items}
 use Rattle.dns_fields_more.proofs.ServiceShown.{behind_text, first_shown, item_shown, items_none, next_shown, none_shown}
 use Rattle.dns_fields_more.proofs.service.show.write_items.Goals as goal
 

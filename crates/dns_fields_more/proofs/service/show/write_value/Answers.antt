@@ -1,6 +1,5 @@
 use Rattle.std.proofs.Common.{◌≡◌, ◌<◌, ◌^◌, ℕ, decimal, get_or, sym, ◌∙◌, ap, subst, arith}
 use Rattle.std.specs.Fmt.{HasWritten}
-use Rattle.dns_scan.specs.Encodings.{encoded_64}
 use Rattle.dns_scan.specs.StringText.{unquoted_text}
 use Rattle.dns_fields_more.specs.declared.service.form.Form.{Form}
 use Rattle.dns_fields_more.specs.ServiceShown.{shown_value}

@@ -1,4 +1,4 @@
-use Rattle.std.proofs.Common.{◌≡◌, ◌≢◌, ◌≤◌, ◌+◌, ◌++◌, ◌∷◌, [], ℕ, List, length, take, get_or, refl, sym, subst, arith}
+use Rattle.std.proofs.Common.{◌≢◌, ◌∷◌, [], ℕ, take, get_or, refl, sym, subst, arith}
 use Rattle.std.proofs.lemmas.List.{take_all, take_more}
 use Rattle.dns_scan.proofs.Decoded.{each_append}
 use Rattle.dns_fields_more.specs.ServiceRead.{IsWithout}

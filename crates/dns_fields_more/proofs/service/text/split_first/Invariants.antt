@@ -1,4 +1,4 @@
-use Rattle.std.proofs.Common.{ℕ, take, length, ◌-◌, ◌≤◌}
+use Rattle.std.proofs.Common.{take, length, ◌-◌, ◌≤◌}
 use Rattle.dns_fields_more.specs.ServiceRead.{IsWithout}
 use Rattle.dns_fields_more.proofs.service.text.split_first.Given as goal
 
