@@ -22,3 +22,6 @@ pub mod ShownTypes
 pub mod ScannedTypes
 pub mod PrintedTypes
 pub mod OneBitmap
+mod ServiceShown
+mod ServicePrinted
+mod LocationParts

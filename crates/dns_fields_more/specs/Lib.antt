@@ -8,6 +8,8 @@ pub mod TypeBitmap
 pub mod Service
 pub mod ServiceText
 pub mod ServiceParts
+pub mod ServiceShown
+pub mod ServiceRead
 pub mod Location
 pub mod LocationText
 pub mod Forms
@@ -16,3 +18,4 @@ pub mod Rows
 pub mod Text
 pub mod Windows
 pub mod Tried
+pub mod LocationParts

@@ -4,7 +4,7 @@ use Rattle.std.specs.Char.{is_ascii_digit}
 use Rattle.std.specs.List.{AllZip, list_all}
 use Rattle.std.specs.Str.Parse.{digits_value}
 use Rattle.dns_label.specs.Symbol.{three_digits}
-use Rattle.dns_scan.specs.Token.{Token, unquoted}
+use Rattle.dns_scan.specs.Token.{Token}
 use Rattle.dns_fields_more.specs.Location.{IsLocation, IsPrecision, Location, Precision, degrees, location_octets}
 
 -- one digit or more
@@ -84,13 +84,13 @@ pub record SpellsSizes (words : List (List ℕ)) (sizes : List Precision) : Type
   pub few : length words ≤ 3
   pub each : AllZip SpellsSize (words ++ drop (length words) usual_sizes) sizes
 
--- the tokens are the text of a location
+-- The tokens are the text of a location. Quotes around a token change nothing.
 pub record ScansLocation (location : Location) (tokens : List Token) : Type 0 where
   pub latitude : List (List ℕ)
   pub longitude : List (List ℕ)
   pub altitude : List ℕ
   pub sizes : List (List ℕ)
-  pub written : tokens ≡ map unquoted (latitude ++ longitude ++ altitude ∷ sizes)
+  pub written : map (λ token. token.text) tokens ≡ latitude ++ longitude ++ altitude ∷ sizes
   pub north : SpellsArc 90 (codes "N") (codes "S") latitude location.latitude
   pub east : SpellsArc 180 (codes "E") (codes "W") longitude location.longitude
   pub above : SpellsAltitude altitude location.altitude

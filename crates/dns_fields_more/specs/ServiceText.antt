@@ -102,11 +102,11 @@ value_text (ipv6s each) = list_text (map (λ octets. hex_groups_text (segments_o
 value_text (encoded octets) = encoded_64 octets
 value_text (plain octets) = octets
 
--- `=` and the value, or nothing where its text is empty
-abbrev pub assigned : List ℕ → List ℕ
-assigned [] = []
-assigned (octet ∷ text) = 61 ∷ unquoted_text (octet ∷ text)
+-- `=` and the text of a value, or nothing where the value has no octets
+abbrev pub assigned : List ℕ → List ℕ → List ℕ
+assigned [] text = []
+assigned (octet ∷ octets) text = 61 ∷ unquoted_text text
 
 -- each parameter is printed as one unquoted token
 abbrev pub parameter_text : Parameter → List ℕ
-parameter_text parameter = key_text parameter.key ++ assigned (value_text parameter.value)
+parameter_text parameter = key_text parameter.key ++ assigned (value_octets parameter.value) (value_text parameter.value)

@@ -90,7 +90,7 @@ PrintsForm Hash (string octets) pieces = pieces ≡ printed (hash_written octets
 PrintsForm Types (rest16 octets) pieces = pieces ≡ type_pieces (types_in octets)
 PrintsForm Parameters (rest16 octets) pieces =
     (parameters : List Parameter) × AreParameters parameters × (octets ≡ octets_of parameters)
-    × (pieces ≡ map (λ parameter. printed (parameter_text parameter)) parameters)
+    × (pieces ≡ map printed (map parameter_text parameters))
 PrintsForm LocationForm (rest16 octets) pieces =
     (location : Location) × IsLocation location × (octets ≡ location_octets location) × (pieces ≡ map printed (location_words location))
 PrintsForm Eui48 (rest16 octets) pieces = pieces ≡ printed (hardware_written octets) ∷ []

@@ -11,7 +11,7 @@ mod form;
 mod hardware;
 mod hash_words;
 pub mod laws;
-mod pending;
+mod location;
 mod row;
 mod scan;
 mod service;

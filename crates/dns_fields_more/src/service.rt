@@ -2,6 +2,13 @@
 
 mod check;
 mod form;
+mod items;
 mod keys;
+mod scan;
+mod show;
+mod text;
+mod values;
 
 pub(crate) use check::are_parameters;
+pub(crate) use scan::scan_parameters_into;
+pub(crate) use show::show_parameters;

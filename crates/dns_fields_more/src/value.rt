@@ -10,7 +10,7 @@ ghost use Rattle.dns_fields_more.specs.declared.form.Form.TheVariants as form_of
 
 use crate::Form;
 use crate::bitmap::is_type_bitmap;
-use crate::pending::is_location;
+use crate::location::is_location;
 use crate::service::are_parameters;
 use dns_name::{Name, ParseError, Parser};
 use dns_text::CharStr;

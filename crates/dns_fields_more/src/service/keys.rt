@@ -1,7 +1,12 @@
 //! The keys that have a name.
-ghost use Rattle.std.specs.Prelude.{◌≡◌};
+ghost use Rattle.std.specs.Prelude.{◌≡◌, ◌<◌, ◌^◌, ◌↔◌, ℕ, Some, IfSome, IfNone, IsTrue};
+ghost use Rattle.std.specs.Char.{is_ascii_digit};
+ghost use Rattle.std.specs.List.{list_all};
 ghost use Rattle.std.specs.Option.{option_copied};
+ghost use Rattle.dns_values.specs.Mnemonic.{number_spelled};
 ghost use Rattle.dns_fields_more.specs.Service as table;
+ghost use Rattle.dns_fields_more.specs.ServiceRead.{IsKeyWord};
+ghost use Rattle.dns_fields_more.specs.ServiceText.{SpellsKey, number_word};
 
 use super::form::Form;
 
@@ -39,4 +44,85 @@ pub(crate) fn name_of(key: u16) -> Option<&'static str>
         8 => Some("ohttp"),
         _ => None,
     }
+}
+
+/// A key as it is written.
+#[derive(Clone, Copy, Debug, PartialEq, Eq)]
+pub(crate) struct KeyWord {
+    /// The number of the key.
+    pub key: u16,
+    /// Whether it is written by its name.
+    pub named: bool,
+}
+
+/// Returns the key that a word is the name or the number of.
+pub(crate) fn read_key(word: &[u8]) -> Option<KeyWord>
+    ensures some { IfSome result (IsKeyWord word.now) }
+    ensures none { IfNone result ((key : ℕ) → SpellsKey word.now key → ⊥) }
+{
+    match key_named(word) {
+        Some(key) => Some(KeyWord { key, named: true }),
+        None => match key_numbered(word) {
+            Some(key) => Some(KeyWord { key, named: false }),
+            None => None,
+        },
+    }
+}
+
+/// Returns the key of a name.
+fn key_named(word: &[u8]) -> Option<u16>
+    ensures some { IfSome result (λ key. table.name_of key ≡ Some word.now) }
+    ensures none { IfNone result ((key : ℕ) → table.name_of key ≡ Some word.now → ⊥) }
+{
+    for key in 0..9 {
+        if is_name(key, word) {
+            return Some(key);
+        }
+    }
+    None
+}
+
+/// Returns whether the word is the name of the key.
+fn is_name(key: u16, word: &[u8]) -> bool
+    ensures { IsTrue result ↔ (table.name_of key ≡ Some word.now) }
+{
+    match name_of(key) {
+        Some(name) => name.as_bytes() == word,
+        None => false,
+    }
+}
+
+/// Returns the number behind `key`, which has no leading zeros.
+fn key_numbered(word: &[u8]) -> Option<u16>
+    ensures some { IfSome result (λ key. (word.now ≡ number_word key) × (key < 2 ^ 16)) }
+    ensures none { IfNone result ((key : ℕ) → key < 2 ^ 16 → word.now ≡ number_word key → ⊥) }
+{
+    if word.len() < 3 || word[0] != b'k' || word[1] != b'e' || word[2] != b'y' {
+        return None;
+    }
+    let digits = &word[3..];
+    if digits.len() > 1 && digits[0] == b'0' {
+        return None;
+    }
+    read_number(digits)
+}
+
+/// Returns the number of 16 bits that the digits write.
+#[tactic(auto, using(dns_values::proofs::Words::spelled_rules, dns_scan::proofs::Numerals::spelled_rules))]
+pub(crate) fn read_number(digits: &[u8]) -> Option<u16>
+    ensures { result ≡ number_spelled (2 ^ 16) digits.now }
+{
+    if !are_digits(digits) {
+        return None;
+    }
+    // Digits are ASCII.
+    let text = unsafe { str::from_utf8_unchecked(digits) };
+    text.parse().ok()
+}
+
+/// Returns whether all octets are decimal digits.
+fn are_digits(octets: &[u8]) -> bool
+    ensures { result ≡ list_all is_ascii_digit octets.now }
+{
+    octets.iter().all(u8::is_ascii_digit)
 }

@@ -1,4 +1,7 @@
-use Rattle.std.proofs.Common.{refl}
+use Rattle.std.proofs.Common.{refl, subst}
+use Rattle.dns_fields.specs.Fields.{field_octets}
+use Rattle.dns_fields_more.specs.Forms.{Keeps}
+use Rattle.dns_fields_more.specs.Values.{rest_field}
 use Rattle.dns_fields_more.proofs.Shown.{plain_rest, rest_shown, shown}
 use Rattle.dns_fields_more.proofs.show.show_rest.Goals as goal
 
@@ -23,3 +26,15 @@ returns-in_default g c =
     (plain_rest _ _ c.requires.kind c.in_default.not-Types c.in_default.not-Parameters c.in_default.not-Location c.in_default.not-Eui48 c.in_default.not-Eui64
     c.in_default.not-RestText c.in_default.not-Rest64)
     c.show_last-in_default.result c.show_last-in_default.ensures
+
+pub returns-in-Parameters : goal.returns-in-Parameters
+returns-in-Parameters g c =
+    let holds = subst (λ form. Keeps form (field_octets (rest_field form c.args.octets.now))) c.in-Parameters.is c.requires.keeps in
+    rest_shown _ _ _ _ _ c.in-Parameters.is (holds.parameters, holds.are, holds.written, refl) c.show_parameters.result
+    (c.show_parameters.ensures holds.parameters holds.are holds.written)
+
+pub returns-in-Location : goal.returns-in-Location
+returns-in-Location g c =
+    let holds = subst (λ form. Keeps form (field_octets (rest_field form c.args.octets.now))) c.in-Location.is c.requires.keeps in
+    rest_shown _ _ _ _ _ c.in-Location.is (holds.location, holds.is, holds.written, refl) c.show_location.result
+    (c.show_location.ensures holds.location holds.is holds.written)

@@ -1,5 +1,4 @@
 use Rattle.std.proofs.Common.{◌≡◌, true, rules}
-use Rattle.dns_fields_more.specs.ServiceParts.{HoldsOrdered}
 use Rattle.dns_fields_more.proofs.ServiceKeys.{ordered_of, parameters_of}
 use Rattle.dns_fields_more.proofs.service.check.are_parameters.Goals as goal
 

@@ -1,4 +1,3 @@
-use Rattle.std.proofs.Common.{◌≡◌, ◌≢◌}
 use Rattle.dns_fields_more.proofs.ServiceKeys.{key_behind, key_found, key_here, key_none}
 use Rattle.dns_fields_more.proofs.service.check.has_key.Goals as goal
 

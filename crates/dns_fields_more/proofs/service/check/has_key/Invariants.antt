@@ -1,7 +1,6 @@
 use Rattle.std.proofs.Common.{◌≡◌, List, length}
 use Rattle.std.specs.List.{AllByRecursion}
-use Rattle.dns_fields_more.specs.Service.{IsParameter, Parameter, keys_of, octets_of}
-use Rattle.dns_fields_more.specs.ServiceParts.{AscendFrom}
+use Rattle.dns_fields_more.specs.Service.{IsParameter, Parameter, octets_of}
 use Rattle.dns_fields_more.proofs.ServiceKeys.{KeyLeft}
 use Rattle.dns_fields_more.proofs.service.check.has_key.Given as goal
 

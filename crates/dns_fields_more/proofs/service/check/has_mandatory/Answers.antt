@@ -1,4 +1,4 @@
-use Rattle.std.proofs.Common.{◌≡◌, ◌≢◌, [], ℕ, length, ap, arith, true}
+use Rattle.std.proofs.Common.{◌≡◌, ◌≢◌, ℕ, length, ap, arith}
 use Rattle.std.proofs.lemmas.Bool.Decides.{nat_tests}
 use Rattle.std.proofs.lemmas.List.{nil_from_length}
 use Rattle.dns_fields_more.proofs.ServiceKeys.{none_listed, nothing_listed, wanted_end, wanted_here, wanted_step}

@@ -1,4 +1,4 @@
-use Rattle.std.proofs.Common.{rules, ◌≡◌, ◌∷◌, ◌++◌, [], sym, ◌∙◌, ap, arith}
+use Rattle.std.proofs.Common.{◌∷◌, ◌++◌, sym, ◌∙◌, ap}
 use Rattle.dns_fields_more.proofs.ServiceParts.{number_octets}
 use Rattle.dns_fields_more.proofs.service.check.split_number.Goals as goal
 
