@@ -1,5 +1,14 @@
+pub mod TypeWords
+pub mod Calendar
+pub mod Moments
 mod TriedService
 mod TriedLocation
+pub mod Numbers
+pub mod Sole
+pub mod Rows
+pub mod Scans
+pub mod HashWords
+pub mod ScanRows
 mod ServiceParts
 mod ServiceValues
 mod ServicePieces
@@ -7,3 +16,16 @@ mod ServiceKeys
 mod ServiceShown
 mod ServicePrinted
 mod LocationParts
+mod LocationNumerals
+mod LocationScans
+pub mod LocationRead
+pub mod LocationPrinted
+pub mod HardwareText
+pub mod TypeBits
+pub mod Shown
+pub mod Lowered
+pub mod TypeWindows
+pub mod ShownTypes
+pub mod ScannedTypes
+pub mod PrintedTypes
+pub mod OneBitmap

@@ -1,3 +1,10 @@
+pub mod Appended
+pub mod TypeWords
+pub mod Time
+pub mod HashWords
+pub mod Hardware
+pub mod HardwareParts
+pub mod TypeBitmap
 pub mod Service
 pub mod ServiceText
 pub mod ServiceParts
@@ -6,4 +13,9 @@ pub mod ServiceRead
 pub mod Location
 pub mod LocationText
 pub mod LocationParts
-pub mod Behind
+pub mod Forms
+pub mod Values
+pub mod Rows
+pub mod Text
+pub mod Windows
+pub mod Tried

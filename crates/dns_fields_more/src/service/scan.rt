@@ -4,12 +4,13 @@ ghost use Rattle.dns_scan.specs.StringText.{Spells};
 ghost use Rattle.dns_scan.specs.Token.{SameNames};
 ghost use Rattle.dns_fields_more.specs.Service.{Parameter};
 ghost use Rattle.dns_fields_more.specs.ServiceText.{AppendsParameters, ScansParameters};
-ghost use Rattle.dns_fields_more.specs.Behind.{GoesOn};
+ghost use Rattle.dns_fields_more.specs.Appended.{GoesOn};
 
 use super::check::{are_parameters, is_value};
 use super::keys::{form_at, read_key};
-use super::text::split_first;
 use super::values::append_value;
+use crate::append::append_octets;
+use crate::text::split_first;
 use dns_name::Symbol;
 use dns_text::{Scanner, ScannerError};
 use std::alloc::Global;
@@ -65,18 +66,6 @@ fn append_parameters<Error: ScannerError>(
         append_octets(&parameter.value, octets)?;
     }
     Ok(())
-}
-
-/// Appends octets.
-fn append_octets<Error: ScannerError>(added: &[u8], octets: &mut Vec<u8>) -> Result<(), Error>
-    ensures ok { OnOk result (octets.new.items ≡ octets.old.items ++ added.now) }
-    ensures err { IfErr result (λ error. Error.is_short error ≡ true) }
-    ensures more { GoesOn octets.old.items octets.new.items }
-{
-    match octets.extend_from_slice(added) {
-        Ok(()) => Ok(()),
-        Err(_) => Err(Error::short_buf()),
-    }
 }
 
 /// Scans a parameter.
