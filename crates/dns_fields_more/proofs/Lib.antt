@@ -13,6 +13,7 @@ mod ServiceParts
 mod ServiceValues
 mod ServicePieces
 mod ServiceKeys
+mod ServiceNumbers
 mod ServiceShown
 mod ServicePrinted
 mod LocationParts
