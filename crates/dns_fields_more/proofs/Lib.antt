@@ -14,6 +14,8 @@ mod ServiceValues
 mod ServicePieces
 mod ServiceKeys
 mod ServiceNumbers
+mod ServiceLists
+mod ServiceAddresses
 mod ServiceShown
 mod ServicePrinted
 mod LocationParts
