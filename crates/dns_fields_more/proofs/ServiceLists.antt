@@ -1,7 +1,7 @@
 -- Lists of items whose texts have no comma and no backslash: how they are read item by item.
-use Rattle.std.proofs.Common.{◌≡◌, ◌≢◌, ℕ, List, [], ◌∷◌, ◌++◌, refl, sym, ◌∙◌, ap, subst, append-nil, append_assoc}
-use Rattle.std.specs.Prelude.{Option, None, Some, IfSome, IfNone, option_map}
-use Rattle.std.specs.List.{AllZip, flat_map}
+use Rattle.std.proofs.Common.{◌≡◌, ◌≢◌, ℕ, List, [], ◌∷◌, ◌++◌, refl, sym, ◌∙◌, ap, subst, append-nil, append_assoc, arith, length-append}
+use Rattle.std.specs.Prelude.{◌+◌, ◌≤◌, suc, length, Option, None, Some, IfSome, IfNone, option_map, unwrap_or}
+use Rattle.std.specs.List.{AllZip, concat, flat_map}
 use Rattle.dns_fields_more.specs.ServiceRead.{IsWithout}
 use Rattle.dns_fields_more.specs.ServiceText.{SpellsEach, item_octet, list_text}
 use Rattle.dns_fields_more.proofs.LocationNumerals.{front_one, without_it}
@@ -10,6 +10,27 @@ use Rattle.dns_fields_more.proofs.LocationNumerals.{front_one, without_it}
 pub record IsBareItem (text : List ℕ) : Type 0 where
   pub whole : IsWithout 44 text
   pub same : flat_map item_octet text ≡ text
+
+-- fewer octets are left
+pub shrinks : {B : Type 0} (now : B → List ℕ) (left : Option B) (items : B) (item : List ℕ) (rest : Option B) → left ≡ Some items
+    → IfSome rest (λ behind. now items ≡ item ++ 44 ∷ now behind)
+    → suc (unwrap_or (option_map (λ x. length (now x) + 1) rest) 0) ≤ unwrap_or (option_map (λ x. length (now x) + 1) left) 0
+shrinks now left items item None is some =
+    subst (λ l. suc 0 ≤ unwrap_or (option_map (λ x. length (now x) + 1) l) 0) (sym is) (omega arith)
+shrinks now left items item (Some behind) is some =
+    subst (λ l. suc (length (now behind) + 1) ≤ unwrap_or (option_map (λ x. length (now x) + 1) l) 0) (sym is)
+    (omega (arith, ap (length {A = ℕ}) some, length-append item (44 ∷ now behind)))
+
+-- one item more is appended
+concat_last : (done : List (List ℕ)) (octets : List ℕ) → concat (done ++ octets ∷ []) ≡ concat done ++ octets
+concat_last [] octets = append-nil octets
+concat_last (first ∷ done) octets = ap (λ (l : List ℕ). first ++ l) (concat_last done octets) ∙ sym (append_assoc first (concat done) octets)
+
+pub appended_more : (old value new given octets : List ℕ) (done : List (List ℕ)) → value ≡ old ++ concat done → new ≡ value ++ given → given ≡ octets
+    → new ≡ old ++ concat (done ++ octets ∷ [])
+appended_more old value new given octets done before behind same =
+    behind ∙ ap (λ (l : List ℕ). l ++ given) before ∙ append_assoc old (concat done) given ∙ ap (λ (l : List ℕ). old ++ (concat done ++ l)) same
+    ∙ ap (λ (l : List ℕ). old ++ l) (sym (concat_last done octets))
 
 module _ {A : Type 0} (Item : List ℕ → A → Type 0) (bare : (text : List ℕ) (a : A) → Item text a → IsBareItem text) where
   -- one item or more
