@@ -13,6 +13,16 @@ mod ServiceParts
 mod ServiceValues
 mod ServicePieces
 mod ServiceKeys
+mod ServiceNumbers
+mod ServiceLists
+mod ServiceAddresses
+mod ServiceShown
+mod ServicePrinted
+mod LocationParts
+mod LocationNumerals
+mod LocationScans
+pub mod LocationRead
+pub mod LocationPrinted
 pub mod HardwareText
 pub mod TypeBits
 pub mod Shown
@@ -22,6 +32,3 @@ pub mod ShownTypes
 pub mod ScannedTypes
 pub mod PrintedTypes
 pub mod OneBitmap
-mod ServiceShown
-mod ServicePrinted
-mod LocationParts

@@ -12,10 +12,10 @@ pub mod ServiceShown
 pub mod ServiceRead
 pub mod Location
 pub mod LocationText
+pub mod LocationParts
 pub mod Forms
 pub mod Values
 pub mod Rows
 pub mod Text
 pub mod Windows
 pub mod Tried
-pub mod LocationParts

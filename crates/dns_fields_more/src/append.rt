@@ -1,9 +1,10 @@
 //! Octets that a word stands for, appended to others.
-ghost use Rattle.std.specs.Prelude.{◌≡◌, ◌≤◌, ◌++◌, length, OnOk, IfErr};
+ghost use Rattle.std.specs.Prelude.{◌≡◌, ◌≤◌, ◌++◌, length, true, OnOk, IfErr};
 ghost use Rattle.dns_fields_more.specs.Appended.{GoesOn, counted};
 ghost use Rattle.dns_fields_more.specs.declared.append.WordError.TheVariants.{OutOfMemory};
 
 use dns_name::OctetsBuilder;
+use dns_text::ScannerError;
 
 /// Why the octets of a word were not appended.
 #[derive(Clone, Copy, Debug, PartialEq, Eq)]
@@ -28,5 +29,20 @@ pub(crate) fn append_counted(new: &[u8], octets: &mut Vec<u8>) -> Result<(), Wor
     match octets.append_slice(new) {
         Ok(()) => Ok(()),
         Err(_) => Err(WordError::OutOfMemory),
+    }
+}
+
+/// Appends octets. Fails with `short_buf` if out of memory.
+pub(crate) fn append_octets<Error: ScannerError>(
+    new: &[u8],
+    octets: &mut Vec<u8>,
+) -> Result<(), Error>
+    ensures ok { OnOk result (octets.new.items ≡ octets.old.items ++ new.now) }
+    ensures err { IfErr result (λ error. Error.is_short error ≡ true) }
+    ensures more { GoesOn octets.old.items octets.new.items }
+{
+    match octets.extend_from_slice(new) {
+        Ok(()) => Ok(()),
+        Err(_) => Err(Error::short_buf()),
     }
 }

@@ -1,9 +1,13 @@
 //! Laws of the fields. Each function does nothing; what it ensures is the law.
 ghost use Rattle.std.specs.List.{Contains};
-ghost use Rattle.std.specs.Prelude.{◌≡◌, ◌≤◌, ◌↔◌, List, ℕ, [], Some, length};
+ghost use Rattle.std.specs.Prelude.{◌≡◌, ◌≤◌, ◌↔◌, List, ℕ, [], Some, length, map};
 ghost use Rattle.dns_label.specs.Octets.{AreOctets};
+ghost use Rattle.dns_scan.specs.Token.{Token, unquoted};
 ghost use Rattle.dns_fields_more.specs.Hardware.{IsHardwareText, hardware_written};
 ghost use Rattle.dns_fields_more.specs.HashWords.{IsCountable, IsSaltWord, IsHashWord, salt_written, hash_written};
+ghost use Rattle.dns_fields_more.specs.Location as place;
+ghost use Rattle.dns_fields_more.specs.Location.{IsLocation};
+ghost use Rattle.dns_fields_more.specs.LocationText.{ScansLocation, location_words};
 ghost use Rattle.dns_fields_more.specs.Time.{time_read, time_written};
 ghost use Rattle.dns_fields_more.specs.TypeBitmap.{IsTypeBitmap, ScansTypes, printed_types, types_in};
 ghost use Rattle.dns_fields_more.specs.TypeWords.{type_word_read, type_word_written};
@@ -51,4 +55,15 @@ pub fn printed_bitmap_scans_back()
 pub fn bitmaps_of_types_are_one()
     ensures { (a b : List ℕ) → IsTypeBitmap a → IsTypeBitmap b → AreOctets a → AreOctets b
         → ((type : ℕ) → Contains (types_in a) type ↔ Contains (types_in b) type) → a ≡ b }
+{}
+
+/// How a location is printed scans as the location.
+#[tactic(auto, using(crate::proofs::LocationPrinted::printed_scans))]
+pub fn printed_location_scans_back()
+    ensures { (location : place.Location) → IsLocation location → ScansLocation location (map unquoted (location_words location)) }
+{}
+
+/// What tokens scan as is a location.
+pub fn scanned_location_is_one()
+    ensures { (location : place.Location) (tokens : List Token) → ScansLocation location tokens → IsLocation location }
 {}

@@ -1,5 +1,6 @@
 //! Locations: the data of LOC records (RFC 1876).
 
+mod numerals;
 mod place;
 mod scan;
 mod show;

@@ -6,7 +6,6 @@ mod items;
 mod keys;
 mod scan;
 mod show;
-mod text;
 mod values;
 
 pub(crate) use check::are_parameters;

@@ -1,7 +1,7 @@
 //! Locations as octets (RFC 1876 2).
 ghost use Rattle.std.specs.Prelude.{◌≡◌, ◌+◌, ◌*◌, ◌^◌, ◌<◌, ◌≤◌, ◌↔◌, IsTrue, IfSome, IfNone};
-ghost use Rattle.dns_fields_more.specs.Location.{HoldsLocation, IsPrecision, IsWithin, precision_octet};
-ghost use Rattle.dns_fields_more.specs.LocationParts.{HoldsPrecision, IsPlace, precision_of};
+ghost use Rattle.dns_fields_more.specs.Location.{HoldsLocation, IsLocation, IsPrecision, IsWithin, location_octets, precision_octet};
+ghost use Rattle.dns_fields_more.specs.LocationParts.{HoldsPrecision, IsCut, IsPlace, location_of, precision_of};
 
 /// A length: a digit times a power of ten, in centimetres.
 #[derive(Clone, Copy, Debug, PartialEq, Eq)]
@@ -75,6 +75,24 @@ fn read_precision(octet: u8) -> Option<Precision>
     Some(Precision { mantissa, power })
 }
 
+impl Place {
+    /// Returns the octets of this location.
+    pub(crate) fn octets(&self) -> [u8; 16]
+        requires { IsLocation (location_of self.now) }
+        ensures { result ≡ location_octets (location_of self.now) }
+    {
+        let [l0, l1, l2, l3] = self.latitude.to_be_bytes();
+        let [m0, m1, m2, m3] = self.longitude.to_be_bytes();
+        let [a0, a1, a2, a3] = self.altitude.to_be_bytes();
+        let size = self.size.octet();
+        let horizontal = self.horizontal.octet();
+        let vertical = self.vertical.octet();
+        [
+            0, size, horizontal, vertical, l0, l1, l2, l3, m0, m1, m2, m3, a0, a1, a2, a3,
+        ]
+    }
+}
+
 impl Precision {
     /// Returns the octet of this length.
     pub(crate) fn octet(self) -> u8
@@ -95,15 +113,18 @@ impl Precision {
     }
 
     /// Returns the greatest length that is not above this one.
-    pub(crate) fn of_centimetres(centimetres: u64) -> Precision {
-        let mut left = centimetres;
+    pub(crate) fn of_centimetres(centimetres: u64) -> Precision
+        requires { centimetres ≤ 9000000000 }
+        ensures { IsCut centimetres (precision_of result) }
+    {
+        let mut unit = 1;
         let mut power = 0;
-        while left >= 10 && power < 9 {
-            left /= 10;
+        while power < 9 && unit * 10 <= centimetres {
+            unit *= 10;
             power += 1;
         }
         Precision {
-            mantissa: left.min(9) as u8,
+            mantissa: (centimetres / unit) as u8,
             power,
         }
     }

@@ -1,5 +1,5 @@
 //! The keys that have a name.
-ghost use Rattle.std.specs.Prelude.{◌≡◌, ◌<◌, ◌^◌, ◌↔◌, ℕ, Some, IfSome, IfNone, IsTrue};
+ghost use Rattle.std.specs.Prelude.{◌≡◌, ◌<◌, ◌^◌, ◌↔◌, ℕ, Some, length, slice_index, IfSome, IfNone, IsTrue};
 ghost use Rattle.std.specs.Char.{is_ascii_digit};
 ghost use Rattle.std.specs.List.{list_all};
 ghost use Rattle.std.specs.Option.{option_copied};
@@ -101,10 +101,17 @@ fn key_numbered(word: &[u8]) -> Option<u16>
         return None;
     }
     let digits = &word[3..];
-    if digits.len() > 1 && digits[0] == b'0' {
+    if has_leading_zero(digits) {
         return None;
     }
     read_number(digits)
+}
+
+/// Returns whether there is a zero before other digits.
+fn has_leading_zero(digits: &[u8]) -> bool
+    ensures { IsTrue result ↔ ((1 < length digits.now) × (slice_index digits.now 0 ≡ 48)) }
+{
+    digits.len() > 1 && digits[0] == b'0'
 }
 
 /// Returns the number of 16 bits that the digits write.

@@ -1,15 +1,18 @@
 //! Scanning service parameters (RFC 9460 2.1).
-ghost use Rattle.std.specs.Prelude.{◌≡◌, ◌++◌, List, ℕ, false, true, IfErr, OnOk};
+ghost use Rattle.std.specs.Prelude.{◌≤◌, ◌^◌, length, Any, IfOk, ◌≡◌, ◌++◌, List, ℕ, false, true, IfErr, OnOk};
 ghost use Rattle.dns_scan.specs.StringText.{Spells};
 ghost use Rattle.dns_scan.specs.Token.{SameNames};
+ghost use Rattle.std.specs.List.{flat_map};
 ghost use Rattle.dns_fields_more.specs.Service.{Parameter};
+ghost use Rattle.dns_fields_more.specs.ServiceRead.{NoParameter, TakesParameter, written_octets};
 ghost use Rattle.dns_fields_more.specs.ServiceText.{AppendsParameters, ScansParameters};
 ghost use Rattle.dns_fields_more.specs.Appended.{GoesOn};
 
 use super::check::{are_parameters, is_value};
 use super::keys::{form_at, read_key};
-use super::text::split_first;
 use super::values::append_value;
+use crate::append::append_octets;
+use crate::text::split_first;
 use dns_name::Symbol;
 use dns_text::{Scanner, ScannerError};
 use std::alloc::Global;
@@ -55,7 +58,11 @@ struct Written {
 fn append_parameters<Error: ScannerError>(
     parameters: &[Written],
     octets: &mut Vec<u8>,
-) -> Result<(), Error> {
+) -> Result<(), Error>
+    ensures ok { OnOk result (octets.new.items ≡ octets.old.items ++ flat_map written_octets parameters.now) }
+    ensures err { IfErr result (λ error. Error.is_short error ≡ false → Any (λ parameter. 2 ^ 16 ≤ length parameter.value.items) parameters.now) }
+    ensures more { GoesOn octets.old.items octets.new.items }
+{
     for parameter in parameters {
         let Ok(len) = u16::try_from(parameter.value.len()) else {
             return Err(Error::custom("long value"));
@@ -67,20 +74,12 @@ fn append_parameters<Error: ScannerError>(
     Ok(())
 }
 
-/// Appends octets.
-fn append_octets<Error: ScannerError>(added: &[u8], octets: &mut Vec<u8>) -> Result<(), Error>
-    ensures ok { OnOk result (octets.new.items ≡ octets.old.items ++ added.now) }
-    ensures err { IfErr result (λ error. Error.is_short error ≡ true) }
-    ensures more { GoesOn octets.old.items octets.new.items }
-{
-    match octets.extend_from_slice(added) {
-        Ok(()) => Ok(()),
-        Err(_) => Err(Error::short_buf()),
-    }
-}
-
 /// Scans a parameter.
-fn scan_parameter<S: Scanner>(scanner: &mut S, alloc: Global) -> Result<Written, S::Error> {
+fn scan_parameter<S: Scanner>(scanner: &mut S, alloc: Global) -> Result<Written, S::Error>
+    ensures ok { IfOk result (TakesParameter (S.tokens scanner.old) (S.tokens scanner.new)) }
+    ensures err { IfErr result (λ error. S.Error.is_short error ≡ false → NoParameter (S.tokens scanner.old)) }
+    ensures names { SameNames (S.names scanner.old) (S.names scanner.new) }
+{
     let mut text = Vec::new(alloc);
     let (word, written) = split_first(scanner.peek_text()?, b'=');
     let Some(word) = read_key(word) else {

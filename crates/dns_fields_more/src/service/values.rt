@@ -1,11 +1,12 @@
 //! The values of named keys in text (RFC 9460 7, 8 and A.1).
-ghost use Rattle.std.specs.Prelude.{◌≡◌, ◌++◌, false, true, IfErr, OnOk};
+ghost use Rattle.std.specs.Prelude.{◌≡◌, ◌++◌, false, IfErr, OnOk, List, ℕ, Option, IfOk, option_map};
 ghost use Rattle.dns_fields_more.specs.declared.service.form.Form.TheVariants.{Encoded, Ipv4s, Ipv6s, Keys, Strings};
-ghost use Rattle.dns_fields_more.specs.ServiceRead.{AppendsValue, SpellsNoValue};
+ghost use Rattle.dns_fields_more.specs.ServiceRead.{AppendsString, AppendsValue, SpellsNoValue, StartsWithString};
 
 use super::form::Form;
 use super::keys::{read_key, read_number};
-use super::text::split_first;
+use crate::append::append_octets;
+use crate::text::split_first;
 use dns_text::{ScannerError, base64};
 use std::net::{Ipv4Addr, Ipv6Addr};
 
@@ -38,17 +39,6 @@ pub(crate) fn append_value<Error: ScannerError>(
         Form::Ipv6s => append_ipv6s(text, value),
         Form::Encoded => append_encoded(text, value),
         Form::Plain => append_octets(text, value),
-    }
-}
-
-/// Appends octets.
-fn append_octets<Error: ScannerError>(octets: &[u8], value: &mut Vec<u8>) -> Result<(), Error>
-    ensures ok { OnOk result (value.new.items ≡ value.old.items ++ octets.now) }
-    ensures err { IfErr result (λ error. Error.is_short error ≡ true) }
-{
-    match value.extend_from_slice(octets) {
-        Ok(()) => Ok(()),
-        Err(_) => Err(Error::short_buf()),
     }
 }
 
@@ -97,7 +87,10 @@ fn append_strings<Error: ScannerError>(text: &[u8], value: &mut Vec<u8>) -> Resu
 fn append_string<'a, Error: ScannerError>(
     text: &'a [u8],
     value: &mut Vec<u8>,
-) -> Result<Option<&'a [u8]>, Error> {
+) -> Result<Option<&'a [u8]>, Error>
+    ensures ok { IfOk result (λ others. AppendsString text.now (option_map (λ rest. rest.now) others) value.old.items value.new.items) }
+    ensures err { IfErr result (λ error. Error.is_short error ≡ false → (string : List ℕ) (others : Option (List ℕ)) → StartsWithString text.now string others → ⊥) }
+{
     let mut string = [0; 255];
     let mut len = 0;
     let mut left = text;

@@ -2,7 +2,7 @@ use Rattle.std.proofs.Common.{◌≢◌, ◌∷◌, [], ℕ, take, get_or, refl,
 use Rattle.std.proofs.lemmas.List.{take_all, take_more}
 use Rattle.dns_scan.proofs.Decoded.{each_append}
 use Rattle.dns_fields_more.specs.ServiceRead.{IsWithout}
-use Rattle.dns_fields_more.proofs.service.text.split_first.Goals as goal
+use Rattle.dns_fields_more.proofs.text.split_first.Goals as goal
 
 pub loop-at-preserved : goal.loop-at-preserved
 loop-at-preserved c =

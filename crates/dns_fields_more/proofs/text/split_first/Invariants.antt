@@ -1,6 +1,6 @@
 use Rattle.std.proofs.Common.{take, length, ◌-◌, ◌≤◌}
 use Rattle.dns_fields_more.specs.ServiceRead.{IsWithout}
-use Rattle.dns_fields_more.proofs.service.text.split_first.Given as goal
+use Rattle.dns_fields_more.proofs.text.split_first.Given as goal
 
 abbrev pub invariant-loop-at : goal.invariant-loop-at
 invariant-loop-at l = IsWithout l.wanted (take l.at l.text) × (l.at ≤ length l.text)
