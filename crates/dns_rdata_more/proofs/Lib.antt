@@ -1,0 +1,4 @@
+pub mod Rows
+pub mod Whole
+pub mod Places
+pub mod Composed
