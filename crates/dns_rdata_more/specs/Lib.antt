@@ -1,1 +1,2 @@
 pub mod FurtherData
+pub mod Built

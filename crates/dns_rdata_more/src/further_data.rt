@@ -95,6 +95,17 @@ impl<'a, T: DataType> FurtherData<T, &'a [u8]> {
 }
 
 impl<T: DataType> FurtherData<T, Vec<u8>> {
+    /// Returns the data of these octets, which are data of the type.
+    pub(crate) fn of_row(octets: Vec<u8>) -> Self
+        requires { IsFurtherData T.number octets.items }
+        ensures { result ≡ octets.items }
+    {
+        FurtherData {
+            octets,
+            rtype: PhantomData,
+        }
+    }
+
     /// Scans the data from the first tokens, and takes these. Tokens after the last field stay (RFC 1035 5.1).
     ///
     /// Fails with an error other than `short_buf` only if the tokens do not begin with data of the type of at most 65,535

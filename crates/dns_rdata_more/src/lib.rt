@@ -9,11 +9,13 @@
 //! ```
 #![tactic(auto)]
 
+mod build;
 mod canonical;
 mod further_data;
 pub mod laws;
 mod types;
 
+pub use build::BuildError;
 pub use further_data::{FurtherData, FurtherDataError};
 pub use types::{
     Cdnskey, Cds, Cert, Csync, Eui48, Eui64, Https, Loc, Naptr, Nsec, Nsec3, Nsec3param,
