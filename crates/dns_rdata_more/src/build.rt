@@ -1,11 +1,10 @@
 //! Data of the values of its fields.
 ghost use Rattle.std.specs.Prelude.{◌≡◌, ◌↔◌, ◌≤◌, ◌<◌, ◌++◌, List, ℕ, [], Some, Err, IsSome, IsOk, IfOk, IfErr, OnOk, true, length};
 ghost use Rattle.std.specs.List.{flat_map};
-ghost use Rattle.dns_fields.specs.Fields as fields;
 ghost use Rattle.dns_label.specs.Name.{IsName};
 ghost use Rattle.dns_fields_more.specs.Forms.{AreFieldsOf, Keeps, forms_of, is_last as spec_is_last};
 ghost use Rattle.dns_fields_more.specs.declared.value.Value.TheVariants as of_value;
-ghost use Rattle.dns_rdata_more.specs.Built.{fields_of, value_octets};
+ghost use Rattle.dns_rdata_more.specs.Built.{Makes, fields_of, value_octets};
 ghost use Rattle.dns_rdata_more.specs.FurtherData.{forms_or_none};
 ghost use Rattle.dns_rdata_more.specs.declared.build.BuildError.TheVariants.{LongRecordData, LongString, BadField, OutOfMemory};
 
@@ -44,14 +43,13 @@ pub(crate) fn build<T: DataType>(
     requires of_type { IsSome (forms_of T.number) }
     requires count { length values.now ≡ length (forms_or_none T.number) }
     requires each { AreFieldsOf (forms_or_none T.number) (fields_of (forms_or_none T.number) values.now) }
-    ensures ok { IfOk result (λ rdata. rdata ≡ fields.octets (fields_of (forms_or_none T.number) values.now)) }
-    ensures short { OnOk result (length (fields.octets (fields_of (forms_or_none T.number) values.now)) ≤ 65535) }
-    ensures long { result ≡ Err LongRecordData → 65535 < length (fields.octets (fields_of (forms_or_none T.number) values.now)) }
-    ensures no_string { result ≡ Err LongString → ⊥ }
-    ensures no_field { result ≡ Err BadField → ⊥ }
+    ensures { Makes (fields_of (forms_or_none T.number) values.now) result }
 {
     let mut octets = Vec::new(alloc);
-    append_values(values, &mut octets)?;
+    match append_values(values, &mut octets) {
+        Ok(()) => {}
+        Err(_) => return Err(BuildError::OutOfMemory),
+    }
     if octets.len() > 65535 {
         return Err(BuildError::LongRecordData);
     }

@@ -1,10 +1,15 @@
 //! Data of type CDNSKEY (RFC 7344 3.2).
+ghost use Rattle.std.specs.Prelude.{[], ◌∷◌};
 ghost use Rattle.dns_fields.specs.Fields.{number16, number8, rest64};
+ghost use Rattle.dns_rdata_more.specs.Built.{Makes};
 ghost use Rattle.dns_rdata_more.specs.FurtherData.{IsFieldAt};
 
-use crate::FurtherData;
+use crate::build::build;
+use crate::{BuildError, FurtherData};
+use dns_fields_more::Value;
 use dns_name::Octets;
 use dns_rr_data::Number;
+use std::alloc::Global;
 
 /// The DNSKEY record of which the parent zone is to have a DS record.
 pub type Cdnskey<Octs> = FurtherData<Number<60>, Octs>;
@@ -36,5 +41,31 @@ impl<Octs: Octets> FurtherData<Number<60>, Octs> {
         ensures { IsFieldAt 60 self.now 3 (rest64 result.now) }
     {
         self.rest64_at(3)
+    }
+}
+
+impl FurtherData<Number<60>, Vec<u8>> {
+    /// Returns the data of a public key.
+    ///
+    /// Fails with `LongRecordData` only if it would have more than 65,535 octets, and otherwise with `OutOfMemory`, if out of
+    /// memory.
+    pub fn new(
+        alloc: Global,
+        flags: u16,
+        protocol: u8,
+        algorithm: u8,
+        public_key: &[u8],
+    ) -> Result<Self, BuildError>
+        ensures { Makes (number16 flags ∷ number8 protocol ∷ number8 algorithm ∷ rest64 public_key.now ∷ []) result }
+    {
+        build(
+            alloc,
+            &[
+                Value::Number16(flags),
+                Value::Number8(protocol),
+                Value::Number8(algorithm),
+                Value::Rest(public_key),
+            ],
+        )
     }
 }

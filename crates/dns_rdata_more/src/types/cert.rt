@@ -1,10 +1,15 @@
 //! Data of type CERT (RFC 4398 2).
+ghost use Rattle.std.specs.Prelude.{[], ◌∷◌};
 ghost use Rattle.dns_fields.specs.Fields.{number16, number8, rest64};
+ghost use Rattle.dns_rdata_more.specs.Built.{Makes};
 ghost use Rattle.dns_rdata_more.specs.FurtherData.{IsFieldAt};
 
-use crate::FurtherData;
+use crate::build::build;
+use crate::{BuildError, FurtherData};
+use dns_fields_more::Value;
 use dns_name::Octets;
 use dns_rr_data::Number;
+use std::alloc::Global;
 
 /// A certificate, or a list of revoked ones.
 pub type Cert<Octs> = FurtherData<Number<37>, Octs>;
@@ -36,5 +41,31 @@ impl<Octs: Octets> FurtherData<Number<37>, Octs> {
         ensures { IsFieldAt 37 self.now 3 (rest64 result.now) }
     {
         self.rest64_at(3)
+    }
+}
+
+impl FurtherData<Number<37>, Vec<u8>> {
+    /// Returns the data of a certificate, or a list of revoked ones.
+    ///
+    /// Fails with `LongRecordData` only if it would have more than 65,535 octets, and otherwise with `OutOfMemory`, if out of
+    /// memory.
+    pub fn new(
+        alloc: Global,
+        cert_type: u16,
+        key_tag: u16,
+        algorithm: u8,
+        certificate: &[u8],
+    ) -> Result<Self, BuildError>
+        ensures { Makes (number16 cert_type ∷ number16 key_tag ∷ number8 algorithm ∷ rest64 certificate.now ∷ []) result }
+    {
+        build(
+            alloc,
+            &[
+                Value::Number16(cert_type),
+                Value::Number16(key_tag),
+                Value::Number8(algorithm),
+                Value::Rest(certificate),
+            ],
+        )
     }
 }

@@ -1,10 +1,15 @@
 //! Data of type RRSIG (RFC 4034 3).
+ghost use Rattle.std.specs.Prelude.{[], ◌∷◌};
 ghost use Rattle.dns_fields.specs.Fields.{number16, number32, number8, rest64, uncompressed};
+ghost use Rattle.dns_rdata_more.specs.Built.{Makes};
 ghost use Rattle.dns_rdata_more.specs.FurtherData.{IsFieldAt};
 
-use crate::FurtherData;
+use crate::build::{build, name_value};
+use crate::{BuildError, FurtherData};
+use dns_fields_more::Value;
 use dns_name::{Name, Octets, Rtype, Serial, Ttl};
 use dns_rr_data::Number;
+use std::alloc::Global;
 
 /// A signature over the records of an owner and a type.
 pub type Rrsig<Octs> = FurtherData<Number<46>, Octs>;
@@ -71,5 +76,41 @@ impl<Octs: Octets> FurtherData<Number<46>, Octs> {
         ensures { IsFieldAt 46 self.now 8 (rest64 result.now) }
     {
         self.rest64_at(8)
+    }
+}
+
+impl FurtherData<Number<46>, Vec<u8>> {
+    /// Returns the data of a signature and what it is over.
+    ///
+    /// Fails with `LongRecordData` only if it would have more than 65,535 octets, and otherwise with `OutOfMemory`, if out of
+    /// memory.
+    pub fn new<'a, N: Octets>(
+        alloc: Global,
+        type_covered: Rtype,
+        algorithm: u8,
+        labels: u8,
+        original_ttl: Ttl,
+        expiration: Serial,
+        inception: Serial,
+        key_tag: u16,
+        signer_name: &'a Name<N>,
+        signature: &'a [u8],
+    ) -> Result<Self, BuildError>
+        ensures { Makes (number16 type_covered ∷ number8 algorithm ∷ number8 labels ∷ number32 original_ttl ∷ number32 expiration ∷ number32 inception ∷ number16 key_tag ∷ uncompressed signer_name.now ∷ rest64 signature.now ∷ []) result }
+    {
+        build(
+            alloc,
+            &[
+                Value::Number16(type_covered.to_int()),
+                Value::Number8(algorithm),
+                Value::Number8(labels),
+                Value::Number32(original_ttl.as_secs()),
+                Value::Number32(expiration.into_int()),
+                Value::Number32(inception.into_int()),
+                Value::Number16(key_tag),
+                name_value(signer_name),
+                Value::Rest(signature),
+            ],
+        )
     }
 }
