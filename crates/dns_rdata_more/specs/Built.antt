@@ -4,6 +4,7 @@ use Rattle.std.specs.Int.{to_be_bytes, w16, w32}
 use Rattle.dns_label.specs.Name.{wire}
 use Rattle.dns_scan.specs.CharStr.{string_wire}
 use Rattle.dns_fields.specs.Fields.{Field, octets}
+use Rattle.dns_fields_more.specs.TypeBitmap.{IsBitmapOf}
 use Rattle.dns_fields_more.specs.Values.{field_of}
 use Rattle.dns_fields_more.specs.declared.form.Form.{Form}
 use Rattle.dns_fields_more.specs.declared.value.Value.{Value}
@@ -33,3 +34,19 @@ Makes row (Err LongRecordData) = 65535 < length (octets row)
 Makes row (Err LongString) = ⊥
 Makes row (Err BadField) = ⊥
 Makes row (Err OutOfMemory) = ⊤
+
+-- The same, if the strings are short enough and the fields keep the rules of their forms; otherwise it says which do not.
+abbrev pub MakesIf : Type 0 → Type 0 → List Field → Result (List ℕ) BuildError → Type 0
+MakesIf Short Keep row (Ok rdata) = Short × Keep × Makes row (Ok rdata)
+MakesIf Short Keep row (Err LongRecordData) = 65535 < length (octets row)
+MakesIf Short Keep row (Err LongString) = Short → ⊥
+MakesIf Short Keep row (Err BadField) = Keep → ⊥
+MakesIf Short Keep row (Err OutOfMemory) = ⊤
+
+-- The same, where the row has the bitmap of these types.
+abbrev pub MakesTypes : List ℕ → Type 0 → Type 0 → (List ℕ → List Field) → Result (List ℕ) BuildError → Type 0
+MakesTypes types Short Keep row (Ok rdata) = (bitmap : List ℕ) × IsBitmapOf types bitmap × MakesIf Short Keep (row bitmap) (Ok rdata)
+MakesTypes types Short Keep row (Err LongRecordData) = (bitmap : List ℕ) × IsBitmapOf types bitmap × (65535 < length (octets (row bitmap)))
+MakesTypes types Short Keep row (Err LongString) = Short → ⊥
+MakesTypes types Short Keep row (Err BadField) = Keep → ⊥
+MakesTypes types Short Keep row (Err OutOfMemory) = ⊤

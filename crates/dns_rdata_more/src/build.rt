@@ -1,16 +1,17 @@
 //! Data of the values of its fields.
-ghost use Rattle.std.specs.Prelude.{◌≡◌, ◌↔◌, ◌≤◌, ◌<◌, ◌++◌, List, ℕ, [], Some, Err, IsSome, IsOk, IfOk, IfErr, OnOk, true, length};
+ghost use Rattle.std.specs.Prelude.{◌≡◌, ◌≢◌, ◌⊎◌, ◌↔◌, ◌≤◌, ◌<◌, ◌++◌, List, ℕ, [], Some, Err, IsSome, IsOk, IfOk, IfErr, OnOk, true, length};
 ghost use Rattle.std.specs.List.{flat_map};
 ghost use Rattle.dns_label.specs.Name.{IsName};
 ghost use Rattle.dns_fields_more.specs.Forms.{AreFieldsOf, Keeps, forms_of, is_last as spec_is_last};
+ghost use Rattle.dns_fields_more.specs.TypeBitmap.{IsBitmapOf};
 ghost use Rattle.dns_fields_more.specs.declared.value.Value.TheVariants as of_value;
 ghost use Rattle.dns_rdata_more.specs.Built.{Makes, fields_of, value_octets};
 ghost use Rattle.dns_rdata_more.specs.FurtherData.{forms_or_none};
 ghost use Rattle.dns_rdata_more.specs.declared.build.BuildError.TheVariants.{LongRecordData, LongString, BadField, OutOfMemory};
 
 use crate::FurtherData;
-use dns_fields_more::{Form, Value};
-use dns_name::{AppendError, Compose, Name, Octets, OctetsBuilder, Parser, ToName};
+use dns_fields_more::{Form, Value, append_types};
+use dns_name::{AppendError, Compose, Name, Octets, OctetsBuilder, Parser, Rtype, ToName};
 use dns_rr_data::DataType;
 use dns_text::CharStr;
 use std::alloc::Global;
@@ -114,5 +115,31 @@ pub(crate) fn last_value(form: Form, octets: &[u8]) -> Result<Value<'_>, BuildEr
     match Value::parse(form, &mut Parser::from_ref(octets)) {
         Ok(_) => Ok(Value::Rest(octets)),
         Err(_) => Err(BuildError::BadField),
+    }
+}
+
+/// Returns one octet or more as the value of a field behind its length. Fails exactly if they are none, or more than 255.
+pub(crate) fn hash_value(octets: &[u8]) -> Result<Value<'_>, BuildError>
+    ensures ok { IfOk result (λ value. value ≡ of_value.String octets.now) }
+    ensures some { OnOk result ((octets.now ≢ []) × (length octets.now ≤ 255)) }
+    ensures long { result ≡ Err LongString → 255 < length octets.now }
+    ensures none { result ≡ Err BadField → octets.now ≡ [] }
+    ensures errors { IfErr result (λ error. (error ≡ LongString) ⊎ (error ≡ BadField)) }
+{
+    if octets.is_empty() {
+        return Err(BuildError::BadField);
+    }
+    string_value(octets)
+}
+
+/// Returns the bitmap of the types, which may be in any order and repeated. Fails if out of memory.
+pub(crate) fn bitmap_of(alloc: Global, types: &[Rtype]) -> Result<Vec<u8>, BuildError>
+    ensures ok { IfOk result (λ bitmap. IsBitmapOf types.now bitmap.items) }
+    ensures err { IfErr result (λ error. error ≡ OutOfMemory) }
+{
+    let mut bitmap = Vec::new(alloc);
+    match append_types(types, &mut bitmap) {
+        Ok(()) => Ok(bitmap),
+        Err(_) => Err(BuildError::OutOfMemory),
     }
 }

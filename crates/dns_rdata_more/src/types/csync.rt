@@ -1,10 +1,15 @@
 //! Data of type CSYNC (RFC 7477 2).
+ghost use Rattle.std.specs.Prelude.{⊤, [], ◌∷◌};
 ghost use Rattle.dns_fields.specs.Fields.{number16, number32, rest16};
+ghost use Rattle.dns_rdata_more.specs.Built.{MakesTypes};
 ghost use Rattle.dns_rdata_more.specs.FurtherData.{IsFieldAt};
 
-use crate::FurtherData;
-use dns_name::{Octets, Serial};
+use crate::build::{bitmap_of, build};
+use crate::{BuildError, FurtherData};
+use dns_fields_more::Value;
+use dns_name::{Octets, Rtype, Serial};
 use dns_rr_data::Number;
+use std::alloc::Global;
 
 /// Which records of a child zone its parent is to copy.
 pub type Csync<Octs> = FurtherData<Number<62>, Octs>;
@@ -29,5 +34,30 @@ impl<Octs: Octets> FurtherData<Number<62>, Octs> {
         ensures { IsFieldAt 62 self.now 2 (rest16 result.now) }
     {
         self.rest16_at(2)
+    }
+}
+
+impl FurtherData<Number<62>, Vec<u8>> {
+    /// Returns the data of the types that the parent zone is to copy, which may be in any order.
+    ///
+    /// Fails with `LongRecordData` only if it would have more than 65,535 octets, and otherwise with `OutOfMemory`, if out of
+    /// memory.
+    pub fn new(
+        alloc: Global,
+        serial: Serial,
+        flags: u16,
+        types: &[Rtype],
+    ) -> Result<Self, BuildError>
+        ensures { MakesTypes types.now ⊤ ⊤ (λ bitmap. number32 serial ∷ number16 flags ∷ rest16 bitmap ∷ []) result }
+    {
+        let bitmap = bitmap_of(alloc, types)?;
+        build(
+            alloc,
+            &[
+                Value::Number32(serial.into_int()),
+                Value::Number16(flags),
+                Value::Rest(bitmap.as_slice()),
+            ],
+        )
     }
 }

@@ -1,10 +1,15 @@
 //! Data of type NAPTR (RFC 3403 4).
-ghost use Rattle.dns_fields.specs.Fields.{number16, string, uncompressed};
+ghost use Rattle.std.specs.Prelude.{⊤, [], ◌∷◌};
+ghost use Rattle.dns_fields.specs.Fields.{IsString, number16, string, uncompressed};
+ghost use Rattle.dns_rdata_more.specs.Built.{MakesIf};
 ghost use Rattle.dns_rdata_more.specs.FurtherData.{IsFieldAt};
 
-use crate::FurtherData;
+use crate::build::{build, name_value, string_value};
+use crate::{BuildError, FurtherData};
+use dns_fields_more::Value;
 use dns_name::{Name, Octets};
 use dns_rr_data::Number;
+use std::alloc::Global;
 
 /// A rule by which a string is rewritten.
 pub type Naptr<Octs> = FurtherData<Number<35>, Octs>;
@@ -50,5 +55,38 @@ impl<Octs: Octets> FurtherData<Number<35>, Octs> {
         ensures { IsFieldAt 35 self.now 5 (uncompressed result) }
     {
         self.name_at(5)
+    }
+}
+
+impl FurtherData<Number<35>, Vec<u8>> {
+    /// Returns the data of a rule.
+    ///
+    /// Fails with `LongString` exactly if a string has more than 255 octets, and otherwise with `OutOfMemory`, if out of memory.
+    pub fn new<'a, N: Octets>(
+        alloc: Global,
+        order: u16,
+        preference: u16,
+        flags: &'a [u8],
+        services: &'a [u8],
+        regexp: &'a [u8],
+        replacement: &'a Name<N>,
+    ) -> Result<Self, BuildError>
+        ensures { MakesIf (IsString flags.now × IsString services.now × IsString regexp.now) ⊤
+            (number16 order ∷ number16 preference ∷ string flags.now ∷ string services.now ∷ string regexp.now ∷ uncompressed replacement.now ∷ []) result }
+    {
+        let flags = string_value(flags)?;
+        let services = string_value(services)?;
+        let regexp = string_value(regexp)?;
+        build(
+            alloc,
+            &[
+                Value::Number16(order),
+                Value::Number16(preference),
+                flags,
+                services,
+                regexp,
+                name_value(replacement),
+            ],
+        )
     }
 }

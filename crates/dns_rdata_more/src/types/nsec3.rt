@@ -1,10 +1,15 @@
 //! Data of type NSEC3 (RFC 5155 3).
-ghost use Rattle.dns_fields.specs.Fields.{number16, number8, rest16, string};
+ghost use Rattle.std.specs.Prelude.{◌≢◌, [], ◌∷◌};
+ghost use Rattle.dns_fields.specs.Fields.{IsString, number16, number8, rest16, string};
+ghost use Rattle.dns_rdata_more.specs.Built.{MakesTypes};
 ghost use Rattle.dns_rdata_more.specs.FurtherData.{IsFieldAt};
 
-use crate::FurtherData;
-use dns_name::Octets;
+use crate::build::{bitmap_of, build, hash_value, string_value};
+use crate::{BuildError, FurtherData};
+use dns_fields_more::Value;
+use dns_name::{Octets, Rtype};
 use dns_rr_data::Number;
+use std::alloc::Global;
 
 /// The next hash of a zone, and the types of the owner.
 pub type Nsec3<Octs> = FurtherData<Number<50>, Octs>;
@@ -50,5 +55,39 @@ impl<Octs: Octets> FurtherData<Number<50>, Octs> {
         ensures { IsFieldAt 50 self.now 5 (rest16 result.now) }
     {
         self.rest16_at(5)
+    }
+}
+
+impl FurtherData<Number<50>, Vec<u8>> {
+    /// Returns the data of the next hash of a zone and the types of the owner, which may be in any order.
+    ///
+    /// Fails with `LongString` only if the salt or the hash has more than 255 octets, with `BadField` only if the hash has none, with
+    /// `LongRecordData` only if the data would have more than 65,535 octets, and otherwise with `OutOfMemory`, if out of memory.
+    pub fn new<'a>(
+        alloc: Global,
+        hash_algorithm: u8,
+        flags: u8,
+        iterations: u16,
+        salt: &'a [u8],
+        next_owner: &'a [u8],
+        types: &[Rtype],
+    ) -> Result<Self, BuildError>
+        ensures { MakesTypes types.now (IsString salt.now × IsString next_owner.now) (next_owner.now ≢ [])
+            (λ bitmap. number8 hash_algorithm ∷ number8 flags ∷ number16 iterations ∷ string salt.now ∷ string next_owner.now ∷ rest16 bitmap ∷ []) result }
+    {
+        let salt = string_value(salt)?;
+        let next_owner = hash_value(next_owner)?;
+        let bitmap = bitmap_of(alloc, types)?;
+        build(
+            alloc,
+            &[
+                Value::Number8(hash_algorithm),
+                Value::Number8(flags),
+                Value::Number16(iterations),
+                salt,
+                next_owner,
+                Value::Rest(bitmap.as_slice()),
+            ],
+        )
     }
 }
