@@ -1,7 +1,8 @@
 -- Data of the values of its fields.
-use Rattle.std.proofs.Common.{◌≡◌, ◌≤◌, ◌++◌, ℕ, List, [], ◌∷◌, ◌∙◌, length, append-nil, ap, sym, refl, subst, arith, rules}
+use Rattle.std.proofs.Common.{◌≡◌, ◌≤◌, ◌++◌, ℕ, List, [], ◌∷◌, ◌∙◌, length, append-nil, append_assoc, ap, sym, refl, subst, arith, rules}
 use Rattle.std.specs.Prelude.{Option, Some, None, IsSome, unwrap_or, true}
 use Rattle.std.specs.List.{flat_map}
+use Rattle.std.specs.Borrow.{Bor}
 use Rattle.dns_fields.specs.Fields.{Field, field_octets, octets}
 use Rattle.dns_fields_more.specs.Forms.{AreFieldsOf, IsFieldOf, IsFurtherData, Keeps, forms_of, is_last}
 use Rattle.dns_fields_more.specs.Values.{NoneStandsIn, field_of, rest_field}
@@ -98,3 +99,16 @@ pub none_keeps : (form : Form) (given whole : List ℕ) → is_last form ≡ tru
 none_keeps form given whole last same none keeps =
     none (rest_field form whole) []
     (record { is = rest_is form whole last keeps; written = same ∙ sym (append-nil _ ∙ rest_built form whole); last = λ last. refl })
+
+-- the octets of values, and of one after them
+flat_last : (values : List Value) (last : Value) → flat_map value_octets (values ++ last ∷ []) ≡ flat_map value_octets values ++ value_octets last
+flat_last [] last = append-nil (value_octets last)
+flat_last (its ∷ values) last =
+    ap (λ l. value_octets its ++ l) (flat_last values last)
+    ∙ sym (append_assoc (value_octets its) (flat_map value_octets values) (value_octets last))
+
+pub last_appended : {none front whole : List ℕ} (values : List Value) (last : Bor (List ℕ)) → none ≡ []
+    → front ≡ none ++ flat_map value_octets values → whole ≡ front ++ last.now
+    → whole ≡ flat_map value_octets (values ++ value.Rest last ∷ [])
+last_appended {none} {front} {whole} values last empty first then =
+    then ∙ ap (λ l. l ++ last.now) (first ∙ ap (λ l. l ++ flat_map value_octets values) empty) ∙ sym (flat_last values (value.Rest last))

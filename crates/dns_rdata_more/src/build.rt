@@ -1,5 +1,5 @@
 //! Data of the values of its fields.
-ghost use Rattle.std.specs.Prelude.{◌≡◌, ◌≢◌, ◌⊎◌, ◌↔◌, ◌≤◌, ◌<◌, ◌++◌, List, ℕ, [], Some, Err, IsSome, IsOk, IfOk, IfErr, OnOk, true, length};
+ghost use Rattle.std.specs.Prelude.{◌+◌, ◌∷◌, ◌≡◌, ◌≢◌, ◌⊎◌, ◌↔◌, ◌≤◌, ◌<◌, ◌++◌, List, ℕ, [], Some, Err, IsSome, IsOk, IfOk, IfErr, OnOk, true, length};
 ghost use Rattle.std.specs.List.{flat_map};
 ghost use Rattle.dns_label.specs.Name.{IsName};
 ghost use Rattle.dns_fields_more.specs.Forms.{AreFieldsOf, Keeps, forms_of, is_last as spec_is_last};
@@ -48,6 +48,32 @@ pub(crate) fn build<T: DataType>(
 {
     let mut octets = Vec::new(alloc);
     match append_values(values, &mut octets) {
+        Ok(()) => {}
+        Err(_) => return Err(BuildError::OutOfMemory),
+    }
+    if octets.len() > 65535 {
+        return Err(BuildError::LongRecordData);
+    }
+    Ok(FurtherData::of_row(octets))
+}
+
+/// Returns the data of these values, and of a last field of these octets. Fails as `build` does.
+pub(crate) fn build_with<T: DataType>(
+    alloc: Global,
+    values: &[Value<'_>],
+    last: &[u8],
+) -> Result<FurtherData<T, Vec<u8>>, BuildError>
+    requires of_type { IsSome (forms_of T.number) }
+    requires count { length values.now + 1 ≡ length (forms_or_none T.number) }
+    requires each { AreFieldsOf (forms_or_none T.number) (fields_of (forms_or_none T.number) (values.now ++ of_value.Rest last ∷ [])) }
+    ensures { Makes (fields_of (forms_or_none T.number) (values.now ++ of_value.Rest last.entry ∷ [])) result }
+{
+    let mut octets = Vec::new(alloc);
+    match append_values(values, &mut octets) {
+        Ok(()) => {}
+        Err(_) => return Err(BuildError::OutOfMemory),
+    }
+    match octets.append_slice(last) {
         Ok(()) => {}
         Err(_) => return Err(BuildError::OutOfMemory),
     }

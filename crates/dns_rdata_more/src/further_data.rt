@@ -8,6 +8,7 @@ ghost use Rattle.dns_scan.specs.Token.{SameNames};
 
 mod fields;
 mod flat;
+mod order;
 mod record;
 
 use dns_fields_more::{is_further_data, scan_further_into};

@@ -4,7 +4,7 @@ ghost use Rattle.dns_fields.specs.Fields.{number16, number32, rest16};
 ghost use Rattle.dns_rdata_more.specs.Built.{MakesTypes};
 ghost use Rattle.dns_rdata_more.specs.FurtherData.{IsFieldAt};
 
-use crate::build::{bitmap_of, build};
+use crate::build::{bitmap_of, build_with};
 use crate::{BuildError, FurtherData};
 use dns_fields_more::Value;
 use dns_name::{Octets, Rtype, Serial};
@@ -51,13 +51,10 @@ impl FurtherData<Number<62>, Vec<u8>> {
         ensures { MakesTypes types.now ⊤ ⊤ (λ bitmap. number32 serial ∷ number16 flags ∷ rest16 bitmap ∷ []) result }
     {
         let bitmap = bitmap_of(alloc, types)?;
-        build(
+        build_with(
             alloc,
-            &[
-                Value::Number32(serial.into_int()),
-                Value::Number16(flags),
-                Value::Rest(bitmap.as_slice()),
-            ],
+            &[Value::Number32(serial.into_int()), Value::Number16(flags)],
+            bitmap.as_slice(),
         )
     }
 }

@@ -4,9 +4,8 @@ ghost use Rattle.dns_fields.specs.Fields.{rest16, uncompressed};
 ghost use Rattle.dns_rdata_more.specs.Built.{MakesTypes};
 ghost use Rattle.dns_rdata_more.specs.FurtherData.{IsFieldAt};
 
-use crate::build::{bitmap_of, build, name_value};
+use crate::build::{bitmap_of, build_with, name_value};
 use crate::{BuildError, FurtherData};
-use dns_fields_more::Value;
 use dns_name::{Name, Octets, Rtype};
 use dns_rr_data::Number;
 use std::alloc::Global;
@@ -43,9 +42,6 @@ impl FurtherData<Number<47>, Vec<u8>> {
         ensures { MakesTypes types.now ⊤ ⊤ (λ bitmap. uncompressed next_name.now ∷ rest16 bitmap ∷ []) result }
     {
         let bitmap = bitmap_of(alloc, types)?;
-        build(
-            alloc,
-            &[name_value(next_name), Value::Rest(bitmap.as_slice())],
-        )
+        build_with(alloc, &[name_value(next_name)], bitmap.as_slice())
     }
 }

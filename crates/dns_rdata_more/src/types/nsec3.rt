@@ -4,7 +4,7 @@ ghost use Rattle.dns_fields.specs.Fields.{IsString, number16, number8, rest16, s
 ghost use Rattle.dns_rdata_more.specs.Built.{MakesTypes};
 ghost use Rattle.dns_rdata_more.specs.FurtherData.{IsFieldAt};
 
-use crate::build::{bitmap_of, build, hash_value, string_value};
+use crate::build::{bitmap_of, build_with, hash_value, string_value};
 use crate::{BuildError, FurtherData};
 use dns_fields_more::Value;
 use dns_name::{Octets, Rtype};
@@ -78,7 +78,7 @@ impl FurtherData<Number<50>, Vec<u8>> {
         let salt = string_value(salt)?;
         let next_owner = hash_value(next_owner)?;
         let bitmap = bitmap_of(alloc, types)?;
-        build(
+        build_with(
             alloc,
             &[
                 Value::Number8(hash_algorithm),
@@ -86,8 +86,8 @@ impl FurtherData<Number<50>, Vec<u8>> {
                 Value::Number16(iterations),
                 salt,
                 next_owner,
-                Value::Rest(bitmap.as_slice()),
             ],
+            bitmap.as_slice(),
         )
     }
 }
