@@ -3,3 +3,5 @@ pub mod Whole
 pub mod Places
 pub mod Composed
 pub mod Built
+pub mod ShownParts
+pub mod ShownRows

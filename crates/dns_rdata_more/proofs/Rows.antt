@@ -143,7 +143,7 @@ lowered_first {forms} {others} {form} {whole} {rest} {field} is well stands row 
     ∙ ap (λ l. field_octets (lowered_as form field) ++ l)
     (sym (ap (lowered_octets others) left.written ∙ lowered_back others left.row (others_well form others well') left.each))
 
-forms_one : (rtype : ℕ) (forms : List Form) → forms_of rtype ≡ Some forms → forms_or_none rtype ≡ forms
+pub forms_one : (rtype : ℕ) (forms : List Form) → forms_of rtype ≡ Some forms → forms_or_none rtype ≡ forms
 forms_one rtype forms its = ap (λ (found : Option (List Form)). unwrap_or found []) its
 
 pub row_back : (rtype : ℕ) (row : List Field) → IsFurtherRow rtype row → row_read rtype (octets row) ≡ row

@@ -10,6 +10,7 @@ mod fields;
 mod flat;
 mod order;
 mod record;
+mod show;
 
 use dns_fields_more::{is_further_data, scan_further_into};
 use dns_name::{Octets, ParseError, Parser, Rtype};

@@ -49,7 +49,8 @@ impl FurtherData<Number<65>, Vec<u8>> {
         target: &'a Name<N>,
         params: &'a [u8],
     ) -> Result<Self, BuildError>
-        ensures { MakesIf ⊤ (HoldsParameters params.now) (number16 priority ∷ uncompressed target.now ∷ rest16 params.now ∷ []) result }
+        ensures { MakesIf ⊤ (HoldsParameters params.now) (number16 priority ∷ uncompressed target.now
+            ∷ rest16 params.now ∷ []) result }
     {
         let params = last_value(Form::Parameters, params)?;
         build(

@@ -72,7 +72,8 @@ impl FurtherData<Number<35>, Vec<u8>> {
         replacement: &'a Name<N>,
     ) -> Result<Self, BuildError>
         ensures { MakesIf (IsString flags.now × IsString services.now × IsString regexp.now) ⊤
-            (number16 order ∷ number16 preference ∷ string flags.now ∷ string services.now ∷ string regexp.now ∷ uncompressed replacement.now ∷ []) result }
+            (number16 order ∷ number16 preference ∷ string flags.now ∷ string services.now ∷ string regexp.now
+            ∷ uncompressed replacement.now ∷ []) result }
     {
         let flags = string_value(flags)?;
         let services = string_value(services)?;

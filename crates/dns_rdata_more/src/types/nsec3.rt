@@ -73,7 +73,8 @@ impl FurtherData<Number<50>, Vec<u8>> {
         types: &[Rtype],
     ) -> Result<Self, BuildError>
         ensures { MakesTypes types.now (IsString salt.now × IsString next_owner.now) (next_owner.now ≢ [])
-            (λ bitmap. number8 hash_algorithm ∷ number8 flags ∷ number16 iterations ∷ string salt.now ∷ string next_owner.now ∷ rest16 bitmap ∷ []) result }
+            (λ bitmap. number8 hash_algorithm ∷ number8 flags ∷ number16 iterations ∷ string salt.now
+            ∷ string next_owner.now ∷ rest16 bitmap ∷ []) result }
     {
         let salt = string_value(salt)?;
         let next_owner = hash_value(next_owner)?;

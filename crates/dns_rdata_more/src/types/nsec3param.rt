@@ -55,7 +55,8 @@ impl FurtherData<Number<51>, Vec<u8>> {
         iterations: u16,
         salt: &[u8],
     ) -> Result<Self, BuildError>
-        ensures { MakesIf (IsString salt.now) ⊤ (number8 hash_algorithm ∷ number8 flags ∷ number16 iterations ∷ string salt.now ∷ []) result }
+        ensures { MakesIf (IsString salt.now) ⊤ (number8 hash_algorithm ∷ number8 flags ∷ number16 iterations
+            ∷ string salt.now ∷ []) result }
     {
         let salt = string_value(salt)?;
         build(

@@ -56,7 +56,8 @@ impl FurtherData<Number<53>, Vec<u8>> {
         matching_type: u8,
         cert_association_data: &[u8],
     ) -> Result<Self, BuildError>
-        ensures { Makes (number8 cert_usage ∷ number8 selector ∷ number8 matching_type ∷ rest16 cert_association_data.now ∷ []) result }
+        ensures { Makes (number8 cert_usage ∷ number8 selector ∷ number8 matching_type
+            ∷ rest16 cert_association_data.now ∷ []) result }
     {
         build(
             alloc,
