@@ -96,7 +96,9 @@ impl FurtherData<Number<46>, Vec<u8>> {
         signer_name: &'a Name<N>,
         signature: &'a [u8],
     ) -> Result<Self, BuildError>
-        ensures { Makes (number16 type_covered ∷ number8 algorithm ∷ number8 labels ∷ number32 original_ttl ∷ number32 expiration ∷ number32 inception ∷ number16 key_tag ∷ uncompressed signer_name.now ∷ rest64 signature.now ∷ []) result }
+        ensures { Makes (number16 type_covered ∷ number8 algorithm ∷ number8 labels ∷ number32 original_ttl
+            ∷ number32 expiration ∷ number32 inception ∷ number16 key_tag ∷ uncompressed signer_name.now
+            ∷ rest64 signature.now ∷ []) result }
     {
         build(
             alloc,
