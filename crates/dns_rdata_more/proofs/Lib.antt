@@ -5,3 +5,4 @@ pub mod Composed
 pub mod Built
 pub mod ShownParts
 pub mod ShownRows
+pub mod Ordered

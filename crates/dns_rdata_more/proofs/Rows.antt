@@ -51,7 +51,7 @@ forms_are_read Eui48 = refl
 forms_are_read Eui64 = refl
 
 -- a form ends as its kind does
-ends_alike : (form : Form) → ends.is_last (kind_of_form form) ≡ is_last form
+pub ends_alike : (form : Form) → ends.is_last (kind_of_form form) ≡ is_last form
 ends_alike Number8 = refl
 ends_alike Number16 = refl
 ends_alike Number32 = refl

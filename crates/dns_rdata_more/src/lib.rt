@@ -11,6 +11,7 @@
 
 mod build;
 mod canonical;
+mod canonical_order;
 mod further_data;
 pub mod laws;
 mod types;

@@ -5,10 +5,12 @@ ghost use Rattle.std.specs.Cmp.{partial_order_from_own_ties};
 ghost use Rattle.std.specs.Cmp.Lexicographic.{pointwise, slice_cmp};
 ghost use Rattle.std.specs.Cmp.Rules.{comparing, hashing};
 ghost use Rattle.std.specs.Hash as fed;
-ghost use Rattle.std.specs.Ordering.{as_partial_cmp, nat_cmp};
+ghost use Rattle.std.specs.Ordering.{as_partial_cmp, nat_cmp, on};
+ghost use Rattle.dns_rdata_more.specs.FurtherData.{canonical_of};
 
 use super::FurtherData;
-use dns_name::Octets;
+use crate::canonical_order::canonical_further_cmp;
+use dns_name::{CanonicalOrd, Octets, Rtype};
 use dns_rr_data::DataType;
 use std::cmp::Ordering;
 use std::hash::{Hash, Hasher};
@@ -50,6 +52,16 @@ impl<T: DataType, Octs: Octets> PartialOrd for FurtherData<T, Octs> {
 
     fn partial_cmp(&self, other: &Self) -> Option<Ordering> {
         Some(self.cmp(other))
+    }
+}
+
+/// The order of the canonical octets (RFC 4034 6.3).
+impl<T: DataType, Octs: Octets> CanonicalOrd for FurtherData<T, Octs> {
+    ghost canonical = { on (canonical_of T.number) (slice_cmp nat_cmp) };
+
+    fn canonical_cmp(&self, other: &Self) -> Ordering {
+        let rtype = Rtype::from_int(T::number());
+        canonical_further_cmp(rtype, self.octets.octets(), other.octets.octets())
     }
 }
 
