@@ -8,6 +8,7 @@ mod show;
 mod type_set;
 mod windows;
 
+use dns_name::Rtype;
 pub(crate) use scan::scan_types_into;
 pub(crate) use show::show_types;
 use std::alloc::AllocError;
@@ -16,13 +17,13 @@ pub(crate) use windows::is_type_bitmap;
 
 /// Appends the bitmap of the types, which may be in any order and repeated. Fails if out of memory. It may then have
 /// appended some octets.
-pub(crate) fn append_types(types: &[u16], octets: &mut Vec<u8>) -> Result<(), AllocError>
+pub fn append_types(types: &[Rtype], octets: &mut Vec<u8>) -> Result<(), AllocError>
     ensures ok { OnOk result (Appends (IsBitmapOf types.now) octets.old.items octets.new.items) }
     ensures more { GoesOn octets.old.items octets.new.items }
 {
     let mut set = TypeSet::new(*octets.allocator());
     for rtype in types {
-        set.insert(*rtype)?;
+        set.insert(rtype.to_int())?;
     }
     set.append_to(octets)
 }

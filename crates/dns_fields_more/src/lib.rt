@@ -22,6 +22,7 @@ mod time;
 mod type_words;
 mod value;
 
+pub use bitmap::append_types;
 pub use canonical::make_further_canonical;
 pub use form::{Form, forms_of};
 pub use row::{is_further_data, scan_further_into};

@@ -1,7 +1,9 @@
-use Rattle.std.proofs.Common.{◌≡◌, ◌+◌, ◌∷◌, ◌++◌, ◌↔◌, [], List, ℕ, take, get_or, sym, subst, arith, add-one}
+use Rattle.std.proofs.Common.{◌≡◌, ◌+◌, ◌∷◌, ◌++◌, ◌↔◌, [], List, ℕ, length, refl, ◌∙◌, take, get_or, sym, subst, arith, add-one}
 use Rattle.std.specs.List.{Contains}
 use Rattle.std.proofs.Math.Seq.{take-suc}
 use Rattle.std.proofs.lemmas.List.{take_all}
+use Rattle.std.proofs.lemmas.Option.{get_or_from_slice_get, slice_get_read}
+use Rattle.dns_fields_more.specs.Windows.{HasAlso}
 use Rattle.dns_fields_more.proofs.ScannedTypes.{also_pushed, bitmap_on_ok}
 use Rattle.dns_fields_more.proofs.bitmap.append_types.Goals as goal
 
@@ -10,9 +12,13 @@ loop-rtype-preserved c = λ type.
     let index = c.loop-rtype.rtype-index in
     let types = c.args.types.now in
     let taken : take (index + 1) types ≡ take index types ++ get_or types index 0 ∷ [] = rw add-one (take-suc types index 0 c.loop-rtype-test.true) in
+    let its : c.to_int.result ≡ get_or types index 0 =
+    c.to_int.ensures
+    ∙ sym (get_or_from_slice_get types index c.rtype-item.result 0 (slice_get_read types (length types) index c.rtype-item.result refl c.loop-rtype-test.true c.rtype-item.is)) in
     let P : List ℕ → Type 0 = λ l. Contains c.insert.new.self type ↔ Contains l type in
     subst P (sym taken)
-    (also_pushed c.loop-rtype.set c.insert.new.self (take index types) (get_or types index 0) c.in_ok-insert.ensures.ok c.loop-rtype.invariant type)
+    (also_pushed c.loop-rtype.set c.insert.new.self (take index types) (get_or types index 0)
+    (subst (λ (n : ℕ). HasAlso c.loop-rtype.set c.insert.new.self n) its c.in_ok-insert.ensures.ok) c.loop-rtype.invariant type)
 
 pub returns-clause-ok : goal.returns-clause-ok
 returns-clause-ok c =
