@@ -1,9 +1,4 @@
 //! Scanning locations (RFC 1876 3).
-ghost use Rattle.std.specs.Prelude.{◌≡◌, List, false, IfErr, OnOk};
-ghost use Rattle.dns_scan.specs.Token.{SameNames};
-ghost use Rattle.dns_fields_more.specs.Appended.{GoesOn};
-ghost use Rattle.dns_fields_more.specs.Location.{Location};
-ghost use Rattle.dns_fields_more.specs.LocationText.{AppendsLocation, ScansLocation};
 ghost use Rattle.std.specs.Prelude.{◌≡◌, ◌≤◌, List, ℕ, [], false, IfErr, IfNone, IfOk, IfSome, OnOk};
 ghost use Rattle.dns_scan.specs.Token.{SameNames, Token};
 ghost use Rattle.dns_fields_more.specs.Appended.{GoesOn};
