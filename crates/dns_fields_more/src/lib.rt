@@ -12,7 +12,6 @@ mod hardware;
 mod hash_words;
 pub mod laws;
 mod location;
-mod pending;
 mod row;
 mod scan;
 mod service;
