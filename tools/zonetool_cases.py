@@ -158,7 +158,11 @@ QUERY = [
     Case("query " + "l" * 64, 2, said="zonetool: bad name"),
     Case("query z --class no", 2, said="zonetool: bad class"),
     Case("query", 2, said="error: the following required arguments were not provided:"),
-    Case("query z --origin z", 2, said=unexpected("--origin")),
+    Case("query www --origin z", 0, query(b"\3www\1z\0")),
+    Case("query www. --origin z", 0, query(b"\3www\0")),
+    Case("query www --origin z..", 2, said="zonetool: bad name"),
+    Case("query w..w --origin z", 2, said="zonetool: bad name"),
+    Case("query " + ".".join(["l" * 62] * 3) + " --origin " + "o" * 63 + ".oo", 2, said="zonetool: bad name"),
     Case("query z", 2, said="zonetool: write failed", is_full=True),
 ]
 # -- What `explain` says of a zone's text. The tables have the text after the line of this SOA, and the place and the reason, whose token is marked;

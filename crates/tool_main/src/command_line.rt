@@ -6,8 +6,8 @@ use crate::color::ColorChoice;
 use crate::input::{Reading, STANDARD_INPUT};
 use crate::tasks::Task;
 use clap::{Arg, ArgAction, ArgMatches, Command, value_parser};
-use dns_name::{Class, FromStrError, Name, Rtype};
-use dns_text::DisplayKind;
+use dns_name::{Class, FromStrError, Name, Rtype, ToName, ToRelativeName};
+use dns_text::{DisplayKind, UncertainName};
 use std::alloc::{AllocError, Global};
 use thiserror::Error;
 use zone_tool::Selection;
@@ -126,12 +126,27 @@ fn stats_task<'a>(alloc: Global, options: &ArgMatches<'a>) -> Result<Task<'a>, W
 }
 
 fn query_task<'a>(alloc: Global, options: &ArgMatches<'a>) -> Result<Task<'a>, WordsFault> {
-    let Some(apex) = name_or_none(alloc, options, "apex")? else {
-        return Err(WordsFault::BadName);
-    };
+    let apex = apex(alloc, options)?;
     let class = class(options)?;
     let id = options.get_one::<u16>("id").unwrap_or(0);
     Ok(Task::Query { apex, class, id })
+}
+
+/// Returns the name of the zone. It is relative to the origin, if an option gives one and the name has no last dot.
+fn apex(alloc: Global, options: &ArgMatches<'_>) -> Result<Name<Vec<u8>>, WordsFault> {
+    let text = options.get_str("apex").unwrap_or("");
+    let Some(origin) = name_or_none(alloc, options, "origin")? else {
+        return name_of(alloc, text);
+    };
+    match UncertainName::from_str(alloc, text) {
+        Ok(UncertainName::Absolute(name)) => Ok(name),
+        Ok(UncertainName::Relative(name)) => match name.chain(origin) {
+            Ok(name) => Ok(name.to_vec(alloc)?),
+            Err(_) => Err(WordsFault::BadName),
+        },
+        Err(FromStrError::Presentation(_)) => Err(WordsFault::BadName),
+        Err(FromStrError::ShortBuf) => Err(WordsFault::OutOfMemory),
+    }
 }
 
 /// Returns the file of this argument, or standard input if it is left out.
@@ -167,11 +182,16 @@ fn name_or_none(
     options: &ArgMatches<'_>,
     option: &str,
 ) -> Result<Option<Name<Vec<u8>>>, WordsFault> {
-    let Some(text) = options.get_str(option) else {
-        return Ok(None);
-    };
+    match options.get_str(option) {
+        Some(text) => Ok(Some(name_of(alloc, text)?)),
+        None => Ok(None),
+    }
+}
+
+/// Returns the name that a text spells, with or without its last dot.
+fn name_of(alloc: Global, text: &str) -> Result<Name<Vec<u8>>, WordsFault> {
     match Name::vec_from_str(alloc, text) {
-        Ok(name) => Ok(Some(name)),
+        Ok(name) => Ok(name),
         Err(FromStrError::Presentation(_)) => Err(WordsFault::BadName),
         Err(FromStrError::ShortBuf) => Err(WordsFault::OutOfMemory),
     }
@@ -283,6 +303,7 @@ fn query_command<'a>(alloc: Global) -> Result<Command<'a>, AllocError> {
                 .required(true)
                 .help("The zone's name"),
         )?
+        .arg(option(alloc, "origin", "NAME").help("The origin of a name without a last dot"))?
         .arg(option(alloc, "class", "CLASS").help("The zone's class, IN where left out"))?
         .arg(
             option(alloc, "id", "NUMBER")
