@@ -1,0 +1,17 @@
+pub mod TypeWords
+pub mod Calendar
+pub mod Moments
+mod TriedLocation
+pub mod HashWords
+mod LocationParts
+mod LocationNumerals
+mod LocationScans
+pub mod LocationRead
+pub mod LocationPrinted
+pub mod HardwareText
+pub mod TypeBits
+pub mod TypeWindows
+pub mod ShownTypes
+pub mod ScannedTypes
+pub mod PrintedTypes
+pub mod OneBitmap

@@ -1,0 +1,13 @@
+pub mod Appended
+pub mod TypeWords
+pub mod Time
+pub mod HashWords
+pub mod Hardware
+pub mod HardwareParts
+pub mod TypeBitmap
+pub mod Location
+pub mod LocationText
+pub mod LocationParts
+pub mod Windows
+pub mod Tried
+pub mod Cut

@@ -1,0 +1,78 @@
+-- The definitions tried on the standards' own examples.
+use Rattle.std.specs.Prelude.{◌≡◌, [], ◌∷◌, ◌++◌, codes, decimal, Some, None, refl}
+use Rattle.dns_scan.specs.Bits.{bits}
+use Rattle.dns_values.specs.Mnemonic.{types, number_read, number_named, number_behind, number_spelled, text_of, text_written}
+use Rattle.dns_field_texts.specs.TypeWords.{more_types, type_word_read, type_word_written}
+use Rattle.dns_field_texts.specs.Time.{days_of_years, days_of_months, day_number, seconds_before, moment_of, moment_read, time_read, greatest, year_after, month_after, moment_after, date_written, clock_written, moment_written, time_written}
+use Rattle.dns_field_texts.specs.Hardware.{hardware_written}
+use Rattle.dns_field_texts.specs.HashWords.{salt_written, hash_written}
+use Rattle.dns_field_texts.specs.TypeBitmap.{windows_up_to, types_in}
+
+-- mnemonics of both tables and a number
+pub uri : type_word_read (codes "uri") ≡ Some 256
+unfolding type_word_read more_types types number_read number_named number_behind number_spelled
+uri = refl
+
+pub mx : type_word_read (codes "MX") ≡ Some 15
+unfolding type_word_read more_types types number_read number_named number_behind number_spelled
+mx = refl
+
+pub numbered : type_word_read (codes "TYPE1234") ≡ Some 1234
+unfolding type_word_read more_types types number_read number_named number_behind number_spelled
+numbered = refl
+
+pub csync : type_word_written 62 ≡ codes "CSYNC"
+unfolding type_word_written more_types types text_of text_written
+csync = refl
+
+pub unnamed : type_word_written 1234 ≡ codes "TYPE" ++ decimal 1234
+unfolding type_word_written more_types types text_of text_written
+unnamed = refl
+
+-- the times of RFC 4034, section 3.3, and of RFC 5702, section 6.1
+pub expiration : time_read (codes "20030322173103") ≡ Some 1048354263
+unfolding time_read moment_read moment_of seconds_before day_number days_of_years days_of_months
+expiration = refl
+
+pub number : time_read (codes "1048354263") ≡ Some 1048354263
+unfolding time_read number_spelled
+number = refl
+
+pub written : time_written 1048354263 ≡ codes "20030322173103"
+unfolding time_written moment_written date_written clock_written moment_after year_after month_after greatest days_of_years days_of_months
+written = refl
+
+-- the last second that a time has, and the first one after it
+pub last : time_written 4294967295 ≡ codes "21060207062815"
+unfolding time_written moment_written date_written clock_written moment_after year_after month_after greatest days_of_years days_of_months
+last = refl
+
+pub wrapped : time_read (codes "21060207062816") ≡ Some 0
+unfolding time_read moment_read moment_of seconds_before day_number days_of_years days_of_months
+wrapped = refl
+
+pub no_leap_year : time_read (codes "21000229000000") ≡ None
+unfolding time_read moment_read moment_of seconds_before day_number days_of_years days_of_months
+no_leap_year = refl
+
+-- the addresses of RFC 7043, sections 3.3 and 4.3
+pub eui48 : hardware_written (0 ∷ 0 ∷ 94 ∷ 0 ∷ 83 ∷ 42 ∷ []) ≡ codes "00-00-5e-00-53-2a"
+eui48 = refl
+
+pub eui64 : hardware_written (0 ∷ 0 ∷ 94 ∷ 239 ∷ 16 ∷ 0 ∷ 0 ∷ 42 ∷ []) ≡ codes "00-00-5e-ef-10-00-00-2a"
+eui64 = refl
+
+-- the salt and a hash of RFC 5155, appendix A
+pub salt : salt_written (170 ∷ 187 ∷ 204 ∷ 221 ∷ []) ≡ codes "AABBCCDD"
+unfolding bits
+salt = refl
+
+pub hash : hash_written (6 ∷ 83 ∷ 104 ∷ 230 ∷ 58 ∷ []) ≡ codes "0P9MHPHQ"
+unfolding bits
+hash = refl
+
+-- the bitmap of RFC 4034, section 4.3: A, MX, RRSIG, NSEC and TYPE1234
+pub bitmap : types_in (0 ∷ 6 ∷ 64 ∷ 1 ∷ 0 ∷ 0 ∷ 0 ∷ 3 ∷ 4 ∷ 27 ∷ 0 ∷ 0 ∷ 0 ∷ 0 ∷ 0 ∷ 0 ∷ 0 ∷ 0 ∷ 0 ∷ 0 ∷ 0 ∷ 0
+    ∷ 0 ∷ 0 ∷ 0 ∷ 0 ∷ 0 ∷ 0 ∷ 0 ∷ 0 ∷ 0 ∷ 0 ∷ 0 ∷ 0 ∷ 0 ∷ 0 ∷ 32 ∷ []) ≡ 1 ∷ 15 ∷ 46 ∷ 47 ∷ 1234 ∷ []
+unfolding types_in windows_up_to bits
+bitmap = refl

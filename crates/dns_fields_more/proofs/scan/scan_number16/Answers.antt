@@ -1,0 +1,9 @@
+use Rattle.std.proofs.Common.{refl, rules, arith}
+use Rattle.dns_fields.specs.Fields.{number16}
+use Rattle.dns_fields_more.proofs.Scans.{scanned}
+use Rattle.dns_fields_more.proofs.scan.scan_number16.Goals as goal
+
+pub returns-in-Ok-clause-ok : goal.returns-in-Ok-clause-ok
+returns-in-Ok-clause-ok g c =
+    scanned _ _ _ (number16 c.in-Ok.number)
+    (record { is = record { kind = refl; is_field = search rules; keeps = tt }; spelled = c.in-Ok.ensures.ok }) (c.to_be_bytes.ensures) c.append.result c.append.ensures.ok

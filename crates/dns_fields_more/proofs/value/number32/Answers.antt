@@ -1,0 +1,17 @@
+use Rattle.std.proofs.Common.{arith, rules, refl}
+use Rattle.dns_octets.specs.Parser.{octets_of, place_of}
+use Rattle.dns_wire.proofs.Flat.{always_on_err}
+use Rattle.dns_fields.proofs.ReadFields.{number32_fixed}
+use Rattle.dns_fields_more.proofs.Numbers.{gone_over, too_few}
+use Rattle.dns_fields_more.proofs.value.number32.Goals as goal
+
+pub returns-in_err-parse_u32_be-clause-err : goal.returns-in_err-parse_u32_be-clause-err
+returns-in_err-parse_u32_be-clause-err c =
+    always_on_err c.from_residual.result (too_few (octets_of c.args.parser.now) (place_of c.args.parser.now) number32_fixed (let enough = c.parse_u32_be.ensures.enough in search rules))
+
+pub returns-clause-ok : goal.returns-clause-ok
+returns-clause-ok c = record {
+  is_kind = refl;
+  is_field = search rules;
+  written = gone_over c.in_ok-parse_u32_be.ensures.back c.in_ok-parse_u32_be.ensures.place;
+}

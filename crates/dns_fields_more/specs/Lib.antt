@@ -1,0 +1,4 @@
+pub mod Forms
+pub mod Values
+pub mod Rows
+pub mod Text

@@ -1,0 +1,3 @@
+pub mod FurtherData
+pub mod Built
+pub mod Shown

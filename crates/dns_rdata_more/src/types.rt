@@ -1,0 +1,41 @@
+//! The further types.
+
+mod cdnskey;
+mod cds;
+mod cert;
+mod csync;
+mod eui48;
+mod eui64;
+mod https;
+mod loc;
+mod naptr;
+mod nsec;
+mod nsec3;
+mod nsec3param;
+mod openpgpkey;
+mod rrsig;
+mod smimea;
+mod svcb;
+mod tlsa;
+mod uri;
+mod zonemd;
+
+pub use cdnskey::Cdnskey;
+pub use cds::Cds;
+pub use cert::Cert;
+pub use csync::Csync;
+pub use eui48::Eui48;
+pub use eui64::Eui64;
+pub use https::Https;
+pub use loc::Loc;
+pub use naptr::Naptr;
+pub use nsec::Nsec;
+pub use nsec3::Nsec3;
+pub use nsec3param::Nsec3param;
+pub use openpgpkey::Openpgpkey;
+pub use rrsig::Rrsig;
+pub use smimea::Smimea;
+pub use svcb::Svcb;
+pub use tlsa::Tlsa;
+pub use uri::Uri;
+pub use zonemd::Zonemd;

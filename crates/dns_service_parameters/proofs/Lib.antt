@@ -1,0 +1,10 @@
+mod TriedService
+mod ServiceParts
+mod ServiceValues
+mod ServicePieces
+mod ServiceKeys
+mod ServiceNumbers
+mod ServiceLists
+mod ServiceAddresses
+mod ServiceShown
+mod ServicePrinted

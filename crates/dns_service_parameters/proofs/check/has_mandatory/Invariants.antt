@@ -1,0 +1,14 @@
+use Rattle.std.proofs.Common.{◌≡◌, List, length}
+use Rattle.std.specs.List.{AllByRecursion}
+use Rattle.dns_service_parameters.specs.Service.{IsParameter, Parameter, keys_of, octets_of}
+use Rattle.dns_service_parameters.specs.ServiceParts.{AscendFrom}
+use Rattle.dns_service_parameters.proofs.ServiceKeys.{WantedLeft}
+use Rattle.dns_service_parameters.proofs.check.has_mandatory.Given as goal
+
+abbrev pub invariant-loop-key : goal.invariant-loop-key
+invariant-loop-key l =
+    (parameters : List Parameter) → AllByRecursion IsParameter parameters → AscendFrom 0 (keys_of parameters) → l.octets ≡ octets_of parameters
+    → WantedLeft l.rest l.wanted parameters
+
+abbrev pub decreases-loop-key : goal.decreases-loop-key
+decreases-loop-key l = length l.rest

@@ -1,0 +1,5 @@
+pub mod Service
+pub mod ServiceText
+pub mod ServiceParts
+pub mod ServiceShown
+pub mod ServiceRead

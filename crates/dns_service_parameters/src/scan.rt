@@ -1,0 +1,134 @@
+//! Scanning service parameters (RFC 9460 2.1).
+ghost use Rattle.std.specs.Prelude.{◌≤◌, ◌^◌, length, Any, IfOk, ◌≡◌, ◌++◌, List, ℕ, false, true, IfErr, OnOk};
+ghost use Rattle.dns_scan.specs.StringText.{Spells};
+ghost use Rattle.dns_scan.specs.Token.{SameNames};
+ghost use Rattle.std.specs.List.{flat_map};
+ghost use Rattle.dns_service_parameters.specs.Service.{Parameter};
+ghost use Rattle.dns_service_parameters.specs.ServiceRead.{NoParameter, TakesParameter, written_octets};
+ghost use Rattle.dns_service_parameters.specs.ServiceText.{AppendsParameters, ScansParameters};
+ghost use Rattle.dns_field_texts.specs.Appended.{GoesOn};
+
+use crate::check::{are_parameters, is_value};
+use crate::keys::{form_at, read_key};
+use crate::values::append_value;
+use dns_field_texts::append_octets;
+use dns_field_texts::split_first;
+use dns_name::Symbol;
+use dns_text::{Scanner, ScannerError};
+use std::alloc::Global;
+
+/// Scans all tokens that are left as service parameters, and appends their octets, ascending by their keys.
+///
+/// Fails with an error other than `short_buf` only if the tokens are no parameters. It may then have appended some
+/// octets.
+pub fn scan_parameters_into<S: Scanner>(
+    scanner: &mut S,
+    octets: &mut Vec<u8>,
+) -> Result<(), S::Error>
+    ensures ok { OnOk result (AppendsParameters (S.tokens scanner.old) (S.tokens scanner.new) octets.old.items octets.new.items) }
+    ensures err { IfErr result (λ error. S.Error.is_short error ≡ false → (parameters : List Parameter) → ScansParameters parameters (S.tokens scanner.old) → ⊥) }
+    ensures names { SameNames (S.names scanner.old) (S.names scanner.new) }
+    ensures more { GoesOn octets.old.items octets.new.items }
+{
+    let mut parameters = Vec::new(*octets.allocator());
+    while scanner.continues() {
+        let parameter = scan_parameter(scanner, *octets.allocator())?;
+        if parameters.push(parameter).is_err() {
+            return Err(S::Error::short_buf());
+        }
+    }
+    parameters.sort_unstable_by_key(|parameter: &Written| parameter.key);
+    let before = octets.len();
+    append_parameters(&parameters, octets)?;
+    if are_parameters(&octets[before..]) {
+        Ok(())
+    } else {
+        Err(S::Error::custom("bad service parameters"))
+    }
+}
+
+/// A key and the octets of its value.
+#[derive(Drop)]
+struct Written {
+    key: u16,
+    value: Vec<u8>,
+}
+
+/// Appends the octets of parameters: of each its key, the length of its value, and its value.
+fn append_parameters<Error: ScannerError>(
+    parameters: &[Written],
+    octets: &mut Vec<u8>,
+) -> Result<(), Error>
+    ensures ok { OnOk result (octets.new.items ≡ octets.old.items ++ flat_map written_octets parameters.now) }
+    ensures err { IfErr result (λ error. Error.is_short error ≡ false → Any (λ parameter. 2 ^ 16 ≤ length parameter.value.items) parameters.now) }
+    ensures more { GoesOn octets.old.items octets.new.items }
+{
+    for parameter in parameters {
+        let Ok(len) = u16::try_from(parameter.value.len()) else {
+            return Err(Error::custom("long value"));
+        };
+        append_octets(&parameter.key.to_be_bytes(), octets)?;
+        append_octets(&len.to_be_bytes(), octets)?;
+        append_octets(&parameter.value, octets)?;
+    }
+    Ok(())
+}
+
+/// Scans a parameter.
+fn scan_parameter<S: Scanner>(scanner: &mut S, alloc: Global) -> Result<Written, S::Error>
+    ensures ok { IfOk result (TakesParameter (S.tokens scanner.old) (S.tokens scanner.new)) }
+    ensures err { IfErr result (λ error. S.Error.is_short error ≡ false → NoParameter (S.tokens scanner.old)) }
+    ensures names { SameNames (S.names scanner.old) (S.names scanner.new) }
+{
+    let mut text = Vec::new(alloc);
+    let (word, written) = split_first(scanner.peek_text()?, b'=');
+    let Some(word) = read_key(word) else {
+        return Err(S::Error::custom("unknown key"));
+    };
+    match written {
+        Some(written) if !written.is_empty() => read_text(written, &mut text)?,
+        Some(_) => {
+            scanner.skip_token();
+            read_text(scanner.peek_text()?, &mut text)?;
+        }
+        None => {}
+    }
+    scanner.skip_token();
+    if !word.named {
+        if is_value(form_at(word.key), &text) {
+            return Ok(Written {
+                key: word.key,
+                value: text,
+            });
+        }
+        return Err(S::Error::custom("bad value"));
+    }
+    let mut value = Vec::new(alloc);
+    append_value(form_at(word.key), &text, &mut value)?;
+    Ok(Written {
+        key: word.key,
+        value,
+    })
+}
+
+/// Appends the octets that the symbols of a text stand for.
+fn read_text<Error: ScannerError>(text: &[u8], octets: &mut Vec<u8>) -> Result<(), Error>
+    ensures ok { OnOk result ((new : List ℕ) × Spells text.now new × (octets.new.items ≡ octets.old.items ++ new)) }
+    ensures err { IfErr result (λ error. Error.is_short error ≡ false → (new : List ℕ) → Spells text.now new → ⊥) }
+    ensures more { GoesOn octets.old.items octets.new.items }
+{
+    let mut rest = text;
+    while !rest.is_empty() {
+        let Some((symbol, behind)) = Symbol::split_from(rest) else {
+            return Err(Error::custom("bad symbol"));
+        };
+        let Ok(octet) = symbol.into_octet() else {
+            return Err(Error::custom("bad symbol"));
+        };
+        match octets.push(octet) {
+            Ok(()) => rest = behind,
+            Err(_) => return Err(Error::short_buf()),
+        }
+    }
+    Ok(())
+}

@@ -1,0 +1,171 @@
+//! The values of named keys in text (RFC 9460 7, 8 and A.1).
+ghost use Rattle.std.specs.Prelude.{◌≡◌, ◌++◌, false, IfErr, OnOk, List, ℕ, Option, IfOk, option_map};
+ghost use Rattle.dns_service_parameters.specs.declared.form.Form.TheVariants.{Encoded, Ipv4s, Ipv6s, Keys, Strings};
+ghost use Rattle.dns_service_parameters.specs.ServiceRead.{AppendsString, AppendsValue, SpellsNoValue, StartsWithString};
+
+use crate::form::Form;
+use crate::keys::{read_key, read_number};
+use dns_field_texts::append_octets;
+use dns_field_texts::split_first;
+use dns_text::{ScannerError, base64};
+use std::net::{Ipv4Addr, Ipv6Addr};
+
+/// Appends the value of the form that a text writes.
+///
+/// Fails with an error other than `short_buf` only if it writes none. It may then have appended a part of the value.
+pub(crate) fn append_value<Error: ScannerError>(
+    form: Form,
+    text: &[u8],
+    value: &mut Vec<u8>,
+) -> Result<(), Error>
+    ensures ok { OnOk result (AppendsValue form text.now value.old.items value.new.items) }
+    ensures err { IfErr result (λ error. Error.is_short error ≡ false → SpellsNoValue form text.now) }
+{
+    match form {
+        Form::Keys => append_keys(text, value),
+        Form::Strings => append_strings(text, value),
+        Form::Nothing => {
+            if text.is_empty() {
+                Ok(())
+            } else {
+                Err(Error::custom("a key that has no value"))
+            }
+        }
+        Form::Number => match read_number(text) {
+            Some(number) => append_octets(&number.to_be_bytes(), value),
+            None => Err(Error::custom("bad number")),
+        },
+        Form::Ipv4s => append_ipv4s(text, value),
+        Form::Ipv6s => append_ipv6s(text, value),
+        Form::Encoded => append_encoded(text, value),
+        Form::Plain => append_octets(text, value),
+    }
+}
+
+/// Appends the keys of a list, ascending.
+fn append_keys<Error: ScannerError>(text: &[u8], value: &mut Vec<u8>) -> Result<(), Error>
+    ensures ok { OnOk result (AppendsValue Keys text.now value.old.items value.new.items) }
+    ensures err { IfErr result (λ error. Error.is_short error ≡ false → SpellsNoValue Keys text.now) }
+{
+    let mut keys: Vec<u16> = Vec::new(*value.allocator());
+    let mut left = Some(text);
+    while let Some(items) = left {
+        let (item, rest) = split_first(items, b',');
+        let Some(word) = read_key(item) else {
+            return Err(Error::custom("bad key"));
+        };
+        if keys.push(word.key).is_err() {
+            return Err(Error::short_buf());
+        }
+        left = rest;
+    }
+    keys.sort_unstable();
+    let mut least = 1;
+    for &key in &keys {
+        if u32::from(key) < least {
+            return Err(Error::custom("bad mandatory key"));
+        }
+        least = u32::from(key) + 1;
+        append_octets(&key.to_be_bytes(), value)?;
+    }
+    Ok(())
+}
+
+/// Appends the strings of a list, each behind its length.
+fn append_strings<Error: ScannerError>(text: &[u8], value: &mut Vec<u8>) -> Result<(), Error>
+    ensures ok { OnOk result (AppendsValue Strings text.now value.old.items value.new.items) }
+    ensures err { IfErr result (λ error. Error.is_short error ≡ false → SpellsNoValue Strings text.now) }
+{
+    let mut left = Some(text);
+    while let Some(items) = left {
+        left = append_string(items, value)?;
+    }
+    Ok(())
+}
+
+/// Appends the first string of a list behind its length, and returns the other strings, if there are any.
+fn append_string<'a, Error: ScannerError>(
+    text: &'a [u8],
+    value: &mut Vec<u8>,
+) -> Result<Option<&'a [u8]>, Error>
+    ensures ok { IfOk result (λ others. AppendsString text.now (option_map (λ rest. rest.now) others) value.old.items value.new.items) }
+    ensures err { IfErr result (λ error. Error.is_short error ≡ false → (string : List ℕ) (others : Option (List ℕ)) → StartsWithString text.now string others → ⊥) }
+{
+    let mut string = [0; 255];
+    let mut len = 0;
+    let mut left = text;
+    let others = loop {
+        let (octet, rest) = match left {
+            [] => break None,
+            [b',', rest @ ..] => break Some(rest),
+            [b'\\', octet @ (b',' | b'\\'), rest @ ..] => (*octet, rest),
+            [b'\\', ..] => return Err(Error::custom("bad escape in a list")),
+            [octet, rest @ ..] => (*octet, rest),
+        };
+        if len == 255 {
+            return Err(Error::custom("long string"));
+        }
+        string[len] = octet;
+        len += 1;
+        left = rest;
+    };
+    if len == 0 {
+        return Err(Error::custom("empty string"));
+    }
+    append_octets(&[len as u8], value)?;
+    append_octets(&string[..len], value)?;
+    Ok(others)
+}
+
+/// Appends the addresses of a list.
+fn append_ipv4s<Error: ScannerError>(text: &[u8], value: &mut Vec<u8>) -> Result<(), Error>
+    ensures ok { OnOk result (AppendsValue Ipv4s text.now value.old.items value.new.items) }
+    ensures err { IfErr result (λ error. Error.is_short error ≡ false → SpellsNoValue Ipv4s text.now) }
+{
+    let mut left = Some(text);
+    while let Some(items) = left {
+        let (item, rest) = split_first(items, b',');
+        let Ok(address) = Ipv4Addr::parse_ascii(item) else {
+            return Err(Error::custom("bad address"));
+        };
+        append_octets(&address.octets(), value)?;
+        left = rest;
+    }
+    Ok(())
+}
+
+/// Appends the addresses of a list.
+fn append_ipv6s<Error: ScannerError>(text: &[u8], value: &mut Vec<u8>) -> Result<(), Error>
+    ensures ok { OnOk result (AppendsValue Ipv6s text.now value.old.items value.new.items) }
+    ensures err { IfErr result (λ error. Error.is_short error ≡ false → SpellsNoValue Ipv6s text.now) }
+{
+    let mut left = Some(text);
+    while let Some(items) = left {
+        let (item, rest) = split_first(items, b',');
+        let Ok(address) = Ipv6Addr::parse_ascii(item) else {
+            return Err(Error::custom("bad address"));
+        };
+        append_octets(&address.octets(), value)?;
+        left = rest;
+    }
+    Ok(())
+}
+
+/// Appends the octets of a text in base 64.
+fn append_encoded<Error: ScannerError>(text: &[u8], value: &mut Vec<u8>) -> Result<(), Error>
+    ensures ok { OnOk result (AppendsValue Encoded text.now value.old.items value.new.items) }
+    ensures err { IfErr result (λ error. Error.is_short error ≡ false → SpellsNoValue Encoded text.now) }
+{
+    if text.is_empty() || !text.is_ascii() {
+        return Err(Error::custom("bad base 64"));
+    }
+    let Ok(text) = str::from_utf8(text) else {
+        return Err(Error::custom("bad base 64"));
+    };
+    let octets: Vec<u8> = match base64::decode(*value.allocator(), text) {
+        Ok(octets) => octets,
+        Err(dns_text::DecodeError::ShortBuf) => return Err(Error::short_buf()),
+        Err(_) => return Err(Error::custom("bad base 64")),
+    };
+    append_octets(&octets, value)
+}
