@@ -6,12 +6,14 @@ ghost use Rattle.dns_name.specs.RecordData.{IsAtEnd};
 ghost use Rattle.dns_octets.specs.Parser.{rest_of};
 ghost use Rattle.dns_scan.specs.Token.{SameNames};
 
+mod any;
 mod fields;
 mod flat;
 mod order;
 mod record;
 mod show;
 
+pub use any::AnyFurtherData;
 use dns_fields_more::{is_further_data, scan_further_into};
 use dns_name::{Octets, ParseError, Parser, Rtype};
 use dns_rr_data::DataType;

@@ -17,7 +17,7 @@ pub mod laws;
 mod types;
 
 pub use build::BuildError;
-pub use further_data::{FurtherData, FurtherDataError};
+pub use further_data::{AnyFurtherData, FurtherData, FurtherDataError};
 pub use types::{
     Cdnskey, Cds, Cert, Csync, Eui48, Eui64, Https, Loc, Naptr, Nsec, Nsec3, Nsec3param,
     Openpgpkey, Rrsig, Smimea, Svcb, Tlsa, Uri, Zonemd,

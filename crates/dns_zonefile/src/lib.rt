@@ -1,7 +1,8 @@
 //! Zone files: the entries of a text, one after another (RFC 1035 5.1).
 //!
 //! A `Zonefile` takes a text and returns its records and the files that it includes. Directives change what the rows
-//! after them mean. `scan_statement` reads what a single row says.
+//! after them mean. `scan_statement` reads what a single row says, and an `EntryReader` the entries of rows that its caller
+//! finds.
 //!
 //! The crate re-exports its part `dns_entry_scanner`: the tokens and rows of a text, and the scanner over a row.
 //!
@@ -19,6 +20,7 @@
 mod context;
 mod entry;
 mod entry_form;
+mod entry_reader;
 mod error;
 mod last_owner;
 pub mod laws;
@@ -31,6 +33,7 @@ pub use dns_entry_scanner::{
     ScannedString, TextName, TokenSpan, WireScanner, absolute, read_row, scan_name, to_inline_name,
 };
 pub use entry::{ComposedEntry, Entry, IncludedFile, ScannedRecord, ScannedRecordData};
+pub use entry_reader::EntryReader;
 pub use error::Error;
 pub use line_mark::LineMark;
 pub use statement::{Stated, Statement, scan_statement};

@@ -73,6 +73,8 @@ pub(crate) fn task_of<'a>(alloc: Global, words: &'a [&'a str]) -> Result<Task<'a
         "sort" => sort_task(alloc, options),
         "stats" => stats_task(alloc, options),
         "query" => query_task(alloc, options),
+        "general" => general_task(alloc, options),
+        "present" => present_task(alloc, options),
         _ => Err(WordsFault::NoCommand),
     }
 }
@@ -122,6 +124,23 @@ fn stats_task<'a>(alloc: Global, options: &ArgMatches<'a>) -> Result<Task<'a>, W
     Ok(Task::Stats {
         file: file_or_input(options, "file"),
         reading,
+    })
+}
+
+fn general_task<'a>(alloc: Global, options: &ArgMatches<'a>) -> Result<Task<'a>, WordsFault> {
+    let reading = reading(alloc, options)?;
+    Ok(Task::General {
+        file: file_or_input(options, "file"),
+        reading,
+    })
+}
+
+fn present_task<'a>(alloc: Global, options: &ArgMatches<'a>) -> Result<Task<'a>, WordsFault> {
+    let reading = reading(alloc, options)?;
+    Ok(Task::Present {
+        file: file_or_input(options, "file"),
+        reading,
+        layout: layout(options),
     })
 }
 
@@ -232,8 +251,10 @@ fn command<'a>(alloc: Global) -> Result<Command<'a>, AllocError> {
     let sort = sort_command(alloc)?;
     let stats = stats_command(alloc)?;
     let query = query_command(alloc)?;
+    let general = general_command(alloc)?;
+    let present = present_command(alloc)?;
     Command::new(alloc, "zonetool")
-        .about("Checks, compares, sorts and counts DNS zones, and asks for their transfers")
+        .about("Checks, compares, sorts, counts and rewrites DNS zones, and asks for their transfers")
         .version("0.1.0")
         .subcommand_required(true)
         .disable_help_subcommand(true)
@@ -241,7 +262,9 @@ fn command<'a>(alloc: Global) -> Result<Command<'a>, AllocError> {
         .subcommand(diff)?
         .subcommand(sort)?
         .subcommand(stats)?
-        .subcommand(query)
+        .subcommand(query)?
+        .subcommand(general)?
+        .subcommand(present)
 }
 
 fn explain_command<'a>(alloc: Global) -> Result<Command<'a>, AllocError> {
@@ -309,6 +332,28 @@ fn query_command<'a>(alloc: Global) -> Result<Command<'a>, AllocError> {
             option(alloc, "id", "NUMBER")
                 .value_parser(value_parser!(u16))
                 .help("The query's ID, 0 where left out"),
+        )
+}
+
+fn general_command<'a>(alloc: Global) -> Result<Command<'a>, AllocError> {
+    let bare = Command::new(alloc, "general").about(
+        "Prints a zone's text with further types in the general form",
+    );
+    with_text_options(alloc, bare)?.arg(argument(alloc, "file", "FILE").help(
+        "The zone, - or left out for standard input",
+    ))
+}
+
+fn present_command<'a>(alloc: Global) -> Result<Command<'a>, AllocError> {
+    let bare = Command::new(alloc, "present").about(
+        "Prints a zone's text with further types in their own forms",
+    );
+    with_text_options(alloc, bare)?
+        .arg(argument(alloc, "file", "FILE").help("The zone, - or left out for standard input"))?
+        .arg(
+            option(alloc, "layout", "LAYOUT")
+                .value_parser(LAYOUTS)
+                .help("How the data is laid out"),
         )
 }
 

@@ -6,6 +6,7 @@ use std::alloc::AllocError;
 use std::io;
 use std::io::ErrorKind;
 use zone::ZoneError;
+use zone_forms::FormError;
 
 /// Why a task failed.
 #[derive(Debug, Drop)]
@@ -16,6 +17,8 @@ pub(crate) enum Fault<'a> {
     Write,
     /// The file is not the text of a zone.
     Zone(&'a str, ZoneError),
+    /// A row of the file is no entry.
+    Form(&'a str, FormError),
     /// Out of memory.
     OutOfMemory,
 }
@@ -27,6 +30,15 @@ impl<'a> Fault<'a> {
             Fault::OutOfMemory
         } else {
             Fault::Read(file, error)
+        }
+    }
+
+    /// Returns why the text of the file is not rewritten.
+    pub(crate) fn of_form(file: &'a str, error: FormError) -> Fault<'a> {
+        if error == FormError::OutOfMemory {
+            Fault::OutOfMemory
+        } else {
+            Fault::Form(file, error)
         }
     }
 

@@ -90,6 +90,7 @@ fn report(rt: &HostRuntime, fault: &Fault<'_>) -> u8 {
         Fault::Read(file, error) => eprintln!(rt; "zonetool: {file}: read failed: {error}"),
         Fault::Write => eprintln!(rt; "zonetool: write failed"),
         Fault::Zone(file, error) => eprintln!(rt; "zonetool: {file}: {error}"),
+        Fault::Form(file, error) => eprintln!(rt; "zonetool: {file}: {error}"),
         Fault::OutOfMemory => eprintln!(rt; "zonetool: out of memory"),
     };
     TROUBLE

@@ -11,6 +11,7 @@ use dns_text::DisplayKind;
 use std::alloc::{AllocError, Global};
 use std::io::Write;
 use zone_explain::explain::{Finding, explain, explain_all};
+use zone_forms::{FormError, general, present};
 use zone_tool::{Selection, difference, framed_query, sorted};
 
 /// What the program does.
@@ -56,6 +57,22 @@ pub(crate) enum Task<'a> {
         /// How the zone is read.
         reading: Reading,
     },
+    /// Writes the text of a file with data of further types in general form.
+    General {
+        /// The zone's file.
+        file: &'a str,
+        /// How the zone is read.
+        reading: Reading,
+    },
+    /// Writes the text of a file with data of further types in presentation form.
+    Present {
+        /// The zone's file.
+        file: &'a str,
+        /// How the zone is read.
+        reading: Reading,
+        /// How the data is laid out.
+        layout: DisplayKind,
+    },
     /// Writes the query for a zone's transfer, after its length.
     Query {
         /// The zone's name.
@@ -89,6 +106,12 @@ pub(crate) fn perform<'a>(rt: &HostRuntime, task: &Task<'a>) -> Result<bool, Fau
             layout,
         } => sort_file(rt, *file, reading, *layout),
         Task::Stats { file, reading } => count_file(rt, *file, reading),
+        Task::General { file, reading } => rewrite_file(rt, *file, reading, None),
+        Task::Present {
+            file,
+            reading,
+            layout,
+        } => rewrite_file(rt, *file, reading, Some(*layout)),
         Task::Query { apex, class, id } => {
             let query = framed_query(rt.alloc(), *id, *class, &apex.for_ref())?;
             write_all(rt, query.as_slice())?;
@@ -187,6 +210,41 @@ fn count_file<'a>(rt: &HostRuntime, file: &'a str, reading: &Reading) -> Result<
     }
     write_all(rt, table?.as_bytes())?;
     Ok(true)
+}
+
+/// Writes the text of the file with data of further types in presentation form, as the layout says, or in general form.
+fn rewrite_file<'a>(
+    rt: &HostRuntime,
+    file: &'a str,
+    reading: &Reading,
+    layout: Option<DisplayKind>,
+) -> Result<bool, Fault<'a>> {
+    let text = read_text(rt, file)?;
+    let rewritten = match &reading.origin {
+        Some(name) => rewritten(rt.alloc(), &text, Some(&name.for_ref()), reading.class, layout),
+        None => rewritten(rt.alloc(), &text, None, reading.class, layout),
+    };
+    match rewritten {
+        Ok(text) => {
+            write_all(rt, text.as_slice())?;
+            Ok(true)
+        }
+        Err(error) => Err(Fault::of_form(file, error)),
+    }
+}
+
+/// Returns the text with data of further types in presentation form, as the layout says, or in general form.
+fn rewritten(
+    alloc: Global,
+    text: &[u8],
+    origin: Option<&Name<&[u8]>>,
+    class: Class,
+    layout: Option<DisplayKind>,
+) -> Result<Vec<u8>, FormError> {
+    match layout {
+        Some(kind) => present(alloc, text, origin, class, kind),
+        None => general(alloc, text, origin, class),
+    }
 }
 
 /// Returns the first fault of the text, or all of them. Fails if out of memory.

@@ -1,0 +1,22 @@
+//! The two forms of data of further types in the text of a zone: their presentation form, and the general form of RFC 3597,
+//! which each zone reader knows.
+//!
+//! The text is rewritten row by row. What is no data of a further type stays as it is: comments, white space, directives.
+//!
+//! ```
+//! let text = general(alloc, text, origin, Class::IN)?;
+//! let zone = Zone::from_text(alloc, text, origin, Class::IN)?;
+//! ```
+#![tactic(auto)]
+
+mod error;
+mod found_row;
+mod longer_reader;
+mod presenting;
+mod rewriting;
+mod row_data;
+mod row_type;
+mod texts;
+
+pub use error::FormError;
+pub use texts::{general, present};

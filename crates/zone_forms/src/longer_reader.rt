@@ -1,0 +1,138 @@
+//! Reading rows by the table that has the further types too.
+
+use crate::found_row::FoundRow;
+use crate::rewriting::append_rewritten;
+use crate::row_data::{is_marked, scan_data};
+use crate::row_type::{RowType, row_type};
+use dns_fields_more::forms_of;
+use dns_name::{Class, Name, Rtype, ToName, UnknownRecordData};
+use dns_zonefile::{EntryError, EntryReader, RowFound, TokenSpan, read_row};
+use std::alloc::{AllocError, Global};
+use std::fmt::Write;
+
+/// How a row reads.
+#[derive(Clone, Copy, Debug)]
+pub(crate) enum RowForm {
+    /// As it stands.
+    Same,
+    /// By its general row, which is in `general`.
+    Further,
+}
+
+/// Reads the entries of rows, data of further types included, in the context that those before them leave.
+#[derive(Drop)]
+pub(crate) struct LongerReader {
+    alloc: Global,
+    entries: EntryReader,
+    /// The octets of the last record. Kept from row to row only to reuse the memory.
+    record: Vec<u8>,
+    /// The octets of the data of the last row that was read by its general row.
+    data: Vec<u8>,
+    /// That general row.
+    pub(crate) general: Vec<u8>,
+    /// Its tokens.
+    spans: Vec<TokenSpan>,
+}
+
+impl LongerReader {
+    /// Returns a reader at the start of a file of the class.
+    pub(crate) fn new(
+        alloc: Global,
+        origin: Option<&Name<&[u8]>>,
+        class: Class,
+    ) -> Result<Self, AllocError> {
+        let mut entries = EntryReader::new(alloc);
+        if let Some(origin) = origin {
+            entries.set_origin(origin.to_vec(alloc)?);
+        }
+        entries.set_default_class(class);
+        Ok(LongerReader {
+            alloc,
+            entries,
+            record: Vec::new(alloc),
+            data: Vec::new(alloc),
+            general: Vec::new(alloc),
+            spans: Vec::new(alloc),
+        })
+    }
+
+    /// Returns the origin of the names in the rows that are not yet read, if there is one.
+    pub(crate) fn origin(&self) -> Option<&Name<Vec<u8>>> {
+        self.entries.origin()
+    }
+
+    /// Reads the entry of the row. Fails with an error other than `OutOfMemory` only if the row is no entry.
+    pub(crate) fn read_entry(&mut self, row: FoundRow<'_>) -> Result<RowForm, EntryError> {
+        match row_type(row) {
+            Some(kind) if !self.stands(row, kind) => {
+                self.read_further(row, kind)?;
+                Ok(RowForm::Further)
+            }
+            _ => {
+                self.record.clear();
+                self.entries.read_entry(
+                    row.text,
+                    row.place,
+                    row.spans,
+                    row.blank_led,
+                    &mut self.record,
+                )?;
+                Ok(RowForm::Same)
+            }
+        }
+    }
+
+    /// Returns whether the row reads as it stands: the word of its type is known, and its data is in general form or of a type
+    /// that is no further one.
+    fn stands(&self, row: FoundRow<'_>, kind: RowType) -> bool {
+        kind.known && (is_marked(row, kind) || forms_of(kind.rtype).is_none())
+    }
+
+    /// Reads the entry of the row by its general row.
+    fn read_further(&mut self, row: FoundRow<'_>, kind: RowType) -> Result<(), EntryError> {
+        self.data.clear();
+        scan_data(self.alloc, row, kind, self.entries.origin(), &mut self.data)?;
+        let data = general_text(self.alloc, kind.rtype, &self.data)?;
+        let word = general_word(self.alloc, row, kind)?;
+        self.general.clear();
+        append_rewritten(row, kind.index, &word, data.as_bytes(), &mut self.general)?;
+        self.record.clear();
+        match read_row(&self.general, 0, &mut self.spans)? {
+            RowFound::Row { blank_led, .. } => {
+                self.entries.read_entry(
+                    &self.general,
+                    0,
+                    &self.spans,
+                    blank_led,
+                    &mut self.record,
+                )?;
+                Ok(())
+            }
+            _ => unreachable!(),
+        }
+    }
+}
+
+/// Returns the general form of data.
+fn general_text(alloc: Global, rtype: Rtype, octets: &[u8]) -> Result<String, EntryError> {
+    let mut text = String::new(alloc);
+    let Ok(data) = UnknownRecordData::from_octets(rtype, octets) else {
+        unreachable!();
+    };
+    match write!(text, "{data}") {
+        Ok(()) => Ok(text),
+        Err(_) => Err(EntryError::OutOfMemory),
+    }
+}
+
+/// Returns the word for the type of the general row: the row's own, or if that is not known, `TYPE` and the number.
+fn general_word(alloc: Global, row: FoundRow<'_>, kind: RowType) -> Result<Vec<u8>, EntryError> {
+    if kind.known {
+        return Ok(Vec::from_slice(alloc, row.token(kind.index))?);
+    }
+    let mut text = String::new(alloc);
+    match write!(text, "TYPE{}", kind.rtype.to_int()) {
+        Ok(()) => Ok(text.into_bytes()),
+        Err(_) => Err(EntryError::OutOfMemory),
+    }
+}

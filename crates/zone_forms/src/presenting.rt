@@ -1,0 +1,144 @@
+//! Rows with further data in presentation form.
+
+use crate::found_row::FoundRow;
+use crate::longer_reader::LongerReader;
+use crate::row_data::{is_marked, scan_data};
+use crate::row_type::{RowType, row_type};
+use crate::rewriting::append_rewritten;
+use dns_field_texts::DisplayType;
+use dns_name::Name;
+use dns_rdata_more::AnyFurtherData;
+use dns_text::{DisplayKind, ZonefileFmt};
+use dns_zonefile::{EntryError, RowFound, TokenSpan, read_row};
+use std::alloc::Global;
+use std::fmt::Write;
+
+/// Prints rows with further data in presentation form.
+#[derive(Drop)]
+pub(crate) struct Presenter {
+    alloc: Global,
+    kind: DisplayKind,
+    /// The row that was printed last.
+    pub(crate) row: Vec<u8>,
+    /// Its tokens. These and the data are kept from row to row only to reuse the memory.
+    spans: Vec<TokenSpan>,
+    data: Vec<u8>,
+    read_back: Vec<u8>,
+}
+
+impl Presenter {
+    /// Returns a presenter that lays data out as the kind says.
+    pub(crate) fn new(alloc: Global, kind: DisplayKind) -> Self {
+        Presenter {
+            alloc,
+            kind,
+            row: Vec::new(alloc),
+            spans: Vec::new(alloc),
+            data: Vec::new(alloc),
+            read_back: Vec::new(alloc),
+        }
+    }
+
+    /// Prints the row in presentation form, if its data is in general form and is data of a further type, and returns whether
+    /// it did. What is printed reads as the same data.
+    pub(crate) fn present(
+        &mut self,
+        reader: &LongerReader,
+        row: FoundRow<'_>,
+    ) -> Result<bool, EntryError> {
+        let Some(kind) = row_type(row) else {
+            return Ok(false);
+        };
+        if !is_marked(row, kind) {
+            return Ok(false);
+        }
+        self.data.clear();
+        match scan_data(self.alloc, row, kind, reader.origin(), &mut self.data) {
+            Ok(()) => {}
+            Err(EntryError::OutOfMemory) => return Err(EntryError::OutOfMemory),
+            Err(_) => return Ok(false),
+        }
+        if self.print(row, kind, self.kind)? && self.reads_back(reader.origin(), row, kind)? {
+            return Ok(true);
+        }
+        Ok(self.print(row, kind, DisplayKind::Simple)?
+            && self.reads_back(reader.origin(), row, kind)?)
+    }
+
+    /// Prints the row with its data as fields, and returns whether it is of a further type.
+    fn print(
+        &mut self,
+        row: FoundRow<'_>,
+        kind: RowType,
+        layout: DisplayKind,
+    ) -> Result<bool, EntryError> {
+        let Ok(data) = AnyFurtherData::from_octets(kind.rtype, &self.data) else {
+            return Ok(false);
+        };
+        let mut word = String::new(self.alloc);
+        let mut text = String::new(self.alloc);
+        if write!(word, "{}", DisplayType(kind.rtype)).is_err() {
+            return Err(EntryError::OutOfMemory);
+        }
+        if write!(text, "{}", data.display_zonefile(layout)).is_err() {
+            return Err(EntryError::OutOfMemory);
+        }
+        self.row.clear();
+        append_rewritten(
+            row,
+            kind.index,
+            word.as_bytes(),
+            text.as_bytes(),
+            &mut self.row,
+        )?;
+        Ok(true)
+    }
+
+    /// Returns whether what was printed reads as the row: with the same tokens before the type, the same type and the same data.
+    fn reads_back(
+        &mut self,
+        origin: Option<&Name<Vec<u8>>>,
+        row: FoundRow<'_>,
+        kind: RowType,
+    ) -> Result<bool, EntryError> {
+        let RowFound::Row { next, blank_led } = read_row(&self.row, 0, &mut self.spans)? else {
+            return Ok(false);
+        };
+        let printed = FoundRow {
+            text: &self.row,
+            place: 0,
+            next,
+            spans: &self.spans,
+            blank_led,
+        };
+        if next != self.row.len() || blank_led != row.blank_led {
+            return Ok(false);
+        }
+        match row_type(printed) {
+            Some(other)
+                if other.index == kind.index
+                    && other.rtype == kind.rtype
+                    && !is_marked(printed, other)
+                    && have_same_front(row, printed, kind.index) => {}
+            _ => return Ok(false),
+        }
+        self.read_back.clear();
+        match scan_data(self.alloc, printed, kind, origin, &mut self.read_back) {
+            Ok(()) => Ok(self.read_back == self.data),
+            Err(EntryError::OutOfMemory) => Err(EntryError::OutOfMemory),
+            Err(_) => Ok(false),
+        }
+    }
+}
+
+/// Returns whether the first tokens of both rows, so many, are the same.
+fn have_same_front(row: FoundRow<'_>, other: FoundRow<'_>, count: usize) -> bool {
+    for index in 0..count {
+        if row.spans[index].is_quoted() != other.spans[index].is_quoted()
+            || row.token(index) != other.token(index)
+        {
+            return false;
+        }
+    }
+    true
+}

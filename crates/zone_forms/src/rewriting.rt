@@ -1,0 +1,39 @@
+//! Rows with other data.
+
+use crate::found_row::FoundRow;
+use dns_zonefile::RowReader;
+use std::alloc::AllocError;
+
+/// Appends the row with another word for its type and other data. The data's text takes the place of the first token of data,
+/// and nothing that of the others. What is between the tokens stays.
+///
+/// Fails if out of memory. It may then have appended a part of the row.
+pub(crate) fn append_rewritten(
+    row: FoundRow<'_>,
+    type_index: usize,
+    word: &[u8],
+    data: &[u8],
+    out: &mut Vec<u8>,
+) -> Result<(), AllocError> {
+    let mut reader = RowReader::new(row.text, row.place);
+    let mut behind = row.place;
+    let mut index = 0;
+    while let Ok(Some(span)) = reader.next_token() {
+        let end = reader.place();
+        let start = end - span.len() - 2 * usize::from(span.is_quoted());
+        out.extend_from_slice(&row.text[behind..start])?;
+        if index < type_index {
+            out.extend_from_slice(&row.text[start..end])?;
+        } else if index == type_index {
+            out.extend_from_slice(word)?;
+        } else if index == type_index + 1 {
+            if behind == start {
+                out.push(b' ')?;
+            }
+            out.extend_from_slice(data)?;
+        }
+        behind = end;
+        index += 1;
+    }
+    out.extend_from_slice(&row.text[behind..row.next])
+}

@@ -1,0 +1,42 @@
+//! The data of the record that a row states.
+
+use crate::found_row::FoundRow;
+use crate::row_type::RowType;
+use dns_fields_more::scan_further_into;
+use dns_name::Name;
+use dns_text::{Scanner, scan_unknown_octets};
+use dns_zonefile::{EntryError, InlineName, RowScanner};
+use std::alloc::Global;
+
+/// Returns whether the data of the row is in general form.
+pub(crate) fn is_marked(row: FoundRow<'_>, kind: RowType) -> bool {
+    match row.spans.get(kind.index + 1) {
+        Some(span) => !span.is_quoted() && matches!(span.text(row.text), [b'\\', b'#']),
+        None => false,
+    }
+}
+
+/// Appends the octets of the data of the row, which is in general form or that of a further type.
+pub(crate) fn scan_data(
+    alloc: Global,
+    row: FoundRow<'_>,
+    kind: RowType,
+    origin: Option<&Name<Vec<u8>>>,
+    octets: &mut Vec<u8>,
+) -> Result<(), EntryError> {
+    let spans = &row.spans[kind.index + 1..];
+    let mut scanner: RowScanner<'_, InlineName> = RowScanner::new(
+        alloc, row.text, row.place, spans, origin,
+    );
+    if is_marked(row, kind) {
+        scanner.skip_token();
+        let data: Vec<u8> = scan_unknown_octets(&mut scanner)?;
+        octets.extend_from_slice(&data)?;
+    } else {
+        scan_further_into(kind.rtype, &mut scanner, octets)?;
+    }
+    if scanner.continues() {
+        return Err(EntryError::TrailingTokens);
+    }
+    Ok(())
+}
