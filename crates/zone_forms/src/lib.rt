@@ -16,6 +16,7 @@ mod presenting;
 mod rewriting;
 mod row_data;
 mod row_type;
+mod text_form;
 mod texts;
 
 pub use error::FormError;

@@ -1,4 +1,15 @@
 //! Reading rows by the table that has the further types too.
+ghost use Rattle.std.specs.Prelude.{◌≡◌, ◌↔◌, ◌≤◌, ℕ, List, Some, false, true, length, option_copied, string_bytes, IsTrue, IfErr, IfOk, OnErr, OnOk};
+ghost use Rattle.dns_entry_scanner.specs.EntryError.{is_memory};
+ghost use Rattle.dns_entry_scanner.specs.NameInText.{SpellsUnder};
+ghost use Rattle.dns_name.specs.UnknownText.{unknown_text};
+ghost use Rattle.dns_scan.specs.Token.{Token};
+ghost use Rattle.dns_zonefile.specs.Entry as spec;
+ghost use Rattle.dns_zonefile.specs.Entry.{at_start};
+ghost use Rattle.zone_forms.specs.LongerEntries.{IsLongerEntry};
+ghost use Rattle.zone_forms.specs.LongerRow.{HasType, Stands, known_word};
+ghost use Rattle.zone_forms.specs.Rewritten.{GoesGeneral};
+ghost use Rattle.zone_forms.specs.Seen.{HasTypeAt, context_in, octets_in, octets_of, row_in};
 
 use crate::found_row::FoundRow;
 use crate::rewriting::append_rewritten;
@@ -29,7 +40,7 @@ pub(crate) struct LongerReader {
     /// The octets of the data of the last row that was read by its general row.
     data: Vec<u8>,
     /// That general row.
-    pub(crate) general: Vec<u8>,
+    general: Vec<u8>,
     /// Its tokens.
     spans: Vec<TokenSpan>,
 }
@@ -40,7 +51,9 @@ impl LongerReader {
         alloc: Global,
         origin: Option<&Name<&[u8]>>,
         class: Class,
-    ) -> Result<Self, AllocError> {
+    ) -> Result<Self, AllocError>
+        ensures { IfOk result (λ reader. context_in reader ≡ at_start (option_copied origin.entry) (Some class)) }
+    {
         let mut entries = EntryReader::new(alloc);
         if let Some(origin) = origin {
             entries.set_origin(origin.to_vec(alloc)?);
@@ -57,12 +70,28 @@ impl LongerReader {
     }
 
     /// Returns the origin of the names in the rows that are not yet read, if there is one.
-    pub(crate) fn origin(&self) -> Option<&Name<Vec<u8>>> {
+    pub(crate) fn origin(&self) -> Option<&Name<Vec<u8>>>
+        ensures { option_copied result ≡ (context_in self.now).origin }
+    {
         self.entries.origin()
     }
 
+    /// Returns the general row of the last row that did not stand.
+    pub(crate) fn general(&self) -> &[u8]
+        ensures { result.now ≡ self.now.general.items }
+    {
+        &self.general
+    }
+
     /// Reads the entry of the row. Fails with an error other than `OutOfMemory` only if the row is no entry.
-    pub(crate) fn read_entry(&mut self, row: FoundRow<'_>) -> Result<RowForm, EntryError> {
+    pub(crate) fn read_entry(&mut self, row: FoundRow<'_>) -> Result<RowForm, EntryError>
+        ensures ok { IfOk result (λ form. (entry : spec.Entry) × IsLongerEntry (context_in self.old) (row_in row.entry) entry (context_in self.new)
+            × GoesGeneral (SpellsUnder (context_in self.old).origin) (row_in row.entry) (octets_in row.entry)
+            (octets_of form (octets_in row.entry) self.new.general.items)) }
+        ensures err { IfErr result (λ error. is_memory error ≡ false → (entry : spec.Entry) (after : spec.Context)
+            → IsLongerEntry (context_in self.old) (row_in row.entry) entry after → ⊥) }
+        ensures same { OnErr result (context_in self.new ≡ context_in self.old) }
+    {
         match row_type(row) {
             Some(kind) if !self.stands(row, kind) => {
                 self.read_further(row, kind)?;
@@ -84,12 +113,23 @@ impl LongerReader {
 
     /// Returns whether the row reads as it stands: the word of its type is known, and its data is in general form or of a type
     /// that is no further one.
-    fn stands(&self, row: FoundRow<'_>, kind: RowType) -> bool {
+    fn stands(&self, row: FoundRow<'_>, kind: RowType) -> bool
+        requires { HasTypeAt (row_in row.entry) kind }
+        ensures { IsTrue result ↔ Stands (row_in row.entry) }
+    {
         kind.known && (is_marked(row, kind) || forms_of(kind.rtype).is_none())
     }
 
     /// Reads the entry of the row by its general row.
-    fn read_further(&mut self, row: FoundRow<'_>, kind: RowType) -> Result<(), EntryError> {
+    fn read_further(&mut self, row: FoundRow<'_>, kind: RowType) -> Result<(), EntryError>
+        requires has { HasTypeAt (row_in row.entry) kind }
+        requires not { Stands (row_in row.entry) → ⊥ }
+        ensures ok { OnOk result ((entry : spec.Entry) × IsLongerEntry (context_in self.old) (row_in row.entry) entry (context_in self.new)
+            × GoesGeneral (SpellsUnder (context_in self.old).origin) (row_in row.entry) (octets_in row.entry) self.new.general.items) }
+        ensures err { IfErr result (λ error. is_memory error ≡ false → (entry : spec.Entry) (after : spec.Context)
+            → IsLongerEntry (context_in self.old) (row_in row.entry) entry after → ⊥) }
+        ensures same { OnErr result (context_in self.new ≡ context_in self.old) }
+    {
         self.data.clear();
         scan_data(self.alloc, row, kind, self.entries.origin(), &mut self.data)?;
         let data = general_text(self.alloc, kind.rtype, &self.data)?;
@@ -99,13 +139,8 @@ impl LongerReader {
         self.record.clear();
         match read_row(&self.general, 0, &mut self.spans)? {
             RowFound::Row { blank_led, .. } => {
-                self.entries.read_entry(
-                    &self.general,
-                    0,
-                    &self.spans,
-                    blank_led,
-                    &mut self.record,
-                )?;
+                self.entries
+                    .read_entry(&self.general, 0, &self.spans, blank_led, &mut self.record)?;
                 Ok(())
             }
             _ => unreachable!(),
@@ -114,7 +149,11 @@ impl LongerReader {
 }
 
 /// Returns the general form of data.
-fn general_text(alloc: Global, rtype: Rtype, octets: &[u8]) -> Result<String, EntryError> {
+fn general_text(alloc: Global, rtype: Rtype, octets: &[u8]) -> Result<String, EntryError>
+    requires { length octets.now ≤ 65535 }
+    ensures ok { IfOk result (λ text. string_bytes text ≡ unknown_text octets.now) }
+    ensures err { IfErr result (λ error. is_memory error ≡ true) }
+{
     let mut text = String::new(alloc);
     let Ok(data) = UnknownRecordData::from_octets(rtype, octets) else {
         unreachable!();
@@ -126,7 +165,12 @@ fn general_text(alloc: Global, rtype: Rtype, octets: &[u8]) -> Result<String, En
 }
 
 /// Returns the word for the type of the general row: the row's own, or if that is not known, `TYPE` and the number.
-fn general_word(alloc: Global, row: FoundRow<'_>, kind: RowType) -> Result<Vec<u8>, EntryError> {
+fn general_word(alloc: Global, row: FoundRow<'_>, kind: RowType) -> Result<Vec<u8>, EntryError>
+    requires { HasTypeAt (row_in row.entry) kind }
+    ensures ok { IfOk result (λ text. (front : List Token) (word : Token) (rtype : ℕ) (others : List Token)
+        → HasType (row_in row.entry) front word rtype others → text.items ≡ known_word word rtype) }
+    ensures err { IfErr result (λ error. is_memory error ≡ true) }
+{
     if kind.known {
         return Ok(Vec::from_slice(alloc, row.token(kind.index))?);
     }

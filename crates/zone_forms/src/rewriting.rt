@@ -1,4 +1,6 @@
 //! Rows with other data.
+ghost use Rattle.std.specs.Prelude.{◌≡◌, ◌<◌, ◌++◌, ℕ, List, length, OnOk};
+ghost use Rattle.zone_forms.specs.Seen.{RewritesAt};
 
 use crate::found_row::FoundRow;
 use dns_zonefile::RowReader;
@@ -14,7 +16,10 @@ pub(crate) fn append_rewritten(
     word: &[u8],
     data: &[u8],
     out: &mut Vec<u8>,
-) -> Result<(), AllocError> {
+) -> Result<(), AllocError>
+    requires { type_index < length row.entry.spans.now }
+    ensures { OnOk result ((new : List ℕ) × RewritesAt row.entry type_index word.now data.now new × (out.new.items ≡ out.old.items ++ new)) }
+{
     let mut reader = RowReader::new(row.text, row.place);
     let mut behind = row.place;
     let mut index = 0;
@@ -34,6 +39,10 @@ pub(crate) fn append_rewritten(
         }
         behind = end;
         index += 1;
+    }
+    if index == type_index + 1 {
+        out.push(b' ')?;
+        out.extend_from_slice(data)?;
     }
     out.extend_from_slice(&row.text[behind..row.next])
 }

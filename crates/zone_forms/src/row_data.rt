@@ -1,4 +1,9 @@
 //! The data of the record that a row states.
+ghost use Rattle.std.specs.Prelude.{◌≡◌, ◌↔◌, ◌++◌, ◌+◌, ◌<◌, ◌≤◌, ℕ, List, length, drop, false, option_copied, IsTrue, IfErr, OnOk};
+ghost use Rattle.dns_entry_scanner.specs.EntryError.{is_memory};
+ghost use Rattle.dns_entry_scanner.specs.NameInText.{SpellsUnder};
+ghost use Rattle.zone_forms.specs.LongerRow.{IsMarked, ScansLonger};
+ghost use Rattle.zone_forms.specs.Seen.{tokens_in};
 
 use crate::found_row::FoundRow;
 use crate::row_type::RowType;
@@ -9,7 +14,9 @@ use dns_zonefile::{EntryError, InlineName, RowScanner};
 use std::alloc::Global;
 
 /// Returns whether the data of the row is in general form.
-pub(crate) fn is_marked(row: FoundRow<'_>, kind: RowType) -> bool {
+pub(crate) fn is_marked(row: FoundRow<'_>, kind: RowType) -> bool
+    ensures { IsTrue result ↔ IsMarked (drop (kind.index + 1) (tokens_in row.entry)) }
+{
     match row.spans.get(kind.index + 1) {
         Some(span) => !span.is_quoted() && matches!(span.text(row.text), [b'\\', b'#']),
         None => false,
@@ -23,7 +30,14 @@ pub(crate) fn scan_data(
     kind: RowType,
     origin: Option<&Name<Vec<u8>>>,
     octets: &mut Vec<u8>,
-) -> Result<(), EntryError> {
+) -> Result<(), EntryError>
+    requires { kind.index < length row.entry.spans.now }
+    ensures ok { OnOk result ((content : List ℕ)
+        × ScansLonger (SpellsUnder (option_copied origin.entry)) kind.rtype (drop (kind.index + 1) (tokens_in row.entry)) content
+        × (length content ≤ 65535) × (octets.new.items ≡ octets.old.items ++ content)) }
+    ensures err { IfErr result (λ error. is_memory error ≡ false → (content : List ℕ)
+        → ScansLonger (SpellsUnder (option_copied origin.entry)) kind.rtype (drop (kind.index + 1) (tokens_in row.entry)) content → ⊥) }
+{
     let spans = &row.spans[kind.index + 1..];
     let mut scanner: RowScanner<'_, InlineName> = RowScanner::new(
         alloc, row.text, row.place, spans, origin,

@@ -1,0 +1,43 @@
+-- Texts with data of further types in presentation form.
+use Rattle.std.specs.Prelude.{◌≡◌, ◌⊎◌, ℕ, List}
+use Rattle.dns_scan.specs.Token.{Token}
+use Rattle.dns_text.specs.Document.{Layout, document_text}
+use Rattle.dns_text.specs.Document.Layout.{Simple}
+use Rattle.dns_text.specs.Rows.{TokenRow}
+use Rattle.dns_field_texts.specs.TypeWords.{type_word_written}
+use Rattle.dns_fields_more.specs.Forms.{IsFurtherData}
+use Rattle.dns_rdata_more.specs.Shown.{further_document}
+use Rattle.dns_zonefile.specs.Entries.{HasEntries}
+use Rattle.dns_zonefile.specs.Entry.{Context, Entry}
+use Rattle.dns_zonefile.specs.Statement.{Names}
+use Rattle.zone_forms.specs.LongerEntries.{HasLongerEntries}
+use Rattle.zone_forms.specs.LongerRow.{HasType, IsMarked, ScansLonger}
+use Rattle.zone_forms.specs.Rewritten.{AreRow, GoesGeneral, GoesTo, Rewrites}
+
+-- The octets of a row, and what is printed for it: the same; or, if its data is in general form and is data of a further type, its
+-- mnemonic and the fields, in this layout or on one line. What is printed reads as a row with the same tokens before the type, the same
+-- type, and the same octets of data.
+pub data GoesPresented (layout : Layout) (names : Names) (row : TokenRow) (octets : List ℕ) : List ℕ → Type 0 where
+  same : GoesPresented layout names row octets octets
+  presented : {front data' printed_data : List Token} {word other : Token} {rtype : ℕ} {content new : List ℕ} {shown : Layout}
+      {printed : TokenRow} → (shown ≡ layout) ⊎ (shown ≡ Simple) → HasType row front word rtype data' → IsMarked data'
+      → ScansLonger names rtype data' content → IsFurtherData rtype content
+      → Rewrites row front word data' (type_word_written rtype) (document_text shown (further_document rtype content)) octets new
+      → AreRow new printed → HasType printed front other rtype printed_data → (IsMarked printed_data → ⊥)
+      → ScansLonger names rtype printed_data content → GoesPresented layout names row octets new
+
+-- The new text is the text with further data in general form: by the longer table the text has the entries that the new text has.
+pub record IsGeneralOf (start : Context) (text new : List ℕ) : Type 0 where
+  pub entries : List Entry
+  pub after : Context
+  pub goes : GoesTo GoesGeneral start text new entries after
+  pub read : HasLongerEntries start text entries
+  pub written : HasEntries start new entries
+
+-- The new text is the text with further data in presentation form: both have the same entries by the longer table.
+pub record IsPresentedOf (layout : Layout) (start : Context) (text new : List ℕ) : Type 0 where
+  pub entries : List Entry
+  pub after : Context
+  pub goes : GoesTo (GoesPresented layout) start text new entries after
+  pub read : HasLongerEntries start text entries
+  pub written : HasLongerEntries start new entries

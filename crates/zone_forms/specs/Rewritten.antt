@@ -1,0 +1,65 @@
+-- Texts in which the data of some rows is written otherwise.
+use Rattle.std.specs.Prelude.{◌≡◌, ◌≢◌, ℕ, Bool, true, false, List, [], ◌∷◌, ◌++◌, map}
+use Rattle.std.specs.List.{flat_map}
+use Rattle.dns_scan.specs.Token.{Token, unquoted}
+use Rattle.dns_text.specs.Rows.{TokenRow, is_led}
+use Rattle.dns_text.specs.Tokens.{Row, is_end}
+use Rattle.dns_name.specs.UnknownText.{unknown_text}
+use Rattle.dns_entry_scanner.specs.NameInText.{SpellsUnder}
+use Rattle.dns_zonefile.specs.Entry.{Context, Entry, IsEntry}
+use Rattle.dns_zonefile.specs.Statement.{Names}
+use Rattle.zone_forms.specs.LongerEntries.{IsLongerEntry}
+use Rattle.zone_forms.specs.LongerRow.{HasType, IsGeneralRow, IsMarked, ScansLonger, Stands, known_word}
+use Rattle.zone_forms.specs.Parts.{AreParts, Part, part_octets, row_octets, tokens_of}
+
+-- the octets are a row, and nothing else
+pub record AreRow (octets : List ℕ) (row : TokenRow) : Type 0 where
+  pub is : Row false octets row.tokens []
+  pub led : row.blank_led ≡ is_led octets
+
+-- a space, if there is nothing between two tokens
+abbrev pub spaced : List ℕ → List ℕ
+spaced [] = 32 ∷ []
+spaced (octet ∷ gap) = octet ∷ gap
+
+-- what is between tokens
+abbrev pub gaps_of : List Part → List ℕ
+gaps_of parts = flat_map (λ part. part.gap) parts
+
+-- The octets of the data: the text in place of its first token, and nothing in place of the others. What is between the tokens
+-- stays. Data without tokens follows a space.
+abbrev pub data_octets : List Part → List ℕ → List ℕ
+data_octets [] text = 32 ∷ text
+data_octets (part ∷ others) text = spaced part.gap ++ (text ++ gaps_of others)
+
+-- The octets of a row whose tokens are the front, the word of its type, and its data; and these with another word and another text
+-- for the data.
+pub record Rewrites (row : TokenRow) (front : List Token) (word : Token) (data' : List Token) (other text octets new : List ℕ) : Type 0 where
+  pub front_parts : List Part
+  pub type_part : Part
+  pub data_parts : List Part
+  pub last : List ℕ
+  pub are : AreParts false (front_parts ++ type_part ∷ data_parts) last
+  pub front_is : tokens_of front_parts ≡ front
+  pub type_is : type_part.token ≡ word
+  pub data_is : tokens_of data_parts ≡ data'
+  pub led : row.blank_led ≡ is_led octets
+  pub written : octets ≡ row_octets (front_parts ++ type_part ∷ data_parts) last
+  pub rewritten : new ≡ flat_map part_octets front_parts ++ (type_part.gap ++ (other ++ (data_octets data_parts text ++ last)))
+
+-- the octets of a row, and those of its general row: the same, or with a known word and with the general form in place of its data
+pub data GoesGeneral (names : Names) (row : TokenRow) (octets : List ℕ) : List ℕ → Type 0 where
+  same : Stands row → GoesGeneral names row octets octets
+  further : {front data' : List Token} {word : Token} {rtype : ℕ} {content new : List ℕ} → (Stands row → ⊥)
+      → HasType row front word rtype data' → ScansLonger names rtype data' content
+      → Rewrites row front word data' (known_word word rtype) (unknown_text content) octets new → GoesGeneral names row octets new
+
+-- The text goes to the other, row by row, each as the relation says in the context of the entries before it; these are the entries of
+-- both. Rows without tokens stay, and so does the end of the text behind its last row.
+pub data GoesTo (Goes : Names → TokenRow → List ℕ → List ℕ → Type 0) : Context → List ℕ → List ℕ → List Entry → Context → Type 0 where
+  ended : {context : Context} {rest : List ℕ} → is_end rest ≡ true → GoesTo Goes context rest rest [] context
+  bare : {context after : Context} {octets text new : List ℕ} {row : TokenRow} {entries : List Entry} → AreRow octets row
+      → row.tokens ≡ [] → GoesTo Goes context text new entries after → GoesTo Goes context (octets ++ text) (octets ++ new) entries after
+  more : {context next after : Context} {octets others text new : List ℕ} {row : TokenRow} {entry : Entry} {entries : List Entry}
+      → AreRow octets row → row.tokens ≢ [] → IsLongerEntry context row entry next → Goes (SpellsUnder context.origin) row octets others
+      → GoesTo Goes next text new entries after → GoesTo Goes context (octets ++ text) (others ++ new) (entry ∷ entries) after

@@ -1,0 +1,73 @@
+-- The views of rows and readers. Only contracts inside the crate name them.
+use Rattle.std.specs.Prelude.{◌≡◌, ◌≢◌, ◌+◌, ◌<◌, ◌≤◌, ℕ, Bool, List, [], ◌∷◌, ◌++◌, length, map, take, drop, is_some, slice_index, Option}
+use Rattle.std.specs.List.{flat_map}
+use Rattle.dns_values.specs.Mnemonic.{type_read}
+use Rattle.dns_scan.specs.Token.{Token}
+use Rattle.dns_text.specs.Rows.{TokenRow}
+use Rattle.dns_entry_scanner.specs.TokenEnd.{between}
+use Rattle.dns_entry_scanner.specs.TokenSpan.{token_in}
+use Rattle.dns_entry_scanner.specs.NameInText.{SpellsUnder}
+use Rattle.dns_zonefile.specs.Entry.{Context, Entry}
+use Rattle.dns_zonefile.specs.Statement.{Names}
+use Rattle.dns_zonefile.specs.Seen.{row_of}
+use Rattle.zone_forms.specs.LongerEntries.{IsLongerEntry}
+use Rattle.zone_forms.specs.LongerRow.{HasType}
+use Rattle.zone_forms.specs.Parts.{AreParts, Part, part_octets, row_octets, tokens_of}
+use Rattle.zone_forms.specs.Rewritten.{AreRow, data_octets}
+use Rattle.zone_forms.specs.declared.found_row.FoundRow.{FoundRow}
+use Rattle.zone_forms.specs.declared.longer_reader.LongerReader.{LongerReader}
+use Rattle.zone_forms.specs.declared.longer_reader.RowForm.{RowForm}
+use Rattle.zone_forms.specs.declared.longer_reader.RowForm.TheVariants.{Same, Further}
+use Rattle.zone_forms.specs.declared.row_type.RowType.{RowType}
+
+-- the tokens of a row that was found
+abbrev pub tokens_in : FoundRow → List Token
+tokens_in row = map (λ span. token_in row.text.now span) row.spans.now
+
+abbrev pub row_in : FoundRow → TokenRow
+row_in row = row_of row.blank_led (tokens_in row)
+
+-- its octets
+abbrev pub octets_in : FoundRow → List ℕ
+octets_in row = between row.place row.next row.text.now
+
+-- the type that the row has, by the place of its word
+pub record HasTypeAt (row : TokenRow) (kind : RowType) : Type 0 where
+  pub front : List Token
+  pub word : Token
+  pub data' : List Token
+  pub has : HasType row front word kind.rtype data'
+  pub place : kind.index ≡ length front
+  pub known : kind.known ≡ is_some (type_read word.text)
+
+-- the row has no type
+abbrev pub HasNoType : TokenRow → Type 0
+HasNoType row = (front : List Token) (word : Token) (rtype : ℕ) (data' : List Token) → HasType row front word rtype data' → ⊥
+
+-- the octets of the row that was found, with the token at the place written otherwise and another text for those behind it
+pub record RewritesAt (row : FoundRow) (place : ℕ) (word text new : List ℕ) : Type 0 where
+  pub front_parts : List Part
+  pub type_part : Part
+  pub data_parts : List Part
+  pub last : List ℕ
+  pub are : AreParts false (front_parts ++ type_part ∷ data_parts) last
+  pub place_is : length front_parts ≡ place
+  pub tokens : tokens_of (front_parts ++ type_part ∷ data_parts) ≡ tokens_in row
+  pub written : octets_in row ≡ row_octets (front_parts ++ type_part ∷ data_parts) last
+  pub rewritten : new ≡ flat_map part_octets front_parts ++ (type_part.gap ++ (word ++ (data_octets data_parts text ++ last)))
+
+-- what the rows so far have set
+abbrev pub context_in : LongerReader → Context
+context_in reader = reader.entries
+
+-- the octets of the general row: the row's own, or others
+abbrev pub octets_of : RowForm → List ℕ → List ℕ → List ℕ
+octets_of Same octets others = octets
+octets_of Further octets others = others
+
+-- The row is appended to the old octets, in a form: as it is if it has no tokens, and else as its entry is read.
+pub data AppendsRow (Goes : Names → TokenRow → List ℕ → List ℕ → Type 0) (context : Context) (row : TokenRow) (octets : List ℕ) (after : Context)
+    (old new : List ℕ) : Type 0 where
+  bare : row.tokens ≡ [] → after ≡ context → new ≡ old ++ octets → AppendsRow Goes context row octets after old new
+  entry : {entry : Entry} {more : List ℕ} → row.tokens ≢ [] → IsLongerEntry context row entry after
+      → Goes (SpellsUnder context.origin) row octets more → new ≡ old ++ more → AppendsRow Goes context row octets after old new

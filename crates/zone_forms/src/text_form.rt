@@ -1,0 +1,60 @@
+//! The forms of further data in a text.
+ghost use Rattle.std.specs.Prelude.{◌≡◌, ◌≢◌, ◌++◌, [], List, ℕ, false, IfErr, OnOk, OnErr};
+ghost use Rattle.dns_entry_scanner.specs.EntryError.{is_memory};
+ghost use Rattle.dns_entry_scanner.specs.NameInText.{SpellsUnder};
+ghost use Rattle.dns_text.specs.Rows.{TokenRow};
+ghost use Rattle.dns_zonefile.specs.Entry as spec;
+ghost use Rattle.dns_zonefile.specs.Statement.{Names};
+ghost use Rattle.zone_forms.specs.LongerEntries.{IsLongerEntry};
+ghost use Rattle.zone_forms.specs.Rewritten.{GoesGeneral};
+ghost use Rattle.zone_forms.specs.Seen.{context_in, octets_in, row_in, tokens_in};
+
+use crate::found_row::FoundRow;
+use crate::longer_reader::{LongerReader, RowForm};
+use dns_zonefile::EntryError;
+
+/// A form of further data in a text.
+///
+/// `goes` relates the octets of a row to those in the form, where texts spell names.
+pub(crate) trait TextForm {
+    ghost goes: { Self → Names → TokenRow → List ℕ → List ℕ → Type 0 };
+
+    /// Reads the entry of the row, and appends the row in the form.
+    ///
+    /// Fails with an error other than `OutOfMemory` only if the row is no entry.
+    fn append_row(
+        &mut self,
+        reader: &mut LongerReader,
+        row: FoundRow<'_>,
+        out: &mut Vec<u8>,
+    ) -> Result<(), EntryError>
+        requires { tokens_in row.entry ≢ [] }
+        ensures ok { OnOk result ((entry : spec.Entry) × (new : List ℕ)
+            × IsLongerEntry (context_in reader.old) (row_in row.entry) entry (context_in reader.new)
+            × goes self.old (SpellsUnder (context_in reader.old).origin) (row_in row.entry) (octets_in row.entry) new
+            × (out.new.items ≡ out.old.items ++ new)) }
+        ensures err { IfErr result (λ error. is_memory error ≡ false → (entry : spec.Entry) (after : spec.Context)
+            → IsLongerEntry (context_in reader.old) (row_in row.entry) entry after → ⊥) }
+        ensures kept { goes self.new ≡ goes self.old };
+}
+
+/// The general form (RFC 3597 5).
+#[derive(Drop)]
+pub(crate) struct GeneralForm;
+
+impl TextForm for GeneralForm {
+    ghost goes = { λ _. GoesGeneral };
+
+    fn append_row(
+        &mut self,
+        reader: &mut LongerReader,
+        row: FoundRow<'_>,
+        out: &mut Vec<u8>,
+    ) -> Result<(), EntryError> {
+        let octets = match reader.read_entry(row)? {
+            RowForm::Same => row.octets(),
+            RowForm::Further => reader.general(),
+        };
+        Ok(out.extend_from_slice(octets)?)
+    }
+}
