@@ -2,7 +2,7 @@
 use Rattle.std.specs.Prelude.{◌≡◌, ◌<◌, ◌==◌, ◌||◌, ℕ, Bool, true, false, List, [], ◌∷◌, ◌++◌, length, map, if◌then◌else◌}
 use Rattle.std.specs.List.{flat_map}
 use Rattle.dns_scan.specs.Token.{Token}
-use Rattle.dns_text.specs.Documents.{AreSymbols}
+use Rattle.dns_text.specs.DocumentRows.{AreSymbols}
 use Rattle.dns_text.specs.Tokens.{Head, head_of, has_feed, is_gap}
 use Rattle.dns_text.specs.Tokens.Head.{Go}
 
@@ -12,7 +12,7 @@ pub data IsGap : Bool → List ℕ → Bool → Type 0 where
   none : {inside : Bool} → IsGap inside [] inside
   goes : {inside behind out : Bool} {octet : ℕ} {gap : List ℕ} → head_of inside octet ≡ Go behind → IsGap behind gap out
       → IsGap inside (octet ∷ gap) out
-  comment : {out : Bool} {text gap : List ℕ} → has_feed text ≡ false → IsGap true (10 ∷ gap) out
+  comment : {out : Bool} {gap : List ℕ} (text : List ℕ) → has_feed text ≡ false → IsGap true (10 ∷ gap) out
       → IsGap true (59 ∷ (text ++ 10 ∷ gap)) out
 
 -- nothing, or a comment

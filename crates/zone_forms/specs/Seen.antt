@@ -1,9 +1,10 @@
 -- The views of rows and readers. Only contracts inside the crate name them.
-use Rattle.std.specs.Prelude.{◌≡◌, ◌≢◌, ◌+◌, ◌<◌, ◌≤◌, ℕ, Bool, List, [], ◌∷◌, ◌++◌, length, map, take, drop, is_some, slice_index, Option}
+use Rattle.std.specs.Prelude.{false, ◌≡◌, ◌≢◌, ◌+◌, ◌<◌, ◌≤◌, ℕ, Bool, List, [], ◌∷◌, ◌++◌, length, map, take, drop, is_some, slice_index, Option}
 use Rattle.std.specs.List.{flat_map}
 use Rattle.dns_values.specs.Mnemonic.{type_read}
 use Rattle.dns_scan.specs.Token.{Token}
 use Rattle.dns_text.specs.Rows.{TokenRow}
+use Rattle.dns_entry_scanner.specs.RowFound.{IsRowAt}
 use Rattle.dns_entry_scanner.specs.TokenEnd.{between}
 use Rattle.dns_entry_scanner.specs.TokenSpan.{token_in}
 use Rattle.dns_entry_scanner.specs.NameInText.{SpellsUnder}
@@ -26,6 +27,10 @@ tokens_in row = map (λ span. token_in row.text.now span) row.spans.now
 
 abbrev pub row_in : FoundRow → TokenRow
 row_in row = row_of row.blank_led (tokens_in row)
+
+-- it is what is at its place
+abbrev pub IsFound : FoundRow → Type 0
+IsFound row = IsRowAt row.text.now row.place row.spans.now row.next row.blank_led
 
 -- its octets
 abbrev pub octets_in : FoundRow → List ℕ

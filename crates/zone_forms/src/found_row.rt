@@ -1,7 +1,6 @@
 //! Rows that were found in a text.
-ghost use Rattle.std.specs.Prelude.{◌≡◌, ◌<◌, ℕ, length, slice_index};
-ghost use Rattle.dns_entry_scanner.specs.RowFound.{IsRowAt};
-ghost use Rattle.dns_entry_scanner.specs.TokenSpan.{token_in};
+ghost use Rattle.std.specs.Prelude.{◌≡◌, ◌<◌, length, slice_get, Some};
+ghost use Rattle.dns_scan.specs.Token.{Token};
 
 use dns_zonefile::TokenSpan;
 
@@ -16,14 +15,14 @@ pub(crate) struct FoundRow<'t> {
     pub(crate) spans: &'t [TokenSpan],
     /// Whether it begins with white space.
     pub(crate) blank_led: bool,
-    ghost is_row: { IsRowAt text.now place spans.now next blank_led },
 }
 
 impl<'t> FoundRow<'t> {
-    ghost use Rattle.zone_forms.specs.Seen.{octets_in};
+    ghost use Rattle.zone_forms.specs.Seen.{IsFound, octets_in, tokens_in};
 
     /// Returns the octets of the row, with its line feed.
     pub(crate) fn octets(self) -> &'t [u8]
+        requires { IsFound self }
         ensures { result.now ≡ octets_in self.entry }
     {
         &self.text[self.place..self.next]
@@ -31,8 +30,8 @@ impl<'t> FoundRow<'t> {
 
     /// Returns the text of the token at the index.
     pub(crate) fn token(self, index: usize) -> &'t [u8]
-        requires { index < length self.entry.spans.now }
-        ensures { result.now ≡ (token_in self.entry.text.now (slice_index self.entry.spans.now index)).text }
+        requires { index < length self.spans.now }
+        ensures { (token : Token) → slice_get (tokens_in self.entry) index ≡ Some token → result.now ≡ token.text }
     {
         self.spans[index].text(self.text)
     }

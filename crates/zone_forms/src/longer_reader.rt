@@ -9,7 +9,7 @@ ghost use Rattle.dns_zonefile.specs.Entry.{at_start};
 ghost use Rattle.zone_forms.specs.LongerEntries.{IsLongerEntry};
 ghost use Rattle.zone_forms.specs.LongerRow.{HasType, Stands, known_word};
 ghost use Rattle.zone_forms.specs.Rewritten.{GoesGeneral};
-ghost use Rattle.zone_forms.specs.Seen.{HasTypeAt, context_in, octets_in, octets_of, row_in};
+ghost use Rattle.zone_forms.specs.Seen.{HasTypeAt, IsFound, context_in, octets_in, octets_of, row_in};
 
 use crate::found_row::FoundRow;
 use crate::rewriting::append_rewritten;
@@ -85,6 +85,7 @@ impl LongerReader {
 
     /// Reads the entry of the row. Fails with an error other than `OutOfMemory` only if the row is no entry.
     pub(crate) fn read_entry(&mut self, row: FoundRow<'_>) -> Result<RowForm, EntryError>
+        requires { IsFound row }
         ensures ok { IfOk result (λ form. (entry : spec.Entry) × IsLongerEntry (context_in self.old) (row_in row.entry) entry (context_in self.new)
             × GoesGeneral (SpellsUnder (context_in self.old).origin) (row_in row.entry) (octets_in row.entry)
             (octets_of form (octets_in row.entry) self.new.general.items)) }
@@ -114,7 +115,7 @@ impl LongerReader {
     /// Returns whether the row reads as it stands: the word of its type is known, and its data is in general form or of a type
     /// that is no further one.
     fn stands(&self, row: FoundRow<'_>, kind: RowType) -> bool
-        requires { HasTypeAt (row_in row.entry) kind }
+        requires { HasTypeAt (row_in row) kind }
         ensures { IsTrue result ↔ Stands (row_in row.entry) }
     {
         kind.known && (is_marked(row, kind) || forms_of(kind.rtype).is_none())
@@ -122,8 +123,9 @@ impl LongerReader {
 
     /// Reads the entry of the row by its general row.
     fn read_further(&mut self, row: FoundRow<'_>, kind: RowType) -> Result<(), EntryError>
-        requires has { HasTypeAt (row_in row.entry) kind }
-        requires not { Stands (row_in row.entry) → ⊥ }
+        requires found { IsFound row }
+        requires has { HasTypeAt (row_in row) kind }
+        requires not { Stands (row_in row) → ⊥ }
         ensures ok { OnOk result ((entry : spec.Entry) × IsLongerEntry (context_in self.old) (row_in row.entry) entry (context_in self.new)
             × GoesGeneral (SpellsUnder (context_in self.old).origin) (row_in row.entry) (octets_in row.entry) self.new.general.items) }
         ensures err { IfErr result (λ error. is_memory error ≡ false → (entry : spec.Entry) (after : spec.Context)
@@ -166,7 +168,7 @@ fn general_text(alloc: Global, rtype: Rtype, octets: &[u8]) -> Result<String, En
 
 /// Returns the word for the type of the general row: the row's own, or if that is not known, `TYPE` and the number.
 fn general_word(alloc: Global, row: FoundRow<'_>, kind: RowType) -> Result<Vec<u8>, EntryError>
-    requires { HasTypeAt (row_in row.entry) kind }
+    requires { HasTypeAt (row_in row) kind }
     ensures ok { IfOk result (λ text. (front : List Token) (word : Token) (rtype : ℕ) (others : List Token)
         → HasType (row_in row.entry) front word rtype others → text.items ≡ known_word word rtype) }
     ensures err { IfErr result (λ error. is_memory error ≡ true) }

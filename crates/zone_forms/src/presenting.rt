@@ -5,7 +5,7 @@ ghost use Rattle.dns_entry_scanner.specs.NameInText.{SpellsUnder};
 ghost use Rattle.dns_text.specs.Layout.{layout_of};
 ghost use Rattle.zone_forms.specs.Presented.{GoesPresented};
 ghost use Rattle.zone_forms.specs.Presenting.{PrintsRow, ReadsBack};
-ghost use Rattle.zone_forms.specs.Seen.{HasTypeAt, context_in, octets_in, row_in, tokens_in};
+ghost use Rattle.zone_forms.specs.Seen.{HasTypeAt, IsFound, octets_in, row_in, tokens_in};
 
 use crate::found_row::FoundRow;
 use crate::longer_reader::LongerReader;
@@ -58,6 +58,7 @@ impl Presenter {
         origin: Option<&Name<Vec<u8>>>,
         row: FoundRow<'_>,
     ) -> Result<bool, EntryError>
+        requires { IsFound row }
         ensures ok { IfOk result (λ printed. IsTrue printed → GoesPresented (layout_of self.old.kind) (SpellsUnder (option_copied origin.entry))
             (row_in row.entry) (octets_in row.entry) self.new.row.items) }
         ensures err { IfErr result (λ error. is_memory error ≡ true) }
@@ -88,7 +89,8 @@ impl Presenter {
         kind: RowType,
         layout: DisplayKind,
     ) -> Result<bool, EntryError>
-        requires { HasTypeAt (row_in row.entry) kind }
+        requires found { IsFound row }
+        requires has { HasTypeAt (row_in row) kind }
         ensures ok { IfOk result (λ printed. IsTrue printed → PrintsRow row.entry kind (layout_of layout) self.old.data.items self.new.row.items) }
         ensures err { IfErr result (λ error. is_memory error ≡ true) }
         ensures kept { (self.new.data ≡ self.old.data) × (self.new.kind ≡ self.old.kind) }
@@ -122,7 +124,7 @@ impl Presenter {
         row: FoundRow<'_>,
         kind: RowType,
     ) -> Result<bool, EntryError>
-        requires { HasTypeAt (row_in row.entry) kind }
+        requires { HasTypeAt (row_in row) kind }
         ensures ok { IfOk result (λ alike. IsTrue alike
             → ReadsBack (SpellsUnder (option_copied origin.entry)) (row_in row.entry) kind self.old.data.items self.new.row.items) }
         ensures err { IfErr result (λ error. is_memory error ≡ true) }
@@ -176,8 +178,8 @@ impl TextForm for Presenter {
 
 /// Returns whether the first tokens of both rows, so many, are the same.
 fn have_same_front(row: FoundRow<'_>, other: FoundRow<'_>, count: usize) -> bool
-    requires these { count < length row.entry.spans.now }
-    requires those { count < length other.entry.spans.now }
+    requires these { count < length row.spans.now }
+    requires those { count < length other.spans.now }
     ensures { IsTrue result → take count (tokens_in row.entry) ≡ take count (tokens_in other.entry) }
 {
     for index in 0..count {

@@ -1,6 +1,6 @@
 //! Rows with other data.
 ghost use Rattle.std.specs.Prelude.{◌≡◌, ◌<◌, ◌++◌, ℕ, List, length, OnOk};
-ghost use Rattle.zone_forms.specs.Seen.{RewritesAt};
+ghost use Rattle.zone_forms.specs.Seen.{IsFound, RewritesAt};
 
 use crate::found_row::FoundRow;
 use dns_zonefile::RowReader;
@@ -17,7 +17,8 @@ pub(crate) fn append_rewritten(
     data: &[u8],
     out: &mut Vec<u8>,
 ) -> Result<(), AllocError>
-    requires { type_index < length row.entry.spans.now }
+    requires found { IsFound row }
+    requires within { type_index < length row.spans.now }
     ensures { OnOk result ((new : List ℕ) × RewritesAt row.entry type_index word.now data.now new × (out.new.items ≡ out.old.items ++ new)) }
 {
     let mut reader = RowReader::new(row.text, row.place);

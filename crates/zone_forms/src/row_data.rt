@@ -2,6 +2,8 @@
 ghost use Rattle.std.specs.Prelude.{◌≡◌, ◌↔◌, ◌++◌, ◌+◌, ◌<◌, ◌≤◌, ℕ, List, length, drop, false, option_copied, IsTrue, IfErr, OnOk};
 ghost use Rattle.dns_entry_scanner.specs.EntryError.{is_memory};
 ghost use Rattle.dns_entry_scanner.specs.NameInText.{SpellsUnder};
+ghost use Rattle.dns_entry_scanner.specs.TokenSpan.{token_in};
+ghost use Rattle.dns_scan.specs.Token.{marker};
 ghost use Rattle.zone_forms.specs.LongerRow.{IsMarked, ScansLonger};
 ghost use Rattle.zone_forms.specs.Seen.{tokens_in};
 
@@ -10,28 +12,38 @@ use crate::row_type::RowType;
 use dns_fields_more::scan_further_into;
 use dns_name::Name;
 use dns_text::{Scanner, scan_unknown_octets};
-use dns_zonefile::{EntryError, InlineName, RowScanner};
+use dns_zonefile::{EntryError, InlineName, RowScanner, TokenSpan};
 use std::alloc::Global;
 
 /// Returns whether the data of the row is in general form.
 pub(crate) fn is_marked(row: FoundRow<'_>, kind: RowType) -> bool
+    requires { kind.index < length row.spans.now }
     ensures { IsTrue result ↔ IsMarked (drop (kind.index + 1) (tokens_in row.entry)) }
 {
-    match row.spans.get(kind.index + 1) {
-        Some(span) => !span.is_quoted() && matches!(span.text(row.text), [b'\\', b'#']),
+    match row.spans[kind.index + 1..].split_first() {
+        Some((first, _)) => is_marker(row.text, first),
         None => false,
     }
 }
 
+/// Returns whether the token is the marker of the general form.
+fn is_marker(text: &[u8], span: &TokenSpan) -> bool
+    ensures { IsTrue result ↔ (token_in text.now span.now ≡ marker) }
+{
+    !span.is_quoted() && *span.text(text) == [b'\\', b'#']
+}
+
 /// Appends the octets of the data of the row, which is in general form or that of a further type.
-pub(crate) fn scan_data(
+///
+/// Fails with an error other than `OutOfMemory` only if it is neither. It may then have appended some octets.
+pub(crate) fn scan_data<'a>(
     alloc: Global,
-    row: FoundRow<'_>,
+    row: FoundRow<'a>,
     kind: RowType,
-    origin: Option<&Name<Vec<u8>>>,
+    origin: Option<&'a Name<Vec<u8>>>,
     octets: &mut Vec<u8>,
 ) -> Result<(), EntryError>
-    requires { kind.index < length row.entry.spans.now }
+    requires { kind.index < length row.spans.now }
     ensures ok { OnOk result ((content : List ℕ)
         × ScansLonger (SpellsUnder (option_copied origin.entry)) kind.rtype (drop (kind.index + 1) (tokens_in row.entry)) content
         × (length content ≤ 65535) × (octets.new.items ≡ octets.old.items ++ content)) }
@@ -42,13 +54,12 @@ pub(crate) fn scan_data(
     let mut scanner: RowScanner<'_, InlineName> = RowScanner::new(
         alloc, row.text, row.place, spans, origin,
     );
-    if is_marked(row, kind) {
-        scanner.skip_token();
+    if scanner.scan_opt_unknown_marker()? {
         let data: Vec<u8> = scan_unknown_octets(&mut scanner)?;
         octets.extend_from_slice(&data)?;
-    } else {
-        scan_further_into(kind.rtype, &mut scanner, octets)?;
+        return Ok(());
     }
+    scan_further_into(kind.rtype, &mut scanner, octets)?;
     if scanner.continues() {
         return Err(EntryError::TrailingTokens);
     }

@@ -7,7 +7,7 @@ ghost use Rattle.dns_zonefile.specs.Entry as spec;
 ghost use Rattle.dns_zonefile.specs.Statement.{Names};
 ghost use Rattle.zone_forms.specs.LongerEntries.{IsLongerEntry};
 ghost use Rattle.zone_forms.specs.Rewritten.{GoesGeneral};
-ghost use Rattle.zone_forms.specs.Seen.{context_in, octets_in, row_in, tokens_in};
+ghost use Rattle.zone_forms.specs.Seen.{IsFound, context_in, octets_in, row_in, tokens_in};
 
 use crate::found_row::FoundRow;
 use crate::longer_reader::{LongerReader, RowForm};
@@ -28,7 +28,8 @@ pub(crate) trait TextForm {
         row: FoundRow<'_>,
         out: &mut Vec<u8>,
     ) -> Result<(), EntryError>
-        requires { tokens_in row.entry ≢ [] }
+        requires found { IsFound row }
+        requires some { tokens_in row ≢ [] }
         ensures ok { OnOk result ((entry : spec.Entry) × (new : List ℕ)
             × IsLongerEntry (context_in reader.old) (row_in row.entry) entry (context_in reader.new)
             × goes self.old (SpellsUnder (context_in reader.old).origin) (row_in row.entry) (octets_in row.entry) new

@@ -9,7 +9,7 @@ ghost use Rattle.zone_forms.specs.Presented.{IsGeneralOf, IsPresentedOf};
 ghost use Rattle.zone_forms.specs.Refused.{FailsInLine};
 ghost use Rattle.zone_forms.specs.Rewritten.{GoesTo};
 ghost use Rattle.zone_forms.specs.LongerEntries.{IsLongerEntry};
-ghost use Rattle.zone_forms.specs.Seen.{AppendsRow, context_in, octets_in, row_in, tokens_in};
+ghost use Rattle.zone_forms.specs.Seen.{AppendsRow, IsFound, context_in, octets_in, row_in, tokens_in};
 ghost use Rattle.zone_forms.specs.declared.error.FormError.TheVariants.{Line, OutOfMemory};
 
 use crate::FormError;
@@ -114,6 +114,7 @@ fn append_row<F: TextForm>(
     row: FoundRow<'_>,
     out: &mut Vec<u8>,
 ) -> Result<(), EntryError>
+    requires { IsFound row }
     ensures ok { OnOk result (AppendsRow (F.goes form.old) (context_in reader.old) (row_in row.entry) (octets_in row.entry) (context_in reader.new)
         out.old.items out.new.items) }
     ensures err { IfErr result (λ error. is_memory error ≡ false → (tokens_in row.entry ≢ []) × ((entry : spec.Entry) (after : spec.Context)
