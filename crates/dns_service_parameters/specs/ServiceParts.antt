@@ -1,9 +1,12 @@
 -- Service parameters while they are read one by one. Only contracts inside the crate name it.
 use Rattle.std.specs.Prelude.{◌≡◌, ◌+◌, ◌<◌, ◌≤◌, ◌^◌, ◌↔◌, ℕ, zero, suc, Bool, List, [], ◌∷◌, ◌++◌, length, take, drop, IsTrue, ⊤}
-use Rattle.std.specs.Int.{to_be_bytes, w16}
+use Rattle.std.specs.Int.{from_be_bytes, to_be_bytes, w16}
+use Rattle.std.specs.Net.Addr.{segments_of}
 use Rattle.std.specs.List.{AllByRecursion}
+use Rattle.dns_fields.specs.Strings.{strings_of}
 use Rattle.dns_service_parameters.specs.declared.form.Form.{Form}
-use Rattle.dns_service_parameters.specs.Service.{IsAmong, IsParameter, IsValue, Parameter, Value, form_of, keys_of, listed_in, octets_of, value_octets}
+use Rattle.dns_service_parameters.specs.declared.form.Form.TheVariants.{Keys, Strings, Nothing, Number, Ipv4s, Ipv6s, Encoded, Plain}
+use Rattle.dns_service_parameters.specs.Service.{IsAmong, IsParameter, IsValue, Parameter, Value, encoded, form_at, form_of, ipv4s, ipv6s, keys, keys_of, listed_in, nothing, number, octets_of, plain, strings, value_octets}
 
 -- the octets begin with a key and a value, and then the rest
 pub record StartsWithPart (octets : List ℕ) (key : ℕ) (value rest : List ℕ) : Type 0 where
@@ -51,3 +54,18 @@ first_pieces size (suc count) (octet ∷ octets) = take size (octet ∷ octets) 
 
 abbrev pub pieces : ℕ → List ℕ → List (List ℕ)
 pieces size octets = first_pieces size (length octets) octets
+
+-- the value of the form that these octets are
+abbrev pub read_value : Form → List ℕ → Value
+read_value Keys octets = keys (segments_of octets)
+read_value Strings octets = strings (strings_of octets)
+read_value Nothing octets = nothing
+read_value Number octets = number (from_be_bytes w16 octets)
+read_value Ipv4s octets = ipv4s (pieces 4 octets)
+read_value Ipv6s octets = ipv6s (pieces 16 octets)
+read_value Encoded octets = encoded octets
+read_value Plain octets = plain octets
+
+-- the parameter of this key that has these octets as its value
+abbrev pub read_parameter : ℕ → List ℕ → Parameter
+read_parameter key octets = record { key = key; value = read_value (form_at key) octets }
