@@ -8,3 +8,4 @@ mod ServiceLists
 mod ServiceAddresses
 mod ServiceShown
 mod ServicePrinted
+mod ServiceEncoded

@@ -1,5 +1,6 @@
 //! The values of named keys in text (RFC 9460 7, 8 and A.1).
 ghost use Rattle.std.specs.Prelude.{◌≡◌, ◌++◌, false, IfErr, OnOk, List, ℕ, Option, IfOk, option_map};
+ghost use Rattle.dns_scan.specs.ScanError.{is_want_of_room};
 ghost use Rattle.dns_service_parameters.specs.declared.form.Form.TheVariants.{Encoded, Ipv4s, Ipv6s, Keys, Strings};
 ghost use Rattle.dns_service_parameters.specs.ServiceRead.{AppendsString, AppendsValue, SpellsNoValue, StartsWithString};
 
@@ -7,7 +8,7 @@ use crate::form::Form;
 use crate::keys::{read_key, read_number};
 use dns_field_texts::append_octets;
 use dns_field_texts::split_first;
-use dns_text::{ScannerError, base64};
+use dns_text::{DecodeError, ScannerError, base64};
 use std::net::{Ipv4Addr, Ipv6Addr};
 
 /// Appends the value of the form that a text writes.
@@ -156,7 +157,7 @@ fn append_encoded<Error: ScannerError>(text: &[u8], value: &mut Vec<u8>) -> Resu
     ensures ok { OnOk result (AppendsValue Encoded text.now value.old.items value.new.items) }
     ensures err { IfErr result (λ error. Error.is_short error ≡ false → SpellsNoValue Encoded text.now) }
 {
-    if text.is_empty() || !text.is_ascii() {
+    if !text.is_ascii() {
         return Err(Error::custom("bad base 64"));
     }
     let Ok(text) = str::from_utf8(text) else {
@@ -164,8 +165,22 @@ fn append_encoded<Error: ScannerError>(text: &[u8], value: &mut Vec<u8>) -> Resu
     };
     let octets: Vec<u8> = match base64::decode(*value.allocator(), text) {
         Ok(octets) => octets,
-        Err(dns_text::DecodeError::ShortBuf) => return Err(Error::short_buf()),
-        Err(_) => return Err(Error::custom("bad base 64")),
+        Err(error) => return Err(encoding_error(error)),
     };
+    if octets.is_empty() {
+        return Err(Error::custom("a value without octets"));
+    }
     append_octets(&octets, value)
+}
+
+/// Returns the error for one of decoding.
+fn encoding_error<Error: ScannerError>(error: DecodeError) -> Error
+    ensures { Error.is_short result ≡ is_want_of_room error }
+{
+    match error {
+        DecodeError::ShortBuf => Error::short_buf(),
+        DecodeError::IllegalChar(_) => Error::custom("bad base 64"),
+        DecodeError::TrailingInput => Error::custom("bad base 64"),
+        DecodeError::ShortInput => Error::custom("bad base 64"),
+    }
 }
