@@ -9,3 +9,5 @@ mod ServiceAddresses
 mod ServiceShown
 mod ServicePrinted
 mod ServiceEncoded
+mod ServiceItems
+mod ServiceOrder
