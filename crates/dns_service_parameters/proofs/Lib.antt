@@ -11,3 +11,5 @@ mod ServicePrinted
 mod ServiceEncoded
 mod ServiceItems
 mod ServiceOrder
+mod ServiceNames
+mod ServiceMade
