@@ -13,3 +13,4 @@ mod ServiceItems
 mod ServiceOrder
 mod ServiceNames
 mod ServiceMade
+mod ServiceOne
