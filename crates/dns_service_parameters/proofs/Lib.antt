@@ -14,3 +14,4 @@ mod ServiceOrder
 mod ServiceNames
 mod ServiceMade
 mod ServiceOne
+mod ServiceListed

@@ -1,11 +1,11 @@
 -- Lists of numbers in order, with the same elements.
 use Rattle.std.proofs.Common.{◌≡◌, ◌≢◌, ◌+◌, ◌<◌, ◌≤◌, ◌==◌, cond, ℕ, zero, suc, Bool, true, false, List, [], ◌∷◌, length, get_or, map, refl, sym, ap, subst, arith, ◌⊎◌, inl, inr}
 use Rattle.std.proofs.lemmas.Bool.Decides.{nat_tests}
-use Rattle.std.proofs.lemmas.List.Sorted.{Contains-permutation, IsPermutation-map, IsPermutation-sym, IsPermutation-trans, sum_by-IsPermutation}
+use Rattle.std.proofs.lemmas.List.Sorted.{All-permutation, Contains-permutation, IsPermutation-map, IsPermutation-sym, IsPermutation-trans, sum_by-IsPermutation}
 use Rattle.std.proofs.lemmas.List.Sums.{sum_by-cons}
 use Rattle.std.proofs.lemmas.Bool.{cases_lt}
 use Rattle.std.specs.Prelude.{⊤, sum_by}
-use Rattle.std.specs.List.{AllByRecursion, Contains}
+use Rattle.std.specs.List.{All, AllByRecursion, Contains}
 use Rattle.std.specs.List.Sorted.{IsNonDecreasingBy, IsPermutation}
 use Rattle.dns_service_parameters.specs.Service.{Ascend, Parameter, keys_of}
 
@@ -94,6 +94,19 @@ one_order xs ys moved up also = same_rises xs ys up also (λ n. sym (sum_by-IsPe
 -- two orders of one list
 pub same_order : (listed xs ys : List ℕ) → IsPermutation listed xs → IsPermutation listed ys → Rises xs → Rises ys → xs ≡ ys
 same_order listed xs ys moved also = one_order xs ys (IsPermutation-trans xs listed ys (IsPermutation-sym listed xs moved) also)
+
+-- what holds of each element holds of each in another order
+each_all : {X : Type 0} (P : X → Type 0) (xs : List X) → AllByRecursion P xs → All P xs
+each_all P [] each k d within = absurd (omega arith)
+each_all P (x ∷ xs) each zero d within = each.0
+each_all P (x ∷ xs) each (suc k) d within = each_all P xs each.1 k d (omega arith)
+
+all_each : {X : Type 0} (P : X → Type 0) (xs : List X) → All P xs → AllByRecursion P xs
+all_each P [] all = tt
+all_each P (x ∷ xs) all = (all 0 x (omega arith), all_each P xs (λ k d within. all (suc k) d (omega arith)))
+
+pub each_permutation : {X : Type 0} (P : X → Type 0) (xs ys : List X) → IsPermutation xs ys → AllByRecursion P xs → AllByRecursion P ys
+each_permutation P xs ys moved each = all_each P ys (All-permutation P xs ys moved (each_all P xs each))
 
 -- parameters in order
 abbrev In : Parameter → List Parameter → Type 0

@@ -1,5 +1,5 @@
 -- Parts of the text of service parameters. Only contracts inside the crate name it.
-use Rattle.std.specs.Prelude.{◌≡◌, ◌<◌, ◌≤◌, ◌^◌, ℕ, true, false, List, [], ◌∷◌, ◌++◌, length, map, Option, None, Some, IsTrue}
+use Rattle.std.specs.Prelude.{◌≡◌, ◌≢◌, ◌<◌, ◌≤◌, ◌^◌, ℕ, true, false, List, [], ◌∷◌, ◌++◌, length, map, Option, None, Some, IsTrue}
 use Rattle.std.specs.Int.{to_be_bytes, w16}
 use Rattle.std.specs.List.{AllByRecursion, flat_map}
 use Rattle.dns_scan.specs.CharStr.{string_wire}
@@ -8,7 +8,7 @@ use Rattle.dns_service_parameters.specs.declared.form.Form.{Form}
 use Rattle.dns_service_parameters.specs.declared.keys.KeyWord.{KeyWord}
 use Rattle.dns_service_parameters.specs.declared.scan.Written.{Written}
 use Rattle.dns_service_parameters.specs.Service.{IsParameter, IsValue, Parameter, Value, form_of, name_of, value_octets}
-use Rattle.dns_service_parameters.specs.ServiceText.{ScansParameter, SpellsValue, item_octet, number_word}
+use Rattle.dns_service_parameters.specs.ServiceText.{ScansParameter, SpellsEach, SpellsKey, SpellsValue, item_octet, number_word}
 
 -- the word is the name or the number of the key
 pub record IsKeyWord (word : List ℕ) (key : KeyWord) : Type 0 where
@@ -26,6 +26,11 @@ pub record AppendsValue (form : Form) (text old new : List ℕ) : Type 0 where
 -- the text is that of no value of the form
 abbrev pub SpellsNoValue : Form → List ℕ → Type 0
 SpellsNoValue form text = (value : Value) → form_of value ≡ form → IsValue value → SpellsValue text value → ⊥
+
+-- the text is a list of one key or more
+pub record SpellsKeys (text each : List ℕ) : Type 0 where
+  pub spells : SpellsEach SpellsKey text each
+  pub some : each ≢ []
 
 -- a comma and the other items of a list, if there are any
 abbrev pub other_items : Option (List ℕ) → List ℕ

@@ -1,14 +1,18 @@
 //! The values of named keys in text (RFC 9460 7, 8 and A.1).
 ghost use Rattle.std.specs.Prelude.{◌≡◌, ◌++◌, false, IfErr, OnOk, List, ℕ, Option, IfOk, option_map};
+ghost use Rattle.std.specs.Int.{to_be_bytes, w16};
+ghost use Rattle.std.specs.List.{flat_map};
 ghost use Rattle.dns_scan.specs.ScanError.{is_want_of_room};
 ghost use Rattle.dns_service_parameters.specs.declared.form.Form.TheVariants.{Encoded, Ipv4s, Ipv6s, Keys, Strings};
-ghost use Rattle.dns_service_parameters.specs.ServiceRead.{AppendsString, AppendsValue, SpellsNoValue, StartsWithString};
+ghost use Rattle.dns_service_parameters.specs.ServiceParts.{AscendFrom};
+ghost use Rattle.dns_service_parameters.specs.ServiceRead.{AppendsString, AppendsValue, SpellsKeys, SpellsNoValue, StartsWithString};
 
 use crate::form::Form;
 use crate::keys::{read_key, read_number};
 use dns_field_texts::append_octets;
 use dns_field_texts::split_first;
 use dns_text::{DecodeError, ScannerError, base64};
+use std::alloc::Global;
 use std::net::{Ipv4Addr, Ipv6Addr};
 
 /// Appends the value of the form that a text writes.
@@ -48,7 +52,17 @@ fn append_keys<Error: ScannerError>(text: &[u8], value: &mut Vec<u8>) -> Result<
     ensures ok { OnOk result (AppendsValue Keys text.now value.old.items value.new.items) }
     ensures err { IfErr result (λ error. Error.is_short error ≡ false → SpellsNoValue Keys text.now) }
 {
-    let mut keys: Vec<u16> = Vec::new(*value.allocator());
+    let mut keys: Vec<u16> = read_keys(text, *value.allocator())?;
+    keys.sort_unstable();
+    append_ascending(&keys, value)
+}
+
+/// Returns the keys of a list, in its order.
+fn read_keys<Error: ScannerError>(text: &[u8], alloc: Global) -> Result<Vec<u16>, Error>
+    ensures ok { IfOk result (λ keys. SpellsKeys text.now keys.items) }
+    ensures err { IfErr result (λ error. Error.is_short error ≡ false → (keys : List ℕ) → SpellsKeys text.now keys → ⊥) }
+{
+    let mut keys: Vec<u16> = Vec::new(alloc);
     let mut left = Some(text);
     while let Some(items) = left {
         let (item, rest) = split_first(items, b',');
@@ -60,9 +74,16 @@ fn append_keys<Error: ScannerError>(text: &[u8], value: &mut Vec<u8>) -> Result<
         }
         left = rest;
     }
-    keys.sort_unstable();
+    Ok(keys)
+}
+
+/// Appends keys. Fails with an error other than `short_buf` only if they do not ascend or are not above 0.
+fn append_ascending<Error: ScannerError>(keys: &[u16], value: &mut Vec<u8>) -> Result<(), Error>
+    ensures ok { OnOk result (AscendFrom 1 keys.now × (value.new.items ≡ value.old.items ++ flat_map (to_be_bytes w16) keys.now)) }
+    ensures err { IfErr result (λ error. Error.is_short error ≡ false → AscendFrom 1 keys.now → ⊥) }
+{
     let mut least = 1;
-    for &key in &keys {
+    for &key in keys {
         if u32::from(key) < least {
             return Err(Error::custom("bad mandatory key"));
         }
