@@ -15,3 +15,4 @@ mod ServiceNames
 mod ServiceMade
 mod ServiceOne
 mod ServiceListed
+mod ServiceStrings

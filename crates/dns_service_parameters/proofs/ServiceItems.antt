@@ -38,6 +38,18 @@ one_item (c ∷ x) (d ∷ y) more others same =
     let behind = one_item x y more others first.1 in
     (λ i. first.0 i ∷ behind.0 i, behind.1)
 
+-- an item, as far as it is read
+pub item_begins : (done string left : List ℕ) (others : Option (List ℕ)) → flat_map item_octet done ++ left ≡ flat_map item_octet string ++ other_items others
+    → (more : List ℕ) × (string ≡ done ++ more) × (left ≡ flat_map item_octet more ++ other_items others)
+item_begins [] string left others same = (string, refl, same)
+item_begins (c ∷ done) [] left others same =
+    absurd (no_octet c (flat_map item_octet done) left others ((c == 44) || (c == 92)) refl (sym same))
+item_begins (c ∷ done) (d ∷ string) left others same =
+    let first = first_octet c d (flat_map item_octet done) (flat_map item_octet string) left (other_items others) ((c == 44) || (c == 92))
+    ((d == 44) || (d == 92)) refl refl same in
+    let behind = item_begins done string left others first.1 in
+    (behind.0, (λ i. sym first.0 i ∷ behind.1 i), behind.2)
+
 -- the items behind the first
 abbrev pub text_behind : List (List ℕ) → Option (List ℕ)
 text_behind [] = None

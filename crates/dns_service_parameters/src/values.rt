@@ -1,11 +1,12 @@
 //! The values of named keys in text (RFC 9460 7, 8 and A.1).
-ghost use Rattle.std.specs.Prelude.{◌≡◌, ◌++◌, false, IfErr, OnOk, List, ℕ, Option, IfOk, option_map};
+ghost use Rattle.std.specs.Prelude.{◌≡◌, ◌++◌, false, IfErr, IfNone, IfSome, OnErr, OnOk, List, ℕ, Option, IfOk, option_map};
 ghost use Rattle.std.specs.Int.{to_be_bytes, w16};
 ghost use Rattle.std.specs.List.{flat_map};
 ghost use Rattle.dns_scan.specs.ScanError.{is_want_of_room};
 ghost use Rattle.dns_service_parameters.specs.declared.form.Form.TheVariants.{Encoded, Ipv4s, Ipv6s, Keys, Strings};
 ghost use Rattle.dns_service_parameters.specs.ServiceParts.{AscendFrom};
-ghost use Rattle.dns_service_parameters.specs.ServiceRead.{AppendsString, AppendsValue, SpellsKeys, SpellsNoValue, StartsWithString};
+ghost use Rattle.dns_service_parameters.specs.ServiceRead.{AppendsString, AppendsValue, SpellsKeys, SpellsNoValue, StartsWithString, other_items};
+ghost use Rattle.dns_service_parameters.specs.ServiceText.{item_octet};
 
 use crate::form::Form;
 use crate::keys::{read_key, read_number};
@@ -113,30 +114,58 @@ fn append_string<'a, Error: ScannerError>(
     ensures ok { IfOk result (λ others. AppendsString text.now (option_map (λ rest. rest.now) others) value.old.items value.new.items) }
     ensures err { IfErr result (λ error. Error.is_short error ≡ false → (string : List ℕ) (others : Option (List ℕ)) → StartsWithString text.now string others → ⊥) }
 {
-    let mut string = [0; 255];
-    let mut len = 0;
+    let mut string = Vec::new(*value.allocator());
     let mut left = text;
-    let others = loop {
-        let (octet, rest) = match left {
-            [] => break None,
-            [b',', rest @ ..] => break Some(rest),
-            [b'\\', octet @ (b',' | b'\\'), rest @ ..] => (*octet, rest),
-            [b'\\', ..] => return Err(Error::custom("bad escape in a list")),
-            [octet, rest @ ..] => (*octet, rest),
-        };
-        if len == 255 {
-            return Err(Error::custom("long string"));
+    while let Some((octet, behind)) = split_item_octet(left) {
+        if string.push(octet).is_err() {
+            return Err(Error::short_buf());
         }
-        string[len] = octet;
-        len += 1;
-        left = rest;
-    };
-    if len == 0 {
-        return Err(Error::custom("empty string"));
+        left = behind;
     }
-    append_octets(&[len as u8], value)?;
-    append_octets(&string[..len], value)?;
+    if string.is_empty() || string.len() > 255 {
+        return Err(Error::custom("bad length of a string"));
+    }
+    let others = behind_comma(left)?;
+    append_octets(&[string.len() as u8], value)?;
+    append_octets(&string, value)?;
     Ok(others)
+}
+
+/// Splits an octet of an item off the front of a list.
+fn split_item_octet(text: &[u8]) -> Option<(u8, &[u8])>
+    ensures some { IfSome result (λ split. text.now ≡ item_octet split.0 ++ split.1.now) }
+    ensures none { IfNone result ((octet : ℕ) (behind : List ℕ) → text.now ≡ item_octet octet ++ behind → ⊥) }
+{
+    let (&first, behind) = text.split_first()?;
+    if first == b',' {
+        return None;
+    }
+    if first != b'\\' {
+        return Some((first, behind));
+    }
+    let (&octet, rest) = behind.split_first()?;
+    if octet == b',' || octet == b'\\' {
+        Some((octet, rest))
+    } else {
+        None
+    }
+}
+
+/// Returns what is behind a comma, if there is anything.
+fn behind_comma<Error: ScannerError>(text: &[u8]) -> Result<Option<&[u8]>, Error>
+    ensures ok { IfOk result (λ others. text.now ≡ other_items (option_map (λ rest. rest.now) others)) }
+    ensures err { OnErr result ((others : Option (List ℕ)) → text.now ≡ other_items others → ⊥) }
+{
+    match text.split_first() {
+        None => Ok(None),
+        Some((&first, others)) => {
+            if first == b',' {
+                Ok(Some(others))
+            } else {
+                Err(Error::custom("bad escape in a list"))
+            }
+        }
+    }
 }
 
 /// Appends the addresses of a list.
