@@ -16,3 +16,4 @@ mod ServiceMade
 mod ServiceOne
 mod ServiceListed
 mod ServiceStrings
+mod ServiceScans

@@ -74,7 +74,7 @@ spells_parameter_one word text parameter other is also (inr spells) (inr others)
     parameter_same parameter other is.formed also.formed is.fits also.fits (word_one parameter.key other.key is.small also.small (sym spells.0 ∙ others.0))
     (sym spells.1 ∙ others.1)
 
-word_clear : (word text : List ℕ) (parameter : Parameter) → IsShaped parameter → SpellsParameter word text parameter → IsWithout 61 word
+pub word_clear : (word text : List ℕ) (parameter : Parameter) → IsShaped parameter → SpellsParameter word text parameter → IsWithout 61 word
 word_clear word text parameter is (inl spells) = name_clear parameter.key word spells.0
 word_clear word text parameter is (inr spells) = subst (IsWithout 61) (sym spells.0) (number_clear parameter.key is.small)
 
@@ -84,7 +84,7 @@ record SameWord (word another text others : List ℕ) (left behind : List Token)
   texts : text ≡ others
   tokens : left ≡ behind
 
-text_of : {tokens left behind : List Token} {text others : List ℕ} → Takes (HasText text) tokens left → Takes (HasText others) tokens behind → (text ≡ others) × (left ≡ behind)
+pub text_of : {tokens left behind : List Token} {text others : List ℕ} → Takes (HasText text) tokens left → Takes (HasText others) tokens behind → (text ≡ others) × (left ≡ behind)
 text_of takes also =
     let whole = sym takes.is ∙ also.is in
     let token : takes.token ≡ also.token = cc in
