@@ -34,7 +34,7 @@ pub keys_listed : (text : List ℕ) (each : List ℕ) → SpellsKeys text each �
 keys_listed text each is = record { spells = is.spells; some = is.some }
 
 -- keys are numbers of 16 bits
-small_key : (word : List ℕ) (key : ℕ) → SpellsKey word key → key < 2 ^ 16
+pub small_key : (word : List ℕ) (key : ℕ) → SpellsKey word key → key < 2 ^ 16
 small_key word key (inl is) = let low = name_low key word is in omega (arith, low)
 small_key word key (inr is) = is.1
 

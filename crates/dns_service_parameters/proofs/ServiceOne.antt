@@ -79,10 +79,10 @@ word_clear word text parameter is (inl spells) = name_clear parameter.key word s
 word_clear word text parameter is (inr spells) = subst (IsWithout 61) (sym spells.0) (number_clear parameter.key is.small)
 
 -- what the tokens begin with
-record SameWord (word another text others : List ℕ) (left behind : List Token) : Type 0 where
-  words : word ≡ another
-  texts : text ≡ others
-  tokens : left ≡ behind
+pub record SameWord (word another text others : List ℕ) (left behind : List Token) : Type 0 where
+  pub words : word ≡ another
+  pub texts : text ≡ others
+  pub tokens : left ≡ behind
 
 pub text_of : {tokens left behind : List Token} {text others : List ℕ} → Takes (HasText text) tokens left → Takes (HasText others) tokens behind → (text ≡ others) × (left ≡ behind)
 text_of takes also =
@@ -97,7 +97,7 @@ octets_of_token {text = text} {others = others} takes also =
     let token : takes.token ≡ also.token = cc in
     (spells_one also.token.text others text also.fits (subst (λ (t : Token). Spells t.text text) token takes.fits), cc)
 
-takes_one : (word another text others : List ℕ) (tokens left behind : List Token) → IsWithout 61 word → IsWithout 61 another → TakesWord word text tokens left
+pub takes_one : (word another text others : List ℕ) (tokens left behind : List Token) → IsWithout 61 word → IsWithout 61 another → TakesWord word text tokens left
     → TakesWord another others tokens behind → SameWord word another text others left behind
 takes_one word another text others tokens left behind clear free (inl is) (inl also) =
     let same = text_of is.0 also.0 in record { words = same.0; texts = is.1 ∙ sym also.1; tokens = same.1 }

@@ -1,5 +1,6 @@
 -- Tokens that are read as the word of a key and the text of its value.
 use Rattle.std.proofs.Common.{◌≡◌, ◌≢◌, ◌<◌, ◌^◌, ◌⊎◌, ℕ, Bool, true, false, List, [], ◌∷◌, ◌++◌, length, drop, refl, sym, ◌∙◌, ap, subst, append-nil, arith, inl, inr}
+use Rattle.std.proofs.lemmas.Bool.{cases_Bool}
 use Rattle.std.specs.Prelude.{Option, None, Some, option_map, IfSome, IfNone, ⊤}
 use Rattle.dns_scan.specs.StringText.{Spells}
 use Rattle.dns_scan.specs.Token.{Token, Takes, HasText, SpellsOctets}
@@ -7,11 +8,12 @@ use Rattle.dns_field_texts.specs.Cut.{IsWithout}
 use Rattle.dns_field_texts.proofs.LocationNumerals.{front_one, without_it}
 use Rattle.dns_service_parameters.specs.declared.keys.KeyWord.{KeyWord}
 use Rattle.dns_service_parameters.specs.declared.scan.Written.{Written}
-use Rattle.dns_service_parameters.specs.Service.{IsParameter, Parameter, form_at, form_of, name_of, value_octets}
+use Rattle.dns_service_parameters.specs.Service.{IsParameter, Parameter, Value, form_at, form_of, name_of, value_octets}
 use Rattle.dns_service_parameters.specs.ServiceRead.{IsKeyWord, IsWritten, NoParameter, ReadsNoValue, ReadsValue, TakesKey, TakesParameter, WritesValue}
 use Rattle.dns_service_parameters.specs.ServiceText.{ScansParameter, SpellsKey, SpellsParameter, SpellsValue, TakesWord, number_word}
+use Rattle.dns_service_parameters.proofs.ServiceListed.{small_key, spells_word}
 use Rattle.dns_service_parameters.proofs.ServiceNames.{name_clear, name_number, name_one, number_clear, word_one}
-use Rattle.dns_service_parameters.proofs.ServiceOne.{IsShaped, text_of, word_clear}
+use Rattle.dns_service_parameters.proofs.ServiceOne.{IsShaped, takes_one, text_of, word_clear}
 
 -- a token that is split at the first `=`
 abbrev pub assigned_text : Option (List ℕ) → List ℕ
@@ -136,4 +138,63 @@ key_before {tokens = tokens} {behind = behind} {word = word} split is none spell
   word = word;
   is = is;
   takes = inr (inr (behind, subst (λ (l : List ℕ). Takes (HasText (word ++ 61 ∷ l)) tokens behind) none split.takes, spells));
+}
+
+-- the value of a key
+writes_named : (key : KeyWord) (text : List ℕ) (value : Value) → key.named ≡ true → SpellsValue text value → WritesValue key.named text value
+writes_named key text value named spells = subst (λ (b : Bool). WritesValue b text value) (sym named) spells
+
+writes_numbered : (key : KeyWord) (text : List ℕ) (value : Value) → key.named ≡ false → text ≡ value_octets value → WritesValue key.named text value
+writes_numbered key text value numbered is = subst (λ (b : Bool). WritesValue b text value) (sym numbered) is
+
+key_clear : (word : List ℕ) (key : KeyWord) → IsKeyWord word key → IsWithout 61 word
+key_clear word key is = elim (cases_Bool key.named) [
+  | inl named ↦ name_clear key.key word (is.named named)
+  | inr numbered ↦ subst (IsWithout 61) (sym (is.numbered numbered).0) (number_clear key.key (is.numbered numbered).1)
+]
+
+no_value_here : (word text : List ℕ) (key : KeyWord) (parameter : Parameter) → IsParameter parameter → IsKeyWord word key → ReadsNoValue key text
+    → SpellsParameter word text parameter → (key.named ≡ true) ⊎ (key.named ≡ false) → ⊥
+no_value_here word text key parameter is key_is none (inl spells) (inl named) =
+    let same = name_one parameter.key key.key word spells.0 (key_is.named named) in
+    none parameter.value (is.formed ∙ ap form_at same) is.fits (writes_named key text parameter.value named spells.1)
+no_value_here word text key parameter is key_is none (inl spells) (inr numbered) =
+    name_number parameter.key key.key word spells.0 (key_is.numbered numbered).0
+no_value_here word text key parameter is key_is none (inr spells) (inl named) =
+    name_number key.key parameter.key word (key_is.named named) spells.0
+no_value_here word text key parameter is key_is none (inr spells) (inr numbered) =
+    let number = key_is.numbered numbered in
+    let same = word_one parameter.key key.key is.small number.1 (sym spells.0 ∙ number.0) in
+    none parameter.value (is.formed ∙ ap form_at same) is.fits (writes_numbered key text parameter.value numbered spells.1)
+
+pub no_value : {tokens behind : List Token} {key : KeyWord} {text : List ℕ} → TakesKey tokens behind key text → ReadsNoValue key text → NoParameter tokens
+no_value {tokens} {behind} {key} {text} takes none parameter left is scans =
+    let same = takes_one scans.word takes.word scans.text text tokens left behind (word_clear scans.word scans.text parameter (shaped parameter is) scans.spells)
+    (key_clear takes.word key takes.is) scans.takes takes.takes in
+    let spells = subst (λ (w : List ℕ). SpellsParameter w text parameter) same.words
+    (subst (λ (t : List ℕ). SpellsParameter scans.word t parameter) same.texts scans.spells) in
+    no_value_here takes.word text key parameter is takes.is none spells (cases_Bool key.named)
+
+spells_parameter : (word text : List ℕ) (key : KeyWord) (value : Value) → IsKeyWord word key → WritesValue key.named text value → (key.named ≡ true) ⊎ (key.named ≡ false)
+    → SpellsParameter word text (record { key = key.key; value = value })
+spells_parameter word text key value is writes (inl named) = inl (is.named named, subst (λ (b : Bool). WritesValue b text value) named writes)
+spells_parameter word text key value is writes (inr numbered) = inr ((is.numbered numbered).0, subst (λ (b : Bool). WritesValue b text value) numbered writes)
+
+pub parameter_read : {tokens behind : List Token} {key : KeyWord} {text : List ℕ} (written : Written) → TakesKey tokens behind key text
+    → ReadsValue key text written.value.items → written.key ≡ key.key → TakesParameter tokens behind written
+parameter_read {key = key} {text = text} written takes reads same = record {
+  parameter = record { key = key.key; value = reads.value };
+  scans = record {
+    word = takes.word;
+    text = text;
+    takes = takes.takes;
+    spells = spells_parameter takes.word text key reads.value takes.is reads.writes (cases_Bool key.named);
+  };
+  is = record {
+    key = sym same;
+    value = reads.is;
+    small = small_key takes.word key.key (spells_word takes.word key takes.is);
+    formed = reads.formed;
+    fits = reads.fits;
+  };
 }
