@@ -17,3 +17,4 @@ mod ServiceOne
 mod ServiceListed
 mod ServiceStrings
 mod ServiceScans
+mod ServiceInOrder
