@@ -1,5 +1,5 @@
 -- Addresses in lists.
-use Rattle.std.proofs.Common.{◌≡◌, ◌+◌, ◌-◌, ◌*◌, ◌<◌, ◌^◌, ℕ, zero, suc, Bool, true, false, inl, inr, List, [], ◌∷◌, ◌++◌, get_or, length, replicate, refl, sym, ap, subst, arith, length-append}
+use Rattle.std.proofs.Common.{◌≡◌, ◌-◌, ◌*◌, ◌<◌, ◌^◌, ℕ, zero, suc, Bool, true, false, inl, inr, List, [], ◌∷◌, ◌++◌, get_or, length, replicate, refl, sym, ap, subst, arith, length-append}
 use Rattle.std.proofs.lemmas.Bool.Decides.{nat_tests}
 use Rattle.std.proofs.lemmas.List.{length-replicate}
 use Rattle.std.specs.Char.{digit_value}
@@ -9,10 +9,10 @@ use Rattle.std.specs.Net.Grammar.{IsColonHex, IsDotted, IsGroupsAfter}
 use Rattle.std.specs.Str.Parse.{AllDigits}
 use Rattle.dns_scan.proofs.Decoded.{each_append}
 use Rattle.dns_service_parameters.specs.declared.form.Form.TheVariants.{Ipv4s, Ipv6s}
-use Rattle.dns_service_parameters.specs.Service.{IsValue, Value, keys, strings, nothing, number, ipv4s, ipv6s, encoded, plain, form_of}
+use Rattle.dns_service_parameters.specs.Service.{keys, strings, nothing, number, ipv4s, ipv6s, encoded, plain}
 use Rattle.dns_service_parameters.specs.ServiceRead.{AppendsValue, SpellsNoValue}
 use Rattle.dns_field_texts.specs.Cut.{IsWithout}
-use Rattle.dns_service_parameters.specs.ServiceText.{IsIpv6, SpellsValue}
+use Rattle.dns_service_parameters.specs.ServiceText.{IsIpv6}
 use Rattle.dns_service_parameters.proofs.ServiceLists.{IsBareItem, SpellsSome}
 use Rattle.dns_service_parameters.proofs.ServiceShown.{IsBare, bare_items, ipv4_bare}
 

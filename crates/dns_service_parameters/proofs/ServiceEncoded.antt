@@ -13,9 +13,8 @@ use Rattle.dns_scan.specs.ScanError.{is_want_of_room}
 use Rattle.dns_scan.proofs.Decoded.{each_append, replicated}
 use Rattle.dns_scan.proofs.Encodings.{Ascii, decodes_one, is_ascii}
 use Rattle.dns_service_parameters.specs.declared.form.Form.TheVariants.{Encoded}
-use Rattle.dns_service_parameters.specs.Service.{IsValue, Value, keys, strings, nothing, number, ipv4s, ipv6s, encoded, plain, form_of}
+use Rattle.dns_service_parameters.specs.Service.{keys, strings, nothing, number, ipv4s, ipv6s, encoded, plain}
 use Rattle.dns_service_parameters.specs.ServiceRead.{AppendsValue, SpellsNoValue}
-use Rattle.dns_service_parameters.specs.ServiceText.{SpellsValue}
 
 -- the characters of base 64 and its pads are of ASCII
 low_64 : (c : ℕ) → digit_64 c < 64 → c < 128

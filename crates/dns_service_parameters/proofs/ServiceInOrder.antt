@@ -75,9 +75,12 @@ scanned_more {before} {left} {next} {written} {one} so_far takes = record {
     by all each [] none whole = absurd (scans_some takes.parameter takes.scans none)
     by all each (parameter ∷ more) scanned whole =
         let is = last_shaped IsShaped so_far.listed more parameter (subst (AllByRecursion IsShaped) whole each) in
-        let one = scans_one parameter takes.parameter left scanned.0 next is (written_shaped takes.parameter one takes.is) scanned.1 takes.scans in
-        (more, subst (ScanInOrder more) one.1 scanned.2, whole ∙ ap (λ (p : Parameter). so_far.listed ++ p ∷ more) one.0
-            ∙ sym (append_assoc so_far.listed (takes.parameter ∷ []) more))
+        let one = scans_one parameter takes.parameter left scanned.0 next is (written_shaped takes.parameter one takes.is) scanned.1 takes.scans in (
+          more,
+          subst (ScanInOrder more) one.1 scanned.2,
+          whole ∙ ap (λ (p : Parameter). so_far.listed ++ p ∷ more) one.0
+              ∙ sym (append_assoc so_far.listed (takes.parameter ∷ []) more),
+        )
 
 all_shaped : (parameters : List Parameter) → AllByRecursion IsParameter parameters → AllByRecursion IsShaped parameters
 all_shaped [] each = tt
@@ -141,7 +144,7 @@ shapes (w ∷ written) each = (each.0.shape, shapes written each.1)
 octets_written : (written : List Written) → AllByRecursion IsOf written → flat_map written_octets written ≡ octets_of (map parameter_of written)
 octets_written [] each = refl
 octets_written (w ∷ written) each =
-    let first : written_octets w ≡ parameter_octets (parameter_of w) = 
+    let first : written_octets w ≡ parameter_octets (parameter_of w) =
     sym (ap (λ (l : List ℕ). to_be_bytes w16 w.key ++ to_be_bytes w16 (length l) ++ l) each.0.octets) in
     let behind = octets_written written each.1 in
     λ i. first i ++ behind i

@@ -1,5 +1,5 @@
 -- Lists of keys in text.
-use Rattle.std.proofs.Common.{◌≡◌, ◌≢◌, ◌+◌, ◌<◌, ◌≤◌, ◌^◌, ℕ, suc, true, false, List, [], ◌∷◌, ◌++◌, length, get_or, map, refl, sym, ◌∙◌, ap, subst, append_assoc, append-nil, arith, inl, inr}
+use Rattle.std.proofs.Common.{◌≡◌, ◌≢◌, ◌<◌, ◌≤◌, ◌^◌, ℕ, List, [], ◌∷◌, ◌++◌, length, map, refl, sym, ◌∙◌, ap, subst, arith, inl, inr}
 use Rattle.std.proofs.lemmas.Bool.{cases_Bool}
 use Rattle.std.proofs.lemmas.List.{nil_from_length}
 use Rattle.std.proofs.lemmas.List.Sorted.{length_permutation}
@@ -25,7 +25,7 @@ pub key_item : (word : List ℕ) (key : ℕ) → SpellsKey word key → IsBareIt
 key_item word key is = bare_item word (spelled_bare word key is)
 
 pub spells_word : (word : List ℕ) (key : KeyWord) → IsKeyWord word key → SpellsKey word key.key
-spells_word word key is = elim (cases_Bool key.named) [ | inl test ↦ inl (is.named test) | inr test ↦ inr (is.numbered test) ]
+spells_word word key is = elim (cases_Bool key.named) [ inl test ↦ inl (is.named test) | inr test ↦ inr (is.numbered test) ]
 
 pub listed_keys : (text : List ℕ) (each : List ℕ) → SpellsSome SpellsKey key_item text each → SpellsKeys text each
 listed_keys text each reads = record { spells = reads.spells; some = reads.some }

@@ -1,5 +1,5 @@
 -- Tokens begin with one parameter at most.
-use Rattle.std.proofs.Common.{◌≡◌, ◌≢◌, ◌<◌, ◌^◌, ℕ, List, [], ◌∷◌, ◌++◌, length, refl, sym, ◌∙◌, ap, subst, arith, inl, inr, lit≤}
+use Rattle.std.proofs.Common.{◌≡◌, ◌≢◌, ◌<◌, ◌^◌, ℕ, List, [], length, refl, sym, ◌∙◌, ap, subst, arith, inl, inr, lit≤}
 use Rattle.std.proofs.lemmas.List.Sorted.{length_permutation}
 use Rattle.std.proofs.lemmas.List.{nil_from_length}
 use Rattle.std.proofs.NetLemmas.Ipv4.{read_ipv4_complete}
@@ -15,8 +15,8 @@ use Rattle.dns_scan.proofs.Encodings.{decodes_one}
 use Rattle.dns_scan.proofs.TextsBack.{spells_one}
 use Rattle.dns_field_texts.specs.Cut.{IsWithout}
 use Rattle.dns_field_texts.proofs.LocationNumerals.{front_one, without_it}
-use Rattle.dns_service_parameters.specs.Service.{IsValue, Parameter, Value, keys, strings, nothing, number, ipv4s, ipv6s, encoded, plain, form_at, form_of, name_of, value_octets}
-use Rattle.dns_service_parameters.specs.ServiceText.{IsIpv6, ScansParameter, SpellsKey, SpellsParameter, SpellsValue, TakesWord, number_word}
+use Rattle.dns_service_parameters.specs.Service.{IsValue, Parameter, Value, keys, strings, nothing, number, ipv4s, ipv6s, encoded, plain, form_at, form_of}
+use Rattle.dns_service_parameters.specs.ServiceText.{IsIpv6, ScansParameter, SpellsKey, SpellsParameter, SpellsValue, TakesWord}
 use Rattle.dns_service_parameters.proofs.ServiceItems.{each_one, list_one}
 use Rattle.dns_service_parameters.proofs.ServiceMade.{parameter_same}
 use Rattle.dns_service_parameters.proofs.ServiceNames.{key_one, name_clear, name_number, name_one, number_clear, word_one}

@@ -1,5 +1,5 @@
 -- Lists of numbers in order, with the same elements.
-use Rattle.std.proofs.Common.{◌≡◌, ◌≢◌, ◌+◌, ◌<◌, ◌≤◌, ◌==◌, cond, ℕ, zero, suc, Bool, true, false, List, [], ◌∷◌, length, get_or, map, refl, sym, ap, subst, arith, ◌⊎◌, inl, inr}
+use Rattle.std.proofs.Common.{◌≡◌, ◌≢◌, ◌<◌, ◌≤◌, ◌==◌, cond, ℕ, zero, suc, true, false, List, [], ◌∷◌, length, get_or, map, refl, sym, ap, subst, arith, ◌⊎◌, inl, inr}
 use Rattle.std.proofs.lemmas.Bool.Decides.{nat_tests}
 use Rattle.std.proofs.lemmas.List.Sorted.{All-permutation, Contains-permutation, IsPermutation-map, IsPermutation-sym, IsPermutation-trans, sum_by-IsPermutation}
 use Rattle.std.proofs.lemmas.List.Sums.{sum_by-cons}
@@ -85,7 +85,7 @@ same_rises (n ∷ ns) (m ∷ ms) up also same =
     between : (n m : ℕ) → (n < m → ⊥) → (m < n → ⊥) → n ≡ m
     between n m low high = elim (cases_lt n m) [
       | inl less ↦ absurd (low less)
-      | inr less ↦ elim (cases_lt m n) [ | inl more ↦ absurd (high more) | inr more ↦ omega arith ]
+      | inr less ↦ elim (cases_lt m n) [ inl more ↦ absurd (high more) | inr more ↦ omega arith ]
     ]
 
 pub one_order : (xs ys : List ℕ) → IsPermutation xs ys → Rises xs → Rises ys → xs ≡ ys

@@ -1,17 +1,16 @@
 -- The octets of parameters are printed as the parameters are.
-use Rattle.std.proofs.Common.{◌≡◌, ◌+◌, ◌-◌, ◌*◌, ◌/◌, ◌%◌, ◌<◌, ◌≤◌, ◌^◌, ℕ, Bool, true, false, List, [], ◌∷◌, ◌++◌, length, map, take, drop, decimal, Option, None, Some, refl, sym, ◌∙◌, ap, subst, arith, append_assoc, append-nil, length-append, nat_lt, cond}
+use Rattle.std.proofs.Common.{◌≡◌, ◌<◌, ◌^◌, ℕ, Bool, false, List, [], ◌∷◌, ◌++◌, length, map, take, drop, decimal, None, Some, refl, sym, ◌∙◌, ap, subst, arith, append_assoc, append-nil, length-append, nat_lt, cond}
 use Rattle.std.proofs.lemmas.Bool.Decides.{nat_tests}
 use Rattle.std.proofs.Math.Seq.{take-append_seam, drop-append_seam}
 use Rattle.std.specs.Int.{to_be_bytes, w16}
 use Rattle.std.specs.List.{AllByRecursion, concat, flat_map}
-use Rattle.std.specs.Net.Addr.{segments_of}
 use Rattle.dns_scan.specs.CharStr.{string_wire}
 use Rattle.dns_text.specs.Document.{Piece}
 use Rattle.dns_text.specs.Document.Piece.{Token}
 use Rattle.dns_text.specs.Writing.{Adds, written_behind}
 use Rattle.dns_service_parameters.specs.declared.form.Form.{Form}
 use Rattle.dns_service_parameters.specs.declared.form.Form.TheVariants.{Keys, Strings, Ipv4s, Ipv6s}
-use Rattle.dns_service_parameters.specs.Service.{IsParameter, IsValue, Parameter, Value, keys, strings, nothing, number, ipv4s, ipv6s, encoded, plain, form_at, form_of, octets_of, value_octets}
+use Rattle.dns_service_parameters.specs.Service.{IsParameter, IsValue, Parameter, Value, keys, strings, nothing, number, ipv4s, ipv6s, encoded, plain, form_of, octets_of, value_octets}
 use Rattle.dns_service_parameters.specs.ServiceParts.{StartsWithNone, StartsWithPart}
 use Rattle.dns_service_parameters.specs.ServiceText.{assigned, key_text, list_text, parameter_text, value_text}
 use Rattle.dns_service_parameters.specs.ServiceShown.{first_number, item_text, items, shown_parameter, shown_value, take_item, take_size, take_string}

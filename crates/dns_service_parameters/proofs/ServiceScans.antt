@@ -1,16 +1,16 @@
 -- Tokens that are read as the word of a key and the text of its value.
-use Rattle.std.proofs.Common.{◌≡◌, ◌≢◌, ◌<◌, ◌^◌, ◌⊎◌, ℕ, Bool, true, false, List, [], ◌∷◌, ◌++◌, length, drop, refl, sym, ◌∙◌, ap, subst, append-nil, arith, inl, inr}
+use Rattle.std.proofs.Common.{◌≡◌, ◌≢◌, ◌<◌, ◌⊎◌, ℕ, Bool, true, false, List, [], ◌∷◌, ◌++◌, length, drop, sym, ◌∙◌, ap, subst, append-nil, arith, inl, inr}
 use Rattle.std.proofs.lemmas.Bool.{cases_Bool}
-use Rattle.std.specs.Prelude.{Option, None, Some, option_map, IfSome, IfNone, ⊤}
+use Rattle.std.specs.Prelude.{Option, None, Some, option_map, IfSome, IfNone}
 use Rattle.dns_scan.specs.StringText.{Spells}
 use Rattle.dns_scan.specs.Token.{Token, Takes, HasText, SpellsOctets}
 use Rattle.dns_field_texts.specs.Cut.{IsWithout}
 use Rattle.dns_field_texts.proofs.LocationNumerals.{front_one, without_it}
 use Rattle.dns_service_parameters.specs.declared.keys.KeyWord.{KeyWord}
 use Rattle.dns_service_parameters.specs.declared.scan.Written.{Written}
-use Rattle.dns_service_parameters.specs.Service.{IsParameter, Parameter, Value, form_at, form_of, name_of, value_octets}
-use Rattle.dns_service_parameters.specs.ServiceRead.{IsKeyWord, IsWritten, NoParameter, ReadsNoValue, ReadsValue, TakesKey, TakesParameter, WritesValue}
-use Rattle.dns_service_parameters.specs.ServiceText.{ScansParameter, SpellsKey, SpellsParameter, SpellsValue, TakesWord, number_word}
+use Rattle.dns_service_parameters.specs.Service.{IsParameter, Parameter, Value, form_at, value_octets}
+use Rattle.dns_service_parameters.specs.ServiceRead.{IsKeyWord, NoParameter, ReadsNoValue, ReadsValue, TakesKey, TakesParameter, WritesValue}
+use Rattle.dns_service_parameters.specs.ServiceText.{ScansParameter, SpellsKey, SpellsParameter, SpellsValue, TakesWord}
 use Rattle.dns_service_parameters.proofs.ServiceListed.{small_key, spells_word}
 use Rattle.dns_service_parameters.proofs.ServiceNames.{name_clear, name_number, name_one, number_clear, word_one}
 use Rattle.dns_service_parameters.proofs.ServiceOne.{IsShaped, takes_one, text_of, word_clear}

@@ -1,13 +1,13 @@
 -- Lists of strings in text.
-use Rattle.std.proofs.Common.{◌≡◌, ◌≢◌, ◌<◌, ◌≤◌, ℕ, suc, List, [], ◌∷◌, ◌++◌, length, refl, sym, ◌∙◌, ap, subst, append_assoc, append-nil}
+use Rattle.std.proofs.Common.{◌≡◌, ◌≢◌, ℕ, List, [], ◌∷◌, ◌++◌, refl, sym, ◌∙◌, ap, subst, append_assoc, append-nil}
 use Rattle.std.specs.Prelude.{Option, None, Some, IfSome, option_map}
 use Rattle.std.specs.List.{AllByRecursion, flat_map}
 use Rattle.std.proofs.lemmas.Grind.{flat_map-append}
 use Rattle.dns_scan.specs.CharStr.{string_wire}
 use Rattle.dns_service_parameters.specs.declared.form.Form.TheVariants.{Strings}
-use Rattle.dns_service_parameters.specs.Service.{IsValue, Value, keys, strings, nothing, number, ipv4s, ipv6s, encoded, plain, form_of}
+use Rattle.dns_service_parameters.specs.Service.{keys, strings, nothing, number, ipv4s, ipv6s, encoded, plain}
 use Rattle.dns_service_parameters.specs.ServiceRead.{AppendsValue, SpellsNoValue, StartsWithString, other_items}
-use Rattle.dns_service_parameters.specs.ServiceText.{SpellsValue, item_octet, list_text}
+use Rattle.dns_service_parameters.specs.ServiceText.{item_octet, list_text}
 use Rattle.dns_service_parameters.proofs.ServiceItems.{item_begins, list_split, one_item, text_behind}
 use Rattle.dns_service_parameters.proofs.ServiceValues.{IsSome}
 

@@ -10,8 +10,7 @@ ghost use Rattle.dns_service_parameters.specs.ServiceText.{item_octet};
 
 use crate::form::Form;
 use crate::keys::{read_key, read_number};
-use dns_field_texts::append_octets;
-use dns_field_texts::split_first;
+use dns_field_texts::{append_octets, split_first};
 use dns_text::{DecodeError, ScannerError, base64};
 use std::alloc::Global;
 use std::net::{Ipv4Addr, Ipv6Addr};

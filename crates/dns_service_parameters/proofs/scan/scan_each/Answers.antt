@@ -1,9 +1,9 @@
-use Rattle.std.proofs.Common.{◌≡◌, ◌≢◌, ◌++◌, ◌∷◌, ◌∙◌, [], List, sym, subst, rules, refl}
+use Rattle.std.proofs.Common.{◌≡◌, ◌++◌, ◌∷◌, ◌∙◌, [], List, sym, subst, rules, refl}
 use Rattle.std.proofs.lemmas.Result.{err_from_is_err_and}
 use Rattle.dns_scan.specs.Token.{Token}
 use Rattle.dns_scan.proofs.SymbolsRead.{nil_by, same_names_here, same_names_join}
 use Rattle.dns_service_parameters.specs.declared.scan.Written.{Written}
-use Rattle.dns_service_parameters.proofs.ServiceInOrder.{Scanned, scanned_all, scanned_begun, scanned_more, scanned_none, scans_less}
+use Rattle.dns_service_parameters.proofs.ServiceInOrder.{Scanned, scanned_all, scanned_begun, scanned_more, scanned_none}
 use Rattle.dns_service_parameters.proofs.scan.scan_each.Goals as goal
 
 pub loop-alloc-init : goal.loop-alloc-init

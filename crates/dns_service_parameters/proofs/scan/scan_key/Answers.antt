@@ -1,11 +1,10 @@
-use Rattle.std.proofs.Common.{◌≡◌, ◌≢◌, ◌<◌, ◌++◌, ◌∙◌, ℕ, List, [], ◌∷◌, Bor, drop, length, refl, sym, ap, subst, append-nil, arith, rules, inl, inr}
+use Rattle.std.proofs.Common.{◌≡◌, ◌≢◌, ◌<◌, ◌++◌, ◌∙◌, ℕ, List, Bor, drop, length, sym, ap, subst, arith}
 use Rattle.std.proofs.lemmas.Bool.Decides.{nat_tests}
 use Rattle.std.proofs.lemmas.List.{nil_from_length}
 use Rattle.std.proofs.lemmas.Result.{err_from_is_err_and}
-use Rattle.std.specs.Prelude.{Option, Some, None, option_map}
+use Rattle.std.specs.Prelude.{Option, option_map}
 use Rattle.dns_scan.specs.StringText.{Spells}
 use Rattle.dns_scan.specs.Token.{Token, Takes, HasText, SpellsOctets}
-use Rattle.dns_service_parameters.specs.ServiceRead.{TakesKey}
 use Rattle.dns_service_parameters.proofs.ServiceScans.{IsSplit, bad_text, key_alone, key_assigned, key_before, next_is, no_text, none_taken, spells_taken, split_is, text_taken, unknown_word}
 use Rattle.dns_service_parameters.proofs.scan.scan_key.Goals as goal
 use Rattle.dns_service_parameters.proofs.scan.scan_key.Goals.{in-None, in-Some-written+then-is_empty+in_ok-peek_text-in-Some-written+in_ok-read_text-in-Some-written, in-Some-written+else-is_empty+in_ok-read_text-in-Some-written-2}

@@ -1,4 +1,4 @@
-use Rattle.std.proofs.Common.{◌≡◌, refl}
+use Rattle.std.proofs.Common.{refl}
 use Rattle.std.proofs.lemmas.Result.{err_from_is_err_and}
 use Rattle.dns_service_parameters.proofs.ServiceScans.{no_value, parameter_read}
 use Rattle.dns_service_parameters.proofs.scan.scan_parameter.Goals as goal

@@ -1,6 +1,6 @@
 use Rattle.std.proofs.Common.{◌≡◌, ◌∷◌, [], ◌++◌, ℕ, List, Bor, ap, refl, subst, rules}
-use Rattle.std.specs.Prelude.{Option, Some, None, option_map}
-use Rattle.std.specs.Net.Addr.{ipv6_octets, ipv6_segments, octets_of}
+use Rattle.std.specs.Prelude.{Option, None, option_map}
+use Rattle.std.specs.Net.Addr.{ipv6_octets, ipv6_segments}
 use Rattle.dns_service_parameters.specs.ServiceText.{IsIpv6}
 use Rattle.dns_service_parameters.proofs.ServiceAddresses.{all_sizes, ipv6_bare, ipv6_size, ipv6s_appended, no_ipv6s}
 use Rattle.dns_service_parameters.proofs.ServiceLists.{Listing, appended_more, listing_end, listing_step, no_step, shrinks}

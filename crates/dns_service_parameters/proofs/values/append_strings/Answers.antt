@@ -1,6 +1,6 @@
 use Rattle.std.proofs.Common.{◌≡◌, ◌∷◌, [], ◌++◌, ℕ, List, Bor, ap, subst, rules}
 use Rattle.std.proofs.lemmas.Result.{err_from_is_err_and}
-use Rattle.std.specs.Prelude.{Option, Some, None, option_map}
+use Rattle.std.specs.Prelude.{Option, None, option_map}
 use Rattle.dns_service_parameters.proofs.ServiceStrings.{ListingStrings, no_strings, strings_appended, strings_step, wire_more}
 use Rattle.dns_service_parameters.proofs.values.append_strings.Goals as goal
 

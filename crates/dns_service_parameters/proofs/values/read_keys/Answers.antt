@@ -1,5 +1,5 @@
-use Rattle.std.proofs.Common.{◌≡◌, ◌∷◌, [], ◌++◌, ◌∙◌, ℕ, List, Bor, ap, sym, subst, rules}
-use Rattle.std.specs.Prelude.{Option, Some, None, option_map}
+use Rattle.std.proofs.Common.{◌≡◌, ◌∷◌, [], ◌++◌, ℕ, List, Bor, ap, sym, subst, rules}
+use Rattle.std.specs.Prelude.{Option, None, option_map}
 use Rattle.dns_service_parameters.specs.ServiceText.{SpellsKey}
 use Rattle.dns_service_parameters.proofs.ServiceListed.{key_item, keys_listed, listed_keys, spells_word}
 use Rattle.dns_service_parameters.proofs.ServiceLists.{Listing, listing_end, listing_step, no_step, shrinks}

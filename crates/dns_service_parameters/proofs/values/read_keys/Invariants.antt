@@ -1,4 +1,4 @@
-use Rattle.std.proofs.Common.{◌≡◌, ◌+◌, ◌++◌, ℕ, List, length}
+use Rattle.std.proofs.Common.{◌+◌, length}
 use Rattle.std.specs.Prelude.{option_map, unwrap_or}
 use Rattle.dns_service_parameters.specs.ServiceText.{SpellsKey}
 use Rattle.dns_service_parameters.proofs.ServiceListed.{key_item}
