@@ -25,7 +25,8 @@ pub fn scan_parameters_into<S: Scanner>(
     octets: &mut Vec<u8>,
 ) -> Result<(), S::Error>
     ensures ok { OnOk result (AppendsParameters (S.tokens scanner.old) (S.tokens scanner.new) octets.old.items octets.new.items) }
-    ensures err { IfErr result (λ error. S.Error.is_short error ≡ false → (parameters : List Parameter) → ScansParameters parameters (S.tokens scanner.old) → ⊥) }
+    ensures err { IfErr result (λ error.
+        S.Error.is_short error ≡ false → (parameters : List Parameter) → ScansParameters parameters (S.tokens scanner.old) → ⊥) }
     ensures names { SameNames (S.names scanner.old) (S.names scanner.new) }
     ensures more { GoesOn octets.old.items octets.new.items }
 {
@@ -70,7 +71,8 @@ fn append_parameters<Error: ScannerError>(
 ) -> Result<(), Error>
     ensures ok { OnOk result (octets.new.items ≡ octets.old.items ++ flat_map written_octets parameters.now) }
     ensures short { OnOk result (All (λ parameter. length parameter.value.items < 2 ^ 16) parameters.now) }
-    ensures err { IfErr result (λ error. Error.is_short error ≡ false → Any (λ parameter. 2 ^ 16 ≤ length parameter.value.items) parameters.now) }
+    ensures err { IfErr result (λ error.
+        Error.is_short error ≡ false → Any (λ parameter. 2 ^ 16 ≤ length parameter.value.items) parameters.now) }
     ensures more { GoesOn octets.old.items octets.new.items }
 {
     for parameter in parameters {

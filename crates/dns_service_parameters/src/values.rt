@@ -79,7 +79,8 @@ fn read_keys<Error: ScannerError>(text: &[u8], alloc: Global) -> Result<Vec<u16>
 
 /// Appends keys. Fails with an error other than `short_buf` only if they do not ascend or are not above 0.
 fn append_ascending<Error: ScannerError>(keys: &[u16], value: &mut Vec<u8>) -> Result<(), Error>
-    ensures ok { OnOk result (AscendFrom 1 keys.now × (value.new.items ≡ value.old.items ++ flat_map (to_be_bytes w16) keys.now)) }
+    ensures ok { OnOk result
+        (AscendFrom 1 keys.now × (value.new.items ≡ value.old.items ++ flat_map (to_be_bytes w16) keys.now)) }
     ensures err { IfErr result (λ error. Error.is_short error ≡ false → AscendFrom 1 keys.now → ⊥) }
 {
     let mut least = 1;
@@ -110,8 +111,10 @@ fn append_string<'a, Error: ScannerError>(
     text: &'a [u8],
     value: &mut Vec<u8>,
 ) -> Result<Option<&'a [u8]>, Error>
-    ensures ok { IfOk result (λ others. AppendsString text.now (option_map (λ rest. rest.now) others) value.old.items value.new.items) }
-    ensures err { IfErr result (λ error. Error.is_short error ≡ false → (string : List ℕ) (others : Option (List ℕ)) → StartsWithString text.now string others → ⊥) }
+    ensures ok { IfOk result (λ others.
+        AppendsString text.now (option_map (λ rest. rest.now) others) value.old.items value.new.items) }
+    ensures err { IfErr result (λ error.
+        Error.is_short error ≡ false → (string : List ℕ) (others : Option (List ℕ)) → StartsWithString text.now string others → ⊥) }
 {
     let mut string = Vec::new(*value.allocator());
     let mut left = text;
