@@ -4,7 +4,7 @@ pub mod Moments
 mod TriedLocation
 pub mod HashWords
 mod LocationParts
-mod LocationNumerals
+pub mod LocationNumerals
 mod LocationScans
 pub mod LocationRead
 pub mod LocationPrinted

@@ -8,3 +8,13 @@ mod ServiceLists
 mod ServiceAddresses
 mod ServiceShown
 mod ServicePrinted
+mod ServiceEncoded
+mod ServiceItems
+mod ServiceOrder
+mod ServiceNames
+mod ServiceMade
+mod ServiceOne
+mod ServiceListed
+mod ServiceStrings
+mod ServiceScans
+mod ServiceInOrder

@@ -1,9 +1,8 @@
 -- Which keys are among those of parameters, and whether all mandatory ones are.
-use Rattle.std.proofs.Common.{◌≡◌, ◌≢◌, ◌+◌, ◌<◌, ◌≤◌, ◌==◌, ◌||◌, ◌↔◌, ◌⊎◌, inl, inr, ◌^◌, ℕ, zero, suc, Bool, true, false, List, [], ◌∷◌, ◌++◌, length, map, refl, sym, ◌∙◌, ap, subst, arith, IsTrue}
+use Rattle.std.proofs.Common.{◌≡◌, ◌≢◌, ◌+◌, ◌<◌, ◌≤◌, ◌==◌, ◌||◌, ◌↔◌, ◌⊎◌, inl, inr, ◌^◌, ℕ, suc, Bool, true, false, List, [], ◌∷◌, ◌++◌, length, refl, sym, ◌∙◌, ap, subst, arith}
 use Rattle.std.proofs.lemmas.Bool.Decides.{nat_tests}
 use Rattle.std.specs.Int.{to_be_bytes, w16}
 use Rattle.std.specs.List.{AllByRecursion, flat_map, list_any}
-use Rattle.dns_service_parameters.specs.declared.form.Form.{Form}
 use Rattle.dns_service_parameters.specs.declared.form.Form.TheVariants.{Keys}
 use Rattle.dns_service_parameters.specs.Service.{Ascend, HoldsParameters, IsAmong, IsParameter, IsValue, Parameter, Value, keys, strings, nothing, number, ipv4s, ipv6s, encoded, plain, form_at, form_of, keys_of, listed_in, octets_of, value_octets}
 use Rattle.dns_service_parameters.specs.ServiceParts.{AscendFrom, HasMandatory, HoldsOrdered, StartsWithNone, StartsWithPart}

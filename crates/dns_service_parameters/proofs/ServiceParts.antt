@@ -1,8 +1,8 @@
 -- Service parameters read one by one.
-use Rattle.std.proofs.Common.{◌≡◌, ◌≢◌, ◌+◌, ◌*◌, ◌/◌, ◌%◌, ◌<◌, ◌≤◌, ◌^◌, ◌↔◌, ℕ, List, [], ◌∷◌, ◌++◌, length, refl, sym, ◌∙◌, ap, subst, arith, append_assoc, length-append}
+use Rattle.std.proofs.Common.{◌≡◌, ◌+◌, ◌*◌, ◌/◌, ◌%◌, ◌<◌, ◌≤◌, ◌^◌, ℕ, List, [], ◌∷◌, ◌++◌, length, refl, sym, ◌∙◌, ap, subst, arith}
 use Rattle.std.specs.Int.{from_be_bytes, to_be_bytes, w16}
-use Rattle.std.specs.List.{AllByRecursion, flat_map}
-use Rattle.dns_service_parameters.specs.Service.{Ascend, IsParameter, IsValue, Parameter, form_at, form_of, keys_of, octets_of, parameter_octets, value_octets}
+use Rattle.std.specs.List.{AllByRecursion}
+use Rattle.dns_service_parameters.specs.Service.{Ascend, IsParameter, Parameter, form_at, keys_of, octets_of, parameter_octets, value_octets}
 use Rattle.dns_service_parameters.specs.ServiceParts.{AscendFrom, HoldsOrdered, HoldsValue, StartsWithNone, StartsWithPart}
 
 -- numbers of 16 bits

@@ -1,17 +1,16 @@
 -- The octets of parameters are printed as the parameters are.
-use Rattle.std.proofs.Common.{◌≡◌, ◌+◌, ◌-◌, ◌*◌, ◌/◌, ◌%◌, ◌<◌, ◌≤◌, ◌^◌, ℕ, Bool, true, false, List, [], ◌∷◌, ◌++◌, length, map, take, drop, decimal, Option, None, Some, refl, sym, ◌∙◌, ap, subst, arith, append_assoc, append-nil, length-append, nat_lt, cond}
+use Rattle.std.proofs.Common.{◌≡◌, ◌<◌, ◌^◌, ℕ, Bool, false, List, [], ◌∷◌, ◌++◌, length, map, take, drop, decimal, None, Some, refl, sym, ◌∙◌, ap, subst, arith, append_assoc, append-nil, length-append, nat_lt, cond}
 use Rattle.std.proofs.lemmas.Bool.Decides.{nat_tests}
 use Rattle.std.proofs.Math.Seq.{take-append_seam, drop-append_seam}
 use Rattle.std.specs.Int.{to_be_bytes, w16}
 use Rattle.std.specs.List.{AllByRecursion, concat, flat_map}
-use Rattle.std.specs.Net.Addr.{segments_of}
 use Rattle.dns_scan.specs.CharStr.{string_wire}
 use Rattle.dns_text.specs.Document.{Piece}
 use Rattle.dns_text.specs.Document.Piece.{Token}
 use Rattle.dns_text.specs.Writing.{Adds, written_behind}
 use Rattle.dns_service_parameters.specs.declared.form.Form.{Form}
 use Rattle.dns_service_parameters.specs.declared.form.Form.TheVariants.{Keys, Strings, Ipv4s, Ipv6s}
-use Rattle.dns_service_parameters.specs.Service.{IsParameter, IsValue, Parameter, Value, keys, strings, nothing, number, ipv4s, ipv6s, encoded, plain, form_at, form_of, octets_of, value_octets}
+use Rattle.dns_service_parameters.specs.Service.{IsParameter, IsValue, Parameter, Value, keys, strings, nothing, number, ipv4s, ipv6s, encoded, plain, form_of, octets_of, value_octets}
 use Rattle.dns_service_parameters.specs.ServiceParts.{StartsWithNone, StartsWithPart}
 use Rattle.dns_service_parameters.specs.ServiceText.{assigned, key_text, list_text, parameter_text, value_text}
 use Rattle.dns_service_parameters.specs.ServiceShown.{first_number, item_text, items, shown_parameter, shown_value, take_item, take_size, take_string}
@@ -69,23 +68,30 @@ strings_shown : (each : List (List ℕ)) → map (item_text Strings) each ≡ ea
 strings_shown [] = refl
 strings_shown (x ∷ each) = ap (λ (l : List (List ℕ)). x ∷ l) (strings_shown each)
 
+-- the items of lists
+pub keys_items : (each : List ℕ) → items Keys (flat_map (to_be_bytes w16) each) ≡ map (to_be_bytes w16) each
+keys_items each =
+    ap (items Keys) (keys_map each)
+    ∙ items_back Keys (λ x. x) (λ x. length x ≡ 2) (λ x rest is. size_back 2 x rest is) refl (map (to_be_bytes w16) each) (keys_sized each)
+
+pub strings_items : (each : List (List ℕ)) → items Strings (flat_map string_wire each) ≡ each
+strings_items each = items_back Strings string_wire (λ x. Unit {0}) (λ x rest is. string_back x rest) refl each (strings_any each)
+
+pub ipv4s_items : (each : List (List ℕ)) → AllByRecursion (λ x. length x ≡ 4) each → items Ipv4s (concat each) ≡ each
+ipv4s_items each sizes = ap (items Ipv4s) (concat_map each) ∙ items_back Ipv4s (λ x. x) (λ x. length x ≡ 4) (λ x rest is. size_back 4 x rest is) refl each sizes
+
+pub ipv6s_items : (each : List (List ℕ)) → AllByRecursion (λ x. length x ≡ 16) each → items Ipv6s (concat each) ≡ each
+ipv6s_items each sizes =
+    ap (items Ipv6s) (concat_map each) ∙ items_back Ipv6s (λ x. x) (λ x. length x ≡ 16) (λ x rest is. size_back 16 x rest is) refl each sizes
+
 -- a value
 pub value_shown : (value : Value) → IsValue value → shown_value (form_of value) (value_octets value) ≡ value_text value
-value_shown (keys each) fits =
-    ap list_text (ap (λ (l : List ℕ). map (item_text Keys) (items Keys l)) (keys_map each)
-    ∙ ap (map (item_text Keys)) (items_back Keys (λ x. x) (λ x. length x ≡ 2) (λ x rest is. size_back 2 x rest is) refl (map (to_be_bytes w16) each) (keys_sized each))
-    ∙ keys_shown each fits.1)
-value_shown (strings each) fits =
-    ap list_text (ap (map (item_text Strings)) (items_back Strings string_wire (λ x. Unit {0}) (λ x rest is. string_back x rest) refl each (strings_any each))
-    ∙ strings_shown each)
+value_shown (keys each) fits = ap list_text (ap (map (item_text Keys)) (keys_items each) ∙ keys_shown each fits.1)
+value_shown (strings each) fits = ap list_text (ap (map (item_text Strings)) (strings_items each) ∙ strings_shown each)
 value_shown nothing fits = refl
 value_shown (number n) fits = ap decimal (number_first n fits)
-value_shown (ipv4s each) fits =
-    ap list_text (ap (λ (l : List ℕ). map (item_text Ipv4s) (items Ipv4s l)) (concat_map each)
-    ∙ ap (map (item_text Ipv4s)) (items_back Ipv4s (λ x. x) (λ x. length x ≡ 4) (λ x rest is. size_back 4 x rest is) refl each fits.1))
-value_shown (ipv6s each) fits =
-    ap list_text (ap (λ (l : List ℕ). map (item_text Ipv6s) (items Ipv6s l)) (concat_map each)
-    ∙ ap (map (item_text Ipv6s)) (items_back Ipv6s (λ x. x) (λ x. length x ≡ 16) (λ x rest is. size_back 16 x rest is) refl each fits.1))
+value_shown (ipv4s each) fits = ap (λ (l : List (List ℕ)). list_text (map (item_text Ipv4s) l)) (ipv4s_items each fits.1)
+value_shown (ipv6s each) fits = ap (λ (l : List (List ℕ)). list_text (map (item_text Ipv6s) l)) (ipv6s_items each fits.1)
 value_shown (encoded octets) fits = refl
 value_shown (plain octets) fits = refl
 

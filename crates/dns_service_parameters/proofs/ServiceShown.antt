@@ -1,8 +1,8 @@
 -- How the octets of values are printed.
-use Rattle.std.proofs.Common.{◌≡◌, ◌≢◌, ◌+◌, ◌-◌, ◌*◌, ◌<◌, ◌≤◌, ◌^◌, ◌==◌, ◌||◌, ◌&&◌, not, nat_lt, cond, ℕ, zero, suc, Bool, true, false, List, [], ◌∷◌, ◌++◌, length, map, take, drop, decimal, All, Option, None, Some, refl, sym, ◌∙◌, ap, subst, arith, append_assoc, append-nil, length-append, length-drop, inl, inr, get_or}
+use Rattle.std.proofs.Common.{◌≡◌, ◌≢◌, ◌-◌, ◌<◌, ◌≤◌, ◌^◌, ◌==◌, ◌||◌, ◌&&◌, not, nat_lt, cond, ℕ, zero, suc, Bool, true, false, List, [], ◌∷◌, ◌++◌, length, map, take, drop, decimal, All, Option, None, Some, refl, sym, ◌∙◌, ap, subst, arith, append-nil, length-drop, inl, inr, get_or}
 use Rattle.std.proofs.lemmas.Bool.Decides.{nat_tests}
 use Rattle.std.proofs.lemmas.Grind.{flat_map-append}
-use Rattle.std.specs.Prelude.{codes, find, option_map, unwrap_or, IfSome, ⊤}
+use Rattle.std.specs.Prelude.{codes, find, option_map, unwrap_or, IfSome}
 use Rattle.std.specs.List.{AllByRecursion, flat_map, join_with_byte, list_all}
 use Rattle.std.specs.Net.Addr.{segments_of}
 use Rattle.std.specs.Net.Text.{ipv4_text, hex_groups_text}
@@ -23,7 +23,7 @@ use Rattle.dns_scan.specs.StringText.{unquoted_text}
 use Rattle.dns_service_parameters.specs.declared.form.Form.{Form}
 use Rattle.dns_service_parameters.specs.declared.form.Form.TheVariants.{Keys, Strings, Nothing, Number, Ipv4s, Ipv6s, Encoded, Plain}
 use Rattle.dns_service_parameters.specs.Service.{name_of, table}
-use Rattle.dns_service_parameters.specs.ServiceText.{item_octet, key_text, list_text, number_word}
+use Rattle.dns_service_parameters.specs.ServiceText.{SpellsKey, item_octet, key_text, list_text, number_word}
 use Rattle.dns_service_parameters.specs.ServiceShown.{first_items, item_text, items, shown_items, take_item, take_size, take_string}
 
 pub unquoted-append : (front behind : List ℕ) → unquoted_text (front ++ behind) ≡ unquoted_text front ++ unquoted_text behind
@@ -123,6 +123,12 @@ key_bare key small = by (name_of key) (name_bare key)
     by : (name : Option (List ℕ)) → IfSome name (λ name. list_all is_bare name ≡ true) → AllByRecursion IsBare (unwrap_or name (number_word key))
     by None is = word_bare key small
     by (Some name) is = all_bare name is
+
+-- the words of keys
+pub spelled_bare : (word : List ℕ) (key : ℕ) → SpellsKey word key → AllByRecursion IsBare word
+spelled_bare word key (inl is) =
+    all_bare word (subst (λ (o : Option (List ℕ)). IfSome o (λ name. list_all is_bare name ≡ true)) is (name_bare key))
+spelled_bare word key (inr is) = subst (AllByRecursion IsBare) (sym is.0) (word_bare key (let small = is.1 in omega (arith, small)))
 
 -- addresses
 all_each : (P : ℕ → Type 0) (xs : List ℕ) → All P xs → AllByRecursion P xs

@@ -1,12 +1,12 @@
 -- The values of service parameters in octets.
-use Rattle.std.proofs.Common.{◌≡◌, ◌≢◌, ◌+◌, ◌-◌, ◌*◌, ◌/◌, ◌%◌, ◌<◌, ◌≤◌, ◌^◌, ◌↔◌, ℕ, zero, suc, List, [], ◌∷◌, ◌++◌, length, get_or, take, drop, refl, sym, ◌∙◌, ap, subst, arith, append_assoc, append-nil, length-append, length-take, length-drop}
+use Rattle.std.proofs.Common.{◌≡◌, ◌≢◌, ◌+◌, ◌<◌, ◌≤◌, ◌^◌, ℕ, suc, List, [], ◌∷◌, ◌++◌, length, get_or, take, drop, refl, sym, ◌∙◌, ap, subst, arith, length-append, length-take}
 use Rattle.std.proofs.lemmas.List.{take-append-drop}
 use Rattle.std.specs.Prelude.{⊤}
 use Rattle.std.specs.Int.{from_be_bytes, to_be_bytes, w16}
 use Rattle.std.specs.List.{AllByRecursion, flat_map}
 use Rattle.dns_scan.specs.CharStr.{string_wire}
 use Rattle.dns_service_parameters.specs.declared.form.Form.TheVariants.{Keys, Strings, Nothing, Number, Encoded, Plain}
-use Rattle.dns_service_parameters.specs.Service.{Ascend, IsValue, Value, keys, strings, nothing, number, ipv4s, ipv6s, encoded, plain, form_of, value_octets}
+use Rattle.dns_service_parameters.specs.Service.{IsValue, Value, keys, strings, nothing, number, ipv4s, ipv6s, encoded, plain, form_of, value_octets}
 use Rattle.dns_service_parameters.specs.ServiceParts.{AscendFrom, HoldsValue}
 use Rattle.dns_service_parameters.proofs.ServiceParts.{ascend_above, ascend_from, ascend_to, number_octets, number_one, same_front}
 

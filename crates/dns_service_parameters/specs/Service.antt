@@ -1,5 +1,5 @@
 -- Service parameters, the last field of SVCB and HTTPS records, as octets (RFC 9460 2.2).
-use Rattle.std.specs.Prelude.{◌≡◌, ◌≢◌, ◌<◌, ◌≤◌, ◌^◌, ◌==◌, ℕ, true, List, [], ◌∷◌, ◌++◌, length, map, find, codes, ⊤, Option, Some, option_map, unwrap_or}
+use Rattle.std.specs.Prelude.{◌≡◌, ◌≢◌, ◌<◌, ◌≤◌, ◌^◌, ◌==◌, ℕ, true, List, [], ◌∷◌, ◌++◌, length, map, find, codes, ⊤, Option, option_map, unwrap_or}
 use Rattle.std.specs.List.{AllByRecursion, concat, flat_map, list_any}
 use Rattle.std.specs.Int.{to_be_bytes, w16}
 use Rattle.dns_scan.specs.CharStr.{string_wire}

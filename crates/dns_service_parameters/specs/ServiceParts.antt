@@ -44,7 +44,8 @@ Decides octets P result =
 
 -- each mandatory key is there
 abbrev pub HasMandatory : List Parameter → Type 0
-HasMandatory parameters = AllByRecursion (λ parameter. AllByRecursion (λ key. IsAmong key (keys_of parameters)) (listed_in parameter.value)) parameters
+HasMandatory parameters =
+    AllByRecursion (λ parameter. AllByRecursion (λ key. IsAmong key (keys_of parameters)) (listed_in parameter.value)) parameters
 
 -- the first pieces of that size, at most that number
 abbrev pub first_pieces : ℕ → ℕ → List ℕ → List (List ℕ)

@@ -8,7 +8,8 @@ use std::net::{Ipv4Addr, Ipv6Addr};
 
 /// Splits an item of a list off the front, without the length of a string.
 pub(crate) fn split_item(form: Form, octets: &[u8]) -> Option<(&[u8], &[u8])>
-    ensures some { IfSome result (λ split. (shown.take_item form octets.now ≡ Some (split.0.now, split.1.now)) × shown.IsItem form split.0.now) }
+    ensures some { IfSome result (λ split.
+        (shown.take_item form octets.now ≡ Some (split.0.now, split.1.now)) × shown.IsItem form split.0.now) }
     ensures less { IfSome result (λ split. length split.1.now < length octets.now) }
     ensures none { IfNone result (shown.take_item form octets.now ≡ None) }
 {
@@ -23,7 +24,8 @@ pub(crate) fn split_item(form: Form, octets: &[u8]) -> Option<(&[u8], &[u8])>
 
 /// Splits a string off the front, without its length. It is cut if there are fewer octets.
 fn split_string(octets: &[u8]) -> Option<(&[u8], &[u8])>
-    ensures some { IfSome result (λ split. (shown.take_string octets.now ≡ Some (split.0.now, split.1.now)) × (length split.1.now < length octets.now)) }
+    ensures some { IfSome result (λ split.
+        (shown.take_string octets.now ≡ Some (split.0.now, split.1.now)) × (length split.1.now < length octets.now)) }
     ensures none { IfNone result (shown.take_string octets.now ≡ None) }
 {
     let (&len, behind) = octets.split_first()?;
@@ -37,7 +39,9 @@ fn split_string(octets: &[u8]) -> Option<(&[u8], &[u8])>
 /// Splits that many octets off the front.
 fn split_size(octets: &[u8], size: usize) -> Option<(&[u8], &[u8])>
     requires { 0 < size }
-    ensures some { IfSome result (λ split. (shown.take_size size octets.now ≡ Some (split.0.now, split.1.now)) × (length split.0.now ≡ size) × (length split.1.now < length octets.now)) }
+    ensures some { IfSome result (λ split.
+        (shown.take_size size octets.now ≡ Some (split.0.now, split.1.now)) × (length split.0.now ≡ size)
+        × (length split.1.now < length octets.now)) }
     ensures none { IfNone result (shown.take_size size octets.now ≡ None) }
 {
     if octets.len() < size {

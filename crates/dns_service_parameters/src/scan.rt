@@ -1,18 +1,17 @@
 //! Scanning service parameters (RFC 9460 2.1).
-ghost use Rattle.std.specs.Prelude.{◌≤◌, ◌^◌, length, Any, IfOk, ◌≡◌, ◌++◌, List, ℕ, false, true, IfErr, OnOk};
+ghost use Rattle.std.specs.Prelude.{◌≡◌, ◌<◌, ◌≤◌, ◌^◌, ◌++◌, [], List, ℕ, length, false, All, Any, IfErr, IfOk, OnOk};
 ghost use Rattle.dns_scan.specs.StringText.{Spells};
 ghost use Rattle.dns_scan.specs.Token.{SameNames};
 ghost use Rattle.std.specs.List.{flat_map};
 ghost use Rattle.dns_service_parameters.specs.Service.{Parameter};
-ghost use Rattle.dns_service_parameters.specs.ServiceRead.{NoParameter, TakesParameter, written_octets};
+ghost use Rattle.dns_service_parameters.specs.ServiceRead.{AreWritten, NoParameter, NoParameters, ReadsNoValue, ReadsValue, TakesKey, TakesParameter, written_octets};
 ghost use Rattle.dns_service_parameters.specs.ServiceText.{AppendsParameters, ScansParameters};
 ghost use Rattle.dns_field_texts.specs.Appended.{GoesOn};
 
 use crate::check::{are_parameters, is_value};
-use crate::keys::{form_at, read_key};
+use crate::keys::{KeyWord, form_at, read_key};
 use crate::values::append_value;
-use dns_field_texts::append_octets;
-use dns_field_texts::split_first;
+use dns_field_texts::{append_octets, split_first};
 use dns_name::Symbol;
 use dns_text::{Scanner, ScannerError};
 use std::alloc::Global;
@@ -26,17 +25,12 @@ pub fn scan_parameters_into<S: Scanner>(
     octets: &mut Vec<u8>,
 ) -> Result<(), S::Error>
     ensures ok { OnOk result (AppendsParameters (S.tokens scanner.old) (S.tokens scanner.new) octets.old.items octets.new.items) }
-    ensures err { IfErr result (λ error. S.Error.is_short error ≡ false → (parameters : List Parameter) → ScansParameters parameters (S.tokens scanner.old) → ⊥) }
+    ensures err { IfErr result (λ error.
+        S.Error.is_short error ≡ false → (parameters : List Parameter) → ScansParameters parameters (S.tokens scanner.old) → ⊥) }
     ensures names { SameNames (S.names scanner.old) (S.names scanner.new) }
     ensures more { GoesOn octets.old.items octets.new.items }
 {
-    let mut parameters = Vec::new(*octets.allocator());
-    while scanner.continues() {
-        let parameter = scan_parameter(scanner, *octets.allocator())?;
-        if parameters.push(parameter).is_err() {
-            return Err(S::Error::short_buf());
-        }
-    }
+    let mut parameters = scan_each(scanner, *octets.allocator())?;
     parameters.sort_unstable_by_key(|parameter: &Written| parameter.key);
     let before = octets.len();
     append_parameters(&parameters, octets)?;
@@ -45,6 +39,22 @@ pub fn scan_parameters_into<S: Scanner>(
     } else {
         Err(S::Error::custom("bad service parameters"))
     }
+}
+
+/// Scans all tokens that are left as parameters, in their order.
+fn scan_each<S: Scanner>(scanner: &mut S, alloc: Global) -> Result<Vec<Written>, S::Error>
+    ensures ok { IfOk result (λ parameters. AreWritten (S.tokens scanner.old) parameters.items × (S.tokens scanner.new ≡ [])) }
+    ensures err { IfErr result (λ error. S.Error.is_short error ≡ false → NoParameters (S.tokens scanner.old)) }
+    ensures names { SameNames (S.names scanner.old) (S.names scanner.new) }
+{
+    let mut parameters = Vec::new(alloc);
+    while scanner.continues() {
+        let parameter = scan_parameter(scanner, alloc)?;
+        if parameters.push(parameter).is_err() {
+            return Err(S::Error::short_buf());
+        }
+    }
+    Ok(parameters)
 }
 
 /// A key and the octets of its value.
@@ -60,7 +70,9 @@ fn append_parameters<Error: ScannerError>(
     octets: &mut Vec<u8>,
 ) -> Result<(), Error>
     ensures ok { OnOk result (octets.new.items ≡ octets.old.items ++ flat_map written_octets parameters.now) }
-    ensures err { IfErr result (λ error. Error.is_short error ≡ false → Any (λ parameter. 2 ^ 16 ≤ length parameter.value.items) parameters.now) }
+    ensures short { OnOk result (All (λ parameter. length parameter.value.items < 2 ^ 16) parameters.now) }
+    ensures err { IfErr result (λ error.
+        Error.is_short error ≡ false → Any (λ parameter. 2 ^ 16 ≤ length parameter.value.items) parameters.now) }
     ensures more { GoesOn octets.old.items octets.new.items }
 {
     for parameter in parameters {
@@ -81,34 +93,55 @@ fn scan_parameter<S: Scanner>(scanner: &mut S, alloc: Global) -> Result<Written,
     ensures names { SameNames (S.names scanner.old) (S.names scanner.new) }
 {
     let mut text = Vec::new(alloc);
-    let (word, written) = split_first(scanner.peek_text()?, b'=');
-    let Some(word) = read_key(word) else {
-        return Err(S::Error::custom("unknown key"));
-    };
-    match written {
-        Some(written) if !written.is_empty() => read_text(written, &mut text)?,
-        Some(_) => {
-            scanner.skip_token();
-            read_text(scanner.peek_text()?, &mut text)?;
-        }
-        None => {}
-    }
-    scanner.skip_token();
-    if !word.named {
-        if is_value(form_at(word.key), &text) {
-            return Ok(Written {
-                key: word.key,
-                value: text,
-            });
-        }
-        return Err(S::Error::custom("bad value"));
-    }
-    let mut value = Vec::new(alloc);
-    append_value(form_at(word.key), &text, &mut value)?;
+    let word = scan_key(scanner, &mut text)?;
+    let value = read_value(word, text)?;
     Ok(Written {
         key: word.key,
         value,
     })
+}
+
+/// Scans the word of a key and appends the text of its value, whose escapes are decoded.
+fn scan_key<S: Scanner>(scanner: &mut S, text: &mut Vec<u8>) -> Result<KeyWord, S::Error>
+    requires { text.old.items ≡ [] }
+    ensures ok { IfOk result (λ key. TakesKey (S.tokens scanner.old) (S.tokens scanner.new) key text.new.items) }
+    ensures err { IfErr result (λ error. S.Error.is_short error ≡ false → NoParameter (S.tokens scanner.old)) }
+    ensures names { SameNames (S.names scanner.old) (S.names scanner.new) }
+{
+    let (word, written) = split_first(scanner.peek_text()?, b'=');
+    let Some(key) = read_key(word) else {
+        return Err(S::Error::custom("unknown key"));
+    };
+    match written {
+        None => {}
+        Some(written) => {
+            if written.is_empty() {
+                scanner.skip_token();
+                read_text(scanner.peek_text()?, text)?;
+            } else {
+                read_text(written, text)?;
+            }
+        }
+    }
+    scanner.skip_token();
+    Ok(key)
+}
+
+/// Returns the octets of the value of a key that a text writes.
+fn read_value<Error: ScannerError>(key: KeyWord, text: Vec<u8>) -> Result<Vec<u8>, Error>
+    ensures ok { IfOk result (λ value. ReadsValue key text.items value.items) }
+    ensures err { IfErr result (λ error. Error.is_short error ≡ false → ReadsNoValue key text.items) }
+{
+    let form = form_at(key.key);
+    if !key.named {
+        if is_value(form, &text) {
+            return Ok(text);
+        }
+        return Err(Error::custom("bad value"));
+    }
+    let mut value = Vec::new(*text.allocator());
+    append_value(form, &text, &mut value)?;
+    Ok(value)
 }
 
 /// Appends the octets that the symbols of a text stand for.

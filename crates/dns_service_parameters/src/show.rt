@@ -97,7 +97,8 @@ fn write_items<W: fmt::Write>(f: &mut fmt::Formatter<W>, form: Form, octets: &[u
 /// Writes an item of a list.
 fn write_item<W: fmt::Write>(f: &mut fmt::Formatter<W>, form: Form, item: &[u8]) -> fmt::Result
     requires { shown.IsItem form item.now }
-    ensures { DisplaysOnOk W.write_str_gives f.old result (Some (unquoted_text (flat_map item_octet (shown.item_text form item.now)))) f.new }
+    ensures { DisplaysOnOk W.write_str_gives f.old result
+        (Some (unquoted_text (flat_map item_octet (shown.item_text form item.now)))) f.new }
 {
     match form {
         Form::Keys => write_key(f, first_number(item)),

@@ -1,5 +1,4 @@
-use Rattle.std.proofs.Common.{◌≡◌, ◌<◌, ◌^◌, ◌-◌, ◌∷◌, ◌∙◌, ap, length, drop, length-drop, arith, rules}
-use Rattle.std.specs.Prelude.{slice_index}
+use Rattle.std.proofs.Common.{◌≡◌, ◌^◌, ◌-◌, ◌∷◌, ◌∙◌, ap, length, drop, length-drop, arith, rules}
 use Rattle.std.proofs.lemmas.List.{take_all}
 use Rattle.dns_values.specs.Mnemonic.{number_spelled}
 use Rattle.dns_service_parameters.proofs.ServiceNumbers.{keyed, leading_unread, number_read, number_unread}

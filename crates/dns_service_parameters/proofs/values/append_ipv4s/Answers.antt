@@ -1,5 +1,5 @@
 use Rattle.std.proofs.Common.{◌≡◌, ◌∷◌, [], ◌++◌, ℕ, List, Bor, ap, subst, rules}
-use Rattle.std.specs.Prelude.{Option, Some, None, option_map}
+use Rattle.std.specs.Prelude.{Option, None, option_map}
 use Rattle.std.specs.Net.Addr.{ipv4_octets}
 use Rattle.std.specs.Net.Grammar.{IsDotted}
 use Rattle.dns_service_parameters.proofs.ServiceAddresses.{all_sizes, dotted_bare, dotted_size, ipv4s_appended, no_ipv4s}
@@ -29,7 +29,7 @@ loop-left-preserved g c =
       so_far.0 ++ octets ∷ [],
       listing_step IsDotted dotted_bare now c.args.text.now c.in-Some.items.now c.split_first.result.0.now c.split_first.result.1 so_far.0 octets listing
           c.split_first.ensures.front c.split_first.ensures.some c.split_first.ensures.none c.in-Ok.ensures,
-      all_sizes so_far.0 octets so_far.2 (dotted_size c.in-Ok.ensures),
+      all_sizes 4 so_far.0 octets so_far.2 (dotted_size c.in-Ok.ensures),
       appended_more c.args.value.now.items c.loop-left.value.items c.append_octets.new.octets.items c.octets.result octets so_far.0 so_far.3 c.in_ok-append_octets.ensures.ok (search rules),
     )
 
