@@ -12,6 +12,7 @@
 mod build;
 mod canonical;
 mod canonical_order;
+mod folded_order;
 mod further_data;
 pub mod laws;
 mod types;
