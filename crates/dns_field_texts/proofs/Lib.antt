@@ -15,3 +15,4 @@ pub mod ShownTypes
 pub mod ScannedTypes
 pub mod PrintedTypes
 pub mod OneBitmap
+pub mod TypesLeft
