@@ -16,3 +16,4 @@ pub mod ScannedTypes
 pub mod PrintedTypes
 pub mod OneBitmap
 pub mod TypesLeft
+pub mod TypesSought
