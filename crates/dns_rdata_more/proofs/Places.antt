@@ -1,10 +1,9 @@
 -- The fields of data by their places.
-use Rattle.std.proofs.Common.{◌≡◌, ◌++◌, ◌-◌, ℕ, zero, suc, List, [], ◌∷◌, ◌∙◌, ap, sym, refl, subst, arith}
+use Rattle.std.proofs.Common.{◌≡◌, ◌++◌, ◌-◌, ℕ, suc, List, ◌∷◌, ◌∙◌, ap, sym, refl, subst, arith}
 use Rattle.std.specs.Prelude.{Some, None, Option, slice_get, option_and_then, option_map, length, ◌<◌, ◌^◌}
-use Rattle.dns_fields.specs.Fields.{Field, field_at, kind_of, field_octets, octets, rest16}
-use Rattle.dns_field_texts.specs.TypeBitmap.{IsTypeBitmap}
+use Rattle.dns_fields.specs.Fields.{Field, kind_of, field_octets, octets, rest16}
 use Rattle.dns_fields.specs.Fields as kinds
-use Rattle.dns_fields_more.specs.Forms.{AreFieldsOf, IsFieldOf, IsFurtherData, forms_of, kind_of_form}
+use Rattle.dns_fields_more.specs.Forms.{AreFieldsOf, IsFurtherData, forms_of, kind_of_form}
 use Rattle.dns_fields_more.specs.Rows.{EndWell, StandAs}
 use Rattle.dns_fields_more.specs.Values.{StandsIn, rest_field}
 use Rattle.dns_fields_more.specs.declared.form.Form.{Form}
@@ -117,20 +116,3 @@ rest16_there {n} {rtype} {place} {given} {whole} {text} same_type same kind at k
         subst (IsFieldAt rtype whole place) known
         (subst (λ (l : List ℕ). IsFieldAt rtype l place (rest_field form text)) same
         (subst (λ (m : ℕ). IsFieldAt m given place (rest_field form text)) same_type (at form its)))
-
--- a field at a place is of the form there
-field_of_form : (forms : List Form) (row : List Field) (place : ℕ) (form : Form) (field : Field) → AreFieldsOf forms row
-    → slice_get forms place ≡ Some form → field_at place row ≡ Some field → IsFieldOf form field
-field_of_form [] row place form field each there at = absurd (cc)
-field_of_form (first ∷ forms) [] place form field each there at = absurd each
-field_of_form (first ∷ forms) (its ∷ row) zero form field each there at =
-    let same : first ≡ form = cc in
-    let one : its ≡ field = cc in
-    subst (λ f. IsFieldOf form f) one (subst (λ f. IsFieldOf f its) same each.0)
-field_of_form (first ∷ forms) (its ∷ row) (suc place) form field each there at = field_of_form forms row place form field each.1 there at
-
--- a field whose form is that of types is a bitmap
-pub types_there : {rtype place : ℕ} {given text : List ℕ} → form_at rtype place ≡ Some Types → IsFieldAt rtype given place (rest16 text) → IsTypeBitmap text
-types_there {rtype} {place} {given} {text} form is =
-    (field_of_form is.is_row.forms is.row place Types (rest16 text) is.is_row.each
-    (sym (form_there rtype place is.is_row.forms is.is_row.its) ∙ form) is.there).keeps
