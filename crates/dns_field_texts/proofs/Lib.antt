@@ -17,3 +17,4 @@ pub mod PrintedTypes
 pub mod OneBitmap
 pub mod TypesLeft
 pub mod TypesSought
+pub mod TypesAscend

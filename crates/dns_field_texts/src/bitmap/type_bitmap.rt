@@ -1,6 +1,7 @@
 //! Bitmaps of types in octets.
 ghost use Rattle.std.specs.Prelude.{◌≡◌, ◌↔◌, List, ℕ, IsTrue, IsOk, IfOk};
 ghost use Rattle.std.specs.List.{Contains};
+ghost use Rattle.std.specs.List.Sorted.{IsStrictlyIncreasing};
 ghost use Rattle.dns_field_texts.specs.TypeBitmap.{IsTypeBitmap, types_in};
 
 use super::iter::TypeBitmapIter;
@@ -61,7 +62,8 @@ impl<'a> TypeBitmap<'a> {
 
     /// Iterates over the types, in ascending order.
     pub fn iter(&self) -> TypeBitmapIter<'a>
-        ensures { result ≡ types_in self.now }
+        ensures types { result ≡ types_in self.now }
+        ensures ascending { IsStrictlyIncreasing result }
     {
         TypeBitmapIter::over(self.octets)
     }
