@@ -10,8 +10,8 @@ use dns_name::Rtype;
 use std::marker::Model;
 use thiserror::Error;
 
-/// The octets are no bitmap of types: no windows in ascending order, or one that is empty, has more than 32 octets, or ends in
-/// zeros.
+/// The octets are no bitmap of types: the windows are not in ascending order, or one has no octets, more than 32, or a zero at its
+/// end.
 #[derive(Clone, Copy, Debug, PartialEq, Eq, Error)]
 #[error("invalid type bitmap")]
 pub struct TypeBitmapError;

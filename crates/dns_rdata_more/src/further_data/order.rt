@@ -15,7 +15,7 @@ use dns_rr_data::DataType;
 use std::cmp::Ordering;
 use std::hash::{Hash, Hasher};
 
-/// Names and strings up to ASCII case, as data of the types that `zonewire` knows compares.
+/// Field by field, names and strings up to ASCII case, as data of zonewire's own types compares.
 impl<T: DataType, Octs: Octets> PartialEq for FurtherData<T, Octs> {
     ghost eq = { on (row_read T.number) rows_eq };
 
@@ -31,7 +31,7 @@ impl<T: DataType, Octs: Octets> Eq for FurtherData<T, Octs> {
     ghost laws = { on_equiv (row_read T.number) rows_equivalent };
 }
 
-/// Compares field by field, names and strings in lower case, and shorter strings first.
+/// Field by field, names and strings in lower case, and a shorter string first.
 impl<T: DataType, Octs: Octets> Ord for FurtherData<T, Octs> {
     ghost cmp = { on (row_read T.number) rows_cmp };
 
@@ -67,7 +67,7 @@ impl<T: DataType, Octs: Octets> CanonicalOrd for FurtherData<T, Octs> {
     }
 }
 
-/// Equal data has equal hashes: names and strings are hashed in lower case.
+/// Names and strings are hashed in lower case, so that equal data has equal hashes.
 impl<T: DataType, Octs: Octets> Hash for FurtherData<T, Octs> {
     ghost hash_input = { λ rdata. keys (row_read T.number rdata) };
 
