@@ -1,5 +1,5 @@
 //! Bitmaps of types in octets.
-ghost use Rattle.std.specs.Prelude.{◌≡◌, ◌↔◌, List, ℕ, IsTrue, IsOk, IfOk};
+ghost use Rattle.std.specs.Prelude.{◌≡◌, ◌↔◌, ◌≤◌, List, ℕ, IsTrue, IsOk, IfOk, length};
 ghost use Rattle.std.specs.List.{Contains};
 ghost use Rattle.std.specs.List.Sorted.{IsStrictlyIncreasing};
 ghost use Rattle.dns_field_texts.specs.TypeBitmap.{IsTypeBitmap, types_in};
@@ -64,6 +64,7 @@ impl<'a> TypeBitmap<'a> {
     pub fn iter(&self) -> TypeBitmapIter<'a>
         ensures types { result ≡ types_in self.now }
         ensures ascending { IsStrictlyIncreasing result }
+        ensures few { length result ≤ 65536 }
     {
         TypeBitmapIter::over(self.octets)
     }
