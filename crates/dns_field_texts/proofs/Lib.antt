@@ -15,3 +15,6 @@ pub mod ShownTypes
 pub mod ScannedTypes
 pub mod PrintedTypes
 pub mod OneBitmap
+pub mod TypesLeft
+pub mod TypesSought
+pub mod TypesAscend

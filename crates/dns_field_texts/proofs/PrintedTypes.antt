@@ -3,7 +3,7 @@ use Rattle.std.proofs.Common.{◌≡◌, ◌≤◌, ◌<◌, ◌+◌, ◌*◌, �
 use Rattle.std.specs.List.{flat_map}
 use Rattle.dns_scan.specs.Bits.{all_bits}
 use Rattle.dns_field_texts.specs.TypeWords.{type_word_written}
-use Rattle.dns_field_texts.specs.TypeBitmap.{Window, window_octets, IsWindow, AreWindows, IsTypeBitmap, ones_from, window_types, types_in, SpellTypes, ScansTypes, printed_types}
+use Rattle.dns_field_texts.specs.TypeBitmap.{Window, window_octets, IsWindow, AreWindows, IsBitmapFrom, IsTypeBitmap, ones_from, window_types, types_in, SpellTypes, ScansTypes, printed_types}
 use Rattle.dns_field_texts.proofs.TypeBits.{In, length-all}
 use Rattle.dns_field_texts.proofs.TypeWords.{type_word_reads_back, type_word_plain}
 use Rattle.dns_field_texts.proofs.TypeWindows.{types_of}
@@ -71,13 +71,13 @@ spelled (type ∷ types) small =
       refl,
     )
 
-same_types : (octets : List ℕ) → IsTypeBitmap octets → (windows : List Window) × AreWindows 0 windows × (octets ≡ flat_map window_octets windows)
-    × (types_in octets ≡ flat_map window_types windows)
-same_types octets is = (is.windows, is.are, is.written, ap types_in is.written ∙ types_of is.windows)
+pub same_windows : {low : ℕ} (octets : List ℕ) → IsBitmapFrom low octets → (windows : List Window) × AreWindows low windows
+    × (octets ≡ flat_map window_octets windows) × (types_in octets ≡ flat_map window_types windows)
+same_windows octets is = (is.windows, is.are, is.written, ap types_in is.written ∙ types_of is.windows)
 
 pub printed_scans_back : (octets : List ℕ) → IsTypeBitmap octets → ScansTypes (printed_types (types_in octets)) [] octets
 printed_scans_back octets is =
-    let parts = same_types octets is in
+    let parts = same_windows octets is in
     let small : (t : ℕ) → In (types_in octets) t → t < 65536 =
     λ t has. (windows_from 0 parts.0 parts.1 t (subst (λ (l : List ℕ). In l t) parts.3 has)).below in
     record {

@@ -1,7 +1,8 @@
 -- Parts of bitmaps. Only contracts inside the crate name them.
-use Rattle.std.specs.Prelude.{◌≡◌, ◌↔◌, ◌⊎◌, ◌≤◌, ◌<◌, ◌-◌, ℕ, List, [], ◌∷◌, ◌++◌, length, replicate, slice_index}
+use Rattle.std.specs.Prelude.{◌≡◌, ◌↔◌, ◌⊎◌, ◌+◌, ◌≤◌, ◌<◌, ◌-◌, ℕ, List, [], ◌∷◌, ◌++◌, drop, length, replicate, slice_index}
 use Rattle.std.specs.List.{Contains}
-use Rattle.dns_field_texts.specs.TypeBitmap.{IsTypeBitmap, types_in}
+use Rattle.dns_scan.specs.Bits.{all_bits}
+use Rattle.dns_field_texts.specs.TypeBitmap.{IsBitmapFrom, IsTypeBitmap, ones_from, types_in}
 
 -- the octets begin with a window, if its octets are ones of a window
 pub record BeginsWithWindow (octets : List ℕ) (number : ℕ) (window behind : List ℕ) : Type 0 where
@@ -33,3 +34,14 @@ HasAlso old new also = (other : ℕ) → Contains new other ↔ (Contains old ot
 abbrev pub window_or_none : ℕ → List ℕ → List ℕ
 window_or_none number [] = []
 window_or_none number (octet ∷ octets) = number ∷ length (octet ∷ octets) ∷ octet ∷ octets
+
+-- the types of a window from the bit at a place on
+abbrev pub types_behind : ℕ → List ℕ → ℕ → List ℕ
+types_behind first window place = ones_from (first + place) (drop place (all_bits 8 window))
+
+-- a window, or none, whose types begin with the first, and a bitmap behind it
+pub record AreTypesLeft (first : ℕ) (window left : List ℕ) : Type 0 where
+  pub small : first ≤ 65280
+  pub few : length window ≤ 32
+  pub low : ℕ
+  pub behind : IsBitmapFrom low left

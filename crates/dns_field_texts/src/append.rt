@@ -33,10 +33,7 @@ pub(crate) fn append_counted(new: &[u8], octets: &mut Vec<u8>) -> Result<(), Wor
 }
 
 /// Appends octets. Fails with `short_buf` if out of memory.
-pub fn append_octets<Error: ScannerError>(
-    new: &[u8],
-    octets: &mut Vec<u8>,
-) -> Result<(), Error>
+pub fn append_octets<Error: ScannerError>(new: &[u8], octets: &mut Vec<u8>) -> Result<(), Error>
     ensures ok { OnOk result (octets.new.items ≡ octets.old.items ++ new.now) }
     ensures err { IfErr result (λ error. Error.is_short error ≡ true) }
     ensures more { GoesOn octets.old.items octets.new.items }

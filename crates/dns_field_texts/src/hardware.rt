@@ -16,11 +16,7 @@ use std::fmt;
 ///
 /// Fails with `Invalid` if the text is none of such an address, and if out of memory. It may then have appended some
 /// octets.
-pub fn append_hardware(
-    text: &[u8],
-    count: usize,
-    octets: &mut Vec<u8>,
-) -> Result<(), WordError>
+pub fn append_hardware(text: &[u8], count: usize, octets: &mut Vec<u8>) -> Result<(), WordError>
     ensures ok { OnOk result (Appends (IsHardwareText count text.now) octets.old.items octets.new.items) }
     ensures err { IfErr result (λ error. error ≡ Invalid → (address : List ℕ) → IsHardwareText count text.now address → ⊥) }
     ensures more { GoesOn octets.old.items octets.new.items }

@@ -15,7 +15,10 @@ mod time;
 mod type_words;
 
 pub use append::{WordError, append_octets};
-pub use bitmap::{append_types, is_type_bitmap, scan_types_into, show_types};
+pub use bitmap::{
+    TypeBitmap, TypeBitmapError, TypeBitmapIter, append_types, is_type_bitmap, scan_types_into,
+    show_types,
+};
 pub use hardware::{DisplayHardware, append_hardware};
 pub use hash_words::{DisplaySalt, append_hash, append_salt};
 pub use location::{is_location, scan_location_into, show_location};

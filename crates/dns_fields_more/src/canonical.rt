@@ -41,7 +41,7 @@ fn lower_field(form: Form, octets: &mut [u8])
 }
 
 /// Returns the length of the field of the form that the octets begin with, or that of the octets if they begin with none.
-fn field_len(form: Form, octets: &[u8]) -> usize
+pub fn field_len(form: Form, octets: &[u8]) -> usize
     ensures len { (field : Field) (rest : List ℕ) → StandsIn form octets.now field rest → result ≡ length (field_octets field) }
     ensures within { result ≤ length octets.now }
 {

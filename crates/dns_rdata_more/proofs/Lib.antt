@@ -6,3 +6,4 @@ pub mod Built
 pub mod ShownParts
 pub mod ShownRows
 pub mod Ordered
+pub mod Folded

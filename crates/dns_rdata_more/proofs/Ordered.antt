@@ -20,8 +20,8 @@ use Rattle.dns_fields_more.specs.Values.{StandsIn}
 use Rattle.dns_fields_more.specs.declared.form.Form.{Form}
 use Rattle.dns_fields_more.specs.declared.form.Form.TheVariants.{Number8, Number16, Number32, Name, CasedName, String, RestText, Rest16, Rest64, Rtype as RtypeForm, Time, Salt, Hash, Types, Parameters, Location, Eui48, Eui64}
 use Rattle.dns_fields_more.proofs.Rows.{Parted, behind, parted}
-use Rattle.dns_rdata_more.specs.FurtherData.{lowered_octets}
-use Rattle.dns_rdata_more.proofs.Rows.{ends_alike, lowered_first}
+use Rattle.dns_rdata_more.specs.FurtherData.{fields_read, lowered_octets}
+use Rattle.dns_rdata_more.proofs.Rows.{ends_alike, lowered_first, read_first}
 
 -- the octets of a field in canonical form
 abbrev Lowers : Form → Field → Type 0
@@ -140,6 +140,7 @@ pub record Cut (forms left : List Form) (form : Form) (whole first behind : List
   pub stands : StandsIn form whole field behind
   pub first_is : first ≡ field_octets field
   pub others : StandAs left behind
+  pub read_is : fields_read forms whole ≡ field ∷ fields_read left behind
   pub lowered_is : lowered_octets forms whole ≡ field_octets (lowered_as form field) ++ lowered_octets left behind
   pub none : is_last form ≡ true → lowered_octets left behind ≡ []
 
@@ -162,6 +163,7 @@ cut_off {forms} {left} {form} {whole} {first} {after} {count} is well row len fr
       stands = stands;
       first_is = front ∙ (λ i. take (long i) (its.stands.written i)) ∙ take-append_seam (field_octets its.field) its.rest;
       others = subst (StandAs left) rest_is its.others;
+      read_is = read_first is well stands row;
       lowered_is = lowered_first is well stands row;
       none = no_others form left after well';
     }

@@ -143,6 +143,22 @@ lowered_first {forms} {others} {form} {whole} {rest} {field} is well stands row 
     ∙ ap (λ l. field_octets (lowered_as form field) ++ l)
     (sym (ap (lowered_octets others) left.written ∙ lowered_back others left.row (others_well form others well') left.each))
 
+-- the fields that are read: the first one, and those behind it
+pub read_first : {forms others : List Form} {form : Form} {whole rest : List ℕ} {field : Field} → forms ≡ form ∷ others → EndWell forms
+    → StandsIn form whole field rest → StandAs forms whole → fields_read forms whole ≡ field ∷ fields_read others rest
+read_first {forms} {others} {form} {whole} {rest} {field} is well stands row =
+    let well' : EndWell (form ∷ others) = subst EndWell is well in
+    let left : StandAs others rest = behind form others whole rest field well' stands (subst (λ l. StandAs l whole) is row) in
+    let written : whole ≡ octets (field ∷ left.row) = stands.written ∙ ap (λ l. field_octets field ++ l) left.written in
+    let each : AreFieldsOf (form ∷ others) (field ∷ left.row) = (stands.is, left.each) in
+    (λ i. fields_read (is i) (written i)) ∙ rows_back (form ∷ others) (field ∷ left.row) well' each
+    ∙ ap (λ r. field ∷ r) (sym (ap (fields_read others) left.written ∙ rows_back others left.row (others_well form others well') left.each))
+
+-- the row of the type is that of its forms
+pub row_forms : (rtype : ℕ) (forms : List Form) (whole : List ℕ) → forms_of rtype ≡ Some forms → row_read rtype whole ≡ fields_read forms whole
+unfolding row_read
+row_forms rtype forms whole its = λ i. fields_read (unwrap_or (its i) []) whole
+
 pub forms_one : (rtype : ℕ) (forms : List Form) → forms_of rtype ≡ Some forms → forms_or_none rtype ≡ forms
 forms_one rtype forms its = ap (λ (found : Option (List Form)). unwrap_or found []) its
 

@@ -1,3 +1,4 @@
 pub mod FurtherData
 pub mod Built
 pub mod Shown
+pub mod Folded

@@ -1,16 +1,14 @@
 //! The canonical order of further data (RFC 4034 6.3).
-ghost use Rattle.std.specs.Prelude.{◌≡◌, ◌≤◌, ℕ, List, length, map};
+ghost use Rattle.std.specs.Prelude.{◌≡◌, map};
 ghost use Rattle.std.specs.Char.{to_ascii_lowercase};
 ghost use Rattle.std.specs.Cmp.Lexicographic.{slice_cmp};
 ghost use Rattle.std.specs.Ordering.{nat_cmp};
-ghost use Rattle.dns_fields.specs.Fields.{Field, field_octets};
 ghost use Rattle.dns_fields_more.specs.Forms.{IsFurtherData};
 ghost use Rattle.dns_fields_more.specs.Rows.{EndWell, StandAs, form_lowered};
-ghost use Rattle.dns_fields_more.specs.Values.{StandsIn};
 ghost use Rattle.dns_rdata_more.specs.FurtherData.{canonical_of, lowered_octets};
 
-use dns_fields_more::{Form, Value, forms_of};
-use dns_name::{Parser, Rtype};
+use dns_fields_more::{Form, field_len, forms_of};
+use dns_name::Rtype;
 use std::cmp::Ordering;
 
 /// Compares data of the further type with other data of it, in canonical form.
@@ -44,18 +42,6 @@ fn fields_cmp(forms: &[Form], octets: &[u8], others: &[u8]) -> Ordering
     }
 }
 
-/// Returns the length of the field of the form that the octets begin with, or that of the octets if they begin with none.
-fn field_len(form: Form, octets: &[u8]) -> usize
-    ensures len { (field : Field) (rest : List ℕ) → StandsIn form octets.now field rest → result ≡ length (field_octets field) }
-    ensures within { result ≤ length octets.now }
-{
-    let mut parser = Parser::from_ref(octets);
-    match Value::parse(form, &mut parser) {
-        Ok(_) => octets.len().saturating_sub(parser.remaining()),
-        Err(_) => octets.len(),
-    }
-}
-
 /// Compares the octets of two fields of the form, in lower case if it is a name whose form asks for it.
 fn field_cmp(form: Form, octets: &[u8], others: &[u8]) -> Ordering
     ensures { result ≡ slice_cmp nat_cmp (form_lowered form octets.now) (form_lowered form others.now) }
@@ -67,7 +53,7 @@ fn field_cmp(form: Form, octets: &[u8], others: &[u8]) -> Ordering
 }
 
 /// Compares octets as if ASCII letters were in lower case.
-fn cmp_lower(octets: &[u8], others: &[u8]) -> Ordering
+pub(crate) fn cmp_lower(octets: &[u8], others: &[u8]) -> Ordering
     ensures { result ≡ slice_cmp nat_cmp (map to_ascii_lowercase octets.now) (map to_ascii_lowercase others.now) }
 {
     let mut left = octets;

@@ -12,11 +12,13 @@
 mod build;
 mod canonical;
 mod canonical_order;
+mod folded_order;
 mod further_data;
 pub mod laws;
 mod types;
 
 pub use build::BuildError;
+pub use dns_fields_more::{TypeBitmap, TypeBitmapError, TypeBitmapIter};
 pub use further_data::{AnyFurtherData, FurtherData, FurtherDataError};
 pub use types::{
     Cdnskey, Cds, Cert, Csync, Eui48, Eui64, Https, Loc, Naptr, Nsec, Nsec3, Nsec3param,

@@ -12,10 +12,7 @@ use dns_text::{Scanner, ScannerError};
 /// Scans all words that are left, each a type, in any order and repeated or not, and appends the bitmap of these types.
 ///
 /// Fails with an error other than `short_buf` only if a token spells no type. It may have appended some octets.
-pub fn scan_types_into<S: Scanner>(
-    scanner: &mut S,
-    octets: &mut Vec<u8>,
-) -> Result<(), S::Error>
+pub fn scan_types_into<S: Scanner>(scanner: &mut S, octets: &mut Vec<u8>) -> Result<(), S::Error>
     ensures ok { OnOk result (AppendsTypes (S.tokens scanner.old) (S.tokens scanner.new) octets.old.items octets.new.items) }
     ensures err { IfErr result (λ error. S.Error.is_short error ≡ false → SpellsNoTypes (S.tokens scanner.old)) }
     ensures names { SameNames (S.names scanner.old) (S.names scanner.new) }

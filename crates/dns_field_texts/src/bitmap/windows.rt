@@ -1,5 +1,6 @@
 //! The windows of a bitmap.
-ghost use Rattle.std.specs.Prelude.{◌≡◌, ◌↔◌, ◌≤◌, ℕ, List, IsTrue, IfSome, IfNone};
+ghost use Rattle.std.specs.Prelude.{◌≡◌, ◌↔◌, ◌≤◌, ℕ, List, IsTrue, IfSome, IfNone, slice_index};
+ghost use Rattle.dns_scan.specs.Bits.{all_bits};
 ghost use Rattle.dns_field_texts.specs.TypeBitmap.{IsTypeBitmap};
 ghost use Rattle.dns_field_texts.specs.Windows.{BeginsWithWindow, AreWindowOctets};
 
@@ -44,6 +45,16 @@ fn are_window_octets(octets: &[u8]) -> bool
 {
     match octets.last() {
         Some(&last) => last != 0 && octets.len() <= 32,
+        None => false,
+    }
+}
+
+/// Returns whether a bit of the octets of a window is one, which is counted from the highest of the first octet.
+pub(super) fn is_one(octets: &[u8], place: usize) -> bool
+    ensures { IsTrue result ↔ (slice_index (all_bits 8 octets.now) place ≡ 1) }
+{
+    match octets.get(place / 8) {
+        Some(octet) => (octet >> (7 - place % 8) as u32) % 2 == 1,
         None => false,
     }
 }

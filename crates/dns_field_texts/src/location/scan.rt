@@ -51,10 +51,7 @@ const LONGITUDE: Axis = Axis {
 ///
 /// Fails with an error other than `short_buf` only if the tokens are no location. It may then have appended some
 /// octets.
-pub fn scan_location_into<S: Scanner>(
-    scanner: &mut S,
-    octets: &mut Vec<u8>,
-) -> Result<(), S::Error>
+pub fn scan_location_into<S: Scanner>(scanner: &mut S, octets: &mut Vec<u8>) -> Result<(), S::Error>
     ensures ok { OnOk result (AppendsLocation (S.tokens scanner.old) (S.tokens scanner.new) octets.old.items octets.new.items) }
     ensures err { IfErr result (λ error. S.Error.is_short error ≡ false → (location : spec.Location) → ScansLocation location (S.tokens scanner.old) → ⊥) }
     ensures names { SameNames (S.names scanner.old) (S.names scanner.new) }

@@ -5,12 +5,13 @@ ghost use Rattle.dns_fields.specs.Fields.{kind_of, number8, number16, number32, 
 ghost use Rattle.dns_fields.specs.Fields as kinds;
 ghost use Rattle.dns_fields_more.specs.Forms.{IsFurtherData, kind_of_form};
 ghost use Rattle.dns_fields_more.specs.declared.form.Form.{Form};
+ghost use Rattle.dns_fields_more.specs.declared.form.Form.TheVariants as form_of;
 ghost use Rattle.dns_fields_more.specs.Rows.{EndWell, StandAs};
 ghost use Rattle.dns_fields_more.specs.Values.{field_of};
 ghost use Rattle.dns_rdata_more.specs.FurtherData.{HasField, IsFieldAt, form_at, kind_at};
 
 use super::FurtherData;
-use dns_fields_more::{Form, Value, forms_of};
+use dns_fields_more::{Form, TypeBitmap, Value, forms_of};
 use dns_name::{Name, Octets, Parser, Rtype};
 use dns_rr_data::DataType;
 
@@ -90,6 +91,14 @@ impl<T: DataType, Octs: Octets> FurtherData<T, Octs> {
             Value::Rest(octets) => octets,
             _ => unreachable!(),
         }
+    }
+
+    /// Returns the bitmap of types at a place of the data.
+    pub(crate) fn types_at(&self, place: usize) -> TypeBitmap<'_>
+        requires { form_at T.number place ≡ Some form_of.Types }
+        ensures { IsFieldAt T.number self.now place (rest16 result) }
+    {
+        TypeBitmap::from_octets_unchecked(self.rest16_at(place))
     }
 
     /// Returns the last octets, which are printed in base 64, at a place of the data.

@@ -1,54 +1,56 @@
 //! How further data compares.
-ghost use Rattle.std.specs.Prelude.{nat_eq};
-ghost use Rattle.std.proofs.Common.{rules};
-ghost use Rattle.std.specs.Cmp.{partial_order_from_own_ties};
-ghost use Rattle.std.specs.Cmp.Lexicographic.{pointwise, slice_cmp};
-ghost use Rattle.std.specs.Cmp.Rules.{comparing, hashing};
-ghost use Rattle.std.specs.Hash as fed;
+ghost use Rattle.std.proofs.Common.{refl};
+ghost use Rattle.std.specs.Cmp.{on_equiv, on_per, on_po, on_total};
+ghost use Rattle.std.specs.Cmp.Lexicographic.{slice_cmp};
 ghost use Rattle.std.specs.Ordering.{as_partial_cmp, nat_cmp, on};
-ghost use Rattle.dns_rdata_more.specs.FurtherData.{canonical_of};
+ghost use Rattle.dns_fields.specs.Alike.{keys, rows_eq, rows_cmp};
+ghost use Rattle.dns_fields.specs.AlikeLaws.{rows_alike, rows_equivalent, rows_order, rows_partly_equivalent, rows_ties, rows_total};
+ghost use Rattle.dns_rdata_more.specs.FurtherData.{canonical_of, row_read};
 
 use super::FurtherData;
 use crate::canonical_order::canonical_further_cmp;
+use crate::folded_order::{further_cmp, hash_further};
 use dns_name::{CanonicalOrd, Octets, Rtype};
 use dns_rr_data::DataType;
 use std::cmp::Ordering;
 use std::hash::{Hash, Hasher};
 
-/// Octet for octet, so that the case of names and strings counts.
+/// Field by field, names and strings up to ASCII case, as data of zonewire's own types compares.
 impl<T: DataType, Octs: Octets> PartialEq for FurtherData<T, Octs> {
-    ghost eq = { pointwise nat_eq };
+    ghost eq = { on (row_read T.number) rows_eq };
 
-    ghost laws = { Prim.search (comparing, rules) };
+    ghost laws = { on_per (row_read T.number) rows_partly_equivalent };
 
+    #[tactic(auto, using(dns_fields::specs::AlikeLaws::rows_ties))]
     fn eq(&self, other: &Self) -> bool {
-        self.octets.octets() == other.octets.octets()
+        self.cmp(other).is_eq()
     }
 }
 
 impl<T: DataType, Octs: Octets> Eq for FurtherData<T, Octs> {
-    ghost laws = { Prim.search (comparing, rules) };
+    ghost laws = { on_equiv (row_read T.number) rows_equivalent };
 }
 
-/// Compares the octets as they are, so that the case of names and strings counts.
+/// Field by field, names and strings in lower case, and a shorter string first.
 impl<T: DataType, Octs: Octets> Ord for FurtherData<T, Octs> {
-    ghost cmp = { slice_cmp nat_cmp };
+    ghost cmp = { on (row_read T.number) rows_cmp };
 
-    ghost total = { Prim.search (comparing, rules) };
+    ghost total = { on_total (row_read T.number) rows_total };
 
-    ghost matches_partial_cmp = { Prim.search (comparing, rules) };
+    ghost matches_partial_cmp = { λ _ _. refl };
 
-    ghost matches_eq = { Prim.search (comparing, rules) };
+    ghost matches_eq = { λ rdata other. rows_ties (row_read T.number rdata) (row_read T.number other) };
 
     fn cmp(&self, other: &Self) -> Ordering {
-        self.octets.octets().cmp(other.octets.octets())
+        let rtype = Rtype::from_int(T::number());
+        further_cmp(rtype, self.octets.octets(), other.octets.octets())
     }
 }
 
 impl<T: DataType, Octs: Octets> PartialOrd for FurtherData<T, Octs> {
-    ghost partial_cmp = { as_partial_cmp (slice_cmp nat_cmp) };
+    ghost partial_cmp = { as_partial_cmp (on (row_read T.number) rows_cmp) };
 
-    ghost laws = { partial_order_from_own_ties (Prim.search (comparing, rules)) (Prim.search (comparing, rules)) };
+    ghost laws = { on_po (row_read T.number) rows_order };
 
     fn partial_cmp(&self, other: &Self) -> Option<Ordering> {
         Some(self.cmp(other))
@@ -65,12 +67,13 @@ impl<T: DataType, Octs: Octets> CanonicalOrd for FurtherData<T, Octs> {
     }
 }
 
+/// Names and strings are hashed in lower case, so that equal data has equal hashes.
 impl<T: DataType, Octs: Octets> Hash for FurtherData<T, Octs> {
-    ghost hash_input = { λ rdata. fed.slice fed.u8 rdata };
+    ghost hash_input = { λ rdata. keys (row_read T.number rdata) };
 
-    ghost respects_eq = { Prim.search (hashing, rules) };
+    ghost respects_eq = { λ rdata other. rows_alike (row_read T.number rdata) (row_read T.number other) };
 
     fn hash<H: Hasher>(&self, state: &mut H) {
-        self.octets.octets().hash(state);
+        hash_further(Rtype::from_int(T::number()), self.octets.octets(), state);
     }
 }

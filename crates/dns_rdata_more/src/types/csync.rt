@@ -5,7 +5,7 @@ ghost use Rattle.dns_rdata_more.specs.Built.{MakesTypes};
 ghost use Rattle.dns_rdata_more.specs.FurtherData.{IsFieldAt};
 
 use crate::build::{bitmap_of, build_with};
-use crate::{BuildError, FurtherData};
+use crate::{BuildError, FurtherData, TypeBitmap};
 use dns_fields_more::Value;
 use dns_name::{Octets, Rtype, Serial};
 use dns_rr_data::Number;
@@ -30,10 +30,10 @@ impl<Octs: Octets> FurtherData<Number<62>, Octs> {
     }
 
     /// Returns the bitmap of the types that are copied.
-    pub fn types(&self) -> &[u8]
-        ensures { IsFieldAt 62 self.now 2 (rest16 result.now) }
+    pub fn types(&self) -> TypeBitmap<'_>
+        ensures { IsFieldAt 62 self.now 2 (rest16 result) }
     {
-        self.rest16_at(2)
+        self.types_at(2)
     }
 }
 

@@ -5,7 +5,7 @@ ghost use Rattle.dns_rdata_more.specs.Built.{MakesTypes};
 ghost use Rattle.dns_rdata_more.specs.FurtherData.{IsFieldAt};
 
 use crate::build::{bitmap_of, build_with, hash_value, string_value};
-use crate::{BuildError, FurtherData};
+use crate::{BuildError, FurtherData, TypeBitmap};
 use dns_fields_more::Value;
 use dns_name::{Octets, Rtype};
 use dns_rr_data::Number;
@@ -51,10 +51,10 @@ impl<Octs: Octets> FurtherData<Number<50>, Octs> {
     }
 
     /// Returns the bitmap of the types that the owner has.
-    pub fn types(&self) -> &[u8]
-        ensures { IsFieldAt 50 self.now 5 (rest16 result.now) }
+    pub fn types(&self) -> TypeBitmap<'_>
+        ensures { IsFieldAt 50 self.now 5 (rest16 result) }
     {
-        self.rest16_at(5)
+        self.types_at(5)
     }
 }
 
