@@ -7,10 +7,10 @@ use Rattle.zone_forms.specs.LongerEntries.{AreLongerEntries, IsLongerEntry}
 
 -- After some entries the text fails, in this line: what follows is no row, or a row with tokens that is no entry.
 pub data FailsInLine (start : Context) (text : List ℕ) : ℕ → Type 0 where
-  broken : {front rest : List ℕ} {rows : List TokenRow} {entries : List Entry} {after : Context} → text ≡ front ++ rest
+  broken : {rest : List ℕ} {rows : List TokenRow} {entries : List Entry} {after : Context} (front : List ℕ) → text ≡ front ++ rest
       → BeginsWithRows text rows rest → BreaksAfter text rows → AreLongerEntries start rows entries after
       → FailsInLine start text (line_behind front)
-  no_entry : {front rest behind : List ℕ} {rows : List TokenRow} {row : TokenRow} {entries : List Entry} {after : Context}
-      → text ≡ front ++ rest → BeginsWithRows text rows rest → BeginsWithRows rest (row ∷ []) behind
+  no_entry : {rest behind : List ℕ} {rows : List TokenRow} {row : TokenRow} {entries : List Entry} {after : Context}
+      (front : List ℕ) → text ≡ front ++ rest → BeginsWithRows text rows rest → BeginsWithRows rest (row ∷ []) behind
       → AreLongerEntries start rows entries after → row.tokens ≢ []
       → ((entry : Entry) (next : Context) → IsLongerEntry after row entry next → ⊥) → FailsInLine start text (line_behind front)

@@ -161,7 +161,9 @@ impl Presenter {
 }
 
 impl TextForm for Presenter {
-    ghost goes = { λ presenter. GoesPresented (layout_of presenter.kind) };
+    ghost layout = { λ presenter. layout_of presenter.kind };
+
+    ghost goes = { GoesPresented };
 
     fn append_row(
         &mut self,

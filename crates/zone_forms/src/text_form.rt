@@ -2,6 +2,8 @@
 ghost use Rattle.std.specs.Prelude.{◌≡◌, ◌≢◌, ◌++◌, [], List, ℕ, false, IfErr, OnOk, OnErr};
 ghost use Rattle.dns_entry_scanner.specs.EntryError.{is_memory};
 ghost use Rattle.dns_entry_scanner.specs.NameInText.{SpellsUnder};
+ghost use Rattle.dns_text.specs.Document.{Layout};
+ghost use Rattle.dns_text.specs.Document.Layout.{Simple};
 ghost use Rattle.dns_text.specs.Rows.{TokenRow};
 ghost use Rattle.dns_zonefile.specs.Entry as spec;
 ghost use Rattle.dns_zonefile.specs.Statement.{Names};
@@ -15,9 +17,11 @@ use dns_zonefile::EntryError;
 
 /// A form of further data in a text.
 ///
-/// `goes` relates the octets of a row to those in the form, where texts spell names.
+/// `goes` relates the octets of a row to those in the form, in a layout and where texts spell names.
 pub(crate) trait TextForm {
-    ghost goes: { Self → Names → TokenRow → List ℕ → List ℕ → Type 0 };
+    ghost layout: { Self → Layout };
+
+    ghost goes: { Layout → Names → TokenRow → List ℕ → List ℕ → Type 0 };
 
     /// Reads the entry of the row, and appends the row in the form.
     ///
@@ -32,11 +36,11 @@ pub(crate) trait TextForm {
         requires some { tokens_in row ≢ [] }
         ensures ok { OnOk result ((entry : spec.Entry) × (new : List ℕ)
             × IsLongerEntry (context_in reader.old) (row_in row.entry) entry (context_in reader.new)
-            × goes self.old (SpellsUnder (context_in reader.old).origin) (row_in row.entry) (octets_in row.entry) new
+            × goes (layout self.old) (SpellsUnder (context_in reader.old).origin) (row_in row.entry) (octets_in row.entry) new
             × (out.new.items ≡ out.old.items ++ new)) }
         ensures err { IfErr result (λ error. is_memory error ≡ false → (entry : spec.Entry) (after : spec.Context)
             → IsLongerEntry (context_in reader.old) (row_in row.entry) entry after → ⊥) }
-        ensures kept { goes self.new ≡ goes self.old };
+        ensures kept { layout self.new ≡ layout self.old };
 }
 
 /// The general form (RFC 3597 5).
@@ -44,6 +48,8 @@ pub(crate) trait TextForm {
 pub(crate) struct GeneralForm;
 
 impl TextForm for GeneralForm {
+    ghost layout = { λ _. Simple };
+
     ghost goes = { λ _. GoesGeneral };
 
     fn append_row(

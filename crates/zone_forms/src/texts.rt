@@ -74,7 +74,7 @@ fn rewrite<F: TextForm>(
     form: &mut F,
 ) -> Result<Vec<u8>, FormError>
     ensures ok { IfOk result (λ new. (entries : List spec.Entry) × (after : spec.Context)
-        × GoesTo (F.goes form.old) (context_in reader.old) text.now new.items entries after) }
+        × GoesTo (F.goes (F.layout form.old)) (context_in reader.old) text.now new.items entries after) }
     ensures err { IfErr result (λ error. (line : ℕ) → error ≡ Line line → FailsInLine (context_in reader.old) text.now line) }
 {
     let mut out = Vec::new(alloc);
@@ -115,11 +115,11 @@ fn append_row<F: TextForm>(
     out: &mut Vec<u8>,
 ) -> Result<(), EntryError>
     requires { IsFound row }
-    ensures ok { OnOk result (AppendsRow (F.goes form.old) (context_in reader.old) (row_in row.entry) (octets_in row.entry) (context_in reader.new)
+    ensures ok { OnOk result (AppendsRow (F.goes (F.layout form.old)) (context_in reader.old) (row_in row.entry) (octets_in row.entry) (context_in reader.new)
         out.old.items out.new.items) }
     ensures err { IfErr result (λ error. is_memory error ≡ false → (tokens_in row.entry ≢ []) × ((entry : spec.Entry) (after : spec.Context)
         → IsLongerEntry (context_in reader.old) (row_in row.entry) entry after → ⊥)) }
-    ensures kept { F.goes form.new ≡ F.goes form.old }
+    ensures kept { F.layout form.new ≡ F.layout form.old }
 {
     if row.spans.is_empty() {
         return Ok(out.extend_from_slice(row.octets())?);

@@ -9,5 +9,5 @@ use Rattle.dns_zonefile.proofs.entry_reader.EntryReader.read_entry.Goals as goal
 pub returns-clause-err : goal.returns-clause-err
 returns-clause-err c =
     subst (λ (context : spec.Context). IfErr c.take_row.result (λ error. is_memory error ≡ false → (entry : spec.Entry) (after : spec.Context)
-        → IsEntry context (row_of c.args.blank_led (map (λ span. token_in c.args.text.now span) c.args.spans.now)) entry after → ⊥))
+    → IsEntry context (row_of c.args.blank_led (map (λ span. token_in c.args.text.now span) c.args.spans.now)) entry after → ⊥))
     c.self.view_is c.take_row.ensures.err
