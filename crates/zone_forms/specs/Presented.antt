@@ -7,24 +7,24 @@ use Rattle.dns_text.specs.Rows.{TokenRow}
 use Rattle.dns_field_texts.specs.TypeWords.{type_word_written}
 use Rattle.dns_fields_more.specs.Forms.{IsFurtherData}
 use Rattle.dns_rdata_more.specs.Shown.{further_document}
+use Rattle.dns_entry_scanner.specs.NameInText.{SpellsUnder}
 use Rattle.dns_zonefile.specs.Entries.{HasEntries}
 use Rattle.dns_zonefile.specs.Entry.{Context, Entry}
-use Rattle.dns_zonefile.specs.Statement.{Names}
-use Rattle.zone_forms.specs.LongerEntries.{HasLongerEntries}
+use Rattle.zone_forms.specs.LongerEntries.{HasLongerEntries, IsLongerEntry}
 use Rattle.zone_forms.specs.LongerRow.{HasType, IsMarked, ScansLonger}
 use Rattle.zone_forms.specs.Rewritten.{AreRow, GoesGeneral, GoesTo, Rewrites}
 
--- The octets of a row, and what is printed for it: the same; or, if its data is in general form and is data of a further type, its
--- mnemonic and the fields, in this layout or on one line. What is printed reads as a row with the same tokens before the type, the same
--- type, and the same octets of data.
-pub data GoesPresented (layout : Layout) (names : Names) (row : TokenRow) (octets : List ℕ) : List ℕ → Type 0 where
-  same : GoesPresented layout names row octets octets
-  presented : {front data' printed_data : List Token} {word other : Token} {rtype : ℕ} {content new : List ℕ} {shown : Layout}
-      {printed : TokenRow} → (shown ≡ layout) ⊎ (shown ≡ Simple) → HasType row front word rtype data' → IsMarked data'
-      → ScansLonger names rtype data' content → IsFurtherData rtype content
+-- The row is this entry; and its octets, and what is printed for it: the same; or, if its data is in general form and is data of a
+-- further type, its mnemonic and the fields, in this layout or on one line. What is printed is a row of this entry too.
+pub data GoesPresented (layout : Layout) (context : Context) (row : TokenRow) (octets : List ℕ) : List ℕ → Entry → Context → Type 0 where
+  same : {entry : Entry} {after : Context} → IsLongerEntry context row entry after
+      → GoesPresented layout context row octets octets entry after
+  presented : {front data' : List Token} {word : Token} {rtype : ℕ} {content new : List ℕ} {printed : TokenRow} {entry : Entry}
+      {after : Context} (shown : Layout) → IsLongerEntry context row entry after → (shown ≡ layout) ⊎ (shown ≡ Simple)
+      → HasType row front word rtype data' → IsMarked data' → ScansLonger (SpellsUnder context.origin) rtype data' content
+      → IsFurtherData rtype content
       → Rewrites row front word data' (type_word_written rtype) (document_text shown (further_document rtype content)) octets new
-      → AreRow new printed → HasType printed front other rtype printed_data → (IsMarked printed_data → ⊥)
-      → ScansLonger names rtype printed_data content → GoesPresented layout names row octets new
+      → AreRow new printed → IsLongerEntry context printed entry after → GoesPresented layout context row octets new entry after
 
 -- The new text is the text with further data in general form: by the longer table the text has the entries that the new text has.
 pub record IsGeneralOf (start : Context) (text new : List ℕ) : Type 0 where

@@ -1,5 +1,5 @@
 -- Texts in which the data of some rows is written otherwise.
-use Rattle.std.specs.Prelude.{◌≡◌, ◌≢◌, ℕ, Bool, true, false, List, [], ◌∷◌, ◌++◌, map}
+use Rattle.std.specs.Prelude.{◌≡◌, ◌≢◌, ℕ, true, false, List, [], ◌∷◌, ◌++◌}
 use Rattle.std.specs.List.{flat_map}
 use Rattle.dns_scan.specs.Token.{Token, unquoted}
 use Rattle.dns_text.specs.Rows.{TokenRow, is_led}
@@ -7,9 +7,7 @@ use Rattle.dns_text.specs.Tokens.{Row, is_end}
 use Rattle.dns_name.specs.UnknownText.{unknown_text}
 use Rattle.dns_entry_scanner.specs.NameInText.{SpellsUnder}
 use Rattle.dns_zonefile.specs.Entry.{Context, Entry, IsEntry}
-use Rattle.dns_zonefile.specs.Statement.{Names}
-use Rattle.zone_forms.specs.LongerEntries.{IsLongerEntry}
-use Rattle.zone_forms.specs.LongerRow.{HasType, IsGeneralRow, IsMarked, ScansLonger, Stands, known_word}
+use Rattle.zone_forms.specs.LongerRow.{IsGeneralRow, general_tokens}
 use Rattle.zone_forms.specs.Parts.{AreParts, Part, part_octets, row_octets, tokens_of}
 
 -- the octets are a row, and nothing else
@@ -47,19 +45,29 @@ pub record Rewrites (row : TokenRow) (front : List Token) (word : Token) (data' 
   pub written : octets ≡ row_octets (front_parts ++ type_part ∷ data_parts) last
   pub rewritten : new ≡ flat_map part_octets front_parts ++ (type_part.gap ++ (other ++ (data_octets data_parts text ++ last)))
 
--- the octets of a row, and those of its general row: the same, or with a known word and with the general form in place of its data
-pub data GoesGeneral (names : Names) (row : TokenRow) (octets : List ℕ) : List ℕ → Type 0 where
-  same : Stands row → GoesGeneral names row octets octets
-  further : {front data' : List Token} {word : Token} {rtype : ℕ} {content new : List ℕ} → (Stands row → ⊥)
-      → HasType row front word rtype data' → ScansLonger names rtype data' content
-      → Rewrites row front word data' (known_word word rtype) (unknown_text content) octets new → GoesGeneral names row octets new
+-- The octets of a row and those of its general row: the same if it is its own, and else with a known word and with the general form in
+-- place of its data.
+pub data IsWrittenAs (row general : TokenRow) (octets : List ℕ) : List ℕ → Type 0 where
+  same : general ≡ row → IsWrittenAs row general octets octets
+  further : {front data' : List Token} {word : Token} {content new : List ℕ} (other : List ℕ) → row.tokens ≡ front ++ word ∷ data'
+      → general.tokens ≡ front ++ unquoted other ∷ general_tokens content
+      → Rewrites row front word data' other (unknown_text content) octets new → IsWrittenAs row general octets new
 
--- The text goes to the other, row by row, each as the relation says in the context of the entries before it; these are the entries of
--- both. Rows without tokens stay, and so does the end of the text behind its last row.
-pub data GoesTo (Goes : Names → TokenRow → List ℕ → List ℕ → Type 0) : Context → List ℕ → List ℕ → List Entry → Context → Type 0 where
+-- The row is this entry, since its general row is; and these are the octets of both.
+pub record GoesGeneral (context : Context) (row : TokenRow) (octets new : List ℕ) (entry : Entry) (after : Context) : Type 0 where
+  pub general : TokenRow
+  pub is : IsGeneralRow (SpellsUnder context.origin) row general
+  pub so : IsEntry context general entry after
+  pub are : AreRow new general
+  pub written : IsWrittenAs row general octets new
+
+-- The text goes to the other, row by row, each row with its entry as the relation says, in the context of the entries before it. Rows
+-- without tokens stay, and so does the end of the text behind its last row.
+pub data GoesTo (Goes : Context → TokenRow → List ℕ → List ℕ → Entry → Context → Type 0)
+    : Context → List ℕ → List ℕ → List Entry → Context → Type 0 where
   ended : {context : Context} {rest : List ℕ} → is_end rest ≡ true → GoesTo Goes context rest rest [] context
-  bare : {context after : Context} {octets text new : List ℕ} {row : TokenRow} {entries : List Entry} → AreRow octets row
+  bare : {context after : Context} {text new : List ℕ} {row : TokenRow} {entries : List Entry} (octets : List ℕ) → AreRow octets row
       → row.tokens ≡ [] → GoesTo Goes context text new entries after → GoesTo Goes context (octets ++ text) (octets ++ new) entries after
-  more : {context next after : Context} {octets others text new : List ℕ} {row : TokenRow} {entry : Entry} {entries : List Entry}
-      → AreRow octets row → row.tokens ≢ [] → IsLongerEntry context row entry next → Goes (SpellsUnder context.origin) row octets others
+  more : {context next after : Context} {text new : List ℕ} {row : TokenRow} {entry : Entry} {entries : List Entry} (octets others : List ℕ)
+      → AreRow octets row → row.tokens ≢ [] → Goes context row octets others entry next
       → GoesTo Goes next text new entries after → GoesTo Goes context (octets ++ text) (others ++ new) (entry ∷ entries) after

@@ -7,11 +7,8 @@ use Rattle.dns_text.specs.Rows.{TokenRow}
 use Rattle.dns_entry_scanner.specs.RowFound.{IsRowAt}
 use Rattle.dns_entry_scanner.specs.TokenEnd.{between}
 use Rattle.dns_entry_scanner.specs.TokenSpan.{token_in}
-use Rattle.dns_entry_scanner.specs.NameInText.{SpellsUnder}
 use Rattle.dns_zonefile.specs.Entry.{Context, Entry}
-use Rattle.dns_zonefile.specs.Statement.{Names}
 use Rattle.dns_zonefile.specs.Seen.{row_of}
-use Rattle.zone_forms.specs.LongerEntries.{IsLongerEntry}
 use Rattle.zone_forms.specs.LongerRow.{HasType}
 use Rattle.zone_forms.specs.Parts.{AreParts, Part, part_octets, row_octets, tokens_of}
 use Rattle.zone_forms.specs.Rewritten.{AreRow, data_octets}
@@ -70,9 +67,9 @@ abbrev pub octets_of : RowForm → List ℕ → List ℕ → List ℕ
 octets_of Same octets others = octets
 octets_of Further octets others = others
 
--- The row is appended to the old octets, in a form: as it is if it has no tokens, and else as its entry is read.
-pub data AppendsRow (Goes : Names → TokenRow → List ℕ → List ℕ → Type 0) (context : Context) (row : TokenRow) (octets : List ℕ) (after : Context)
-    (old new : List ℕ) : Type 0 where
+-- The row is appended to the old octets: as it is if it has no tokens, and else as the relation says.
+pub data AppendsRow (Goes : Context → TokenRow → List ℕ → List ℕ → Entry → Context → Type 0) (context : Context) (row : TokenRow)
+    (octets : List ℕ) (after : Context) (old new : List ℕ) : Type 0 where
   bare : row.tokens ≡ [] → after ≡ context → new ≡ old ++ octets → AppendsRow Goes context row octets after old new
-  entry : {entry : Entry} {more : List ℕ} → row.tokens ≢ [] → IsLongerEntry context row entry after
-      → Goes (SpellsUnder context.origin) row octets more → new ≡ old ++ more → AppendsRow Goes context row octets after old new
+  entry : {entry : Entry} (more : List ℕ) → row.tokens ≢ [] → Goes context row octets more entry after → new ≡ old ++ more
+      → AppendsRow Goes context row octets after old new

@@ -86,9 +86,8 @@ impl LongerReader {
     /// Reads the entry of the row. Fails with an error other than `OutOfMemory` only if the row is no entry.
     pub(crate) fn read_entry(&mut self, row: FoundRow<'_>) -> Result<RowForm, EntryError>
         requires { IsFound row }
-        ensures ok { IfOk result (λ form. (entry : spec.Entry) × IsLongerEntry (context_in self.old) (row_in row.entry) entry (context_in self.new)
-            × GoesGeneral (SpellsUnder (context_in self.old).origin) (row_in row.entry) (octets_in row.entry)
-            (octets_of form (octets_in row.entry) self.new.general.items)) }
+        ensures ok { IfOk result (λ form. (entry : spec.Entry) × GoesGeneral (context_in self.old) (row_in row.entry) (octets_in row.entry)
+            (octets_of form (octets_in row.entry) self.new.general.items) entry (context_in self.new)) }
         ensures err { IfErr result (λ error. is_memory error ≡ false → (entry : spec.Entry) (after : spec.Context)
             → IsLongerEntry (context_in self.old) (row_in row.entry) entry after → ⊥) }
         ensures same { OnErr result (context_in self.new ≡ context_in self.old) }
@@ -126,8 +125,8 @@ impl LongerReader {
         requires found { IsFound row }
         requires has { HasTypeAt (row_in row) kind }
         requires not { Stands (row_in row) → ⊥ }
-        ensures ok { OnOk result ((entry : spec.Entry) × IsLongerEntry (context_in self.old) (row_in row.entry) entry (context_in self.new)
-            × GoesGeneral (SpellsUnder (context_in self.old).origin) (row_in row.entry) (octets_in row.entry) self.new.general.items) }
+        ensures ok { OnOk result ((entry : spec.Entry) × GoesGeneral (context_in self.old) (row_in row.entry) (octets_in row.entry)
+            self.new.general.items entry (context_in self.new)) }
         ensures err { IfErr result (λ error. is_memory error ≡ false → (entry : spec.Entry) (after : spec.Context)
             → IsLongerEntry (context_in self.old) (row_in row.entry) entry after → ⊥) }
         ensures same { OnErr result (context_in self.new ≡ context_in self.old) }
