@@ -1,0 +1,2 @@
+pub mod RowGaps
+pub mod RowParts
