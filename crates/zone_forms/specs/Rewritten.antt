@@ -49,7 +49,7 @@ pub record Rewrites (row : TokenRow) (front : List Token) (word : Token) (data' 
 -- place of its data.
 pub data IsWrittenAs (row general : TokenRow) (octets : List ℕ) : List ℕ → Type 0 where
   same : general ≡ row → IsWrittenAs row general octets octets
-  further : {front data' : List Token} {word : Token} {content new : List ℕ} (other : List ℕ) → row.tokens ≡ front ++ word ∷ data'
+  further : {front data' : List Token} {word : Token} {new : List ℕ} (other content : List ℕ) → row.tokens ≡ front ++ word ∷ data'
       → general.tokens ≡ front ++ unquoted other ∷ general_tokens content
       → Rewrites row front word data' other (unknown_text content) octets new → IsWrittenAs row general octets new
 

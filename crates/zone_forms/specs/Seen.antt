@@ -9,6 +9,7 @@ use Rattle.dns_entry_scanner.specs.TokenEnd.{between}
 use Rattle.dns_entry_scanner.specs.TokenSpan.{token_in}
 use Rattle.dns_zonefile.specs.Entry.{Context, Entry}
 use Rattle.dns_zonefile.specs.Seen.{row_of}
+use Rattle.zone_forms.specs.LongerEntries.{IsLongerEntry}
 use Rattle.zone_forms.specs.LongerRow.{HasType}
 use Rattle.zone_forms.specs.Parts.{AreParts, Part, part_octets, row_octets, tokens_of}
 use Rattle.zone_forms.specs.Rewritten.{AreRow, data_octets}
@@ -71,5 +72,5 @@ octets_of Further octets others = others
 pub data AppendsRow (Goes : Context → TokenRow → List ℕ → List ℕ → Entry → Context → Type 0) (context : Context) (row : TokenRow)
     (octets : List ℕ) (after : Context) (old new : List ℕ) : Type 0 where
   bare : row.tokens ≡ [] → after ≡ context → new ≡ old ++ octets → AppendsRow Goes context row octets after old new
-  entry : {entry : Entry} (more : List ℕ) → row.tokens ≢ [] → Goes context row octets more entry after → new ≡ old ++ more
+  entry : {entry : Entry} (more : List ℕ) → row.tokens ≢ [] → IsLongerEntry context row entry after → Goes context row octets more entry after → new ≡ old ++ more
       → AppendsRow Goes context row octets after old new

@@ -1,11 +1,15 @@
 //! Rows with further data in presentation form.
-ghost use Rattle.std.specs.Prelude.{◌≡◌, ◌↔◌, ◌<◌, ℕ, List, true, false, length, take, slice_index, option_copied, IsTrue, IfErr, IfOk, IfSome};
+ghost use Rattle.std.specs.Prelude.{◌≡◌, ◌<◌, ℕ, List, true, length, string_bytes, take, option_copied, IsTrue, IfErr, IfOk, IfSome};
 ghost use Rattle.dns_entry_scanner.specs.EntryError.{is_memory};
 ghost use Rattle.dns_entry_scanner.specs.NameInText.{SpellsUnder};
+ghost use Rattle.dns_field_texts.specs.TypeWords.{type_word_written};
+ghost use Rattle.dns_fields_more.specs.Forms.{IsFurtherData};
+ghost use Rattle.dns_rdata_more.specs.Shown.{further_document};
+ghost use Rattle.dns_text.specs.Document.{document_text};
 ghost use Rattle.dns_text.specs.Layout.{layout_of};
 ghost use Rattle.zone_forms.specs.Presented.{GoesPresented};
-ghost use Rattle.zone_forms.specs.Presenting.{PrintsRow, ReadsBack};
-ghost use Rattle.zone_forms.specs.Seen.{HasTypeAt, IsFound, octets_in, row_in, tokens_in};
+ghost use Rattle.zone_forms.specs.Presenting.{PrintsAs, PrintsRow, ReadsBack};
+ghost use Rattle.zone_forms.specs.Seen.{HasTypeAt, IsFound, row_in, tokens_in};
 
 use crate::found_row::FoundRow;
 use crate::longer_reader::LongerReader;
@@ -14,10 +18,10 @@ use crate::row_data::{is_marked, scan_data};
 use crate::row_type::{RowType, row_type};
 use crate::text_form::TextForm;
 use dns_field_texts::DisplayType;
-use dns_name::Name;
+use dns_name::{Name, Rtype};
 use dns_rdata_more::AnyFurtherData;
 use dns_text::{DisplayKind, ZonefileFmt};
-use dns_zonefile::{EntryError, RowFound, TokenSpan, read_row};
+use dns_zonefile::{EntryError, RowFound, read_row};
 use std::alloc::Global;
 use std::fmt::Write;
 
@@ -26,12 +30,6 @@ use std::fmt::Write;
 pub(crate) struct Presenter {
     alloc: Global,
     kind: DisplayKind,
-    /// The row that was printed last.
-    row: Vec<u8>,
-    /// Its tokens. These and the data are kept from row to row only to reuse the memory.
-    spans: Vec<TokenSpan>,
-    data: Vec<u8>,
-    read_back: Vec<u8>,
 }
 
 impl Presenter {
@@ -39,124 +37,7 @@ impl Presenter {
     pub(crate) fn new(alloc: Global, kind: DisplayKind) -> Self
         ensures { result.kind ≡ kind }
     {
-        Presenter {
-            alloc,
-            kind,
-            row: Vec::new(alloc),
-            spans: Vec::new(alloc),
-            data: Vec::new(alloc),
-            read_back: Vec::new(alloc),
-        }
-    }
-
-    /// Prints the row in presentation form, if its data is in general form and is data of a further type, and returns whether
-    /// it did. What is printed reads as the same data.
-    ///
-    /// Fails only with `OutOfMemory`.
-    fn print_row(
-        &mut self,
-        origin: Option<&Name<Vec<u8>>>,
-        row: FoundRow<'_>,
-    ) -> Result<bool, EntryError>
-        requires { IsFound row }
-        ensures ok { IfOk result (λ printed. IsTrue printed → GoesPresented (layout_of self.old.kind) (SpellsUnder (option_copied origin.entry))
-            (row_in row.entry) (octets_in row.entry) self.new.row.items) }
-        ensures err { IfErr result (λ error. is_memory error ≡ true) }
-        ensures kind { self.new.kind ≡ self.old.kind }
-    {
-        let Some(kind) = row_type(row) else {
-            return Ok(false);
-        };
-        if !is_marked(row, kind) {
-            return Ok(false);
-        }
-        self.data.clear();
-        match scan_data(self.alloc, row, kind, origin, &mut self.data) {
-            Ok(()) => {}
-            Err(EntryError::OutOfMemory) => return Err(EntryError::OutOfMemory),
-            Err(_) => return Ok(false),
-        }
-        if self.print_data(row, kind, self.kind)? && self.reads_back(origin, row, kind)? {
-            return Ok(true);
-        }
-        Ok(self.print_data(row, kind, DisplayKind::Simple)? && self.reads_back(origin, row, kind)?)
-    }
-
-    /// Prints the row with its data as fields, and returns whether it is of a further type.
-    fn print_data(
-        &mut self,
-        row: FoundRow<'_>,
-        kind: RowType,
-        layout: DisplayKind,
-    ) -> Result<bool, EntryError>
-        requires found { IsFound row }
-        requires has { HasTypeAt (row_in row) kind }
-        ensures ok { IfOk result (λ printed. IsTrue printed → PrintsRow row.entry kind (layout_of layout) self.old.data.items self.new.row.items) }
-        ensures err { IfErr result (λ error. is_memory error ≡ true) }
-        ensures kept { (self.new.data ≡ self.old.data) × (self.new.kind ≡ self.old.kind) }
-    {
-        let Ok(data) = AnyFurtherData::from_octets(kind.rtype, &self.data) else {
-            return Ok(false);
-        };
-        let mut word = String::new(self.alloc);
-        let mut text = String::new(self.alloc);
-        if write!(word, "{}", DisplayType(kind.rtype)).is_err() {
-            return Err(EntryError::OutOfMemory);
-        }
-        if write!(text, "{}", data.display_zonefile(layout)).is_err() {
-            return Err(EntryError::OutOfMemory);
-        }
-        self.row.clear();
-        append_rewritten(
-            row,
-            kind.index,
-            word.as_bytes(),
-            text.as_bytes(),
-            &mut self.row,
-        )?;
-        Ok(true)
-    }
-
-    /// Returns whether what was printed reads as the row: with the same tokens before the type, the same type and the same data.
-    fn reads_back(
-        &mut self,
-        origin: Option<&Name<Vec<u8>>>,
-        row: FoundRow<'_>,
-        kind: RowType,
-    ) -> Result<bool, EntryError>
-        requires { HasTypeAt (row_in row) kind }
-        ensures ok { IfOk result (λ alike. IsTrue alike
-            → ReadsBack (SpellsUnder (option_copied origin.entry)) (row_in row.entry) kind self.old.data.items self.new.row.items) }
-        ensures err { IfErr result (λ error. is_memory error ≡ true) }
-        ensures kept { (self.new.data ≡ self.old.data) × (self.new.row ≡ self.old.row) × (self.new.kind ≡ self.old.kind) }
-    {
-        let RowFound::Row { next, blank_led } = read_row(&self.row, 0, &mut self.spans)? else {
-            return Ok(false);
-        };
-        let printed = FoundRow {
-            text: &self.row,
-            place: 0,
-            next,
-            spans: &self.spans,
-            blank_led,
-        };
-        if next != self.row.len() || blank_led != row.blank_led {
-            return Ok(false);
-        }
-        match row_type(printed) {
-            Some(other)
-                if other.index == kind.index
-                    && other.rtype == kind.rtype
-                    && !is_marked(printed, other)
-                    && have_same_front(row, printed, kind.index) => {}
-            _ => return Ok(false),
-        }
-        self.read_back.clear();
-        match scan_data(self.alloc, printed, kind, origin, &mut self.read_back) {
-            Ok(()) => Ok(self.read_back == self.data),
-            Err(EntryError::OutOfMemory) => Err(EntryError::OutOfMemory),
-            Err(_) => Ok(false),
-        }
+        Presenter { alloc, kind }
     }
 }
 
@@ -171,20 +52,172 @@ impl TextForm for Presenter {
         row: FoundRow<'_>,
         out: &mut Vec<u8>,
     ) -> Result<(), EntryError> {
-        let printed = self.print_row(reader.origin(), row)?;
+        let printed = printed_row(self.alloc, self.kind, reader.origin(), row)?;
         reader.read_entry(row)?;
-        let octets = if printed { &self.row } else { row.octets() };
-        Ok(out.extend_from_slice(octets)?)
+        match printed {
+            Some(printed) => Ok(out.extend_from_slice(&printed)?),
+            None => Ok(out.extend_from_slice(row.octets())?),
+        }
     }
 }
 
-/// Returns whether the first tokens of both rows, so many, are the same.
-fn have_same_front(row: FoundRow<'_>, other: FoundRow<'_>, count: usize) -> bool
-    requires these { count < length row.spans.now }
-    requires those { count < length other.spans.now }
-    ensures { IsTrue result → take count (tokens_in row.entry) ≡ take count (tokens_in other.entry) }
+/// Returns the row in presentation form, if its data is in general form and is data of a further type. It is printed in the
+/// layout, or if that does not read as the row, on one line.
+///
+/// Fails only with `OutOfMemory`.
+fn printed_row<'a>(
+    alloc: Global,
+    layout: DisplayKind,
+    origin: Option<&'a Name<Vec<u8>>>,
+    row: FoundRow<'a>,
+) -> Result<Option<Vec<u8>>, EntryError>
+    requires { IsFound row }
+    ensures ok { IfOk result (λ printed. IfSome printed (λ octets. PrintsRow (SpellsUnder (option_copied origin.entry)) row.entry
+        (layout_of layout) octets.items)) }
+    ensures err { IfErr result (λ error. is_memory error ≡ true) }
 {
-    for index in 0..count {
+    let Some(kind) = row_type(row) else {
+        return Ok(None);
+    };
+    if !is_marked(row, kind) {
+        return Ok(None);
+    }
+    let mut data = Vec::new(alloc);
+    match scan_data(alloc, row, kind, origin, &mut data) {
+        Ok(()) => {}
+        Err(EntryError::OutOfMemory) => return Err(EntryError::OutOfMemory),
+        Err(_) => return Ok(None),
+    }
+    match printed_as(alloc, layout, origin, row, kind, &data)? {
+        Some(printed) => Ok(Some(printed)),
+        None => printed_as(alloc, DisplayKind::Simple, origin, row, kind, &data),
+    }
+}
+
+/// Returns the row with these octets of data as fields in the layout, if they are data of a further type and what is printed
+/// reads as the row.
+///
+/// Fails only with `OutOfMemory`.
+fn printed_as<'a>(
+    alloc: Global,
+    layout: DisplayKind,
+    origin: Option<&'a Name<Vec<u8>>>,
+    row: FoundRow<'a>,
+    kind: RowType,
+    data: &[u8],
+) -> Result<Option<Vec<u8>>, EntryError>
+    requires found { IsFound row }
+    requires has { HasTypeAt (row_in row) kind }
+    ensures ok { IfOk result (λ printed. IfSome printed (λ octets. PrintsAs (SpellsUnder (option_copied origin.entry)) row.entry kind
+        (layout_of layout) data.now octets.items)) }
+    ensures err { IfErr result (λ error. is_memory error ≡ true) }
+{
+    let Some(text) = fields_text(alloc, layout, kind.rtype, data)? else {
+        return Ok(None);
+    };
+    let word = mnemonic(alloc, kind.rtype)?;
+    let mut printed = Vec::new(alloc);
+    append_rewritten(
+        row,
+        kind.index,
+        word.as_bytes(),
+        text.as_bytes(),
+        &mut printed,
+    )?;
+    if reads_back(alloc, origin, row, kind, data, &printed)? {
+        Ok(Some(printed))
+    } else {
+        Ok(None)
+    }
+}
+
+/// Returns the text of the fields that the octets are, or None if they are no data of a further type.
+///
+/// Fails only with `OutOfMemory`.
+fn fields_text(
+    alloc: Global,
+    layout: DisplayKind,
+    rtype: Rtype,
+    octets: &[u8],
+) -> Result<Option<String>, EntryError>
+    ensures ok { IfOk result (λ text. IfSome text (λ text. IsFurtherData rtype octets.now
+        × (string_bytes text ≡ document_text (layout_of layout) (further_document rtype octets.now)))) }
+    ensures err { IfErr result (λ error. is_memory error ≡ true) }
+{
+    let Ok(data) = AnyFurtherData::from_octets(rtype, octets) else {
+        return Ok(None);
+    };
+    let mut text = String::new(alloc);
+    match write!(text, "{}", data.display_zonefile(layout)) {
+        Ok(()) => Ok(Some(text)),
+        Err(_) => Err(EntryError::OutOfMemory),
+    }
+}
+
+/// Returns the word for the type.
+fn mnemonic(alloc: Global, rtype: Rtype) -> Result<String, EntryError>
+    ensures ok { IfOk result (λ text. string_bytes text ≡ type_word_written rtype) }
+    ensures err { IfErr result (λ error. is_memory error ≡ true) }
+{
+    let mut text = String::new(alloc);
+    match write!(text, "{}", DisplayType(rtype)) {
+        Ok(()) => Ok(text),
+        Err(_) => Err(EntryError::OutOfMemory),
+    }
+}
+
+/// Returns whether what was printed is a row with the same tokens before its type, the same type, and these octets of data,
+/// not in general form.
+///
+/// Fails only with `OutOfMemory`.
+fn reads_back<'a>(
+    alloc: Global,
+    origin: Option<&'a Name<Vec<u8>>>,
+    row: FoundRow<'a>,
+    kind: RowType,
+    data: &[u8],
+    printed: &'a [u8],
+) -> Result<bool, EntryError>
+    requires { HasTypeAt (row_in row) kind }
+    ensures ok { IfOk result (λ alike. IsTrue alike
+        → ReadsBack (SpellsUnder (option_copied origin.entry)) (row_in row.entry) kind data.now printed.now) }
+    ensures err { IfErr result (λ error. is_memory error ≡ true) }
+{
+    let mut spans = Vec::new(alloc);
+    let RowFound::Row { next, blank_led } = read_row(printed, 0, &mut spans)? else {
+        return Ok(false);
+    };
+    if next != printed.len() || blank_led != row.blank_led {
+        return Ok(false);
+    }
+    let other = FoundRow {
+        text: printed,
+        place: 0,
+        next,
+        spans: &spans,
+        blank_led,
+    };
+    if !has_same_front(row, other, kind) {
+        return Ok(false);
+    }
+    let mut octets = Vec::new(alloc);
+    match scan_data(alloc, other, kind, origin, &mut octets) {
+        Ok(()) => Ok(octets.as_slice() == data),
+        Err(EntryError::OutOfMemory) => Err(EntryError::OutOfMemory),
+        Err(_) => Ok(false),
+    }
+}
+
+/// Returns whether the other row has the same type at the same place, behind the same tokens, and data that is not in general
+/// form.
+fn has_same_front(row: FoundRow<'_>, other: FoundRow<'_>, kind: RowType) -> bool {
+    let Some(found) = row_type(other) else {
+        return false;
+    };
+    if found.index != kind.index || found.rtype != kind.rtype || is_marked(other, found) {
+        return false;
+    }
+    for index in 0..kind.index {
         if row.spans[index].is_quoted() != other.spans[index].is_quoted()
             || row.token(index) != other.token(index)
         {

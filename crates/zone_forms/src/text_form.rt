@@ -33,6 +33,7 @@ pub(crate) trait TextForm {
         requires found { IsFound row }
         requires some { tokens_in row ≢ [] }
         ensures ok { OnOk result ((entry : spec.Entry) × (new : List ℕ)
+            × IsLongerEntry (context_in reader.old) (row_in row.entry) entry (context_in reader.new)
             × goes (layout self.old) (context_in reader.old) (row_in row.entry) (octets_in row.entry) new entry (context_in reader.new)
             × (out.new.items ≡ out.old.items ++ new)) }
         ensures err { IfErr result (λ error. is_memory error ≡ false → (entry : spec.Entry) (after : spec.Context)
