@@ -112,3 +112,18 @@ pub last_appended : {none front whole : List ℕ} (values : List Value) (last : 
     → whole ≡ flat_map value_octets (values ++ value.Rest last ∷ [])
 last_appended {none} {front} {whole} values last empty first then =
     then ∙ ap (λ l. l ++ last.now) (first ∙ ap (λ l. l ++ flat_map value_octets values) empty) ∙ sym (flat_last values (value.Rest last))
+
+-- octets that were appended to none
+pub onto_none : {none front whole : List ℕ} → none ≡ [] → whole ≡ none ++ front → whole ≡ front
+onto_none {front = front} empty is = is ∙ ap (λ l. l ++ front) empty
+
+-- how long the data is
+pub long_built : (rtype : ℕ) (values : List Value) (whole : List ℕ) → length values ≡ length (forms_or_none rtype)
+    → whole ≡ flat_map value_octets values → length (octets (fields_of (forms_or_none rtype) values)) ≡ length whole
+long_built rtype values whole count is = ap (length {A = ℕ}) (row_built (forms_or_none rtype) values count ∙ sym is)
+
+pub same_built : (rtype : ℕ) (values : List Value) (given whole : List ℕ) → length values ≡ length (forms_or_none rtype)
+    → whole ≡ flat_map value_octets values → given ≡ whole → length whole ≤ 65535
+    → (given ≡ octets (fields_of (forms_or_none rtype) values)) × (length (octets (fields_of (forms_or_none rtype) values)) ≤ 65535)
+same_built rtype values given whole count is same few =
+    (same ∙ is ∙ sym (row_built (forms_or_none rtype) values count), omega (arith, few, long_built rtype values whole count is))
