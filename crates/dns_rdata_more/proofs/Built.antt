@@ -1,9 +1,9 @@
 -- Data of the values of its fields.
-use Rattle.std.proofs.Common.{◌≡◌, ◌≤◌, ◌++◌, ℕ, List, [], ◌∷◌, ◌∙◌, length, append-nil, append_assoc, ap, sym, refl, subst, arith, rules}
+use Rattle.std.proofs.Common.{◌≡◌, ◌≤◌, ◌++◌, ℕ, List, [], ◌∷◌, ◌∙◌, length, append-nil, append_assoc, ap, sym, refl, arith, rules}
 use Rattle.std.specs.Prelude.{Option, Some, None, IsSome, unwrap_or, true}
 use Rattle.std.specs.List.{flat_map}
 use Rattle.std.specs.Borrow.{Bor}
-use Rattle.dns_fields.specs.Fields.{Field, field_octets, octets}
+use Rattle.dns_fields.specs.Fields.{field_octets, octets}
 use Rattle.dns_fields_more.specs.Forms.{AreFieldsOf, IsFieldOf, IsFurtherData, Keeps, forms_of, is_last}
 use Rattle.dns_fields_more.specs.Values.{NoneStandsIn, field_of, rest_field}
 use Rattle.dns_fields_more.specs.declared.form.Form.{Form}

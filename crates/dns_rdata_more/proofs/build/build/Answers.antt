@@ -1,6 +1,4 @@
-use Rattle.std.proofs.Common.{◌≡◌, ◌≤◌, ◌<◌, List, length, arith}
-use Rattle.std.specs.List.{flat_map}
-use Rattle.dns_rdata_more.specs.Built.{value_octets}
+use Rattle.std.proofs.Common.{arith}
 use Rattle.dns_rdata_more.proofs.Built.{data_built, long_built, onto_none, same_built}
 use Rattle.dns_rdata_more.proofs.build.build.Goals as goal
 

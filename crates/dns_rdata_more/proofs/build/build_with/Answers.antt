@@ -1,4 +1,4 @@
-use Rattle.std.proofs.Common.{◌≡◌, ◌+◌, ◌++◌, ◌∷◌, [], List, length, arith, length-append}
+use Rattle.std.proofs.Common.{◌≡◌, ◌++◌, ◌∷◌, [], List, length, arith, length-append}
 use Rattle.dns_fields_more.specs.declared.value.Value.{Value}
 use Rattle.dns_fields_more.specs.declared.value.Value.TheVariants as of_value
 use Rattle.dns_rdata_more.specs.FurtherData.{forms_or_none}
