@@ -1,12 +1,12 @@
 -- The types of a bitmap, one after another.
-use Rattle.std.proofs.Common.{◌↔◌, IsTrue, slice_index, rules, ◌≡◌, ◌≤◌, ◌<◌, ◌+◌, ◌*◌, ◌-◌, ◌/◌, ◌%◌, ◌^◌, ◌==◌, ℕ, zero, suc, Bool, true, false, cond, List, [], ◌∷◌, ◌++◌, length, drop, get_or, arith, refl, sym, ap, ◌∙◌, append_assoc, length-append}
+use Rattle.std.proofs.Common.{◌↔◌, IsTrue, slice_index, rules, ◌≡◌, ◌≤◌, ◌<◌, ◌+◌, ◌*◌, ◌-◌, ◌/◌, ◌%◌, ◌^◌, ◌==◌, ℕ, zero, suc, true, false, cond, List, [], ◌∷◌, ◌++◌, length, drop, get_or, arith, refl, sym, ap, ◌∙◌}
 use Rattle.std.specs.List.{flat_map}
 use Rattle.std.proofs.Math.Nat.{pow-suc, div-div-eq-div-mul}
 use Rattle.std.proofs.lemmas.Bool.Decides.{nat_tests}
 use Rattle.std.proofs.lemmas.List.{drop_all, drop_more, get_or_append_left, get_or_past, get_or_at, get_or-append-add}
 use Rattle.dns_scan.specs.Bits.{bits, all_bits}
 use Rattle.dns_scan.proofs.BitLists.{length-bits}
-use Rattle.dns_field_texts.specs.TypeBitmap.{Window, window_octets, IsBitmapFrom, IsTypeBitmap, ones_from, window_types, types_in}
+use Rattle.dns_field_texts.specs.TypeBitmap.{Window, window_octets, IsBitmapFrom, ones_from, window_types, types_in}
 use Rattle.dns_field_texts.specs.Windows.{AreTypesLeft, BeginsWithWindow, types_behind}
 use Rattle.dns_field_texts.proofs.TypeBits.{length-8, length-all}
 use Rattle.dns_field_texts.proofs.TypeWindows.{bitmap_end, bitmap_uncons, types_of, uncons}

@@ -1,9 +1,9 @@
 -- A type that is looked for in a bitmap.
-use Rattle.std.proofs.Common.{◌≡◌, ◌≤◌, ◌<◌, ◌+◌, ◌*◌, ◌%◌, ◌==◌, ◌↔◌, ℕ, zero, suc, true, false, cond, List, [], ◌∷◌, ◌++◌, length, slice_index, get_or, arith, refl, sym, subst, inl, inr, ⊎_elim, IsTrue}
-use Rattle.std.specs.List.{flat_map, Contains}
+use Rattle.std.proofs.Common.{◌≡◌, ◌≤◌, ◌<◌, ◌+◌, ◌*◌, ◌%◌, ◌==◌, ℕ, zero, suc, true, false, cond, List, [], ◌∷◌, ◌++◌, length, slice_index, get_or, arith, refl, sym, subst, inl, inr, ⊎_elim}
+use Rattle.std.specs.List.{Contains}
 use Rattle.std.proofs.lemmas.Bool.Decides.{nat_tests}
 use Rattle.dns_scan.specs.Bits.{all_bits}
-use Rattle.dns_field_texts.specs.TypeBitmap.{window_types, IsBitmapFrom, IsTypeBitmap, ones_from, types_in}
+use Rattle.dns_field_texts.specs.TypeBitmap.{IsBitmapFrom, IsTypeBitmap, ones_from, types_in}
 use Rattle.dns_field_texts.specs.Windows.{BeginsWithWindow, types_behind}
 use Rattle.dns_field_texts.proofs.PrintedTypes.{in_append, in_left, in_right, ones_within, same_windows, windows_from}
 use Rattle.dns_field_texts.proofs.TypeBits.{In, in_from, in_to, length-all}

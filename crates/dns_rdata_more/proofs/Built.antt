@@ -1,9 +1,9 @@
 -- Data of the values of its fields.
-use Rattle.std.proofs.Common.{◌≡◌, ◌≤◌, ◌++◌, ℕ, List, [], ◌∷◌, ◌∙◌, length, append-nil, append_assoc, ap, sym, refl, subst, arith, rules}
+use Rattle.std.proofs.Common.{◌≡◌, ◌≤◌, ◌++◌, ℕ, List, [], ◌∷◌, ◌∙◌, length, append-nil, append_assoc, ap, sym, refl, arith, rules}
 use Rattle.std.specs.Prelude.{Option, Some, None, IsSome, unwrap_or, true}
 use Rattle.std.specs.List.{flat_map}
 use Rattle.std.specs.Borrow.{Bor}
-use Rattle.dns_fields.specs.Fields.{Field, field_octets, octets}
+use Rattle.dns_fields.specs.Fields.{field_octets, octets}
 use Rattle.dns_fields_more.specs.Forms.{AreFieldsOf, IsFieldOf, IsFurtherData, Keeps, forms_of, is_last}
 use Rattle.dns_fields_more.specs.Values.{NoneStandsIn, field_of, rest_field}
 use Rattle.dns_fields_more.specs.declared.form.Form.{Form}
@@ -112,3 +112,18 @@ pub last_appended : {none front whole : List ℕ} (values : List Value) (last : 
     → whole ≡ flat_map value_octets (values ++ value.Rest last ∷ [])
 last_appended {none} {front} {whole} values last empty first then =
     then ∙ ap (λ l. l ++ last.now) (first ∙ ap (λ l. l ++ flat_map value_octets values) empty) ∙ sym (flat_last values (value.Rest last))
+
+-- octets that were appended to none
+pub onto_none : {none front whole : List ℕ} → none ≡ [] → whole ≡ none ++ front → whole ≡ front
+onto_none {front = front} empty is = is ∙ ap (λ l. l ++ front) empty
+
+-- how long the data is
+pub long_built : (rtype : ℕ) (values : List Value) (whole : List ℕ) → length values ≡ length (forms_or_none rtype)
+    → whole ≡ flat_map value_octets values → length (octets (fields_of (forms_or_none rtype) values)) ≡ length whole
+long_built rtype values whole count is = ap (length {A = ℕ}) (row_built (forms_or_none rtype) values count ∙ sym is)
+
+pub same_built : (rtype : ℕ) (values : List Value) (given whole : List ℕ) → length values ≡ length (forms_or_none rtype)
+    → whole ≡ flat_map value_octets values → given ≡ whole → length whole ≤ 65535
+    → (given ≡ octets (fields_of (forms_or_none rtype) values)) × (length (octets (fields_of (forms_or_none rtype) values)) ≤ 65535)
+same_built rtype values given whole count is same few =
+    (same ∙ is ∙ sym (row_built (forms_or_none rtype) values count), omega (arith, few, long_built rtype values whole count is))

@@ -1,5 +1,4 @@
-use Rattle.std.proofs.Common.{◌≡◌, ◌+◌, ◌∙◌, ◌∷◌, ◌<◌, ◌*◌, ℕ, [], length, arith}
-use Rattle.dns_field_texts.specs.Windows.{types_behind}
+use Rattle.std.proofs.Common.{◌∙◌, arith}
 use Rattle.dns_field_texts.proofs.TypesLeft.{none_there}
 use Rattle.dns_field_texts.proofs.bitmap.iter.next_one.Goals as goal
 

@@ -1,4 +1,4 @@
-use Rattle.std.proofs.Common.{◌≡◌, ◌∙◌, sym, [], List, ℕ}
+use Rattle.std.proofs.Common.{◌≡◌, ◌∙◌, sym, []}
 use Rattle.dns_field_texts.proofs.TypesLeft.{left_none, left_on}
 use Rattle.dns_field_texts.proofs.bitmap.iter.TypeBitmapIterIterator.next.Goals as goal
 
