@@ -1,2 +1,3 @@
 pub mod RowGaps
 pub mod RowParts
+pub mod RewrittenParts

@@ -23,46 +23,40 @@ use Rattle.zone_forms.specs.Parts.IsComment.{comment as commented}
 use Rattle.zone_forms.specs.Parts.IsGap.{none, goes, comment}
 use Rattle.zone_forms.proofs.RowGaps.{at_feed, comment_gap, comment_head, ends_next, feed_first, feed_head, gap_next, go_ends, quote_head}
 
--- the first octet of a text of symbols
-record FirstOctet (is_quoted : Bool) (text : List ℕ) : Type 0 where
+-- the first octet of a token as it is written
+pub record TokenFirst (found : Token) : Type 0 where
   pub octet : ℕ
-  pub rest : List ℕ
-  pub is : text ≡ octet ∷ rest
+  pub others : List ℕ
+  pub is : token_octets found ≡ octet ∷ others
   pub prints : 32 ≤ octet
-  pub stands : stands_plain is_quoted octet ≡ true
+  pub stands : found.quoted ≡ false → stands_plain false octet ≡ true
 
-first_spelled : (is_quoted : Bool) (text : List ℕ) (symbols : List Symbol) → AllByRecursion (IsIn is_quoted) symbols
-    → text ≡ flat_map spelled symbols → 0 < length text → FirstOctet is_quoted text
-first_spelled is_quoted [] symbols each written some = absurd (omega arith)
-first_spelled is_quoted (octet ∷ text) [] each written some = cc
-first_spelled is_quoted (octet ∷ text) (symbol ∷ symbols) each written some =
-    let first = symbol_first is_quoted symbol octet text (flat_map spelled symbols) each.0 written in
-    record { octet = octet; rest = text; is = refl; prints = first.0; stands = first.1 }
+word_first : (found : Token) (text : List ℕ) (symbols : List Symbol) → token_octets found ≡ text → AllByRecursion (IsIn false) symbols
+    → text ≡ flat_map spelled symbols → 0 < length text → TokenFirst found
+word_first found [] symbols is each written some = absurd (omega arith)
+word_first found (octet ∷ text) [] is each written some = cc
+word_first found (octet ∷ text) (symbol ∷ symbols) is each written some =
+    let first = symbol_first false symbol octet text (flat_map spelled symbols) each.0 written in
+    record { octet = octet; others = text; is = is; prints = first.0; stands = λ _. first.1 }
 
--- the first octet of a token, with its quote
-record TokenFirst (found : Token) (rest : List ℕ) : Type 0 where
-  pub octet : ℕ
-  pub behind : List ℕ
-  pub is : token_octets found ++ rest ≡ octet ∷ behind
-  pub prints : 32 ≤ octet
+quoted_octets : (found : Token) (is_quoted : Bool) → found.quoted ≡ is_quoted
+    → token_octets found ≡ (if is_quoted then 34 ∷ (found.text ++ 34 ∷ []) else found.text)
+quoted_octets found is_quoted is = ap (λ (b : Bool). if b then 34 ∷ (found.text ++ 34 ∷ []) else found.text) is
 
-token_first : (found : Token) (rest : List ℕ) → IsToken found → TokenFirst found rest
-token_first found rest are = by found.quoted refl
+pub token_first : (found : Token) → IsToken found → TokenFirst found
+token_first found are = by found.quoted refl
   where
-    by : (is_quoted : Bool) → found.quoted ≡ is_quoted → TokenFirst found rest
+    by : (is_quoted : Bool) → found.quoted ≡ is_quoted → TokenFirst found
     by true is = record {
       octet = 34;
-      behind = (found.text ++ 34 ∷ []) ++ rest;
-      is = ap (λ (b : Bool). (if b then 34 ∷ (found.text ++ 34 ∷ []) else found.text) ++ rest) is;
+      others = found.text ++ 34 ∷ [];
+      is = quoted_octets found true is;
       prints = omega arith;
+      stands = λ e. absurd (false≢true (sym e ∙ is));
     }
     by false is =
-        let first = first_spelled found.quoted found.text are.symbols.symbols are.symbols.each are.symbols.written (are.some is) in record {
-          octet = first.octet;
-          behind = first.rest ++ rest;
-          is = ap (λ (b : Bool). (if b then 34 ∷ (found.text ++ 34 ∷ []) else found.text) ++ rest) is ∙ ap (λ l. l ++ rest) first.is;
-          prints = first.prints;
-        }
+        word_first found found.text are.symbols.symbols (quoted_octets found false is)
+        (subst (λ (b : Bool). AllByRecursion (IsIn b) are.symbols.symbols) is are.symbols.each) are.symbols.written (are.some is)
 
 -- A token and what is before it.
 pub record TokenCut (inside : Bool) (text : List ℕ) (found : Token) (out : Bool) (rest : List ℕ) : Type 0 where
@@ -77,8 +71,8 @@ commented_cut : {inside out : Bool} {rest : List ℕ} {found : Token} (text gap 
     → (found.quoted ≡ false → EndsToken false rest) → from_feed text ≡ gap ++ (token_octets found ++ rest)
     → TokenCut inside (59 ∷ text) found out rest
 commented_cut {rest = rest} {found} text [] is_gap is ends whole =
-    let first = token_first found rest is in
-    let feed : first.octet ≡ 10 = feed_first text first.octet first.behind (whole ∙ first.is) in
+    let first = token_first found is in
+    let feed : first.octet ≡ 10 = feed_first text first.octet (first.others ++ rest) (whole ∙ ap (λ l. l ++ rest) first.is) in
     absurd (omega (arith, first.prints, feed))
 commented_cut {rest = rest} {found} text (octet ∷ gap) is_gap is ends whole =
     let at = at_feed text in
@@ -201,11 +195,11 @@ pub record RowCut (inside : Bool) (text : List ℕ) (tokens : List Token) (rest 
   pub whole : text ≡ row_octets parts last ++ rest
 
 -- what may be behind an unquoted token begins with an octet that ends it
-gap_begins : {inside out : Bool} {octet : ℕ} {gap : List ℕ} → IsGap inside (octet ∷ gap) out → ends_word octet ≡ true
+pub gap_begins : {inside out : Bool} {octet : ℕ} {gap : List ℕ} → IsGap inside (octet ∷ gap) out → ends_word octet ≡ true
 gap_begins {inside} {octet = octet} (goes {behind = behind} head first) = go_ends inside behind octet head
 gap_begins (comment text no_feed first) = refl
 
-begins_at : {octet : ℕ} (rest : List ℕ) → ends_word octet ≡ true → BeginsWithEnd (octet ∷ rest)
+pub begins_at : {octet : ℕ} (rest : List ℕ) → ends_word octet ≡ true → BeginsWithEnd (octet ∷ rest)
 begins_at {octet} rest ends = record { octet = octet; rest = rest; is = refl; ends = ends }
 
 comment_begins : {words : List ℕ} (rest : List ℕ) → IsComment words → BeginsWithEnd (words ++ 10 ∷ rest)
@@ -227,40 +221,25 @@ word_goes text (symbol ∷ symbols) each written some rest ends =
     ends symbol (flat_map spelled symbols ++ rest) each.0
     (ap (λ l. l ++ rest) written ∙ append_assoc (spelled symbol) (flat_map spelled symbols) rest)
 
-token_begins : (found : Token) (behind : List ℕ) → IsToken found → EndsToken false (token_octets found ++ behind)
-    → BeginsWithEnd (token_octets found ++ behind)
-token_begins found behind are ends = by found.quoted refl
+open_quote : (found : Token) (behind : List ℕ) → IsToken found → EndsToken false (token_octets found ++ behind)
+    → found.quoted ≡ true
+open_quote found behind are ends = by found.quoted refl
   where
-    by : (is_quoted : Bool) → found.quoted ≡ is_quoted → BeginsWithEnd (token_octets found ++ behind)
-    by true is = record {
-      octet = 34;
-      rest = (found.text ++ 34 ∷ []) ++ behind;
-      is = ap (λ (b : Bool). (if b then 34 ∷ (found.text ++ 34 ∷ []) else found.text) ++ behind) is;
-      ends = refl;
-    }
+    by : (is_quoted : Bool) → found.quoted ≡ is_quoted → found.quoted ≡ true
+    by true is = is
     by false is =
         let each = subst (λ (b : Bool). AllByRecursion (IsIn b) are.symbols.symbols) is are.symbols.each in
-        let word = subst (λ l. EndsToken false (l ++ behind)) (ap (λ (b : Bool). if b then 34 ∷ (found.text ++ 34 ∷ []) else found.text) is) ends in
+        let word = subst (λ l. EndsToken false (l ++ behind)) (quoted_octets found false is) ends in
         absurd (word_goes found.text are.symbols.symbols each are.symbols.written (are.some is) behind word)
 
 part_begins : {inside out : Bool} (gap : List ℕ) (found : Token) (behind rest : List ℕ) → IsGap inside gap out → IsToken found
     → EndsToken false (gap ++ (token_octets found ++ (behind ++ rest))) → BeginsWithEnd (gap ++ (token_octets found ++ behind))
-part_begins [] found behind rest is_gap is ends = by (token_begins found (behind ++ rest) is ends)
-  where
-    by : BeginsWithEnd (token_octets found ++ (behind ++ rest)) → BeginsWithEnd (token_octets found ++ behind)
-    by begins =
-        let first = token_first found behind is in
-        let both : token_octets found ++ (behind ++ rest) ≡ first.octet ∷ (first.behind ++ rest) =
-        sym (append_assoc (token_octets found) behind rest) ∙ ap (λ l. l ++ rest) first.is in
-        let same : begins.octet ≡ first.octet = let at = begins.is in cc in record {
-          octet = first.octet;
-          rest = first.behind;
-          is = first.is;
-          ends = subst (λ n. ends_word n ≡ true) same begins.ends;
-        }
+part_begins [] found behind rest is_gap is ends =
+    let quote = quoted_octets found true (open_quote found (behind ++ rest) is ends) in
+    record { octet = 34; rest = (found.text ++ 34 ∷ []) ++ behind; is = ap (λ l. l ++ behind) quote; ends = refl }
 part_begins (octet ∷ gap) found behind rest is_gap is ends = begins_at (gap ++ (token_octets found ++ behind)) (gap_begins is_gap)
 
-parts_apart : (part : Part) (parts : List Part) (last : List ℕ)
+pub parts_apart : (part : Part) (parts : List Part) (last : List ℕ)
     → row_octets (part ∷ parts) last ≡ part.gap ++ (token_octets part.token ++ row_octets parts last)
 parts_apart part parts last = simp append_assoc
 
@@ -294,7 +273,7 @@ cut_row {text = text} {rest = rest} (token {found = found} out behind next row) 
     }
 
 -- such an octet ends a word
-no_word : (octet : ℕ) → ends_word octet ≡ true → 32 ≤ octet → stands_plain false octet ≡ true → ⊥
+pub no_word : (octet : ℕ) → ends_word octet ≡ true → 32 ≤ octet → stands_plain false octet ≡ true → ⊥
 no_word octet ends prints stands = grind (arith, nat_tests)
 
 word_ends : {octets : List ℕ} (rest : List ℕ) → BeginsWithEnd octets → EndsToken false (octets ++ rest)
