@@ -1,3 +1,4 @@
 pub mod RowGaps
 pub mod RowParts
 pub mod RewrittenParts
+pub mod RewrittenSteps

@@ -218,7 +218,7 @@ parts_behind (part ∷ front) parts last (more gap is word others) = parts_behin
 first_token : {inside : Bool} {part : Part} {parts : List Part} {last : List ℕ} → AreParts inside (part ∷ parts) last → IsToken part.token
 first_token (more gap is word others) = is
 
-map_tokens : (front parts : List Part) → tokens_of (front ++ parts) ≡ tokens_of front ++ tokens_of parts
+pub map_tokens : (front parts : List Part) → tokens_of (front ++ parts) ≡ tokens_of front ++ tokens_of parts
 map_tokens [] parts = refl
 map_tokens (part ∷ front) parts = ap (λ l. part.token ∷ l) (map_tokens front parts)
 
@@ -252,7 +252,7 @@ rewritten_row front type_part data_parts last word first words are bare is is_fi
     let new_data = data_parts_of data_parts first words in
     let new_last = last_of data_parts last in
     let parts = front ++ part_with type_part word ∷ new_data in
-    let row = parts_row (rewritten_are front type_part data_parts last word first words are bare is is_first each) [] in
+    let row = parts_row parts (rewritten_are front type_part data_parts last word first words are bare is is_first each) [] in
     let tokens : tokens_of parts ≡ tokens_of front ++ unquoted word ∷ map unquoted (first ∷ words) =
     map_tokens front (part_with type_part word ∷ new_data) ∙ ap (λ l. tokens_of front ++ unquoted word ∷ l) (data_tokens data_parts first words) in
     let written : row_octets parts new_last ++ [] ≡ rewritten_octets front type_part data_parts last word (join_with_byte 32 (first ∷ words)) =

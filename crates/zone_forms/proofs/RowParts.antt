@@ -310,17 +310,33 @@ token_next inside true text behind are some ends =
     })
 token_next inside false text behind are some ends = word_next inside text behind are.symbols are.each are.written (some refl) (ends refl)
 
--- Parts are a row.
-pub parts_row : {inside : Bool} {parts : List Part} {last : List ℕ} → AreParts inside parts last → (rest : List ℕ)
-    → Row inside (row_octets parts last ++ rest) (tokens_of parts) rest
-parts_row (no_parts ends) rest = end (ends_next rest ends)
-parts_row {inside} (more {out = out} {part = part} {parts = parts} {last = last} is_gap is begins others) rest =
+-- The first of parts is the next token.
+pub record PartsNext (inside : Bool) (part : Part) (parts : List Part) (last rest : List ℕ) : Type 0 where
+  pub out : Bool
+  pub next : Next inside (row_octets (part ∷ parts) last ++ rest) (Some part.token) out (row_octets parts last ++ rest)
+  pub are : AreParts out parts last
+
+pub parts_next : {inside : Bool} {part : Part} {parts : List Part} {last : List ℕ} → AreParts inside (part ∷ parts) last → (rest : List ℕ)
+    → PartsNext inside part parts last rest
+parts_next {inside} (more {out = out} {part = part} {parts = parts} {last = last} is_gap is begins others) rest =
     let behind = row_octets parts last ++ rest in
     let apart : part.gap ++ (token_octets part.token ++ behind) ≡ row_octets (part ∷ parts) last ++ rest = simp append_assoc in
     let next = token_next out part.token.quoted part.token.text behind is.symbols is.some (λ e. word_ends rest (begins e)) in
-    token out behind
-    (subst (λ (l : List ℕ). Next inside l (Some part.token) out behind) apart (gap_next (token_octets part.token ++ behind) is_gap next))
-    (parts_row others rest)
+    record {
+      out = out;
+      next = subst (λ (l : List ℕ). Next inside l (Some part.token) out behind) apart (gap_next (token_octets part.token ++ behind) is_gap next);
+      are = others;
+    }
+
+pub parts_end : {inside : Bool} {last : List ℕ} → AreParts inside [] last → (rest : List ℕ) → Next inside (last ++ rest) None false rest
+parts_end (no_parts ends) rest = ends_next rest ends
+
+-- Parts are a row.
+pub parts_row : (parts : List Part) {inside : Bool} {last : List ℕ} → AreParts inside parts last → (rest : List ℕ)
+    → Row inside (row_octets parts last ++ rest) (tokens_of parts) rest
+parts_row [] are rest = end (parts_end are rest)
+parts_row (part ∷ parts) {last = last} are rest =
+    let first = parts_next are rest in token first.out (row_octets parts last ++ rest) first.next (parts_row parts first.are rest)
 
 -- The octets of a row, which are one before any text.
 pub record RowAlone (text : List ℕ) (tokens : List Token) (rest : List ℕ) : Type 0 where
@@ -334,5 +350,5 @@ row_alone row =
     let octets = row_octets cut.parts cut.last in record {
       octets = octets;
       whole = cut.whole;
-      is = λ more. subst (λ (l : List Token). Row false (octets ++ more) l more) cut.tokens_are (parts_row cut.are more);
+      is = λ more. subst (λ (l : List Token). Row false (octets ++ more) l more) cut.tokens_are (parts_row cut.parts cut.are more);
     }
