@@ -1,6 +1,7 @@
 pub mod RowGaps
 pub mod RowParts
 pub mod RewrittenParts
-pub mod GoneTexts
+pub mod RewrittenSteps
 pub mod FoundRows
+pub mod GoneTexts
 pub mod GoingOn

@@ -6,3 +6,4 @@ pub mod Refused
 pub mod Presented
 pub mod Seen
 pub mod Presenting
+pub mod WrittenPart

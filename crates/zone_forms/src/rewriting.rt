@@ -1,6 +1,7 @@
 //! Rows with other data.
 ghost use Rattle.std.specs.Prelude.{◌≡◌, ◌<◌, ◌++◌, ℕ, List, length, OnOk};
 ghost use Rattle.zone_forms.specs.Seen.{IsFound, RewritesAt};
+ghost use Rattle.zone_forms.specs.WrittenPart.{written_none, written_part};
 
 use crate::found_row::FoundRow;
 use dns_zonefile::RowReader;
@@ -26,24 +27,57 @@ pub(crate) fn append_rewritten(
     let mut index = 0;
     while let Ok(Some(span)) = reader.next_token() {
         let end = reader.place();
-        let start = end - span.len() - 2 * usize::from(span.is_quoted());
-        out.extend_from_slice(&row.text[behind..start])?;
-        if index < type_index {
-            out.extend_from_slice(&row.text[start..end])?;
-        } else if index == type_index {
-            out.extend_from_slice(word)?;
-        } else if index == type_index + 1 {
-            if behind == start {
-                out.push(b' ')?;
-            }
-            out.extend_from_slice(data)?;
-        }
+        let start = end - span.text(row.text).len() - 2 * usize::from(span.is_quoted());
+        let gap = &row.text[behind..start];
+        let token = &row.text[start..end];
+        append_part(index, type_index, word, data, gap, token, out)?;
         behind = end;
         index += 1;
     }
-    if index == type_index + 1 {
+    append_missing(index, type_index, data, out)?;
+    out.extend_from_slice(&row.text[behind..row.next])
+}
+
+/// Appends what is written for the token at the index, and for the gap before it: the same before the type, then the word, and
+/// then the data once.
+fn append_part(
+    index: usize,
+    type_index: usize,
+    word: &[u8],
+    data: &[u8],
+    gap: &[u8],
+    token: &[u8],
+    out: &mut Vec<u8>,
+) -> Result<(), AllocError>
+    ensures { OnOk result (out.new.items ≡ out.old.items ++ written_part index type_index word.now data.now gap.now token.now) }
+{
+    out.extend_from_slice(gap)?;
+    if index < type_index {
+        out.extend_from_slice(token)?;
+    } else if index == type_index {
+        out.extend_from_slice(word)?;
+    } else if index - type_index == 1 {
+        if gap.is_empty() {
+            out.push(b' ')?;
+        }
+        out.extend_from_slice(data)?;
+    }
+    Ok(())
+}
+
+/// Appends the data behind a space, if the row has no data: the token of its type is the last of this number.
+fn append_missing(
+    count: usize,
+    type_index: usize,
+    data: &[u8],
+    out: &mut Vec<u8>,
+) -> Result<(), AllocError>
+    requires { type_index < count }
+    ensures { OnOk result (out.new.items ≡ out.old.items ++ written_none count type_index data.now) }
+{
+    if count - type_index == 1 {
         out.push(b' ')?;
         out.extend_from_slice(data)?;
     }
-    out.extend_from_slice(&row.text[behind..row.next])
+    Ok(())
 }

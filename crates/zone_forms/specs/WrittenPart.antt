@@ -1,0 +1,14 @@
+-- A token of a row that is rewritten. Only contracts inside the crate name it.
+use Rattle.std.specs.Prelude.{◌+◌, ◌==◌, ℕ, List, [], ◌∷◌, ◌++◌, nat_lt, if◌then◌else◌}
+use Rattle.zone_forms.specs.Rewritten.{spaced}
+
+-- What is written for the token at the index of a row whose type is at a place, and for the gap before it: the same before the type;
+-- the word; the text for the first token of data; and the gap alone for the others.
+abbrev pub written_part : ℕ → ℕ → List ℕ → List ℕ → List ℕ → List ℕ → List ℕ
+written_part index place word text gap token =
+    if nat_lt index place then gap ++ token
+    else (if index == place then gap ++ word else (if index == place + 1 then spaced gap ++ text else gap))
+
+-- what is written for data without tokens
+abbrev pub written_none : ℕ → ℕ → List ℕ → List ℕ
+written_none count place text = if count == place + 1 then 32 ∷ text else []
