@@ -1,0 +1,10 @@
+use Rattle.std.proofs.Common.{◌≡◌, false, IfErr, subst, sym}
+use Rattle.dns_fields_more.specs.Text.{NoFormScans}
+use Rattle.dns_fields_more.specs.declared.form.Form.{Form}
+use Rattle.dns_fields_more.proofs.scan.scan_form.Goals as goal
+
+pub returns-in-Location-clause-err : goal.returns-in-Location-clause-err
+returns-in-Location-clause-err g c =
+    subst (λ (form : Form). IfErr c.scan_location.result (λ error. g.S.Error.ScannerError.is_short error ≡ false
+    → NoFormScans (g.S.Scanner.names c.args.scanner.now) form (g.S.Scanner.tokens c.args.scanner.now)))
+    (sym c.in-Location.is) c.scan_location.ensures.err
