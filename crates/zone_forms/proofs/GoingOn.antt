@@ -2,7 +2,9 @@
 use Rattle.std.proofs.Common.{◌≡◌, ◌≢◌, ◌<◌, ◌≤◌, ◌++◌, ◌∙◌, ℕ, Bool, true, false, List, [], ◌∷◌, length, take, drop, refl, subst, sym, ap, append_assoc, arith, take-append-drop, Result, Ok, Err, IfErr}
 use Rattle.dns_text.specs.Rows.{BeginsWithRows, TokenRow}
 use Rattle.dns_text.specs.Tokens.{Row, is_end}
+use Rattle.dns_entry_scanner.specs.EntryError.{is_memory}
 use Rattle.dns_entry_scanner.specs.RowFound.{NoRow}
+use Rattle.dns_entry_scanner.specs.declared.entry_error.EntryError.{EntryError}
 use Rattle.dns_zonefile.proofs.Going.{begins-on}
 use Rattle.dns_zonefile.specs.Entry.{Context, Entry}
 use Rattle.dns_zonefile.specs.Reader.{line_at}
@@ -15,6 +17,8 @@ use Rattle.zone_forms.specs.Refused.FailsInLine.{broken, no_entry}
 use Rattle.zone_forms.specs.Rewritten.{AreRow, GoesTo}
 use Rattle.zone_forms.specs.Seen.{AppendsRow, IsFound, octets_in, row_in, tokens_in}
 use Rattle.zone_forms.specs.Seen.AppendsRow.{bare, entry}
+use Rattle.zone_forms.specs.declared.error.FormError.{FormError}
+use Rattle.zone_forms.specs.declared.error.FormError.TheVariants.{Line, OutOfMemory}
 use Rattle.zone_forms.specs.declared.found_row.FoundRow.{FoundRow}
 
 pub if_err_weaker : {T E : Type 0} (result : Result T E) (P Q : E → Type 0) → ((error : E) → P error → Q error) → IfErr result P → IfErr result Q
@@ -110,3 +114,26 @@ fails_entry row is going some none =
     no_entry (take row.place text) (sym (take-append-drop row.place text)) going.begins
     (subst (λ (l : List ℕ). BeginsWithRows l (row_in row ∷ []) (drop row.next text)) (sym found.behind) (row_begins found.are (drop row.next text)))
     going.are some none
+
+-- the error of a row that is no entry
+pub fails_row : {Goes : Told} {start context : Context} {out : List ℕ} (row : FoundRow) → IsFound row
+    → Going Goes start row.text.now row.place context out → (error : EntryError)
+    → (is_memory error ≡ false
+        → (tokens_in row ≢ []) × ((one : Entry) (after : Context) → IsLongerEntry context (row_in row) one after → ⊥))
+    → (told : FormError) → (is_memory error ≡ false → told ≡ Line (line_at row.text.now row.place)) → (is_memory error ≡ true → told ≡ OutOfMemory)
+    → (line : ℕ) → told ≡ Line line → FailsInLine start row.text.now line
+fails_row {start = start} row is going error none told in_line memory line same = by (is_memory error) refl
+  where
+    by : (m : Bool) → is_memory error ≡ m → FailsInLine start row.text.now line
+    by true e = let bad : OutOfMemory ≡ Line line = sym (memory e) ∙ same in cc
+    by false e =
+        let one : line_at row.text.now row.place ≡ line = (let both : Line (line_at row.text.now row.place) ≡ Line line = sym (in_line e) ∙ same in cc) in
+        subst (FailsInLine start row.text.now) one (fails_entry row is going (none e).0 (none e).1)
+
+-- the error of a text that goes on, but with no row
+pub fails_there : {Goes : Told} {start context : Context} {text out : List ℕ} {place : ℕ} → Going Goes start text place context out
+    → is_end (drop place text) ≡ false → NoRow (drop place text) → (told : FormError) → told ≡ Line (line_at text place)
+    → (line : ℕ) → told ≡ Line line → FailsInLine start text line
+fails_there {start = start} {text = text} {place = place} going goes_on none told is line same =
+    let one : line_at text place ≡ line = (let both : Line (line_at text place) ≡ Line line = sym is ∙ same in cc) in
+    subst (FailsInLine start text) one (fails_broken going goes_on none)
