@@ -39,7 +39,7 @@ prints_one Hash field is = of_string (One Hash) field (λ text pieces prints. pr
 prints_one Types field is = of_rest16 (One Types) field (λ text pieces prints. prints) is.kind
 prints_one Parameters field is =
     of_rest16 (One Parameters) field
-    (λ text pieces prints. prints.3 ∙ ap (map (λ parameter. printed (parameter_text parameter))) (sym (ap parameters_read prints.2 ∙ parameters_back prints.0 prints.1.each))) is.kind
+    (λ text pieces prints. prints.3 ∙ ap (λ l. map printed (map parameter_text l)) (sym (ap parameters_read prints.2 ∙ parameters_back prints.0 prints.1.each))) is.kind
 prints_one LocationForm field is =
     of_rest16 (One LocationForm) field
     (λ text pieces prints. prints.3 ∙ ap (λ l. map printed (location_words l)) (sym (ap location_read prints.2 ∙ location_back prints.0 prints.1))) is.kind

@@ -119,7 +119,7 @@ fails_entry row is going some none =
 pub fails_row : {Goes : Told} {start context : Context} {out : List ℕ} (row : FoundRow) → IsFound row
     → Going Goes start row.text.now row.place context out → (error : EntryError)
     → (is_memory error ≡ false
-        → (tokens_in row ≢ []) × ((one : Entry) (after : Context) → IsLongerEntry context (row_in row) one after → ⊥))
+    → (tokens_in row ≢ []) × ((one : Entry) (after : Context) → IsLongerEntry context (row_in row) one after → ⊥))
     → (told : FormError) → (is_memory error ≡ false → told ≡ Line (line_at row.text.now row.place)) → (is_memory error ≡ true → told ≡ OutOfMemory)
     → (line : ℕ) → told ≡ Line line → FailsInLine start row.text.now line
 fails_row {start = start} row is going error none told in_line memory line same = by (is_memory error) refl

@@ -7,7 +7,9 @@ use Rattle.dns_zonefile.specs.Entries.{AreEntries, HasEntries}
 use Rattle.dns_zonefile.specs.Entry.{Context, Entry}
 use Rattle.zone_forms.proofs.RewrittenParts.{row_begins}
 use Rattle.zone_forms.specs.LongerEntries.{AreLongerEntries, HasLongerEntries, IsLongerEntry}
-use Rattle.zone_forms.specs.Presented.{IsGeneralOf}
+use Rattle.dns_text.specs.Document.{Layout}
+use Rattle.zone_forms.specs.Presented.{GoesPresented, IsGeneralOf, IsPresentedOf}
+use Rattle.zone_forms.specs.Presented.GoesPresented.{same, presented}
 use Rattle.zone_forms.specs.Rewritten.{AreRow, GoesGeneral, GoesTo}
 use Rattle.zone_forms.specs.Rewritten.GoesTo.{ended, bare, more}
 
@@ -107,3 +109,52 @@ general_gone {start} {after} {text} {new} {entries} goes =
         are = written.are;
       };
     }
+
+longer_presented : {layout : Layout} {context : Context} {row : TokenRow} {octets new : List ℕ} {entry : Entry} {next : Context}
+    → GoesPresented layout context row octets new entry next → IsLongerEntry context row entry next
+longer_presented (same longer) = longer
+longer_presented (presented shown longer among has marked scans are written is back) = longer
+
+-- the row that is printed, with the same entry
+record Printed (context : Context) (new : List ℕ) (entry : Entry) (next : Context) : Type 0 where
+  row : TokenRow
+  are : AreRow new row
+  longer : IsLongerEntry context row entry next
+
+printed_row : {layout : Layout} {context : Context} {row : TokenRow} {octets new : List ℕ} {entry : Entry} {next : Context} → AreRow octets row
+    → GoesPresented layout context row octets new entry next → Printed context new entry next
+printed_row {row = row} is (same longer) = record { row = row; are = is; longer = longer }
+printed_row is (presented {printed = printed} shown longer among has marked scans are written so back) =
+    record { row = printed; are = so; longer = back }
+
+presented_rows : {layout : Layout} {start after : Context} {text new : List ℕ} {entries : List Entry}
+    → GoesTo (GoesPresented layout) start text new entries after → Reads AreLongerEntries start new entries after
+presented_rows (ended {rest = rest} is) =
+    record { rows = []; rest = rest; begins = BeginsWithRows.none; ends = is; are = AreLongerEntries.none }
+presented_rows (bare {new = new} {row = row} octets is none goes) =
+    let others = presented_rows goes in record {
+      rows = row ∷ others.rows;
+      rest = others.rest;
+      begins = begins-on (row_begins is new) others.begins;
+      ends = others.ends;
+      are = bare_longer row none others.are;
+    }
+presented_rows (more {new = new} octets other is some told goes) =
+    let others = presented_rows goes in
+    let printed = printed_row is told in record {
+      rows = printed.row ∷ others.rows;
+      rest = others.rest;
+      begins = begins-on (row_begins printed.are new) others.begins;
+      ends = others.ends;
+      are = AreLongerEntries.entry printed.longer others.are;
+    }
+
+pub presented_gone : {layout : Layout} {start after : Context} {text new : List ℕ} {entries : List Entry}
+    → GoesTo (GoesPresented layout) start text new entries after → IsPresentedOf layout start text new
+presented_gone {layout} {start} {after} {text} {new} {entries} goes = record {
+  entries = entries;
+  after = after;
+  goes = goes;
+  read = longer_text (read_rows (GoesPresented layout) (λ context row octets other entry next told. longer_presented told) goes);
+  written = longer_text (presented_rows goes);
+}

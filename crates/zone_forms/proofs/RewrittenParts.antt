@@ -337,8 +337,8 @@ unknown_row content {row} {front} {data'} {word} {other} {octets} {new} makes ba
     marker_token (unknown_are content are small) in
     let start : (0 < length makes.front_parts) ⊎ (is_led (row_octets (makes.front_parts ++ makes.type_part ∷ makes.data_parts) makes.last) ≡ true) =
     elim begins [
-      inl some ↦ inl (omega (arith, some, ap (length {A = Token}) makes.front_is, length-map makes.front_parts (λ (p : Part). p.token)))
-    | inr led ↦ inr (ap is_led (sym makes.written) ∙ sym makes.led ∙ led)
+      | inl some ↦ inl (omega (arith, some, ap (length {A = Token}) makes.front_is, length-map makes.front_parts (λ (p : Part). p.token)))
+      | inr led ↦ inr (ap is_led (sym makes.written) ∙ sym makes.led ∙ led)
     ] in
     let same = rewritten_led makes.front_parts makes.type_part makes.data_parts makes.last other (unknown_text content) makes.are type_bare start in
     record {

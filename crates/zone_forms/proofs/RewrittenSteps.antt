@@ -371,9 +371,10 @@ pub last_at : (text last : List ℕ) (behind next : ℕ) → behind ≤ length t
 last_at text last behind next within within' at =
     let whole : length text - behind ≡ length last + (length text - next) =
     sym (length-drop behind text) ∙ ap (length {A = ℕ}) at ∙ length-append last (drop next text) ∙ ap (λ n. length last + n) (length-drop next text) in
-    let len : next - behind ≡ length last = omega (arith, whole, within, within') in
-    (omega (arith, whole, within, within'),
-    ap (λ n. take n (drop behind text)) len ∙ ap (take (length last)) at ∙ take-append_seam last (drop next text))
+    let len : next - behind ≡ length last = omega (arith, whole, within, within') in (
+      omega (arith, whole, within, within'),
+      ap (λ n. take n (drop behind text)) len ∙ ap (take (length last)) at ∙ take-append_seam last (drop next text),
+    )
 
 pub length-token_octets : (found : Token) → length (token_octets found) ≡ length found.text + 2 * (if found.quoted then 1 else 0)
 length-token_octets found = by found.quoted found.text

@@ -29,7 +29,7 @@ loop-next-preserved g c =
     } in
     let found : IsFound row = grind (arith, common_steps) in
     let told = subst (λ (it : Layout). AppendsRow (g.F.TextForm.goes it) (context_in c.loop-next.reader) (row_in row) (octets_in row)
-        (context_in c.append_row.new.reader) c.loop-next.out.items c.append_row.new.out.items)
+    (context_in c.append_row.new.reader) c.loop-next.out.items c.append_row.new.out.items)
     c.loop-next.invariant.layout c.in-Ok.ensures.ok in record {
       going = going_row row found c.loop-next.invariant.going told;
       layout = c.append_row.ensures.kept ∙ c.loop-next.invariant.layout;
