@@ -2,3 +2,4 @@ pub mod RowGaps
 pub mod RowParts
 pub mod RewrittenParts
 pub mod RewrittenSteps
+pub mod RowGoing
