@@ -3,3 +3,4 @@ pub mod RowParts
 pub mod RewrittenParts
 pub mod RewrittenSteps
 pub mod RowGoing
+pub mod GeneralRows

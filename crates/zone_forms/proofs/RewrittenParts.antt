@@ -210,12 +210,12 @@ front_are (part ∷ front) parts parts' last last' (more gap is word others) ste
     more gap is (λ e. begins_on front parts parts' last last' others on (word e)) (front_are front parts parts' last last' others step on)
 
 -- the parts behind the front
-parts_behind : {inside : Bool} (front parts : List Part) (last : List ℕ) → AreParts inside (front ++ parts) last
+pub parts_behind : {inside : Bool} (front parts : List Part) (last : List ℕ) → AreParts inside (front ++ parts) last
     → (out : Bool) × AreParts out parts last
 parts_behind {inside} [] parts last are = (inside, are)
 parts_behind (part ∷ front) parts last (more gap is word others) = parts_behind front parts last others
 
-first_token : {inside : Bool} {part : Part} {parts : List Part} {last : List ℕ} → AreParts inside (part ∷ parts) last → IsToken part.token
+pub first_token : {inside : Bool} {part : Part} {parts : List Part} {last : List ℕ} → AreParts inside (part ∷ parts) last → IsToken part.token
 first_token (more gap is word others) = is
 
 pub map_tokens : (front parts : List Part) → tokens_of (front ++ parts) ≡ tokens_of front ++ tokens_of parts

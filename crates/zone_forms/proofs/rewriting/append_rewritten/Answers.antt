@@ -1,6 +1,7 @@
 use Rattle.std.proofs.Common.{rules, Bool, true, Result, Ok, Err, if◌then◌else◌, refl, ◌≡◌, ◌<◌, ◌++◌, ℕ, List, length, OnOk, ◌+◌, ◌-◌, ◌*◌, ◌≤◌, ap, sym, ◌∙◌, arith}
 use Rattle.std.specs.Result.{is_ok}
 use Rattle.dns_entry_scanner.specs.TokenEnd.{between}
+use Rattle.zone_forms.proofs.GeneralRows.{general_row}
 use Rattle.zone_forms.proofs.RowGoing.{ending, going_none, turn}
 use Rattle.zone_forms.proofs.rewriting.append_rewritten.Goals as goal
 
