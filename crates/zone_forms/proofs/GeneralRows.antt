@@ -1,5 +1,5 @@
 -- The general row of a row that was found: its octets are a row, with the tokens that it should have.
-use Rattle.std.proofs.Common.{◌≡◌, ◌⊎◌, ◌+◌, ◌-◌, ◌<◌, ◌≤◌, ◌^◌, ℕ, zero, suc, Bool, true, false, List, [], ◌∷◌, ◌++◌, length, map, take, drop, decimal, codes, is_some, if◌then◌else◌, inl, inr, refl, sym, ◌∙◌, ap, subst, arith, length-append, length-drop}
+use Rattle.std.proofs.Common.{◌≡◌, ◌⊎◌, ◌-◌, ◌<◌, ◌^◌, ℕ, zero, suc, Bool, true, false, List, [], ◌∷◌, ◌++◌, length, map, take, drop, decimal, codes, is_some, if◌then◌else◌, inl, inr, refl, sym, ◌∙◌, subst, arith}
 use Rattle.std.proofs.lemmas.Bool.Decides.{nat_tests}
 use Rattle.std.proofs.lemmas.List.{length-map}
 use Rattle.std.specs.List.{AllByRecursion}
@@ -8,7 +8,6 @@ use Rattle.dns_values.specs.Mnemonic.{type_read}
 use Rattle.dns_name.specs.UnknownText.{unknown_text}
 use Rattle.dns_scan.specs.Token.{Token, unquoted}
 use Rattle.dns_entry_scanner.specs.RowFound.{IsRowAt, NoRow}
-use Rattle.dns_entry_scanner.specs.TokenEnd.{between}
 use Rattle.dns_entry_scanner.specs.TokenSpan.{token_in}
 use Rattle.dns_entry_scanner.specs.declared.token_span.TokenSpan.{TokenSpan}
 use Rattle.dns_fields.proofs.PrintedTexts.{IsSafe, safe_decimal}
@@ -17,9 +16,9 @@ use Rattle.dns_text.specs.Tokens.{is_end}
 use Rattle.dns_text.proofs.OneRow.{no_row_at_end, one_row}
 use Rattle.zone_forms.specs.LongerRow.{HasFront, HasType, general_tokens, known_word, with_tokens}
 use Rattle.zone_forms.specs.LongerRow.HasFront.{last, own}
-use Rattle.zone_forms.specs.Parts.{AreParts, IsToken, Part, tokens_of}
+use Rattle.zone_forms.specs.Parts.{IsToken, Part, tokens_of}
 use Rattle.zone_forms.specs.Rewritten.{AreRow, Rewrites}
-use Rattle.zone_forms.specs.Seen.{IsFound, RewritesAt, octets_in, row_in, tokens_in}
+use Rattle.zone_forms.specs.Seen.{IsFound, RewritesAt, octets_in, row_in}
 use Rattle.zone_forms.specs.declared.found_row.FoundRow.{FoundRow}
 use Rattle.zone_forms.proofs.RewrittenParts.{first_token, map_tokens, parts_behind, safe_token, unknown_row}
 
@@ -45,9 +44,13 @@ letter_safe octet low high = ((omega arith, omega arith), (λ same. letter_other
 number_token : (rtype : ℕ) → rtype < 2 ^ 64 → IsToken (unquoted (codes "TYPE" ++ decimal rtype))
 number_token rtype small =
     safe_token (codes "TYPE" ++ decimal rtype)
-    (each_append (codes "TYPE") (decimal rtype)
-    (letter_safe 84 (omega arith) (omega arith), (letter_safe 89 (omega arith) (omega arith),
-    (letter_safe 80 (omega arith) (omega arith), (letter_safe 69 (omega arith) (omega arith), tt))))
+    (each_append (codes "TYPE") (decimal rtype) (
+      letter_safe 84 (omega arith) (omega arith),
+      (
+        letter_safe 89 (omega arith) (omega arith),
+        (letter_safe 80 (omega arith) (omega arith), (letter_safe 69 (omega arith) (omega arith), tt)),
+      ),
+    )
     (safe_decimal rtype small)) (omega arith)
 
 known_token : (word : Token) (rtype : ℕ) → word.quoted ≡ false → IsToken word → rtype < 2 ^ 64 → IsToken (unquoted (known_word word rtype))

@@ -1,7 +1,6 @@
 -- Rewriting a row part by part.
-use Rattle.std.proofs.Common.{◌≡◌, ◌⊎◌, ◌==◌, ◌+◌, ◌-◌, ◌*◌, ◌<◌, ◌≤◌, ℕ, Bool, true, false, List, [], ◌∷◌, ◌++◌, length, take, drop, nat_lt, if◌then◌else◌, cond, Option, Some, None, inl, inr, refl, sym, ◌∙◌, ap, subst, arith, append_assoc, append-nil, length-append, length-drop}
+use Rattle.std.proofs.Common.{◌≡◌, ◌⊎◌, ◌+◌, ◌-◌, ◌*◌, ◌<◌, ◌≤◌, ℕ, Bool, true, false, List, [], ◌∷◌, ◌++◌, length, take, drop, if◌then◌else◌, Some, None, inl, inr, refl, sym, ◌∙◌, ap, subst, arith, append_assoc, append-nil, length-append, length-drop}
 use Rattle.std.proofs.lemmas.Bool.{cases_order, eq-eqb, le-ltb, lt-ltb, ne_eqb}
-use Rattle.std.proofs.lemmas.Bool.Decides.{nat_tests}
 use Rattle.std.proofs.lemmas.List.{drop-drop, length-map, take-append-drop}
 use Rattle.std.proofs.lemmas.List.Concat.{flat_map-append}
 use Rattle.std.proofs.Math.Seq.{take-append_seam, drop-append_seam}
@@ -13,8 +12,7 @@ use Rattle.dns_entry_scanner.proofs.Steps.{one_next}
 use Rattle.zone_forms.specs.Parts.{AreParts, Part, part_octets, row_octets, token_octets, tokens_of}
 use Rattle.zone_forms.specs.Rewritten.{data_octets, gaps_of, spaced}
 use Rattle.zone_forms.specs.WrittenPart.{NoToken, written_none, written_part}
-use Rattle.zone_forms.proofs.RowParts.{cut_row, parts_apart, parts_end, parts_next}
-use Rattle.zone_forms.proofs.RewrittenParts.{map_tokens}
+use Rattle.zone_forms.proofs.RowParts.{cut_row, parts_end, parts_next}
 
 -- what is written for tokens of data so far
 abbrev pub begun : List Part → List ℕ → List ℕ
@@ -170,7 +168,8 @@ pub record GoneNext (octets rest : List ℕ) (tokens : List Token) (place : ℕ)
   pub on : (after : List ℕ) → after ≡ now ++ written_part index place word text gap (token_octets found)
       → Gone octets rest tokens place word text out behind (index + 1) old after
 
-module _ {octets rest left old now : List ℕ} {tokens : List Token} {place index : ℕ} {word text : List ℕ} {inside : Bool} (gone : Gone octets rest tokens place word text inside left index old now) where
+module _ {octets rest left old now : List ℕ} {tokens : List Token} {place index : ℕ} {word text : List ℕ} {inside : Bool}
+    (gone : Gone octets rest tokens place word text inside left index old now) where
   -- what is left, if these are the parts that are
   left_at : (others : List Part) → gone.others ≡ others → left ≡ row_octets others gone.last ++ rest
   left_at others is = gone.left_is ∙ ap (λ l. row_octets l gone.last ++ rest) is
@@ -191,7 +190,8 @@ module _ {octets rest left old now : List ℕ} {tokens : List Token} {place inde
       let first = parts_next (are_at (part ∷ others) is) rest in record {
         out = first.out;
         next =
-            subst (λ (l : List ℕ). Next inside l (Some part.token) first.out (row_octets others gone.last ++ rest)) (sym (left_at (part ∷ others) is)) first.next;
+            subst (λ (l : List ℕ). Next inside l (Some part.token) first.out (row_octets others gone.last ++ rest))
+            (sym (left_at (part ∷ others) is)) first.next;
         are = first.are;
       }
 
@@ -266,7 +266,8 @@ begun_all (part ∷ parts) index place text is =
     ∙ append-nil (data_octets (part ∷ parts) text)
 
 -- the row at its end
-pub record GoneAll (octets rest : List ℕ) (tokens : List Token) (place : ℕ) (word text : List ℕ) (left : List ℕ) (index : ℕ) (old now : List ℕ) : Type 0 where
+pub record GoneAll (octets rest : List ℕ) (tokens : List Token) (place : ℕ) (word text left : List ℕ) (index : ℕ) (old now : List ℕ)
+    : Type 0 where
   pub few : place < index
   pub last : List ℕ
   pub left_is : left ≡ last ++ rest
@@ -274,7 +275,8 @@ pub record GoneAll (octets rest : List ℕ) (tokens : List Token) (place : ℕ) 
   pub is : RewrittenTo octets tokens place word text new
   pub appended : (now ++ written_none index place text) ++ last ≡ old ++ new
 
-module _ {octets rest left old now : List ℕ} {tokens : List Token} {place index : ℕ} {word text : List ℕ} {inside : Bool} (gone : Gone octets rest tokens place word text inside left index old now) where
+module _ {octets rest left old now : List ℕ} {tokens : List Token} {place index : ℕ} {word text : List ℕ} {inside : Bool}
+    (gone : Gone octets rest tokens place word text inside left index old now) where
   end_of : (new : List ℕ) → gone.others ≡ [] → index ≡ length tokens → place < length tokens → Written place word text gone.front new → gone.new ≡ new
       → GoneAll octets rest tokens place word text left index old now
   end_of new none all within (before few is) same =
@@ -325,7 +327,7 @@ module _ {octets rest left old now : List ℕ} {tokens : List Token} {place inde
       ∙ ap (λ (l : List Part). length (gone.front ++ l)) none' ∙ ap (length {A = Part}) (append-nil gone.front) in
       end_of gone.new none' (omega (arith, gone.count, count)) within gone.written refl
 
--- Where the next token is, by the place behind it.
+-- Where the next token is, by the place after it.
 pub record TokenAt (text : List ℕ) (behind end : ℕ) (gap octets : List ℕ) : Type 0 where
   pub few : length octets ≤ end
   pub order : behind ≤ end - length octets
@@ -361,13 +363,15 @@ pub last_at : (text last : List ℕ) (behind next : ℕ) → behind ≤ length t
 last_at text last behind next within within' at =
     let whole : length text - behind ≡ length last + (length text - next) =
     sym (length-drop behind text) ∙ ap (length {A = ℕ}) at ∙ length-append last (drop next text) ∙ ap (λ n. length last + n) (length-drop next text) in
-    let len : next - behind ≡ length last = omega (arith, whole, within, within') in
-    (omega (arith, whole, within, within'),
-    ap (λ n. take n (drop behind text)) len ∙ ap (take (length last)) at ∙ take-append_seam last (drop next text))
+    let len : next - behind ≡ length last = omega (arith, whole, within, within') in (
+      omega (arith, whole, within, within'),
+      ap (λ n. take n (drop behind text)) len ∙ ap (take (length last)) at ∙ take-append_seam last (drop next text),
+    )
 
 pub length-token_octets : (found : Token) → length (token_octets found) ≡ length found.text + 2 * (if found.quoted then 1 else 0)
 length-token_octets found = by found.quoted found.text
   where
-    by : (is_quoted : Bool) (text : List ℕ) → length (if is_quoted then 34 ∷ (text ++ 34 ∷ []) else text) ≡ length text + 2 * (if is_quoted then 1 else 0)
+    by : (is_quoted : Bool) (text : List ℕ)
+        → length (if is_quoted then 34 ∷ (text ++ 34 ∷ []) else text) ≡ length text + 2 * (if is_quoted then 1 else 0)
     by true text = omega (arith, length-append text (34 ∷ []))
     by false text = omega arith

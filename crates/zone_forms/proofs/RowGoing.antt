@@ -2,7 +2,6 @@
 use Rattle.std.proofs.Common.{◌≡◌, ◌+◌, ◌-◌, ◌*◌, ◌<◌, ◌≤◌, ℕ, Bool, List, ◌++◌, length, drop, if◌then◌else◌, false, true, option_map, Option, Some, None, refl, sym, ◌∙◌, ap, subst, arith}
 use mir.Val.{bool_byte}
 use Rattle.std.proofs.lemmas.List.{length-map}
-use Rattle.dns_scan.specs.Token.{Token}
 use Rattle.dns_text.specs.Tokens.{Next}
 use Rattle.dns_entry_scanner.specs.RowReader.{is_inside, left_of, text_of}
 use Rattle.dns_entry_scanner.specs.TokenEnd.{between}
@@ -18,7 +17,7 @@ use Rattle.zone_forms.specs.declared.found_row.FoundRow.{FoundRow}
 use Rattle.zone_forms.proofs.RowParts.{cut_token}
 use Rattle.zone_forms.proofs.RewrittenSteps.{Gone, gone_all, gone_next, gone_none, last_at, length-token_octets, same_front, split_between, token_at}
 
--- The reader is behind the parts that were gone over, and so is the place.
+-- The reader is after the parts that were gone over, and so is the place.
 pub record Going (row : FoundRow) (place : ℕ) (word text : List ℕ) (reader : RowReader) (behind index : ℕ) (old now : List ℕ) : Type 0 where
   pub reads : text_of reader ≡ row.text.now
   pub left : drop behind row.text.now ≡ left_of reader

@@ -5,7 +5,7 @@ use Rattle.dns_text.specs.Tokens.{Next}
 use Rattle.zone_forms.specs.Parts.{token_octets}
 use Rattle.zone_forms.specs.Rewritten.{spaced}
 
--- the next token is behind this gap, and is written so
+-- the next token is after this gap, and is written so
 pub record GoesOver (inside : Bool) (left gap octets : List ℕ) (out : Bool) (rest : List ℕ) : Type 0 where
   pub token : Token
   pub next : Next inside left (Some token) out rest

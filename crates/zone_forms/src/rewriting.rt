@@ -81,7 +81,7 @@ fn append_part(
     Ok(())
 }
 
-/// Appends the data behind a space, if the row has no data: the token of its type is the last of this number.
+/// Appends the data after a space, if the row has no data: the token of its type is the last one of the count.
 fn append_missing(
     count: usize,
     type_index: usize,

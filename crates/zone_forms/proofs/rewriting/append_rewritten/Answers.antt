@@ -1,14 +1,14 @@
-use Rattle.std.proofs.Common.{rules, Bool, true, Result, Ok, Err, if◌then◌else◌, refl, ◌≡◌, ◌<◌, ◌++◌, ℕ, List, length, OnOk, ◌+◌, ◌-◌, ◌*◌, ◌≤◌, ap, sym, ◌∙◌, arith}
+use Rattle.std.proofs.Common.{rules, Bool, true, Result, Ok, Err, if◌then◌else◌, refl, ◌≡◌, ◌++◌, ℕ, List, OnOk, ap, ◌∙◌}
 use Rattle.std.specs.Result.{is_ok}
 use Rattle.dns_entry_scanner.specs.TokenEnd.{between}
-use Rattle.zone_forms.proofs.GeneralRows.{general_row}
 use Rattle.zone_forms.proofs.RowGoing.{ending, going_none, turn}
 use Rattle.zone_forms.proofs.rewriting.append_rewritten.Goals as goal
 
 pub loop-gap-init : goal.loop-gap-init
 loop-gap-init c =
     let made = c.new-reader.ensures in
-    going_none c.args.type_index c.args.word.now c.args.data.now c.new-reader.result c.args.out.now.items c.requires.found made.text made.left made.outside
+    going_none c.args.type_index c.args.word.now c.args.data.now c.new-reader.result c.args.out.now.items c.requires.found
+    made.text made.left made.outside
 
 pub loop-gap-smaller : goal.loop-gap-smaller
 loop-gap-smaller c = (turn {reader' = c.next_part.new.reader} c.loop-gap.invariant c.in-Some.ensures.some).shorter
@@ -38,6 +38,9 @@ returns c =
     let ends = ending c.requires.found c.loop-gap.invariant c.requires.within c.in_default.ensures.none in
     let last = between c.loop-gap.behind c.args.row.next c.args.row.text.now in
     let old = c.append_missing.new.out.items in
-    on_ok c.extend_from_slice.result (λ ok. (ends.new, ends.is,
-        c.extend_from_slice.ensures.items ∙ ap (λ (b : Bool). if b then old ++ last else old) ok
-        ∙ ap (λ (l : List ℕ). l ++ last) c.in_ok-append_missing.ensures ∙ ends.appended))
+    on_ok c.extend_from_slice.result (λ ok. (
+      ends.new,
+      ends.is,
+      c.extend_from_slice.ensures.items ∙ ap (λ (b : Bool). if b then old ++ last else old) ok
+          ∙ ap (λ (l : List ℕ). l ++ last) c.in_ok-append_missing.ensures ∙ ends.appended,
+    ))
