@@ -2,6 +2,8 @@ pub mod RowGaps
 pub mod RowParts
 pub mod RewrittenParts
 pub mod RewrittenSteps
+pub mod RowGoing
+pub mod GeneralRows
 pub mod FoundRows
 pub mod GoneTexts
 pub mod GoingOn

@@ -1,5 +1,5 @@
 -- The octets of a row with another word for its type and another text of words for its data are a row.
-use Rattle.std.proofs.Common.{◌≡◌, ◌≢◌, ◌⊎◌, ◌<◌, ◌≤◌, ◌^◌, ◌||◌, ℕ, Bool, true, false, List, [], ◌∷◌, ◌++◌, length, map, decimal, if◌then◌else◌, inl, inr, refl, sym, ◌∙◌, ap, subst, arith, append_assoc, append-nil}
+use Rattle.std.proofs.Common.{◌≡◌, ◌⊎◌, ◌<◌, ◌^◌, ℕ, Bool, true, false, List, [], ◌∷◌, ◌++◌, length, map, decimal, inl, inr, refl, sym, ◌∙◌, ap, subst, arith, append_assoc, append-nil}
 use Rattle.std.proofs.lemmas.List.{length-map}
 use Rattle.std.proofs.lemmas.Bool.{false≢true}
 use Rattle.std.proofs.lemmas.Fmt.{decimal_nonempty}
@@ -14,7 +14,6 @@ use Rattle.dns_scan.proofs.HexWords.{hex_encoded}
 use Rattle.dns_entry_scanner.proofs.Rows.{row_shorter}
 use Rattle.dns_fields.proofs.PrintedRows.{safe_16}
 use Rattle.dns_fields.proofs.PrintedTexts.{IsSafe, safe_decimal}
-use Rattle.dns_text.specs.DocumentRows.{AreSymbols}
 use Rattle.dns_text.specs.Rows.{BeginsWithRows, TokenRow, is_led}
 use Rattle.dns_text.specs.Rows.BeginsWithRows.{none as no_rows, more as more_rows}
 use Rattle.dns_text.specs.Tokens.{IsIn, Row, head_of}
@@ -51,7 +50,7 @@ row_begins {octets} {row} are rest =
     subst (λ (b : Bool). BeginsWithRows (octets ++ rest) (record { blank_led = b; tokens = row.tokens } ∷ []) rest) led
     (more_rows (row_before are.is rest) no_rows)
 
--- the words of a text, each behind a space
+-- the words of a text, each after a space
 abbrev pub spaced_part : List ℕ → Part
 spaced_part word = record { gap = 32 ∷ []; token = unquoted word }
 
@@ -73,7 +72,7 @@ spaced_gap (comment text no_feed first) = comment text no_feed first
 
 words_begin : {inside : Bool} {last : List ℕ} (words : List (List ℕ)) → EndsRow inside last → BeginsWithEnd (row_octets (map spaced_part words) last)
 words_begin [] ends = ends_begin ends
-words_begin {last = last} (word ∷ words) ends = record { octet = 32; rest = (word ++ flat_map part_octets (map spaced_part words)) ++ last; is = refl; ends = refl }
+words_begin {last = last} (word ∷ words) ends = begins_at ((word ++ flat_map part_octets (map spaced_part words)) ++ last) refl
 
 words_are : {inside : Bool} {last : List ℕ} (words : List (List ℕ)) → AreWords words → EndsRow inside last
     → AreParts inside (map spaced_part words) last
@@ -209,13 +208,13 @@ front_are {inside} [] parts parts' last last' are step on = step inside are
 front_are (part ∷ front) parts parts' last last' (more gap is word others) step on =
     more gap is (λ e. begins_on front parts parts' last last' others on (word e)) (front_are front parts parts' last last' others step on)
 
--- the parts behind the front
-parts_behind : {inside : Bool} (front parts : List Part) (last : List ℕ) → AreParts inside (front ++ parts) last
+-- the parts after the front
+pub parts_behind : {inside : Bool} (front parts : List Part) (last : List ℕ) → AreParts inside (front ++ parts) last
     → (out : Bool) × AreParts out parts last
 parts_behind {inside} [] parts last are = (inside, are)
 parts_behind (part ∷ front) parts last (more gap is word others) = parts_behind front parts last others
 
-first_token : {inside : Bool} {part : Part} {parts : List Part} {last : List ℕ} → AreParts inside (part ∷ parts) last → IsToken part.token
+pub first_token : {inside : Bool} {part : Part} {parts : List Part} {last : List ℕ} → AreParts inside (part ∷ parts) last → IsToken part.token
 first_token (more gap is word others) = is
 
 pub map_tokens : (front parts : List Part) → tokens_of (front ++ parts) ≡ tokens_of front ++ tokens_of parts
@@ -262,7 +261,7 @@ rewritten_row front type_part data_parts last word first words are bare is is_fi
     subst (λ (l : List ℕ). Row false l (tokens_of front ++ unquoted word ∷ map unquoted (first ∷ words)) []) written
     (subst (λ (l : List Token). Row false (row_octets parts new_last ++ []) l []) tokens row)
 
--- It begins with white space if the row does, where a token is before the type or white space.
+-- It begins with white space exactly if the row does, provided that a token or white space is before the type.
 led_front : (front : List Part) (type_part : Part) (data_parts : List Part) (last behind : List ℕ) → 0 < length front
     → AreParts false (front ++ type_part ∷ data_parts) last
     → is_led (flat_map part_octets front ++ (type_part.gap ++ behind)) ≡ is_led (row_octets (front ++ type_part ∷ data_parts) last)

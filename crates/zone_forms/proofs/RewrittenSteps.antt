@@ -1,7 +1,6 @@
 -- Rewriting a row part by part.
-use Rattle.std.proofs.Common.{◌≡◌, ◌⊎◌, ◌==◌, ◌+◌, ◌-◌, ◌*◌, ◌<◌, ◌≤◌, ℕ, Bool, true, false, List, [], ◌∷◌, ◌++◌, length, take, drop, nat_lt, if◌then◌else◌, cond, Option, Some, None, inl, inr, refl, sym, ◌∙◌, ap, subst, arith, append_assoc, append-nil, length-append, length-drop}
+use Rattle.std.proofs.Common.{◌≡◌, ◌⊎◌, ◌+◌, ◌-◌, ◌*◌, ◌<◌, ◌≤◌, ℕ, Bool, true, false, List, [], ◌∷◌, ◌++◌, length, take, drop, if◌then◌else◌, Some, None, inl, inr, refl, sym, ◌∙◌, ap, subst, arith, append_assoc, append-nil, length-append, length-drop}
 use Rattle.std.proofs.lemmas.Bool.{cases_order, eq-eqb, le-ltb, lt-ltb, ne_eqb}
-use Rattle.std.proofs.lemmas.Bool.Decides.{nat_tests}
 use Rattle.std.proofs.lemmas.List.{drop-drop, length-map, take-append-drop}
 use Rattle.std.proofs.lemmas.List.Concat.{flat_map-append}
 use Rattle.std.proofs.Math.Seq.{take-append_seam, drop-append_seam}
@@ -9,13 +8,11 @@ use Rattle.std.specs.List.{flat_map}
 use Rattle.dns_scan.specs.Token.{Token}
 use Rattle.dns_text.specs.Tokens.{Next, Row}
 use Rattle.dns_entry_scanner.specs.TokenEnd.{between}
-use Rattle.dns_entry_scanner.specs.TokenSpan.{NoNext}
 use Rattle.dns_entry_scanner.proofs.Steps.{one_next}
 use Rattle.zone_forms.specs.Parts.{AreParts, Part, part_octets, row_octets, token_octets, tokens_of}
 use Rattle.zone_forms.specs.Rewritten.{data_octets, gaps_of, spaced}
-use Rattle.zone_forms.specs.WrittenPart.{written_none, written_part}
-use Rattle.zone_forms.proofs.RowParts.{cut_row, parts_apart, parts_end, parts_next}
-use Rattle.zone_forms.proofs.RewrittenParts.{map_tokens}
+use Rattle.zone_forms.specs.WrittenPart.{NoToken, written_none, written_part}
+use Rattle.zone_forms.proofs.RowParts.{cut_row, parts_end, parts_next}
 
 -- what is written for tokens of data so far
 abbrev pub begun : List Part → List ℕ → List ℕ
@@ -131,7 +128,7 @@ pub record Gone (octets rest : List ℕ) (tokens : List Token) (place : ℕ) (wo
   pub written : Written place word text front new
   pub appended : now ≡ old ++ new
 
-same_front : (a b rest : List ℕ) → a ++ rest ≡ b ++ rest → a ≡ b
+pub same_front : (a b rest : List ℕ) → a ++ rest ≡ b ++ rest → a ≡ b
 same_front a b rest same =
     let len : length a ≡ length b = omega (arith, ap (length {A = ℕ}) same, length-append a rest, length-append b rest) in
     sym (take-append_seam a rest) ∙ ap (take (length a)) same ∙ ap (λ n. take n (b ++ rest)) len ∙ take-append_seam b rest
@@ -171,7 +168,8 @@ pub record GoneNext (octets rest : List ℕ) (tokens : List Token) (place : ℕ)
   pub on : (after : List ℕ) → after ≡ now ++ written_part index place word text gap (token_octets found)
       → Gone octets rest tokens place word text out behind (index + 1) old after
 
-module _ {octets rest left old now : List ℕ} {tokens : List Token} {place index : ℕ} {word text : List ℕ} {inside : Bool} (gone : Gone octets rest tokens place word text inside left index old now) where
+module _ {octets rest left old now : List ℕ} {tokens : List Token} {place index : ℕ} {word text : List ℕ} {inside : Bool}
+    (gone : Gone octets rest tokens place word text inside left index old now) where
   -- what is left, if these are the parts that are
   left_at : (others : List Part) → gone.others ≡ others → left ≡ row_octets others gone.last ++ rest
   left_at others is = gone.left_is ∙ ap (λ l. row_octets l gone.last ++ rest) is
@@ -192,7 +190,8 @@ module _ {octets rest left old now : List ℕ} {tokens : List Token} {place inde
       let first = parts_next (are_at (part ∷ others) is) rest in record {
         out = first.out;
         next =
-            subst (λ (l : List ℕ). Next inside l (Some part.token) first.out (row_octets others gone.last ++ rest)) (sym (left_at (part ∷ others) is)) first.next;
+            subst (λ (l : List ℕ). Next inside l (Some part.token) first.out (row_octets others gone.last ++ rest))
+            (sym (left_at (part ∷ others) is)) first.next;
         are = first.are;
       }
 
@@ -247,15 +246,6 @@ module _ {octets rest left old now : List ℕ} {tokens : List Token} {place inde
       → GoneNext octets rest tokens place word text left index old now found out behind
   gone_next {found} {out} {behind} next = next_at gone.others refl found out behind next
 
-  some_at : (others : List Part) → gone.others ≡ others → NoNext inside left → ⊥
-  some_at [] none no_next = no_next None false rest (end_at none)
-  some_at (part ∷ others) some no_next =
-      let first = part_at part others some in no_next (Some part.token) first.out (row_octets others gone.last ++ rest) first.next
-
-  -- so something follows
-  pub gone_some : NoNext inside left → ⊥
-  gone_some no_next = some_at gone.others refl no_next
-
 -- The octets of a row with another word for its type and another text for its data.
 pub record RewrittenTo (octets : List ℕ) (tokens : List Token) (place : ℕ) (word text new : List ℕ) : Type 0 where
   pub front_parts : List Part
@@ -276,14 +266,17 @@ begun_all (part ∷ parts) index place text is =
     ∙ append-nil (data_octets (part ∷ parts) text)
 
 -- the row at its end
-pub record GoneAll (octets rest : List ℕ) (tokens : List Token) (place : ℕ) (word text : List ℕ) (left : List ℕ) (index : ℕ) (old now : List ℕ) : Type 0 where
+pub record GoneAll (octets rest : List ℕ) (tokens : List Token) (place : ℕ) (word text left : List ℕ) (index : ℕ) (old now : List ℕ)
+    : Type 0 where
+  pub few : place < index
   pub last : List ℕ
   pub left_is : left ≡ last ++ rest
   pub new : List ℕ
   pub is : RewrittenTo octets tokens place word text new
   pub appended : (now ++ written_none index place text) ++ last ≡ old ++ new
 
-module _ {octets rest left old now : List ℕ} {tokens : List Token} {place index : ℕ} {word text : List ℕ} {inside : Bool} (gone : Gone octets rest tokens place word text inside left index old now) where
+module _ {octets rest left old now : List ℕ} {tokens : List Token} {place index : ℕ} {word text : List ℕ} {inside : Bool}
+    (gone : Gone octets rest tokens place word text inside left index old now) where
   end_of : (new : List ℕ) → gone.others ≡ [] → index ≡ length tokens → place < length tokens → Written place word text gone.front new → gone.new ≡ new
       → GoneAll octets rest tokens place word text left index old now
   end_of new none all within (before few is) same =
@@ -303,6 +296,7 @@ module _ {octets rest left old now : List ℕ} {tokens : List Token} {place inde
       ∙ ap (λ l. front ++ (from.type_part.gap ++ (word ++ (l ++ gone.last)))) (begun_all from.data_parts index place text count) in
       let all_appended : (now ++ none_octets) ++ gone.last ≡ old ++ (gone.new ++ (none_octets ++ gone.last)) =
       ap (λ l. (l ++ none_octets) ++ gone.last) gone.appended ∙ simp append_assoc in record {
+        few = omega (arith, all, within);
         last = gone.last;
         left_is = gone.left_is ∙ ap (λ l. row_octets l gone.last ++ rest) none;
         new = made;
@@ -320,22 +314,20 @@ module _ {octets rest left old now : List ℕ} {tokens : List Token} {place inde
         appended = all_appended ∙ ap (λ l. old ++ (l ++ (none_octets ++ gone.last))) same ∙ ap (λ l. old ++ l) more;
       }
 
-  none_left : (others : List Part) → gone.others ≡ others → {out : Bool} {behind : List ℕ} → Next inside left None out behind → gone.others ≡ []
-  none_left [] none next = none
-  none_left (part ∷ others) some {out} {behind} next =
-      let first = part_at gone part others some in
-      let bad = (one_next first.next None out behind next).founds in cc
+  none_left : (others : List Part) → gone.others ≡ others → NoToken inside left → gone.others ≡ []
+  none_left [] is none = is
+  none_left (part ∷ others) is none =
+      let first = part_at gone part others is in absurd (none part.token first.out (row_octets others gone.last ++ rest) first.next)
 
-  pub gone_all : {out : Bool} {behind : List ℕ} → place < length tokens → Next inside left None out behind
-      → GoneAll octets rest tokens place word text left index old now
-  gone_all within next =
-      let none = none_left gone.others refl next in
+  pub gone_all : place < length tokens → NoToken inside left → GoneAll octets rest tokens place word text left index old now
+  gone_all within none =
+      let none' = none_left gone.others refl none in
       let count : length tokens ≡ length gone.front =
       ap (length {A = Token}) (sym gone.tokens_are) ∙ length-map (gone.front ++ gone.others) (λ (p : Part). p.token)
-      ∙ ap (λ (l : List Part). length (gone.front ++ l)) none ∙ ap (length {A = Part}) (append-nil gone.front) in
-      end_of gone.new none (omega (arith, gone.count, count)) within gone.written refl
+      ∙ ap (λ (l : List Part). length (gone.front ++ l)) none' ∙ ap (length {A = Part}) (append-nil gone.front) in
+      end_of gone.new none' (omega (arith, gone.count, count)) within gone.written refl
 
--- Where the next token is, by the place behind it.
+-- Where the next token is, by the place after it.
 pub record TokenAt (text : List ℕ) (behind end : ℕ) (gap octets : List ℕ) : Type 0 where
   pub few : length octets ≤ end
   pub order : behind ≤ end - length octets
@@ -379,6 +371,7 @@ last_at text last behind next within within' at =
 pub length-token_octets : (found : Token) → length (token_octets found) ≡ length found.text + 2 * (if found.quoted then 1 else 0)
 length-token_octets found = by found.quoted found.text
   where
-    by : (is_quoted : Bool) (text : List ℕ) → length (if is_quoted then 34 ∷ (text ++ 34 ∷ []) else text) ≡ length text + 2 * (if is_quoted then 1 else 0)
+    by : (is_quoted : Bool) (text : List ℕ)
+        → length (if is_quoted then 34 ∷ (text ++ 34 ∷ []) else text) ≡ length text + 2 * (if is_quoted then 1 else 0)
     by true text = omega (arith, length-append text (34 ∷ []))
     by false text = omega arith

@@ -1,9 +1,9 @@
--- What is between the tokens of a row: what each octet there means, and how a text goes on behind it.
-use Rattle.std.proofs.Common.{◌≡◌, ◌==◌, ◌<◌, ◌≤◌, ℕ, Bool, true, false, List, [], ◌∷◌, ◌++◌, length, Option, Some, None, if◌then◌else◌, refl, sym, ◌∙◌, ap, subst, arith, append_assoc}
+-- What is between the tokens of a row: what each octet there means, and how a text goes on after it.
+use Rattle.std.proofs.Common.{◌≡◌, ◌==◌, ℕ, Bool, true, false, List, [], ◌∷◌, ◌++◌, Option, None, if◌then◌else◌, refl, sym, ◌∙◌, ap, subst, arith, append_assoc}
 use Rattle.std.proofs.lemmas.Bool.Decides.{Decides-eqb, nat_tests}
 use Rattle.dns_scan.specs.Token.{Token}
-use Rattle.dns_text.specs.Tokens.{Head, Next, from_feed, has_feed, head_of, is_gap}
-use Rattle.dns_text.specs.Tokens.Head.{Go, Comment, Feed, Quote, Word, Refused}
+use Rattle.dns_text.specs.Tokens.{Next, from_feed, has_feed, head_of}
+use Rattle.dns_text.specs.Tokens.Head.{Go, Comment, Feed, Quote}
 use Rattle.dns_text.specs.Tokens.Next.{ended}
 use Rattle.dns_text.specs.Tokens.Next.{goes as goes_next, comment as comment_next}
 use Rattle.dns_text.proofs.RowSteps.{from_feed-append}

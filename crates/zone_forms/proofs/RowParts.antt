@@ -1,6 +1,6 @@
--- A row is its parts: its tokens with the octets before each, and what is behind the last one. Parts are a row of any text that begins
+-- A row is its parts: its tokens with the octets before each, and what is after the last one. Parts are a row of any text that begins
 -- with them.
-use Rattle.std.proofs.Common.{◌≡◌, ◌≢◌, ◌<◌, ◌≤◌, ℕ, Bool, true, false, List, [], ◌∷◌, ◌++◌, length, if◌then◌else◌, Option, Some, None, refl, sym, ◌∙◌, ap, subst, arith, append_assoc}
+use Rattle.std.proofs.Common.{◌≡◌, ◌<◌, ◌≤◌, ℕ, Bool, true, false, List, [], ◌∷◌, ◌++◌, length, if◌then◌else◌, Some, None, refl, sym, ◌∙◌, ap, subst, arith, append_assoc}
 use Rattle.std.proofs.lemmas.Bool.{false≢true}
 use Rattle.std.proofs.lemmas.Bool.Decides.{nat_tests}
 use Rattle.std.specs.List.{AllByRecursion, flat_map}
@@ -8,15 +8,13 @@ use Rattle.dns_label.specs.declared.symbol.Symbol.{Symbol}
 use Rattle.dns_label.specs.Symbol.{spelled}
 use Rattle.dns_scan.specs.Token.{Token}
 use Rattle.dns_text.specs.DocumentRows.{AreSymbols}
-use Rattle.dns_text.specs.Rows.{BeginsWithRows, TokenRow, is_led}
-use Rattle.dns_text.specs.Rows.BeginsWithRows.{none as no_rows, more as more_rows}
 use Rattle.dns_text.specs.Tokens.{EndsToken, IsIn, Next, Row, from_feed, head_of, stands_plain}
-use Rattle.dns_text.specs.Tokens.Head.{Go, Comment, Feed, Quote, Word}
+use Rattle.dns_text.specs.Tokens.Head.{Quote}
 use Rattle.dns_text.specs.Tokens.Next.{ended, quoted, unquoted}
 use Rattle.dns_text.specs.Tokens.Next.{goes as goes_next, comment as comment_next}
 use Rattle.dns_text.specs.Tokens.Row.{end, token}
 use Rattle.dns_text.proofs.TokenSymbols.{ends_plain, symbol_first, word_head}
-use Rattle.zone_forms.specs.Parts.{AreParts, BeginsWithEnd, EndsRow, IsComment, IsGap, IsToken, Part, ends_word, part_octets, row_octets, token_octets, tokens_of}
+use Rattle.zone_forms.specs.Parts.{AreParts, BeginsWithEnd, EndsRow, IsComment, IsGap, IsToken, Part, ends_word, row_octets, token_octets, tokens_of}
 use Rattle.zone_forms.specs.Parts.AreParts.{ended as no_parts, more}
 use Rattle.zone_forms.specs.Parts.IsComment.{nothing}
 use Rattle.zone_forms.specs.Parts.IsComment.{comment as commented}
@@ -194,7 +192,7 @@ pub record RowCut (inside : Bool) (text : List ℕ) (tokens : List Token) (rest 
   pub tokens_are : tokens_of parts ≡ tokens
   pub whole : text ≡ row_octets parts last ++ rest
 
--- what may be behind an unquoted token begins with an octet that ends it
+-- what may be after an unquoted token begins with an octet that ends it
 pub gap_begins : {inside out : Bool} {octet : ℕ} {gap : List ℕ} → IsGap inside (octet ∷ gap) out → ends_word octet ≡ true
 gap_begins {inside} {octet = octet} (goes {behind = behind} head first) = go_ends inside behind octet head
 gap_begins (comment text no_feed first) = refl

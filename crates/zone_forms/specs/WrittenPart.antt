@@ -1,6 +1,20 @@
 -- A token of a row that is rewritten. Only contracts inside the crate name it.
-use Rattle.std.specs.Prelude.{◌+◌, ◌==◌, ℕ, List, [], ◌∷◌, ◌++◌, nat_lt, if◌then◌else◌}
+use Rattle.std.specs.Prelude.{◌≡◌, ◌+◌, ◌==◌, ℕ, Bool, List, [], ◌∷◌, ◌++◌, Some, nat_lt, if◌then◌else◌}
+use Rattle.dns_scan.specs.Token.{Token}
+use Rattle.dns_text.specs.Tokens.{Next}
+use Rattle.zone_forms.specs.Parts.{token_octets}
 use Rattle.zone_forms.specs.Rewritten.{spaced}
+
+-- the next token is after this gap, and is written so
+pub record GoesOver (inside : Bool) (left gap octets : List ℕ) (out : Bool) (rest : List ℕ) : Type 0 where
+  pub token : Token
+  pub next : Next inside left (Some token) out rest
+  pub octets_are : octets ≡ token_octets token
+  pub whole : left ≡ gap ++ (octets ++ rest)
+
+-- no token follows
+abbrev pub NoToken : Bool → List ℕ → Type 0
+NoToken inside left = (token : Token) (out : Bool) (rest : List ℕ) → Next inside left (Some token) out rest → ⊥
 
 -- What is written for the token at the index of a row whose type is at a place, and for the gap before it: the same before the type;
 -- the word; the text for the first token of data; and the gap alone for the others.

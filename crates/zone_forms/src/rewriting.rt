@@ -1,7 +1,8 @@
 //! Rows with other data.
-ghost use Rattle.std.specs.Prelude.{◌≡◌, ◌<◌, ◌++◌, ℕ, List, length, OnOk};
+ghost use Rattle.std.specs.Prelude.{◌≡◌, ◌<◌, ◌++◌, ℕ, List, length, IfNone, IfSome, OnOk};
+ghost use Rattle.dns_entry_scanner.specs.RowReader.{is_inside, left_of, text_of};
 ghost use Rattle.zone_forms.specs.Seen.{IsFound, RewritesAt};
-ghost use Rattle.zone_forms.specs.WrittenPart.{written_none, written_part};
+ghost use Rattle.zone_forms.specs.WrittenPart.{GoesOver, NoToken, written_none, written_part};
 
 use crate::found_row::FoundRow;
 use dns_zonefile::RowReader;
@@ -25,17 +26,32 @@ pub(crate) fn append_rewritten(
     let mut reader = RowReader::new(row.text, row.place);
     let mut behind = row.place;
     let mut index = 0;
-    while let Ok(Some(span)) = reader.next_token() {
-        let end = reader.place();
-        let start = end - span.text(row.text).len() - 2 * usize::from(span.is_quoted());
-        let gap = &row.text[behind..start];
-        let token = &row.text[start..end];
+    while let Some((gap, token)) = next_part(row.text, &mut reader) {
         append_part(index, type_index, word, data, gap, token, out)?;
-        behind = end;
+        behind = reader.place();
         index += 1;
     }
     append_missing(index, type_index, data, out)?;
     out.extend_from_slice(&row.text[behind..row.next])
+}
+
+/// Reads the next token of the row. Returns what is before it and how it is written, or None if no token follows.
+fn next_part<'t>(text: &'t [u8], reader: &mut RowReader<'t>) -> Option<(&'t [u8], &'t [u8])>
+    requires { text_of reader.old ≡ text.now }
+    ensures some { IfSome result (λ part. GoesOver (is_inside reader.old) (left_of reader.old) part.0.now part.1.now (is_inside reader.new) (left_of reader.new)) }
+    ensures none { IfNone result (NoToken (is_inside reader.old) (left_of reader.old)) }
+    ensures text { text_of reader.new ≡ text_of reader.old }
+{
+    let behind = reader.place();
+    match reader.next_token() {
+        Ok(Some(span)) => {
+            let end = reader.place();
+            let start = end - span.text(text).len() - 2 * usize::from(span.is_quoted());
+            Some((&text[behind..start], &text[start..end]))
+        }
+        Ok(None) => None,
+        Err(_) => None,
+    }
 }
 
 /// Appends what is written for the token at the index, and for the gap before it: the same before the type, then the word, and
@@ -65,7 +81,7 @@ fn append_part(
     Ok(())
 }
 
-/// Appends the data behind a space, if the row has no data: the token of its type is the last of this number.
+/// Appends the data after a space, if the row has no data: the token of its type is the last one of the count.
 fn append_missing(
     count: usize,
     type_index: usize,
