@@ -80,7 +80,8 @@ pub fn answer_round<T: DataType + Drop>(
         let shown = data.display_zonefile(kind).to_string(alloc)?;
         match scanned::<T>(alloc, &mut shown.into_bytes(), None)? {
             (Ok(again), false) => out.shown(&(again == data))?,
-            _ => out.shown(&"other")?,
+            (Ok(_), true) => out.shown(&"..")?,
+            (Err(error), _) => return out.refused(&error),
         }
     }
     Ok(())
