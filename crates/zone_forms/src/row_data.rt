@@ -30,7 +30,7 @@ pub(crate) fn is_marked(row: FoundRow<'_>, kind: RowType) -> bool
 fn is_marker(text: &[u8], span: &TokenSpan) -> bool
     ensures { IsTrue result ↔ (token_in text.now span.now ≡ marker) }
 {
-    !span.is_quoted() && *span.text(text) == [b'\\', b'#']
+    !span.is_quoted() && matches!(span.text(text), [b'\\', b'#'])
 }
 
 /// Appends the octets of the data of the row, which is in general form or that of a further type.
