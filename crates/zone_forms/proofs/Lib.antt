@@ -1,0 +1,2 @@
+pub mod RowTypes
+pub mod RowData
