@@ -1,2 +1,3 @@
 pub mod RowTypes
+pub mod ScannedOnce
 pub mod RowData

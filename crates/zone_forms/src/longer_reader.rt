@@ -118,7 +118,7 @@ impl LongerReader {
         requires { HasTypeAt (row_in row) kind }
         ensures { IsTrue result ↔ Stands (row_in row.entry) }
     {
-        kind.known && (is_marked(row, kind) || forms_of(kind.rtype).is_none())
+        kind.known && (is_marked(row, kind.index) || forms_of(kind.rtype).is_none())
     }
 
     /// Reads the entry of the row by its general row.

@@ -67,7 +67,7 @@ impl Presenter {
         let Some(kind) = row_type(row) else {
             return Ok(false);
         };
-        if !is_marked(row, kind) {
+        if !is_marked(row, kind.index) {
             return Ok(false);
         }
         self.data.clear();
@@ -147,7 +147,7 @@ impl Presenter {
             Some(other)
                 if other.index == kind.index
                     && other.rtype == kind.rtype
-                    && !is_marked(printed, other)
+                    && !is_marked(printed, other.index)
                     && have_same_front(row, printed, kind.index) => {}
             _ => return Ok(false),
         }
