@@ -1,3 +1,6 @@
 pub mod RowTypes
 pub mod ScannedOnce
 pub mod RowData
+pub mod RewrittenParts
+pub mod KnownWords
+pub mod LongerRows

@@ -1,10 +1,11 @@
 -- The type of a row: the first word for a type behind the owner.
 use mir.Val.{bool_byte}
-use Rattle.std.proofs.Common.{◌≡◌, ◌+◌, ◌<◌, ◌≤◌, ◌∷◌, ◌++◌, ◌∙◌, ℕ, zero, suc, Bool, true, false, not, List, [], Option, Some, None, length, drop, get_or, is_some, map, take, add-one, ap, sym, refl, subst, arith}
+use Rattle.std.proofs.Common.{◌≡◌, ◌+◌, ◌<◌, ◌≤◌, ◌∷◌, ◌++◌, ◌∙◌, ℕ, zero, suc, Bool, true, false, not, List, [], Option, Some, None, length, drop, get_or, is_some, map, take, add-one, length-append, ap, sym, refl, subst, arith}
 use Rattle.std.specs.Prelude.{slice_get}
 use Rattle.std.specs.List.{AllByRecursion}
-use Rattle.std.proofs.lemmas.List.{take_all, length-map}
+use Rattle.std.proofs.lemmas.List.{append_cancel_right, take_all, length-map}
 use Rattle.dns_values.specs.Mnemonic.{type_read}
+use Rattle.dns_field_texts.specs.TypeWords.{type_word_read}
 use Rattle.dns_scan.specs.Token.{Token}
 use Rattle.dns_text.specs.Rows.{TokenRow}
 use Rattle.dns_entry_scanner.specs.TokenSpan.{token_in}
@@ -126,3 +127,66 @@ module _ (row : FoundRow) (start : ℕ) (begins : start ≡ bool_byte (not row.b
       no_type
       (subst (λ (l : List Token). AllByRecursion IsNoTypeWord (drop (start_of row.blank_led) l)) (take_all index (tokens_in row) long)
       (subst (λ n. AreNoTypes n index (tokens_in row)) (start_is row.blank_led start begins) every)) has
+
+-- a row has one type
+pub record OneType (front front' : List Token) (word word' : Token) (rtype rtype' : ℕ) (behind behind' : List Token) : Type 0 where
+  pub fronts : front ≡ front'
+  pub words : word ≡ word'
+  pub types : rtype ≡ rtype'
+  pub datas : behind ≡ behind'
+
+one_word : (others others' : List Token) {word word' : Token} {rtype rtype' : ℕ} {behind behind' : List Token}
+    → AllByRecursion IsNoTypeWord others → AllByRecursion IsNoTypeWord others' → IsTypeWord rtype word → IsTypeWord rtype' word'
+    → others ++ word ∷ behind ≡ others' ++ word' ∷ behind' → (word ≡ word') × (behind ≡ behind')
+one_word [] [] each each' is is' same = (cc, cc)
+one_word [] (other ∷ others') {word} {rtype = rtype} each each' is is' same =
+    let first : word ≡ other = cc in absurd (each'.0 rtype (subst (IsTypeWord rtype) first is))
+one_word (other ∷ others) [] {word' = word'} {rtype' = rtype'} each each' is is' same =
+    let first : word' ≡ other = cc in absurd (each.0 rtype' (subst (IsTypeWord rtype') first is'))
+one_word (other ∷ others) (other' ∷ others') each each' is is' same = one_word others others' each.1 each'.1 is is' (cc)
+
+pub one_type : {row : TokenRow} {front front' : List Token} {word word' : Token} {rtype rtype' : ℕ} {behind behind' : List Token}
+    → HasType row front word rtype behind → HasType row front' word' rtype' behind' → OneType front front' word word' rtype rtype' behind behind'
+one_type {row} {front} {front'} {word} {word'} {rtype} {rtype'} {behind} {behind'} has has' =
+    let same : has.others ++ word ∷ behind ≡ has'.others ++ word' ∷ behind' =
+    sym (behind_front row.blank_led front has.others word behind has.has_front)
+    ∙ ap (drop (start_of row.blank_led)) (sym has.is ∙ has'.is) ∙ behind_front row.blank_led front' has'.others word' behind' has'.has_front in
+    let one = one_word has.others has'.others has.first has'.first has.type has'.type same in
+    let both : Some rtype ≡ Some rtype' = sym has.type.reads ∙ ap (λ (t : Token). type_word_read t.text) one.0 ∙ has'.type.reads in record {
+      fronts = append_cancel_right front front' (word ∷ behind)
+          (sym has.is ∙ has'.is ∙ ap (λ (l : List Token). front' ++ l) (λ i. sym one.0 i ∷ sym one.1 i));
+      words = one.0;
+      types = cc;
+      datas = one.1;
+    }
+
+-- the word for a type, by its place
+pub word_at : (index : ℕ) (front : List Token) (word : Token) (behind tokens : List Token) → tokens ≡ front ++ word ∷ behind → index ≡ length front
+    → slice_get tokens index ≡ Some word
+word_at index front word behind tokens is at =
+    ap (λ (l : List Token). slice_get l index) is ∙ ap (λ (n : ℕ). slice_get (front ++ word ∷ behind) n) at ∙ there front
+  where
+    there : (before : List Token) → slice_get (before ++ word ∷ behind) (length before) ≡ Some word
+    there [] = refl
+    there (token ∷ before) = there before
+
+pub data_from : (index : ℕ) (front : List Token) (word : Token) (behind tokens : List Token) → tokens ≡ front ++ word ∷ behind → index ≡ length front
+    → drop (index + 1) tokens ≡ behind
+data_from index front word behind tokens is at =
+    rw add-one
+    (ap (λ (l : List Token). drop (suc index) l) is ∙ ap (λ (n : ℕ). drop (suc n) (front ++ word ∷ behind)) at ∙ there front)
+  where
+    there : (before : List Token) → drop (suc (length before)) (before ++ word ∷ behind) ≡ behind
+    there [] = refl
+    there (token ∷ before) = there before
+
+pub type_within : (row : FoundRow) {kind : RowType} → HasTypeAt (row_in row) kind → kind.index < length row.spans.now
+type_within row has =
+    let place = has.place in
+    let whole : length (tokens_in row) ≡ length (has.front ++ has.word ∷ has.data') = ap (λ (l : List Token). length l) has.has.is in
+    let parts = length-append has.front (has.word ∷ has.data') in
+    let all = length-map row.spans.now (λ span. token_in row.text.now span) in
+    omega (arith, place, whole, parts, all)
+
+pub data_at : (row : FoundRow) {kind : RowType} (has : HasTypeAt (row_in row) kind) → drop (kind.index + 1) (tokens_in row) ≡ has.data'
+data_at row {kind} has = data_from kind.index has.front has.word has.data' (tokens_in row) has.has.is has.place

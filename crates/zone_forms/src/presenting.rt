@@ -14,7 +14,7 @@ use crate::row_data::{is_marked, scan_data};
 use crate::row_type::{RowType, row_type};
 use crate::text_form::TextForm;
 use dns_field_texts::DisplayType;
-use dns_name::Name;
+use dns_name::{Name, Rtype};
 use dns_rdata_more::AnyFurtherData;
 use dns_text::{DisplayKind, ZonefileFmt};
 use dns_zonefile::{EntryError, RowFound, TokenSpan, read_row};
@@ -95,12 +95,12 @@ impl Presenter {
         ensures err { IfErr result (λ error. is_memory error ≡ true) }
         ensures kept { (self.new.data ≡ self.old.data) × (self.new.kind ≡ self.old.kind) }
     {
-        let Ok(data) = AnyFurtherData::from_octets(kind.rtype, &self.data) else {
+        let Ok(data) = AnyFurtherData::from_octets(Rtype::from_int(kind.rtype), &self.data) else {
             return Ok(false);
         };
         let mut word = String::new(self.alloc);
         let mut text = String::new(self.alloc);
-        if write!(word, "{}", DisplayType(kind.rtype)).is_err() {
+        if write!(word, "{}", DisplayType(Rtype::from_int(kind.rtype))).is_err() {
             return Err(EntryError::OutOfMemory);
         }
         if write!(text, "{}", data.display_zonefile(layout)).is_err() {

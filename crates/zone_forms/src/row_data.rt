@@ -13,7 +13,7 @@ ghost use Rattle.zone_forms.specs.Seen.{tokens_in};
 use crate::found_row::FoundRow;
 use crate::row_type::RowType;
 use dns_fields_more::scan_further_into;
-use dns_name::Name;
+use dns_name::{Name, Rtype};
 use dns_text::{Scanner, scan_unknown_octets};
 use dns_zonefile::{EntryError, InlineName, RowScanner, TokenSpan};
 use std::alloc::Global;
@@ -103,7 +103,7 @@ fn scan_fields<'a>(
     let spans = &row.spans[kind.index + 1..];
     let mut scanner: RowScanner<'_, InlineName> =
         RowScanner::new(alloc, row.text, row.place, spans, origin);
-    scan_further_into(kind.rtype, &mut scanner, octets)?;
+    scan_further_into(Rtype::from_int(kind.rtype), &mut scanner, octets)?;
     if scanner.continues() {
         return Err(EntryError::TrailingTokens);
     }
