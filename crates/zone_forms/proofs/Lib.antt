@@ -3,7 +3,12 @@ pub mod RowParts
 pub mod RewrittenParts
 pub mod RewrittenSteps
 pub mod RowGoing
+pub mod RowTypes
+pub mod ScannedOnce
+pub mod RowData
+pub mod KnownWords
 pub mod GeneralRows
+pub mod LongerRows
 pub mod FoundRows
 pub mod GoneTexts
 pub mod GoingOn

@@ -9,7 +9,7 @@ use Rattle.dns_scan.specs.UnknownData.{IsUnknownData}
 use Rattle.dns_text.specs.Rows.{TokenRow}
 use Rattle.dns_fields.specs.Fields.{Field, octets}
 use Rattle.dns_fields_more.specs.Forms.{forms_of}
-use Rattle.dns_fields_more.specs.Text.{ScansFurther, ScansLongRow}
+use Rattle.dns_fields_more.specs.Text.{ScansFurther}
 use Rattle.dns_field_texts.specs.TypeWords.{type_word_read}
 use Rattle.dns_zonefile.specs.Statement.{IsDirective, Names}
 
@@ -55,8 +55,8 @@ Stands row =
 -- The tokens are data of the type, with these octets: in general form, or the fields of a further type.
 pub data ScansLonger (names : Names) (rtype : ℕ) : List Token → List ℕ → Type 0 where
   marked : {words : List Token} {octets : List ℕ} → IsUnknownData words octets → ScansLonger names rtype (marker ∷ words) octets
-  fields : {tokens : List Token} {row : List Field} → (IsMarked tokens → ⊥) → (ScansLongRow names rtype tokens → ⊥)
-      → ScansFurther names rtype row tokens [] → ScansLonger names rtype tokens (octets row)
+  fields : {tokens : List Token} {row : List Field} → (IsMarked tokens → ⊥) → ScansFurther names rtype row tokens []
+      → ScansLonger names rtype tokens (octets row)
 
 -- the general form of data
 abbrev pub general_tokens : List ℕ → List Token

@@ -1,6 +1,8 @@
 -- The views of rows and readers. Only contracts inside the crate name them.
 use Rattle.std.specs.Prelude.{false, ◌≡◌, ◌≢◌, ◌+◌, ◌<◌, ◌≤◌, ℕ, Bool, List, [], ◌∷◌, ◌++◌, length, map, take, drop, is_some, slice_index, Option}
 use Rattle.std.specs.List.{flat_map}
+use Rattle.dns_label.specs.Octets.{AreOctets}
+use Rattle.dns_name.specs.UnknownText.{unknown_text}
 use Rattle.dns_values.specs.Mnemonic.{type_read}
 use Rattle.dns_scan.specs.Token.{Token}
 use Rattle.dns_text.specs.Rows.{TokenRow}
@@ -10,7 +12,7 @@ use Rattle.dns_entry_scanner.specs.TokenSpan.{token_in}
 use Rattle.dns_zonefile.specs.Entry.{Context, Entry}
 use Rattle.dns_zonefile.specs.Seen.{row_of}
 use Rattle.zone_forms.specs.LongerEntries.{IsLongerEntry}
-use Rattle.zone_forms.specs.LongerRow.{HasType}
+use Rattle.zone_forms.specs.LongerRow.{HasType, ScansLonger, known_word}
 use Rattle.zone_forms.specs.Parts.{AreParts, Part, part_octets, row_octets, tokens_of}
 use Rattle.zone_forms.specs.Rewritten.{AreRow, data_octets}
 use Rattle.zone_forms.specs.declared.found_row.FoundRow.{FoundRow}
@@ -58,6 +60,17 @@ pub record RewritesAt (row : FoundRow) (place : ℕ) (word text new : List ℕ) 
   pub tokens : tokens_of (front_parts ++ type_part ∷ data_parts) ≡ tokens_in row
   pub written : octets_in row ≡ row_octets (front_parts ++ type_part ∷ data_parts) last
   pub rewritten : new ≡ flat_map part_octets front_parts ++ (type_part.gap ++ (word ++ (data_octets data_parts text ++ last)))
+
+-- the octets are the row's with a known word for its type and its data in general form
+pub record WritesGeneral (names : Names) (row : FoundRow) (kind : RowType) (new : List ℕ) : Type 0 where
+  pub content : List ℕ
+  pub scans : ScansLonger names kind.rtype (drop (kind.index + 1) (tokens_in row)) content
+  pub octets : AreOctets content
+  pub short : length content ≤ 65535
+  pub word : List ℕ
+  pub word_is : (front : List Token) (stated : Token) (rtype : ℕ) (data' : List Token) → HasType (row_in row) front stated rtype data'
+      → word ≡ known_word stated rtype
+  pub so : RewritesAt row kind.index word (unknown_text content) new
 
 -- what the rows so far have set
 abbrev pub context_in : LongerReader → Context

@@ -1,15 +1,16 @@
 //! Reading rows by the table that has the further types too.
-ghost use Rattle.std.specs.Prelude.{◌≡◌, ◌↔◌, ◌≤◌, ℕ, List, Some, false, true, length, option_copied, string_bytes, IsTrue, IfErr, IfOk, OnErr, OnOk};
+ghost use Rattle.std.specs.Prelude.{◌≡◌, ◌+◌, ◌≤◌, ℕ, List, Some, false, true, drop, length, option_copied, string_bytes, IfErr, IfNone, IfOk, IfSome, IsSome, OnErr, OnOk};
 ghost use Rattle.dns_entry_scanner.specs.EntryError.{is_memory};
 ghost use Rattle.dns_entry_scanner.specs.NameInText.{SpellsUnder};
 ghost use Rattle.dns_name.specs.UnknownText.{unknown_text};
 ghost use Rattle.dns_scan.specs.Token.{Token};
+ghost use Rattle.dns_text.specs.Rows.{TokenRow};
 ghost use Rattle.dns_zonefile.specs.Entry as spec;
-ghost use Rattle.dns_zonefile.specs.Entry.{at_start};
+ghost use Rattle.dns_zonefile.specs.Entry.{IsEntry, at_start};
 ghost use Rattle.zone_forms.specs.LongerEntries.{IsLongerEntry};
-ghost use Rattle.zone_forms.specs.LongerRow.{HasType, Stands, known_word};
-ghost use Rattle.zone_forms.specs.Rewritten.{GoesGeneral};
-ghost use Rattle.zone_forms.specs.Seen.{HasTypeAt, IsFound, context_in, octets_in, octets_of, row_in};
+ghost use Rattle.zone_forms.specs.LongerRow.{HasType, ScansLonger, Stands, known_word};
+ghost use Rattle.zone_forms.specs.Rewritten.{AreRow, GoesGeneral};
+ghost use Rattle.zone_forms.specs.Seen.{HasTypeAt, IsFound, WritesGeneral, context_in, octets_in, octets_of, row_in, tokens_in};
 
 use crate::found_row::FoundRow;
 use crate::rewriting::append_rewritten;
@@ -92,32 +93,19 @@ impl LongerReader {
             → IsLongerEntry (context_in self.old) (row_in row.entry) entry after → ⊥) }
         ensures same { OnErr result (context_in self.new ≡ context_in self.old) }
     {
-        match row_type(row) {
-            Some(kind) if !self.stands(row, kind) => {
-                self.read_further(row, kind)?;
-                Ok(RowForm::Further)
-            }
-            _ => {
-                self.record.clear();
-                self.entries.read_entry(
-                    row.text,
-                    row.place,
-                    row.spans,
-                    row.blank_led,
-                    &mut self.record,
-                )?;
-                Ok(RowForm::Same)
-            }
+        if let Some(kind) = further_type(row) {
+            self.read_further(row, kind)?;
+            return Ok(RowForm::Further);
         }
-    }
-
-    /// Returns whether the row reads as it stands: the word of its type is known, and its data is in general form or of a type
-    /// that is no further one.
-    fn stands(&self, row: FoundRow<'_>, kind: RowType) -> bool
-        requires { HasTypeAt (row_in row) kind }
-        ensures { IsTrue result ↔ Stands (row_in row.entry) }
-    {
-        kind.known && (is_marked(row, kind) || forms_of(kind.rtype).is_none())
+        self.record.clear();
+        self.entries.read_entry(
+            row.text,
+            row.place,
+            row.spans,
+            row.blank_led,
+            &mut self.record,
+        )?;
+        Ok(RowForm::Same)
     }
 
     /// Reads the entry of the row by its general row.
@@ -131,34 +119,79 @@ impl LongerReader {
             → IsLongerEntry (context_in self.old) (row_in row.entry) entry after → ⊥) }
         ensures same { OnErr result (context_in self.new ≡ context_in self.old) }
     {
+        self.write_general(row, kind)?;
+        self.read_general()
+    }
+
+    /// Writes the general row of the row, which does not stand.
+    ///
+    /// Fails with an error other than `OutOfMemory` only if there is none.
+    fn write_general(&mut self, row: FoundRow<'_>, kind: RowType) -> Result<(), EntryError>
+        requires found { IsFound row }
+        requires has { HasTypeAt (row_in row) kind }
+        ensures ok { OnOk result (WritesGeneral (SpellsUnder (context_in self.old).origin) row.entry kind self.new.general.items) }
+        ensures err { IfErr result (λ error. is_memory error ≡ false → (content : List ℕ)
+            → ScansLonger (SpellsUnder (context_in self.old).origin) kind.rtype (drop (kind.index + 1) (tokens_in row.entry)) content → ⊥) }
+        ensures same { context_in self.new ≡ context_in self.old }
+    {
+        let word = general_word(self.alloc, row, kind)?;
         self.data.clear();
         scan_data(self.alloc, row, kind, self.entries.origin(), &mut self.data)?;
-        let data = general_text(self.alloc, kind.rtype, &self.data)?;
-        let word = general_word(self.alloc, row, kind)?;
+        let text = general_text(self.alloc, &self.data)?;
         self.general.clear();
-        append_rewritten(row, kind.index, &word, data.as_bytes(), &mut self.general)?;
+        append_rewritten(row, kind.index, &word, text.as_bytes(), &mut self.general)?;
+        Ok(())
+    }
+
+    /// Reads the entry of the general row.
+    fn read_general(&mut self) -> Result<(), EntryError>
+        requires { (row : TokenRow) × AreRow self.old.general.items row }
+        ensures ok { OnOk result ((row : TokenRow) → AreRow self.old.general.items row
+            → (entry : spec.Entry) × IsEntry (context_in self.old) row entry (context_in self.new)) }
+        ensures err { IfErr result (λ error. is_memory error ≡ false → (row : TokenRow) (entry : spec.Entry) (after : spec.Context)
+            → AreRow self.old.general.items row → IsEntry (context_in self.old) row entry after → ⊥) }
+        ensures same { OnErr result (context_in self.new ≡ context_in self.old) }
+        ensures kept { self.new.general ≡ self.old.general }
+    {
         self.record.clear();
-        match read_row(&self.general, 0, &mut self.spans)? {
-            RowFound::Row { blank_led, .. } => {
-                self.entries
-                    .read_entry(&self.general, 0, &self.spans, blank_led, &mut self.record)?;
-                Ok(())
-            }
-            _ => unreachable!(),
-        }
+        let RowFound::Row { blank_led, .. } = read_row(&self.general, 0, &mut self.spans)? else {
+            unreachable!();
+        };
+        self.entries.read_entry(
+            &self.general,
+            0,
+            &self.spans,
+            blank_led,
+            &mut self.record,
+        )?;
+        Ok(())
     }
 }
 
+/// Returns the type of the row if it does not read as it stands. It does if it has no type, and if the word of its type is
+/// known, and its data is in general form or of a type that is no further one.
+fn further_type(row: FoundRow<'_>) -> Option<RowType>
+    ensures some { IfSome result (HasTypeAt (row_in row.entry)) }
+    ensures further { IsSome result → Stands (row_in row.entry) → ⊥ }
+    ensures none { IfNone result (Stands (row_in row.entry)) }
+{
+    let kind = row_type(row)?;
+    if kind.known && (is_marked(row, kind.index) || forms_of(Rtype::from_int(kind.rtype)).is_none()) {
+        return None;
+    }
+    Some(kind)
+}
+
 /// Returns the general form of data.
-fn general_text(alloc: Global, rtype: Rtype, octets: &[u8]) -> Result<String, EntryError>
+fn general_text(alloc: Global, octets: &[u8]) -> Result<String, EntryError>
     requires { length octets.now ≤ 65535 }
     ensures ok { IfOk result (λ text. string_bytes text ≡ unknown_text octets.now) }
     ensures err { IfErr result (λ error. is_memory error ≡ true) }
 {
-    let mut text = String::new(alloc);
-    let Ok(data) = UnknownRecordData::from_octets(rtype, octets) else {
+    let Ok(data) = UnknownRecordData::from_octets(Rtype::NULL, octets) else {
         unreachable!();
     };
+    let mut text = String::new(alloc);
     match write!(text, "{data}") {
         Ok(()) => Ok(text),
         Err(_) => Err(EntryError::OutOfMemory),
@@ -176,7 +209,7 @@ fn general_word(alloc: Global, row: FoundRow<'_>, kind: RowType) -> Result<Vec<u
         return Ok(Vec::from_slice(alloc, row.token(kind.index))?);
     }
     let mut text = String::new(alloc);
-    match write!(text, "TYPE{}", kind.rtype.to_int()) {
+    match write!(text, "TYPE{}", kind.rtype) {
         Ok(()) => Ok(text.into_bytes()),
         Err(_) => Err(EntryError::OutOfMemory),
     }
