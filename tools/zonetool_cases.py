@@ -165,6 +165,69 @@ QUERY = [
     Case("query " + ".".join(["l" * 62] * 3) + " --origin " + "o" * 63 + ".oo", 2, said="zonetool: bad name"),
     Case("query z", 2, said="zonetool: write failed", is_full=True),
 ]
+# -- Data of further types, in presentation form and in general form (RFC 3597 5). The bitmap of NEXT is that of RFC 4034 4.3.
+HOST, BITMAP = b"\4host\7example\3com\0", bytes.fromhex("0006400100000003041b") + bytes(26) + b"\x20"
+# The times and the key of RFC 4034 3.3.
+TIMES = (1048354263, 1045762263)
+SIGNED = b"".join([bytes.fromhex("0001050200015180"), *(it.to_bytes(4, "big") for it in TIMES), b"\x0a\x52\7example\3com\0", bytes(range(4))])
+SERVICE = bytes.fromhex("00010000010006026832026833" "000300020035")
+
+
+def general(*parts):
+    octets = b"".join(parts)
+    return f"\\# {len(octets)} {octets.hex().upper()}"
+
+
+NEXT = "$ORIGIN example.com.\nalfa 86400 IN NSEC {}{}\n"
+FIELDS, GAPS = "host A ( ; next\n  MX\tRRSIG NSEC TYPE1234 ) ; end", "  ( ; next\n  \t   ) ; end"
+SHOWN = "host.example.com. A MX RRSIG NSEC TYPE1234"
+LONG = "host.example.com.", "A", "MX", "RRSIG", "NSEC", "TYPE1234"
+SEVERAL = "s.z. 60 IN {} 1 . port=53 alpn=h2,h3 ; s\nu.z. {} 1 2 \"x\"\ne.z. EUI48 00-00-5E-00-53-2a\n"
+WRITTEN = (
+    f"s.z. 60 IN SVCB {general(SERVICE)}    ; s\nu.z. TYPE256 {general(bytes([0, 1, 0, 2]), b'x')}  \n"
+    f"e.z. TYPE108 {general(bytes.fromhex('00005e00532a'))}\n"
+)
+PRINTED = 's.z. 60 IN SVCB 1 . alpn=h2,h3 port=53  ; s\nu.z. URI 1 2 "x"\ne.z. EUI48 00-00-5e-00-53-2a\n'
+SIGNATURE_TEXT = "z. 60 IN RRSIG A 5 2 86400 {} {} 2642 example.com. AAECAw==\n"
+FORMS = [
+    Case("general", 0, NEXT.format(general(HOST, BITMAP), GAPS), given=NEXT.format(FIELDS, "")),
+    Case("general --origin example.com", 0, "a. 5 IN NSEC " + general(HOST, BITMAP) + "     \n", given="a. 5 IN NSEC host TYPE1234 NSEC RRSIG MX A\n"),
+    Case("general", 0, WRITTEN, given=SEVERAL.format("SVCB", "URI")),
+    Case("general --class IN", 0, WRITTEN.replace("IN SVCB", "IN svcb"), given=SEVERAL.format("svcb", "TYPE256")),
+    Case("general other-order", 0, FILES["other-order"]),
+    Case("general include", 0, FILES["include"]),
+    Case("general empty"),
+    Case("general comment", 0, FILES["comment"]),
+    Case("general chaos --class CH", 0, FILES["chaos"]),
+    Case("general signed", 0, FILES["signed"]),
+    Case("general", 0, "a. 5 IN TYPE53 \\# 4 0102 0304\n", given="a. 5 IN TYPE53 \\# 4 0102 0304\n"),
+    Case("general", 0, "a. 5 IN TYPE53 \\# 4 01020304 \n", given="a. 5 IN SMIMEA \\# 4 0102 0304\n"),
+    Case("general", 2, said="zonetool: -: line 2 does not read", given=";\na. 5 IN NSEC\n"),
+    Case("general", 2, said="zonetool: -: line 1 does not read", given="a. 5 IN NSEC b. A ANYTHING\n"),
+    Case("general", 2, said="zonetool: -: line 1 does not read", given="a. 5 IN EUI48 00-00-5e-00-53\n"),
+    Case("general", 2, said="zonetool: -: line 1 does not read", given="a. IN SVCB 1 . port=1 port=2\n"),
+    Case("general", 2, said="zonetool: -: line 1 does not read", given="a. 5 IN APL 1:10.0.0.0/8\n"),
+    Case("general unended", 2, said="zonetool: unended: line 2 does not read"),
+    Case("general relative", 2, said="zonetool: relative: line 1 does not read"),
+    Case("general missing", 2, said="zonetool: missing: read failed: No such file or directory (os error 2)"),
+    Case("general --layout simple", 2, said=unexpected("--layout")),
+    Case("general one", 2, said="zonetool: write failed", is_full=True),
+    Case("present", 0, NEXT.format(SHOWN, GAPS), given=NEXT.format(general(HOST, BITMAP), GAPS)),
+    Case("present", 0, NEXT.format(SHOWN, "").replace("alfa 86400 IN NSEC ", "alfa 86400 IN NSEC( ; next\n") + ")\n",
+         given=NEXT.format(general(HOST, BITMAP), "").replace("alfa 86400 IN NSEC ", "alfa 86400 IN TYPE47( ; next\n") + ")\n"),
+    Case("present --layout multiline", 0, NEXT.format("".join(["(", *("\n        " + it for it in LONG), "\n        )"]), ""),
+         given=NEXT.format(general(HOST, BITMAP), "")),
+    Case("present --layout multiline", 0, NEXT.format("( " + SHOWN + " )", ""), given=NEXT.format("( " + general(HOST, BITMAP) + " )", "")),
+    Case("present --layout tabbed", 0, PRINTED, given=WRITTEN.replace("    ; s", "  ; s").replace('  \n', '\n')),
+    Case("present", 0, SIGNATURE_TEXT.format("20030322173103", "20030220173103"), given="z. 60 IN RRSIG " + general(SIGNED) + "\n"),
+    Case("general", 0, "z. 60 IN RRSIG " + general(SIGNED) + " " * 8 + "\n", given=SIGNATURE_TEXT.format(*TIMES)),
+    Case("present signed", 0, FILES["signed"]),
+    Case("present raw", 0, FILES["raw"]),
+    Case("present", 0, SEVERAL.format("SVCB", "URI"), given=SEVERAL.format("SVCB", "URI")),
+    Case("present", 2, said="zonetool: -: line 1 does not read", given="a. 5 IN NSEC\n"),
+    Case("present --layout wide one", 2, said="error: invalid value 'wide' for '--layout <LAYOUT>'"),
+    Case("present -h", 0, "Usage: zonetool present [OPTIONS] [FILE]"),
+]
 # -- What `explain` says of a zone's text. The tables have the text after the line of this SOA, and the place and the reason, whose token is marked;
 # a reason that names no token says how wide the mark is.
 TOP = "a. 60 IN SOA b. c. 1 2 3 4 5\n"
@@ -413,7 +476,7 @@ def differences(case, status, out, said):
 
 def judged(program):
     """How many cases there are, and the lines of each that differs."""
-    cases, found = DIFF + SORT + STATS + QUERY + EXPLAIN + LINES, []
+    cases, found = DIFF + SORT + STATS + QUERY + FORMS + EXPLAIN + LINES, []
     with tempfile.TemporaryDirectory(prefix="zonetool-") as name:
         folder = Path(name)
         (folder / "folder").mkdir()
