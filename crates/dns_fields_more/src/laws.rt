@@ -1,0 +1,20 @@
+//! Laws of the rows. Each function does nothing; what it ensures is the law.
+ghost use Rattle.std.specs.Prelude.{◌≡◌, ℕ, List};
+ghost use Rattle.dns_label.specs.Octets.{AreOctets};
+ghost use Rattle.dns_scan.specs.Token.{Token};
+ghost use Rattle.dns_fields.specs.Fields.{Field, octets};
+ghost use Rattle.dns_fields.specs.SpelledNames.{SpellOne};
+ghost use Rattle.dns_fields_more.specs.Text.{ScansFurther};
+
+use dns_text::Scanner;
+
+/// Tokens begin with data of a further type in one way, where a text is one name at most to the scanner: with the same tokens left,
+/// and as the same octets. (A row of numbers that are no octets is no data, but its bitmap may have the same types.)
+pub fn tokens_scan_as_one_further_row<S: Scanner>(scanner: &S)
+    ensures left { (rtype : ℕ) (row other : List Field) (tokens left rest : List Token) → SpellOne (S.names scanner.now)
+        → ScansFurther (S.names scanner.now) rtype row tokens left → ScansFurther (S.names scanner.now) rtype other tokens rest
+        → left ≡ rest }
+    ensures same { (rtype : ℕ) (row other : List Field) (tokens left rest : List Token) → SpellOne (S.names scanner.now)
+        → ScansFurther (S.names scanner.now) rtype row tokens left → ScansFurther (S.names scanner.now) rtype other tokens rest
+        → AreOctets (octets row) → AreOctets (octets other) → octets row ≡ octets other }
+{}
