@@ -8,4 +8,5 @@ pub mod Lowered
 pub mod OneLocation
 pub mod OneParameters
 pub mod OneTypes
+pub mod OneRow
 pub mod OneScan

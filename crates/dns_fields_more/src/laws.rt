@@ -4,7 +4,7 @@ ghost use Rattle.dns_label.specs.Octets.{AreOctets};
 ghost use Rattle.dns_scan.specs.Token.{Token};
 ghost use Rattle.dns_fields.specs.Fields.{Field, octets};
 ghost use Rattle.dns_fields.specs.SpelledNames.{SpellOne};
-ghost use Rattle.dns_fields_more.specs.Text.{ScansFurther};
+ghost use Rattle.dns_fields_more.specs.Text.{ScansFurther, ScansLongRow};
 
 use dns_text::Scanner;
 
@@ -17,4 +17,6 @@ pub fn tokens_scan_as_one_further_row<S: Scanner>(scanner: &S)
     ensures same { (rtype : ℕ) (row other : List Field) (tokens left rest : List Token) → SpellOne (S.names scanner.now)
         → ScansFurther (S.names scanner.now) rtype row tokens left → ScansFurther (S.names scanner.now) rtype other tokens rest
         → AreOctets (octets row) → AreOctets (octets other) → octets row ≡ octets other }
+    ensures short { (rtype : ℕ) (row : List Field) (tokens left : List Token) → SpellOne (S.names scanner.now)
+        → ScansFurther (S.names scanner.now) rtype row tokens left → ScansLongRow (S.names scanner.now) rtype tokens → ⊥ }
 {}
