@@ -1,7 +1,7 @@
 -- Tokens are data of a further type in one way, where a text is one name at most: they leave the same tokens, the data has the same
 -- octets, and not too many. For a row with a bitmap of types always has few octets, and any other is one.
 pub use Rattle.dns_fields_more.proofs.OneRow.{scanned_one}
-use Rattle.std.proofs.Common.{◌≡◌, ◌+◌, ◌<◌, ◌≤◌, ◌⊎◌, inl, inr, ℕ, Bool, true, false, ◌||◌, ◌==◌, List, [], ◌∷◌, ◌++◌, length, Option, Some, None, if◌then◌else◌, refl, sym, ◌∙◌, ap, subst, arith, length-append}
+use Rattle.std.proofs.Common.{◌≡◌, ◌+◌, ◌≤◌, ◌⊎◌, inl, inr, ℕ, Bool, true, false, ◌||◌, ◌==◌, List, [], ◌∷◌, length, Some, if◌then◌else◌, refl, sym, ◌∙◌, ap, subst, arith, length-append}
 use Rattle.std.proofs.lemmas.Bool.Decides.{nat_tests}
 use Rattle.std.specs.Prelude.{nat_le}
 use Rattle.std.specs.List.{AllByRecursion}
@@ -9,7 +9,7 @@ use Rattle.dns_label.specs.Octets.{AreOctets}
 use Rattle.dns_scan.specs.Token.{Token}
 use Rattle.dns_fields.specs.Fields.{Field, IsField, field_octets, kind_of, octets}
 use Rattle.dns_fields.specs.SpelledNames.{SpellOne}
-use Rattle.dns_fields.proofs.FieldKinds.{of_rest16, of_string, of_uncompressed}
+use Rattle.dns_fields.proofs.FieldKinds.{of_string, of_uncompressed}
 use Rattle.dns_fields.proofs.ReadFields.{number16_fixed, number32_fixed, number8_fixed}
 use Rattle.dns_fields_more.specs.declared.form.Form.{Form}
 use Rattle.dns_fields_more.specs.declared.form.Form.TheVariants.{Number8, Number16, Number32, Name, CasedName, String, RestText, Rest16, Rest64, Rtype as RtypeForm, Time, Salt, Hash, Types, Parameters, Location as LocationForm, Eui48, Eui64}

@@ -1,9 +1,9 @@
 -- Tokens are one bitmap of types at most, as far as it is of octets; and each has few octets.
-use Rattle.std.proofs.Common.{◌≡◌, ◌+◌, ◌*◌, ◌<◌, ◌≤◌, ◌↔◌, ℕ, List, [], ◌∷◌, ◌++◌, length, Some, refl, sym, ◌∙◌, ap, subst, arith, length-append}
+use Rattle.std.proofs.Common.{◌≡◌, ◌+◌, ◌*◌, ◌≤◌, ℕ, List, [], ◌∷◌, length, Some, sym, ◌∙◌, ap, subst, arith, length-append}
 use Rattle.std.specs.List.{Contains, flat_map}
 use Rattle.dns_label.specs.Octets.{AreOctets}
 use Rattle.dns_scan.specs.Token.{Token}
-use Rattle.dns_field_texts.specs.TypeBitmap.{AreWindows, IsTypeBitmap, ScansTypes, SpellTypes, SpellsType, Window, types_in, window_octets}
+use Rattle.dns_field_texts.specs.TypeBitmap.{AreWindows, IsTypeBitmap, ScansTypes, SpellTypes, SpellsType, Window, window_octets}
 use Rattle.dns_field_texts.specs.TypeWords.{type_word_read}
 use Rattle.dns_field_texts.proofs.OneBitmap.{one_bitmap}
 

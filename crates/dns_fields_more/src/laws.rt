@@ -9,7 +9,8 @@ ghost use Rattle.dns_fields_more.specs.Text.{ScansFurther, ScansLongRow};
 use dns_text::Scanner;
 
 /// Tokens begin with data of a further type in one way, where a text is one name at most to the scanner: with the same tokens left,
-/// and as the same octets. (A row of numbers that are no octets is no data, but its bitmap may have the same types.)
+/// as the same octets, and not also as a row that is too long for a record. The octets are the same if they are octets, as what a
+/// program holds always is: the types of a bitmap say nothing of numbers beyond eight bits.
 pub fn tokens_scan_as_one_further_row<S: Scanner>(scanner: &S)
     ensures left { (rtype : ℕ) (row other : List Field) (tokens left rest : List Token) → SpellOne (S.names scanner.now)
         → ScansFurther (S.names scanner.now) rtype row tokens left → ScansFurther (S.names scanner.now) rtype other tokens rest
