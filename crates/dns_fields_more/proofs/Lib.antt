@@ -5,3 +5,8 @@ pub mod Scans
 pub mod ScanRows
 pub mod Shown
 pub mod Lowered
+pub mod OneLocation
+pub mod OneParameters
+pub mod OneTypes
+pub mod OneRow
+pub mod OneScan

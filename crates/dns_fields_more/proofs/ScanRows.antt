@@ -52,7 +52,7 @@ module _ (names : List ℕ → List (List ℕ) → Type 0) (tokens left : List T
   leaves_by Eui48 field kind = of_rest16 (Leaves Eui48) field (λ o s. taken s.1.is) kind
   leaves_by Eui64 field kind = of_rest16 (Leaves Eui64) field (λ o s. taken s.1.is) kind
 
-leaves : {names : List ℕ → List (List ℕ) → Type 0} {form : Form} {field : Field} {tokens left : List Token} → ScansForm names form field tokens left
+pub leaves : {names : List ℕ → List (List ℕ) → Type 0} {form : Form} {field : Field} {tokens left : List Token} → ScansForm names form field tokens left
     → left ≡ left_of form tokens
 leaves {names} {form} {field} {tokens} {left} scans = leaves_by names tokens left form field scans.is.kind scans.spelled
 

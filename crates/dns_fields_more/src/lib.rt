@@ -6,6 +6,7 @@
 
 mod canonical;
 mod form;
+pub mod laws;
 mod row;
 mod scan;
 mod show;

@@ -10,10 +10,10 @@ mod ServiceShown
 mod ServicePrinted
 mod ServiceEncoded
 mod ServiceItems
-mod ServiceOrder
+pub mod ServiceOrder
 mod ServiceNames
 mod ServiceMade
-mod ServiceOne
+pub mod ServiceOne
 mod ServiceListed
 mod ServiceStrings
 mod ServiceScans
