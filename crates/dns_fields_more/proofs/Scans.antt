@@ -14,8 +14,9 @@ use Rattle.dns_field_texts.specs.TypeWords.{type_word_read}
 use Rattle.dns_field_texts.specs.TypeBitmap.{AppendsTypes, SpellsNoTypes}
 use Rattle.dns_service_parameters.specs.Service.{Parameter, octets_of}
 use Rattle.dns_service_parameters.specs.ServiceText.{AppendsParameters, ScansParameters}
-use Rattle.dns_field_texts.specs.Location.{Location}
-use Rattle.dns_field_texts.specs.LocationText.{ScansLocation}
+use Rattle.dns_field_texts.specs.Location.{Location, location_octets}
+use Rattle.dns_field_texts.specs.LocationText.{AppendsLocation, ScansLocation}
+use Rattle.dns_field_texts.proofs.LocationRead.{scans_location_is}
 use Rattle.dns_fields_more.specs.Text.{AppendsForm, AppendsName, NoFormScans, NoNameScans, ScansForm}
 use Rattle.dns_fields_more.specs.declared.form.Form.{Form}
 use Rattle.dns_fields_more.specs.declared.form.Form.TheVariants.{Name, CasedName, Rest16, Rest64, Rtype as RtypeForm, Time, Salt, Hash, Types, Parameters, Location as LocationForm, Eui48, Eui64}
@@ -150,6 +151,20 @@ module _ {names : List ℕ → List (List ℕ) → Type 0} {tokens left : List T
         keeps = record { parameters = appends.parameters; are = appends.scans.are; written = refl };
       };
       spelled = (appends.parameters, appends.scans, refl, appends.none);
+    };
+    behind = appends.behind;
+  }
+
+  pub location_scanned : AppendsLocation tokens left old new → AppendsForm names LocationForm tokens left old new
+  location_scanned appends = record {
+    field = rest16 (location_octets appends.location);
+    scans = record {
+      is = record {
+        kind = refl;
+        is_field = tt;
+        keeps = record { location = appends.location; is = scans_location_is appends.scans; written = refl };
+      };
+      spelled = (appends.location, appends.scans, refl, appends.none);
     };
     behind = appends.behind;
   }
