@@ -1,5 +1,5 @@
 -- Fields that are scanned, and appended to octets.
-use Rattle.std.proofs.Common.{◌≡◌, ◌<◌, ◌≤◌, ◌++◌, ◌∙◌, ◌∷◌, ℕ, List, length, ap, refl, sym, append_assoc, arith, inl, inr, subst}
+use Rattle.std.proofs.Common.{◌≡◌, ◌≤◌, ◌++◌, ◌∙◌, ℕ, List, length, ap, refl, sym, append_assoc, arith, inl, inr, subst}
 use Rattle.std.specs.Prelude.{None, Result, Ok, Err, OnOk}
 use Rattle.std.specs.Str.{chars}
 use Rattle.dns_scan.specs.Encodings.{Decodes16, Decodes64}

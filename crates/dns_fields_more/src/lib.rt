@@ -11,8 +11,8 @@ mod scan;
 mod show;
 mod value;
 
-pub use dns_field_texts::append_types;
 pub use canonical::make_further_canonical;
+pub use dns_field_texts::append_types;
 pub use form::{Form, forms_of};
 pub use row::{is_further_data, scan_further_into};
 pub use show::show_further;

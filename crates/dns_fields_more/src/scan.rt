@@ -10,7 +10,8 @@ ghost use Rattle.dns_fields_more.specs.declared.form.Form.TheVariants as form_of
 
 use crate::Form;
 use dns_field_texts::{
-    WordError, append_hardware, append_hash, append_salt, read_time, read_type, scan_location_into, scan_types_into,
+    WordError, append_hardware, append_hash, append_salt, read_time, read_type, scan_location_into,
+    scan_types_into,
 };
 use dns_name::{Octets, Rtype, ToName};
 use dns_service_parameters::scan_parameters_into;
