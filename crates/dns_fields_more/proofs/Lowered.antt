@@ -1,17 +1,16 @@
 -- Fields of forms in canonical form.
-use Rattle.std.proofs.Common.{◌≡◌, ◌≤◌, ◌-◌, ◌∙◌, ◌++◌, ◌∷◌, [], ℕ, min, List, length, take, drop, ap, sym, refl, subst, arith, length-append}
+use Rattle.std.proofs.Common.{◌≡◌, ◌-◌, ◌∙◌, ◌++◌, ◌∷◌, [], ℕ, List, length, take, drop, ap, sym, refl, subst, arith, length-append}
 use Rattle.std.specs.Prelude.{Some}
 use Rattle.std.proofs.Math.Seq.{take-append_seam, drop-append_seam}
-use Rattle.dns_fields.specs.Fields.{Field, field_octets, kind_of, lowered, octets}
+use Rattle.dns_fields.specs.Fields.{Field, field_octets, lowered, octets}
 use Rattle.dns_fields.proofs.FieldKinds.{of_uncompressed}
-use Rattle.dns_label.specs.Name.{IsName, low, wire}
 use Rattle.dns_wire.proofs.Case.{low_wire}
-use Rattle.dns_fields_more.specs.Forms.{AreFieldsOf, IsFieldOf, IsFurtherCanonical, forms_of, kind_of_form, lowered_as, lowered_row}
-use Rattle.dns_fields_more.specs.Rows.{EndWell, LowersTo, StandAs, form_lowered}
+use Rattle.dns_fields_more.specs.Forms.{AreFieldsOf, IsFieldOf, IsFurtherCanonical, forms_of, lowered_as, lowered_row}
+use Rattle.dns_fields_more.specs.Rows.{EndWell, LowersTo, form_lowered}
 use Rattle.dns_fields_more.specs.Values.{StandsIn}
 use Rattle.dns_fields_more.specs.declared.form.Form.{Form}
 use Rattle.dns_fields_more.specs.declared.form.Form.TheVariants.{Number8, Number16, Number32, Name, CasedName, String, RestText, Rest16, Rest64, Rtype as RtypeForm, Time, Salt, Hash, Types, Parameters, Location as LocationForm, Eui48, Eui64}
-use Rattle.dns_fields_more.proofs.Rows.{last_of, none_left, others_well}
+use Rattle.dns_fields_more.proofs.Rows.{last_of, none_left}
 use Rattle.dns_fields_more.proofs.Sole.{sole}
 
 -- how long the first field is

@@ -3,7 +3,7 @@ use Rattle.std.proofs.Common.{◌≡◌, ◌==◌, ℕ, Bool, true, false, List,
 use Rattle.std.specs.Prelude.{◌↔◌, IsTrue, Option, Some, None, if◌then◌else◌, ⊤}
 use Rattle.std.specs.List.{AllByRecursion}
 use Rattle.dns_fields.specs.Fields.{Field, field_octets, octets}
-use Rattle.dns_fields_more.specs.Forms.{AreFieldsOf, IsFieldOf, forms_in, forms_of, further, is_last}
+use Rattle.dns_fields_more.specs.Forms.{AreFieldsOf, forms_in, forms_of, further, is_last}
 use Rattle.dns_fields_more.specs.Values.{NoneStandsIn, StandsIn}
 use Rattle.dns_fields_more.specs.Rows.{EndWell, StandAs}
 use Rattle.dns_fields_more.specs.declared.form.Form.{Form}

@@ -2,11 +2,11 @@
 use Rattle.std.proofs.Common.{◌≡◌, ℕ, List, [], ◌∷◌, ◌++◌, ◌∙◌, drop, refl, sym, ap, subst, append_assoc, append-nil}
 use Rattle.std.specs.Prelude.{Bool, false, Result, Ok, Err, OnOk, IfErr}
 use Rattle.dns_scan.specs.Token.{Token, SameNames}
-use Rattle.dns_fields.specs.Fields.{Field, field_octets, octets, kind_of, number16, number32, string, rest16}
+use Rattle.dns_fields.specs.Fields.{Field, field_octets, octets, kind_of}
 use Rattle.dns_fields.specs.Scanned.{ScansField}
 use Rattle.dns_fields.proofs.FieldKinds.{of_number8, of_number16, of_number32, of_uncompressed, of_string, of_rest_text, of_rest16, of_rest64}
 use Rattle.dns_fields.proofs.ScanParts as parts
-use Rattle.dns_fields_more.specs.Forms.{AreFieldsOf, IsFieldOf, kind_of_form}
+use Rattle.dns_fields_more.specs.Forms.{kind_of_form}
 use Rattle.dns_fields_more.specs.Text.{AppendsForm, AppendsForms, NoFormScans, NoFormsScan, ScansForm, ScansForms, SpellsForm}
 use Rattle.dns_fields_more.specs.declared.form.Form.{Form}
 use Rattle.dns_fields_more.specs.declared.form.Form.TheVariants.{Number8, Number16, Number32, Name, CasedName, String, RestText, Rest16, Rest64, Rtype as RtypeForm, Time, Salt, Hash, Types, Parameters, Location, Eui48, Eui64}

@@ -1,16 +1,15 @@
 -- Octets begin with one field of a form.
-use Rattle.std.proofs.Common.{◌≡◌, ◌+◌, ◌<◌, ℕ, Bool, true, false, List, [], ◌∷◌, ◌++◌, ◌∙◌, length, drop, take, ap, sym, refl, subst, arith, append-nil, length-append}
+use Rattle.std.proofs.Common.{◌≡◌, ℕ, Bool, true, false, List, [], ◌++◌, ◌∙◌, length, drop, take, ap, sym, refl, append-nil}
 use Rattle.std.proofs.Math.Seq.{take-append_seam, drop-append_seam}
 use Rattle.dns_label.specs.Name.{IsName, wire}
-use Rattle.dns_label.specs.Labels.{labels_at}
 use Rattle.dns_label.proofs.Spelling.{labels_at-reads}
-use Rattle.dns_fields.specs.Fields.{Field, Kind, IsField, field_octets, kind_of, uncompressed, string, rest_text, rest16, rest64}
+use Rattle.dns_fields.specs.Fields.{Field, IsField, field_octets, kind_of, uncompressed, string, rest_text, rest16, rest64}
 use Rattle.dns_fields.specs.OctetsForm.{StartsWithField}
 use Rattle.dns_fields.specs.OctetsForm as kinds
 use Rattle.dns_fields.proofs.FieldKinds.{of_uncompressed, of_string, of_rest_text, of_rest16, of_rest64}
 use Rattle.dns_fields.proofs.ReadFields.{number8_fixed, number16_fixed, number32_fixed}
 use Rattle.dns_canonical_form.proofs.OctetsForms.{name_decoded, starts_long}
-use Rattle.dns_fields_more.specs.Forms.{IsFieldOf, is_last, kind_of_form}
+use Rattle.dns_fields_more.specs.Forms.{is_last, kind_of_form}
 use Rattle.dns_fields_more.specs.Values.{StandsIn}
 use Rattle.dns_fields_more.specs.declared.form.Form.{Form}
 use Rattle.dns_fields_more.specs.declared.form.Form.TheVariants.{Number8, Number16, Number32, Name, CasedName, String, RestText, Rest16, Rest64, Rtype as RtypeForm, Time, Salt, Hash, Types, Parameters, Location, Eui48, Eui64}

@@ -1,6 +1,6 @@
 -- The further types: data as a row of fields, by a table that is longer than that of `dns_fields`. In octets a field is one of a
 -- kind that is there, and some have a rule of their own.
-use Rattle.std.specs.Prelude.{◌≡◌, ◌≢◌, ◌<◌, ◌^◌, ◌++◌, ℕ, Bool, true, false, List, [], ◌∷◌, length, map, Option, Some, None, ⊤, ◌==◌, if◌then◌else◌}
+use Rattle.std.specs.Prelude.{◌≡◌, ◌≢◌, ◌<◌, ◌^◌, ℕ, Bool, true, false, List, [], ◌∷◌, length, Option, Some, None, ⊤, ◌==◌, if◌then◌else◌}
 use Rattle.dns_fields.specs.Fields.{Kind, Field, kind_of, field_octets, octets, IsField, lowered}
 use Rattle.dns_fields.specs.Fields as kinds
 use Rattle.dns_field_texts.specs.TypeBitmap.{IsTypeBitmap}

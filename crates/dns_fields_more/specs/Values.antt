@@ -1,6 +1,6 @@
 -- Fields of forms in octets, every name in full.
-use Rattle.std.specs.Prelude.{◌≡◌, ℕ, true, List, [], ◌++◌, length}
-use Rattle.dns_fields.specs.Fields.{Field, kind_of, field_octets, IsField, number8, number16, number32, uncompressed, string, rest_text, rest16, rest64}
+use Rattle.std.specs.Prelude.{◌≡◌, ℕ, true, List, [], ◌++◌}
+use Rattle.dns_fields.specs.Fields.{Field, field_octets, number8, number16, number32, uncompressed, string, rest_text, rest16, rest64}
 use Rattle.dns_fields_more.specs.Forms.{IsFieldOf, is_last}
 use Rattle.dns_fields_more.specs.declared.form.Form.{Form}
 use Rattle.dns_fields_more.specs.declared.form.Form.TheVariants as form

@@ -1,5 +1,5 @@
-use Rattle.std.proofs.Common.{◌∷◌, arith, rules}
-use Rattle.dns_fields_more.proofs.Lowered.{lowered_none, lowered_step}
+use Rattle.std.proofs.Common.{rules}
+use Rattle.dns_fields_more.proofs.Lowered.{lowered_step}
 use Rattle.dns_fields_more.proofs.canonical.+lower_fields.Goals as goal
 
 pub returns : goal.returns

@@ -1,4 +1,4 @@
-use Rattle.std.proofs.Common.{◌≡◌, ℕ, List, arith, length-drop, subst, drop}
+use Rattle.std.proofs.Common.{◌≡◌, arith, length-drop, subst, drop}
 use Rattle.dns_octets.specs.Parser.{octets_of, place_of, rest_of}
 use Rattle.dns_fields_more.specs.Values.{StandsIn, field_of}
 use Rattle.dns_fields_more.proofs.Lowered.{long_of}

@@ -1,4 +1,3 @@
-use Rattle.std.proofs.Common.{◌∷◌}
 use Rattle.dns_fields_more.proofs.ScanRows.{all_appended, none_appended_all}
 use Rattle.dns_fields_more.proofs.scan.+scan_forms.Goals as goal
 

@@ -1,4 +1,4 @@
-use Rattle.std.proofs.Common.{refl, rules, arith}
+use Rattle.std.proofs.Common.{refl, rules}
 use Rattle.dns_fields.specs.Fields.{number8}
 use Rattle.dns_fields_more.proofs.Scans.{scanned}
 use Rattle.dns_fields_more.proofs.scan.scan_number8.Goals as goal

@@ -1,4 +1,4 @@
-use Rattle.std.proofs.Common.{◌∷◌, arith, rules, length-drop}
+use Rattle.std.proofs.Common.{arith, rules, length-drop}
 use Rattle.dns_octets.specs.Parser.{octets_of, place_of}
 use Rattle.dns_fields_more.proofs.Shown.{fields_ended, fields_step}
 use Rattle.dns_fields_more.proofs.show.+show_fields.Goals as goal

@@ -1,4 +1,4 @@
-use Rattle.std.proofs.Common.{◌≡◌, ℕ, List, drop, rules, subst}
+use Rattle.std.proofs.Common.{◌≡◌, drop, rules, subst}
 use Rattle.dns_octets.specs.Parser.{rest_of}
 use Rattle.dns_fields_more.specs.Text.{ShowsFields}
 use Rattle.dns_fields_more.proofs.Shown.{further_shown}

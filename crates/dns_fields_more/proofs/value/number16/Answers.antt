@@ -1,4 +1,4 @@
-use Rattle.std.proofs.Common.{arith, rules, refl}
+use Rattle.std.proofs.Common.{rules, refl}
 use Rattle.dns_octets.specs.Parser.{octets_of, place_of}
 use Rattle.dns_wire.proofs.Flat.{always_on_err}
 use Rattle.dns_fields.proofs.ReadFields.{number16_fixed}
