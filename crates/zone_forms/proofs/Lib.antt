@@ -4,3 +4,4 @@ pub mod RowData
 pub mod RewrittenParts
 pub mod KnownWords
 pub mod LongerRows
+pub mod ReadRows
