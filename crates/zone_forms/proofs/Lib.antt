@@ -4,4 +4,5 @@ pub mod RowData
 pub mod RewrittenParts
 pub mod KnownWords
 pub mod LongerRows
+pub mod GeneralRows
 pub mod ReadRows

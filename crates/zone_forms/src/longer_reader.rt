@@ -2,6 +2,7 @@
 ghost use Rattle.std.specs.Prelude.{◌≡◌, ◌↔◌, ◌+◌, ◌≤◌, ℕ, List, Some, false, true, drop, length, option_copied, string_bytes, IfErr, IfNone, IfOk, IfSome, IsSome, IsTrue, OnErr, OnOk};
 ghost use Rattle.dns_entry_scanner.specs.EntryError.{is_memory};
 ghost use Rattle.dns_entry_scanner.specs.NameInText.{SpellsUnder};
+ghost use Rattle.dns_label.specs.Octets.{AreOctets};
 ghost use Rattle.dns_name.specs.UnknownText.{unknown_text};
 ghost use Rattle.dns_scan.specs.Token.{Token};
 ghost use Rattle.dns_text.specs.Rows.{TokenRow};
@@ -195,6 +196,7 @@ fn stands(row: FoundRow<'_>, kind: RowType) -> bool
 fn general_text(alloc: Global, octets: &[u8]) -> Result<String, EntryError>
     requires { length octets.now ≤ 65535 }
     ensures ok { IfOk result (λ text. string_bytes text ≡ unknown_text octets.now) }
+    ensures octets { AreOctets octets.now }
     ensures err { IfErr result (λ error. is_memory error ≡ true) }
 {
     let Ok(data) = UnknownRecordData::from_octets(Rtype::NULL, octets) else {
