@@ -9,6 +9,8 @@ pub mod RowData
 pub mod KnownWords
 pub mod GeneralRows
 pub mod LongerRows
+pub mod WrittenRows
+pub mod ReadRows
 pub mod FoundRows
 pub mod GoneTexts
 pub mod GoingOn

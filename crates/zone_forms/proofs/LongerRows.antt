@@ -1,6 +1,6 @@
 -- Rows with data in general form: what they say, and that each reads as its row does.
-use Rattle.std.proofs.Common.{◌≡◌, ◌≢◌, ◌⊎◌, ◌+◌, ◌-◌, ◌<◌, ◌≤◌, ◌^◌, ◌++◌, ◌∙◌, ℕ, zero, suc, Bool, true, false, List, [], ◌∷◌, length, take, drop, map, codes, decimal, is_some, Option, Some, None, inl, inr, refl, sym, ap, subst, arith, add-one, append-nil, length-append}
-use Rattle.std.specs.Prelude.{if◌then◌else◌, unwrap_or}
+use Rattle.std.proofs.Common.{◌≡◌, ◌≢◌, ◌⊎◌, ◌+◌, ◌-◌, ◌<◌, ◌≤◌, ◌^◌, ◌++◌, ◌∙◌, ℕ, zero, suc, Bool, true, false, not, List, [], ◌∷◌, length, take, drop, map, codes, decimal, is_some, Option, Some, None, inl, inr, refl, sym, ap, subst, arith, add-one, append-nil, length-append}
+use Rattle.std.specs.Prelude.{◌↔◌, if◌then◌else◌, unwrap_or, IfNone, IfSome, IsTrue}
 use Rattle.std.specs.Char.{is_ascii_digit}
 use Rattle.std.specs.List.{AllByRecursion, list_all}
 use Rattle.std.specs.Option.{option_or}
@@ -21,6 +21,8 @@ use Rattle.dns_fields.proofs.PrintedRows.{safe_16}
 use Rattle.dns_fields.proofs.PrintedTexts.{number_back, safe_decimal, safe_plain}
 use Rattle.dns_rdata.specs.Data.{Data, unknown_data, number_of}
 use Rattle.dns_field_texts.specs.TypeWords.{type_word_read}
+use Rattle.dns_fields_more.specs.Forms.{forms_of}
+use Rattle.dns_fields_more.specs.declared.form.Form.{Form}
 use Rattle.dns_entry_scanner.specs.NameInText.{SpellsUnder}
 use Rattle.dns_entry_scanner.specs.TokenSpan.{token_in}
 use Rattle.dns_zonefile.specs.Entry.{Context, Entry, Enters, IsEntry}
@@ -33,7 +35,7 @@ use Rattle.dns_zonefile.specs.Statement.Statement.{StateRecord}
 use Rattle.dns_zonefile.specs.Statement.States.{nothing, ttl_class, class_ttl}
 use Rattle.dns_zonefile.specs.Statement.States.{ttl as ttl_alone, class as class_alone}
 use Rattle.zone_forms.specs.LongerEntries.{IsLongerEntry}
-use Rattle.zone_forms.specs.LongerRow.{HasFront, HasType, IsGeneralRow, IsNoTypeWord, IsTypeWord, ScansLonger, Stands, general_tokens, known_word, with_tokens}
+use Rattle.zone_forms.specs.LongerRow.{HasFront, HasType, IsGeneralRow, IsMarked, IsNoTypeWord, IsTypeWord, ScansLonger, Stands, general_tokens, known_word, with_tokens}
 use Rattle.zone_forms.specs.LongerRow.HasFront.{last, own}
 use Rattle.zone_forms.specs.LongerRow.IsGeneralRow.{same, further}
 use Rattle.zone_forms.specs.Parts.{AreParts, IsToken, Part, tokens_of}
@@ -65,6 +67,47 @@ module _ {row : TokenRow} {kind : RowType} (has : HasTypeAt row kind) {text : Li
   is_numbered_word known is =
       the_word
       (is ∙ ap (λ (b : Bool). if b then has.word.text else codes "TYPE" ++ decimal kind.rtype) (sym known ∙ has.known))
+
+-- whether a row stands, by its type
+module _ (row : FoundRow) {kind : RowType} (has : HasTypeAt (row_in row) kind) where
+  pub stands_by : kind.known ≡ true → IsMarked (drop (kind.index + 1) (tokens_in row)) ⊎ (forms_of kind.rtype ≡ None) → Stands (row_in row)
+  stands_by known data' front word rtype others also =
+      let one = one_type has.has also in (
+        ap (λ (t : Token). is_some (type_read t.text)) (sym one.words) ∙ sym has.known ∙ known,
+        elim data' [
+          | inl marked ↦ inl (subst IsMarked (data_at row has ∙ one.datas) marked)
+          | inr none ↦ inr (ap forms_of (sym one.types) ∙ none)
+        ],
+      )
+
+  pub known_if : Stands (row_in row) → kind.known ≡ true
+  known_if stands = has.known ∙ (stands has.front has.word kind.rtype has.data' has.has).0
+
+  pub data_if : Stands (row_in row) → IsMarked (drop (kind.index + 1) (tokens_in row)) ⊎ (forms_of kind.rtype ≡ None)
+  data_if stands =
+      elim ((stands has.front has.word kind.rtype has.data' has.has).1) [
+        | inl marked ↦ inl (subst IsMarked (sym (data_at row has)) marked)
+        | inr none ↦ inr none
+      ]
+
+-- a test for forms
+pub forms_tested : {T : Type 0} (now : T → List Form) (found : Option T) (tested : Bool) (number rtype : ℕ) → number ≡ rtype → is_some found ≡ not tested
+    → IfSome found (λ forms. forms_of number ≡ Some (now forms)) → IfNone found (forms_of number ≡ None) → IsTrue tested ↔ (forms_of rtype ≡ None)
+forms_tested now (Some forms) tested number rtype at is some none =
+    (λ yes. absurd (by tested yes is), λ nothing. let bad : Some (now forms) ≡ None = sym some ∙ ap forms_of at ∙ nothing in absurd cc)
+  where
+    by : (b : Bool) → b ≡ true → true ≡ not b → ⊥
+    by true on bad = cc
+    by false on bad = cc
+forms_tested now None tested number rtype at is some none = (λ yes. ap forms_of (sym at) ∙ none, λ nothing. by tested is)
+  where
+    by : (b : Bool) → false ≡ not b → b ≡ true
+    by true is' = refl
+    by false is' = absurd cc
+
+pub if_none : {T P : Type 0} (found : Option T) → P → IfNone found P
+if_none (Some value) holds = tt
+if_none None holds = holds
 
 -- general data reads as unknown data
 hex_joined : (octets : List ℕ) → AreOctets octets → AreJoined IsWord (map unquoted (hex_words octets)) (encoded_16 octets)

@@ -95,26 +95,33 @@ module _ {names : Names} {rtype : ℕ} where
   no_fields unmarked none' content (fields {row = row} still scans) = none' row scans
 
 -- what a scanner says of the tokens and names that it was made with
-module _ {rtype : ℕ} {known origin : Option (List (List ℕ))} {given tokens : List Token} (names_are : known ≡ origin) (tokens_are : given ≡ tokens) where
+module _ {number rtype : ℕ} {known origin : Option (List (List ℕ))} {given tokens : List Token} (number_is : number ≡ rtype) (names_are : known ≡ origin)
+    (tokens_are : given ≡ tokens) where
   here : {row : List Field} {left : List Token} → ScansFurther (SpellsUnder origin) rtype row tokens left
-      → ScansFurther (SpellsUnder known) rtype row given left
+      → ScansFurther (SpellsUnder known) number row given left
   here {row} {left} scans =
-      subst (λ (o : Option (List (List ℕ))). ScansFurther (SpellsUnder o) rtype row given left) (sym names_are)
-      (subst (λ (l : List Token). ScansFurther (SpellsUnder origin) rtype row l left) (sym tokens_are) scans)
+      subst (λ (n : ℕ). ScansFurther (SpellsUnder known) n row given left) (sym number_is)
+      (subst (λ (o : Option (List (List ℕ))). ScansFurther (SpellsUnder o) rtype row given left) (sym names_are)
+      (subst (λ (l : List Token). ScansFurther (SpellsUnder origin) rtype row l left) (sym tokens_are) scans))
 
-  pub none_scanned : NoFurtherScans (SpellsUnder known) rtype given → (row : List Field) → ScansFurther (SpellsUnder origin) rtype row tokens [] → ⊥
+  there : {row : List Field} {left : List Token} → ScansFurther (SpellsUnder known) number row given left
+      → ScansFurther (SpellsUnder origin) rtype row tokens left
+  there {row} {left} scans =
+      subst (λ (n : ℕ). ScansFurther (SpellsUnder origin) n row tokens left) number_is
+      (subst (λ (o : Option (List (List ℕ))). ScansFurther (SpellsUnder o) number row tokens left) names_are
+      (subst (λ (l : List Token). ScansFurther (SpellsUnder known) number row l left) tokens_are scans))
+
+  pub none_scanned : NoFurtherScans (SpellsUnder known) number given → (row : List Field) → ScansFurther (SpellsUnder origin) rtype row tokens [] → ⊥
   none_scanned none' row scans = none' (not_long (under_once known) (here scans)) row [] (here scans)
 
-  pub none_left : {left : List Token} {old new : List ℕ} → AppendsFurther (SpellsUnder known) rtype given left old new → left ≢ []
+  pub none_left : {left : List Token} {old new : List ℕ} → AppendsFurther (SpellsUnder known) number given left old new → left ≢ []
       → (row : List Field) → ScansFurther (SpellsUnder origin) rtype row tokens [] → ⊥
   none_left appends some row scans = some (one_left (under_once known) appends.scans (here scans))
 
-  pub all_scanned : {left : List Token} {old new : List ℕ} → AppendsFurther (SpellsUnder known) rtype given left old new → left ≡ []
+  pub all_scanned : {left : List Token} {old new : List ℕ} → AppendsFurther (SpellsUnder known) number given left old new → left ≡ []
       → (row : List Field) × ScansFurther (SpellsUnder origin) rtype row tokens [] × (new ≡ old ++ octets_of row)
   all_scanned appends ends = (
     appends.row,
-    subst (λ (o : Option (List (List ℕ))). ScansFurther (SpellsUnder o) rtype appends.row tokens []) names_are
-        (subst (λ (l : List Token). ScansFurther (SpellsUnder known) rtype appends.row l []) tokens_are
-        (subst (λ (l : List Token). ScansFurther (SpellsUnder known) rtype appends.row given l) ends appends.scans)),
+    there (subst (λ (l : List Token). ScansFurther (SpellsUnder known) number appends.row given l) ends appends.scans),
     appends.behind,
   )

@@ -1,7 +1,8 @@
 //! Reading rows by the table that has the further types too.
-ghost use Rattle.std.specs.Prelude.{◌≡◌, ◌+◌, ◌≤◌, ℕ, List, Some, false, true, drop, length, option_copied, string_bytes, IfErr, IfNone, IfOk, IfSome, IsSome, OnErr, OnOk};
+ghost use Rattle.std.specs.Prelude.{◌≡◌, ◌↔◌, ◌+◌, ◌≤◌, ℕ, List, Some, false, true, drop, length, option_copied, string_bytes, IfErr, IfNone, IfOk, IfSome, IsSome, IsTrue, OnErr, OnOk};
 ghost use Rattle.dns_entry_scanner.specs.EntryError.{is_memory};
 ghost use Rattle.dns_entry_scanner.specs.NameInText.{SpellsUnder};
+ghost use Rattle.dns_label.specs.Octets.{AreOctets};
 ghost use Rattle.dns_name.specs.UnknownText.{unknown_text};
 ghost use Rattle.dns_scan.specs.Token.{Token};
 ghost use Rattle.dns_text.specs.Rows.{TokenRow};
@@ -168,24 +169,33 @@ impl LongerReader {
     }
 }
 
-/// Returns the type of the row if it does not read as it stands. It does if it has no type, and if the word of its type is
-/// known, and its data is in general form or of a type that is no further one.
+/// Returns the type of the row if it does not read as it stands.
 fn further_type(row: FoundRow<'_>) -> Option<RowType>
     ensures some { IfSome result (HasTypeAt (row_in row.entry)) }
     ensures further { IsSome result → Stands (row_in row.entry) → ⊥ }
     ensures none { IfNone result (Stands (row_in row.entry)) }
 {
     let kind = row_type(row)?;
-    if kind.known && (is_marked(row, kind.index) || forms_of(Rtype::from_int(kind.rtype)).is_none()) {
+    if stands(row, kind) {
         return None;
     }
     Some(kind)
+}
+
+/// Returns whether the row reads as it stands: the word of its type is known, and its data is in general form or of a type that
+/// is no further one.
+fn stands(row: FoundRow<'_>, kind: RowType) -> bool
+    requires { HasTypeAt (row_in row) kind }
+    ensures { IsTrue result ↔ Stands (row_in row.entry) }
+{
+    kind.known && (is_marked(row, kind.index) || forms_of(Rtype::from_int(kind.rtype)).is_none())
 }
 
 /// Returns the general form of data.
 fn general_text(alloc: Global, octets: &[u8]) -> Result<String, EntryError>
     requires { length octets.now ≤ 65535 }
     ensures ok { IfOk result (λ text. string_bytes text ≡ unknown_text octets.now) }
+    ensures octets { AreOctets octets.now }
     ensures err { IfErr result (λ error. is_memory error ≡ true) }
 {
     let Ok(data) = UnknownRecordData::from_octets(Rtype::NULL, octets) else {

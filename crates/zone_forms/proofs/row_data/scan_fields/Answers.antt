@@ -11,16 +11,16 @@ returns-in_err-scan_further_into-clause-err c =
     let tokens : tokens_of c.new-scanner.result ≡ drop (c.args.kind.index + 1) (tokens_in c.args.row) =
     tokens_from c.args.row.text.now c.args.row.spans.now (c.args.kind.index + 1) _ c.new-scanner.ensures.tokens in
     handed_on c.from_residual.result c.in_err-scan_further_into.field-0.0 _ c.from_residual.ensures.1
-    (λ real. none_scanned c.new-scanner.ensures.origin tokens (c.in_err-scan_further_into.ensures.err real))
+    (λ real. none_scanned c.from_int.ensures c.new-scanner.ensures.origin tokens (c.in_err-scan_further_into.ensures.err real))
 
 pub returns-then-continues-clause-err : goal.returns-then-continues-clause-err
 returns-then-continues-clause-err c =
     let tokens : tokens_of c.new-scanner.result ≡ drop (c.args.kind.index + 1) (tokens_in c.args.row) =
     tokens_from c.args.row.text.now c.args.row.spans.now (c.args.kind.index + 1) _ c.new-scanner.ensures.tokens in
-    λ real. none_left c.new-scanner.ensures.origin tokens c.in_ok-scan_further_into.ensures.ok (c.continues.ensures.some.0 c.if-continues.true)
+    λ real. none_left c.from_int.ensures c.new-scanner.ensures.origin tokens c.in_ok-scan_further_into.ensures.ok (c.continues.ensures.some.0 c.if-continues.true)
 
 pub returns-clause-ok : goal.returns-clause-ok
 returns-clause-ok c =
     let tokens : tokens_of c.new-scanner.result ≡ drop (c.args.kind.index + 1) (tokens_in c.args.row) =
     tokens_from c.args.row.text.now c.args.row.spans.now (c.args.kind.index + 1) _ c.new-scanner.ensures.tokens in
-    all_scanned c.new-scanner.ensures.origin tokens c.in_ok-scan_further_into.ensures.ok (ended _ c.continues.ensures.some c.if-continues.false)
+    all_scanned c.from_int.ensures c.new-scanner.ensures.origin tokens c.in_ok-scan_further_into.ensures.ok (ended _ c.continues.ensures.some c.if-continues.false)

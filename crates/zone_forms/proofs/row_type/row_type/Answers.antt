@@ -6,7 +6,7 @@ use Rattle.zone_forms.proofs.row_type.row_type.Goals as goal
 pub returns-in-Some-clause-some : goal.returns-in-Some-clause-some
 returns-in-Some-clause-some c =
     type_found c.args.row c.from-index.result c.from-index.ensures c.loop-index.index c.loop-index.auto.index c.loop-index.invariant _ c.loop-index-test.true
-    (λ is. let yes = c.is_directive.ensures.1 is in cc) c.in-Some.ensures.some c.token.ensures (c.is_some.ensures ∙ ap is_some c.from_bytes.ensures)
+    (λ is. let yes = c.is_directive.ensures.1 is in cc) c.in-Some.ensures.some c.to_int.ensures c.token.ensures (c.is_some.ensures ∙ ap is_some c.from_bytes.ensures)
 
 pub loop-index-preserved : goal.loop-index-preserved
 loop-index-preserved c =

@@ -1,0 +1,31 @@
+use Rattle.dns_entry_scanner.proofs.HandedOn.{handed_on}
+use Rattle.std.proofs.Common.{refl}
+use Rattle.zone_forms.specs.LongerRow.IsGeneralRow.{same as stays}
+use Rattle.zone_forms.specs.Rewritten.IsWrittenAs.{same}
+use Rattle.zone_forms.specs.Seen.{row_in}
+use Rattle.zone_forms.proofs.FoundRows.{found_row}
+use Rattle.zone_forms.proofs.WrittenRows.{standing_entry}
+use Rattle.zone_forms.proofs.longer_reader.LongerReader.read_entry.Goals as goal
+
+pub returns-in_err-read_further-clause-err : goal.returns-in_err-read_further-clause-err
+returns-in_err-read_further-clause-err c =
+    handed_on c.from_residual.result c.in_err-read_further.field-0.0 _ c.from_residual.ensures.1 (λ real. c.in_err-read_further.ensures.err real)
+
+pub returns-in_err-read_entry-clause-err : goal.returns-in_err-read_entry-clause-err
+returns-in_err-read_entry-clause-err c =
+    handed_on c.from_residual-in_err-read_entry.result c.in_err-read_entry.field-0.0 _ c.from_residual-in_err-read_entry.ensures.1
+    (λ real entry after is. c.in_err-read_entry.ensures.err real entry after (standing_entry c.in_default.ensures.none is))
+
+pub returns-clause-ok : goal.returns-clause-ok
+returns-clause-ok c =
+    let read = c.in_ok-read_entry.ensures.ok in
+    let stands = c.in_default.ensures.none in (
+      read.0,
+      record {
+        general = row_in c.args.row;
+        is = stays stands;
+        so = read.1;
+        are = (found_row c.args.row c.requires).are;
+        written = same refl;
+      },
+    )

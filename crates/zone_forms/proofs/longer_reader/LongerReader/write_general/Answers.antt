@@ -1,0 +1,26 @@
+use Rattle.std.proofs.Common.{◌≡◌, ◌∙◌, ◌+◌, ◌++◌, ℕ, List, Option, ap, drop, sym, subst}
+use Rattle.dns_label.specs.Octets.{AreOctets}
+use Rattle.dns_name.specs.UnknownText.{unknown_text}
+use Rattle.dns_entry_scanner.specs.NameInText.{SpellsUnder}
+use Rattle.zone_forms.specs.LongerRow.{ScansLonger}
+use Rattle.zone_forms.specs.Seen.{tokens_in}
+use Rattle.zone_forms.proofs.WrittenRows.{rewrites_same}
+use Rattle.zone_forms.proofs.longer_reader.LongerReader.write_general.Goals as goal
+
+pub returns-clause-ok : goal.returns-clause-ok
+returns-clause-ok c =
+    let scanned = c.in_ok-scan_data.ensures.ok in
+    let appended = c.in_ok-append_rewritten.ensures in
+    let content = scanned.0 in
+    let same : c.deref.result.now ≡ content = c.deref.ensures.value ∙ scanned.3 ∙ ap (λ (l : List ℕ). l ++ content) c.clear.ensures.items in
+    record {
+      content = content;
+      scans = subst (λ (o : Option (List (List ℕ))). ScansLonger (SpellsUnder o) c.args.kind.rtype (drop (c.args.kind.index + 1) (tokens_in c.args.row)) content) c.origin.ensures scanned.1;
+      octets = subst AreOctets same c.in_ok-text.ensures.octets;
+      short = scanned.2;
+      word = c.in_ok-word.word.items;
+      word_is = c.in_ok-word.ensures.ok;
+      so = rewrites_same c.args.row c.args.kind.index c.deref-2.ensures.value
+          (c.as_bytes.ensures.value ∙ c.in_ok-text.ensures.ok ∙ ap unknown_text same)
+          (sym (appended.2 ∙ ap (λ (l : List ℕ). l ++ appended.0) c.clear-2.ensures.items)) appended.1;
+    }
