@@ -1,3 +1,4 @@
+pub mod RowTypes
 pub mod RowGaps
 pub mod RowParts
 pub mod RewrittenParts
@@ -7,3 +8,4 @@ pub mod GeneralRows
 pub mod FoundRows
 pub mod GoneTexts
 pub mod GoingOn
+pub mod KnownWords

@@ -15,7 +15,8 @@ use dns_zonefile::TokenSpan;
 pub(crate) struct RowType {
     /// The index of the token.
     pub(crate) index: usize,
-    pub(crate) rtype: Rtype,
+    /// The number of the type.
+    pub(crate) rtype: u16,
     /// Whether zone readers that know no further types know its word.
     pub(crate) known: bool,
 }
@@ -33,7 +34,7 @@ pub(crate) fn row_type(row: FoundRow<'_>) -> Option<RowType>
         if let Some(rtype) = word_type(row.text, &row.spans[index]) {
             return Some(RowType {
                 index,
-                rtype,
+                rtype: rtype.to_int(),
                 known: Rtype::from_bytes(row.token(index)).is_some(),
             });
         }
