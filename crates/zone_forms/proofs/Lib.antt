@@ -9,3 +9,7 @@ pub mod FoundRows
 pub mod GoneTexts
 pub mod GoingOn
 pub mod KnownWords
+pub mod PlainWords
+pub mod SameRecords
+pub mod ReadBack
+pub mod PresentedRows
