@@ -69,7 +69,7 @@ general_is : {names : Names} {rtype : ℕ} {tokens words : List Token} {content 
     → IsUnknownData words content
 general_is {words = words} {content} is (marked {words = others} data') =
     let same : others ≡ words = cc in subst (λ (l : List Token). IsUnknownData l content) same data'
-general_is {words = words} is (fields unmarked long scans) = absurd (unmarked (record { words = words; is = is }))
+general_is {words = words} is (fields unmarked scans) = absurd (unmarked (record { words = words; is = is }))
 
 -- the general row's word for the type is known
 general_word : {row : TokenRow} {front data' : List Token} {word : Token} {rtype : ℕ} → HasType row front word rtype data'
