@@ -11,6 +11,7 @@ use Rattle.dns_entry_scanner.specs.TokenEnd.{between}
 use Rattle.dns_entry_scanner.specs.TokenSpan.{token_in}
 use Rattle.dns_zonefile.specs.Entry.{Context, Entry}
 use Rattle.dns_zonefile.specs.Seen.{row_of}
+use Rattle.dns_zonefile.specs.Statement.{Names}
 use Rattle.zone_forms.specs.LongerEntries.{IsLongerEntry}
 use Rattle.zone_forms.specs.LongerRow.{HasType, ScansLonger, known_word}
 use Rattle.zone_forms.specs.Parts.{AreParts, Part, part_octets, row_octets, tokens_of}
