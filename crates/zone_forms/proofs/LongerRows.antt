@@ -1,22 +1,20 @@
 -- Rows with data in general form: what they say, and that each reads as its row does.
-use Rattle.std.proofs.Common.{◌≡◌, ◌≢◌, ◌⊎◌, ◌+◌, ◌-◌, ◌<◌, ◌≤◌, ◌^◌, ◌++◌, ◌∙◌, ℕ, zero, suc, Bool, true, false, not, List, [], ◌∷◌, length, take, drop, map, codes, decimal, is_some, Option, Some, None, inl, inr, refl, sym, ap, subst, arith, add-one, append-nil, length-append}
+use Rattle.std.proofs.Common.{◌≡◌, ◌⊎◌, ◌+◌, ◌-◌, ◌≤◌, ◌^◌, ◌++◌, ◌∙◌, ℕ, Bool, true, false, not, List, [], ◌∷◌, length, drop, map, codes, decimal, is_some, Option, Some, None, inl, inr, refl, sym, ap, subst, arith, append-nil}
 use Rattle.std.specs.Prelude.{◌↔◌, if◌then◌else◌, unwrap_or, IfNone, IfSome, IsTrue}
 use Rattle.std.specs.Char.{is_ascii_digit}
 use Rattle.std.specs.List.{AllByRecursion, list_all}
 use Rattle.std.specs.Option.{option_or}
-use Rattle.std.proofs.lemmas.List.{length-map}
 use Rattle.dns_label.specs.Octets.{AreOctets}
 use Rattle.dns_values.specs.Mnemonic.{type_read}
-use Rattle.dns_name.specs.Unknown.{UnknownData}
-use Rattle.dns_name.specs.UnknownText.{hex_of, hex_words, unknown_text}
+use Rattle.dns_name.specs.UnknownText.{hex_of, hex_words}
 use Rattle.dns_scan.specs.Encodings.{encoded_16}
-use Rattle.dns_scan.specs.Token.{Token, IsWord, marker, unquoted}
+use Rattle.dns_scan.specs.Token.{Token, IsWord, unquoted}
 use Rattle.dns_scan.specs.Token.{IsEntry as AreJoined}
 use Rattle.dns_scan.specs.UnknownData.{IsUnknownData}
 use Rattle.dns_scan.specs.declared.encoding.base.Base.TheVariants.{Sixteen}
 use Rattle.dns_scan.proofs.Encodings.{text_decodes_only}
 use Rattle.dns_scan.proofs.HexWords.{hex_encoded}
-use Rattle.dns_text.specs.Rows.{TokenRow, is_led}
+use Rattle.dns_text.specs.Rows.{TokenRow}
 use Rattle.dns_fields.proofs.PrintedRows.{safe_16}
 use Rattle.dns_fields.proofs.PrintedTexts.{number_back, safe_decimal, safe_plain}
 use Rattle.dns_rdata.specs.Data.{Data, unknown_data, number_of}
@@ -24,11 +22,10 @@ use Rattle.dns_field_texts.specs.TypeWords.{type_word_read}
 use Rattle.dns_fields_more.specs.Forms.{forms_of}
 use Rattle.dns_fields_more.specs.declared.form.Form.{Form}
 use Rattle.dns_entry_scanner.specs.NameInText.{SpellsUnder}
-use Rattle.dns_entry_scanner.specs.TokenSpan.{token_in}
 use Rattle.dns_zonefile.specs.Entry.{Context, Entry, Enters, IsEntry}
 use Rattle.dns_zonefile.specs.Entry.Entry.{Resource}
 use Rattle.dns_zonefile.specs.Entry.Enters.{resource as enters_record}
-use Rattle.dns_zonefile.specs.Statement.{HasHead, HasOwner, IsClass, IsDirective, IsTtl, IsType, Names, Says, Stated, Statement, States, StatesRecord}
+use Rattle.dns_zonefile.specs.Statement.{HasOwner, IsClass, IsDirective, IsTtl, IsType, Names, Says, Stated, Statement, States, StatesRecord}
 use Rattle.dns_zonefile.specs.Statement.HasOwner.{last as last_owner, own as own_owner}
 use Rattle.dns_zonefile.specs.Statement.Says.{directive, resource}
 use Rattle.dns_zonefile.specs.Statement.Statement.{StateRecord}
@@ -38,14 +35,10 @@ use Rattle.zone_forms.specs.LongerEntries.{IsLongerEntry}
 use Rattle.zone_forms.specs.LongerRow.{HasFront, HasType, IsGeneralRow, IsMarked, IsNoTypeWord, IsTypeWord, ScansLonger, Stands, general_tokens, known_word, with_tokens}
 use Rattle.zone_forms.specs.LongerRow.HasFront.{last, own}
 use Rattle.zone_forms.specs.LongerRow.IsGeneralRow.{same, further}
-use Rattle.zone_forms.specs.Parts.{AreParts, IsToken, Part, tokens_of}
-use Rattle.zone_forms.specs.Parts.AreParts.{more}
-use Rattle.zone_forms.specs.Rewritten.{AreRow, GoesGeneral, Rewrites}
-use Rattle.zone_forms.specs.Seen.{HasTypeAt, IsFound, RewritesAt, WritesGeneral, octets_in, row_in, tokens_in}
+use Rattle.zone_forms.specs.Seen.{HasTypeAt, row_in, tokens_in}
 use Rattle.zone_forms.specs.declared.found_row.FoundRow.{FoundRow}
 use Rattle.zone_forms.specs.declared.row_type.RowType.{RowType}
-use Rattle.zone_forms.proofs.KnownWords.{known_reads, known_token, type_no_digits}
-use Rattle.zone_forms.proofs.RewrittenParts.{map_tokens, unknown_row}
+use Rattle.zone_forms.proofs.KnownWords.{known_reads, type_no_digits}
 use Rattle.zone_forms.proofs.RowTypes.{data_at, one_type}
 
 -- the word for the type of a general row, from that of the row
@@ -136,8 +129,8 @@ unknown_is octets are short = record {
 }
 
 -- the general row of a row with a type, for data of these octets
-abbrev pub general_row : TokenRow → List Token → Token → ℕ → List ℕ → TokenRow
-general_row row front word rtype content = with_tokens row (front ++ unquoted (known_word word rtype) ∷ general_tokens content)
+abbrev pub general_of : TokenRow → List Token → Token → ℕ → List ℕ → TokenRow
+general_of row front word rtype content = with_tokens row (front ++ unquoted (known_word word rtype) ∷ general_tokens content)
 
 -- the tokens before a type are not its word
 module _ {word : List ℕ} {rtype : ℕ} (reads : type_read word ≡ Some rtype) where
@@ -233,8 +226,8 @@ enters_with {context} rdata (enters_record {stated = stated} {owner = owner} {cl
 -- the general row for some data is an entry if that for other data is one
 module _ {row : TokenRow} {front : List Token} {word : Token} {rtype : ℕ} {data' : List Token} (has : HasType row front word rtype data')
     (content : List ℕ) (are : AreOctets content) (short : length content ≤ 65535) where
-  states_with : {names : Names} (other : List ℕ) {stated : Stated} → StatesRecord names (general_row row front word rtype other) stated
-      → StatesRecord names (general_row row front word rtype content)
+  states_with : {names : Names} (other : List ℕ) {stated : Stated} → StatesRecord names (general_of row front word rtype other) stated
+      → StatesRecord names (general_of row front word rtype content)
       (record stated { rdata = unknown_data (record { number = number_of stated.rdata; octets = content }) })
   states_with {names} other {stated} is =
       let known = unquoted (known_word word rtype) in
@@ -256,12 +249,12 @@ module _ {row : TokenRow} {front : List Token} {word : Token} {rtype : ℕ} {dat
         scans = (refl, unquoted (decimal (length content)) ∷ map unquoted (hex_words content), refl, unknown_is content are short, refl);
       }
 
-  pub entry_with : {context after : Context} {entry : Entry} (other : List ℕ) → IsEntry context (general_row row front word rtype other) entry after
-      → (found : Entry) × IsEntry context (general_row row front word rtype content) found after
+  pub entry_with : {context after : Context} {entry : Entry} (other : List ℕ) → IsEntry context (general_of row front word rtype other) entry after
+      → (found : Entry) × IsEntry context (general_of row front word rtype content) found after
   entry_with {context} {after} {entry} other is = by is.says is.enters
     where
-      by : {statement : Statement} → Says (SpellsUnder context.origin) (general_row row front word rtype other) statement → Enters context statement entry after
-          → (found : Entry) × IsEntry context (general_row row front word rtype content) found after
+      by : {statement : Statement} → Says (SpellsUnder context.origin) (general_of row front word rtype other) statement → Enters context statement entry after
+          → (found : Entry) × IsEntry context (general_of row front word rtype content) found after
       by (directive is_one directs) enters =
           absurd (still_none word data' (unquoted (known_word word rtype)) (general_tokens other) has.no_directive has.is has.has_front is_one)
       by (resource {stated = stated} states) enters =
@@ -270,7 +263,7 @@ module _ {row : TokenRow} {front : List Token} {word : Token} {rtype : ℕ} {dat
           (made.0, record { statement = StateRecord (record stated { rdata = rdata }); says = resource (states_with other states); enters = made.1 })
 
   pub none_further : {context : Context} → (Stands row → ⊥)
-      → ((entry : Entry) (after : Context) → IsEntry context (general_row row front word rtype content) entry after → ⊥) → (entry : Entry) (after : Context)
+      → ((entry : Entry) (after : Context) → IsEntry context (general_of row front word rtype content) entry after → ⊥) → (entry : Entry) (after : Context)
       → IsLongerEntry context row entry after → ⊥
   none_further {context} not none entry after is = by is.is is.so
     where
@@ -278,8 +271,8 @@ module _ {row : TokenRow} {front : List Token} {word : Token} {rtype : ℕ} {dat
       by (same stands) so = not stands
       by (further {front = front'} {word = word'} {rtype = rtype'} {octets = octets} still has' scans) so =
           let one = one_type has' has in
-          let ours : general_row row front' word' rtype' octets ≡ general_row row front word rtype octets =
-          λ i. general_row row (one.fronts i) (one.words i) (one.types i) octets in
+          let ours : general_of row front' word' rtype' octets ≡ general_of row front word rtype octets =
+          λ i. general_of row (one.fronts i) (one.words i) (one.types i) octets in
           let made = entry_with octets (subst (λ (r : TokenRow). IsEntry context r entry after) ours so) in none made.0 after made.1
 
 -- a row whose data does not read is no entry
