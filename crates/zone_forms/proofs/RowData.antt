@@ -1,5 +1,5 @@
 -- The data of a row.
-use Rattle.std.proofs.Common.{◌≡◌, ◌≢◌, ◌+◌, ◌-◌, ◌≤◌, ◌∷◌, ◌++◌, ◌∙◌, ◌↔◌, ℕ, zero, suc, Bool, List, [], drop, take, length, map, ap, sym, subst, refl, IsTrue, Ok, Err}
+use Rattle.std.proofs.Common.{◌≡◌, ◌≢◌, ◌-◌, ◌≤◌, ◌∷◌, ◌++◌, ◌∙◌, ◌↔◌, ℕ, zero, suc, Bool, List, [], drop, take, length, map, ap, sym, subst, refl, IsTrue, Ok, Err}
 use Rattle.std.specs.Prelude.{Option, Result, OnOk, IfErr}
 use Rattle.std.proofs.lemmas.List.{drop-map, take_rest}
 use Rattle.dns_scan.specs.Token.{Token, marker}
