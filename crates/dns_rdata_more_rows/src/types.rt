@@ -48,6 +48,7 @@ macro_rules! written {
     (serial, $out:ident, $value:expr) => { $out.shown(&$value) };
     (name, $out:ident, $value:expr) => { $out.shown(&$value) };
     (ttl, $out:ident, $value:expr) => { $out.shown(&$value.as_secs()) };
+    (types, $out:ident, $value:expr) => { $out.octets($value.as_slice()) };
     ($kind:ident, $out:ident, $value:expr) => { $out.octets($value) };
 }
 

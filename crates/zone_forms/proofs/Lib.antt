@@ -14,3 +14,7 @@ pub mod ReadRows
 pub mod FoundRows
 pub mod GoneTexts
 pub mod GoingOn
+pub mod PlainWords
+pub mod SameRecords
+pub mod ReadBack
+pub mod PresentedRows

@@ -14,10 +14,22 @@ use Rattle.zone_forms.specs.Seen.{HasTypeAt, RewritesAt, row_in, tokens_in}
 use Rattle.zone_forms.specs.declared.found_row.FoundRow.{FoundRow}
 use Rattle.zone_forms.specs.declared.row_type.RowType.{RowType}
 
--- the octets are a row that has the same tokens before its type, the same type, and these octets of data, not in general form
+-- the other row has the same tokens before its type, the same type, and data that is not in general form
+pub record HasSameFront (row other : TokenRow) (kind : RowType) : Type 0 where
+  pub front : List Token
+  pub word : Token
+  pub data' : List Token
+  pub has : HasType other front word kind.rtype data'
+  pub place : kind.index ≡ length front
+  pub same : front ≡ take kind.index row.tokens
+  pub unmarked : IsMarked data' → ⊥
+
+-- The octets are a row that begins with white space if this one does, and has the same tokens before its type, the same type, and
+-- these octets of data, not in general form.
 pub record ReadsBack (names : Names) (row : TokenRow) (kind : RowType) (content new : List ℕ) : Type 0 where
   pub printed : TokenRow
   pub are : AreRow new printed
+  pub led : printed.blank_led ≡ row.blank_led
   pub front : List Token
   pub word : Token
   pub data' : List Token

@@ -1,5 +1,5 @@
 //! Rows with further data in presentation form.
-ghost use Rattle.std.specs.Prelude.{◌≡◌, ◌<◌, ℕ, List, true, length, string_bytes, take, option_copied, IsTrue, IfErr, IfOk, IfSome};
+ghost use Rattle.std.specs.Prelude.{◌≡◌, ◌<◌, ◌≤◌, ℕ, List, true, length, string_bytes, take, option_copied, IsTrue, IfErr, IfOk, IfSome};
 ghost use Rattle.dns_entry_scanner.specs.EntryError.{is_memory};
 ghost use Rattle.dns_entry_scanner.specs.NameInText.{SpellsUnder};
 ghost use Rattle.dns_field_texts.specs.TypeWords.{type_word_written};
@@ -8,7 +8,7 @@ ghost use Rattle.dns_rdata_more.specs.Shown.{further_document};
 ghost use Rattle.dns_text.specs.Document.{document_text};
 ghost use Rattle.dns_text.specs.Layout.{layout_of};
 ghost use Rattle.zone_forms.specs.Presented.{GoesPresented};
-ghost use Rattle.zone_forms.specs.Presenting.{PrintsAs, PrintsRow, ReadsBack};
+ghost use Rattle.zone_forms.specs.Presenting.{HasSameFront, PrintsAs, PrintsRow, ReadsBack};
 ghost use Rattle.zone_forms.specs.Seen.{HasTypeAt, IsFound, row_in, tokens_in};
 
 use crate::found_row::FoundRow;
@@ -79,7 +79,7 @@ fn printed_row<'a>(
     let Some(kind) = row_type(row) else {
         return Ok(None);
     };
-    if !is_marked(row, kind) {
+    if !is_marked(row, kind.index) {
         return Ok(None);
     }
     let mut data = Vec::new(alloc);
@@ -112,10 +112,11 @@ fn printed_as<'a>(
         (layout_of layout) data.now octets.items)) }
     ensures err { IfErr result (λ error. is_memory error ≡ true) }
 {
-    let Some(text) = fields_text(alloc, layout, kind.rtype, data)? else {
+    let rtype = Rtype::from_int(kind.rtype);
+    let Some(text) = fields_text(alloc, layout, rtype, data)? else {
         return Ok(None);
     };
-    let word = mnemonic(alloc, kind.rtype)?;
+    let word = mnemonic(alloc, rtype)?;
     let mut printed = Vec::new(alloc);
     append_rewritten(
         row,
@@ -210,14 +211,26 @@ fn reads_back<'a>(
 
 /// Returns whether the other row has the same type at the same place, behind the same tokens, and data that is not in general
 /// form.
-fn has_same_front(row: FoundRow<'_>, other: FoundRow<'_>, kind: RowType) -> bool {
+fn has_same_front(row: FoundRow<'_>, other: FoundRow<'_>, kind: RowType) -> bool
+    requires { kind.index < length row.spans.now }
+    ensures { IsTrue result → HasSameFront (row_in row.entry) (row_in other.entry) kind }
+{
     let Some(found) = row_type(other) else {
         return false;
     };
-    if found.index != kind.index || found.rtype != kind.rtype || is_marked(other, found) {
+    if found.index != kind.index || found.rtype != kind.rtype {
         return false;
     }
-    for index in 0..kind.index {
+    !is_marked(other, kind.index) && have_same_tokens(row, other, kind.index)
+}
+
+/// Returns whether so many tokens at the start of both rows are the same.
+fn have_same_tokens(row: FoundRow<'_>, other: FoundRow<'_>, count: usize) -> bool
+    requires row { count ≤ length row.spans.now }
+    requires other { count ≤ length other.spans.now }
+    ensures { IsTrue result → take count (tokens_in other.entry) ≡ take count (tokens_in row.entry) }
+{
+    for index in 0..count {
         if row.spans[index].is_quoted() != other.spans[index].is_quoted()
             || row.token(index) != other.token(index)
         {
