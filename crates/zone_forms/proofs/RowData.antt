@@ -68,7 +68,7 @@ module _ {names : Names} {rtype : ℕ} where
       → ScansLonger names rtype tokens content
   general_is {content = content} is data' = subst (λ (l : List Token). ScansLonger names rtype l content) (sym is) (marked data')
 
-  is_general : {tokens words : List Token} {content : List ℕ} → tokens ≡ marker ∷ words → ScansLonger names rtype tokens content
+  pub is_general : {tokens words : List Token} {content : List ℕ} → tokens ≡ marker ∷ words → ScansLonger names rtype tokens content
       → IsUnknownData words content
   is_general {words = words} {content} is (marked {words = others} data') =
       let same : others ≡ words = cc in subst (λ (l : List Token). IsUnknownData l content) same data'
