@@ -1,5 +1,5 @@
 -- The general row of a row that was found: its octets are a row, with the tokens that it should have.
-use Rattle.std.proofs.Common.{◌≡◌, ◌⊎◌, ◌-◌, ◌<◌, ◌^◌, ℕ, zero, suc, Bool, true, false, List, [], ◌∷◌, ◌++◌, length, map, take, drop, decimal, codes, is_some, if◌then◌else◌, inl, inr, refl, sym, ◌∙◌, subst, append-nil, arith}
+use Rattle.std.proofs.Common.{◌≡◌, ◌⊎◌, ◌-◌, ◌<◌, ◌^◌, ℕ, zero, suc, Bool, true, false, List, [], ◌∷◌, ◌++◌, length, map, take, drop, decimal, codes, is_some, if◌then◌else◌, inl, inr, refl, sym, ◌∙◌, subst, arith}
 use Rattle.std.proofs.lemmas.Bool.Decides.{nat_tests}
 use Rattle.std.proofs.lemmas.List.{length-map}
 use Rattle.std.specs.List.{AllByRecursion}
@@ -12,16 +12,14 @@ use Rattle.dns_entry_scanner.specs.TokenSpan.{token_in}
 use Rattle.dns_entry_scanner.specs.declared.token_span.TokenSpan.{TokenSpan}
 use Rattle.dns_fields.proofs.PrintedTexts.{IsSafe, safe_decimal}
 use Rattle.dns_text.specs.Rows.{TokenRow, is_led}
-use Rattle.dns_text.specs.Tokens.{Row, is_end}
+use Rattle.dns_text.specs.Tokens.{is_end}
 use Rattle.dns_text.proofs.OneRow.{no_row_at_end, one_row}
 use Rattle.zone_forms.specs.LongerRow.{HasFront, HasType, general_tokens, known_word, with_tokens}
 use Rattle.zone_forms.specs.LongerRow.HasFront.{last, own}
 use Rattle.zone_forms.specs.Parts.{IsToken, Part, tokens_of}
 use Rattle.zone_forms.specs.Rewritten.{AreRow, Rewrites}
-use Rattle.zone_forms.specs.Seen.{IsFound, RewritesAt, octets_in, row_in, tokens_in}
+use Rattle.zone_forms.specs.Seen.{IsFound, RewritesAt, octets_in, row_in}
 use Rattle.zone_forms.specs.declared.found_row.FoundRow.{FoundRow}
-use Rattle.zone_forms.proofs.RewrittenSteps.{same_front, split_between}
-use Rattle.zone_forms.proofs.RowParts.{row_alone}
 use Rattle.zone_forms.proofs.RewrittenParts.{first_token, map_tokens, parts_behind, safe_token, unknown_row}
 
 -- a token is before the type, or white space is
@@ -127,17 +125,3 @@ row_no_end are ends = no_row_at_end ends are.is
 
 pub row_not_broken : {octets : List ℕ} {row : TokenRow} → AreRow octets row → NoRow octets → ⊥
 row_not_broken are none = none _ _ are.is
-
--- So do those of a row that was found.
-pub found_row : (row : FoundRow) → IsFound row → AreRow (octets_in row) (row_in row)
-found_row row is =
-    let text = row.text.now in
-    let alone = row_alone is.row in
-    let split = split_between text row.place row.next (omega (arith, is.behind)) in
-    let same : alone.octets ≡ octets_in row = same_front alone.octets (octets_in row) (drop row.next text) (sym alone.whole ∙ split) in record {
-      is = subst (λ (l : List ℕ). Row false l (tokens_in row) []) (append-nil alone.octets ∙ same) (alone.is []);
-      led = is.leads ∙ sym (led_front (drop row.place text) (row.next - row.place) (omega (arith, is.behind)));
-    }
-
-pub found_split : (row : FoundRow) → IsFound row → drop row.place row.text.now ≡ octets_in row ++ drop row.next row.text.now
-found_split row is = split_between row.text.now row.place row.next (omega (arith, is.behind))

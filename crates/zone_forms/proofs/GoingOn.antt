@@ -1,7 +1,7 @@
 -- A text that is gone over row by row.
-use Rattle.std.proofs.Common.{◌≡◌, ◌≢◌, ◌<◌, ◌≤◌, ◌++◌, ◌∙◌, ℕ, Bool, true, false, List, [], ◌∷◌, length, take, drop, refl, subst, sym, ap, append_assoc, arith, take-append-drop, Result, Ok, Err, IfErr}
+use Rattle.std.proofs.Common.{◌≡◌, ◌≢◌, ◌≤◌, ◌++◌, ◌∙◌, ℕ, Bool, true, false, List, [], ◌∷◌, length, take, drop, refl, subst, sym, append_assoc, arith, take-append-drop, Result, Ok, Err, IfErr}
 use Rattle.dns_text.specs.Rows.{BeginsWithRows, TokenRow}
-use Rattle.dns_text.specs.Tokens.{Row, is_end}
+use Rattle.dns_text.specs.Tokens.{is_end}
 use Rattle.dns_entry_scanner.specs.EntryError.{is_memory}
 use Rattle.dns_entry_scanner.specs.RowFound.{NoRow}
 use Rattle.dns_entry_scanner.specs.declared.entry_error.EntryError.{EntryError}
@@ -14,7 +14,7 @@ use Rattle.zone_forms.proofs.RewrittenParts.{row_begins}
 use Rattle.zone_forms.specs.LongerEntries.{AreLongerEntries, IsLongerEntry}
 use Rattle.zone_forms.specs.Refused.{FailsInLine}
 use Rattle.zone_forms.specs.Refused.FailsInLine.{broken, no_entry}
-use Rattle.zone_forms.specs.Rewritten.{AreRow, GoesTo}
+use Rattle.zone_forms.specs.Rewritten.{GoesTo}
 use Rattle.zone_forms.specs.Seen.{AppendsRow, IsFound, octets_in, row_in, tokens_in}
 use Rattle.zone_forms.specs.Seen.AppendsRow.{bare, entry}
 use Rattle.zone_forms.specs.declared.error.FormError.{FormError}

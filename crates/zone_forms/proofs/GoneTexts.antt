@@ -1,9 +1,9 @@
 -- Texts that go to others, row by row: the entries of both.
-use Rattle.std.proofs.Common.{◌≡◌, ◌≢◌, ◌++◌, ℕ, Bool, true, false, List, [], ◌∷◌, refl, subst, sym}
-use Rattle.dns_text.specs.Rows.{BeginsWithRows, IsText, TokenRow}
+use Rattle.std.proofs.Common.{◌≡◌, ℕ, true, List, [], ◌∷◌, subst, sym}
+use Rattle.dns_text.specs.Rows.{BeginsWithRows, TokenRow}
 use Rattle.dns_text.specs.Tokens.{is_end}
 use Rattle.dns_zonefile.proofs.Going.{begins-on}
-use Rattle.dns_zonefile.specs.Entries.{AreEntries, HasEntries}
+use Rattle.dns_zonefile.specs.Entries.{AreEntries}
 use Rattle.dns_zonefile.specs.Entry.{Context, Entry}
 use Rattle.zone_forms.proofs.RewrittenParts.{row_begins}
 use Rattle.zone_forms.specs.LongerEntries.{AreLongerEntries, HasLongerEntries, IsLongerEntry}

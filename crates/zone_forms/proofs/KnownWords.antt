@@ -1,22 +1,19 @@
 -- Words for types that zone readers know which know no further types.
-use Rattle.std.proofs.Common.{◌≡◌, ◌⊎◌, ◌<◌, ◌^◌, ◌&&◌, ◌++◌, ◌∙◌, ℕ, zero, suc, Bool, true, false, List, [], ◌∷◌, length, take, drop, find, map, codes, decimal, nat_lt, is_some, Option, Some, None, option_map, cond, inl, inr, refl, sym, ap, subst, arith}
+use Rattle.std.proofs.Common.{◌≡◌, ◌⊎◌, ◌<◌, ◌&&◌, ◌++◌, ◌∙◌, ℕ, zero, suc, Bool, true, false, List, [], ◌∷◌, length, take, drop, find, map, codes, decimal, nat_lt, is_some, Option, Some, None, option_map, inl, inr, refl, sym, ap, arith}
 use Rattle.std.specs.Prelude.{if◌then◌else◌}
 use Rattle.std.specs.Char.{is_ascii_digit, to_ascii_lowercase}
-use Rattle.std.specs.List.{AllByRecursion, list_all}
+use Rattle.std.specs.List.{list_all}
 use Rattle.std.specs.Option.{option_or}
 use Rattle.std.specs.Str.{str_eq_ignore_ascii_case}
 use Rattle.std.specs.Str.Parse.{digits_value}
 use Rattle.std.proofs.lemmas.Bool.Decides.{nat_tests}
 use Rattle.std.proofs.lemmas.Slice.Eq.{bytes_eq-Decides}
-use Rattle.dns_values.specs.Mnemonic.{Mnemonics, types, number_spelled, number_behind, number_named, number_read, text_of, text_written, type_read}
+use Rattle.dns_values.specs.Mnemonic.{Mnemonics, types, number_spelled, number_behind, number_named, number_read, text_of, type_read}
 use Rattle.dns_values.proofs.Words.{text_written-other}
 use Rattle.dns_values.proofs.ReadsBack.{reads_back, reads_own}
-use Rattle.dns_scan.specs.Token.{Token, unquoted}
-use Rattle.dns_fields.proofs.PrintedTexts.{IsSafe, safe_decimal}
+use Rattle.dns_scan.specs.Token.{Token}
 use Rattle.dns_field_texts.specs.TypeWords.{more_types, type_word_read}
 use Rattle.zone_forms.specs.LongerRow.{IsTypeWord, known_word}
-use Rattle.zone_forms.specs.Parts.{IsToken}
-use Rattle.zone_forms.proofs.RewrittenParts.{safe_token}
 
 both_hold : (a b : Bool) → (a && b) ≡ true → (a ≡ true) × (b ≡ true)
 both_hold true b both = (refl, both)
@@ -133,9 +130,9 @@ unfolding number_read type_word_read
 type_word_below text n is =
     elim (either (number_read types (codes "TYPE") text) (number_named more_types text) n is) [
       | inl first ↦ (elim (either (number_behind (codes "TYPE") text) (number_named types text) n first) [
-          | inl found ↦ (behind_in (codes "TYPE") text n found).below
-          | inr found ↦ named_below types text n types_small found
-        ])
+        | inl found ↦ (behind_in (codes "TYPE") text n found).below
+        | inr found ↦ named_below types text n types_small found
+      ])
       | inr found ↦ named_below more_types text n more_small found
     ]
 
@@ -164,7 +161,7 @@ numbered_behind prefix n small =
     ap (number_read [] prefix) (sym (text_written-other [] prefix n (none_named n))) ∙ reads_back [] prefix n small (none_own prefix) in
     first_is (number_behind prefix word) n (ap (λ (o : Option ℕ). option_or (number_behind prefix word) o) (sym (no_name word)) ∙ read)
 
-pub numbered_reads : (n : ℕ) → n < 65536 → type_read (codes "TYPE" ++ decimal n) ≡ Some n
+numbered_reads : (n : ℕ) → n < 65536 → type_read (codes "TYPE" ++ decimal n) ≡ Some n
 unfolding number_read
 numbered_reads n small =
     ap (λ (o : Option ℕ). option_or o (number_named types (codes "TYPE" ++ decimal n))) (numbered_behind (codes "TYPE") n small)
@@ -178,23 +175,3 @@ known_reads {rtype} {word} is = by (type_read word.text) refl is.reads
         → type_read (if is_some read then word.text else codes "TYPE" ++ decimal rtype) ≡ Some rtype
     by (Some n) own reads = own ∙ reads
     by None own reads = numbered_reads rtype (type_word_below word.text rtype is.reads)
-
-numbered_safe : (n : ℕ) → n < 2 ^ 64 → AllByRecursion IsSafe (codes "TYPE" ++ decimal n)
-numbered_safe n small =
-    (capital 84 (omega arith), (capital 89 (omega arith), (capital 80 (omega arith), (capital 69 (omega arith), safe_decimal n small))))
-  where
-    capital : (c : ℕ) → (64 < c) × (c < 91) → IsSafe c
-    capital c is = ((grind (arith, nat_tests), grind (arith, nat_tests)), grind (arith, nat_tests), grind (arith, nat_tests))
-
--- it may be a token, since the word that the row has is one
-pub known_token : {rtype : ℕ} {word : Token} → IsTypeWord rtype word → IsToken word → IsToken (unquoted (known_word word rtype))
-known_token {rtype} {word} is token = by (is_some (type_read word.text))
-  where
-    own : unquoted word.text ≡ word
-    own = let bare = is.bare in λ i. record { quoted = sym bare i; text = word.text }
-
-    by : (known : Bool) → IsToken (unquoted (if known then word.text else codes "TYPE" ++ decimal rtype))
-    by true = subst IsToken (sym own) token
-    by false =
-        let small = type_word_below word.text rtype is.reads in
-        safe_token (codes "TYPE" ++ decimal rtype) (numbered_safe rtype (omega (arith, small))) (omega arith)

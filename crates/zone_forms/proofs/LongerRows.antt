@@ -1,52 +1,40 @@
 -- Rows with data in general form: what they say, and that each reads as its row does.
-use Rattle.std.proofs.Common.{◌≡◌, ◌≢◌, ◌⊎◌, ◌+◌, ◌-◌, ◌<◌, ◌≤◌, ◌^◌, ◌++◌, ◌∙◌, ℕ, zero, suc, Bool, true, false, not, List, [], ◌∷◌, length, take, drop, map, codes, decimal, is_some, Option, Some, None, inl, inr, refl, sym, ap, subst, arith, add-one, append-nil, length-append}
+use Rattle.std.proofs.Common.{◌≡◌, ◌⊎◌, ◌+◌, ◌≤◌, ◌^◌, ◌++◌, ◌∙◌, ℕ, Bool, true, false, not, List, [], ◌∷◌, length, drop, map, codes, decimal, is_some, Option, Some, None, inl, inr, refl, sym, ap, subst, arith, append-nil}
 use Rattle.std.specs.Prelude.{◌↔◌, if◌then◌else◌, unwrap_or, IfNone, IfSome, IsTrue}
-use Rattle.std.specs.Char.{is_ascii_digit}
-use Rattle.std.specs.List.{AllByRecursion, list_all}
 use Rattle.std.specs.Option.{option_or}
-use Rattle.std.proofs.lemmas.List.{length-map}
 use Rattle.dns_label.specs.Octets.{AreOctets}
 use Rattle.dns_values.specs.Mnemonic.{type_read}
-use Rattle.dns_name.specs.Unknown.{UnknownData}
-use Rattle.dns_name.specs.UnknownText.{hex_of, hex_words, unknown_text}
+use Rattle.dns_name.specs.UnknownText.{hex_of, hex_words}
 use Rattle.dns_scan.specs.Encodings.{encoded_16}
-use Rattle.dns_scan.specs.Token.{Token, IsWord, marker, unquoted}
+use Rattle.dns_scan.specs.Token.{Token, IsWord, unquoted}
 use Rattle.dns_scan.specs.Token.{IsEntry as AreJoined}
 use Rattle.dns_scan.specs.UnknownData.{IsUnknownData}
 use Rattle.dns_scan.specs.declared.encoding.base.Base.TheVariants.{Sixteen}
 use Rattle.dns_scan.proofs.Encodings.{text_decodes_only}
 use Rattle.dns_scan.proofs.HexWords.{hex_encoded}
-use Rattle.dns_text.specs.Rows.{TokenRow, is_led}
+use Rattle.dns_text.specs.Rows.{TokenRow}
 use Rattle.dns_fields.proofs.PrintedRows.{safe_16}
 use Rattle.dns_fields.proofs.PrintedTexts.{number_back, safe_decimal, safe_plain}
 use Rattle.dns_rdata.specs.Data.{Data, unknown_data, number_of}
-use Rattle.dns_field_texts.specs.TypeWords.{type_word_read}
 use Rattle.dns_fields_more.specs.Forms.{forms_of}
 use Rattle.dns_fields_more.specs.declared.form.Form.{Form}
 use Rattle.dns_entry_scanner.specs.NameInText.{SpellsUnder}
-use Rattle.dns_entry_scanner.specs.TokenSpan.{token_in}
 use Rattle.dns_zonefile.specs.Entry.{Context, Entry, Enters, IsEntry}
 use Rattle.dns_zonefile.specs.Entry.Entry.{Resource}
 use Rattle.dns_zonefile.specs.Entry.Enters.{resource as enters_record}
-use Rattle.dns_zonefile.specs.Statement.{HasHead, HasOwner, IsClass, IsDirective, IsTtl, IsType, Names, Says, Stated, Statement, States, StatesRecord}
-use Rattle.dns_zonefile.specs.Statement.HasOwner.{last as last_owner, own as own_owner}
+use Rattle.dns_zonefile.specs.Statement.{IsDirective, Names, Says, Stated, Statement, StatesRecord}
 use Rattle.dns_zonefile.specs.Statement.Says.{directive, resource}
 use Rattle.dns_zonefile.specs.Statement.Statement.{StateRecord}
-use Rattle.dns_zonefile.specs.Statement.States.{nothing, ttl_class, class_ttl}
-use Rattle.dns_zonefile.specs.Statement.States.{ttl as ttl_alone, class as class_alone}
 use Rattle.zone_forms.specs.LongerEntries.{IsLongerEntry}
-use Rattle.zone_forms.specs.LongerRow.{HasFront, HasType, IsGeneralRow, IsMarked, IsNoTypeWord, IsTypeWord, ScansLonger, Stands, general_tokens, known_word, with_tokens}
+use Rattle.zone_forms.specs.LongerRow.{HasFront, HasType, IsGeneralRow, IsMarked, ScansLonger, Stands, general_tokens, known_word, with_tokens}
 use Rattle.zone_forms.specs.LongerRow.HasFront.{last, own}
 use Rattle.zone_forms.specs.LongerRow.IsGeneralRow.{same, further}
-use Rattle.zone_forms.specs.Parts.{AreParts, IsToken, Part, tokens_of}
-use Rattle.zone_forms.specs.Parts.AreParts.{more}
-use Rattle.zone_forms.specs.Rewritten.{AreRow, GoesGeneral, Rewrites}
-use Rattle.zone_forms.specs.Seen.{HasTypeAt, IsFound, RewritesAt, WritesGeneral, octets_in, row_in, tokens_in}
+use Rattle.zone_forms.specs.Seen.{HasTypeAt, row_in, tokens_in}
 use Rattle.zone_forms.specs.declared.found_row.FoundRow.{FoundRow}
 use Rattle.zone_forms.specs.declared.row_type.RowType.{RowType}
-use Rattle.zone_forms.proofs.KnownWords.{known_reads, known_token, type_no_digits}
-use Rattle.zone_forms.proofs.RewrittenParts.{map_tokens, unknown_row}
+use Rattle.zone_forms.proofs.KnownWords.{known_reads}
 use Rattle.zone_forms.proofs.RowTypes.{data_at, one_type}
+use Rattle.zone_forms.proofs.SameRecords.{head_is, is_type_word, not_stated, owner_stays}
 
 -- the word for the type of a general row, from that of the row
 module _ {row : TokenRow} {kind : RowType} (has : HasTypeAt row kind) {text : List ℕ} where
@@ -117,7 +105,7 @@ hex_joined (octet ∷ octets) are =
     let word : text ≡ hex_of (octet ∷ octets) = hex_encoded (octet ∷ octets) are in
     (text, [], ((λ i. unquoted (sym word i)), safe_plain text (safe_16 (octet ∷ octets) are)), refl, sym (append-nil text))
 
-unknown_is : (octets : List ℕ) → AreOctets octets → length octets ≤ 65535
+pub unknown_is : (octets : List ℕ) → AreOctets octets → length octets ≤ 65535
     → IsUnknownData (unquoted (decimal (length octets)) ∷ map unquoted (hex_words octets)) octets
 unknown_is octets are short = record {
   words = map unquoted (hex_words octets);
@@ -136,68 +124,8 @@ unknown_is octets are short = record {
 }
 
 -- the general row of a row with a type, for data of these octets
-abbrev pub general_row : TokenRow → List Token → Token → ℕ → List ℕ → TokenRow
-general_row row front word rtype content = with_tokens row (front ++ unquoted (known_word word rtype) ∷ general_tokens content)
-
--- the tokens before a type are not its word
-module _ {word : List ℕ} {rtype : ℕ} (reads : type_read word ≡ Some rtype) where
-  no_ttl : {token : Token} {seconds : ℕ} → IsTtl seconds token → token ≡ unquoted word → ⊥
-  no_ttl is at =
-      let text : is.0 ≡ word = ap (λ (t : Token). t.text) (sym is.1.0 ∙ at) in
-      let bad : true ≡ false = sym is.2 ∙ ap (list_all is_ascii_digit) text ∙ type_no_digits word rtype reads in cc
-
-  no_class : {token : Token} {number : ℕ} → IsClass number token → token ≡ unquoted word → ⊥
-  no_class is at =
-      let text : is.0 ≡ word = ap (λ (t : Token). t.text) (sym is.1.0 ∙ at) in
-      let bad : None ≡ Some rtype = sym is.3 ∙ ap type_read text ∙ reads in cc
-
-not_stated : (word : List ℕ) (rtype : ℕ) {stated : List Token} {seconds class : Option ℕ} → type_read word ≡ Some rtype → States stated seconds class
-    → AllByRecursion (λ token. token ≡ unquoted word → ⊥) stated
-not_stated word rtype reads nothing = tt
-not_stated word rtype reads (ttl_alone is) = (no_ttl reads is, tt)
-not_stated word rtype reads (class_alone is) = (no_class reads is, tt)
-not_stated word rtype reads (ttl_class is also) = (no_ttl reads is, (no_class reads also, tt))
-not_stated word rtype reads (class_ttl is also) = (no_class reads is, (no_ttl reads also, tt))
-
-is_type_word : {rtype : ℕ} {token : Token} → IsType rtype token → IsTypeWord rtype token
-unfolding type_word_read
-is_type_word {rtype} {token} is =
-    let text : token.text ≡ is.0 = ap (λ (t : Token). t.text) is.1.0 in record {
-      bare = ap (λ (t : Token). t.quoted) is.1.0;
-      reads = ap type_word_read text ∙ first_read is.0 is.3;
-    }
-  where
-    first_read : (text : List ℕ) → type_read text ≡ Some rtype → type_word_read text ≡ Some rtype
-    first_read text reads = rw reads refl
-
--- so the type is that word
-head_is : (others before behind left : List Token) {word token : Token} {rtype : ℕ} → AllByRecursion IsNoTypeWord others
-    → AllByRecursion (λ t. t ≡ word → ⊥) before → IsTypeWord rtype token → others ++ word ∷ behind ≡ before ++ token ∷ left
-    → (others ≡ before) × (word ≡ token)
-head_is [] [] behind left each apart is all = (refl, cc)
-head_is [] (first ∷ before) behind left {word} each apart is all = let at : first ≡ word = cc in absurd (apart.0 at)
-head_is (other ∷ others) [] behind left {token = token} {rtype = rtype} each apart is all =
-    let at : token ≡ other = cc in absurd (each.0 rtype (subst (IsTypeWord rtype) at is))
-head_is (other ∷ others) (first ∷ before) behind left each apart is all =
-    let first_is : other ≡ first = cc in
-    let rest = head_is others before behind left each.1 apart.1 is (cc) in ((λ i. first_is i ∷ rest.0 i), rest.1)
-
--- the owner stays whatever is behind the other tokens of the front
-record OwnerStays (names : Names) (blank_led : Bool) (owner : Option (List (List ℕ))) (front others behind tokens : List Token) : Type 0 where
-  pub tokens_are : tokens ≡ others ++ behind
-  pub stays : (again : List Token) → HasOwner names (record { blank_led = blank_led; tokens = front ++ again }) owner (others ++ again)
-
-owner_stays : {names : Names} {row : TokenRow} {owner : Option (List (List ℕ))} {tokens : List Token} (front others behind : List Token)
-    → HasOwner names row owner tokens → HasFront row.blank_led front others → row.tokens ≡ front ++ behind
-    → OwnerStays names row.blank_led owner front others behind tokens
-owner_stays front others behind last_owner last is = record { tokens_are = is; stays = λ again. last_owner }
-owner_stays {names} {owner = owner} front others behind (own_owner {text = text} spelled) (own {owner = first}) is =
-    let same : unquoted text ≡ first = cc in record {
-      tokens_are = cc;
-      stays = λ again.
-          subst (λ (t : Token). HasOwner names (record { blank_led = false; tokens = t ∷ (others ++ again) }) owner (others ++ again)) same
-          (own_owner spelled);
-    }
+abbrev pub general_of : TokenRow → List Token → Token → ℕ → List ℕ → TokenRow
+general_of row front word rtype content = with_tokens row (front ++ unquoted (known_word word rtype) ∷ general_tokens content)
 
 -- no row is a directive that begins as one that is none
 still_none : {row : TokenRow} {front others : List Token} (word : Token) (behind : List Token) (other : Token) (again : List Token)
@@ -233,14 +161,14 @@ enters_with {context} rdata (enters_record {stated = stated} {owner = owner} {cl
 -- the general row for some data is an entry if that for other data is one
 module _ {row : TokenRow} {front : List Token} {word : Token} {rtype : ℕ} {data' : List Token} (has : HasType row front word rtype data')
     (content : List ℕ) (are : AreOctets content) (short : length content ≤ 65535) where
-  states_with : {names : Names} (other : List ℕ) {stated : Stated} → StatesRecord names (general_row row front word rtype other) stated
-      → StatesRecord names (general_row row front word rtype content)
+  states_with : {names : Names} (other : List ℕ) {stated : Stated} → StatesRecord names (general_of row front word rtype other) stated
+      → StatesRecord names (general_of row front word rtype content)
       (record stated { rdata = unknown_data (record { number = number_of stated.rdata; octets = content }) })
   states_with {names} other {stated} is =
       let known = unquoted (known_word word rtype) in
       let owner = owner_stays front has.others (known ∷ general_tokens other) is.owner has.has_front refl in
       let head = head_is has.others is.head.before (general_tokens other) is.data_tokens has.first
-      (not_stated (known_word word rtype) rtype (known_reads has.type) is.head.states) (is_type_word is.head.type_is) (sym owner.tokens_are ∙ is.head.is) in
+      (not_stated (record { bare = refl; reads = known_reads has.type }) is.head.states) (is_type_word is.head.type_is) (sym owner.tokens_are ∙ is.head.is) in
       record {
         no_directive = still_none word data' known (general_tokens content) has.no_directive has.is has.has_front;
         tokens = has.others ++ known ∷ general_tokens content;
@@ -256,12 +184,12 @@ module _ {row : TokenRow} {front : List Token} {word : Token} {rtype : ℕ} {dat
         scans = (refl, unquoted (decimal (length content)) ∷ map unquoted (hex_words content), refl, unknown_is content are short, refl);
       }
 
-  pub entry_with : {context after : Context} {entry : Entry} (other : List ℕ) → IsEntry context (general_row row front word rtype other) entry after
-      → (found : Entry) × IsEntry context (general_row row front word rtype content) found after
+  pub entry_with : {context after : Context} {entry : Entry} (other : List ℕ) → IsEntry context (general_of row front word rtype other) entry after
+      → (found : Entry) × IsEntry context (general_of row front word rtype content) found after
   entry_with {context} {after} {entry} other is = by is.says is.enters
     where
-      by : {statement : Statement} → Says (SpellsUnder context.origin) (general_row row front word rtype other) statement → Enters context statement entry after
-          → (found : Entry) × IsEntry context (general_row row front word rtype content) found after
+      by : {statement : Statement} → Says (SpellsUnder context.origin) (general_of row front word rtype other) statement → Enters context statement entry after
+          → (found : Entry) × IsEntry context (general_of row front word rtype content) found after
       by (directive is_one directs) enters =
           absurd (still_none word data' (unquoted (known_word word rtype)) (general_tokens other) has.no_directive has.is has.has_front is_one)
       by (resource {stated = stated} states) enters =
@@ -270,7 +198,7 @@ module _ {row : TokenRow} {front : List Token} {word : Token} {rtype : ℕ} {dat
           (made.0, record { statement = StateRecord (record stated { rdata = rdata }); says = resource (states_with other states); enters = made.1 })
 
   pub none_further : {context : Context} → (Stands row → ⊥)
-      → ((entry : Entry) (after : Context) → IsEntry context (general_row row front word rtype content) entry after → ⊥) → (entry : Entry) (after : Context)
+      → ((entry : Entry) (after : Context) → IsEntry context (general_of row front word rtype content) entry after → ⊥) → (entry : Entry) (after : Context)
       → IsLongerEntry context row entry after → ⊥
   none_further {context} not none entry after is = by is.is is.so
     where
@@ -278,8 +206,8 @@ module _ {row : TokenRow} {front : List Token} {word : Token} {rtype : ℕ} {dat
       by (same stands) so = not stands
       by (further {front = front'} {word = word'} {rtype = rtype'} {octets = octets} still has' scans) so =
           let one = one_type has' has in
-          let ours : general_row row front' word' rtype' octets ≡ general_row row front word rtype octets =
-          λ i. general_row row (one.fronts i) (one.words i) (one.types i) octets in
+          let ours : general_of row front' word' rtype' octets ≡ general_of row front word rtype octets =
+          λ i. general_of row (one.fronts i) (one.words i) (one.types i) octets in
           let made = entry_with octets (subst (λ (r : TokenRow). IsEntry context r entry after) ours so) in none made.0 after made.1
 
 -- a row whose data does not read is no entry

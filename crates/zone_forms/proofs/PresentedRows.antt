@@ -1,29 +1,20 @@
 -- A row that is printed with its data in presentation form is the entry of the row that it was printed for.
-use Rattle.std.proofs.Common.{◌≡◌, ◌+◌, ◌≤◌, ◌^◌, ◌++◌, ◌∙◌, ℕ, Bool, true, List, [], ◌∷◌, length, map, codes, decimal, is_some, None, inl, inr, refl, sym, ap, subst, arith, append-nil}
+use Rattle.std.proofs.Common.{◌≡◌, ◌≤◌, ◌++◌, ◌∙◌, ℕ, Bool, true, List, ◌∷◌, length, map, codes, decimal, is_some, None, inl, inr, refl, sym, ap, subst, arith}
 use Rattle.std.specs.Prelude.{if◌then◌else◌, Result, Ok, Err, IfErr}
 use Rattle.std.specs.Result.{IsErrAnd}
-use Rattle.dns_label.specs.Octets.{AreOctets}
 use Rattle.dns_values.specs.Mnemonic.{type_read}
-use Rattle.dns_name.specs.UnknownText.{hex_of, hex_words}
-use Rattle.dns_scan.specs.Encodings.{encoded_16}
-use Rattle.dns_scan.specs.Token.{Token, IsWord, marker, unquoted}
-use Rattle.dns_scan.specs.Token.{IsEntry as AreJoined}
+use Rattle.dns_name.specs.UnknownText.{hex_words}
+use Rattle.dns_scan.specs.Token.{Token, marker, unquoted}
 use Rattle.dns_scan.specs.UnknownData.{IsUnknownData}
-use Rattle.dns_scan.specs.declared.encoding.base.Base.TheVariants.{Sixteen}
-use Rattle.dns_scan.proofs.Encodings.{text_decodes_only}
-use Rattle.dns_scan.proofs.HexWords.{hex_encoded}
-use Rattle.dns_fields.proofs.PrintedRows.{safe_16}
-use Rattle.dns_fields.proofs.PrintedTexts.{number_back, safe_decimal, safe_plain}
 use Rattle.dns_fields_more.specs.Forms.{IsFurtherData, forms_of}
 use Rattle.dns_entry_scanner.specs.NameInText.{SpellsUnder}
 use Rattle.dns_text.specs.Document.{Layout}
 use Rattle.dns_text.specs.Rows.{TokenRow}
 use Rattle.dns_zonefile.specs.Entry.{Context, Entry, IsEntry}
-use Rattle.dns_zonefile.specs.Statement.{IsDirective, Names}
+use Rattle.dns_zonefile.specs.Statement.{IsDirective}
 use Rattle.zone_forms.specs.LongerEntries.{IsLongerEntry}
 use Rattle.zone_forms.specs.LongerRow.{HasType, IsGeneralRow, IsMarked, ScansLonger, Stands, general_tokens, known_word, with_tokens}
 use Rattle.zone_forms.specs.LongerRow.IsGeneralRow.{same, further}
-use Rattle.zone_forms.specs.LongerRow.ScansLonger.{marked, fields}
 use Rattle.zone_forms.specs.Presented.{GoesPresented}
 use Rattle.zone_forms.specs.Presented.GoesPresented.{presented}
 use Rattle.zone_forms.specs.Presenting.{PrintsRow}
@@ -32,44 +23,15 @@ use Rattle.zone_forms.specs.Seen.{IsFound, octets_in, row_in}
 use Rattle.zone_forms.specs.declared.found_row.FoundRow.{FoundRow}
 use Rattle.zone_forms.proofs.GeneralRows.{rewrites_row}
 use Rattle.zone_forms.proofs.KnownWords.{known_reads}
+use Rattle.zone_forms.proofs.LongerRows.{unknown_is}
 use Rattle.zone_forms.proofs.ReadBack.{front_taken}
+use Rattle.zone_forms.proofs.RowData.{is_general}
 use Rattle.zone_forms.proofs.RowTypes.{data_at, one_type}
 use Rattle.zone_forms.proofs.SameRecords.{IsKnownWord, marked_row, one_unknown, same_record, still_none, unknown_octets}
-
--- the general form of octets is unknown data of them
-hex_joined : (octets : List ℕ) → AreOctets octets → AreJoined IsWord (map unquoted (hex_words octets)) (encoded_16 octets)
-hex_joined [] are = refl
-hex_joined (octet ∷ octets) are =
-    let text = encoded_16 (octet ∷ octets) in
-    let word : text ≡ hex_of (octet ∷ octets) = hex_encoded (octet ∷ octets) are in
-    (text, [], ((λ i. unquoted (sym word i)), safe_plain text (safe_16 (octet ∷ octets) are)), refl, sym (append-nil text))
 
 -- the words behind the marker
 abbrev words_of : List ℕ → List Token
 words_of octets = unquoted (decimal (length octets)) ∷ map unquoted (hex_words octets)
-
-unknown_is : (octets : List ℕ) → AreOctets octets → length octets ≤ 65535 → IsUnknownData (words_of octets) octets
-unknown_is octets are short = record {
-  words = map unquoted (hex_words octets);
-  number = record {
-    text = decimal (length octets);
-    takes = record {
-      token = unquoted (decimal (length octets));
-      is = refl;
-      fits = (refl, safe_plain (decimal (length octets)) (safe_decimal (length octets) (omega (arith, short))));
-    };
-    reads_as = number_back (2 ^ 16) (length octets) (omega (arith, short)) (omega (arith, short));
-  };
-  text = encoded_16 octets;
-  joined = hex_joined octets are;
-  decodes = (text_decodes_only Sixteen octets are).decodes;
-}
-
-general_is : {names : Names} {rtype : ℕ} {tokens words : List Token} {content : List ℕ} → tokens ≡ marker ∷ words → ScansLonger names rtype tokens content
-    → IsUnknownData words content
-general_is {words = words} {content} is (marked {words = others} data') =
-    let same : others ≡ words = cc in subst (λ (l : List Token). IsUnknownData l content) same data'
-general_is {words = words} is (fields unmarked scans) = absurd (unmarked (record { words = words; is = is }))
 
 -- the general row's word for the type is known
 general_word : {row : TokenRow} {front data' : List Token} {word : Token} {rtype : ℕ} → HasType row front word rtype data'
@@ -115,7 +77,7 @@ module _ {context after : Context} {entry : Entry} {row : TokenRow} {front data'
   }
   general_of (further {front = front'} {data' = data''} {word = word'} {rtype = rtype'} {octets = octets} not has' scans) so =
       let one = one_type has' has in
-      let unknown : IsUnknownData words octets = general_is (one.datas ∙ marks) scans in
+      let unknown : IsUnknownData words octets = is_general (one.datas ∙ marks) scans in
       let octets_are : octets ≡ content = one_unknown unknown is in
       let known = unquoted (known_word word rtype) in
       let ours : with_tokens row (front' ++ unquoted (known_word word' rtype') ∷ general_tokens octets)
@@ -169,7 +131,7 @@ goes_printed {row} {layout} {context} {after} {entry} {new} found prints longer 
     let short : length prints.content ≤ 65535 =
     (let written = ap (length {A = ℕ}) furthers.written in let small = furthers.is_row.short in omega (arith, written, small)) in
     presented prints.shown longer prints.layouts has marks scans furthers (rewrites_row found has prints.has.place prints.prints.so) back.are
-    (printed_longer has marks.is (general_is marks.is scans) short longer furthers back.led back.has (sym (back.same ∙ front_taken has prints.has.place)) back.unmarked back.scans)
+    (printed_longer has marks.is (is_general marks.is scans) short longer furthers back.led back.has (sym (back.same ∙ front_taken has prints.has.place)) back.unmarked back.scans)
 
 -- an error is handed on
 pub handed_on : {A E : Type 0} (result : Result A E) (error : E) (Holds : E → Type 0) → IsErrAnd result (λ e. e ≡ error) → Holds error

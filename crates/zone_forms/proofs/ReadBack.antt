@@ -16,7 +16,7 @@ use Rattle.zone_forms.specs.Rewritten.{AreRow}
 use Rattle.zone_forms.specs.Seen.{HasTypeAt, IsFound, octets_in, row_in, tokens_in}
 use Rattle.zone_forms.specs.declared.found_row.FoundRow.{FoundRow}
 use Rattle.zone_forms.specs.declared.row_type.RowType.{RowType}
-use Rattle.zone_forms.proofs.GeneralRows.{found_row}
+use Rattle.zone_forms.proofs.FoundRows.{found_row}
 use Rattle.zone_forms.proofs.RowTypes.{data_from, token_at, type_within}
 
 -- one more token is the same
@@ -109,7 +109,7 @@ module _ (row other : FoundRow) {kind : RowType} where
       → ReadsBack names (row_in row) kind content other.text.now
   read_back {names} {content} found octets led is scans = record {
     printed = row_in other;
-    are = subst (λ (l : List ℕ). AreRow l (row_in other)) octets (found_row other found);
+    are = subst (λ (l : List ℕ). AreRow l (row_in other)) octets (found_row other found).are;
     led = led;
     front = is.front;
     word = is.word;

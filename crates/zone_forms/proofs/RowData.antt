@@ -1,5 +1,5 @@
 -- The data of a row.
-use Rattle.std.proofs.Common.{◌≡◌, ◌≢◌, ◌+◌, ◌-◌, ◌<◌, ◌≤◌, ◌∷◌, ◌++◌, ◌∙◌, ◌↔◌, ℕ, zero, suc, Bool, false, List, [], drop, take, length, map, ap, sym, subst, refl, IsTrue, Ok, Err, arith}
+use Rattle.std.proofs.Common.{◌≡◌, ◌≢◌, ◌-◌, ◌≤◌, ◌∷◌, ◌++◌, ◌∙◌, ◌↔◌, ℕ, zero, suc, Bool, List, [], drop, take, length, map, ap, sym, subst, refl, IsTrue, Ok, Err}
 use Rattle.std.specs.Prelude.{Option, Result, OnOk, IfErr}
 use Rattle.std.proofs.lemmas.List.{drop-map, take_rest}
 use Rattle.dns_scan.specs.Token.{Token, marker}
@@ -68,7 +68,7 @@ module _ {names : Names} {rtype : ℕ} where
       → ScansLonger names rtype tokens content
   general_is {content = content} is data' = subst (λ (l : List Token). ScansLonger names rtype l content) (sym is) (marked data')
 
-  is_general : {tokens words : List Token} {content : List ℕ} → tokens ≡ marker ∷ words → ScansLonger names rtype tokens content
+  pub is_general : {tokens words : List Token} {content : List ℕ} → tokens ≡ marker ∷ words → ScansLonger names rtype tokens content
       → IsUnknownData words content
   is_general {words = words} {content} is (marked {words = others} data') =
       let same : others ≡ words = cc in subst (λ (l : List Token). IsUnknownData l content) same data'

@@ -61,14 +61,14 @@ module _ {word : Token} {rtype : ℕ} (known : IsKnownWord rtype word) where
       let text : is.0 ≡ word.text = ap (λ (t : Token). t.text) (sym is.1.0 ∙ at) in
       let bad : None ≡ Some rtype = sym is.3 ∙ ap type_read text ∙ known.reads in cc
 
-  not_stated : {stated : List Token} {seconds class : Option ℕ} → States stated seconds class → AllByRecursion (λ token. token ≡ word → ⊥) stated
+  pub not_stated : {stated : List Token} {seconds class : Option ℕ} → States stated seconds class → AllByRecursion (λ token. token ≡ word → ⊥) stated
   not_stated nothing = tt
   not_stated (ttl_alone is) = (no_ttl is, tt)
   not_stated (class_alone is) = (no_class is, tt)
   not_stated (ttl_class is also) = (no_ttl is, (no_class also, tt))
   not_stated (class_ttl is also) = (no_class is, (no_ttl also, tt))
 
-is_type_word : {rtype : ℕ} {token : Token} → IsType rtype token → IsTypeWord rtype token
+pub is_type_word : {rtype : ℕ} {token : Token} → IsType rtype token → IsTypeWord rtype token
 unfolding type_word_read
 is_type_word {rtype} {token} is =
     let text : token.text ≡ is.0 = ap (λ (t : Token). t.text) is.1.0 in record {
@@ -80,7 +80,7 @@ is_type_word {rtype} {token} is =
     first_read text reads = rw reads refl
 
 -- so the type is that word
-head_is : (others before behind left : List Token) {word token : Token} {rtype : ℕ} → AllByRecursion IsNoTypeWord others
+pub head_is : (others before behind left : List Token) {word token : Token} {rtype : ℕ} → AllByRecursion IsNoTypeWord others
     → AllByRecursion (λ t. t ≡ word → ⊥) before → IsTypeWord rtype token → others ++ word ∷ behind ≡ before ++ token ∷ left
     → (others ≡ before) × (word ≡ token) × (behind ≡ left)
 head_is [] [] behind left each apart is all = (refl, cc, cc)
@@ -92,11 +92,11 @@ head_is (other ∷ others) (first ∷ before) behind left each apart is all =
     let rest = head_is others before behind left each.1 apart.1 is (cc) in ((λ i. first_is i ∷ rest.0 i), rest.1, rest.2)
 
 -- the owner stays whatever is behind the other tokens of the front
-record OwnerStays (names : Names) (blank_led : Bool) (owner : Option (List (List ℕ))) (front others behind tokens : List Token) : Type 0 where
+pub record OwnerStays (names : Names) (blank_led : Bool) (owner : Option (List (List ℕ))) (front others behind tokens : List Token) : Type 0 where
   pub tokens_are : tokens ≡ others ++ behind
   pub stays : (again : List Token) → HasOwner names (record { blank_led = blank_led; tokens = front ++ again }) owner (others ++ again)
 
-owner_stays : {names : Names} {row : TokenRow} {owner : Option (List (List ℕ))} {tokens : List Token} (front others behind : List Token)
+pub owner_stays : {names : Names} {row : TokenRow} {owner : Option (List (List ℕ))} {tokens : List Token} (front others behind : List Token)
     → HasOwner names row owner tokens → HasFront row.blank_led front others → row.tokens ≡ front ++ behind
     → OwnerStays names row.blank_led owner front others behind tokens
 owner_stays front others behind last_owner last is = record { tokens_are = is; stays = λ again. last_owner }

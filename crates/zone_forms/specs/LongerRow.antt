@@ -1,6 +1,6 @@
 -- Rows by the table that has the further types too: each reads as its general row does, in which the data of a further type is in
 -- the general form of RFC 3597 5.
-use Rattle.std.specs.Prelude.{◌≡◌, ◌≢◌, ◌≤◌, ◌⊎◌, ℕ, Bool, true, false, List, [], ◌∷◌, ◌++◌, length, map, codes, decimal, Some, None, is_some, if◌then◌else◌}
+use Rattle.std.specs.Prelude.{◌≡◌, ◌⊎◌, ℕ, Bool, true, false, List, [], ◌∷◌, ◌++◌, map, codes, decimal, Some, None, is_some, if◌then◌else◌}
 use Rattle.std.specs.List.{AllByRecursion}
 use Rattle.dns_values.specs.Mnemonic.{type_read}
 use Rattle.dns_name.specs.UnknownText.{unknown_words}

@@ -3,7 +3,7 @@ use Rattle.std.specs.Prelude.{◌≡◌, ◌<◌, ◌==◌, ◌||◌, ℕ, Bool,
 use Rattle.std.specs.List.{flat_map}
 use Rattle.dns_scan.specs.Token.{Token}
 use Rattle.dns_text.specs.DocumentRows.{AreSymbols}
-use Rattle.dns_text.specs.Tokens.{Head, head_of, has_feed, is_gap}
+use Rattle.dns_text.specs.Tokens.{head_of, has_feed, is_gap}
 use Rattle.dns_text.specs.Tokens.Head.{Go}
 
 -- Octets between two tokens, from a place inside parentheses or outside to such a place: white space and parentheses, and inside

@@ -1,5 +1,5 @@
 -- Where a text fails that is read by the table that has the further types too.
-use Rattle.std.specs.Prelude.{◌≡◌, ◌≢◌, ◌++◌, ◌∷◌, [], ℕ, List, length}
+use Rattle.std.specs.Prelude.{◌≡◌, ◌≢◌, ◌++◌, ◌∷◌, [], ℕ, List}
 use Rattle.dns_text.specs.Rows.{BeginsWithRows, BreaksAfter, TokenRow}
 use Rattle.dns_zonefile.specs.Entry.{Context, Entry}
 use Rattle.dns_zonefile.specs.Reader.{line_behind}

@@ -1,5 +1,5 @@
 -- The views of rows and readers. Only contracts inside the crate name them.
-use Rattle.std.specs.Prelude.{false, ◌≡◌, ◌≢◌, ◌+◌, ◌<◌, ◌≤◌, ℕ, Bool, List, [], ◌∷◌, ◌++◌, length, map, take, drop, is_some, slice_index, Option}
+use Rattle.std.specs.Prelude.{false, ◌≡◌, ◌≢◌, ◌+◌, ◌≤◌, ℕ, List, [], ◌∷◌, ◌++◌, length, map, drop, is_some}
 use Rattle.std.specs.List.{flat_map}
 use Rattle.dns_label.specs.Octets.{AreOctets}
 use Rattle.dns_name.specs.UnknownText.{unknown_text}
@@ -15,7 +15,7 @@ use Rattle.dns_zonefile.specs.Statement.{Names}
 use Rattle.zone_forms.specs.LongerEntries.{IsLongerEntry}
 use Rattle.zone_forms.specs.LongerRow.{HasType, ScansLonger, known_word}
 use Rattle.zone_forms.specs.Parts.{AreParts, Part, part_octets, row_octets, tokens_of}
-use Rattle.zone_forms.specs.Rewritten.{AreRow, data_octets}
+use Rattle.zone_forms.specs.Rewritten.{data_octets}
 use Rattle.zone_forms.specs.declared.found_row.FoundRow.{FoundRow}
 use Rattle.zone_forms.specs.declared.longer_reader.LongerReader.{LongerReader}
 use Rattle.zone_forms.specs.declared.longer_reader.RowForm.{RowForm}

@@ -158,13 +158,8 @@ impl LongerReader {
         let RowFound::Row { blank_led, .. } = read_row(&self.general, 0, &mut self.spans)? else {
             unreachable!();
         };
-        self.entries.read_entry(
-            &self.general,
-            0,
-            &self.spans,
-            blank_led,
-            &mut self.record,
-        )?;
+        self.entries
+            .read_entry(&self.general, 0, &self.spans, blank_led, &mut self.record)?;
         Ok(())
     }
 }

@@ -75,8 +75,9 @@ fn scan_general(
         → IsUnknownData (drop (type_index + 2) (tokens_in row.entry)) content → ⊥) }
 {
     let words = &row.spans[type_index + 2..];
-    let mut scanner: RowScanner<'_, InlineName> =
-        RowScanner::new(alloc, row.text, row.place, words, None);
+    let mut scanner: RowScanner<'_, InlineName> = RowScanner::new(
+        alloc, row.text, row.place, words, None,
+    );
     let data: Vec<u8> = scan_unknown_octets(&mut scanner)?;
     octets.extend_from_slice(&data)?;
     Ok(())
@@ -101,8 +102,9 @@ fn scan_fields<'a>(
         → ScansFurther (SpellsUnder (option_copied origin.entry)) kind.rtype fields (drop (kind.index + 1) (tokens_in row.entry)) [] → ⊥) }
 {
     let spans = &row.spans[kind.index + 1..];
-    let mut scanner: RowScanner<'_, InlineName> =
-        RowScanner::new(alloc, row.text, row.place, spans, origin);
+    let mut scanner: RowScanner<'_, InlineName> = RowScanner::new(
+        alloc, row.text, row.place, spans, origin,
+    );
     scan_further_into(Rtype::from_int(kind.rtype), &mut scanner, octets)?;
     if scanner.continues() {
         return Err(EntryError::TrailingTokens);

@@ -1,5 +1,5 @@
 //! Which type the record of a row has.
-ghost use Rattle.std.specs.Prelude.{◌≡◌, ◌↔◌, ℕ, IsTrue, IfSome, IfNone};
+ghost use Rattle.std.specs.Prelude.{◌↔◌, IsTrue, IfSome, IfNone};
 ghost use Rattle.dns_entry_scanner.specs.TokenSpan.{token_in};
 ghost use Rattle.dns_zonefile.specs.Statement.{IsDirective};
 ghost use Rattle.zone_forms.specs.LongerRow.{IsNoTypeWord, IsTypeWord};

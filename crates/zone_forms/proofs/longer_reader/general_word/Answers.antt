@@ -1,6 +1,6 @@
 use Rattle.std.proofs.Common.{◌≡◌, ◌∙◌, ◌++◌, ℕ, List, Global, Vec, ap, codes, decimal}
 use Rattle.zone_forms.specs.Seen.{tokens_in}
-use Rattle.zone_forms.proofs.LongerRows.{is_known_word, is_numbered_word, none_further, none_scanned}
+use Rattle.zone_forms.proofs.LongerRows.{is_known_word, is_numbered_word}
 use Rattle.zone_forms.proofs.RowTypes.{word_at}
 use Rattle.zone_forms.proofs.longer_reader.general_word.Goals as goal
 

@@ -1,6 +1,5 @@
-use Rattle.std.proofs.Common.{◌≡◌, ◌+◌, ◌∷◌, ◌∙◌, ℕ, List, drop, map, sym}
+use Rattle.std.proofs.Common.{◌≡◌, ◌+◌, ◌∷◌, ◌∙◌, drop, map, sym}
 use Rattle.std.proofs.lemmas.List.{take_rest}
-use Rattle.dns_scan.specs.Token.{Token, marker}
 use Rattle.dns_entry_scanner.specs.TokenSpan.{token_in}
 use Rattle.zone_forms.specs.Seen.{tokens_in}
 use Rattle.zone_forms.proofs.RowData.{first_token, first_marked}

@@ -1,4 +1,4 @@
-use Rattle.std.proofs.Common.{◌≡◌, ◌+◌, suc, arith}
+use Rattle.std.proofs.Common.{◌+◌, arith}
 use Rattle.zone_forms.specs.Seen.{tokens_in}
 use Rattle.zone_forms.proofs.RowData.{fields_scanned, general_scanned, if_err, no_fields, no_general, on_ok}
 use Rattle.zone_forms.proofs.row_data.scan_data.Goals as goal

@@ -1,4 +1,4 @@
-use Rattle.std.proofs.Common.{◌≡◌, ◌∙◌, false, ap}
+use Rattle.std.proofs.Common.{◌∙◌, ap}
 use Rattle.std.specs.Prelude.{is_some}
 use Rattle.zone_forms.proofs.RowTypes.{goes_on, none_found, type_found}
 use Rattle.zone_forms.proofs.row_type.row_type.Goals as goal

@@ -1,4 +1,4 @@
-use Rattle.std.proofs.Common.{◌≡◌, ◌≢◌, [], arith, rules}
+use Rattle.std.proofs.Common.{◌≢◌, [], arith}
 use Rattle.std.proofs.lemmas.Grind.{common_steps}
 use Rattle.dns_entry_scanner.proofs.Refused.{on_ok_weaker}
 use Rattle.zone_forms.proofs.GoingOn.{if_err_weaker}

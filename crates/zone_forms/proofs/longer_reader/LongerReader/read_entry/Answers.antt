@@ -1,10 +1,6 @@
 use Rattle.dns_entry_scanner.proofs.HandedOn.{handed_on}
-use Rattle.std.proofs.Common.{refl}
-use Rattle.zone_forms.specs.LongerRow.IsGeneralRow.{same as stays}
-use Rattle.zone_forms.specs.Rewritten.IsWrittenAs.{same}
-use Rattle.zone_forms.specs.Seen.{row_in}
 use Rattle.zone_forms.proofs.FoundRows.{found_row}
-use Rattle.zone_forms.proofs.WrittenRows.{standing_entry}
+use Rattle.zone_forms.proofs.WrittenRows.{goes_stands, standing_entry}
 use Rattle.zone_forms.proofs.longer_reader.LongerReader.read_entry.Goals as goal
 
 pub returns-in_err-read_further-clause-err : goal.returns-in_err-read_further-clause-err
@@ -19,13 +15,4 @@ returns-in_err-read_entry-clause-err c =
 pub returns-clause-ok : goal.returns-clause-ok
 returns-clause-ok c =
     let read = c.in_ok-read_entry.ensures.ok in
-    let stands = c.in_default.ensures.none in (
-      read.0,
-      record {
-        general = row_in c.args.row;
-        is = stays stands;
-        so = read.1;
-        are = (found_row c.args.row c.requires).are;
-        written = same refl;
-      },
-    )
+    (read.0, goes_stands c.in_default.ensures.none (found_row c.args.row c.requires).are read.1)

@@ -1,4 +1,4 @@
-use Rattle.std.proofs.Common.{◌≡◌, ℕ, List, sym, subst}
+use Rattle.std.proofs.Common.{List, sym, subst}
 use Rattle.dns_scan.specs.Token.{Token}
 use Rattle.dns_entry_scanner.proofs.HandedOn.{handed_on}
 use Rattle.dns_entry_scanner.specs.NameInText.{SpellsUnder}
@@ -7,8 +7,8 @@ use Rattle.dns_zonefile.specs.Entry.{IsEntry}
 use Rattle.zone_forms.specs.LongerRow.{ScansLonger}
 use Rattle.zone_forms.specs.Rewritten.{GoesGeneral}
 use Rattle.zone_forms.specs.Seen.{context_in, octets_in, row_in}
-use Rattle.zone_forms.proofs.WrittenRows.{is_general, is_row, is_written}
-use Rattle.zone_forms.proofs.LongerRows.{general_row, none_further, none_scanned}
+use Rattle.zone_forms.proofs.LongerRows.{general_of, none_further, none_scanned}
+use Rattle.zone_forms.proofs.WrittenRows.{goes_general, is_row}
 use Rattle.zone_forms.proofs.RowData.{if_err, on_ok}
 use Rattle.zone_forms.proofs.RowTypes.{data_at}
 use Rattle.zone_forms.proofs.longer_reader.LongerReader.read_further.Goals as goal
@@ -25,26 +25,22 @@ pub read_general-requires : goal.read_general-requires
 read_general-requires c =
     let has = c.requires.has in
     let writes = c.in_ok-write_general.ensures.ok in
-    (general_row (row_in c.args.row) has.front has.word c.args.kind.rtype writes.content, is_row c.args.row has c.requires.found writes)
+    (general_of (row_in c.args.row) has.front has.word c.args.kind.rtype writes.content, is_row c.args.row has c.requires.found writes)
 
 pub returns-clause-ok : goal.returns-clause-ok
 returns-clause-ok c =
     let has = c.requires.has in
     let writes = c.in_ok-write_general.ensures.ok in
-    let general = general_row (row_in c.args.row) has.front has.word c.args.kind.rtype writes.content in
-    let before = context_in c.args.self.now in
+    let general = general_of (row_in c.args.row) has.front has.word c.args.kind.rtype writes.content in
     on_ok
     (λ read.
     let made = read general (is_row c.args.row has c.requires.found writes) in (
       made.0,
-      subst (λ octets. GoesGeneral before (row_in c.args.row) (octets_in c.args.row) octets.items made.0 (context_in c.read_general.new.self))
-          (sym c.read_general.ensures.kept) (record {
-            general = general;
-            is = is_general c.args.row has c.requires.found writes c.requires.not;
-            so = subst (λ (context : spec.Context). IsEntry context general made.0 (context_in c.read_general.new.self)) c.in_ok-write_general.ensures.same made.1;
-            are = is_row c.args.row has c.requires.found writes;
-            written = is_written c.args.row has c.requires.found writes;
-          }),
+      subst
+          (λ octets. GoesGeneral (context_in c.args.self.now) (row_in c.args.row) (octets_in c.args.row) octets.items made.0 (context_in c.read_general.new.self))
+          (sym c.read_general.ensures.kept)
+          (goes_general c.args.row has c.requires.found writes c.requires.not
+          (subst (λ (before : spec.Context). IsEntry before general made.0 (context_in c.read_general.new.self)) c.in_ok-write_general.ensures.same made.1)),
     ))
     c.read_general.result c.read_general.ensures.ok
 
@@ -52,7 +48,7 @@ pub returns-clause-err : goal.returns-clause-err
 returns-clause-err c =
     let has = c.requires.has in
     let writes = c.in_ok-write_general.ensures.ok in
-    let general = general_row (row_in c.args.row) has.front has.word c.args.kind.rtype writes.content in
+    let general = general_of (row_in c.args.row) has.front has.word c.args.kind.rtype writes.content in
     if_err
     (λ error none real.
     none_further has.has writes.content writes.octets writes.short c.requires.not

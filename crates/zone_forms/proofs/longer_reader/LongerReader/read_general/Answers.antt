@@ -1,4 +1,4 @@
-use Rattle.std.proofs.Common.{◌≡◌, subst, sym}
+use Rattle.std.proofs.Common.{subst, sym}
 use Rattle.dns_text.specs.Rows.{TokenRow}
 use Rattle.dns_entry_scanner.proofs.HandedOn.{handed_on}
 use Rattle.dns_zonefile.specs.Entry.{IsEntry}
