@@ -254,7 +254,9 @@ fn command<'a>(alloc: Global) -> Result<Command<'a>, AllocError> {
     let general = general_command(alloc)?;
     let present = present_command(alloc)?;
     Command::new(alloc, "zonetool")
-        .about("Checks, compares, sorts, counts and rewrites DNS zones, and asks for their transfers")
+        .about(
+            "Checks, compares, sorts, counts and rewrites DNS zones, and asks for their transfers",
+        )
         .version("0.1.0")
         .subcommand_required(true)
         .disable_help_subcommand(true)

@@ -221,7 +221,13 @@ fn rewrite_file<'a>(
 ) -> Result<bool, Fault<'a>> {
     let text = read_text(rt, file)?;
     let rewritten = match &reading.origin {
-        Some(name) => rewritten(rt.alloc(), &text, Some(&name.for_ref()), reading.class, layout),
+        Some(name) => rewritten(
+            rt.alloc(),
+            &text,
+            Some(&name.for_ref()),
+            reading.class,
+            layout,
+        ),
         None => rewritten(rt.alloc(), &text, None, reading.class, layout),
     };
     match rewritten {
