@@ -15,18 +15,18 @@ use Rattle.dns_scan.specs.Token.{Token}
 use Rattle.dns_field_texts.specs.TypeWords.{more_types, type_word_read}
 use Rattle.zone_forms.specs.LongerRow.{IsTypeWord, known_word}
 
-both_hold : (a b : Bool) → (a && b) ≡ true → (a ≡ true) × (b ≡ true)
+pub both_hold : (a b : Bool) → (a && b) ≡ true → (a ≡ true) × (b ≡ true)
 both_hold true b both = (refl, both)
 both_hold false b both = absurd cc
 
 -- the row of a table whose mnemonic is the word
-record Named (test : ℕ × List ℕ → Bool) (word : List ℕ) (n : ℕ) : Type 0 where
+pub record Named (test : ℕ × List ℕ → Bool) (word : List ℕ) (n : ℕ) : Type 0 where
   pub row : ℕ × List ℕ
   pub passes : test row ≡ true
   pub number : row.0 ≡ n
   pub same : map to_ascii_lowercase row.1 ≡ map to_ascii_lowercase word
 
-named_in : (test : ℕ × List ℕ → Bool) (table : Mnemonics) (word : List ℕ) (n : ℕ) → list_all test table ≡ true
+pub named_in : (test : ℕ × List ℕ → Bool) (table : Mnemonics) (word : List ℕ) (n : ℕ) → list_all test table ≡ true
     → number_named table word ≡ Some n → Named test word n
 unfolding number_named
 named_in test [] word n each is = absurd cc
@@ -61,7 +61,7 @@ behind_in prefix word n is = by (str_eq_ignore_ascii_case prefix (take (length p
     by true same found = record { below = spelled_below 65536 (drop (length prefix) word) n found; same = (bytes_eq-Decides _ _).0 same }
     by false same found = absurd cc
 
-either : (first second : Option ℕ) (n : ℕ) → option_or first second ≡ Some n → (first ≡ Some n) ⊎ (second ≡ Some n)
+pub either : (first second : Option ℕ) (n : ℕ) → option_or first second ≡ Some n → (first ≡ Some n) ⊎ (second ≡ Some n)
 either (Some m) second n is = inl is
 either None second n is = inr is
 

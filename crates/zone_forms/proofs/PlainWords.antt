@@ -1,19 +1,15 @@
 -- A word for a type is plain: it has no backslash.
-use Rattle.std.proofs.Common.{◌≡◌, ◌⊎◌, ◌&&◌, ◌++◌, ◌∙◌, ℕ, Bool, true, false, List, [], ◌∷◌, length, take, drop, find, map, codes, nat_lt, Option, Some, None, option_map, inl, inr, refl, sym, ap, subst, arith, take-append-drop}
+use Rattle.std.proofs.Common.{◌≡◌, ◌&&◌, ◌++◌, ◌∙◌, ℕ, Bool, true, false, List, [], ◌∷◌, length, take, drop, map, codes, nat_lt, Some, None, inl, inr, refl, sym, ap, subst, arith, take-append-drop}
 use Rattle.std.specs.Prelude.{if◌then◌else◌}
 use Rattle.std.specs.Char.{is_ascii_digit, to_ascii_lowercase}
 use Rattle.std.specs.List.{list_all}
-use Rattle.std.specs.Option.{option_or}
 use Rattle.std.specs.Str.{str_eq_ignore_ascii_case}
 use Rattle.std.specs.Str.Parse.{digits_value}
 use Rattle.std.proofs.lemmas.Bool.Decides.{nat_tests}
 use Rattle.std.proofs.lemmas.Slice.Eq.{bytes_eq-Decides}
 use Rattle.dns_label.specs.Symbol.{is_plain}
 use Rattle.dns_values.specs.Mnemonic.{Mnemonics, types, number_spelled, number_behind, number_named, number_read, type_read}
-
-both_hold : (a b : Bool) → (a && b) ≡ true → (a ≡ true) × (b ≡ true)
-both_hold true b both = (refl, both)
-both_hold false b both = absurd cc
+use Rattle.zone_forms.proofs.KnownWords.{both_hold, either, named_in}
 
 and_holds : (a b : Bool) → a ≡ true → b ≡ true → (a && b) ≡ true
 and_holds a b is also = rw is also
@@ -53,20 +49,8 @@ plain_append (octet ∷ a) b each also =
 -- a mnemonic
 named_plain : (table : Mnemonics) (word : List ℕ) (n : ℕ) → list_all (λ row. list_all plain_small row.1) table ≡ true
     → number_named table word ≡ Some n → list_all is_plain word ≡ true
-unfolding number_named
-named_plain [] word n each is = absurd cc
-named_plain (row ∷ table) word n each is =
-    by (str_eq_ignore_ascii_case row.1 word) refl
-    (both_hold (list_all plain_small row.1) (list_all (λ row. list_all plain_small row.1) table) each) (named_plain table word n) is
-  where
-    by : (same : Bool) → str_eq_ignore_ascii_case row.1 word ≡ same
-        → (list_all plain_small row.1 ≡ true) × (list_all (λ row. list_all plain_small row.1) table ≡ true)
-        → (list_all (λ row. list_all plain_small row.1) table ≡ true
-        → option_map (λ row. row.0) (find (λ row. str_eq_ignore_ascii_case row.1 word) table) ≡ Some n → list_all is_plain word ≡ true)
-        → option_map (λ row. row.0) (if same then Some row else find (λ row. str_eq_ignore_ascii_case row.1 word) table) ≡ Some n
-        → list_all is_plain word ≡ true
-    by true same each others found = plain_alike row.1 word ((bytes_eq-Decides _ _).0 same) each.0
-    by false same each others found = others each.1 found
+named_plain table word n each is =
+    let named = named_in (λ row. list_all plain_small row.1) table word n each is in plain_alike named.row.1 word named.same named.passes
 
 -- a number behind a prefix
 spelled_plain : (limit : ℕ) (text : List ℕ) (n : ℕ) → number_spelled limit text ≡ Some n → list_all is_plain text ≡ true
@@ -93,10 +77,6 @@ behind_plain prefix word n each is = by (str_eq_ignore_ascii_case prefix (take (
 types_plain : list_all (λ row. list_all plain_small row.1) types ≡ true
 unfolding types
 types_plain = refl
-
-either : (first second : Option ℕ) (n : ℕ) → option_or first second ≡ Some n → (first ≡ Some n) ⊎ (second ≡ Some n)
-either (Some m) second n is = inl is
-either None second n is = inr is
 
 pub type_plain : (word : List ℕ) (n : ℕ) → type_read word ≡ Some n → list_all is_plain word ≡ true
 unfolding number_read
