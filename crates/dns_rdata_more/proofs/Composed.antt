@@ -1,5 +1,5 @@
 -- Fields that are written in canonical form.
-use Rattle.std.proofs.Common.{◌≡◌, ◌++◌, ◌≤◌, ℕ, List, ◌∷◌, ◌∙◌, length, ap, sym, refl, subst, arith, append_assoc, length-append}
+use Rattle.std.proofs.Common.{◌≡◌, ◌++◌, ℕ, List, ◌∷◌, ◌∙◌, length, ap, sym, refl, arith, append_assoc, length-append}
 use Rattle.std.specs.Prelude.{Option, Result, Ok, Err, OnOk, Some, unwrap_or, []}
 use Rattle.dns_octets.specs.Builder.{IsPast}
 use Rattle.dns_name.proofs.Growth.{IsPast-from}

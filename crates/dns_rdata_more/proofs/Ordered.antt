@@ -1,14 +1,13 @@
 -- Fields in canonical form, compared by their octets.
-use Rattle.std.proofs.Common.{◌≡◌, ◌≤◌, ◌∙◌, ◌++◌, ◌∷◌, [], ℕ, Bool, true, false, List, length, take, drop, ap, sym, refl, subst, arith, append-nil, length-append}
+use Rattle.std.proofs.Common.{◌≡◌, ◌∙◌, ◌++◌, ◌∷◌, [], ℕ, Bool, true, false, List, length, take, drop, ap, sym, refl, subst, arith, append-nil, length-append}
 use Rattle.std.specs.declared.cmp.Ordering.{Ordering}
 use Rattle.std.specs.declared.cmp.Ordering.TheVariants.{Less, Equal, Greater}
 use Rattle.std.specs.Ordering.{ordering_then, nat_cmp}
 use Rattle.std.specs.Cmp.Lexicographic.{slice_cmp}
 use Rattle.std.proofs.Math.Seq.{take-append_seam, drop-append_seam}
-use Rattle.dns_label.specs.Name.{IsName, low}
 use Rattle.dns_wire.proofs.Case.{low_wire}
 use Rattle.dns_wire.proofs.LowNames.{low_name}
-use Rattle.dns_fields.specs.Fields.{Field, IsField, field_octets, kind_of, lowered, octets}
+use Rattle.dns_fields.specs.Fields.{Field, IsField, field_octets, kind_of, lowered}
 use Rattle.dns_fields.specs.OctetsForm.{len_in}
 use Rattle.dns_fields.specs.OctetsForm as ends
 use Rattle.dns_fields.proofs.FieldKinds.{of_uncompressed}
@@ -19,7 +18,7 @@ use Rattle.dns_fields_more.specs.Rows.{EndWell, StandAs, form_lowered}
 use Rattle.dns_fields_more.specs.Values.{StandsIn}
 use Rattle.dns_fields_more.specs.declared.form.Form.{Form}
 use Rattle.dns_fields_more.specs.declared.form.Form.TheVariants.{Number8, Number16, Number32, Name, CasedName, String, RestText, Rest16, Rest64, Rtype as RtypeForm, Time, Salt, Hash, Types, Parameters, Location, Eui48, Eui64}
-use Rattle.dns_fields_more.proofs.Rows.{Parted, behind, parted}
+use Rattle.dns_fields_more.proofs.Rows.{behind, parted}
 use Rattle.dns_rdata_more.specs.FurtherData.{fields_read, lowered_octets}
 use Rattle.dns_rdata_more.proofs.Rows.{ends_alike, lowered_first, read_first}
 

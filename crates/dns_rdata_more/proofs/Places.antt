@@ -3,7 +3,7 @@ use Rattle.std.proofs.Common.{◌≡◌, ◌++◌, ◌-◌, ℕ, suc, List, ◌�
 use Rattle.std.specs.Prelude.{Some, None, Option, slice_get, option_and_then, option_map, length, ◌<◌, ◌^◌}
 use Rattle.dns_fields.specs.Fields.{Field, kind_of, field_octets, octets, rest16}
 use Rattle.dns_fields.specs.Fields as kinds
-use Rattle.dns_fields_more.specs.Forms.{AreFieldsOf, IsFurtherData, forms_of, kind_of_form}
+use Rattle.dns_fields_more.specs.Forms.{IsFurtherData, forms_of, kind_of_form}
 use Rattle.dns_fields_more.specs.Rows.{EndWell, StandAs}
 use Rattle.dns_fields_more.specs.Values.{StandsIn, rest_field}
 use Rattle.dns_fields_more.specs.declared.form.Form.{Form}

@@ -1,5 +1,5 @@
 -- The fields of data, read back from its octets.
-use Rattle.std.proofs.Common.{◌≡◌, ◌+◌, ℕ, zero, suc, Bool, true, false, List, [], ◌∷◌, ◌++◌, ◌∙◌, length, take, drop, ap, sym, refl, subst, arith, append-nil, length-append}
+use Rattle.std.proofs.Common.{◌≡◌, ℕ, Bool, true, false, List, [], ◌∷◌, ◌++◌, ◌∙◌, length, take, drop, ap, sym, refl, subst, append-nil}
 use Rattle.std.specs.Prelude.{Some, Option, unwrap_or}
 use Rattle.std.proofs.Math.Seq.{take-append_seam, drop-append_seam}
 use Rattle.std.proofs.lemmas.Nat.{from_be_bytes-to_be_bytes_2, from_be_bytes-to_be_bytes_4}
@@ -16,7 +16,7 @@ use Rattle.dns_fields_more.specs.Values.{StandsIn}
 use Rattle.dns_fields_more.specs.declared.form.Form.{Form}
 use Rattle.dns_fields_more.specs.declared.form.Form.TheVariants.{Number8, Number16, Number32, Name, CasedName, String, RestText, Rest16, Rest64, Rtype as RtypeForm, Time, Salt, Hash, Types, Parameters, Location, Eui48, Eui64}
 use Rattle.dns_fields_more.proofs.Rows.{behind, last_of, others_well, table_well}
-use Rattle.dns_rdata_more.specs.FurtherData.{IsFieldAt, canonical_of, field_read, fields_read, forms_or_none, lowered_octets, row_read}
+use Rattle.dns_rdata_more.specs.FurtherData.{IsFieldAt, canonical_of, compared_read, compared_row, field_read, fields_read, forms_or_none, lowered_octets, row_read}
 
 -- the kinds that further types have
 abbrev is_read : Kind → Bool
@@ -155,9 +155,9 @@ read_first {forms} {others} {form} {whole} {rest} {field} is well stands row =
     ∙ ap (λ r. field ∷ r) (sym (ap (fields_read others) left.written ∙ rows_back others left.row (others_well form others well') left.each))
 
 -- the row of the type is that of its forms
-pub row_forms : (rtype : ℕ) (forms : List Form) (whole : List ℕ) → forms_of rtype ≡ Some forms → row_read rtype whole ≡ fields_read forms whole
-unfolding row_read
-row_forms rtype forms whole its = λ i. fields_read (unwrap_or (its i) []) whole
+pub compared_forms : (rtype : ℕ) (forms : List Form) (whole : List ℕ) → forms_of rtype ≡ Some forms → compared_row rtype whole ≡ compared_read forms whole
+unfolding compared_row
+compared_forms rtype forms whole its = λ i. compared_read (unwrap_or (its i) []) whole
 
 pub forms_one : (rtype : ℕ) (forms : List Form) → forms_of rtype ≡ Some forms → forms_or_none rtype ≡ forms
 forms_one rtype forms its = ap (λ (found : Option (List Form)). unwrap_or found []) its

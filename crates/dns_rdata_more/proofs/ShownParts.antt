@@ -1,14 +1,14 @@
 -- Parameters and locations, read back from their octets.
-use Rattle.std.proofs.Common.{◌≡◌, ◌+◌, ◌*◌, ◌/◌, ◌%◌, ◌<◌, ◌≤◌, ◌^◌, ℕ, zero, suc, w16, w32, List, [], ◌∷◌, ◌++◌, ◌∙◌, length, take, drop, ap, sym, refl, subst, arith, append-nil, length-append}
+use Rattle.std.proofs.Common.{◌≡◌, ◌+◌, ◌*◌, ◌/◌, ◌%◌, ◌<◌, ◌≤◌, ◌^◌, ℕ, zero, suc, w16, w32, List, [], ◌∷◌, ◌++◌, ◌∙◌, length, take, drop, ap, sym, refl, arith, length-append}
 use Rattle.std.specs.Int.{from_be_bytes, to_be_bytes}
 use Rattle.std.specs.List.{AllByRecursion, concat, flat_map}
 use Rattle.std.specs.Net.Addr.{segments_of}
 use Rattle.std.proofs.Math.Seq.{take-append_seam, drop-append_seam}
 use Rattle.std.proofs.lemmas.Nat.{from_be_bytes-to_be_bytes_2, from_be_bytes-to_be_bytes_4}
 use Rattle.dns_fields.proofs.StringsOf.{strings_of-written}
-use Rattle.dns_service_parameters.specs.Service.{IsParameter, IsValue, Parameter, Value, keys, strings, nothing, number, ipv4s, ipv6s, encoded, plain, form_at, form_of, octets_of, parameter_octets, value_octets}
-use Rattle.dns_service_parameters.specs.ServiceParts.{first_pieces, pieces, read_parameter, read_value}
-use Rattle.dns_field_texts.specs.Location.{IsLocation, IsPrecision, IsWithin, Location, Precision, location_octets, precision_octet}
+use Rattle.dns_service_parameters.specs.Service.{IsParameter, IsValue, Parameter, Value, keys, strings, nothing, number, ipv4s, ipv6s, encoded, plain, form_at, form_of, octets_of, value_octets}
+use Rattle.dns_service_parameters.specs.ServiceParts.{first_pieces, read_parameter, read_value}
+use Rattle.dns_field_texts.specs.Location.{IsLocation, IsPrecision, Location, Precision, location_octets, precision_octet}
 use Rattle.dns_rdata_more.specs.Shown.{location_read, parameters_read, parameters_up_to, precision_read}
 
 -- numbers of two octets each

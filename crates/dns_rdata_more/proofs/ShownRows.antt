@@ -1,14 +1,13 @@
 -- Data of further types that is printed: the pieces are those of its row.
-use Rattle.std.proofs.Common.{◌≡◌, ◌++◌, ℕ, List, [], ◌∷◌, ◌∙◌, map, ap, sym, refl, subst}
+use Rattle.std.proofs.Common.{◌≡◌, ◌++◌, ℕ, List, [], ◌∷◌, ◌∙◌, map, ap, sym, subst}
 use Rattle.std.specs.Prelude.{Some, Result, Ok, Err, OnOk}
 use Rattle.dns_text.specs.Document.{Piece}
 use Rattle.dns_text.specs.Document.Piece.{Token as printed}
 use Rattle.dns_text.specs.Documents.{block_of}
 use Rattle.dns_text.specs.Writing.{Adds}
-use Rattle.dns_fields.specs.Fields.{Field, octets, number16, number32, string, rest16}
-use Rattle.dns_fields.specs.Shown.{field_pieces}
+use Rattle.dns_fields.specs.Fields.{Field}
 use Rattle.dns_fields.proofs.FieldKinds.{of_number16, of_number32, of_string, of_rest16}
-use Rattle.dns_fields_more.specs.Forms.{AreFieldsOf, IsFieldOf, forms_of}
+use Rattle.dns_fields_more.specs.Forms.{AreFieldsOf, IsFieldOf}
 use Rattle.dns_fields_more.specs.Text.{PrintsForm, PrintsForms, ShowsFurther}
 use Rattle.dns_service_parameters.specs.ServiceText.{parameter_text}
 use Rattle.dns_field_texts.specs.LocationText.{location_words}

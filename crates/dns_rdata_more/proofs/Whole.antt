@@ -1,11 +1,11 @@
 -- Data as a whole.
-use Rattle.std.proofs.Common.{◌≡◌, ◌≤◌, ◌++◌, ℕ, List, [], ◌∷◌, ◌∙◌, length, drop, ap, sym, refl, subst, arith}
+use Rattle.std.proofs.Common.{◌≡◌, ◌≤◌, ◌++◌, ℕ, List, [], ◌∷◌, ◌∙◌, length, drop, ap, sym, subst, arith}
 use Rattle.std.specs.Prelude.{Some}
 use Rattle.dns_fields.specs.Fields.{Field, octets}
 use Rattle.dns_octets.specs.declared.parser.Parser.{Parser}
 use Rattle.dns_octets.specs.Parser.{octets_of, place_of, rest_of}
 use Rattle.dns_scan.specs.Token.{Token}
-use Rattle.dns_fields_more.specs.Forms.{AreFieldsOf, IsFurtherData, IsFurtherRow, forms_of}
+use Rattle.dns_fields_more.specs.Forms.{AreFieldsOf, IsFurtherData, forms_of}
 use Rattle.dns_fields_more.specs.Rows.{StandAs}
 use Rattle.dns_fields_more.specs.Text.{AppendsFurther, ScansForms}
 use Rattle.dns_fields_more.specs.declared.form.Form.{Form}

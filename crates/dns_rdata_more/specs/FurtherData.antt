@@ -2,11 +2,12 @@
 use Rattle.std.specs.Prelude.{◌≡◌, ℕ, List, [], ◌∷◌, take, drop, slice_get, slice_index, Option, Some, option_map, option_and_then, unwrap_or}
 use Rattle.std.specs.Int.{from_be_bytes, w16, w32}
 use Rattle.dns_label.specs.Labels.{labels_at}
-use Rattle.dns_fields.specs.Fields.{Kind, Field, field_at, octets, number8, number16, number32, uncompressed, string, rest_text, rest16, rest64}
+use Rattle.dns_fields.specs.Fields.{Kind, Field, field_at, field_octets, octets, number8, number16, number32, uncompressed, string, rest_text, rest16, rest64}
 use Rattle.dns_fields.specs.Fields as kinds
 use Rattle.dns_fields.specs.OctetsForm.{len_in}
 use Rattle.dns_fields_more.specs.Forms.{IsFurtherData, IsFurtherRow, AreFieldsOf, forms_of, kind_of_form, lowered_row}
 use Rattle.dns_fields_more.specs.declared.form.Form.{Form}
+use Rattle.dns_fields_more.specs.declared.form.Form.TheVariants.{Salt, Hash}
 
 -- the octets from the place on are data of the type
 pub record IsFurtherAt (rtype : ℕ) (message : List ℕ) (place : ℕ) (data' : List ℕ) : Type 0 where
@@ -58,6 +59,26 @@ forms_or_none rtype = unwrap_or (forms_of rtype) []
 -- the row of data of the type
 unfoldable pub row_read : ℕ → List ℕ → List Field
 row_read rtype data' = fields_read (forms_or_none rtype) data'
+
+-- The field of the form as it compares: a salt and a hash are binary, so that they are their octets as they are, behind the length.
+abbrev pub compared : Form → Field → Field
+compared Salt field = rest16 (field_octets field)
+compared Hash field = rest16 (field_octets field)
+compared form field = field
+
+-- the fields of the forms as they compare
+abbrev pub compared_fields : List Form → List Field → List Field
+compared_fields [] row = row
+compared_fields (form ∷ forms) [] = []
+compared_fields (form ∷ forms) (field ∷ row) = compared form field ∷ compared_fields forms row
+
+-- the fields of the forms that these octets are, as they compare
+abbrev pub compared_read : List Form → List ℕ → List Field
+compared_read forms octets = compared_fields forms (fields_read forms octets)
+
+-- the row of data of the type, as it compares
+unfoldable pub compared_row : ℕ → List ℕ → List Field
+compared_row rtype data' = compared_read (forms_or_none rtype) data'
 
 -- the octets of fields of the forms in canonical form
 abbrev pub lowered_octets : List Form → List ℕ → List ℕ

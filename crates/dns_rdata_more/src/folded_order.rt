@@ -1,16 +1,17 @@
-//! How further data compares and hashes: field by field, names and strings up to ASCII case.
+//! How further data compares and hashes: field by field, names and character strings up to ASCII case, salts and hashes octet for
+//! octet.
 ghost use Rattle.std.specs.Prelude.{◌≡◌, fold};
 ghost use Rattle.std.specs.Cmp.Lexicographic.{slice_cmp};
 ghost use Rattle.std.specs.Ordering.{nat_cmp};
 ghost use Rattle.dns_octets.specs.Parser.{rest_of};
 ghost use Rattle.dns_fields.specs.Alike.{folded, keys, rows_cmp};
 ghost use Rattle.dns_fields.specs.Fields.{field_octets};
-ghost use Rattle.dns_fields_more.specs.Forms.{IsFurtherData, kind_of_form};
+ghost use Rattle.dns_fields_more.specs.Forms.{IsFurtherData};
 ghost use Rattle.dns_fields_more.specs.Rows.{EndWell, StandAs};
 ghost use Rattle.dns_fields_more.specs.Values.{field_of};
 ghost use Rattle.dns_fields_more.specs.declared.form.Form.{Form};
 ghost use Rattle.dns_rdata_more.specs.Folded.{folded_octets, folded_string};
-ghost use Rattle.dns_rdata_more.specs.FurtherData.{fields_read, row_read};
+ghost use Rattle.dns_rdata_more.specs.FurtherData.{compared, compared_read, compared_row};
 
 use crate::canonical_order::cmp_lower;
 use dns_fields::FieldValue;
@@ -23,7 +24,7 @@ use std::hash::Hasher;
 pub(crate) fn further_cmp(rtype: Rtype, octets: &[u8], others: &[u8]) -> Ordering
     requires these { IsFurtherData rtype octets.now }
     requires those { IsFurtherData rtype others.now }
-    ensures { result ≡ rows_cmp (row_read rtype octets.now) (row_read rtype others.now) }
+    ensures { result ≡ rows_cmp (compared_row rtype octets.now) (compared_row rtype others.now) }
 {
     let Some(forms) = forms_of(rtype) else {
         unreachable!();
@@ -37,7 +38,7 @@ fn fields_cmp(forms: &[Form], octets: &[u8], others: &[u8]) -> Ordering
     requires well { EndWell forms.now }
     requires these { StandAs forms.now octets.now }
     requires those { StandAs forms.now others.now }
-    ensures { result ≡ rows_cmp (fields_read forms.now octets.now) (fields_read forms.now others.now) }
+    ensures { result ≡ rows_cmp (compared_read forms.now octets.now) (compared_read forms.now others.now) }
 {
     let Some((form, left)) = forms.split_first() else {
         return Ordering::Equal;
@@ -53,16 +54,16 @@ fn fields_cmp(forms: &[Form], octets: &[u8], others: &[u8]) -> Ordering
 
 /// Compares the octets of two fields of the form, in lower case where case doesn't count.
 fn field_cmp(form: Form, octets: &[u8], others: &[u8]) -> Ordering
-    ensures { result ≡ slice_cmp nat_cmp (folded_octets (kind_of_form form) octets.now) (folded_octets (kind_of_form form) others.now) }
+    ensures { result ≡ slice_cmp nat_cmp (folded_octets form octets.now) (folded_octets form others.now) }
 {
     match form {
         Form::Name | Form::CasedName => cmp_lower(octets, others),
-        Form::String | Form::Salt | Form::Hash => cmp_strings(octets, others),
+        Form::String => cmp_strings(octets, others),
         _ => octets.cmp(others),
     }
 }
 
-/// Compares two strings, each after its length: the shorter comes first, and strings of one length compare up to ASCII case.
+/// Compares two character strings, each after its length: the shorter comes first, and strings of one length compare up to ASCII case.
 fn cmp_strings(octets: &[u8], others: &[u8]) -> Ordering
     ensures { result ≡ slice_cmp nat_cmp (folded_string octets.now) (folded_string others.now) }
 {
@@ -80,7 +81,7 @@ fn cmp_strings(octets: &[u8], others: &[u8]) -> Ordering
 /// Hashes data of the further type.
 pub(crate) fn hash_further<H: Hasher>(rtype: Rtype, octets: &[u8], state: &mut H)
     requires { IsFurtherData rtype octets.now }
-    ensures { state.new ≡ fold H.write state.old (keys (row_read rtype octets.now)) }
+    ensures { state.new ≡ fold H.write state.old (keys (compared_row rtype octets.now)) }
 {
     let Some(forms) = forms_of(rtype) else {
         unreachable!();
@@ -92,21 +93,35 @@ pub(crate) fn hash_further<H: Hasher>(rtype: Rtype, octets: &[u8], state: &mut H
 fn hash_fields<H: Hasher>(forms: &[Form], mut parser: Parser<'_>, state: &mut H)
     requires well { EndWell forms.now }
     requires row { StandAs forms.now (rest_of parser) }
-    ensures { state.new ≡ fold H.write state.old (keys (fields_read forms.now (rest_of parser.entry))) }
+    ensures { state.new ≡ fold H.write state.old (keys (compared_read forms.now (rest_of parser.entry))) }
 {
     let Some((form, others)) = forms.split_first() else {
         return;
     };
+    let octets = parser.peek_all();
     match Value::parse(*form, &mut parser) {
         Ok(value) => {
-            hash_value(&value, state);
+            let first = &octets[..octets.len().saturating_sub(parser.remaining())];
+            hash_field(*form, first, &value, state);
             hash_fields(others, parser, state);
         }
         Err(_) => unreachable!(),
     }
 }
 
-/// Hashes a field, in lower case where case doesn't count.
+/// Hashes a field of the form, which has these octets: a salt or hash as it is, any other field in lower case where case doesn't
+/// count.
+fn hash_field<H: Hasher>(form: Form, octets: &[u8], value: &Value<'_>, state: &mut H)
+    requires { octets.now ≡ field_octets (field_of form value.now) }
+    ensures { state.new ≡ H.write state.old (field_octets (folded (compared form (field_of form value.now)))) }
+{
+    match form {
+        Form::Salt | Form::Hash => state.write(octets),
+        _ => hash_value(value, state),
+    }
+}
+
+/// Hashes a field that is no salt or hash, in lower case where case doesn't count.
 fn hash_value<H: Hasher>(value: &Value<'_>, state: &mut H)
     ensures { (form : Form) → state.new ≡ H.write state.old (field_octets (folded (field_of form value.now))) }
 {

@@ -5,7 +5,7 @@ ghost use Rattle.std.specs.Cmp.Lexicographic.{slice_cmp};
 ghost use Rattle.std.specs.Ordering.{as_partial_cmp, nat_cmp, on};
 ghost use Rattle.dns_fields.specs.Alike.{keys, rows_eq, rows_cmp};
 ghost use Rattle.dns_fields.specs.AlikeLaws.{rows_alike, rows_equivalent, rows_order, rows_partly_equivalent, rows_ties, rows_total};
-ghost use Rattle.dns_rdata_more.specs.FurtherData.{canonical_of, row_read};
+ghost use Rattle.dns_rdata_more.specs.FurtherData.{canonical_of, compared_row};
 
 use super::FurtherData;
 use crate::canonical_order::canonical_further_cmp;
@@ -15,11 +15,12 @@ use dns_rr_data::DataType;
 use std::cmp::Ordering;
 use std::hash::{Hash, Hasher};
 
-/// Field by field, names and strings up to ASCII case, as data of zonewire's own types compares.
+/// Field by field, names and character strings up to ASCII case, as data of zonewire's own types compares; salts and hashes octet
+/// for octet.
 impl<T: DataType, Octs: Octets> PartialEq for FurtherData<T, Octs> {
-    ghost eq = { on (row_read T.number) rows_eq };
+    ghost eq = { on (compared_row T.number) rows_eq };
 
-    ghost laws = { on_per (row_read T.number) rows_partly_equivalent };
+    ghost laws = { on_per (compared_row T.number) rows_partly_equivalent };
 
     #[tactic(auto, using(dns_fields::specs::AlikeLaws::rows_ties))]
     fn eq(&self, other: &Self) -> bool {
@@ -28,18 +29,19 @@ impl<T: DataType, Octs: Octets> PartialEq for FurtherData<T, Octs> {
 }
 
 impl<T: DataType, Octs: Octets> Eq for FurtherData<T, Octs> {
-    ghost laws = { on_equiv (row_read T.number) rows_equivalent };
+    ghost laws = { on_equiv (compared_row T.number) rows_equivalent };
 }
 
-/// Field by field, names and strings in lower case, and a shorter string first.
+/// Field by field, names and character strings in lower case, salts and hashes as they are, and a shorter one of these before a
+/// longer one.
 impl<T: DataType, Octs: Octets> Ord for FurtherData<T, Octs> {
-    ghost cmp = { on (row_read T.number) rows_cmp };
+    ghost cmp = { on (compared_row T.number) rows_cmp };
 
-    ghost total = { on_total (row_read T.number) rows_total };
+    ghost total = { on_total (compared_row T.number) rows_total };
 
     ghost matches_partial_cmp = { λ _ _. refl };
 
-    ghost matches_eq = { λ rdata other. rows_ties (row_read T.number rdata) (row_read T.number other) };
+    ghost matches_eq = { λ rdata other. rows_ties (compared_row T.number rdata) (compared_row T.number other) };
 
     fn cmp(&self, other: &Self) -> Ordering {
         let rtype = Rtype::from_int(T::number());
@@ -48,9 +50,9 @@ impl<T: DataType, Octs: Octets> Ord for FurtherData<T, Octs> {
 }
 
 impl<T: DataType, Octs: Octets> PartialOrd for FurtherData<T, Octs> {
-    ghost partial_cmp = { as_partial_cmp (on (row_read T.number) rows_cmp) };
+    ghost partial_cmp = { as_partial_cmp (on (compared_row T.number) rows_cmp) };
 
-    ghost laws = { on_po (row_read T.number) rows_order };
+    ghost laws = { on_po (compared_row T.number) rows_order };
 
     fn partial_cmp(&self, other: &Self) -> Option<Ordering> {
         Some(self.cmp(other))
@@ -67,11 +69,11 @@ impl<T: DataType, Octs: Octets> CanonicalOrd for FurtherData<T, Octs> {
     }
 }
 
-/// Names and strings are hashed in lower case, so that equal data has equal hashes.
+/// Names and character strings are hashed in lower case, so that equal data has equal hashes; salts and hashes as they are.
 impl<T: DataType, Octs: Octets> Hash for FurtherData<T, Octs> {
-    ghost hash_input = { λ rdata. keys (row_read T.number rdata) };
+    ghost hash_input = { λ rdata. keys (compared_row T.number rdata) };
 
-    ghost respects_eq = { λ rdata other. rows_alike (row_read T.number rdata) (row_read T.number other) };
+    ghost respects_eq = { λ rdata other. rows_alike (compared_row T.number rdata) (compared_row T.number other) };
 
     fn hash<H: Hasher>(&self, state: &mut H) {
         hash_further(Rtype::from_int(T::number()), self.octets.octets(), state);

@@ -1,4 +1,4 @@
-use Rattle.std.proofs.Common.{◌≡◌, ◌∷◌, refl, rules, ◌∙◌, Err}
+use Rattle.std.proofs.Common.{◌≡◌, ◌∷◌, refl, rules, Err}
 use Rattle.std.proofs.lemmas.Result.{err_from_is_err_and}
 use Rattle.dns_octets.proofs.Grows.{GrowsTo-same}
 use Rattle.dns_octets.specs.declared.error.AppendError.TheVariants.{ShortBuf}

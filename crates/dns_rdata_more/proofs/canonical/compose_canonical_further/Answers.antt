@@ -1,9 +1,9 @@
-use Rattle.std.proofs.Common.{◌≡◌, ℕ, length, ap, sym, ◌∙◌, ◌++◌, subst, List}
+use Rattle.std.proofs.Common.{◌≡◌, ℕ, length, ap, sym, ◌∙◌, ◌++◌, subst}
 use Rattle.dns_octets.specs.Builder.{IsPast}
 use Rattle.dns_name.proofs.Soundness.{merely-within}
 use Rattle.dns_name.proofs.Growth.{known_back}
 use Rattle.dns_octets.specs.Parser.{rest_of}
-use Rattle.dns_rdata_more.specs.FurtherData.{canonical_of, lowered_octets}
+use Rattle.dns_rdata_more.specs.FurtherData.{lowered_octets}
 use Rattle.dns_rdata_more.proofs.Composed.{canonical_forms}
 use Rattle.dns_rdata_more.proofs.Whole.{at_start}
 use Rattle.dns_rdata_more.proofs.canonical.compose_canonical_further.Goals as goal

@@ -16,18 +16,18 @@ returns-in-Less t c =
     let is : c.args.forms.now ≡ c.in-Some.form.now ∷ c.in-Some.left.now = (let cases = c.in-Some.ensures.cases in cc) in
     let one = cut_off {first = c.split_at.result.0.now} {after = c.split_at.result.1.now} is c.requires.well c.requires.these c.field_len.ensures.len (search rules) (search rules) in
     let two = cut_off {first = c.split_at-2.result.0.now} {after = c.split_at-2.result.1.now} is c.requires.well c.requires.those c.field_len-2.ensures.len (search rules) (search rules) in
-    sym (decided _ (alike_compared one two c.field_cmp.ensures) c.in-Less.is)
+    sym (decided _ (alike_compared is one two c.field_cmp.ensures) c.in-Less.is)
 
 pub returns-in-Greater : goal.returns-in-Greater
 returns-in-Greater t c =
     let is : c.args.forms.now ≡ c.in-Some.form.now ∷ c.in-Some.left.now = (let cases = c.in-Some.ensures.cases in cc) in
     let one = cut_off {first = c.split_at.result.0.now} {after = c.split_at.result.1.now} is c.requires.well c.requires.these c.field_len.ensures.len (search rules) (search rules) in
     let two = cut_off {first = c.split_at-2.result.0.now} {after = c.split_at-2.result.1.now} is c.requires.well c.requires.those c.field_len-2.ensures.len (search rules) (search rules) in
-    sym (decided _ (alike_compared one two c.field_cmp.ensures) c.in-Greater.is)
+    sym (decided _ (alike_compared is one two c.field_cmp.ensures) c.in-Greater.is)
 
 pub returns-in-Equal : goal.returns-in-Equal
 returns-in-Equal t c =
     let is : c.args.forms.now ≡ c.in-Some.form.now ∷ c.in-Some.left.now = (let cases = c.in-Some.ensures.cases in cc) in
     let one = cut_off {first = c.split_at.result.0.now} {after = c.split_at.result.1.now} is c.requires.well c.requires.these c.field_len.ensures.len (search rules) (search rules) in
     let two = cut_off {first = c.split_at-2.result.0.now} {after = c.split_at-2.result.1.now} is c.requires.well c.requires.those c.field_len-2.ensures.len (search rules) (search rules) in
-    c.fields_cmp.ensures ∙ sym (decided _ (alike_compared one two c.field_cmp.ensures) c.in-Equal.is)
+    c.fields_cmp.ensures ∙ sym (decided _ (alike_compared is one two c.field_cmp.ensures) c.in-Equal.is)

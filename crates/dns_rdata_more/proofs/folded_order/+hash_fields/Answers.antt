@@ -11,4 +11,4 @@ hash_fields-requires g t c = λ κs at.
 pub returns : goal.returns
 returns g t c =
     let is : c.args.forms.now ≡ c.in-Some.form.now ∷ c.in-Some.others.now = (let cases = c.in-Some.ensures.cases in cc) in
-    hashed_on g.H.Hasher.write is c.requires.well c.in-Ok.ensures.ok c.requires.row (c.hash_value.ensures c.in-Some.form.now) c.hash_fields.ensures
+    hashed_on g.H.Hasher.write is c.requires.well c.in-Ok.ensures.ok c.requires.row (c.hash_field.ensures) c.hash_fields.ensures
