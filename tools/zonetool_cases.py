@@ -187,7 +187,7 @@ WRITTEN = (
     f"s.z. 60 IN SVCB {general(SERVICE)}    ; s\nu.z. TYPE256 {general(bytes([0, 1, 0, 2]), b'x')}  \n"
     f"e.z. TYPE108 {general(bytes.fromhex('00005e00532a'))}\n"
 )
-PRINTED = 's.z. 60 IN SVCB 1 . alpn=h2,h3 port=53  ; s\nu.z. URI 1 2 "x"\ne.z. EUI48 00-00-5e-00-53-2a\n'
+PRINTED = 's.z. 60 IN SVCB 1 . alpn=h2,h3 port=53    ; s\nu.z. URI 1 2 "x"  \ne.z. EUI48 00-00-5e-00-53-2a  \n'
 SIGNATURE_TEXT = "z. 60 IN RRSIG A 5 2 86400 {} {} 2642 example.com. AAECAw==\n"
 FORMS = [
     Case("general", 0, NEXT.format(general(HOST, BITMAP), GAPS), given=NEXT.format(FIELDS, "")),
@@ -219,7 +219,7 @@ FORMS = [
          given=NEXT.format(general(HOST, BITMAP), "")),
     Case("present --layout multiline", 0, NEXT.format("( " + SHOWN + "   )", ""), given=NEXT.format("( " + general(HOST, BITMAP) + " )", "")),
     Case("present --layout tabbed", 0, PRINTED, given=WRITTEN.replace("    ; s", "  ; s").replace('  \n', '\n')),
-    Case("present", 0, SIGNATURE_TEXT.format("20030322173103", "20030220173103"), given="z. 60 IN RRSIG " + general(SIGNED) + "\n"),
+    Case("present", 0, SIGNATURE_TEXT.format("20030322173103", "20030220173103").replace("\n", "  \n"), given="z. 60 IN RRSIG " + general(SIGNED) + "\n"),
     Case("general", 0, "z. 60 IN RRSIG " + general(SIGNED) + " " * 8 + "\n", given=SIGNATURE_TEXT.format(*TIMES)),
     Case("present signed", 0, FILES["signed"]),
     Case("present raw", 0, FILES["raw"]),
