@@ -1,4 +1,5 @@
 pub mod TypeWords
+pub mod NumberedWords
 pub mod Calendar
 pub mod Moments
 mod TriedLocation

@@ -1,5 +1,6 @@
 pub mod Appended
 pub mod TypeWords
+pub mod NumberedWords
 pub mod Time
 pub mod HashWords
 pub mod Hardware

@@ -3,6 +3,7 @@ use Rattle.std.specs.Prelude.{◌≡◌, [], ◌∷◌, ◌++◌, codes, decimal
 use Rattle.dns_scan.specs.Bits.{bits}
 use Rattle.dns_values.specs.Mnemonic.{types, number_read, number_named, number_behind, number_spelled, text_of, text_written}
 use Rattle.dns_field_texts.specs.TypeWords.{more_types, type_word_read, type_word_written}
+use Rattle.dns_field_texts.specs.NumberedWords.{algorithms, algorithm_read, certificate_types, certificate_type_read}
 use Rattle.dns_field_texts.specs.Time.{days_of_years, days_of_months, day_number, seconds_before, moment_of, moment_read, time_read, greatest, year_after, month_after, moment_after, date_written, clock_written, moment_written, time_written}
 use Rattle.dns_field_texts.specs.Hardware.{hardware_written}
 use Rattle.dns_field_texts.specs.HashWords.{salt_written, hash_written}
@@ -28,6 +29,27 @@ csync = refl
 pub unnamed : type_word_written 1234 ≡ codes "TYPE" ++ decimal 1234
 unfolding type_word_written more_types types text_of text_written
 unnamed = refl
+
+-- algorithms and types of certificates, by mnemonics in any case and by numbers
+pub sha256 : algorithm_read (codes "RsaSha256") ≡ Some 8
+unfolding algorithm_read algorithms number_named number_spelled
+sha256 = refl
+
+pub curve : algorithm_read (codes "15") ≡ Some 15
+unfolding algorithm_read algorithms number_named number_spelled
+curve = refl
+
+pub unknown : algorithm_read (codes "256") ≡ None
+unfolding algorithm_read algorithms number_named number_spelled
+unknown = refl
+
+pub pgp : certificate_type_read (codes "PGP") ≡ Some 3
+unfolding certificate_type_read certificate_types number_named number_spelled
+pgp = refl
+
+pub private : certificate_type_read (codes "65280") ≡ Some 65280
+unfolding certificate_type_read certificate_types number_named number_spelled
+private = refl
 
 -- the times of RFC 4034, section 3.3, and of RFC 5702, section 6.1
 pub expiration : time_read (codes "20030322173103") ≡ Some 1048354263

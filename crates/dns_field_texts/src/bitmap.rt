@@ -4,18 +4,18 @@ ghost use Rattle.dns_field_texts.specs.Appended.{GoesOn, Appends};
 ghost use Rattle.dns_field_texts.specs.TypeBitmap.{IsBitmapOf};
 
 mod iter;
+mod rtype_bitmap;
 mod scan;
 mod show;
-mod type_bitmap;
 mod type_set;
 mod windows;
 
 use dns_name::Rtype;
-pub use iter::TypeBitmapIter;
+pub use iter::RtypeBitmapIter;
+pub use rtype_bitmap::{RtypeBitmap, RtypeBitmapError};
 pub use scan::scan_types_into;
 pub use show::show_types;
 use std::alloc::AllocError;
-pub use type_bitmap::{TypeBitmap, TypeBitmapError};
 use type_set::TypeSet;
 pub use windows::is_type_bitmap;
 

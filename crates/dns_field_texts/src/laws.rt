@@ -1,6 +1,6 @@
 //! Laws of the fields. Each function does nothing; what it ensures is the law.
 ghost use Rattle.std.specs.List.{Contains};
-ghost use Rattle.std.specs.Prelude.{◌≡◌, ◌≤◌, ◌↔◌, List, ℕ, [], Some, length, map};
+ghost use Rattle.std.specs.Prelude.{◌≡◌, ◌≤◌, ◌↔◌, List, ℕ, [], Some, decimal, length, map};
 ghost use Rattle.dns_label.specs.Octets.{AreOctets};
 ghost use Rattle.dns_scan.specs.Token.{Token, unquoted};
 ghost use Rattle.dns_field_texts.specs.Hardware.{IsHardwareText, hardware_written};
@@ -8,6 +8,7 @@ ghost use Rattle.dns_field_texts.specs.HashWords.{IsCountable, IsSaltWord, IsHas
 ghost use Rattle.dns_field_texts.specs.Location as place;
 ghost use Rattle.dns_field_texts.specs.Location.{IsLocation};
 ghost use Rattle.dns_field_texts.specs.LocationText.{ScansLocation, location_words};
+ghost use Rattle.dns_field_texts.specs.NumberedWords.{algorithm_read, certificate_type_read};
 ghost use Rattle.dns_field_texts.specs.Time.{time_read, time_written};
 ghost use Rattle.dns_field_texts.specs.TypeBitmap.{IsTypeBitmap, ScansTypes, printed_types, types_in};
 ghost use Rattle.dns_field_texts.specs.TypeWords.{type_word_read, type_word_written};
@@ -16,6 +17,18 @@ ghost use Rattle.dns_field_texts.specs.TypeWords.{type_word_read, type_word_writ
 #[tactic(auto, using(crate::proofs::TypeWords::type_word_reads_back))]
 pub fn type_word_reads_back(number: u16)
     ensures { type_word_read (type_word_written number) ≡ Some number }
+{}
+
+/// The digits of an algorithm read back as the algorithm.
+#[tactic(auto, using(crate::proofs::NumberedWords::algorithm_reads_back))]
+pub fn algorithm_reads_back(algorithm: u8)
+    ensures { algorithm_read (decimal algorithm) ≡ Some algorithm }
+{}
+
+/// The digits of a type of certificate read back as the type.
+#[tactic(auto, using(crate::proofs::NumberedWords::certificate_type_reads_back))]
+pub fn certificate_type_reads_back(number: u16)
+    ensures { certificate_type_read (decimal number) ≡ Some number }
 {}
 
 /// A time that is written reads back as itself.

@@ -1,27 +1,30 @@
-//! The texts of fields of further types: words for types, times, bitmaps of types, salts and hashes, hardware addresses, and
-//! locations (RFC 4034, 5155, 7043, 1876).
+//! The texts of fields of further types: words for types, for algorithms and for types of certificates, times, bitmaps of types,
+//! salts and hashes, hardware addresses, and locations (RFC 4034, 4398, 5155, 7043, 1876).
 //!
 //! A part of `dns_rdata_more`.
 #![tactic(auto)]
 
 mod append;
 mod bitmap;
+mod digits;
 mod hardware;
 mod hash_words;
 pub mod laws;
 mod location;
+mod numbered_words;
 mod text;
 mod time;
 mod type_words;
 
 pub use append::{WordError, append_octets};
 pub use bitmap::{
-    TypeBitmap, TypeBitmapError, TypeBitmapIter, append_types, is_type_bitmap, scan_types_into,
+    RtypeBitmap, RtypeBitmapError, RtypeBitmapIter, append_types, is_type_bitmap, scan_types_into,
     show_types,
 };
 pub use hardware::{DisplayHardware, append_hardware};
 pub use hash_words::{DisplaySalt, append_hash, append_salt};
 pub use location::{is_location, scan_location_into, show_location};
+pub use numbered_words::{read_algorithm, read_certificate_type};
 pub use text::split_first;
 pub use time::{DisplayTime, read_time};
 pub use type_words::{DisplayType, read_type};

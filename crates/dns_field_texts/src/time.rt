@@ -8,7 +8,8 @@ ghost use Rattle.dns_values.specs.Mnemonic.{number_spelled};
 ghost use Rattle.dns_field_texts.specs.Time as of_time;
 ghost use Rattle.dns_field_texts.specs.Time.{is_moment, days_of_years, days_of_months, seconds_before, time_read, time_written};
 
-use std::{fmt, str};
+use crate::digits::{are_digits, as_digits};
+use std::fmt;
 
 /// How many times there are: 2^32.
 const TIMES: u64 = 4_294_967_296;
@@ -90,19 +91,7 @@ pub fn read_time(text: &[u8]) -> Option<u32>
 fn read_seconds(text: &[u8]) -> Option<u32>
     ensures { result ≡ number_spelled (2 ^ 32) text.now }
 {
-    if !are_digits(text) {
-        return None;
-    }
-    // Digits are ASCII.
-    let text = unsafe { str::from_utf8_unchecked(text) };
-    text.parse().ok()
-}
-
-/// Returns whether all octets are decimal digits.
-fn are_digits(octets: &[u8]) -> bool
-    ensures { result ≡ list_all is_ascii_digit octets.now }
-{
-    octets.iter().all(u8::is_ascii_digit)
+    as_digits(text)?.parse().ok()
 }
 
 /// Returns the time of a moment that is written as YYYYMMDDHHmmSS.

@@ -10,7 +10,7 @@ use std::fmt;
 use std::marker::Model;
 
 /// A number and its mnemonic.
-type Mnemonic = (u16, &'static str);
+pub(crate) type Mnemonic = (u16, &'static str);
 
 /// Returns the type that a word stands for: its mnemonic, or `TYPE` and the number in digits, both up to ASCII case.
 #[tactic(auto, unfolding(crate::specs::TypeWords::type_word_read))]
@@ -30,7 +30,7 @@ fn more_type(word: &[u8]) -> Option<Rtype>
 
 /// Returns the number whose mnemonic is the word, up to ASCII case.
 #[tactic(auto, using(dns_values::proofs::Words::named_rules))]
-fn number_named(table: &[Mnemonic], word: &[u8]) -> Option<u16>
+pub(crate) fn number_named(table: &[Mnemonic], word: &[u8]) -> Option<u16>
     ensures { result ≡ number_named (rows_of table.now) word.now }
 {
     for row in table {

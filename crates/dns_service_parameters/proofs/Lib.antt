@@ -18,3 +18,5 @@ mod ServiceListed
 mod ServiceStrings
 mod ServiceScans
 mod ServiceInOrder
+mod ServiceTexts
+pub mod ServicePrintedBack

@@ -9,7 +9,7 @@ use Rattle.dns_service_parameters.specs.declared.scan.Written.{Written}
 use Rattle.dns_service_parameters.specs.Service.{AreParameters, HoldsParameters, IsParameter, Parameter, keys_of, octets_of, parameter_octets, value_octets}
 use Rattle.dns_service_parameters.specs.ServiceParts.{StartsWithPart}
 use Rattle.dns_service_parameters.specs.ServiceRead.{AreWritten, IsWritten, NoParameter, NoParameters, TakesParameter, written_octets}
-use Rattle.dns_service_parameters.specs.ServiceText.{AppendsParameters, ScanInOrder, ScansParameter, ScansParameters, TakesWord}
+use Rattle.dns_service_parameters.specs.ServiceText.{AppendsParameters, ScanInOrder, ScansParameter, ScansParameters, TakesQuoted, TakesWord}
 use Rattle.dns_service_parameters.proofs.ServiceMade.{parameter_back, parameter_of, parameter_same}
 use Rattle.dns_service_parameters.proofs.ServiceOne.{IsShaped, scans_one}
 use Rattle.dns_service_parameters.proofs.ServiceOrder.{Rises, each_permutation, parameters_one, rises_sorted}
@@ -28,8 +28,12 @@ scans_some parameter scans = word_some scans.word scans.text scans.takes
 word_less : {tokens left : List Token} (word text : List ℕ) → TakesWord word text tokens left → length left < length tokens
 word_less word text (inl is) = let size = ap (length {A = Token}) is.0.is in omega (arith, size)
 word_less word text (inr (inl is)) = let size = ap (length {A = Token}) is.2.is in omega (arith, size)
-word_less word text (inr (inr is)) =
-    let size = ap (length {A = Token}) is.1.is in let more = ap (length {A = Token}) is.2.is in omega (arith, size, more)
+word_less {left = left} word text (inr (inr is)) =
+    let size = ap (length {A = Token}) is.1.is in let more = not_more is.2 in omega (arith, size, more)
+  where
+    not_more : {tokens : List Token} → TakesQuoted text tokens left → length left ≤ length tokens
+    not_more (inl takes) = let size = ap (length {A = Token}) takes.is in omega (arith, size)
+    not_more (inr none) = let size = ap (length {A = Token}) none.2 in omega (arith, size)
 
 pub scans_less : {tokens left : List Token} {written : Written} → TakesParameter tokens left written → length left < length tokens
 scans_less takes = word_less takes.scans.word takes.scans.text takes.scans.takes

@@ -1,5 +1,5 @@
 -- A word names one key.
-use Rattle.std.proofs.Common.{◌≡◌, ◌≢◌, ◌<◌, ◌^◌, ◌==◌, ◌&&◌, not, cond, ℕ, Bool, true, false, List, [], ◌∷◌, decimal, refl, sym, ◌∙◌, ap, subst, arith, inl, inr}
+use Rattle.std.proofs.Common.{◌≡◌, ◌≢◌, ◌<◌, ◌^◌, ◌==◌, ◌&&◌, not, cond, ℕ, Bool, true, false, List, [], ◌∷◌, length, decimal, refl, sym, ◌∙◌, ap, subst, arith, inl, inr}
 use Rattle.std.proofs.lemmas.Bool.Decides.{nat_tests}
 use Rattle.std.proofs.lemmas.Fmt.{digits_decimal}
 use Rattle.std.proofs.lemmas.Bool.{and_parts}
@@ -50,6 +50,13 @@ own_keys = (refl, (refl, (refl, (refl, (refl, (refl, (refl, (refl, (refl, tt))))
 pub name_one : (key other : ℕ) (word : List ℕ) → name_of key ≡ Some word → name_of other ≡ Some word → key ≡ other
 name_one key other word is also =
     sym (named (λ w k. key_at w ≡ k) own_keys key word is) ∙ named (λ w k. key_at w ≡ k) own_keys other word also
+
+-- a name has a letter
+some_names : AllByRecursion (λ (row : ℕ × List ℕ × Form). 0 < length row.1) table
+some_names = (omega arith, (omega arith, (omega arith, (omega arith, (omega arith, (omega arith, (omega arith, (omega arith, (omega arith, tt)))))))))
+
+pub name_some : (key : ℕ) (word : List ℕ) → name_of key ≡ Some word → 0 < length word
+name_some key word is = named (λ w k. 0 < length w) some_names key word is
 
 -- no name is the word of a number
 is_numbered : List ℕ → Bool

@@ -1,5 +1,5 @@
 -- Tokens begin with one parameter at most.
-use Rattle.std.proofs.Common.{◌≡◌, ◌≢◌, ◌<◌, ◌^◌, ℕ, List, [], length, refl, sym, ◌∙◌, ap, subst, arith, inl, inr, lit≤}
+use Rattle.std.proofs.Common.{◌≡◌, ◌≢◌, ◌<◌, ◌^◌, ℕ, true, List, [], length, refl, sym, ◌∙◌, ap, subst, arith, inl, inr, lit≤}
 use Rattle.std.proofs.lemmas.List.Sorted.{length_permutation}
 use Rattle.std.proofs.lemmas.List.{nil_from_length}
 use Rattle.std.proofs.NetLemmas.Ipv4.{read_ipv4_complete}
@@ -16,7 +16,7 @@ use Rattle.dns_scan.proofs.TextsBack.{spells_one}
 use Rattle.dns_field_texts.specs.Cut.{IsWithout}
 use Rattle.dns_field_texts.proofs.LocationNumerals.{front_one, without_it}
 use Rattle.dns_service_parameters.specs.Service.{IsValue, Parameter, Value, keys, strings, nothing, number, ipv4s, ipv6s, encoded, plain, form_at, form_of}
-use Rattle.dns_service_parameters.specs.ServiceText.{IsIpv6, ScansParameter, SpellsKey, SpellsParameter, SpellsValue, TakesWord}
+use Rattle.dns_service_parameters.specs.ServiceText.{IsBare, IsIpv6, IsQuoted, ScansParameter, SpellsKey, SpellsParameter, SpellsValue, TakesQuoted, TakesWord}
 use Rattle.dns_service_parameters.proofs.ServiceItems.{each_one, list_one}
 use Rattle.dns_service_parameters.proofs.ServiceMade.{parameter_same}
 use Rattle.dns_service_parameters.proofs.ServiceNames.{key_one, name_clear, name_number, name_one, number_clear, word_one}
@@ -84,18 +84,25 @@ pub record SameWord (word another text others : List ℕ) (left behind : List To
   pub texts : text ≡ others
   pub tokens : left ≡ behind
 
-pub text_of : {tokens left behind : List Token} {text others : List ℕ} → Takes (HasText text) tokens left → Takes (HasText others) tokens behind → (text ≡ others) × (left ≡ behind)
+pub text_of : {tokens left behind : List Token} {text others : List ℕ} → Takes (IsBare text) tokens left → Takes (IsBare others) tokens behind → (text ≡ others) × (left ≡ behind)
 text_of takes also =
     let whole = sym takes.is ∙ also.is in
     let token : takes.token ≡ also.token = cc in
-    (sym takes.fits ∙ ap (λ (t : Token). t.text) token ∙ also.fits, cc)
+    (ap (λ (t : Token). t.text) (sym takes.fits ∙ token ∙ also.fits), cc)
 
-octets_of_token : {tokens left behind : List Token} {text others : List ℕ} → Takes (SpellsOctets text) tokens left → Takes (SpellsOctets others) tokens behind
+-- a quoted token
+marked : {tokens left : List Token} {text : List ℕ} → Takes (IsQuoted text) tokens left → Takes (λ token. token.quoted ≡ true) tokens left
+marked takes = record { token = takes.token; is = takes.is; fits = takes.fits.0 }
+
+quoted_one : {tokens left behind : List Token} {text others : List ℕ} → TakesQuoted text tokens left → TakesQuoted others tokens behind
     → (text ≡ others) × (left ≡ behind)
-octets_of_token {text = text} {others = others} takes also =
+quoted_one {text = text} {others = others} (inl takes) (inl also) =
     let whole = sym takes.is ∙ also.is in
     let token : takes.token ≡ also.token = cc in
-    (spells_one also.token.text others text also.fits (subst (λ (t : Token). Spells t.text text) token takes.fits), cc)
+    (spells_one also.token.text others text also.fits.1 (subst (λ (t : Token). Spells t.text text) token takes.fits.1), cc)
+quoted_one {left = left} (inl takes) (inr also) = absurd (also.0 left (marked takes))
+quoted_one {behind = behind} (inr takes) (inl also) = absurd (takes.0 behind (marked also))
+quoted_one (inr takes) (inr also) = (takes.1 ∙ sym also.1, takes.2 ∙ sym also.2)
 
 pub takes_one : (word another text others : List ℕ) (tokens left behind : List Token) → IsWithout 61 word → IsWithout 61 another → TakesWord word text tokens left
     → TakesWord another others tokens behind → SameWord word another text others left behind
@@ -128,7 +135,7 @@ takes_one word another text others tokens left behind clear free (inr (inr is)) 
 takes_one word another text others tokens left behind clear free (inr (inr is)) (inr (inr also)) =
     let same = text_of is.1 also.1 in
     let cut = front_one 61 word another [] [] clear free same.0 in
-    let next = octets_of_token (subst (λ (l : List Token). Takes (SpellsOctets text) l left) same.1 is.2) also.2 in
+    let next = quoted_one (subst (λ (l : List Token). TakesQuoted text l left) same.1 is.2) also.2 in
     record { words = cut.0; texts = next.0; tokens = next.1 }
 
 -- one parameter

@@ -1,16 +1,16 @@
 -- Tokens that are read as the word of a key and the text of its value.
-use Rattle.std.proofs.Common.{◌≡◌, ◌≢◌, ◌<◌, ◌⊎◌, ℕ, Bool, true, false, List, [], ◌∷◌, ◌++◌, length, drop, sym, ◌∙◌, ap, subst, append-nil, arith, inl, inr}
+use Rattle.std.proofs.Common.{◌≡◌, ◌≢◌, ◌<◌, ◌⊎◌, ℕ, Bool, true, false, List, [], ◌∷◌, ◌++◌, length, drop, refl, sym, ◌∙◌, ap, subst, append-nil, arith, inl, inr}
 use Rattle.std.proofs.lemmas.Bool.{cases_Bool}
-use Rattle.std.specs.Prelude.{Option, None, Some, option_map, IfSome, IfNone}
+use Rattle.std.specs.Prelude.{◌↔◌, Option, None, Some, option_map, IfSome, IfNone}
 use Rattle.dns_scan.specs.StringText.{Spells}
-use Rattle.dns_scan.specs.Token.{Token, Takes, HasText, SpellsOctets}
+use Rattle.dns_scan.specs.Token.{Token, Takes, HasText, SpellsOctets, unquoted}
 use Rattle.dns_field_texts.specs.Cut.{IsWithout}
 use Rattle.dns_field_texts.proofs.LocationNumerals.{front_one, without_it}
 use Rattle.dns_service_parameters.specs.declared.keys.KeyWord.{KeyWord}
 use Rattle.dns_service_parameters.specs.declared.scan.Written.{Written}
 use Rattle.dns_service_parameters.specs.Service.{IsParameter, Parameter, Value, form_at, value_octets}
 use Rattle.dns_service_parameters.specs.ServiceRead.{IsKeyWord, NoParameter, ReadsNoValue, ReadsValue, TakesKey, TakesParameter, WritesValue}
-use Rattle.dns_service_parameters.specs.ServiceText.{ScansParameter, SpellsKey, SpellsParameter, SpellsValue, TakesWord}
+use Rattle.dns_service_parameters.specs.ServiceText.{IsBare, IsQuoted, ScansParameter, SpellsKey, SpellsParameter, SpellsValue, TakesQuoted, TakesWord}
 use Rattle.dns_service_parameters.proofs.ServiceListed.{small_key, spells_word}
 use Rattle.dns_service_parameters.proofs.ServiceNames.{name_clear, name_number, name_one, number_clear, word_one}
 use Rattle.dns_service_parameters.proofs.ServiceOne.{IsShaped, takes_one, text_of, word_clear}
@@ -21,22 +21,36 @@ assigned_text None = []
 assigned_text (Some written) = 61 ∷ written
 
 pub record IsSplit (tokens behind : List Token) (word : List ℕ) (written : Option (List ℕ)) : Type 0 where
-  pub takes : Takes (HasText (word ++ assigned_text written)) tokens behind
+  pub takes : Takes (IsBare (word ++ assigned_text written)) tokens behind
   pub clear : IsWithout 61 word
 
-pub split_is : {B : Type 0} {tokens : List Token} (now : B → List ℕ) (text word : List ℕ) (written : Option B) (takes : (left : List Token) × Takes (HasText text) tokens left)
+-- no quoted token is next if the test says so
+pub unmarked : {tokens : List Token} (tested : Bool) → tested ≡ false → (tested ≡ true) ↔ ((left : List Token) × Takes (λ token. token.quoted ≡ true) tokens left)
+    → (behind : List Token) → Takes (λ token. token.quoted ≡ true) tokens behind → ⊥
+unmarked tested is tests behind takes = let bad : false ≡ true = sym is ∙ tests.1 (behind, takes) in cc
+
+-- a token with a text that is not quoted
+pub bare_taken : {tokens left : List Token} {text : List ℕ} → ((behind : List Token) → Takes (λ token. token.quoted ≡ true) tokens behind → ⊥)
+    → Takes (HasText text) tokens left → Takes (IsBare text) tokens left
+bare_taken {tokens} {left} {text} none takes = record { token = takes.token; is = takes.is; fits = by takes.token.quoted refl }
+  where
+    by : (quoted : Bool) → takes.token.quoted ≡ quoted → takes.token ≡ unquoted text
+    by true is = absurd (none left (record { token = takes.token; is = takes.is; fits = is }))
+    by false is = let fits = takes.fits in λ i. record { quoted = is i; text = fits i }
+
+pub split_is : {B : Type 0} {tokens left : List Token} (now : B → List ℕ) (text word : List ℕ) (written : Option B) → Takes (IsBare text) tokens left
     → IsWithout 61 word → IfSome written (λ behind. text ≡ word ++ 61 ∷ now behind) → IfNone written (text ≡ word)
-    → IsSplit tokens takes.0 word (option_map now written)
-split_is {tokens = tokens} now text word None takes clear some none =
-    record { takes = subst (λ (l : List ℕ). Takes (HasText l) tokens takes.0) (none ∙ sym (append-nil word)) takes.1; clear = clear }
-split_is {tokens = tokens} now text word (Some written) takes clear some none =
-    record { takes = subst (λ (l : List ℕ). Takes (HasText l) tokens takes.0) some takes.1; clear = clear }
+    → IsSplit tokens left word (option_map now written)
+split_is {tokens = tokens} {left = left} now text word None takes clear some none =
+    record { takes = subst (λ (l : List ℕ). Takes (IsBare l) tokens left) (none ∙ sym (append-nil word)) takes; clear = clear }
+split_is {tokens = tokens} {left = left} now text word (Some written) takes clear some none =
+    record { takes = subst (λ (l : List ℕ). Takes (IsBare l) tokens left) some takes; clear = clear }
 
 -- what follows the word
 abbrev pub Follows : Option (List ℕ) → List ℕ → List Token → List Token → Type 0
 Follows None text behind left = (text ≡ []) × (left ≡ behind)
 Follows (Some written) text behind left =
-    ((0 < length written) × Spells written text × (left ≡ behind)) ⊎ ((written ≡ []) × Takes (SpellsOctets text) behind left)
+    ((0 < length written) × Spells written text × (left ≡ behind)) ⊎ ((written ≡ []) × TakesQuoted text behind left)
 
 pub follows : {tokens behind left : List Token} {word text : List ℕ} (another : List ℕ) (written : Option (List ℕ)) → IsSplit tokens behind another written
     → IsWithout 61 word → TakesWord word text tokens left → (word ≡ another) × Follows written text behind left
@@ -55,7 +69,7 @@ follows {word = word} {text = text} another (Some written) split clear (inr (inl
 follows {left = left} {word = word} {text = text} another (Some written) split clear (inr (inr is)) =
     let same = text_of is.1 split.takes in
     let cut = front_one 61 word another [] written clear split.clear same.0 in
-    (cut.0, inr (sym cut.1, subst (λ (l : List Token). Takes (SpellsOctets text) l left) same.1 is.2))
+    (cut.0, inr (sym cut.1, subst (λ (l : List Token). TakesQuoted text l left) same.1 is.2))
 
 -- a parameter at the front of such tokens
 pub shaped : (parameter : Parameter) → IsParameter parameter → IsShaped parameter
@@ -82,7 +96,7 @@ unknown_word {word = word} split none parameter left is scans =
     let found = begins parameter split (shaped parameter is) scans in none parameter.key (key_of word found.text parameter is found.spells)
 
 pub no_text : {tokens behind : List Token} {word written : List ℕ} → IsSplit tokens behind word (Some written) → written ≡ []
-    → ((text : List ℕ) (left : List Token) → Takes (SpellsOctets text) behind left → ⊥) → NoParameter tokens
+    → ((text : List ℕ) (left : List Token) → TakesQuoted text behind left → ⊥) → NoParameter tokens
 no_text {behind = behind} {written = written} split empty none parameter left is scans =
     let found = begins parameter split (shaped parameter is) scans in by found.text found.after
   where
@@ -104,40 +118,65 @@ pub none_taken : {Fits : Token → Type 0} {tokens left : List Token} → tokens
 none_taken none takes = let is : [] ≡ takes.token ∷ _ = sym none ∙ takes.is in cc
 
 -- the token that is next
-pub next_is : {tokens left next : List Token} {text : List ℕ} → Takes (HasText text) tokens left → next ≡ drop 1 tokens → next ≡ left
+pub next_is : {Fits : Token → Type 0} {tokens left next : List Token} → Takes Fits tokens left → next ≡ drop 1 tokens → next ≡ left
 next_is takes is = is ∙ ap (drop 1) takes.is
 
-pub text_taken : {tokens begin left : List Token} {written text : List ℕ} → Takes (HasText written) tokens left → Takes (SpellsOctets text) tokens begin → Spells written text
-text_taken {text = text} takes spells =
+-- the quoted token that is next
+pub quoted_taken : {tokens behind left : List Token} {written text : List ℕ} → Takes (λ token. token.quoted ≡ true) tokens behind
+    → Takes (HasText written) tokens left → Spells written text → TakesQuoted text tokens left
+quoted_taken {text = text} quoted takes spells =
+    let whole = sym takes.is ∙ quoted.is in
+    let token : takes.token ≡ quoted.token = cc in
+    inl (record {
+      token = takes.token;
+      is = takes.is;
+      fits = (ap (λ (t : Token). t.quoted) token ∙ quoted.fits, subst (λ (l : List ℕ). Spells l text) (sym takes.fits) spells);
+    })
+
+pub quoted_spells : {tokens behind left begin : List Token} {written text : List ℕ} → Takes (λ token. token.quoted ≡ true) tokens behind
+    → Takes (HasText written) tokens left → TakesQuoted text tokens begin → Spells written text
+quoted_spells {text = text} quoted takes (inl spells) =
     let whole = sym takes.is ∙ spells.is in
     let token : takes.token ≡ spells.token = cc in
-    subst (λ (l : List ℕ). Spells l text) (sym (ap (λ (t : Token). t.text) token) ∙ takes.fits) spells.fits
+    subst (λ (l : List ℕ). Spells l text) (sym (ap (λ (t : Token). t.text) token) ∙ takes.fits) spells.fits.1
+quoted_spells {behind = behind} quoted takes (inr none) = absurd (none.0 behind quoted)
 
-pub spells_taken : {tokens left : List Token} {written text : List ℕ} → Takes (HasText written) tokens left → Spells written text → Takes (SpellsOctets text) tokens left
-spells_taken {text = text} takes spells =
-    record { token = takes.token; is = takes.is; fits = subst (λ (l : List ℕ). Spells l text) (sym takes.fits) spells }
+-- a quoted token begins no parameter
+pub quoted_key : {tokens behind : List Token} → Takes (λ token. token.quoted ≡ true) tokens behind → NoParameter tokens
+quoted_key {tokens} quoted parameter left is scans = by scans.takes
+  where
+    bad : {text : List ℕ} {others : List Token} → Takes (IsBare text) tokens others → ⊥
+    bad bare =
+        let whole = sym quoted.is ∙ bare.is in
+        let token : quoted.token ≡ bare.token = cc in
+        let is : true ≡ false = sym quoted.fits ∙ ap (λ (t : Token). t.quoted) (token ∙ bare.fits) in cc
+
+    by : TakesWord scans.word scans.text tokens left → ⊥
+    by (inl takes) = bad takes.0
+    by (inr (inl takes)) = bad takes.2
+    by (inr (inr takes)) = bad takes.1
 
 -- the word of a key, and the text of its value
 pub key_alone : {tokens behind left : List Token} {word text : List ℕ} {key : KeyWord} → IsSplit tokens behind word None → IsKeyWord word key → text ≡ []
     → left ≡ behind → TakesKey tokens left key text
 key_alone {tokens = tokens} {behind = behind} {word = word} split is none same =
-    let takes = subst (λ (l : List ℕ). Takes (HasText l) tokens behind) (append-nil word) split.takes in
-    record { word = word; is = is; takes = inl (subst (λ (l : List Token). Takes (HasText word) tokens l) (sym same) takes, none) }
+    let takes = subst (λ (l : List ℕ). Takes (IsBare l) tokens behind) (append-nil word) split.takes in
+    record { word = word; is = is; takes = inl (subst (λ (l : List Token). Takes (IsBare word) tokens l) (sym same) takes, none) }
 
 pub key_assigned : {tokens behind left : List Token} {word text written : List ℕ} {key : KeyWord} → IsSplit tokens behind word (Some written) → IsKeyWord word key
     → 0 < length written → Spells written text → left ≡ behind → TakesKey tokens left key text
 key_assigned {tokens = tokens} {word = word} {written = written} split is some spells same = record {
   word = word;
   is = is;
-  takes = inr (inl (written, some, subst (λ (l : List Token). Takes (HasText (word ++ 61 ∷ written)) tokens l) (sym same) split.takes, spells));
+  takes = inr (inl (written, some, subst (λ (l : List Token). Takes (IsBare (word ++ 61 ∷ written)) tokens l) (sym same) split.takes, spells));
 }
 
 pub key_before : {tokens behind left : List Token} {word text written : List ℕ} {key : KeyWord} → IsSplit tokens behind word (Some written) → IsKeyWord word key
-    → written ≡ [] → Takes (SpellsOctets text) behind left → TakesKey tokens left key text
+    → written ≡ [] → TakesQuoted text behind left → TakesKey tokens left key text
 key_before {tokens = tokens} {behind = behind} {word = word} split is none spells = record {
   word = word;
   is = is;
-  takes = inr (inr (behind, subst (λ (l : List ℕ). Takes (HasText (word ++ 61 ∷ l)) tokens behind) none split.takes, spells));
+  takes = inr (inr (behind, subst (λ (l : List ℕ). Takes (IsBare (word ++ 61 ∷ l)) tokens behind) none split.takes, spells));
 }
 
 -- the value of a key

@@ -1,5 +1,5 @@
 -- Service parameters as text (RFC 9460 2.1).
-use Rattle.std.specs.Prelude.{◌≡◌, ◌<◌, ◌^◌, ◌==◌, ◌||◌, ◌⊎◌, ℕ, List, [], ◌∷◌, ◌++◌, length, map, codes, decimal, Some, unwrap_or, if◌then◌else◌}
+use Rattle.std.specs.Prelude.{◌≡◌, ◌<◌, ◌^◌, ◌==◌, ◌||◌, ◌⊎◌, ℕ, true, List, [], ◌∷◌, ◌++◌, length, map, codes, decimal, Some, unwrap_or, if◌then◌else◌}
 use Rattle.std.specs.List.{AllZip, flat_map, join_with_byte}
 use Rattle.std.specs.List.Sorted.{IsPermutation}
 use Rattle.std.specs.Net.Addr.{segments_of}
@@ -9,7 +9,7 @@ use Rattle.std.specs.Net.Text.{ipv4_text, hex_groups_text}
 use Rattle.dns_values.specs.Mnemonic.{number_spelled}
 use Rattle.dns_scan.specs.Encodings.{Decodes64, encoded_64}
 use Rattle.dns_scan.specs.StringText.{Spells, unquoted_text}
-use Rattle.dns_scan.specs.Token.{Token, Takes, HasText, SpellsOctets}
+use Rattle.dns_scan.specs.Token.{Token, Takes, SpellsOctets, unquoted}
 use Rattle.dns_service_parameters.specs.Service.{AreParameters, Parameter, Value, keys, strings, nothing, number, ipv4s, ipv6s, encoded, plain, name_of, octets_of, value_octets}
 
 -- `key` and the number, without leading zeros
@@ -53,13 +53,27 @@ SpellsParameter word text parameter =
     ((name_of parameter.key ≡ Some word) × SpellsValue text parameter.value)
     ⊎ ((word ≡ number_word parameter.key) × (text ≡ value_octets parameter.value))
 
+-- the token is unquoted and has this text
+abbrev pub IsBare : List ℕ → Token → Type 0
+IsBare text token = token ≡ unquoted text
+
+-- the token is quoted and spells these octets
+abbrev pub IsQuoted : List ℕ → Token → Type 0
+IsQuoted text token = (token.quoted ≡ true) × SpellsOctets text token
+
+-- The tokens begin with a quoted token of this text, and these are left; or they begin with none, the text is empty, and they stay.
+abbrev pub TakesQuoted : List ℕ → List Token → List Token → Type 0
+TakesQuoted text tokens left =
+    Takes (IsQuoted text) tokens left
+    ⊎ (((behind : List Token) → Takes (λ token. token.quoted ≡ true) tokens behind → ⊥) × (text ≡ []) × (left ≡ tokens))
+
 -- The tokens begin with a word and its value, and these are left: `word`, without a value; `word=value`; or `word=` and the token after
--- it, since the quote of `word="value"` begins a token. Quotes around `word` or `word=value` change nothing.
+-- it if that is quoted, since the quote of `word="value"` begins a token.
 abbrev pub TakesWord : List ℕ → List ℕ → List Token → List Token → Type 0
 TakesWord word text tokens left =
-    (Takes (HasText word) tokens left × (text ≡ []))
-    ⊎ (((written : List ℕ) × (0 < length written) × Takes (HasText (word ++ 61 ∷ written)) tokens left × Spells written text)
-    ⊎ ((behind : List Token) × Takes (HasText (word ++ 61 ∷ [])) tokens behind × Takes (SpellsOctets text) behind left))
+    (Takes (IsBare word) tokens left × (text ≡ []))
+    ⊎ (((written : List ℕ) × (0 < length written) × Takes (IsBare (word ++ 61 ∷ written)) tokens left × Spells written text)
+    ⊎ ((behind : List Token) × Takes (IsBare (word ++ 61 ∷ [])) tokens behind × TakesQuoted text behind left))
 
 -- the tokens begin with a parameter, and these are left
 pub record ScansParameter (parameter : Parameter) (tokens left : List Token) : Type 0 where

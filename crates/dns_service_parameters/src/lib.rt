@@ -8,6 +8,7 @@ mod check;
 mod form;
 mod items;
 mod keys;
+pub mod laws;
 mod scan;
 mod show;
 mod values;

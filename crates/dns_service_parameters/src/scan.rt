@@ -1,26 +1,27 @@
 //! Scanning service parameters (RFC 9460 2.1).
 ghost use Rattle.std.specs.Prelude.{◌≡◌, ◌<◌, ◌≤◌, ◌^◌, ◌++◌, [], List, ℕ, length, false, All, Any, IfErr, IfOk, OnOk};
 ghost use Rattle.dns_scan.specs.StringText.{Spells};
-ghost use Rattle.dns_scan.specs.Token.{SameNames};
+ghost use Rattle.dns_scan.specs.Token.{SameNames, Token};
 ghost use Rattle.std.specs.List.{flat_map};
 ghost use Rattle.dns_service_parameters.specs.Service.{Parameter};
 ghost use Rattle.dns_service_parameters.specs.ServiceRead.{AreWritten, NoParameter, NoParameters, ReadsNoValue, ReadsValue, TakesKey, TakesParameter, written_octets};
-ghost use Rattle.dns_service_parameters.specs.ServiceText.{AppendsParameters, ScansParameters};
+ghost use Rattle.dns_service_parameters.specs.ServiceText.{AppendsParameters, ScansParameters, TakesQuoted};
 ghost use Rattle.dns_field_texts.specs.Appended.{GoesOn};
 
 use crate::check::{are_parameters, is_value};
 use crate::keys::{KeyWord, form_at, read_key};
 use crate::values::append_value;
+use dns_entry_scanner::EntryScanner;
 use dns_field_texts::{append_octets, split_first};
 use dns_name::Symbol;
-use dns_text::{Scanner, ScannerError};
+use dns_text::ScannerError;
 use std::alloc::Global;
 
 /// Scans all tokens that are left as service parameters, and appends their octets, ascending by their keys.
 ///
 /// Fails with an error other than `short_buf` only if the tokens are no parameters. It may then have appended some
 /// octets.
-pub fn scan_parameters_into<S: Scanner>(
+pub fn scan_parameters_into<S: EntryScanner>(
     scanner: &mut S,
     octets: &mut Vec<u8>,
 ) -> Result<(), S::Error>
@@ -42,7 +43,7 @@ pub fn scan_parameters_into<S: Scanner>(
 }
 
 /// Scans all tokens that are left as parameters, in their order.
-fn scan_each<S: Scanner>(scanner: &mut S, alloc: Global) -> Result<Vec<Written>, S::Error>
+fn scan_each<S: EntryScanner>(scanner: &mut S, alloc: Global) -> Result<Vec<Written>, S::Error>
     ensures ok { IfOk result (λ parameters. AreWritten (S.tokens scanner.old) parameters.items × (S.tokens scanner.new ≡ [])) }
     ensures err { IfErr result (λ error. S.Error.is_short error ≡ false → NoParameters (S.tokens scanner.old)) }
     ensures names { SameNames (S.names scanner.old) (S.names scanner.new) }
@@ -87,7 +88,7 @@ fn append_parameters<Error: ScannerError>(
 }
 
 /// Scans a parameter.
-fn scan_parameter<S: Scanner>(scanner: &mut S, alloc: Global) -> Result<Written, S::Error>
+fn scan_parameter<S: EntryScanner>(scanner: &mut S, alloc: Global) -> Result<Written, S::Error>
     ensures ok { IfOk result (TakesParameter (S.tokens scanner.old) (S.tokens scanner.new)) }
     ensures err { IfErr result (λ error. S.Error.is_short error ≡ false → NoParameter (S.tokens scanner.old)) }
     ensures names { SameNames (S.names scanner.old) (S.names scanner.new) }
@@ -102,29 +103,48 @@ fn scan_parameter<S: Scanner>(scanner: &mut S, alloc: Global) -> Result<Written,
 }
 
 /// Scans the word of a key and appends the text of its value, whose escapes are decoded.
-fn scan_key<S: Scanner>(scanner: &mut S, text: &mut Vec<u8>) -> Result<KeyWord, S::Error>
+fn scan_key<S: EntryScanner>(scanner: &mut S, text: &mut Vec<u8>) -> Result<KeyWord, S::Error>
     requires { text.old.items ≡ [] }
     ensures ok { IfOk result (λ key. TakesKey (S.tokens scanner.old) (S.tokens scanner.new) key text.new.items) }
     ensures err { IfErr result (λ error. S.Error.is_short error ≡ false → NoParameter (S.tokens scanner.old)) }
     ensures names { SameNames (S.names scanner.old) (S.names scanner.new) }
 {
+    if scanner.next_is_quoted() {
+        return Err(S::Error::custom("quoted key"));
+    }
     let (word, written) = split_first(scanner.peek_text()?, b'=');
     let Some(key) = read_key(word) else {
         return Err(S::Error::custom("unknown key"));
     };
     match written {
-        None => {}
+        None => scanner.skip_token(),
         Some(written) => {
             if written.is_empty() {
                 scanner.skip_token();
-                read_text(scanner.peek_text()?, text)?;
+                scan_quoted(scanner, text)?;
             } else {
                 read_text(written, text)?;
+                scanner.skip_token();
             }
         }
     }
-    scanner.skip_token();
     Ok(key)
+}
+
+/// Scans the next token if it is quoted, and appends the octets that it spells.
+fn scan_quoted<S: EntryScanner>(scanner: &mut S, octets: &mut Vec<u8>) -> Result<(), S::Error>
+    ensures ok { OnOk result ((new : List ℕ) × TakesQuoted new (S.tokens scanner.old) (S.tokens scanner.new)
+        × (octets.new.items ≡ octets.old.items ++ new)) }
+    ensures err { IfErr result (λ error. S.Error.is_short error ≡ false
+        → (new : List ℕ) (left : List Token) → TakesQuoted new (S.tokens scanner.old) left → ⊥) }
+    ensures names { SameNames (S.names scanner.old) (S.names scanner.new) }
+    ensures more { GoesOn octets.old.items octets.new.items }
+{
+    if scanner.next_is_quoted() {
+        read_text(scanner.peek_text()?, octets)?;
+        scanner.skip_token();
+    }
+    Ok(())
 }
 
 /// Returns the octets of the value of a key that a text writes.

@@ -11,7 +11,7 @@ use std::marker::Model;
 ///
 /// A contract sees the list of the types that are left.
 #[derive(Debug, Drop)]
-pub struct TypeBitmapIter<'a> {
+pub struct RtypeBitmapIter<'a> {
     /// The number of the first of the window's 256 types.
     first: u32,
     window: &'a [u8],
@@ -21,7 +21,7 @@ pub struct TypeBitmapIter<'a> {
     left: &'a [u8],
 }
 
-impl<'a> Model for TypeBitmapIter<'a> {
+impl<'a> Model for RtypeBitmapIter<'a> {
     ghost Value = { List ℕ };
 
     ghost view = { λ it. types_behind it.first it.window.now it.place ++ types_in it.left.now };
@@ -29,13 +29,13 @@ impl<'a> Model for TypeBitmapIter<'a> {
     ghost invariant = { λ it. AreTypesLeft it.first it.window.now it.left.now };
 }
 
-impl<'a> TypeBitmapIter<'a> {
+impl<'a> RtypeBitmapIter<'a> {
     /// Iterates over the types of the octets, which are a bitmap.
     pub(super) fn over(octets: &'a [u8]) -> Self
         requires { IsTypeBitmap octets.now }
         ensures { result ≡ types_in octets.now }
     {
-        TypeBitmapIter {
+        RtypeBitmapIter {
             first: 0,
             window: &[],
             place: 0,
@@ -44,7 +44,7 @@ impl<'a> TypeBitmapIter<'a> {
     }
 }
 
-impl<'a> Iterator for TypeBitmapIter<'a> {
+impl<'a> Iterator for RtypeBitmapIter<'a> {
     ghost use Rattle.std.specs.Iterator.{YieldsFirst, item_count};
 
     type Item = Rtype;

@@ -1,6 +1,6 @@
 use Rattle.std.proofs.Common.{length}
 use Rattle.dns_field_texts.proofs.TypesLeft.{Left}
-use Rattle.dns_field_texts.proofs.bitmap.iter.TypeBitmapIterIterator.next.Given as goal
+use Rattle.dns_field_texts.proofs.bitmap.iter.RtypeBitmapIterIterator.next.Given as goal
 
 abbrev pub invariant-loop-place : goal.invariant-loop-place
 invariant-loop-place l =

@@ -4,7 +4,7 @@ ghost use Rattle.std.specs.List.{Contains};
 ghost use Rattle.std.specs.List.Sorted.{IsStrictlyIncreasing};
 ghost use Rattle.dns_field_texts.specs.TypeBitmap.{IsTypeBitmap, types_in};
 
-use super::iter::TypeBitmapIter;
+use super::iter::RtypeBitmapIter;
 use super::windows::{is_one, is_type_bitmap, split_window};
 use dns_name::Rtype;
 use std::marker::Model;
@@ -14,17 +14,17 @@ use thiserror::Error;
 /// end.
 #[derive(Clone, Copy, Debug, PartialEq, Eq, Error)]
 #[error("invalid type bitmap")]
-pub struct TypeBitmapError;
+pub struct RtypeBitmapError;
 
 /// Octets that are a bitmap of types (RFC 4034 4.1.2).
 ///
 /// A contract sees it as these octets.
 #[derive(Debug, Drop)]
-pub struct TypeBitmap<'a> {
+pub struct RtypeBitmap<'a> {
     octets: &'a [u8],
 }
 
-impl<'a> Model for TypeBitmap<'a> {
+impl<'a> Model for RtypeBitmap<'a> {
     ghost Value = { List ℕ };
 
     ghost view = { λ bitmap. bitmap.octets.now };
@@ -32,16 +32,16 @@ impl<'a> Model for TypeBitmap<'a> {
     ghost invariant = { λ bitmap. IsTypeBitmap bitmap.octets.now };
 }
 
-impl<'a> TypeBitmap<'a> {
+impl<'a> RtypeBitmap<'a> {
     /// Returns the bitmap of these octets. Fails exactly if they are no bitmap.
-    pub fn from_octets(octets: &'a [u8]) -> Result<Self, TypeBitmapError>
+    pub fn from_octets(octets: &'a [u8]) -> Result<Self, RtypeBitmapError>
         ensures ok { IfOk result (λ bitmap. bitmap ≡ octets.now) }
         ensures are { IsOk result ↔ IsTypeBitmap octets.now }
     {
         if !is_type_bitmap(octets) {
-            return Err(TypeBitmapError);
+            return Err(RtypeBitmapError);
         }
-        Ok(TypeBitmap { octets })
+        Ok(RtypeBitmap { octets })
     }
 
     /// Returns the bitmap of these octets, which are one.
@@ -49,7 +49,7 @@ impl<'a> TypeBitmap<'a> {
         requires { IsTypeBitmap octets.now }
         ensures { result ≡ octets.now }
     {
-        TypeBitmap { octets }
+        RtypeBitmap { octets }
     }
 
     /// Returns the octets.
@@ -61,12 +61,12 @@ impl<'a> TypeBitmap<'a> {
     }
 
     /// Iterates over the types, in ascending order.
-    pub fn iter(&self) -> TypeBitmapIter<'a>
+    pub fn iter(&self) -> RtypeBitmapIter<'a>
         ensures types { result ≡ types_in self.now }
         ensures ascending { IsStrictlyIncreasing result }
         ensures few { length result ≤ 65536 }
     {
-        TypeBitmapIter::over(self.octets)
+        RtypeBitmapIter::over(self.octets)
     }
 
     /// Returns whether the bitmap has the type.

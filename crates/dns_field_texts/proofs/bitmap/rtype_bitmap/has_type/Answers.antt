@@ -2,7 +2,7 @@ use Rattle.std.proofs.Common.{◌≤◌, ◌<◌, ◌+◌, ◌*◌, arith}
 use Rattle.std.proofs.lemmas.Bool.Decides.{nat_tests}
 use Rattle.dns_field_texts.proofs.HashWords.{false_true}
 use Rattle.dns_field_texts.proofs.TypesSought.{sought_end, sought_found, sought_here, sought_on}
-use Rattle.dns_field_texts.proofs.bitmap.type_bitmap.has_type.Goals as goal
+use Rattle.dns_field_texts.proofs.bitmap.rtype_bitmap.has_type.Goals as goal
 
 pub returns-then-first-from-2 : goal.returns-then-first-from-2
 returns-then-first-from-2 c =

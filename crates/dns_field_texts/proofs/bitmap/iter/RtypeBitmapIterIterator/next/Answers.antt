@@ -1,6 +1,6 @@
 use Rattle.std.proofs.Common.{◌≡◌, ◌∙◌, sym, []}
 use Rattle.dns_field_texts.proofs.TypesLeft.{left_none, left_on}
-use Rattle.dns_field_texts.proofs.bitmap.iter.TypeBitmapIterIterator.next.Goals as goal
+use Rattle.dns_field_texts.proofs.bitmap.iter.RtypeBitmapIterIterator.next.Goals as goal
 
 pub returns-in_err-number-clause-steps : goal.returns-in_err-number-clause-steps
 returns-in_err-number-clause-steps c =

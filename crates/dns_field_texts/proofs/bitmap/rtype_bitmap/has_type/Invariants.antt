@@ -1,6 +1,6 @@
 use Rattle.std.proofs.Common.{length}
 use Rattle.dns_field_texts.proofs.TypesSought.{Sought}
-use Rattle.dns_field_texts.proofs.bitmap.type_bitmap.has_type.Given as goal
+use Rattle.dns_field_texts.proofs.bitmap.rtype_bitmap.has_type.Given as goal
 
 abbrev pub invariant-loop-number : goal.invariant-loop-number
 invariant-loop-number l = Sought l.octets l.left l.rtype
