@@ -10,3 +10,6 @@ pub mod OneParameters
 pub mod OneTypes
 pub mod OneRow
 pub mod OneScan
+pub mod SafeWords
+pub mod PrintedForms
+pub mod PrintedFurther

@@ -9,7 +9,7 @@ use Rattle.dns_fields_more.specs.Forms.{AreFieldsOf, IsFieldOf, IsFurtherCanonic
 use Rattle.dns_fields_more.specs.Rows.{EndWell, LowersTo, form_lowered}
 use Rattle.dns_fields_more.specs.Values.{StandsIn}
 use Rattle.dns_fields_more.specs.declared.form.Form.{Form}
-use Rattle.dns_fields_more.specs.declared.form.Form.TheVariants.{Number8, Number16, Number32, Name, CasedName, String, RestText, Rest16, Rest64, Rtype as RtypeForm, Time, Salt, Hash, Types, Parameters, Location as LocationForm, Eui48, Eui64}
+use Rattle.dns_fields_more.specs.declared.form.Form.TheVariants.{Number8, Number16, Number32, Name, CasedName, String, RestText, Rest16, Rest64, Rtype as RtypeForm, Algorithm, CertificateType, Time, Salt, Hash, Types, Parameters, Location as LocationForm, Eui48, Eui64}
 use Rattle.dns_fields_more.proofs.Rows.{last_of, none_left}
 use Rattle.dns_fields_more.proofs.Sole.{sole}
 
@@ -44,6 +44,8 @@ lowers RestText field is = refl
 lowers Rest16 field is = refl
 lowers Rest64 field is = refl
 lowers RtypeForm field is = refl
+lowers Algorithm field is = refl
+lowers CertificateType field is = refl
 lowers Time field is = refl
 lowers Salt field is = refl
 lowers Hash field is = refl

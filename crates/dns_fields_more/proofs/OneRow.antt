@@ -5,21 +5,22 @@ use Rattle.std.specs.Prelude.{⊤}
 use Rattle.dns_label.specs.Octets.{AreOctets}
 use Rattle.dns_scan.specs.Scans.{ScansWord}
 use Rattle.dns_scan.specs.Token.{IsWord, Takes, Token}
-use Rattle.dns_fields.specs.Fields.{Field, field_octets, kind_of, number16, number32, octets, rest16, string}
+use Rattle.dns_fields.specs.Fields.{Field, field_octets, kind_of, number16, number32, number8, octets, rest16, rest64, string}
 use Rattle.dns_fields.specs.Scanned.{ScansField}
 use Rattle.dns_fields.specs.SpelledNames.{SpellOne}
-use Rattle.dns_fields.proofs.FieldKinds.{of_number16, of_number32, of_rest16, of_string}
+use Rattle.dns_fields.proofs.FieldKinds.{of_number16, of_number32, of_number8, of_rest16, of_rest64, of_string}
 use Rattle.dns_fields.proofs.ScannedOnce.{row_one}
 use Rattle.dns_field_texts.specs.Hardware.{IsHardwareText}
 use Rattle.dns_field_texts.specs.HashWords.{IsHashWord, IsSaltWord}
 use Rattle.dns_field_texts.specs.Location.{location_octets}
+use Rattle.dns_field_texts.specs.NumberedWords.{algorithm_read, certificate_type_read}
 use Rattle.dns_field_texts.specs.TypeWords.{type_word_read}
 use Rattle.dns_field_texts.specs.Time.{time_read}
 use Rattle.dns_field_texts.proofs.HardwareText.{hardware_one}
 use Rattle.dns_field_texts.proofs.HashWords.{hash_one, salt_one}
 use Rattle.dns_service_parameters.specs.Service.{octets_of}
 use Rattle.dns_fields_more.specs.declared.form.Form.{Form}
-use Rattle.dns_fields_more.specs.declared.form.Form.TheVariants.{Number8, Number16, Number32, Name, CasedName, String, RestText, Rest16, Rest64, Rtype as RtypeForm, Time, Salt, Hash, Types, Parameters, Location as LocationForm, Eui48, Eui64}
+use Rattle.dns_fields_more.specs.declared.form.Form.TheVariants.{Number8, Number16, Number32, Name, CasedName, String, RestText, Rest16, Rest64, Rtype as RtypeForm, Algorithm, CertificateType, Time, Salt, Hash, Types, Parameters, Location as LocationForm, Eui48, Eui64}
 use Rattle.dns_fields_more.specs.Forms.{kind_of_form}
 use Rattle.dns_fields_more.specs.Text.{ScansForms, SpellsForm}
 use Rattle.dns_fields_more.proofs.OneLocation.{location_one}
@@ -67,6 +68,11 @@ module _ (names : List ℕ → List (List ℕ) → Type 0) (once : SpellOne name
   Same form field other =
       SpellsForm names form field tokens left → SpellsForm names form other tokens rest → Clear form field → Clear form other → field ≡ other
 
+  both8 : (form : Form) (field other : Field) → kind_of field ≡ kind_of_form Algorithm → kind_of other ≡ kind_of_form Algorithm
+      → ((n m : ℕ) → Same form (number8 n) (number8 m)) → Same form field other
+  both8 form field other is also each =
+      of_number8 (λ f. Same form f other) field (λ n. of_number8 (Same form (number8 n)) other (each n) also) is
+
   both16 : (form : Form) (field other : Field) → kind_of field ≡ kind_of_form RtypeForm → kind_of other ≡ kind_of_form RtypeForm
       → ((n m : ℕ) → Same form (number16 n) (number16 m)) → Same form field other
   both16 form field other is also each =
@@ -87,6 +93,11 @@ module _ (names : List ℕ → List (List ℕ) → Type 0) (once : SpellOne name
   both_rests form field other is also each =
       of_rest16 (λ f. Same form f other) field (λ a. of_rest16 (Same form (rest16 a)) other (each a) also) is
 
+  both64 : (form : Form) (field other : Field) → kind_of field ≡ kind_of_form Rest64 → kind_of other ≡ kind_of_form Rest64
+      → ((a b : List ℕ) → Same form (rest64 a) (rest64 b)) → Same form field other
+  both64 form field other is also each =
+      of_rest64 (λ f. Same form f other) field (λ a. of_rest64 (Same form (rest64 a)) other (each a) also) is
+
   field_one : (form : Form) (field other : Field) → kind_of field ≡ kind_of_form form → kind_of other ≡ kind_of_form form → Same form field other
   field_one Number8 field other is also = λ s t c d. plain field other (also ∙ sym is) s t
   field_one Number16 field other is also = λ s t c d. plain field other (also ∙ sym is) s t
@@ -95,9 +106,12 @@ module _ (names : List ℕ → List (List ℕ) → Type 0) (once : SpellOne name
   field_one CasedName field other is also = λ s t c d. plain field other (also ∙ sym is) s t
   field_one String field other is also = λ s t c d. plain field other (also ∙ sym is) s t
   field_one RestText field other is also = λ s t c d. plain field other (also ∙ sym is) s t
-  field_one Rest16 field other is also = λ s t c d. plain field other (also ∙ sym is) s t
-  field_one Rest64 field other is also = λ s t c d. plain field other (also ∙ sym is) s t
+  field_one Rest16 field other is also = both_rests Rest16 field other is also (λ a b s t c d. plain (rest16 a) (rest16 b) refl s.0 t.0)
+  field_one Rest64 field other is also = both64 Rest64 field other is also (λ a b s t c d. plain (rest64 a) (rest64 b) refl s.0 t.0)
   field_one RtypeForm field other is also = both16 RtypeForm field other is also (λ n m s t c d. ap number16 (read_one {reads = type_word_read} s t))
+  field_one Algorithm field other is also = both8 Algorithm field other is also (λ n m s t c d. ap number8 (read_one {reads = algorithm_read} s t))
+  field_one CertificateType field other is also =
+      both16 CertificateType field other is also (λ n m s t c d. ap number16 (read_one {reads = certificate_type_read} s t))
   field_one Time field other is also = both32 Time field other is also (λ n m s t c d. ap number32 (read_one {reads = time_read} s t))
   field_one Salt field other is also = both_strings Salt field other is also (λ a b s t c d. ap string (of_word IsSaltWord salt_one s t))
   field_one Hash field other is also = both_strings Hash field other is also (λ a b s t c d. ap string (of_word IsHashWord hash_one s t))
@@ -137,7 +151,7 @@ clear_one names once (form ∷ forms) (field ∷ row) (other ∷ others) tokens 
     (subst (λ (l : List Token). ScansForms names forms others l rest) place also.2) is.1 are.1 in
     λ i. first i ∷ behind i
 
-octets_apart : (xs ys : List ℕ) → AreOctets (xs ++ ys) → AreOctets xs × AreOctets ys
+pub octets_apart : (xs ys : List ℕ) → AreOctets (xs ++ ys) → AreOctets xs × AreOctets ys
 octets_apart [] ys are = (tt, are)
 octets_apart (x ∷ xs) ys are = let both = octets_apart xs ys are.1 in ((are.0, both.0), both.1)
 
@@ -153,6 +167,8 @@ clear RestText field are = tt
 clear Rest16 field are = tt
 clear Rest64 field are = tt
 clear RtypeForm field are = tt
+clear Algorithm field are = tt
+clear CertificateType field are = tt
 clear Time field are = tt
 clear Salt field are = tt
 clear Hash field are = tt

@@ -12,7 +12,7 @@ use Rattle.dns_fields.specs.SpelledNames.{SpellOne}
 use Rattle.dns_fields.proofs.FieldKinds.{of_string, of_uncompressed}
 use Rattle.dns_fields.proofs.ReadFields.{number16_fixed, number32_fixed, number8_fixed}
 use Rattle.dns_fields_more.specs.declared.form.Form.{Form}
-use Rattle.dns_fields_more.specs.declared.form.Form.TheVariants.{Number8, Number16, Number32, Name, CasedName, String, RestText, Rest16, Rest64, Rtype as RtypeForm, Time, Salt, Hash, Types, Parameters, Location as LocationForm, Eui48, Eui64}
+use Rattle.dns_fields_more.specs.declared.form.Form.TheVariants.{Number8, Number16, Number32, Name, CasedName, String, RestText, Rest16, Rest64, Rtype as RtypeForm, Algorithm, CertificateType, Time, Salt, Hash, Types, Parameters, Location as LocationForm, Eui48, Eui64}
 use Rattle.dns_fields_more.specs.Forms.{IsFieldOf, forms_in, forms_of, further, kind_of_form}
 use Rattle.dns_fields_more.specs.Text.{ScansForms, ScansFurther, ScansLongRow}
 use Rattle.dns_fields_more.proofs.OneRow.{AreClear, clear_one, forms_left}
@@ -27,6 +27,8 @@ most_of Name = 255
 most_of CasedName = 255
 most_of String = 256
 most_of RtypeForm = 2
+most_of Algorithm = 1
+most_of CertificateType = 2
 most_of Time = 4
 most_of Salt = 256
 most_of Hash = 256
@@ -54,6 +56,8 @@ field_few RestText field is few = absurd (omega (arith, few))
 field_few Rest16 field is few = absurd (omega (arith, few))
 field_few Rest64 field is few = absurd (omega (arith, few))
 field_few RtypeForm field is few = let size = number16_fixed.long field is.kind is.is_field in omega (arith, size)
+field_few Algorithm field is few = let size = number8_fixed.long field is.kind is.is_field in omega (arith, size)
+field_few CertificateType field is few = let size = number16_fixed.long field is.kind is.is_field in omega (arith, size)
 field_few Time field is few = let size = number32_fixed.long field is.kind is.is_field in omega (arith, size)
 field_few Salt field is few = string_few field is.kind is.is_field
 field_few Hash field is few = string_few field is.kind is.is_field
@@ -94,6 +98,8 @@ clear_row (RestText ∷ forms) (field ∷ row) none = (tt, clear_row forms row n
 clear_row (Rest16 ∷ forms) (field ∷ row) none = (tt, clear_row forms row none)
 clear_row (Rest64 ∷ forms) (field ∷ row) none = (tt, clear_row forms row none)
 clear_row (RtypeForm ∷ forms) (field ∷ row) none = (tt, clear_row forms row none)
+clear_row (Algorithm ∷ forms) (field ∷ row) none = (tt, clear_row forms row none)
+clear_row (CertificateType ∷ forms) (field ∷ row) none = (tt, clear_row forms row none)
 clear_row (Time ∷ forms) (field ∷ row) none = (tt, clear_row forms row none)
 clear_row (Salt ∷ forms) (field ∷ row) none = (tt, clear_row forms row none)
 clear_row (Hash ∷ forms) (field ∷ row) none = (tt, clear_row forms row none)

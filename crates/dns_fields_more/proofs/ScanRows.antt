@@ -9,7 +9,7 @@ use Rattle.dns_fields.proofs.ScanParts as parts
 use Rattle.dns_fields_more.specs.Forms.{kind_of_form}
 use Rattle.dns_fields_more.specs.Text.{AppendsForm, AppendsForms, NoFormScans, NoFormsScan, ScansForm, ScansForms, SpellsForm}
 use Rattle.dns_fields_more.specs.declared.form.Form.{Form}
-use Rattle.dns_fields_more.specs.declared.form.Form.TheVariants.{Number8, Number16, Number32, Name, CasedName, String, RestText, Rest16, Rest64, Rtype as RtypeForm, Time, Salt, Hash, Types, Parameters, Location, Eui48, Eui64}
+use Rattle.dns_fields_more.specs.declared.form.Form.TheVariants.{Number8, Number16, Number32, Name, CasedName, String, RestText, Rest16, Rest64, Rtype as RtypeForm, Algorithm, CertificateType, Time, Salt, Hash, Types, Parameters, Location, Eui48, Eui64}
 
 -- what is left after a field of the form
 abbrev left_of : Form → List Token → List Token
@@ -40,9 +40,11 @@ module _ (names : List ℕ → List (List ℕ) → Type 0) (tokens left : List T
   leaves_by CasedName field kind = plain field CasedName kind refl
   leaves_by String field kind = plain field String kind refl
   leaves_by RestText field kind = plain field RestText kind refl
-  leaves_by Rest16 field kind = plain field Rest16 kind refl
-  leaves_by Rest64 field kind = plain field Rest64 kind refl
+  leaves_by Rest16 field kind = of_rest16 (Leaves Rest16) field (λ o s. s.0.3) kind
+  leaves_by Rest64 field kind = of_rest64 (Leaves Rest64) field (λ o s. s.0.3) kind
   leaves_by RtypeForm field kind = of_number16 (Leaves RtypeForm) field (λ n s. taken s.takes.is) kind
+  leaves_by Algorithm field kind = of_number8 (Leaves Algorithm) field (λ n s. taken s.takes.is) kind
+  leaves_by CertificateType field kind = of_number16 (Leaves CertificateType) field (λ n s. taken s.takes.is) kind
   leaves_by Time field kind = of_number32 (Leaves Time) field (λ n s. taken s.takes.is) kind
   leaves_by Salt field kind = of_string (Leaves Salt) field (λ o s. taken s.1.is) kind
   leaves_by Hash field kind = of_string (Leaves Hash) field (λ o s. taken s.1.is) kind
@@ -64,6 +66,8 @@ module _ (old new : List ℕ → List (List ℕ) → Type 0) (into : (text : Lis
 
   there_by : (form : Form) (field : Field) → kind_of field ≡ kind_of_form form → Goes form field
   there_by RtypeForm field kind = of_number16 (Goes RtypeForm) field (λ n s. s) kind
+  there_by Algorithm field kind = of_number8 (Goes Algorithm) field (λ n s. s) kind
+  there_by CertificateType field kind = of_number16 (Goes CertificateType) field (λ n s. s) kind
   there_by Time field kind = of_number32 (Goes Time) field (λ n s. s) kind
   there_by Salt field kind = of_string (Goes Salt) field (λ o s. s) kind
   there_by Hash field kind = of_string (Goes Hash) field (λ o s. s) kind

@@ -1,14 +1,17 @@
 -- Fields that are scanned, and appended to octets.
-use Rattle.std.proofs.Common.{◌≡◌, ◌<◌, ◌≤◌, ◌++◌, ◌∙◌, ◌∷◌, ℕ, List, length, ap, refl, sym, append_assoc, arith, inl, inr, subst}
-use Rattle.std.specs.Prelude.{None, Result, Ok, Err, OnOk}
+use Rattle.std.proofs.Common.{◌≡◌, ◌<◌, ◌≤◌, ◌++◌, ◌∙◌, ◌∷◌, [], ℕ, List, length, ap, refl, sym, append_assoc, arith, inl, inr, subst}
+use Rattle.std.specs.Prelude.{Bool, false, None, Result, Ok, Err, IfErr, OnOk}
 use Rattle.std.specs.Str.{chars}
 use Rattle.dns_scan.specs.Encodings.{Decodes16, Decodes64}
+use Rattle.dns_scan.specs.declared.encoding.base.Base.TheVariants.{Sixteen, SixtyFour}
 use Rattle.dns_scan.specs.Token.{Token, IsEntry, IsWord, Takes}
 use Rattle.dns_fields.specs.Fields.{Field, field_octets, string, uncompressed, rest16}
-use Rattle.dns_fields.proofs.FieldKinds.{of_number16, of_number32, of_uncompressed, of_string, of_rest16, of_rest64}
+use Rattle.dns_fields.proofs.FieldKinds.{of_number8, of_number16, of_number32, of_uncompressed, of_string, of_rest16, of_rest64}
+use Rattle.dns_fields.proofs.ScannedOnce.{decoded_one}
 use Rattle.dns_field_texts.specs.Appended.{Appends, AppendsCounted}
 use Rattle.dns_field_texts.specs.HashWords.{IsHashWord, IsSaltWord}
 use Rattle.dns_field_texts.specs.Hardware.{IsHardwareText}
+use Rattle.dns_field_texts.specs.NumberedWords.{algorithm_read, certificate_type_read}
 use Rattle.dns_field_texts.specs.Time.{time_read}
 use Rattle.dns_field_texts.specs.TypeWords.{type_word_read}
 use Rattle.dns_field_texts.specs.TypeBitmap.{AppendsTypes, SpellsNoTypes}
@@ -19,7 +22,7 @@ use Rattle.dns_field_texts.specs.Location.{Location, location_octets}
 use Rattle.dns_field_texts.specs.LocationText.{AppendsLocation, ScansLocation}
 use Rattle.dns_fields_more.specs.Text.{AppendsForm, AppendsName, NoFormScans, NoNameScans, ScansForm}
 use Rattle.dns_fields_more.specs.declared.form.Form.{Form}
-use Rattle.dns_fields_more.specs.declared.form.Form.TheVariants.{Name, CasedName, Rest16, Rest64, Rtype as RtypeForm, Time, Salt, Hash, Types, Parameters, Location as LocationForm, Eui48, Eui64}
+use Rattle.dns_fields_more.specs.declared.form.Form.TheVariants.{Name, CasedName, Rest16, Rest64, Rtype as RtypeForm, Algorithm, CertificateType, Time, Salt, Hash, Types, Parameters, Location as LocationForm, Eui48, Eui64}
 
 pub scanned : {T E : Type 0} {names : List ℕ → List (List ℕ) → Type 0} {form : Form} {tokens left : List Token} (old new more : List ℕ) (field : Field)
     → ScansForm names form field tokens left → more ≡ field_octets field → (result : Result T E) → OnOk result (new ≡ old ++ more)
@@ -27,6 +30,20 @@ pub scanned : {T E : Type 0} {names : List ℕ → List (List ℕ) → Type 0} {
 scanned old new more field scans same (Ok value) behind =
     record { field = field; scans = scans; behind = behind ∙ ap (λ l. old ++ l) same }
 scanned old new more field scans same (Err error) behind = tt
+
+-- the same, if there are octets
+pub some_scanned : {T E : Type 0} {names : List ℕ → List (List ℕ) → Type 0} {form : Form} {tokens left : List Token} (old new more : List ℕ) (field : Field)
+    → ((more ≡ [] → ⊥) → ScansForm names form field tokens left) → more ≡ field_octets field → (result : Result T E)
+    → OnOk result ((more ≡ [] → ⊥) × (new ≡ old ++ more)) → OnOk result (AppendsForm names form tokens left old new)
+some_scanned old new more field scans same (Ok value) behind =
+    record { field = field; scans = scans behind.0; behind = behind.1 ∙ ap (λ l. old ++ l) same }
+some_scanned old new more field scans same (Err error) behind = tt
+
+-- what fails without octets
+pub if_empty : {T E P : Type 0} {more : List ℕ} (is_short : E → Bool) → (more ≡ [] → P) → (result : Result T E)
+    → IfErr result (λ error. is_short error ≡ false → more ≡ []) → IfErr result (λ error. is_short error ≡ false → P)
+if_empty is_short so (Ok value) none = tt
+if_empty is_short so (Err error) none = λ long. so (none long)
 
 -- the same, if the octets are appended in two parts
 pub scanned_parts : {T E : Type 0} {names : List ℕ → List (List ℕ) → Type 0} {form : Form} {tokens left : List Token}
@@ -43,15 +60,37 @@ scanned_parts old middle new first more field scans same front (Err error) behin
 module _ {names : List ℕ → List (List ℕ) → Type 0} {tokens : List Token} where
   pub no_rest16 : ((text octets : List ℕ) → IsEntry IsWord tokens text → Decodes16 (chars text) octets → ⊥) → NoFormScans names Rest16 tokens
   no_rest16 none field left scans =
-      of_rest16 (λ f. ScansForm names Rest16 f tokens left → ⊥) field (λ octets s. none s.spelled.0 octets s.spelled.1 s.spelled.2) scans.is.kind scans
+      of_rest16 (λ f. ScansForm names Rest16 f tokens left → ⊥) field (λ octets s. none s.spelled.0.0 octets s.spelled.0.1 s.spelled.0.2) scans.is.kind scans
 
   pub no_rest64 : ((text octets : List ℕ) → IsEntry IsWord tokens text → Decodes64 (chars text) octets → ⊥) → NoFormScans names Rest64 tokens
   no_rest64 none field left scans =
-      of_rest64 (λ f. ScansForm names Rest64 f tokens left → ⊥) field (λ octets s. none s.spelled.0 octets s.spelled.1 s.spelled.2) scans.is.kind scans
+      of_rest64 (λ f. ScansForm names Rest64 f tokens left → ⊥) field (λ octets s. none s.spelled.0.0 octets s.spelled.0.1 s.spelled.0.2) scans.is.kind scans
+
+  -- what decodes as no octets is no rest
+  pub empty_rest16 : (text octets : List ℕ) → IsEntry IsWord tokens text → Decodes16 (chars text) octets → octets ≡ [] → NoFormScans names Rest16 tokens
+  empty_rest16 text octets is decodes none field left scans =
+      of_rest16 (λ f. ScansForm names Rest16 f tokens left → ⊥) field
+      (λ others s. s.spelled.1 (decoded_one Sixteen tokens s.spelled.0.0 text others octets s.spelled.0.1 s.spelled.0.2 is decodes ∙ none)) scans.is.kind scans
+
+  pub empty_rest64 : (text octets : List ℕ) → IsEntry IsWord tokens text → Decodes64 (chars text) octets → octets ≡ [] → NoFormScans names Rest64 tokens
+  empty_rest64 text octets is decodes none field left scans =
+      of_rest64 (λ f. ScansForm names Rest64 f tokens left → ⊥) field
+      (λ others s. s.spelled.1 (decoded_one SixtyFour tokens s.spelled.0.0 text others octets s.spelled.0.1 s.spelled.0.2 is decodes ∙ none)) scans.is.kind scans
 
   pub no_rtype : ((text : List ℕ) (left : List Token) → Takes (IsWord text) tokens left → None ≡ type_word_read text) → NoFormScans names RtypeForm tokens
   no_rtype none field left scans =
       of_number16 (λ f. ScansForm names RtypeForm f tokens left → ⊥) field
+      (λ n s. let read = none s.spelled.text left s.spelled.takes ∙ s.spelled.reads_as in absurd (cc)) scans.is.kind scans
+
+  pub no_algorithm : ((text : List ℕ) (left : List Token) → Takes (IsWord text) tokens left → None ≡ algorithm_read text) → NoFormScans names Algorithm tokens
+  no_algorithm none field left scans =
+      of_number8 (λ f. ScansForm names Algorithm f tokens left → ⊥) field
+      (λ n s. let read = none s.spelled.text left s.spelled.takes ∙ s.spelled.reads_as in absurd (cc)) scans.is.kind scans
+
+  pub no_certificate_type : ((text : List ℕ) (left : List Token) → Takes (IsWord text) tokens left → None ≡ certificate_type_read text)
+      → NoFormScans names CertificateType tokens
+  no_certificate_type none field left scans =
+      of_number16 (λ f. ScansForm names CertificateType f tokens left → ⊥) field
       (λ n s. let read = none s.spelled.text left s.spelled.takes ∙ s.spelled.reads_as in absurd (cc)) scans.is.kind scans
 
   pub no_time : ((text : List ℕ) (left : List Token) → Takes (IsWord text) tokens left → None ≡ time_read text) → NoFormScans names Time tokens

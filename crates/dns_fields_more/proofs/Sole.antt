@@ -12,7 +12,7 @@ use Rattle.dns_canonical_form.proofs.OctetsForms.{name_decoded, starts_long}
 use Rattle.dns_fields_more.specs.Forms.{is_last, kind_of_form}
 use Rattle.dns_fields_more.specs.Values.{StandsIn}
 use Rattle.dns_fields_more.specs.declared.form.Form.{Form}
-use Rattle.dns_fields_more.specs.declared.form.Form.TheVariants.{Number8, Number16, Number32, Name, CasedName, String, RestText, Rest16, Rest64, Rtype as RtypeForm, Time, Salt, Hash, Types, Parameters, Location, Eui48, Eui64}
+use Rattle.dns_fields_more.specs.declared.form.Form.TheVariants.{Number8, Number16, Number32, Name, CasedName, String, RestText, Rest16, Rest64, Rtype as RtypeForm, Algorithm, CertificateType, Time, Salt, Hash, Types, Parameters, Location, Eui48, Eui64}
 
 -- the fields have the same octets, and are the same
 abbrev SameField : Field → Field → Type 0
@@ -50,6 +50,8 @@ octets_one Rest16 f g is is' = rests_one f g is is'
 octets_one Rest64 f g is is' =
     of_rest64 (λ f. SameField f g) f (λ n. of_rest64 (λ g. SameField (rest64 n) g) g (λ m ok ok' same. ap rest64 same) is') is
 octets_one RtypeForm f g is is' = number16_fixed.one f g is is'
+octets_one Algorithm f g is is' = number8_fixed.one f g is is'
+octets_one CertificateType f g is is' = number16_fixed.one f g is is'
 octets_one Time f g is is' = number32_fixed.one f g is is'
 octets_one Salt f g is is' = strings_one f g is is'
 octets_one Hash f g is is' = strings_one f g is is'
@@ -71,6 +73,8 @@ ends_alike RestText = refl
 ends_alike Rest16 = refl
 ends_alike Rest64 = refl
 ends_alike RtypeForm = refl
+ends_alike Algorithm = refl
+ends_alike CertificateType = refl
 ends_alike Time = refl
 ends_alike Salt = refl
 ends_alike Hash = refl

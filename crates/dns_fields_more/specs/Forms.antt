@@ -7,7 +7,7 @@ use Rattle.dns_field_texts.specs.TypeBitmap.{IsTypeBitmap}
 use Rattle.dns_service_parameters.specs.Service.{HoldsParameters}
 use Rattle.dns_field_texts.specs.Location.{HoldsLocation}
 use Rattle.dns_fields_more.specs.declared.form.Form.{Form}
-use Rattle.dns_fields_more.specs.declared.form.Form.TheVariants.{Number8, Number16, Number32, Name, CasedName, String, RestText, Rest16, Rest64, Rtype as RtypeForm, Time, Salt, Hash, Types, Parameters, Location, Eui48, Eui64}
+use Rattle.dns_fields_more.specs.declared.form.Form.TheVariants.{Number8, Number16, Number32, Name, CasedName, String, RestText, Rest16, Rest64, Rtype as RtypeForm, Algorithm, CertificateType, Time, Salt, Hash, Types, Parameters, Location, Eui48, Eui64}
 
 -- the kind of a field of the form
 abbrev pub kind_of_form : Form → Kind
@@ -21,6 +21,8 @@ kind_of_form RestText = kinds.RestText
 kind_of_form Rest16 = kinds.Rest16
 kind_of_form Rest64 = kinds.Rest64
 kind_of_form RtypeForm = kinds.Number16
+kind_of_form Algorithm = kinds.Number8
+kind_of_form CertificateType = kinds.Number16
 kind_of_form Time = kinds.Number32
 kind_of_form Salt = kinds.String
 kind_of_form Hash = kinds.String
@@ -49,15 +51,15 @@ abbrev pub further : List (ℕ × List Form)
 further =
     (29, Location ∷ [])
     ∷ (35, Number16 ∷ Number16 ∷ String ∷ String ∷ String ∷ Name ∷ [])
-    ∷ (37, Number16 ∷ Number16 ∷ Number8 ∷ Rest64 ∷ [])
-    ∷ (46, RtypeForm ∷ Number8 ∷ Number8 ∷ Number32 ∷ Time ∷ Time ∷ Number16 ∷ Name ∷ Rest64 ∷ [])
+    ∷ (37, CertificateType ∷ Number16 ∷ Algorithm ∷ Rest64 ∷ [])
+    ∷ (46, RtypeForm ∷ Algorithm ∷ Number8 ∷ Number32 ∷ Time ∷ Time ∷ Number16 ∷ Name ∷ Rest64 ∷ [])
     ∷ (47, CasedName ∷ Types ∷ [])
     ∷ (50, Number8 ∷ Number8 ∷ Number16 ∷ Salt ∷ Hash ∷ Types ∷ [])
     ∷ (51, Number8 ∷ Number8 ∷ Number16 ∷ Salt ∷ [])
     ∷ (52, Number8 ∷ Number8 ∷ Number8 ∷ Rest16 ∷ [])
     ∷ (53, Number8 ∷ Number8 ∷ Number8 ∷ Rest16 ∷ [])
-    ∷ (59, Number16 ∷ Number8 ∷ Number8 ∷ Rest16 ∷ [])
-    ∷ (60, Number16 ∷ Number8 ∷ Number8 ∷ Rest64 ∷ [])
+    ∷ (59, Number16 ∷ Algorithm ∷ Number8 ∷ Rest16 ∷ [])
+    ∷ (60, Number16 ∷ Number8 ∷ Algorithm ∷ Rest64 ∷ [])
     ∷ (61, Rest64 ∷ [])
     ∷ (62, Number32 ∷ Number16 ∷ Types ∷ [])
     ∷ (63, Number32 ∷ Number8 ∷ Number8 ∷ Rest16 ∷ [])

@@ -1,9 +1,9 @@
 -- Fields of forms as text: the tokens of a row (RFC 1035 5.1).
-use Rattle.std.specs.Prelude.{◌≡◌, ◌<◌, ◌≤◌, ◌++◌, ℕ, List, [], ◌∷◌, length, map, Some}
+use Rattle.std.specs.Prelude.{◌≡◌, ◌≢◌, ◌<◌, ◌≤◌, ◌++◌, ℕ, List, [], ◌∷◌, length, map, Some}
 use Rattle.dns_label.specs.Name.{IsName, wire}
 use Rattle.dns_scan.specs.Scans.{ScansWord}
 use Rattle.dns_scan.specs.Token.{Token, Takes, IsWord}
-use Rattle.dns_fields.specs.Fields.{Field, field_octets, octets, number16, number32, string, rest16}
+use Rattle.dns_fields.specs.Fields.{Field, field_octets, octets, number8, number16, number32, string, rest16, rest64}
 use Rattle.dns_fields.specs.Scanned.{ScansField, TakesName}
 use Rattle.dns_text.specs.Document.{Piece}
 use Rattle.dns_text.specs.Document.Piece.{Token as printed}
@@ -11,6 +11,7 @@ use Rattle.dns_text.specs.Documents.{block_of}
 use Rattle.dns_text.specs.Writing.{Adds}
 use Rattle.dns_fields.specs.Shown.{field_pieces}
 use Rattle.dns_field_texts.specs.TypeWords.{type_word_read, type_word_written}
+use Rattle.dns_field_texts.specs.NumberedWords.{algorithm_read, certificate_type_read}
 use Rattle.dns_field_texts.specs.Time.{time_read, time_written}
 use Rattle.dns_field_texts.specs.HashWords.{IsSaltWord, IsHashWord, salt_written, hash_written}
 use Rattle.dns_field_texts.specs.Hardware.{IsHardwareText, hardware_written}
@@ -21,11 +22,16 @@ use Rattle.dns_field_texts.specs.Location.{IsLocation, Location, location_octets
 use Rattle.dns_field_texts.specs.LocationText.{ScansLocation, location_words}
 use Rattle.dns_fields_more.specs.Forms.{AreFieldsOf, IsFieldOf, IsFurtherRow, forms_of}
 use Rattle.dns_fields_more.specs.declared.form.Form.{Form}
-use Rattle.dns_fields_more.specs.declared.form.Form.TheVariants.{Rtype as RtypeForm, Time, Salt, Hash, Types, Parameters, Location as LocationForm, Eui48, Eui64}
+use Rattle.dns_fields_more.specs.declared.form.Form.TheVariants.{Rest16, Rest64, Rtype as RtypeForm, Algorithm, CertificateType, Time, Salt, Hash, Types, Parameters, Location as LocationForm, Eui48, Eui64}
 
--- The tokens begin with the text of the field in this form, and these are left. A field of any other form is read as one of its kind.
+-- The tokens begin with the text of the field in this form, and these are left. A rest in base 16 or 64 has an octet at least. A field of
+-- any other form is read as one of its kind.
 abbrev pub SpellsForm : (List ℕ → List (List ℕ) → Type 0) → Form → Field → List Token → List Token → Type 0
+SpellsForm names Rest16 (rest16 octets) tokens left = ScansField names (rest16 octets) tokens left × (octets ≢ [])
+SpellsForm names Rest64 (rest64 octets) tokens left = ScansField names (rest64 octets) tokens left × (octets ≢ [])
 SpellsForm names RtypeForm (number16 n) tokens left = ScansWord type_word_read tokens n left
+SpellsForm names Algorithm (number8 n) tokens left = ScansWord algorithm_read tokens n left
+SpellsForm names CertificateType (number16 n) tokens left = ScansWord certificate_type_read tokens n left
 SpellsForm names Time (number32 n) tokens left = ScansWord time_read tokens n left
 SpellsForm names Salt (string octets) tokens left = (text : List ℕ) × Takes (IsWord text) tokens left × IsSaltWord text octets
 SpellsForm names Hash (string octets) tokens left = (text : List ℕ) × Takes (IsWord text) tokens left × IsHashWord text octets

@@ -27,6 +27,10 @@ pub enum Form {
     Rest64,
     /// A type (RFC 4034 3.2).
     Rtype,
+    /// An algorithm of DNSSEC, a number of one octet (RFC 4034 3.2).
+    Algorithm,
+    /// A type of certificate, a number of two octets (RFC 4398 2.2).
+    CertificateType,
     /// A point in time (RFC 4034 3.2).
     Time,
     /// Octets behind their length, in base 16, or `-` for none (RFC 5155 3.3).
@@ -75,11 +79,16 @@ static NAPTR: [Form; 6] = [
     Form::Name,
 ];
 
-static CERTIFICATE: [Form; 4] = [Form::Number16, Form::Number16, Form::Number8, Form::Rest64];
+static CERTIFICATE: [Form; 4] = [
+    Form::CertificateType,
+    Form::Number16,
+    Form::Algorithm,
+    Form::Rest64,
+];
 
 static RRSIG: [Form; 9] = [
     Form::Rtype,
-    Form::Number8,
+    Form::Algorithm,
     Form::Number8,
     Form::Number32,
     Form::Time,
@@ -104,9 +113,9 @@ static NSEC3PARAM: [Form; 4] = [Form::Number8, Form::Number8, Form::Number16, Fo
 
 static ASSOCIATION: [Form; 4] = [Form::Number8, Form::Number8, Form::Number8, Form::Rest16];
 
-static CDS: [Form; 4] = [Form::Number16, Form::Number8, Form::Number8, Form::Rest16];
+static CDS: [Form; 4] = [Form::Number16, Form::Algorithm, Form::Number8, Form::Rest16];
 
-static CDNSKEY: [Form; 4] = [Form::Number16, Form::Number8, Form::Number8, Form::Rest64];
+static CDNSKEY: [Form; 4] = [Form::Number16, Form::Number8, Form::Algorithm, Form::Rest64];
 
 static KEY: [Form; 1] = [Form::Rest64];
 

@@ -13,7 +13,7 @@ mod show;
 mod value;
 
 pub use canonical::{field_len, make_further_canonical};
-pub use dns_field_texts::{TypeBitmap, TypeBitmapError, TypeBitmapIter, append_types};
+pub use dns_field_texts::{RtypeBitmap, RtypeBitmapError, RtypeBitmapIter, append_types};
 pub use form::{Form, forms_of};
 pub use row::{is_further_data, scan_further_into};
 pub use show::show_further;

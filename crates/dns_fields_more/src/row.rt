@@ -8,8 +8,9 @@ ghost use Rattle.dns_fields_more.specs.Rows.{EndWell, StandAs};
 
 use crate::scan::scan_forms;
 use crate::{Form, Value, forms_of};
+use dns_entry_scanner::EntryScanner;
 use dns_name::{LongRecordData, Parser, Rtype};
-use dns_text::{Scanner, ScannerError};
+use dns_text::ScannerError;
 
 /// Returns whether the octets are data of the further type: a row of its fields, every name in full.
 pub fn is_further_data(rtype: Rtype, octets: &[u8]) -> bool
@@ -26,7 +27,7 @@ pub fn is_further_data(rtype: Rtype, octets: &[u8]) -> bool
 ///
 /// Fails with an error other than `short_buf` only if the tokens do not begin with data of the type of at most 65,535
 /// octets. Nothing is then appended.
-pub fn scan_further_into<S: Scanner>(
+pub fn scan_further_into<S: EntryScanner>(
     rtype: Rtype,
     scanner: &mut S,
     octets: &mut Vec<u8>,

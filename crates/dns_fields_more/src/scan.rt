@@ -1,28 +1,30 @@
 //! Fields that are scanned into octets.
-ghost use Rattle.std.specs.Prelude.{◌≡◌, ◌++◌, false, true, List, ℕ, IfErr, IfOk, IfSome, IsSome, OnOk};
+ghost use Rattle.std.specs.Prelude.{◌≡◌, ◌≢◌, ◌++◌, false, true, List, [], ℕ, IfErr, IfOk, IfSome, IsSome, OnOk};
 ghost use Rattle.dns_scan.specs.Token.{IsWord, SameNames, Takes, Token};
 ghost use Rattle.dns_field_texts.specs.Appended.{GoesOn};
 ghost use Rattle.dns_fields_more.specs.Text.{AppendsForm, AppendsForms, AppendsName, NoFormScans, NoFormsScan, NoNameScans};
+ghost use Rattle.dns_field_texts.specs.NumberedWords.{algorithm_read, certificate_type_read};
 ghost use Rattle.dns_field_texts.specs.Time.{time_read};
 ghost use Rattle.dns_field_texts.specs.TypeWords.{type_word_read};
 ghost use Rattle.dns_field_texts.specs.declared.append.WordError.TheVariants.{Invalid};
 ghost use Rattle.dns_fields_more.specs.declared.form.Form.TheVariants as form_of;
 
 use crate::Form;
+use dns_entry_scanner::EntryScanner;
 use dns_field_texts::{
-    WordError, append_hardware, append_hash, append_salt, read_time, read_type, scan_location_into,
-    scan_types_into,
+    WordError, append_hardware, append_hash, append_salt, read_algorithm, read_certificate_type,
+    read_time, read_type, scan_location_into, scan_types_into,
 };
 use dns_name::{Octets, Rtype, ToName};
 use dns_service_parameters::scan_parameters_into;
-use dns_text::{Scan, Scanner, ScannerError, base16, base64};
+use dns_text::{Scan, ScannerError, base16, base64};
 use std::alloc::{AllocError, Global};
 
 /// Scans fields of the forms one after another, takes their tokens, and appends their octets, every name in full.
 ///
 /// Fails with an error other than `short_buf` only if the tokens do not begin with such fields. It may then have appended
 /// some of them.
-pub(crate) fn scan_forms<S: Scanner>(
+pub(crate) fn scan_forms<S: EntryScanner>(
     forms: &[Form],
     scanner: &mut S,
     octets: &mut Vec<u8>,
@@ -46,7 +48,11 @@ where
 }
 
 /// Scans a field of the form.
-fn scan_form<S: Scanner>(form: Form, scanner: &mut S, octets: &mut Vec<u8>) -> Result<(), S::Error>
+fn scan_form<S: EntryScanner>(
+    form: Form,
+    scanner: &mut S,
+    octets: &mut Vec<u8>,
+) -> Result<(), S::Error>
 where
     S::Name: Drop,
     ensures ok { OnOk result (AppendsForm (S.names scanner.old) form (S.tokens scanner.old) (S.tokens scanner.new)
@@ -66,6 +72,8 @@ where
         Form::Rest16 => scan_base16(scanner, octets),
         Form::Rest64 => scan_base64(scanner, octets),
         Form::Rtype => scan_rtype(scanner, octets),
+        Form::Algorithm => scan_algorithm(scanner, octets),
+        Form::CertificateType => scan_certificate_type(scanner, octets),
         Form::Time => scan_time(scanner, octets),
         Form::Salt => scan_salt(scanner, octets),
         Form::Hash => scan_hash(scanner, octets),
@@ -78,7 +86,7 @@ where
 }
 
 /// Scans a number of one octet.
-fn scan_number8<S: Scanner>(scanner: &mut S, octets: &mut Vec<u8>) -> Result<(), S::Error>
+fn scan_number8<S: EntryScanner>(scanner: &mut S, octets: &mut Vec<u8>) -> Result<(), S::Error>
     ensures ok { OnOk result (AppendsForm (S.names scanner.old) form_of.Number8 (S.tokens scanner.old) (S.tokens scanner.new)
         octets.old.items octets.new.items) }
     ensures err { IfErr result (λ error. S.Error.is_short error ≡ false
@@ -93,7 +101,7 @@ fn scan_number8<S: Scanner>(scanner: &mut S, octets: &mut Vec<u8>) -> Result<(),
 }
 
 /// Scans a number of two octets.
-fn scan_number16<S: Scanner>(scanner: &mut S, octets: &mut Vec<u8>) -> Result<(), S::Error>
+fn scan_number16<S: EntryScanner>(scanner: &mut S, octets: &mut Vec<u8>) -> Result<(), S::Error>
     ensures ok { OnOk result (AppendsForm (S.names scanner.old) form_of.Number16 (S.tokens scanner.old) (S.tokens scanner.new)
         octets.old.items octets.new.items) }
     ensures err { IfErr result (λ error. S.Error.is_short error ≡ false
@@ -108,7 +116,7 @@ fn scan_number16<S: Scanner>(scanner: &mut S, octets: &mut Vec<u8>) -> Result<()
 }
 
 /// Scans a number of four octets.
-fn scan_number32<S: Scanner>(scanner: &mut S, octets: &mut Vec<u8>) -> Result<(), S::Error>
+fn scan_number32<S: EntryScanner>(scanner: &mut S, octets: &mut Vec<u8>) -> Result<(), S::Error>
     ensures ok { OnOk result (AppendsForm (S.names scanner.old) form_of.Number32 (S.tokens scanner.old) (S.tokens scanner.new)
         octets.old.items octets.new.items) }
     ensures err { IfErr result (λ error. S.Error.is_short error ≡ false
@@ -123,7 +131,7 @@ fn scan_number32<S: Scanner>(scanner: &mut S, octets: &mut Vec<u8>) -> Result<()
 }
 
 /// Scans a character string.
-fn scan_string<S: Scanner>(scanner: &mut S, octets: &mut Vec<u8>) -> Result<(), S::Error>
+fn scan_string<S: EntryScanner>(scanner: &mut S, octets: &mut Vec<u8>) -> Result<(), S::Error>
     ensures ok { OnOk result (AppendsForm (S.names scanner.old) form_of.String (S.tokens scanner.old) (S.tokens scanner.new)
         octets.old.items octets.new.items) }
     ensures err { IfErr result (λ error. S.Error.is_short error ≡ false
@@ -145,7 +153,7 @@ fn scan_string<S: Scanner>(scanner: &mut S, octets: &mut Vec<u8>) -> Result<(), 
 }
 
 /// Scans a text, which is one token.
-fn scan_text<S: Scanner>(scanner: &mut S, octets: &mut Vec<u8>) -> Result<(), S::Error>
+fn scan_text<S: EntryScanner>(scanner: &mut S, octets: &mut Vec<u8>) -> Result<(), S::Error>
     ensures ok { OnOk result (AppendsForm (S.names scanner.old) form_of.RestText (S.tokens scanner.old) (S.tokens scanner.new)
         octets.old.items octets.new.items) }
     ensures err { IfErr result (λ error. S.Error.is_short error ≡ false
@@ -159,8 +167,8 @@ fn scan_text<S: Scanner>(scanner: &mut S, octets: &mut Vec<u8>) -> Result<(), S:
     }
 }
 
-/// Scans all tokens that are left, in base 16.
-fn scan_base16<S: Scanner>(scanner: &mut S, octets: &mut Vec<u8>) -> Result<(), S::Error>
+/// Scans all tokens that are left, in base 16 of one octet or more.
+fn scan_base16<S: EntryScanner>(scanner: &mut S, octets: &mut Vec<u8>) -> Result<(), S::Error>
     ensures ok { OnOk result (AppendsForm (S.names scanner.old) form_of.Rest16 (S.tokens scanner.old) (S.tokens scanner.new)
         octets.old.items octets.new.items) }
     ensures err { IfErr result (λ error. S.Error.is_short error ≡ false
@@ -169,13 +177,13 @@ fn scan_base16<S: Scanner>(scanner: &mut S, octets: &mut Vec<u8>) -> Result<(), 
     ensures more { GoesOn octets.old.items octets.new.items }
 {
     match base16::scan_entry(scanner) {
-        Ok(data) => append::<S>(octets, data.octets()),
+        Ok(data) => append_some::<S>(octets, data.octets()),
         Err(error) => Err(error),
     }
 }
 
-/// Scans all tokens that are left, in base 64.
-fn scan_base64<S: Scanner>(scanner: &mut S, octets: &mut Vec<u8>) -> Result<(), S::Error>
+/// Scans all tokens that are left, in base 64 of one octet or more.
+fn scan_base64<S: EntryScanner>(scanner: &mut S, octets: &mut Vec<u8>) -> Result<(), S::Error>
     ensures ok { OnOk result (AppendsForm (S.names scanner.old) form_of.Rest64 (S.tokens scanner.old) (S.tokens scanner.new)
         octets.old.items octets.new.items) }
     ensures err { IfErr result (λ error. S.Error.is_short error ≡ false
@@ -184,13 +192,13 @@ fn scan_base64<S: Scanner>(scanner: &mut S, octets: &mut Vec<u8>) -> Result<(), 
     ensures more { GoesOn octets.old.items octets.new.items }
 {
     match base64::scan_entry(scanner) {
-        Ok(data) => append::<S>(octets, data.octets()),
+        Ok(data) => append_some::<S>(octets, data.octets()),
         Err(error) => Err(error),
     }
 }
 
 /// Scans a name that is in lower case in canonical form.
-fn scan_lowered_name<S: Scanner>(scanner: &mut S, octets: &mut Vec<u8>) -> Result<(), S::Error>
+fn scan_lowered_name<S: EntryScanner>(scanner: &mut S, octets: &mut Vec<u8>) -> Result<(), S::Error>
 where
     S::Name: Drop,
     ensures ok { OnOk result (AppendsForm (S.names scanner.old) form_of.Name (S.tokens scanner.old) (S.tokens scanner.new)
@@ -207,7 +215,7 @@ where
 }
 
 /// Scans a name that keeps its case.
-fn scan_cased_name<S: Scanner>(scanner: &mut S, octets: &mut Vec<u8>) -> Result<(), S::Error>
+fn scan_cased_name<S: EntryScanner>(scanner: &mut S, octets: &mut Vec<u8>) -> Result<(), S::Error>
 where
     S::Name: Drop,
     ensures ok { OnOk result (AppendsForm (S.names scanner.old) form_of.CasedName (S.tokens scanner.old) (S.tokens scanner.new)
@@ -224,7 +232,7 @@ where
 }
 
 /// Scans types, up to the end.
-fn scan_types<S: Scanner>(scanner: &mut S, octets: &mut Vec<u8>) -> Result<(), S::Error>
+fn scan_types<S: EntryScanner>(scanner: &mut S, octets: &mut Vec<u8>) -> Result<(), S::Error>
     ensures ok { OnOk result (AppendsForm (S.names scanner.old) form_of.Types (S.tokens scanner.old) (S.tokens scanner.new)
         octets.old.items octets.new.items) }
     ensures err { IfErr result (λ error. S.Error.is_short error ≡ false
@@ -239,7 +247,7 @@ fn scan_types<S: Scanner>(scanner: &mut S, octets: &mut Vec<u8>) -> Result<(), S
 }
 
 /// Scans service parameters, up to the end.
-fn scan_parameters<S: Scanner>(scanner: &mut S, octets: &mut Vec<u8>) -> Result<(), S::Error>
+fn scan_parameters<S: EntryScanner>(scanner: &mut S, octets: &mut Vec<u8>) -> Result<(), S::Error>
     ensures ok { OnOk result (AppendsForm (S.names scanner.old) form_of.Parameters (S.tokens scanner.old) (S.tokens scanner.new)
         octets.old.items octets.new.items) }
     ensures err { IfErr result (λ error. S.Error.is_short error ≡ false
@@ -254,7 +262,7 @@ fn scan_parameters<S: Scanner>(scanner: &mut S, octets: &mut Vec<u8>) -> Result<
 }
 
 /// Scans a location, up to the end.
-fn scan_location<S: Scanner>(scanner: &mut S, octets: &mut Vec<u8>) -> Result<(), S::Error>
+fn scan_location<S: EntryScanner>(scanner: &mut S, octets: &mut Vec<u8>) -> Result<(), S::Error>
     ensures ok { OnOk result (AppendsForm (S.names scanner.old) form_of.Location (S.tokens scanner.old) (S.tokens scanner.new)
         octets.old.items octets.new.items) }
     ensures err { IfErr result (λ error. S.Error.is_short error ≡ false
@@ -269,7 +277,7 @@ fn scan_location<S: Scanner>(scanner: &mut S, octets: &mut Vec<u8>) -> Result<()
 }
 
 /// Scans a name, and appends it in full.
-fn scan_name<S: Scanner>(scanner: &mut S, octets: &mut Vec<u8>) -> Result<(), S::Error>
+fn scan_name<S: EntryScanner>(scanner: &mut S, octets: &mut Vec<u8>) -> Result<(), S::Error>
 where
     S::Name: Drop,
     ensures ok { OnOk result (AppendsName (S.names scanner.old) (S.tokens scanner.old) (S.tokens scanner.new)
@@ -293,7 +301,7 @@ where
 }
 
 /// Scans a type.
-fn scan_rtype<S: Scanner>(scanner: &mut S, octets: &mut Vec<u8>) -> Result<(), S::Error>
+fn scan_rtype<S: EntryScanner>(scanner: &mut S, octets: &mut Vec<u8>) -> Result<(), S::Error>
     ensures ok { OnOk result (AppendsForm (S.names scanner.old) form_of.Rtype (S.tokens scanner.old) (S.tokens scanner.new)
         octets.old.items octets.new.items) }
     ensures err { IfErr result (λ error. S.Error.is_short error ≡ false
@@ -314,8 +322,55 @@ fn type_in(text: &str) -> Option<u16>
     read_type(text.as_bytes()).map(Rtype::to_int)
 }
 
+/// Scans an algorithm.
+fn scan_algorithm<S: EntryScanner>(scanner: &mut S, octets: &mut Vec<u8>) -> Result<(), S::Error>
+    ensures ok { OnOk result (AppendsForm (S.names scanner.old) form_of.Algorithm (S.tokens scanner.old) (S.tokens scanner.new)
+        octets.old.items octets.new.items) }
+    ensures err { IfErr result (λ error. S.Error.is_short error ≡ false
+        → NoFormScans (S.names scanner.old) form_of.Algorithm (S.tokens scanner.old)) }
+    ensures names { SameNames (S.names scanner.old) (S.names scanner.new) }
+    ensures more { GoesOn octets.old.items octets.new.items }
+{
+    match scanner.scan_ascii_str(algorithm_in) {
+        Ok(number) => append::<S>(octets, &[number]),
+        Err(error) => Err(error),
+    }
+}
+
+/// Returns the algorithm that the text is a word of.
+fn algorithm_in(text: &str) -> Option<u8>
+    ensures { result ≡ algorithm_read text.now }
+{
+    read_algorithm(text.as_bytes())
+}
+
+/// Scans a type of certificate.
+fn scan_certificate_type<S: EntryScanner>(
+    scanner: &mut S,
+    octets: &mut Vec<u8>,
+) -> Result<(), S::Error>
+    ensures ok { OnOk result (AppendsForm (S.names scanner.old) form_of.CertificateType (S.tokens scanner.old) (S.tokens scanner.new)
+        octets.old.items octets.new.items) }
+    ensures err { IfErr result (λ error. S.Error.is_short error ≡ false
+        → NoFormScans (S.names scanner.old) form_of.CertificateType (S.tokens scanner.old)) }
+    ensures names { SameNames (S.names scanner.old) (S.names scanner.new) }
+    ensures more { GoesOn octets.old.items octets.new.items }
+{
+    match scanner.scan_ascii_str(certificate_type_in) {
+        Ok(number) => append::<S>(octets, &number.to_be_bytes()),
+        Err(error) => Err(error),
+    }
+}
+
+/// Returns the type of certificate that the text is a word of.
+fn certificate_type_in(text: &str) -> Option<u16>
+    ensures { result ≡ certificate_type_read text.now }
+{
+    read_certificate_type(text.as_bytes())
+}
+
 /// Scans a point in time.
-fn scan_time<S: Scanner>(scanner: &mut S, octets: &mut Vec<u8>) -> Result<(), S::Error>
+fn scan_time<S: EntryScanner>(scanner: &mut S, octets: &mut Vec<u8>) -> Result<(), S::Error>
     ensures ok { OnOk result (AppendsForm (S.names scanner.old) form_of.Time (S.tokens scanner.old) (S.tokens scanner.new)
         octets.old.items octets.new.items) }
     ensures err { IfErr result (λ error. S.Error.is_short error ≡ false
@@ -337,7 +392,7 @@ fn time_in(text: &str) -> Option<u32>
 }
 
 /// Scans a salt.
-fn scan_salt<S: Scanner>(scanner: &mut S, octets: &mut Vec<u8>) -> Result<(), S::Error>
+fn scan_salt<S: EntryScanner>(scanner: &mut S, octets: &mut Vec<u8>) -> Result<(), S::Error>
     ensures ok { OnOk result (AppendsForm (S.names scanner.old) form_of.Salt (S.tokens scanner.old) (S.tokens scanner.new)
         octets.old.items octets.new.items) }
     ensures err { IfErr result (λ error. S.Error.is_short error ≡ false
@@ -356,7 +411,7 @@ fn scan_salt<S: Scanner>(scanner: &mut S, octets: &mut Vec<u8>) -> Result<(), S:
 }
 
 /// Scans a hash.
-fn scan_hash<S: Scanner>(scanner: &mut S, octets: &mut Vec<u8>) -> Result<(), S::Error>
+fn scan_hash<S: EntryScanner>(scanner: &mut S, octets: &mut Vec<u8>) -> Result<(), S::Error>
     ensures ok { OnOk result (AppendsForm (S.names scanner.old) form_of.Hash (S.tokens scanner.old) (S.tokens scanner.new)
         octets.old.items octets.new.items) }
     ensures err { IfErr result (λ error. S.Error.is_short error ≡ false
@@ -375,7 +430,7 @@ fn scan_hash<S: Scanner>(scanner: &mut S, octets: &mut Vec<u8>) -> Result<(), S:
 }
 
 /// Scans a hardware address of six octets.
-fn scan_eui48<S: Scanner>(scanner: &mut S, octets: &mut Vec<u8>) -> Result<(), S::Error>
+fn scan_eui48<S: EntryScanner>(scanner: &mut S, octets: &mut Vec<u8>) -> Result<(), S::Error>
     ensures ok { OnOk result (AppendsForm (S.names scanner.old) form_of.Eui48 (S.tokens scanner.old) (S.tokens scanner.new)
         octets.old.items octets.new.items) }
     ensures err { IfErr result (λ error. S.Error.is_short error ≡ false
@@ -394,7 +449,7 @@ fn scan_eui48<S: Scanner>(scanner: &mut S, octets: &mut Vec<u8>) -> Result<(), S
 }
 
 /// Scans a hardware address of eight octets.
-fn scan_eui64<S: Scanner>(scanner: &mut S, octets: &mut Vec<u8>) -> Result<(), S::Error>
+fn scan_eui64<S: EntryScanner>(scanner: &mut S, octets: &mut Vec<u8>) -> Result<(), S::Error>
     ensures ok { OnOk result (AppendsForm (S.names scanner.old) form_of.Eui64 (S.tokens scanner.old) (S.tokens scanner.new)
         octets.old.items octets.new.items) }
     ensures err { IfErr result (λ error. S.Error.is_short error ≡ false
@@ -423,7 +478,7 @@ fn word_error<Error: ScannerError>(error: WordError) -> Error
 }
 
 /// Scans a word, and returns a copy of its text.
-fn scan_word<S: Scanner>(alloc: Global, scanner: &mut S) -> Result<Vec<u8>, S::Error>
+fn scan_word<S: EntryScanner>(alloc: Global, scanner: &mut S) -> Result<Vec<u8>, S::Error>
     ensures ok { IfOk result (λ text. Takes (IsWord text.items) (S.tokens scanner.old) (S.tokens scanner.new)) }
     ensures err { IfErr result (λ error. S.Error.is_short error ≡ false
         → (text : List ℕ) (left : List Token) → Takes (IsWord text) (S.tokens scanner.old) left → ⊥) }
@@ -440,8 +495,20 @@ fn scan_word<S: Scanner>(alloc: Global, scanner: &mut S) -> Result<Vec<u8>, S::E
     }
 }
 
+/// Appends the octets. Fails if there are none, and with `short_buf` if out of memory.
+fn append_some<S: EntryScanner>(octets: &mut Vec<u8>, more: &[u8]) -> Result<(), S::Error>
+    ensures ok { OnOk result ((more.now ≢ []) × (octets.new.items ≡ octets.old.items ++ more.now)) }
+    ensures err { IfErr result (λ error. S.Error.is_short error ≡ false → more.now ≡ []) }
+    ensures more { GoesOn octets.old.items octets.new.items }
+{
+    if more.is_empty() {
+        return Err(S::Error::custom("no octets"));
+    }
+    append::<S>(octets, more)
+}
+
 /// Appends the octets. Fails with `short_buf` if out of memory.
-fn append<S: Scanner>(octets: &mut Vec<u8>, more: &[u8]) -> Result<(), S::Error>
+fn append<S: EntryScanner>(octets: &mut Vec<u8>, more: &[u8]) -> Result<(), S::Error>
     ensures ok { OnOk result (octets.new.items ≡ octets.old.items ++ more.now) }
     ensures err { IfErr result (λ error. S.Error.is_short error ≡ true) }
     ensures more { GoesOn octets.old.items octets.new.items }

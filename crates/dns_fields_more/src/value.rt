@@ -34,8 +34,10 @@ impl<'a> Value<'a> {
         ensures stays { OnErr result (parser.new ≡ parser.old) }
     {
         match form {
-            Form::Number8 => Ok(Value::Number8(number8(parser)?)),
-            Form::Number16 | Form::Rtype => Ok(Value::Number16(number16(parser)?)),
+            Form::Number8 | Form::Algorithm => Ok(Value::Number8(number8(parser)?)),
+            Form::Number16 | Form::Rtype | Form::CertificateType => {
+                Ok(Value::Number16(number16(parser)?))
+            }
             Form::Number32 | Form::Time => Ok(Value::Number32(number32(parser)?)),
             Form::Name | Form::CasedName => Ok(Value::Name(name(parser)?)),
             Form::String | Form::Salt => Ok(Value::String(string(parser)?)),

@@ -7,7 +7,7 @@ use Rattle.dns_fields.specs.Fields.{field_octets, octets}
 use Rattle.dns_fields_more.specs.Forms.{AreFieldsOf, IsFieldOf, IsFurtherData, Keeps, forms_of, is_last}
 use Rattle.dns_fields_more.specs.Values.{NoneStandsIn, field_of, rest_field}
 use Rattle.dns_fields_more.specs.declared.form.Form.{Form}
-use Rattle.dns_fields_more.specs.declared.form.Form.TheVariants.{Number8, Number16, Number32, Name, CasedName, String, RestText, Rest16, Rest64, Rtype as RtypeForm, Time, Salt, Hash, Types, Parameters, Location, Eui48, Eui64}
+use Rattle.dns_fields_more.specs.declared.form.Form.TheVariants.{Number8, Number16, Number32, Name, CasedName, String, RestText, Rest16, Rest64, Rtype as RtypeForm, Algorithm, CertificateType, Time, Salt, Hash, Types, Parameters, Location, Eui48, Eui64}
 use Rattle.dns_fields_more.specs.declared.value.Value.{Value}
 use Rattle.dns_fields_more.specs.declared.value.Value.TheVariants as value
 use Rattle.dns_rdata_more.specs.Built.{fields_of, value_octets}
@@ -24,6 +24,8 @@ rest_built RestText text = refl
 rest_built Rest16 text = refl
 rest_built Rest64 text = refl
 rest_built RtypeForm text = refl
+rest_built Algorithm text = refl
+rest_built CertificateType text = refl
 rest_built Time text = refl
 rest_built Salt text = refl
 rest_built Hash text = refl
@@ -86,6 +88,8 @@ rest_is RestText text last keeps = record { kind = refl; is_field = tt; keeps = 
 rest_is Rest16 text last keeps = record { kind = refl; is_field = tt; keeps = keeps }
 rest_is Rest64 text last keeps = record { kind = refl; is_field = tt; keeps = keeps }
 rest_is RtypeForm text last keeps = absurd (cc)
+rest_is Algorithm text last keeps = absurd (cc)
+rest_is CertificateType text last keeps = absurd (cc)
 rest_is Time text last keeps = absurd (cc)
 rest_is Salt text last keeps = absurd (cc)
 rest_is Hash text last keeps = absurd (cc)

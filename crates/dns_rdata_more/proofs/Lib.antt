@@ -7,3 +7,4 @@ pub mod ShownParts
 pub mod ShownRows
 pub mod Ordered
 pub mod Folded
+pub mod ShownBack

@@ -17,7 +17,7 @@ use Rattle.dns_fields_more.specs.Forms.{IsFieldOf, is_last, kind_of_form, lowere
 use Rattle.dns_fields_more.specs.Rows.{EndWell, StandAs, form_lowered}
 use Rattle.dns_fields_more.specs.Values.{StandsIn}
 use Rattle.dns_fields_more.specs.declared.form.Form.{Form}
-use Rattle.dns_fields_more.specs.declared.form.Form.TheVariants.{Number8, Number16, Number32, Name, CasedName, String, RestText, Rest16, Rest64, Rtype as RtypeForm, Time, Salt, Hash, Types, Parameters, Location, Eui48, Eui64}
+use Rattle.dns_fields_more.specs.declared.form.Form.TheVariants.{Number8, Number16, Number32, Name, CasedName, String, RestText, Rest16, Rest64, Rtype as RtypeForm, Algorithm, CertificateType, Time, Salt, Hash, Types, Parameters, Location, Eui48, Eui64}
 use Rattle.dns_fields_more.proofs.Rows.{behind, parted}
 use Rattle.dns_rdata_more.specs.FurtherData.{fields_read, lowered_octets}
 use Rattle.dns_rdata_more.proofs.Rows.{ends_alike, lowered_first, read_first}
@@ -39,6 +39,8 @@ lowers RestText field is = refl
 lowers Rest16 field is = refl
 lowers Rest64 field is = refl
 lowers RtypeForm field is = refl
+lowers Algorithm field is = refl
+lowers CertificateType field is = refl
 lowers Time field is = refl
 lowers Salt field is = refl
 lowers Hash field is = refl
@@ -64,6 +66,8 @@ stays RestText field is = (is.is_field, is.kind)
 stays Rest16 field is = (is.is_field, is.kind)
 stays Rest64 field is = (is.is_field, is.kind)
 stays RtypeForm field is = (is.is_field, is.kind)
+stays Algorithm field is = (is.is_field, is.kind)
+stays CertificateType field is = (is.is_field, is.kind)
 stays Time field is = (is.is_field, is.kind)
 stays Salt field is = (is.is_field, is.kind)
 stays Hash field is = (is.is_field, is.kind)

@@ -7,7 +7,7 @@ use Rattle.dns_fields_more.specs.Forms.{IsFurtherData, forms_of, kind_of_form}
 use Rattle.dns_fields_more.specs.Rows.{EndWell, StandAs}
 use Rattle.dns_fields_more.specs.Values.{StandsIn, rest_field}
 use Rattle.dns_fields_more.specs.declared.form.Form.{Form}
-use Rattle.dns_fields_more.specs.declared.form.Form.TheVariants.{Number8, Number16, Number32, Name, CasedName, String, RestText, Rest16, Rest64, Rtype as RtypeForm, Time, Salt, Hash, Types, Parameters, Location, Eui48, Eui64}
+use Rattle.dns_fields_more.specs.declared.form.Form.TheVariants.{Number8, Number16, Number32, Name, CasedName, String, RestText, Rest16, Rest64, Rtype as RtypeForm, Algorithm, CertificateType, Time, Salt, Hash, Types, Parameters, Location, Eui48, Eui64}
 use Rattle.dns_fields_more.proofs.Rows.{behind, others_well}
 use Rattle.dns_rdata_more.specs.FurtherData.{HasField, IsFieldAt, form_at, kind_at}
 
@@ -92,6 +92,8 @@ rest_known CasedName text is = refl
 rest_known String text is = refl
 rest_known Rest16 text is = refl
 rest_known RtypeForm text is = refl
+rest_known Algorithm text is = refl
+rest_known CertificateType text is = refl
 rest_known Time text is = refl
 rest_known Salt text is = refl
 rest_known Hash text is = refl

@@ -14,7 +14,7 @@ use Rattle.dns_fields_more.specs.Forms.{AreFieldsOf, IsFieldOf, IsFurtherCanonic
 use Rattle.dns_fields_more.specs.Rows.{EndWell, StandAs}
 use Rattle.dns_fields_more.specs.Values.{StandsIn}
 use Rattle.dns_fields_more.specs.declared.form.Form.{Form}
-use Rattle.dns_fields_more.specs.declared.form.Form.TheVariants.{Number8, Number16, Number32, Name, CasedName, String, RestText, Rest16, Rest64, Rtype as RtypeForm, Time, Salt, Hash, Types, Parameters, Location, Eui48, Eui64}
+use Rattle.dns_fields_more.specs.declared.form.Form.TheVariants.{Number8, Number16, Number32, Name, CasedName, String, RestText, Rest16, Rest64, Rtype as RtypeForm, Algorithm, CertificateType, Time, Salt, Hash, Types, Parameters, Location, Eui48, Eui64}
 use Rattle.dns_fields_more.proofs.Rows.{behind, last_of, others_well, table_well}
 use Rattle.dns_rdata_more.specs.FurtherData.{IsFieldAt, canonical_of, compared_read, compared_row, field_read, fields_read, forms_or_none, lowered_octets, row_read}
 
@@ -41,6 +41,8 @@ forms_are_read RestText = refl
 forms_are_read Rest16 = refl
 forms_are_read Rest64 = refl
 forms_are_read RtypeForm = refl
+forms_are_read Algorithm = refl
+forms_are_read CertificateType = refl
 forms_are_read Time = refl
 forms_are_read Salt = refl
 forms_are_read Hash = refl
@@ -62,6 +64,8 @@ ends_alike RestText = refl
 ends_alike Rest16 = refl
 ends_alike Rest64 = refl
 ends_alike RtypeForm = refl
+ends_alike Algorithm = refl
+ends_alike CertificateType = refl
 ends_alike Time = refl
 ends_alike Salt = refl
 ends_alike Hash = refl

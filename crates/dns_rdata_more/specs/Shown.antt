@@ -5,12 +5,12 @@ use Rattle.dns_text.specs.Document.{Piece}
 use Rattle.dns_text.specs.Document.Piece.{Token as printed}
 use Rattle.dns_text.specs.Documents.{block_of}
 use Rattle.dns_fields.specs.Fields.{Field, number16, number32, string, rest16}
-use Rattle.dns_fields.specs.Shown.{field_pieces}
+use Rattle.dns_fields.specs.Shown.{field_tokens}
 use Rattle.dns_field_texts.specs.TypeWords.{type_word_written}
 use Rattle.dns_field_texts.specs.Time.{time_written}
 use Rattle.dns_field_texts.specs.HashWords.{salt_written, hash_written}
 use Rattle.dns_field_texts.specs.Hardware.{hardware_written}
-use Rattle.dns_field_texts.specs.TypeBitmap.{type_pieces, types_in}
+use Rattle.dns_field_texts.specs.TypeBitmap.{types_in}
 use Rattle.dns_service_parameters.specs.Service.{Parameter}
 use Rattle.dns_service_parameters.specs.ServiceParts.{read_parameter}
 use Rattle.dns_service_parameters.specs.ServiceText.{parameter_text}
@@ -45,24 +45,28 @@ location_read octets = record {
   altitude = from_be_bytes w32 (take 4 (drop 12 octets));
 }
 
--- how a field of the form is printed; a field of any other form is printed as one of its kind
-abbrev pub form_pieces : Form → Field → List Piece
-form_pieces RtypeForm (number16 n) = printed (type_word_written n) ∷ []
-form_pieces Time (number32 n) = printed (time_written n) ∷ []
-form_pieces Salt (string octets) = printed (salt_written octets) ∷ []
-form_pieces Hash (string octets) = printed (hash_written octets) ∷ []
-form_pieces Types (rest16 octets) = type_pieces (types_in octets)
-form_pieces Parameters (rest16 octets) = map printed (map parameter_text (parameters_read octets))
-form_pieces LocationForm (rest16 octets) = map printed (location_words (location_read octets))
-form_pieces Eui48 (rest16 octets) = printed (hardware_written octets) ∷ []
-form_pieces Eui64 (rest16 octets) = printed (hardware_written octets) ∷ []
-form_pieces form field = field_pieces field
+-- The texts of the tokens that a field of the form is printed as. A field of any other form is printed as one of its kind.
+abbrev pub form_tokens : Form → Field → List (List ℕ)
+form_tokens RtypeForm (number16 n) = type_word_written n ∷ []
+form_tokens Time (number32 n) = time_written n ∷ []
+form_tokens Salt (string octets) = salt_written octets ∷ []
+form_tokens Hash (string octets) = hash_written octets ∷ []
+form_tokens Types (rest16 octets) = map type_word_written (types_in octets)
+form_tokens Parameters (rest16 octets) = map parameter_text (parameters_read octets)
+form_tokens LocationForm (rest16 octets) = location_words (location_read octets)
+form_tokens Eui48 (rest16 octets) = hardware_written octets ∷ []
+form_tokens Eui64 (rest16 octets) = hardware_written octets ∷ []
+form_tokens form field = field_tokens field
 
-abbrev pub forms_pieces : List Form → List Field → List Piece
-forms_pieces [] row = []
-forms_pieces (form ∷ forms) [] = []
-forms_pieces (form ∷ forms) (field ∷ row) = form_pieces form field ++ forms_pieces forms row
+abbrev pub forms_tokens : List Form → List Field → List (List ℕ)
+forms_tokens [] row = []
+forms_tokens (form ∷ forms) [] = []
+forms_tokens (form ∷ forms) (field ∷ row) = form_tokens form field ++ forms_tokens forms row
 
--- the document of data of the type: its fields in a block
+-- the texts of the tokens that data of the type is printed as
+unfoldable pub further_tokens : ℕ → List ℕ → List (List ℕ)
+further_tokens rtype data' = forms_tokens (forms_or_none rtype) (row_read rtype data')
+
+-- the document of data of the type: these tokens in a block
 unfoldable pub further_document : ℕ → List ℕ → List Piece
-further_document rtype data' = block_of (forms_pieces (forms_or_none rtype) (row_read rtype data'))
+further_document rtype data' = block_of (map printed (further_tokens rtype data'))

@@ -14,10 +14,10 @@ mod record;
 mod show;
 
 pub use any::AnyFurtherData;
+use dns_entry_scanner::EntryScanner;
 use dns_fields_more::{is_further_data, scan_further_into};
 use dns_name::{Octets, ParseError, Parser, Rtype};
 use dns_rr_data::DataType;
-use dns_text::Scanner;
 use std::alloc::Global;
 use std::marker::{Model, PhantomData};
 use thiserror::Error;
@@ -114,7 +114,7 @@ impl<T: DataType> FurtherData<T, Vec<u8>> {
     ///
     /// Fails with an error other than `short_buf` only if the tokens do not begin with data of the type of at most 65,535
     /// octets.
-    pub fn scan<S: Scanner>(alloc: Global, scanner: &mut S) -> Result<Self, S::Error>
+    pub fn scan<S: EntryScanner>(alloc: Global, scanner: &mut S) -> Result<Self, S::Error>
     where
         S::Name: Drop,
         ensures ok { IfOk result (λ rdata. AppendsFurther (S.names scanner.old) T.number (S.tokens scanner.old) (S.tokens scanner.new) [] rdata) }

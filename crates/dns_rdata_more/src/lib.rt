@@ -18,7 +18,7 @@ pub mod laws;
 mod types;
 
 pub use build::BuildError;
-pub use dns_fields_more::{TypeBitmap, TypeBitmapError, TypeBitmapIter};
+pub use dns_fields_more::{RtypeBitmap, RtypeBitmapError, RtypeBitmapIter};
 pub use further_data::{AnyFurtherData, FurtherData, FurtherDataError};
 pub use types::{
     Cdnskey, Cds, Cert, Csync, Eui48, Eui64, Https, Loc, Naptr, Nsec, Nsec3, Nsec3param,

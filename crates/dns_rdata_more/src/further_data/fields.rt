@@ -11,7 +11,7 @@ ghost use Rattle.dns_fields_more.specs.Values.{field_of};
 ghost use Rattle.dns_rdata_more.specs.FurtherData.{HasField, IsFieldAt, form_at, kind_at};
 
 use super::FurtherData;
-use dns_fields_more::{Form, TypeBitmap, Value, forms_of};
+use dns_fields_more::{Form, RtypeBitmap, Value, forms_of};
 use dns_name::{Name, Octets, Parser, Rtype};
 use dns_rr_data::DataType;
 
@@ -94,11 +94,11 @@ impl<T: DataType, Octs: Octets> FurtherData<T, Octs> {
     }
 
     /// Returns the bitmap of types at a place of the data.
-    pub(crate) fn types_at(&self, place: usize) -> TypeBitmap<'_>
+    pub(crate) fn types_at(&self, place: usize) -> RtypeBitmap<'_>
         requires { form_at T.number place ≡ Some form_of.Types }
         ensures { IsFieldAt T.number self.now place (rest16 result) }
     {
-        TypeBitmap::from_octets_unchecked(self.rest16_at(place))
+        RtypeBitmap::from_octets_unchecked(self.rest16_at(place))
     }
 
     /// Returns the last octets, which are printed in base 64, at a place of the data.

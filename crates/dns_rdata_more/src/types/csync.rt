@@ -5,7 +5,7 @@ ghost use Rattle.dns_rdata_more.specs.Built.{MakesTypes};
 ghost use Rattle.dns_rdata_more.specs.FurtherData.{IsFieldAt};
 
 use crate::build::{bitmap_of, build_with};
-use crate::{BuildError, FurtherData, TypeBitmap};
+use crate::{BuildError, FurtherData, RtypeBitmap};
 use dns_fields_more::Value;
 use dns_name::{Octets, Rtype, Serial};
 use dns_rr_data::Number;
@@ -30,7 +30,7 @@ impl<Octs: Octets> FurtherData<Number<62>, Octs> {
     }
 
     /// Returns the bitmap of the types that are copied.
-    pub fn types(&self) -> TypeBitmap<'_>
+    pub fn types(&self) -> RtypeBitmap<'_>
         ensures { IsFieldAt 62 self.now 2 (rest16 result) }
     {
         self.types_at(2)

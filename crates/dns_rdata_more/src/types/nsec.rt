@@ -5,7 +5,7 @@ ghost use Rattle.dns_rdata_more.specs.Built.{MakesTypes};
 ghost use Rattle.dns_rdata_more.specs.FurtherData.{IsFieldAt};
 
 use crate::build::{bitmap_of, build_with, name_value};
-use crate::{BuildError, FurtherData, TypeBitmap};
+use crate::{BuildError, FurtherData, RtypeBitmap};
 use dns_name::{Name, Octets, Rtype};
 use dns_rr_data::Number;
 use std::alloc::Global;
@@ -22,7 +22,7 @@ impl<Octs: Octets> FurtherData<Number<47>, Octs> {
     }
 
     /// Returns the bitmap of the types that the owner has.
-    pub fn types(&self) -> TypeBitmap<'_>
+    pub fn types(&self) -> RtypeBitmap<'_>
         ensures { IsFieldAt 47 self.now 1 (rest16 result) }
     {
         self.types_at(1)

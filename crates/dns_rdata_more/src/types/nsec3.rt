@@ -5,7 +5,7 @@ ghost use Rattle.dns_rdata_more.specs.Built.{MakesTypes};
 ghost use Rattle.dns_rdata_more.specs.FurtherData.{IsFieldAt};
 
 use crate::build::{bitmap_of, build_with, hash_value, string_value};
-use crate::{BuildError, FurtherData, TypeBitmap};
+use crate::{BuildError, FurtherData, RtypeBitmap};
 use dns_fields_more::Value;
 use dns_name::{Octets, Rtype};
 use dns_rr_data::Number;
@@ -51,7 +51,7 @@ impl<Octs: Octets> FurtherData<Number<50>, Octs> {
     }
 
     /// Returns the bitmap of the types that the owner has.
-    pub fn types(&self) -> TypeBitmap<'_>
+    pub fn types(&self) -> RtypeBitmap<'_>
         ensures { IsFieldAt 50 self.now 5 (rest16 result) }
     {
         self.types_at(5)
