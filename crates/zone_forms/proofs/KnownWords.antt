@@ -41,7 +41,7 @@ named_in test (row ∷ table) word n each is =
     by false same each others found = others each.1 found
 
 -- the number behind a prefix
-record Behind (prefix word : List ℕ) (n : ℕ) : Type 0 where
+pub record Behind (prefix word : List ℕ) (n : ℕ) : Type 0 where
   pub below : n < 65536
   pub same : map to_ascii_lowercase prefix ≡ map to_ascii_lowercase (take (length prefix) word)
 
@@ -52,7 +52,7 @@ spelled_below limit text n is = by (list_all is_ascii_digit text && nat_lt 0 (le
     by : (test : Bool) (value : ℕ) → (if test && nat_lt value limit then Some value else None) ≡ Some n → n < limit
     by test value found = grind (arith, nat_tests)
 
-behind_in : (prefix word : List ℕ) (n : ℕ) → number_behind prefix word ≡ Some n → Behind prefix word n
+pub behind_in : (prefix word : List ℕ) (n : ℕ) → number_behind prefix word ≡ Some n → Behind prefix word n
 unfolding number_behind
 behind_in prefix word n is = by (str_eq_ignore_ascii_case prefix (take (length prefix) word)) refl is
   where
@@ -66,11 +66,11 @@ either (Some m) second n is = inl is
 either None second n is = inr is
 
 -- the first character is a letter
-abbrev begins_letter : List ℕ → Bool
+abbrev pub begins_letter : List ℕ → Bool
 begins_letter [] = false
 begins_letter (c ∷ text) = nat_lt 96 (to_ascii_lowercase c)
 
-letter_alike : (a b : List ℕ) → map to_ascii_lowercase a ≡ map to_ascii_lowercase b → begins_letter a ≡ begins_letter b
+pub letter_alike : (a b : List ℕ) → map to_ascii_lowercase a ≡ map to_ascii_lowercase b → begins_letter a ≡ begins_letter b
 letter_alike [] [] same = refl
 letter_alike [] (c ∷ b) same = absurd cc
 letter_alike (c ∷ a) [] same = absurd cc
@@ -86,10 +86,10 @@ letter_taken count [] is = absurd (by count is)
 letter_taken zero (c ∷ text) is = absurd cc
 letter_taken (suc count) (c ∷ text) is = is
 
-no_digit : (c : ℕ) → nat_lt 96 (to_ascii_lowercase c) ≡ true → is_ascii_digit c ≡ false
+pub no_digit : (c : ℕ) → nat_lt 96 (to_ascii_lowercase c) ≡ true → is_ascii_digit c ≡ false
 no_digit c is = grind (arith, nat_tests)
 
-letter_no_digits : (text : List ℕ) → begins_letter text ≡ true → list_all is_ascii_digit text ≡ false
+pub letter_no_digits : (text : List ℕ) → begins_letter text ≡ true → list_all is_ascii_digit text ≡ false
 letter_no_digits [] is = absurd cc
 letter_no_digits (c ∷ text) is = ap (λ (b : Bool). b && list_all is_ascii_digit text) (no_digit c is)
 
@@ -97,16 +97,19 @@ types_letters : list_all (λ row. begins_letter row.1) types ≡ true
 unfolding types
 types_letters = refl
 
--- a word for a type has no digit at its start
-pub type_no_digits : (text : List ℕ) (n : ℕ) → type_read text ≡ Some n → list_all is_ascii_digit text ≡ false
+-- a word for a type begins with a letter
+pub type_letter : (text : List ℕ) (n : ℕ) → type_read text ≡ Some n → begins_letter text ≡ true
 unfolding number_read
-type_no_digits text n is =
-    letter_no_digits text
-    (elim (either (number_behind (codes "TYPE") text) (number_named types text) n is) [
+type_letter text n is =
+    elim (either (number_behind (codes "TYPE") text) (number_named types text) n is) [
       | inl found ↦ letter_taken 4 text (sym (letter_alike (codes "TYPE") (take 4 text) (behind_in (codes "TYPE") text n found).same))
       | inr found ↦ (let named = named_in (λ row. begins_letter row.1) types text n types_letters found in
           sym (letter_alike named.row.1 text named.same) ∙ named.passes)
-    ])
+    ]
+
+-- so it is no digits
+pub type_no_digits : (text : List ℕ) (n : ℕ) → type_read text ≡ Some n → list_all is_ascii_digit text ≡ false
+type_no_digits text n is = letter_no_digits text (type_letter text n is)
 
 types_small : list_all (λ row. nat_lt row.0 65536) types ≡ true
 unfolding types

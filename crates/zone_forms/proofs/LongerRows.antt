@@ -128,7 +128,7 @@ abbrev pub general_of : TokenRow → List Token → Token → ℕ → List ℕ �
 general_of row front word rtype content = with_tokens row (front ++ unquoted (known_word word rtype) ∷ general_tokens content)
 
 -- no row is a directive that begins as one that is none
-still_none : {row : TokenRow} {front others : List Token} (word : Token) (behind : List Token) (other : Token) (again : List Token)
+pub still_none : {row : TokenRow} {front others : List Token} (word : Token) (behind : List Token) (other : Token) (again : List Token)
     → (IsDirective row → ⊥) → row.tokens ≡ front ++ word ∷ behind → HasFront row.blank_led front others
     → IsDirective (with_tokens row (front ++ other ∷ again)) → ⊥
 still_none {row} word behind other again none is front directs = by front is directs.is directs.unled

@@ -1,10 +1,10 @@
 -- The octets of a row with another word for its type and another text of words for its data are a row.
-use Rattle.std.proofs.Common.{◌≡◌, ◌⊎◌, ◌<◌, ◌^◌, ℕ, Bool, true, false, List, [], ◌∷◌, ◌++◌, length, map, decimal, inl, inr, refl, sym, ◌∙◌, ap, subst, arith, append_assoc, append-nil}
+use Rattle.std.proofs.Common.{◌≡◌, ◌⊎◌, ◌<◌, ◌^◌, ℕ, Bool, true, false, List, [], ◌∷◌, ◌++◌, length, map, decimal, if◌then◌else◌, inl, inr, refl, sym, ◌∙◌, ap, subst, arith, append_assoc, append-nil}
 use Rattle.std.proofs.lemmas.List.{length-map}
 use Rattle.std.proofs.lemmas.Bool.{false≢true}
 use Rattle.std.proofs.lemmas.Fmt.{decimal_nonempty}
 use Rattle.std.proofs.lemmas.List.Concat.{flat_map-append}
-use Rattle.std.specs.List.{AllByRecursion, flat_map, join_with_byte}
+use Rattle.std.specs.List.{AllByRecursion, flat_map, join_with_byte, list_all}
 use Rattle.dns_label.specs.Octets.{AreOctets}
 use Rattle.dns_label.specs.declared.symbol.Symbol.TheVariants.{Char, SimpleEscape}
 use Rattle.dns_label.specs.Symbol.{spelled}
@@ -16,14 +16,15 @@ use Rattle.dns_fields.proofs.PrintedRows.{safe_16}
 use Rattle.dns_fields.proofs.PrintedTexts.{IsSafe, safe_decimal}
 use Rattle.dns_text.specs.Rows.{BeginsWithRows, TokenRow, is_led}
 use Rattle.dns_text.specs.Rows.BeginsWithRows.{none as no_rows, more as more_rows}
-use Rattle.dns_text.specs.Tokens.{IsIn, Row, head_of}
+use Rattle.dns_text.specs.Tokens.{Head, IsIn, Row, head_of, is_gap}
 use Rattle.dns_text.specs.Tokens.Head.{Go}
 use Rattle.dns_text.proofs.TokenSymbols.{word_no_gap}
 use Rattle.zone_forms.specs.LongerRow.{general_tokens, with_tokens}
 use Rattle.zone_forms.specs.Parts.{AreParts, BeginsWithEnd, EndsRow, IsGap, IsToken, Part, ends_word, part_octets, row_octets, token_octets, tokens_of}
 use Rattle.zone_forms.specs.Parts.AreParts.{ended, more}
 use Rattle.zone_forms.specs.Parts.IsGap.{none, goes, comment}
-use Rattle.zone_forms.specs.Rewritten.{AreRow, Rewrites, data_octets, gaps_of, spaced}
+use Rattle.zone_forms.specs.Rewritten.{AreRow, Rewrites, data_octets, gaps_of, kept, spaced}
+use Rattle.zone_forms.proofs.KnownWords.{both_hold}
 use Rattle.zone_forms.proofs.RowGaps.{gap_ends, go_ends}
 use Rattle.zone_forms.proofs.RowParts.{begins_at, ends_begin, no_word, parts_apart, parts_row, row_alone, token_first}
 
@@ -93,10 +94,31 @@ abbrev pub last_of : List Part → List ℕ → List ℕ
 last_of [] last = last
 last_of (part ∷ parts) last = gaps_of parts ++ last
 
+-- white space alone has the same side before it and behind it, and what stays of a gap is one
+chosen : (test : Bool) (first second found : Head) → test ≡ true → (if test then first else second) ≡ found → first ≡ found
+chosen true first second found is same = same
+chosen false first second found is same = absurd cc
+
+blank_gap : {inside out : Bool} {gap : List ℕ} → IsGap inside gap out → list_all is_gap gap ≡ true → inside ≡ out
+blank_gap none blank = refl
+blank_gap {inside} (goes {behind = behind} {octet = octet} {gap = gap} head first) blank =
+    let both = both_hold (is_gap octet) (list_all is_gap gap) blank in
+    let same : Go inside ≡ Go behind = chosen (is_gap octet) (Go inside) _ (Go behind) both.0 head in
+    let side : inside ≡ behind = cc in
+    side ∙ blank_gap first both.1
+blank_gap (comment text no_feed first) blank = absurd cc
+
+kept_gap : {inside out : Bool} {gap : List ℕ} → IsGap inside gap out → IsGap inside (kept gap) out
+kept_gap {inside} {out} {gap} first = by (list_all is_gap gap) refl
+  where
+    by : (blank : Bool) → list_all is_gap gap ≡ blank → IsGap inside (if blank then [] else gap) out
+    by true is = subst (λ (b : Bool). IsGap inside [] b) (blank_gap first is) none
+    by false is = first
+
 gaps_end : {inside : Bool} {parts : List Part} {last : List ℕ} → AreParts inside parts last → EndsRow inside (gaps_of parts ++ last)
 gaps_end (ended ends) = ends
-gaps_end {inside} (more {part = part} {parts = parts} {last = last} is_gap is begins others) =
-    subst (λ l. EndsRow inside l) (sym (append_assoc part.gap (gaps_of parts) last)) (gap_ends is_gap (gaps_end others))
+gaps_end {inside} (more {part = part} {parts = parts} {last = last} between is begins others) =
+    subst (λ l. EndsRow inside l) (sym (append_assoc (kept part.gap) (gaps_of parts) last)) (gap_ends (kept_gap between) (gaps_end others))
 
 pub data_are : {inside : Bool} {parts : List Part} {last : List ℕ} (first : List ℕ) (words : List (List ℕ)) → AreParts inside parts last
     → IsToken (unquoted first) → AreWords words → AreParts inside (data_parts_of parts first words) (last_of parts last)

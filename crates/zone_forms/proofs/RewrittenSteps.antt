@@ -1,17 +1,18 @@
 -- Rewriting a row part by part.
-use Rattle.std.proofs.Common.{◌≡◌, ◌⊎◌, ◌+◌, ◌-◌, ◌*◌, ◌<◌, ◌≤◌, ℕ, Bool, true, false, List, [], ◌∷◌, ◌++◌, length, take, drop, if◌then◌else◌, Some, None, inl, inr, refl, sym, ◌∙◌, ap, subst, arith, append_assoc, append-nil, length-append, length-drop}
+use Rattle.std.proofs.Common.{◌≡◌, ◌⊎◌, ◌+◌, ◌-◌, ◌*◌, ◌<◌, ◌≤◌, ℕ, zero, suc, Bool, true, false, List, [], ◌∷◌, ◌++◌, length, take, drop, if◌then◌else◌, Some, None, inl, inr, refl, sym, ◌∙◌, ap, subst, arith, append_assoc, append-nil, length-append, length-drop}
+use Rattle.std.specs.Prelude.{slice_get}
 use Rattle.std.proofs.lemmas.Bool.{cases_order, eq-eqb, le-ltb, lt-ltb, ne_eqb}
 use Rattle.std.proofs.lemmas.List.{drop-drop, length-map, take-append-drop}
 use Rattle.std.proofs.lemmas.List.Concat.{flat_map-append}
-use Rattle.std.proofs.Math.Seq.{take-append_seam, drop-append_seam}
+use Rattle.std.proofs.Math.Seq.{take-append_seam}
 use Rattle.std.specs.List.{flat_map}
 use Rattle.dns_scan.specs.Token.{Token}
 use Rattle.dns_text.specs.Tokens.{Next, Row}
 use Rattle.dns_entry_scanner.specs.TokenEnd.{between}
 use Rattle.dns_entry_scanner.proofs.Steps.{one_next}
 use Rattle.zone_forms.specs.Parts.{AreParts, Part, part_octets, row_octets, token_octets, tokens_of}
-use Rattle.zone_forms.specs.Rewritten.{data_octets, gaps_of, spaced}
-use Rattle.zone_forms.specs.WrittenPart.{NoToken, written_none, written_part}
+use Rattle.zone_forms.specs.Rewritten.{data_octets, gaps_of, kept, spaced}
+use Rattle.zone_forms.specs.WrittenPart.{HasNext, written_none, written_part}
 use Rattle.zone_forms.proofs.RowParts.{cut_row, parts_end, parts_next}
 
 -- what is written for tokens of data so far
@@ -44,12 +45,12 @@ written_data : (index place : ℕ) (word text gap token : List ℕ) → index �
 written_data index place word text gap token same =
     rw (le-ltb index place (omega arith), ne_eqb index place (λ e. omega arith), eq-eqb index (place + 1) same) refl
 
-written_behind : (index place : ℕ) (word text gap token : List ℕ) → place + 1 < index → written_part index place word text gap token ≡ gap
+written_behind : (index place : ℕ) (word text gap token : List ℕ) → place + 1 < index → written_part index place word text gap token ≡ kept gap
 written_behind index place word text gap token more =
     rw (le-ltb index place (omega arith), ne_eqb index place (λ e. omega arith), ne_eqb index (place + 1) (λ e. omega arith)) refl
 
-gaps_more : (parts : List Part) (part : Part) → gaps_of (parts ++ part ∷ []) ≡ gaps_of parts ++ part.gap
-gaps_more parts part = flat_map-append (λ (p : Part). p.gap) parts (part ∷ []) ∙ ap (λ l. gaps_of parts ++ l) (append-nil part.gap)
+gaps_more : (parts : List Part) (part : Part) → gaps_of (parts ++ part ∷ []) ≡ gaps_of parts ++ kept part.gap
+gaps_more parts part = flat_map-append (λ (p : Part). kept p.gap) parts (part ∷ []) ∙ ap (λ l. gaps_of parts ++ l) (append-nil (kept part.gap))
 
 -- one more token of data
 begun_more : (parts : List Part) (part : Part) (index place : ℕ) (word text : List ℕ) → index ≡ place + 1 + length parts
@@ -111,6 +112,12 @@ written_more {place} {word} {text} {parts} {new} part (with_type from) =
     })
 written_more {place} {word} {text} {parts} {new} part (before few is) =
     more_before place word text parts new part few is (cases_order (length parts) place)
+
+-- no token is behind the last one
+no_token : (tokens : List Token) (index : ℕ) (found : Token) → slice_get tokens index ≡ Some found → length tokens ≤ index → ⊥
+no_token [] index found is all = cc
+no_token (token ∷ tokens) zero found is all = omega (arith, all)
+no_token (token ∷ tokens) (suc index) found is all = no_token tokens index found is (omega (arith, all))
 
 -- The row so far: the parts that were gone over, those that are left, and what was appended.
 pub record Gone (octets rest : List ℕ) (tokens : List Token) (place : ℕ) (word text : List ℕ) (inside : Bool) (left : List ℕ) (index : ℕ)
@@ -246,6 +253,29 @@ module _ {octets rest left old now : List ℕ} {tokens : List Token} {place inde
       → GoneNext octets rest tokens place word text left index old now found out behind
   gone_next {found} {out} {behind} next = next_at gone.others refl found out behind next
 
+  -- the token at the index is the next one
+  found_at : (parts others : List Part) (part : Part) (found : Token) → slice_get (tokens_of (parts ++ part ∷ others)) (length parts) ≡ Some found
+      → part.token ≡ found
+  found_at [] others part found is = cc
+  found_at (first ∷ parts) others part found is = found_at parts others part found is
+
+  has_at : (others : List Part) → gone.others ≡ others → (found : Token) → slice_get tokens index ≡ Some found → HasNext inside left found
+  has_at [] none found is =
+      let all : length tokens ≡ length gone.front =
+      ap (length {A = Token}) (sym gone.tokens_are) ∙ length-map (gone.front ++ gone.others) (λ (p : Part). p.token)
+      ∙ length-append gone.front gone.others ∙ ap (λ (l : List Part). length gone.front + length l) none ∙ omega arith in
+      absurd (no_token tokens index found is (omega (arith, all, gone.count)))
+  has_at (part ∷ others) some found is =
+      let first = part_at part others some in
+      let token : part.token ≡ found =
+      found_at gone.front others part found
+      (ap (λ (l : List Part). slice_get (tokens_of (gone.front ++ l)) (length gone.front)) (sym some)
+      ∙ ap (λ (l : List Token). slice_get l (length gone.front)) gone.tokens_are ∙ ap (slice_get tokens) (sym gone.count) ∙ is) in
+      subst (HasNext inside left) token (record { out = first.out; rest = row_octets others gone.last ++ rest; next = first.next })
+
+  pub has_next : (found : Token) → slice_get tokens index ≡ Some found → HasNext inside left found
+  has_next found is = has_at gone.others refl found is
+
 -- The octets of a row with another word for its type and another text for its data.
 pub record RewrittenTo (octets : List ℕ) (tokens : List Token) (place : ℕ) (word text new : List ℕ) : Type 0 where
   pub front_parts : List Part
@@ -268,7 +298,7 @@ begun_all (part ∷ parts) index place text is =
 -- the row at its end
 pub record GoneAll (octets rest : List ℕ) (tokens : List Token) (place : ℕ) (word text left : List ℕ) (index : ℕ) (old now : List ℕ)
     : Type 0 where
-  pub few : place < index
+  pub whole : index ≡ length tokens
   pub last : List ℕ
   pub left_is : left ≡ last ++ rest
   pub new : List ℕ
@@ -296,7 +326,7 @@ module _ {octets rest left old now : List ℕ} {tokens : List Token} {place inde
       ∙ ap (λ l. front ++ (from.type_part.gap ++ (word ++ (l ++ gone.last)))) (begun_all from.data_parts index place text count) in
       let all_appended : (now ++ none_octets) ++ gone.last ≡ old ++ (gone.new ++ (none_octets ++ gone.last)) =
       ap (λ l. (l ++ none_octets) ++ gone.last) gone.appended ∙ simp append_assoc in record {
-        few = omega (arith, all, within);
+        whole = all;
         last = gone.last;
         left_is = gone.left_is ∙ ap (λ l. row_octets l gone.last ++ rest) none;
         new = made;
@@ -314,48 +344,21 @@ module _ {octets rest left old now : List ℕ} {tokens : List Token} {place inde
         appended = all_appended ∙ ap (λ l. old ++ (l ++ (none_octets ++ gone.last))) same ∙ ap (λ l. old ++ l) more;
       }
 
-  none_left : (others : List Part) → gone.others ≡ others → NoToken inside left → gone.others ≡ []
-  none_left [] is none = is
-  none_left (part ∷ others) is none =
-      let first = part_at gone part others is in absurd (none part.token first.out (row_octets others gone.last ++ rest) first.next)
+  none_left : (others : List Part) → gone.others ≡ others → length tokens ≤ index → gone.others ≡ []
+  none_left [] is all = is
+  none_left (part ∷ others) is all =
+      let count : length tokens ≡ length gone.front + length (part ∷ others) =
+      ap (length {A = Token}) (sym gone.tokens_are) ∙ length-map (gone.front ++ gone.others) (λ (p : Part). p.token)
+      ∙ length-append gone.front gone.others ∙ ap (λ (l : List Part). length gone.front + length l) is in
+      absurd (omega (arith, count, all, gone.count))
 
-  pub gone_all : place < length tokens → NoToken inside left → GoneAll octets rest tokens place word text left index old now
-  gone_all within none =
-      let none' = none_left gone.others refl none in
+  pub gone_all : place < length tokens → length tokens ≤ index → GoneAll octets rest tokens place word text left index old now
+  gone_all within all =
+      let none = none_left gone.others refl all in
       let count : length tokens ≡ length gone.front =
       ap (length {A = Token}) (sym gone.tokens_are) ∙ length-map (gone.front ++ gone.others) (λ (p : Part). p.token)
-      ∙ ap (λ (l : List Part). length (gone.front ++ l)) none' ∙ ap (length {A = Part}) (append-nil gone.front) in
-      end_of gone.new none' (omega (arith, gone.count, count)) within gone.written refl
-
--- Where the next token is, by the place after it.
-pub record TokenAt (text : List ℕ) (behind end : ℕ) (gap octets : List ℕ) : Type 0 where
-  pub few : length octets ≤ end
-  pub order : behind ≤ end - length octets
-  pub gap_is : between behind (end - length octets) text ≡ gap
-  pub octets_are : between (end - length octets) end text ≡ octets
-
-pub token_at : (text gap octets left : List ℕ) (behind end : ℕ) → behind ≤ length text → end ≤ length text
-    → drop behind text ≡ gap ++ (octets ++ left) → drop end text ≡ left → TokenAt text behind end gap octets
-token_at text gap octets left behind end within within' at at_end =
-    let whole : length text - behind ≡ length gap + (length octets + length left) =
-    sym (length-drop behind text) ∙ ap (length {A = ℕ}) at ∙ length-append gap (octets ++ left)
-    ∙ ap (λ n. length gap + n) (length-append octets left) in
-    let rest : length text - end ≡ length left = sym (length-drop end text) ∙ ap (length {A = ℕ}) at_end in
-    let end_is : end ≡ behind + length gap + length octets = omega (arith, whole, rest, within, within') in
-    let start = end - length octets in
-    let start_is : start ≡ behind + length gap = omega (arith, end_is) in
-    let behind_start : drop start text ≡ octets ++ left =
-    ap (λ n. drop n text) start_is ∙ sym (drop-drop (length gap) behind text) ∙ ap (drop (length gap)) at ∙ drop-append_seam gap (octets ++ left) in
-    record {
-      few = omega (arith, end_is);
-      order = omega (arith, end_is);
-      gap_is =
-          let len : start - behind ≡ length gap = omega (arith, start_is) in
-          ap (λ n. take n (drop behind text)) len ∙ ap (take (length gap)) at ∙ take-append_seam gap (octets ++ left);
-      octets_are =
-          let len : end - start ≡ length octets = omega (arith, end_is, start_is) in
-          ap (λ n. take n (drop start text)) len ∙ ap (take (length octets)) behind_start ∙ take-append_seam octets left;
-    }
+      ∙ ap (λ (l : List Part). length (gone.front ++ l)) none ∙ ap (length {A = Part}) (append-nil gone.front) in
+      end_of gone.new none (omega (arith, gone.count, count)) within gone.written refl
 
 -- the octets from a place to the next row
 pub last_at : (text last : List ℕ) (behind next : ℕ) → behind ≤ length text → next ≤ length text → drop behind text ≡ last ++ drop next text

@@ -98,11 +98,11 @@ module _ (row : FoundRow) (start : ℕ) (begins : start ≡ bool_byte (not row.b
       rw add-one (one_more start index (tokens_in row) _ from (token_at row.text.now row.spans.now index default within) none' each)
 
   -- but that at the place is for one
-  pub type_found : {number rtype : ℕ} {known : Bool} {text : List ℕ} (default : TokenSpan) → index < length row.spans.now → (IsDirective (row_in row) → ⊥)
+  pub type_found : {number rtype : ℕ} {known : Bool} (default : TokenSpan) → index < length row.spans.now → (IsDirective (row_in row) → ⊥)
       → IsTypeWord number (token_in row.text.now (get_or row.spans.now index default)) → rtype ≡ number
-      → ((token : Token) → slice_get (tokens_in row) index ≡ Some token → text ≡ token.text) → known ≡ is_some (type_read text)
+      → known ≡ is_some (type_read (token_in row.text.now (get_or row.spans.now index default)).text)
       → HasTypeAt (row_in row) (record { index = index; rtype = rtype; known = known })
-  type_found {known = known} default within no_directive is same text_is known_is =
+  type_found {known = known} default within no_directive is same known_is =
       let at = token_at row.text.now row.spans.now index default within in record {
         front = take index (tokens_in row);
         word = token_in row.text.now (get_or row.spans.now index default);
@@ -116,7 +116,7 @@ module _ (row : FoundRow) (start : ℕ) (begins : start ≡ bool_byte (not row.b
           type = subst (λ n. IsTypeWord n (token_in row.text.now (get_or row.spans.now index default))) (sym same) is;
         };
         place = place_of index (tokens_in row) _ at;
-        known = known_is ∙ ap (λ (l : List ℕ). is_some (type_read l)) (text_is _ at);
+        known = known_is;
       }
 
   -- and there are no more

@@ -1,5 +1,6 @@
 -- A row whose octets were written with its data in general form.
-use Rattle.std.proofs.Common.{◌≡◌, ℕ, List, arith, refl, subst}
+use Rattle.std.proofs.Common.{◌≡◌, ◌≤◌, ℕ, List, [], length, arith, refl, subst}
+use Rattle.dns_label.specs.Octets.{AreOctets}
 use Rattle.dns_name.specs.UnknownText.{unknown_text}
 use Rattle.dns_scan.specs.Token.{Token}
 use Rattle.dns_text.specs.Rows.{TokenRow}
@@ -7,11 +8,12 @@ use Rattle.dns_entry_scanner.specs.NameInText.{SpellsUnder}
 use Rattle.dns_zonefile.specs.Entry.{Context, Entry, IsEntry}
 use Rattle.dns_zonefile.specs.Statement.{Names}
 use Rattle.zone_forms.specs.LongerEntries.{IsLongerEntry}
-use Rattle.zone_forms.specs.LongerRow.{IsGeneralRow, ScansLonger, Stands, known_word}
+use Rattle.zone_forms.specs.LongerRow.{HasType, IsGeneralRow, ScansLonger, Stands, known_word}
 use Rattle.zone_forms.specs.LongerRow.IsGeneralRow.{same, further}
+use Rattle.zone_forms.specs.Readable.{HasGeneralRow}
 use Rattle.zone_forms.specs.Rewritten.{AreRow, GoesGeneral, Rewrites}
 use Rattle.zone_forms.specs.Rewritten.IsWrittenAs.{same as written_same, further as written_otherwise}
-use Rattle.zone_forms.specs.Seen.{HasTypeAt, IsFound, RewritesAt, WritesGeneral, octets_in, row_in}
+use Rattle.zone_forms.specs.Seen.{HasTypeAt, IsFound, RewritesAt, WritesGeneral, WritesNoData, octets_in, row_in}
 use Rattle.zone_forms.specs.declared.found_row.FoundRow.{FoundRow}
 use Rattle.zone_forms.specs.declared.row_type.RowType.{RowType}
 use Rattle.zone_forms.proofs.GeneralRows.{general_row, rewrites_row}
@@ -25,34 +27,41 @@ rewrites_same row place {word} {word'} {text} {text'} {new} {new'} words texts n
     subst (λ (l : List ℕ). RewritesAt row place word' text' l) news
     (subst (λ (l : List ℕ). RewritesAt row place word' l new) texts (subst (λ (l : List ℕ). RewritesAt row place l text new) words so))
 
-module _ (row : FoundRow) {kind : RowType} (has : HasTypeAt (row_in row) kind) (found : IsFound row) {names : Names} {new : List ℕ}
-    (writes : WritesGeneral names row kind new) where
-  rewrites : Rewrites (row_in row) has.front has.word has.data' (known_word has.word kind.rtype) (unknown_text writes.content) (octets_in row) new
-  rewrites =
+module _ (row : FoundRow) {kind : RowType} (has : HasTypeAt (row_in row) kind) (found : IsFound row) {new word : List ℕ}
+    (word_is : (front : List Token) (stated : Token) (rtype : ℕ) (data' : List Token) → HasType (row_in row) front stated rtype data'
+    → word ≡ known_word stated rtype) where
+  rewrites_known : {text : List ℕ} → RewritesAt row kind.index word text new
+      → Rewrites (row_in row) has.front has.word has.data' (known_word has.word kind.rtype) text (octets_in row) new
+  rewrites_known so =
       rewrites_row found has.has has.place
-      (rewrites_same row kind.index (writes.word_is has.front has.word kind.rtype has.data' has.has) refl refl writes.so)
+      (rewrites_same row kind.index (word_is has.front has.word kind.rtype has.data' has.has) refl refl so)
 
-  scans : ScansLonger names kind.rtype has.data' writes.content
-  scans = subst (λ (l : List Token). ScansLonger names kind.rtype l writes.content) (data_at row has) writes.scans
-
-  -- they are the general row
-  pub is_row : AreRow new (general_of (row_in row) has.front has.word kind.rtype writes.content)
-  is_row =
+  known_row : (content : List ℕ) → AreOctets content → length content ≤ 65535 → RewritesAt row kind.index word (unknown_text content) new
+      → AreRow new (general_of (row_in row) has.front has.word kind.rtype content)
+  known_row content are short so =
       let small = type_word_below has.word.text kind.rtype has.has.type.reads in
-      let short = writes.short in
-      general_row writes.content has.has rewrites (omega (arith, small)) writes.octets (omega (arith, short))
+      general_row content has.has (rewrites_known so) (omega (arith, small)) are (omega (arith, short))
+
+module _ (row : FoundRow) {kind : RowType} (has : HasTypeAt (row_in row) kind) (found : IsFound row) {new : List ℕ} where
+  -- they are the general row
+  pub is_row : {names : Names} (writes : WritesGeneral names row kind new) → AreRow new (general_of (row_in row) has.front has.word kind.rtype writes.content)
+  is_row writes = known_row row has found writes.word_is writes.content writes.octets writes.short writes.so
+
+  -- or that of a record with no octets of data
+  pub is_stand_in : WritesNoData row kind new → AreRow new (general_of (row_in row) has.front has.word kind.rtype [])
+  is_stand_in writes = known_row row has found writes.word_is [] tt (omega arith) writes.so
 
 -- and the row is its entry
 pub goes_general : {context after : Context} {entry : Entry} (row : FoundRow) {kind : RowType} (has : HasTypeAt (row_in row) kind)
     (found : IsFound row) {new : List ℕ} (writes : WritesGeneral (SpellsUnder context.origin) row kind new) → (Stands (row_in row) → ⊥)
     → IsEntry context (general_of (row_in row) has.front has.word kind.rtype writes.content) entry after
     → GoesGeneral context (row_in row) (octets_in row) new entry after
-goes_general row {kind} has found writes not is = record {
+goes_general {context} row {kind} has found writes not is = record {
   general = general_of (row_in row) has.front has.word kind.rtype writes.content;
-  is = further not has.has (scans row has found writes);
+  is = further not has.has (subst (λ (l : List Token). ScansLonger (SpellsUnder context.origin) kind.rtype l writes.content) (data_at row has) writes.scans);
   so = is;
   are = is_row row has found writes;
-  written = written_otherwise (known_word has.word kind.rtype) writes.content has.has.is refl (rewrites row has found writes);
+  written = written_otherwise (known_word has.word kind.rtype) writes.content not has.has.is refl (rewrites_known row has found writes.word_is writes.so);
 }
 
 -- the entry of a row that stands
@@ -69,3 +78,13 @@ pub goes_stands : {context after : Context} {row : TokenRow} {octets : List ℕ}
     → IsEntry context row entry after → GoesGeneral context row octets octets entry after
 goes_stands {row = row} stands are is =
     record { general = row; is = same stands; so = is; are = are; written = written_same refl }
+
+-- its general row is written, entry or not
+pub has_general : {context : Context} (row : FoundRow) {kind : RowType} (has : HasTypeAt (row_in row) kind) (found : IsFound row) {new : List ℕ}
+    (writes : WritesGeneral (SpellsUnder context.origin) row kind new) → (Stands (row_in row) → ⊥) → HasGeneralRow context (row_in row) (octets_in row) new
+has_general {context} row {kind} has found writes not = record {
+  general = general_of (row_in row) has.front has.word kind.rtype writes.content;
+  is = further not has.has (subst (λ (l : List Token). ScansLonger (SpellsUnder context.origin) kind.rtype l writes.content) (data_at row has) writes.scans);
+  are = is_row row has found writes;
+  written = written_otherwise (known_word has.word kind.rtype) writes.content not has.has.is refl (rewrites_known row has found writes.word_is writes.so);
+}

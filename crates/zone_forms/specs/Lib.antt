@@ -2,6 +2,7 @@ pub mod Parts
 pub mod LongerRow
 pub mod LongerEntries
 pub mod Rewritten
+pub mod Readable
 pub mod Refused
 pub mod Presented
 pub mod Seen

@@ -73,6 +73,13 @@ pub record WritesGeneral (names : Names) (row : FoundRow) (kind : RowType) (new 
       → word ≡ known_word stated rtype
   pub so : RewritesAt row kind.index word (unknown_text content) new
 
+-- the octets are the row's with a known word for its type and no octets of data
+pub record WritesNoData (row : FoundRow) (kind : RowType) (new : List ℕ) : Type 0 where
+  pub word : List ℕ
+  pub word_is : (front : List Token) (stated : Token) (rtype : ℕ) (data' : List Token) → HasType (row_in row) front stated rtype data'
+      → word ≡ known_word stated rtype
+  pub so : RewritesAt row kind.index word (unknown_text []) new
+
 -- what the rows so far have set
 abbrev pub context_in : LongerReader → Context
 context_in reader = reader.entries

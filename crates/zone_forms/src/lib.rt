@@ -11,8 +11,11 @@
 
 mod error;
 mod found_row;
+mod general_form;
+pub mod laws;
 mod longer_reader;
 mod presenting;
+mod readable;
 mod rewriting;
 mod row_data;
 mod row_type;
@@ -20,4 +23,5 @@ mod text_form;
 mod texts;
 
 pub use error::FormError;
+pub use readable::general_rows;
 pub use texts::{general, present};

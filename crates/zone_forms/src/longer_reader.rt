@@ -1,9 +1,7 @@
 //! Reading rows by the table that has the further types too.
-ghost use Rattle.std.specs.Prelude.{◌≡◌, ◌↔◌, ◌+◌, ◌≤◌, ℕ, List, Some, false, true, drop, length, option_copied, string_bytes, IfErr, IfNone, IfOk, IfSome, IsSome, IsTrue, OnErr, OnOk};
+ghost use Rattle.std.specs.Prelude.{◌≡◌, ◌↔◌, ◌+◌, ℕ, List, Some, false, true, drop, option_copied, IfErr, IfNone, IfOk, IfSome, IsSome, IsTrue, OnErr, OnOk};
 ghost use Rattle.dns_entry_scanner.specs.EntryError.{is_memory};
 ghost use Rattle.dns_entry_scanner.specs.NameInText.{SpellsUnder};
-ghost use Rattle.dns_label.specs.Octets.{AreOctets};
-ghost use Rattle.dns_name.specs.UnknownText.{unknown_text};
 ghost use Rattle.dns_scan.specs.Token.{Token};
 ghost use Rattle.dns_text.specs.Rows.{TokenRow};
 ghost use Rattle.dns_zonefile.specs.Entry as spec;
@@ -11,14 +9,15 @@ ghost use Rattle.dns_zonefile.specs.Entry.{IsEntry, at_start};
 ghost use Rattle.zone_forms.specs.LongerEntries.{IsLongerEntry};
 ghost use Rattle.zone_forms.specs.LongerRow.{HasType, ScansLonger, Stands, known_word};
 ghost use Rattle.zone_forms.specs.Rewritten.{AreRow, GoesGeneral};
-ghost use Rattle.zone_forms.specs.Seen.{HasTypeAt, IsFound, WritesGeneral, context_in, octets_in, octets_of, row_in, tokens_in};
+ghost use Rattle.zone_forms.specs.Seen.{HasTypeAt, IsFound, WritesGeneral, WritesNoData, context_in, octets_in, octets_of, row_in, tokens_in};
 
 use crate::found_row::FoundRow;
+use crate::general_form::append_general_form;
 use crate::rewriting::append_rewritten;
 use crate::row_data::{is_marked, scan_data};
 use crate::row_type::{RowType, row_type};
 use dns_fields_more::forms_of;
-use dns_name::{Class, Name, Rtype, ToName, UnknownRecordData};
+use dns_name::{Class, Name, Rtype, ToName};
 use dns_zonefile::{EntryError, EntryReader, RowFound, TokenSpan, read_row};
 use std::alloc::{AllocError, Global};
 use std::fmt::Write;
@@ -41,8 +40,12 @@ pub(crate) struct LongerReader {
     record: Vec<u8>,
     /// The octets of the data of the last row that was read by its general row.
     data: Vec<u8>,
+    /// The general form of that data.
+    form: Vec<u8>,
     /// That general row.
     general: Vec<u8>,
+    /// The same row with no octets of data, which is short. It is an entry exactly if that row is, so it is read in its place.
+    stand_in: Vec<u8>,
     /// Its tokens.
     spans: Vec<TokenSpan>,
 }
@@ -66,7 +69,9 @@ impl LongerReader {
             entries,
             record: Vec::new(alloc),
             data: Vec::new(alloc),
+            form: Vec::new(alloc),
             general: Vec::new(alloc),
+            stand_in: Vec::new(alloc),
             spans: Vec::new(alloc),
         })
     }
@@ -109,7 +114,7 @@ impl LongerReader {
         Ok(RowForm::Same)
     }
 
-    /// Reads the entry of the row by its general row.
+    /// Writes the general row, and reads the entry of the row.
     fn read_further(&mut self, row: FoundRow<'_>, kind: RowType) -> Result<(), EntryError>
         requires found { IsFound row }
         requires has { HasTypeAt (row_in row) kind }
@@ -121,16 +126,21 @@ impl LongerReader {
         ensures same { OnErr result (context_in self.new ≡ context_in self.old) }
     {
         self.write_general(row, kind)?;
-        self.read_general()
+        self.read_stand_in()
     }
 
-    /// Writes the general row of the row, which does not stand.
+    /// Writes the general row of the row, which does not stand, and the row that is read in its place.
     ///
     /// Fails with an error other than `OutOfMemory` only if there is none.
-    fn write_general(&mut self, row: FoundRow<'_>, kind: RowType) -> Result<(), EntryError>
+    pub(crate) fn write_general(
+        &mut self,
+        row: FoundRow<'_>,
+        kind: RowType,
+    ) -> Result<(), EntryError>
         requires found { IsFound row }
         requires has { HasTypeAt (row_in row) kind }
         ensures ok { OnOk result (WritesGeneral (SpellsUnder (context_in self.old).origin) row.entry kind self.new.general.items) }
+        ensures stand_in { OnOk result (WritesNoData row.entry kind self.new.stand_in.items) }
         ensures err { IfErr result (λ error. is_memory error ≡ false → (content : List ℕ)
             → ScansLonger (SpellsUnder (context_in self.old).origin) kind.rtype (drop (kind.index + 1) (tokens_in row.entry)) content → ⊥) }
         ensures same { context_in self.new ≡ context_in self.old }
@@ -138,34 +148,36 @@ impl LongerReader {
         let word = general_word(self.alloc, row, kind)?;
         self.data.clear();
         scan_data(self.alloc, row, kind, self.entries.origin(), &mut self.data)?;
-        let text = general_text(self.alloc, &self.data)?;
+        self.form.clear();
+        append_general_form(&self.data, &mut self.form)?;
         self.general.clear();
-        append_rewritten(row, kind.index, &word, text.as_bytes(), &mut self.general)?;
+        append_rewritten(row, kind.index, &word, &self.form, &mut self.general)?;
+        self.stand_in.clear();
+        append_rewritten(row, kind.index, &word, b"\\# 0", &mut self.stand_in)?;
         Ok(())
     }
 
-    /// Reads the entry of the general row.
-    fn read_general(&mut self) -> Result<(), EntryError>
-        requires { (row : TokenRow) × AreRow self.old.general.items row }
-        ensures ok { OnOk result ((row : TokenRow) → AreRow self.old.general.items row
+    /// Reads the entry of the row that is read in place of the general one.
+    fn read_stand_in(&mut self) -> Result<(), EntryError>
+        requires { (row : TokenRow) × AreRow self.old.stand_in.items row }
+        ensures ok { OnOk result ((row : TokenRow) → AreRow self.old.stand_in.items row
             → (entry : spec.Entry) × IsEntry (context_in self.old) row entry (context_in self.new)) }
         ensures err { IfErr result (λ error. is_memory error ≡ false → (row : TokenRow) (entry : spec.Entry) (after : spec.Context)
-            → AreRow self.old.general.items row → IsEntry (context_in self.old) row entry after → ⊥) }
+            → AreRow self.old.stand_in.items row → IsEntry (context_in self.old) row entry after → ⊥) }
         ensures same { OnErr result (context_in self.new ≡ context_in self.old) }
         ensures kept { self.new.general ≡ self.old.general }
     {
         self.record.clear();
-        let RowFound::Row { blank_led, .. } = read_row(&self.general, 0, &mut self.spans)? else {
+        let RowFound::Row { blank_led, .. } = read_row(&self.stand_in, 0, &mut self.spans)? else {
             unreachable!();
         };
-        self.entries
-            .read_entry(&self.general, 0, &self.spans, blank_led, &mut self.record)?;
+        self.entries.read_entry(&self.stand_in, 0, &self.spans, blank_led, &mut self.record)?;
         Ok(())
     }
 }
 
 /// Returns the type of the row if it does not read as it stands.
-fn further_type(row: FoundRow<'_>) -> Option<RowType>
+pub(crate) fn further_type(row: FoundRow<'_>) -> Option<RowType>
     ensures some { IfSome result (HasTypeAt (row_in row.entry)) }
     ensures further { IsSome result → Stands (row_in row.entry) → ⊥ }
     ensures none { IfNone result (Stands (row_in row.entry)) }
@@ -184,23 +196,6 @@ fn stands(row: FoundRow<'_>, kind: RowType) -> bool
     ensures { IsTrue result ↔ Stands (row_in row.entry) }
 {
     kind.known && (is_marked(row, kind.index) || forms_of(Rtype::from_int(kind.rtype)).is_none())
-}
-
-/// Returns the general form of data.
-fn general_text(alloc: Global, octets: &[u8]) -> Result<String, EntryError>
-    requires { length octets.now ≤ 65535 }
-    ensures ok { IfOk result (λ text. string_bytes text ≡ unknown_text octets.now) }
-    ensures octets { AreOctets octets.now }
-    ensures err { IfErr result (λ error. is_memory error ≡ true) }
-{
-    let Ok(data) = UnknownRecordData::from_octets(Rtype::NULL, octets) else {
-        unreachable!();
-    };
-    let mut text = String::new(alloc);
-    match write!(text, "{data}") {
-        Ok(()) => Ok(text),
-        Err(_) => Err(EntryError::OutOfMemory),
-    }
 }
 
 /// Returns the word for the type of the general row: the row's own, or if that is not known, `TYPE` and the number.

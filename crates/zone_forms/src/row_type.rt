@@ -1,5 +1,7 @@
 //! Which type the record of a row has.
-ghost use Rattle.std.specs.Prelude.{◌↔◌, IsTrue, IfSome, IfNone};
+ghost use Rattle.std.specs.Prelude.{◌≡◌, ◌↔◌, IsTrue, IfSome, IfNone, None, Some, codes, is_some};
+ghost use Rattle.dns_values.specs.Mnemonic.{type_read};
+ghost use Rattle.dns_field_texts.specs.TypeWords.{type_word_read};
 ghost use Rattle.dns_entry_scanner.specs.TokenSpan.{token_in};
 ghost use Rattle.dns_zonefile.specs.Statement.{IsDirective};
 ghost use Rattle.zone_forms.specs.LongerRow.{IsNoTypeWord, IsTypeWord};
@@ -31,11 +33,11 @@ pub(crate) fn row_type(row: FoundRow<'_>) -> Option<RowType>
         return None;
     }
     for index in usize::from(!row.blank_led)..row.spans.len() {
-        if let Some(rtype) = word_type(row.text, &row.spans[index]) {
+        if let Some(word) = word_type(row.text, &row.spans[index]) {
             return Some(RowType {
                 index,
-                rtype: rtype.to_int(),
-                known: Rtype::from_bytes(row.token(index)).is_some(),
+                rtype: word.rtype.to_int(),
+                known: word.known,
             });
         }
     }
@@ -54,13 +56,87 @@ fn is_directive(row: FoundRow<'_>) -> bool
     }
 }
 
+/// A word for a type.
+#[derive(Clone, Copy)]
+struct TypeWord {
+    rtype: Rtype,
+    /// Whether zone readers that know no further types know the word.
+    known: bool,
+}
+
 /// Returns the type that the token is a word for.
-fn word_type(text: &[u8], span: &TokenSpan) -> Option<Rtype>
-    ensures some { IfSome result (λ rtype. IsTypeWord rtype (token_in text.now span.now)) }
+fn word_type(text: &[u8], span: &TokenSpan) -> Option<TypeWord>
+    ensures some { IfSome result (λ word. IsTypeWord word.rtype (token_in text.now span.now)
+        × (word.known ≡ is_some (type_read (token_in text.now span.now).text))) }
     ensures none { IfNone result (IsNoTypeWord (token_in text.now span.now)) }
 {
     if span.is_quoted() {
         return None;
     }
-    read_type(span.text(text))
+    type_of(span.text(text))
+}
+
+/// Returns the type that the word is for. Most words before the type of a row, and most types, need no search of the tables.
+#[tactic(auto, using(crate::proofs::TypeOf::known_type))]
+fn type_of(word: &[u8]) -> Option<TypeWord>
+    ensures some { IfSome result (λ found. (type_word_read word.now ≡ Some found.rtype) × (found.known ≡ is_some (type_read word.now))) }
+    ensures none { IfNone result (type_word_read word.now ≡ None) }
+{
+    if is_before_type(word) {
+        return None;
+    }
+    if let Some(rtype) = frequent_type(word) {
+        return Some(TypeWord { rtype, known: true });
+    }
+    if let Some(rtype) = Rtype::from_bytes(word) {
+        return Some(TypeWord { rtype, known: true });
+    }
+    match read_type(word) {
+        Some(rtype) => Some(TypeWord {
+            rtype,
+            known: false,
+        }),
+        None => None,
+    }
+}
+
+/// Returns whether the word is the class IN, or begins with a digit, as a TTL does. Such a word is for no type.
+#[tactic(auto, using(crate::proofs::TypeOf::class_first))]
+fn is_before_type(word: &[u8]) -> bool
+    ensures { IsTrue result → type_word_read word.now ≡ None }
+{
+    begins_with_digit(word) || is_internet(word)
+}
+
+/// Returns whether the word begins with a digit. Such a word is for no type.
+fn begins_with_digit(word: &[u8]) -> bool
+    ensures { IsTrue result → type_word_read word.now ≡ None }
+{
+    match word.split_first() {
+        Some((first, _)) => first.is_ascii_digit(),
+        None => false,
+    }
+}
+
+/// Returns whether the word is the class IN, in upper case.
+fn is_internet(word: &[u8]) -> bool
+    ensures { IsTrue result ↔ (word.now ≡ codes "IN") }
+{
+    matches!(word, [b'I', b'N'])
+}
+
+/// Returns the type whose mnemonic the word is, in upper case, if it is one of those of most records.
+fn frequent_type(word: &[u8]) -> Option<Rtype>
+    ensures { IfSome result (λ rtype. type_read word.now ≡ Some rtype) }
+{
+    match word {
+        [b'A'] => Some(Rtype::A),
+        [b'N', b'S'] => Some(Rtype::NS),
+        [b'D', b'S'] => Some(Rtype::DS),
+        [b'A', b'A', b'A', b'A'] => Some(Rtype::AAAA),
+        [b'N', b'S', b'E', b'C'] => Some(Rtype::NSEC),
+        [b'R', b'R', b'S', b'I', b'G'] => Some(Rtype::RRSIG),
+        [b'N', b'S', b'E', b'C', b'3'] => Some(Rtype::NSEC3),
+        _ => None,
+    }
 }

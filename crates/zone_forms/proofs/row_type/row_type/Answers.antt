@@ -1,12 +1,10 @@
-use Rattle.std.proofs.Common.{◌∙◌, ap}
-use Rattle.std.specs.Prelude.{is_some}
 use Rattle.zone_forms.proofs.RowTypes.{goes_on, none_found, type_found}
 use Rattle.zone_forms.proofs.row_type.row_type.Goals as goal
 
 pub returns-in-Some-clause-some : goal.returns-in-Some-clause-some
 returns-in-Some-clause-some c =
     type_found c.args.row c.from-index.result c.from-index.ensures c.loop-index.index c.loop-index.auto.index c.loop-index.invariant _ c.loop-index-test.true
-    (λ is. let yes = c.is_directive.ensures.1 is in cc) c.in-Some.ensures.some c.to_int.ensures c.token.ensures (c.is_some.ensures ∙ ap is_some c.from_bytes.ensures)
+    (λ is. let yes = c.is_directive.ensures.1 is in cc) c.in-Some.ensures.some.0 c.to_int.ensures c.in-Some.ensures.some.1
 
 pub loop-index-preserved : goal.loop-index-preserved
 loop-index-preserved c =

@@ -4,6 +4,7 @@ use Rattle.dns_name.specs.UnknownText.{unknown_text}
 use Rattle.dns_entry_scanner.specs.NameInText.{SpellsUnder}
 use Rattle.zone_forms.specs.LongerRow.{ScansLonger}
 use Rattle.zone_forms.specs.Seen.{tokens_in}
+use Rattle.zone_forms.proofs.GeneralForm.{no_octets}
 use Rattle.zone_forms.proofs.WrittenRows.{rewrites_same}
 use Rattle.zone_forms.proofs.longer_reader.LongerReader.write_general.Goals as goal
 
@@ -16,11 +17,21 @@ returns-clause-ok c =
     record {
       content = content;
       scans = subst (λ (o : Option (List (List ℕ))). ScansLonger (SpellsUnder o) c.args.kind.rtype (drop (c.args.kind.index + 1) (tokens_in c.args.row)) content) c.origin.ensures scanned.1;
-      octets = subst AreOctets same c.in_ok-text.ensures.octets;
+      octets = subst AreOctets same c.in_ok-append_general_form.ensures.octets;
       short = scanned.2;
       word = c.in_ok-word.word.items;
       word_is = c.in_ok-word.ensures.ok;
       so = rewrites_same c.args.row c.args.kind.index c.deref-2.ensures.value
-          (c.as_bytes.ensures.value ∙ c.in_ok-text.ensures.ok ∙ ap unknown_text same)
-          (sym (appended.2 ∙ ap (λ (l : List ℕ). l ++ appended.0) c.clear-2.ensures.items)) appended.1;
+          (c.deref-3.ensures.value ∙ c.in_ok-append_general_form.ensures.text
+          ∙ ap (λ (l : List ℕ). l ++ unknown_text c.deref.result.now) c.clear-2.ensures.items ∙ ap unknown_text same)
+          (sym (appended.2 ∙ ap (λ (l : List ℕ). l ++ appended.0) c.clear-3.ensures.items)) appended.1;
+    }
+
+pub returns-clause-stand_in : goal.returns-clause-stand_in
+returns-clause-stand_in c =
+    let appended = c.in_ok-append_rewritten-2.ensures in record {
+      word = c.in_ok-word.word.items;
+      word_is = c.in_ok-word.ensures.ok;
+      so = rewrites_same c.args.row c.args.kind.index c.deref-4.ensures.value no_octets
+          (sym (appended.2 ∙ ap (λ (l : List ℕ). l ++ appended.0) c.clear-4.ensures.items)) appended.1;
     }
