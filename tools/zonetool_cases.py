@@ -179,19 +179,29 @@ def general(*parts):
 
 
 NEXT = "$ORIGIN example.com.\nalfa 86400 IN NSEC {}{}\n"
-FIELDS, GAPS = "host A ( ; next\n  MX\tRRSIG NSEC TYPE1234 ) ; end", "  ( ; next\n  \t   ) ; end"
+FIELDS, GAPS = "host A ( ; next\n  MX\tRRSIG NSEC TYPE1234 ) ; end", " ( ; next\n   ) ; end"
 SHOWN = "host.example.com. A MX RRSIG NSEC TYPE1234"
 LONG = "host.example.com.", "A", "MX", "RRSIG", "NSEC", "TYPE1234"
 SEVERAL = "s.z. 60 IN {} 1 . port=53 alpn=h2,h3 ; s\nu.z. {} 1 2 \"x\"\ne.z. EUI48 00-00-5E-00-53-2a\n"
 WRITTEN = (
-    f"s.z. 60 IN SVCB {general(SERVICE)}    ; s\nu.z. TYPE256 {general(bytes([0, 1, 0, 2]), b'x')}  \n"
+    f"s.z. 60 IN SVCB {general(SERVICE)} ; s\nu.z. TYPE256 {general(bytes([0, 1, 0, 2]), b'x')}\n"
     f"e.z. TYPE108 {general(bytes.fromhex('00005e00532a'))}\n"
 )
-PRINTED = 's.z. 60 IN SVCB 1 . alpn=h2,h3 port=53    ; s\nu.z. URI 1 2 "x"  \ne.z. EUI48 00-00-5e-00-53-2a  \n'
+PRINTED = 's.z. 60 IN SVCB 1 . alpn=h2,h3 port=53 ; s\nu.z. URI 1 2 "x"\ne.z. EUI48 00-00-5e-00-53-2a\n'
 SIGNATURE_TEXT = "z. 60 IN RRSIG A 5 2 86400 {} {} 2642 example.com. AAECAw==\n"
+# Rows with mnemonics for algorithms and types of certificates (RFC 4034 A.1, RFC 4398 2.1), each with the word for its type and the octets before
+# its last field in general form; and rows whose last field has no octets.
+NAMED = [
+    ("CERT PGP 0 0 Zm9v", "TYPE37", "0003000000"),
+    ("CERT pkix 12345 RSASHA256 Zm9v", "TYPE37", "0001303908"),
+    ("CDS 12345 ECDSAP256SHA256 2 666F6F", "CDS", "30390D02"),
+    ("CDNSKEY 257 3 ed25519 Zm9v", "CDNSKEY", "0101030F"),
+    ("RRSIG A RSASHA1-NSEC3-SHA1 1 60 2 1 3 z. Zm9v", "RRSIG", "00010701" "0000003C" "00000002" "00000001" "0003" "017A00"),
+]
+ENDED = "TLSA 3 1 1", "CERT 1 0 0", "CDS 12345 13 99", "CDNSKEY 257 3 13", "ZONEMD 1 1 1", "OPENPGPKEY", "RRSIG A 8 1 60 2 1 3 z."
 FORMS = [
     Case("general", 0, NEXT.format(general(HOST, BITMAP), GAPS), given=NEXT.format(FIELDS, "")),
-    Case("general --origin example.com", 0, "a. 5 IN NSEC " + general(HOST, BITMAP) + "     \n", given="a. 5 IN NSEC host TYPE1234 NSEC RRSIG MX A\n"),
+    Case("general --origin example.com", 0, "a. 5 IN NSEC " + general(HOST, BITMAP) + "\n", given="a. 5 IN NSEC host TYPE1234 NSEC RRSIG MX A\n"),
     Case("general", 0, WRITTEN, given=SEVERAL.format("SVCB", "URI")),
     Case("general --class IN", 0, WRITTEN.replace("IN SVCB", "IN svcb"), given=SEVERAL.format("svcb", "TYPE256")),
     Case("general other-order", 0, FILES["other-order"]),
@@ -201,26 +211,36 @@ FORMS = [
     Case("general chaos --class CH", 0, FILES["chaos"]),
     Case("general signed", 0, FILES["signed"]),
     Case("general", 0, "a. 5 IN TYPE53 \\# 4 0102 0304\n", given="a. 5 IN TYPE53 \\# 4 0102 0304\n"),
-    Case("general", 0, "a. 5 IN TYPE53 \\# 4 01020304   \n", given="a. 5 IN SMIMEA \\# 4 0102 0304\n"),
+    Case("general", 0, "a. 5 IN TYPE53 \\# 4 01020304\n", given="a. 5 IN SMIMEA \\# 4 0102 0304\n"),
     Case("general", 2, said="zonetool: -: line 2 does not read", given=";\na. 5 IN NSEC\n"),
     Case("general", 2, said="zonetool: -: line 1 does not read", given="a. 5 IN NSEC b. A ANYTHING\n"),
     Case("general", 2, said="zonetool: -: line 1 does not read", given="a. 5 IN EUI48 00-00-5e-00-53\n"),
     Case("general", 2, said="zonetool: -: line 1 does not read", given="a. IN SVCB 1 . port=1 port=2\n"),
+    Case("general", 2, said="zonetool: -: line 1 does not read", given="a. IN SVCB 1 . port= 53\n"),
+    Case("general", 2, said="zonetool: -: line 1 does not read", given='a. IN SVCB 1 . "port=53"\n'),
     Case("general", 2, said="zonetool: -: line 1 does not read", given="a. 5 IN APL 1:10.0.0.0/8\n"),
+    *(Case("general", 0, f"a. 5 IN {word} {general(bytes.fromhex(front), b'foo')}\n", given=f"a. 5 IN {row}\n") for row, word, front in NAMED),
+    *(Case("general", 2, said="zonetool: -: line 1 does not read", given=f"a. 5 IN {row}\n") for row in ENDED),
+    Case("general", 2, said="zonetool: -: line 1 does not read", given="a. 5 IN CERT PKI 0 0 Zm9v\n"),
+    Case("general", 0, "a. 5 IN TLSA \\# 3 030101\n", given="a. 5 IN TLSA \\# 3 030101\n"),
     Case("general unended", 2, said="zonetool: unended: line 2 does not read"),
     Case("general relative", 2, said="zonetool: relative: line 1 does not read"),
     Case("general missing", 2, said="zonetool: missing: read failed: No such file or directory (os error 2)"),
     Case("general --layout simple", 2, said=unexpected("--layout")),
     Case("general one", 2, said="zonetool: write failed", is_full=True),
-    Case("present", 0, NEXT.format(SHOWN, "  " + GAPS), given=NEXT.format(general(HOST, BITMAP), GAPS)),
-    Case("present", 0, NEXT.format(SHOWN, "  ").replace("alfa 86400 IN NSEC ", "alfa 86400 IN NSEC( ; next\n") + ")\n",
+    Case("present", 0, NEXT.format(SHOWN, GAPS), given=NEXT.format(general(HOST, BITMAP), GAPS)),
+    Case("present", 0, NEXT.format(SHOWN, "").replace("alfa 86400 IN NSEC ", "alfa 86400 IN NSEC( ; next\n") + ")\n",
          given=NEXT.format(general(HOST, BITMAP), "").replace("alfa 86400 IN NSEC ", "alfa 86400 IN TYPE47( ; next\n") + ")\n"),
-    Case("present --layout multiline", 0, NEXT.format("".join(["(", *("\n        " + it for it in LONG), "\n        )"]), "  "),
+    Case("present --layout multiline", 0, NEXT.format("".join(["(", *("\n        " + it for it in LONG), "\n        )"]), ""),
          given=NEXT.format(general(HOST, BITMAP), "")),
-    Case("present --layout multiline", 0, NEXT.format("( " + SHOWN + "   )", ""), given=NEXT.format("( " + general(HOST, BITMAP) + " )", "")),
-    Case("present --layout tabbed", 0, PRINTED, given=WRITTEN.replace("    ; s", "  ; s").replace('  \n', '\n')),
-    Case("present", 0, SIGNATURE_TEXT.format("20030322173103", "20030220173103").replace("\n", "  \n"), given="z. 60 IN RRSIG " + general(SIGNED) + "\n"),
-    Case("general", 0, "z. 60 IN RRSIG " + general(SIGNED) + " " * 8 + "\n", given=SIGNATURE_TEXT.format(*TIMES)),
+    Case("present --layout multiline", 0, NEXT.format("( " + SHOWN + " )", ""), given=NEXT.format("( " + general(HOST, BITMAP) + " )", "")),
+    Case("present --layout tabbed", 0, PRINTED, given=WRITTEN),
+    Case("present", 0, SIGNATURE_TEXT.format("20030322173103", "20030220173103"), given="z. 60 IN RRSIG " + general(SIGNED) + "\n"),
+    Case("general", 0, "z. 60 IN RRSIG " + general(SIGNED) + "\n", given=SIGNATURE_TEXT.format(*TIMES)),
+    Case("present", 0, "a. 5 IN TLSA \\# 3 030101\n", given="a. 5 IN TLSA \\# 3 030101\n"),
+    Case("present", 0, "a. 5 IN TLSA 3 1 1 0A\n", given="a. 5 IN TLSA \\# 4 0301010a\n"),
+    Case("present", 0, "a. 5 IN CERT 3 0 13 Zm9v\n", given="a. 5 IN TYPE37 \\# 8 000300000D666F6F\n"),
+    Case("present", 0, "a. 5 IN CERT PGP 0 0 Zm9v\n", given="a. 5 IN CERT PGP 0 0 Zm9v\n"),
     Case("present signed", 0, FILES["signed"]),
     Case("present raw", 0, FILES["raw"]),
     Case("present", 0, SEVERAL.format("SVCB", "URI"), given=SEVERAL.format("SVCB", "URI")),
@@ -337,7 +357,8 @@ DATA = [
     ("a. DS 1 2 3 ab c\n", "2:16: 'c' is not base 16"),
     ("a. DNSKEY 256 3 5 AQ*=\n", "2:19: 'AQ*=' is not base 64"),
     ("a. DNSKEY 256 3 5 AQ=\n", "2:19: 'AQ=' is not base 64"),
-    ("a. NSEC b. A\n", "2:9: " + GENERAL.format("NSEC"), 2),
+    ("a. APL 1:10.0.0.0/8\n", "2:4: " + GENERAL.format("APL"), 3),
+    ("a. TYPE42 1:10.0.0.0/8\n", "2:11: " + GENERAL.format("APL"), 12),
     ("a. TYPE65280\n", "2:13: " + GENERAL.format("TYPE65280")),
     ("a. TYPE65280 \\#\n", "2:16: " + ENDS.format(OF_16)),
     ("a. TYPE65280 \\# 65536 00\n", "2:17: '65536' is not " + OF_16),
@@ -435,6 +456,141 @@ EXPLAIN = [
     Case("explain outside", 2, said="zonetool: write failed", is_full=True),
     Case("explain one", is_full=True),
 ]
+# -- Data of further types in the other commands: the zone in presentation form, and in general form, in canonical order.
+SERVED, TARGET = "s.z. 60 IN SVCB 1 . alpn=h2,h3 port=53\n", 'u.z. 60 IN URI 1 2 "x"\n'
+SIGNED_TEXT = SIGNATURE_TEXT.format("20030322173103", "20030220173103")
+FURTHER_FORMS = {
+    "further": SOA + SERVED.replace("alpn=h2,h3 port=53", "( port=53 ; p\n alpn=h2,h3 )") + "$TTL 60\n" + SIGNED_TEXT + TARGET + A,
+    "general": SOA + "z. 60 IN RRSIG " + general(SIGNED) + "\n" + A + "s.z. 60 IN SVCB " + general(SERVICE) + "\nu.z. 60 IN TYPE256 "
+               + general(bytes([0, 1, 0, 2]), b"x") + "\n",
+    "present": SOA + SIGNED_TEXT + A + SERVED + TARGET,
+    "bad-further": SOA + SIGNED_TEXT + "a.z. URI 1 x y\n",
+}
+FILES.update({"further": FURTHER_FORMS["further"], "further-general": FURTHER_FORMS["general"], "bad-further": FURTHER_FORMS["bad-further"]})
+# The octets of the stream: in full, and with eight octets fewer by pointers to the apex and the names of the first SOA.
+IN_FULL = 21 + 2 * 39 + (13 + len(SIGNED)) + 19 + (15 + len(SERVICE)) + (15 + 5)
+FURTHER_STREAM = (IN_FULL, IN_FULL - 8, IN_FULL - 8, IN_FULL - 8)
+LINE_OF = dict(zip(("SOA", "RRSIG", "A", "SVCB", "URI"), FURTHER_FORMS["general"].splitlines(keepends=True)))
+SHOWN_LINE = dict(zip(LINE_OF, FURTHER_FORMS["present"].splitlines(keepends=True)))
+
+
+def wide(head, *parts):
+    """The record of this owner, TTL, class and type in the layout of several lines."""
+    return f"{head} (" + "".join(f"\n        {it}" for it in parts) + "\n        )"
+
+
+WIDE_SOA, WIDE_A = MULTILINE.split("a.z.", 1)[0], wide("a.z. 60 IN A", "192.0.2.1") + "\n"
+WIDE = [wide(f"{' '.join(line.split()[:4])}", *line.split()[4:]) for line in (SIGNED_TEXT, SERVED, TARGET)]
+FURTHER = [
+    Case("sort --present --layout multiline further", 0, f"{WIDE_SOA}{WIDE[0]}\n{WIDE_A}{WIDE[1]}\n{WIDE[2]}\n"),
+    Case("sort --layout multiline --present raw", 0, WIDE_SOA + wide("z. 60 IN TYPE65280", "\\#", "2", "0AFF") + "\n" + WIDE_A + wide("b.z. 60 IN TXT", '"t"') + "\n"),
+    Case("sort --layout tabbed --present further-general", 0, TABBED.split("a.z.")[0] + "".join(
+        it.replace(" ", "\t", 4) for it in FURTHER_FORMS["present"].splitlines(keepends=True)[1:])),
+    Case("diff further further-general"),
+    Case("diff further further-general --present"),
+    Case("diff - further", given=FILES["further-general"]),
+    Case("diff further -", given=FILES["further"]),
+    Case("diff soa further", 1, "".join("+" + LINE_OF[it] for it in ("RRSIG", "A", "SVCB", "URI"))),
+    Case("diff further soa --present --without A", 1, "".join("-" + SHOWN_LINE[it] for it in ("RRSIG", "SVCB", "URI"))),
+    Case("diff --present one raw", 1, "+" + RAW.replace("0aff", "0AFF")),
+    Case("diff --present --color always soa further --without RRSIG --without SVCB --without TYPE256", 1, "\x1b[32m+" + A[:-1] + "\x1b[0m\n"),
+    Case("diff --present --color always further one --without A --without TXT --without RRSIG --without SVCB", 1,
+         "\x1b[31m-" + SHOWN_LINE["URI"][:-1] + "\x1b[0m\n"),
+    Case("diff further bad-further", 2, said="zonetool: bad-further: entry 3: text"),
+    Case("diff further soa --without URI --without A --without rrsig", 1, "-" + LINE_OF["SVCB"]),
+    Case("diff further soa --without URL", 2, said="zonetool: bad type"),
+    Case("sort further", 0, FURTHER_FORMS["general"]),
+    Case("sort further-general", 0, FURTHER_FORMS["general"]),
+    Case("sort --present further", 0, FURTHER_FORMS["present"]),
+    Case("sort --present - --layout simple", 0, FURTHER_FORMS["present"], given=FILES["further-general"]),
+    Case("sort --present one", 0, FILES["one"]),
+    Case("sort --present bad-further", 2, said="zonetool: bad-further: entry 3: text"),
+    Case("sort --present --origin z", 0, SOA + "a.z. 60 IN NSEC z. A\n", given="@ 60 IN SOA b. c. 1 2 3 4 5\n$ORIGIN z.\na 60 NSEC @ a\n"),
+    Case("stats further-general", 0, stats(("records", 5), ("A", 1), ("SOA", 1), ("RRSIG", 1), ("SVCB", 1), ("TYPE256", 1), ("names", 4), ("delegations", 0), FURTHER_STREAM)),
+    Case("stats further", 0, stats(("records", 5), ("A", 1), ("SOA", 1), ("RRSIG", 1), ("SVCB", 1), ("TYPE256", 1), ("names", 4), ("delegations", 0), FURTHER_STREAM)),
+    Case("stats --present", 0, stats(("records", 5), ("A", 1), ("SOA", 1), ("RRSIG", 1), ("SVCB", 1), ("URI", 1), ("names", 4), ("delegations", 0), FURTHER_STREAM),
+         given=FILES["further"]),
+    Case("stats bad-further", 2, said="zonetool: bad-further: entry 3: text"),
+    Case("explain further"),
+    Case("explain --all -", given=FILES["further"]),
+    Case("explain --present further", 2, said=unexpected("--present")),
+]
+# What `explain` says of data of further types, after the line of the SOA.
+TIME, SALT, HASH, HARDWARE = "a time as YYYYMMDDHHmmSS or in seconds", "a salt in base 16 or -", "a hash in base 32", "an address of {} octets"
+PARAMETER, KEYS = "a service parameter", "a key of the service parameters is there twice, or lacks another"
+PLACE, RECORD_TYPE = "the next part of a location", "a type"
+SIGNATURE_ROW = "a. RRSIG A 5 2 86400 20030322173103 20030220173103 2642 a. AAECAw==\n"
+NEXT_ROW = "b.a. NSEC a. A NSEC\n"
+FURTHER_DATA = [
+    (SIGNATURE_ROW.replace("20030322173103", "20031322173103"), f"2:22: '20031322173103' is not {TIME}"),
+    (SIGNATURE_ROW.replace("20030322173103", "2003032217310"), f"2:22: '2003032217310' is not {TIME}"),
+    (SIGNATURE_ROW.replace(" A 5", " AB 5"), f"2:10: 'AB' is not {RECORD_TYPE}"),
+    (SIGNATURE_ROW.replace(" 5 ", " RSASHA9 "), "2:12: 'RSASHA9' is not an algorithm"),
+    ("a. CERT PKI 0 0 AA==\n", "2:9: 'PKI' is not a type of certificates"),
+    ("a. CDNSKEY 257 3 13\n", "2:20: " + ENDS.format("base 64")),
+    ("a. SVCB 1 . port= 53\n", "2:13: 'port=' is not a service parameter"),
+    (SIGNATURE_ROW.replace(" a. AA", " a.. AA"), "2:57: 'a..' is not a name"),
+    (SIGNATURE_ROW.replace(" a. AA", " a AA"), "2:57: " + RELATIVE, 1),
+    (SIGNATURE_ROW.replace("AAECAw==", "AAEC Aw="), "2:65: 'Aw=' is not base 64"),
+    (SIGNATURE_ROW.replace("AAECAw==", "AA*C Aw=="), "2:60: 'AA*C' is not base 64"),
+    ("a. RRSIG A 5 2 ; x\n", "2:15: " + ENDS.format(OF_32)),
+    ("a. RRSIG (\n A 5 2 86400 20030322173103 ; x\n 20030220173103 2642 )\n", "4:21: " + ENDS.format("a name")),
+    ('a. RRSIG "A" 5\n', "2:11: 'A' is quoted: only strings are"),
+    ("a. NSEC a. A (\n MX ; x\n FOO )\n", f"4:2: 'FOO' is not {RECORD_TYPE}"),
+    ("a. NSEC\n", "2:8: " + ENDS.format("a name")),
+    ("a. NSEC3 1 0 65536 - A0 A\n", "2:14: '65536' is not " + OF_16),
+    ("a. NSEC3 1 0 5 abc A0 A\n", f"2:16: 'abc' is not {SALT}"),
+    ("a. NSEC3 1 0 5 - W0 A\n", f"2:18: 'W0' is not {HASH}"),
+    ("a. NSEC3PARAM 1 0 5\n", "2:20: " + ENDS.format(SALT)),
+    ("a. NSEC3PARAM 1 0 5 - A\n", "2:23: " + MUCH.format("'A'")),
+    ("a. TLSA 3 1 1 0A 0g\n", "2:18: '0g' is not base 16"),
+    ("a. TLSA 3 1 1 0A 0\n", "2:18: '0' is not base 16"),
+    ("a. EUI48 00-00-5e-00-53\n", f"2:10: '00-00-5e-00-53' is not {HARDWARE.format('six')}"),
+    ("a. EUI64 00-00-5e-00-53-00-00-00 x\n", "2:34: " + MUCH.format("'x'")),
+    ("a. EUI64 00-00-5e-00-53-00\n", f"2:10: '00-00-5e-00-53-00' is not {HARDWARE.format('eight')}"),
+    ("a. NAPTR 1 2 u E2U " + "x" * 256 + " .\n", "2:20: '" + "x" * 256 + f"' is not {STRING}"),
+    ("a. LOC 91 N 0 E 0\n", f"2:8: '91' is not {PLACE}"),
+    ("a. LOC 9 61 N 0 E 0\n", f"2:10: '61' is not {PLACE}"),
+    ("a. LOC 9 N 0 E\n", "2:15: " + ENDS.format(PLACE)),
+    ("a. LOC 9 N 0 E 0 1 1 1 1\n", f"2:24: '1' is not {PLACE}"),
+    ("a. SVCB 1 . port=65536\n", f"2:13: 'port=65536' is not {PARAMETER}"),
+    ('a. HTTPS 1 . alpn= "h2" (\n prt=5 )\n', f"3:2: 'prt=5' is not {PARAMETER}"),
+    ("a. SVCB 1 . alpn=h2 port=1 port=1\n", "2:13: " + KEYS, 7),
+    ("a. SVCB 1 . mandatory=port\n", "2:13: " + KEYS, 14),
+    ("a. SVCB 1\n", "2:10: " + ENDS.format("a name")),
+    ("a. URI 1 x y\n", "2:10: 'x' is not " + OF_16),
+    ("a. URI 1 2\n", "2:11: " + ENDS.format("a string")),
+    ("a. SMIMEA\n", "2:10: " + ENDS.format(OF_8)),
+    ("a. CERT 1 2 3 *\n", "2:15: '*' is not base 64"),
+    ("a. URI \\# 3 0001\n", "2:11: '3' is not the number of octets that follow"),
+    ("a. IPSECKEY 10 1 2 192.0.2.1\n", "2:4: " + GENERAL.format("IPSECKEY"), 8),
+    ("a. CH URI 1 2 x\n", "2:4: 'CH' is not the zone's class"),
+    ("a. URX 1 2 x\n", "2:4: unknown type 'URX'; did you mean URI?"),
+    ("a. RRSG A\n", "2:4: unknown type 'RRSG'; did you mean RRSIG?"),
+    ("a. OPENPGPKEY (\n" + "A" * 65536 + "\n" + "A" * 21848 + " )\n", "3:1: " + LONG, 65536),
+    # Rows that are written in general form, and what is said of rows among them.
+    ("b. RRSIG ( A 5 2 86400 ; x\n 20030322173103 20030220173103 2642 a. AAECAw== )\n", "2:1: " + OUTSIDE, 2),
+    (NEXT_ROW + "b.a. URI (\n 1 2\n x ) ; x\nc. (\n URI 1 2\n x )\n", "6:1: " + OUTSIDE, 2),
+    (NEXT_ROW + "\tTYPE47 (\n b. A\n)\n IN CH NSEC b. A\n", "6:5: " + AGAIN_STATED.format("'CH'")),
+    (NEXT_ROW + SIGNATURE_ROW + "; x\n" + TOP, "5:1: second SOA; the first is in line 1", 2),
+    (NEXT_ROW + "a. TXT ( x ; y\n" + SIGNATURE_ROW.replace("2642", "( 2642 )").replace("AAECAw==", "AAECAw=="), "4:52: parenthesis is misplaced; one is open since line 3"),
+    (NEXT_ROW + 'a. TXT ( x ; y\na. NAPTR 1 2 "(" \\( ( x . )\n', "4:21: parenthesis is misplaced; one is open since line 3"),
+    (NEXT_ROW + "a. NSEC a. A", "3:13: " + NO_FEED),
+]
+FURTHER += [
+    *(explained(TOP + text, *said) for text, *said in FURTHER_DATA),
+    explained(FILES["bad-further"], "3:12: 'x' is not " + OF_16, words="explain bad-further", file="bad-further"),
+    explained(FILES["bad-further"], "3:12: 'x' is not " + OF_16, words="explain --all bad-further", file="bad-further"),
+    explained("\tNSEC a. A\n", "1:2: no owner: the first record states its owner", 4),
+    explained("a. NSEC a. A\n" + TOP, "1:1: " + FIRST, 2),
+    explained("$ORIGIN a.\n@ 60 IN SOA b. c. 1 2 3 4 5\nb NSEC @ A\n$ORIGIN b.\na SVCB 1 b\n", "5:1: " + OUTSIDE, 1),
+    Case("explain", given=TOP + "".join(text for text in (SIGNATURE_ROW, NEXT_ROW, "\tURI 1 2 x\n", "a. SVCB 0 a.\n", "a. LOC 9 N 0 E 0\n", "a. NSEC3PARAM 1 0 5 -\n"))),
+    Case("explain --origin a", given=TOP + "b NSEC @ A ; x\n\tRRSIG NSEC 5 2 86400 0 0 2642 @ (\n AAEC\n Aw== )\n"),
+    together("b.a. A 1.2.3\n" + NEXT_ROW + "a. RRSIG A 5 x\nc.a. URI 1 2 (\n \"x\" )\nc. NSEC a. A\nc.a. A 1.2.3.4 5\n", ("2:8: '1.2.3' is not an IPv4 address", 5),
+             ("4:14: 'x' is not " + OF_8, 1), ("7:1: " + OUTSIDE, 2), ("8:16: " + MUCH.format("'5'"), 1), front=TOP),
+    together("a. TXT ( x\n" + NEXT_ROW + "a. NSEC3 1 0 5 - ( A0 ) A\nb. NSEC a. A\na. TXT x ) y\na. NSEC a. B\n",
+             ("4:18: parenthesis is misplaced; one is open since line 2", 1), ("5:1: " + OUTSIDE, 2), ("6:10: " + MISPLACED, 1), (f"7:12: 'B' is not {RECORD_TYPE}", 1), front=TOP),
+]
 LINES = [
     Case("", 2, said="error: 'zonetool' requires a subcommand but one was not provided"),
     Case("check one", 2, said="error: unrecognized subcommand 'check'"),
@@ -476,7 +632,7 @@ def differences(case, status, out, said):
 
 def judged(program):
     """How many cases there are, and the lines of each that differs."""
-    cases, found = DIFF + SORT + STATS + QUERY + FORMS + EXPLAIN + LINES, []
+    cases, found = DIFF + SORT + STATS + QUERY + FORMS + EXPLAIN + FURTHER + LINES, []
     with tempfile.TemporaryDirectory(prefix="zonetool-") as name:
         folder = Path(name)
         (folder / "folder").mkdir()

@@ -6,6 +6,7 @@ use crate::color::ColorChoice;
 use crate::input::{Reading, STANDARD_INPUT};
 use crate::tasks::Task;
 use clap::{Arg, ArgAction, ArgMatches, Command, value_parser};
+use dns_field_texts::read_type;
 use dns_name::{Class, FromStrError, Name, Rtype, ToName, ToRelativeName};
 use dns_text::{DisplayKind, UncertainName};
 use std::alloc::{AllocError, Global};
@@ -106,6 +107,7 @@ fn diff_task<'a>(alloc: Global, options: &ArgMatches<'a>) -> Result<Task<'a>, Wo
         new,
         reading,
         selection,
+        present: options.get_flag("present"),
         color: color(options),
     })
 }
@@ -115,6 +117,7 @@ fn sort_task<'a>(alloc: Global, options: &ArgMatches<'a>) -> Result<Task<'a>, Wo
     Ok(Task::Sort {
         file: file_or_input(options, "file"),
         reading,
+        present: options.get_flag("present"),
         layout: layout(options),
     })
 }
@@ -124,6 +127,7 @@ fn stats_task<'a>(alloc: Global, options: &ArgMatches<'a>) -> Result<Task<'a>, W
     Ok(Task::Stats {
         file: file_or_input(options, "file"),
         reading,
+        present: options.get_flag("present"),
     })
 }
 
@@ -187,7 +191,7 @@ fn left_out(alloc: Global, options: &ArgMatches<'_>) -> Result<Vec<Rtype>, Words
         return Ok(types);
     };
     for word in words {
-        let Some(rtype) = Rtype::from_bytes(word.as_bytes()) else {
+        let Some(rtype) = read_type(word.as_bytes()) else {
             return Err(WordsFault::BadType);
         };
         types.push(rtype).map_err(AllocError::from)?;
@@ -297,6 +301,7 @@ fn diff_command<'a>(alloc: Global) -> Result<Command<'a>, AllocError> {
         )?
         .arg(flag(alloc, "ignore-ttl").help("TTLs are not compared"))?
         .arg(flag(alloc, "ignore-serial").help("The SOA's serial is not compared"))?
+        .arg(present_flag(alloc))?
         .arg(color_option(alloc))
 }
 
@@ -304,6 +309,7 @@ fn sort_command<'a>(alloc: Global) -> Result<Command<'a>, AllocError> {
     let bare = Command::new(alloc, "sort").about("Prints a zone in canonical order");
     with_text_options(alloc, bare)?
         .arg(argument(alloc, "file", "FILE").help("The zone, - or left out for standard input"))?
+        .arg(present_flag(alloc))?
         .arg(
             option(alloc, "layout", "LAYOUT")
                 .value_parser(LAYOUTS)
@@ -315,9 +321,9 @@ fn stats_command<'a>(alloc: Global) -> Result<Command<'a>, AllocError> {
     let bare = Command::new(alloc, "stats").about(
         "Prints the numbers of a zone and of its transfer",
     );
-    with_text_options(alloc, bare)?.arg(argument(alloc, "file", "FILE").help(
-        "The zone, - or left out for standard input",
-    ))
+    with_text_options(alloc, bare)?
+        .arg(argument(alloc, "file", "FILE").help("The zone, - or left out for standard input"))?
+        .arg(flag(alloc, "present").help("Types are named by all mnemonics"))
 }
 
 fn query_command<'a>(alloc: Global) -> Result<Command<'a>, AllocError> {
@@ -364,6 +370,10 @@ fn with_text_options<'a>(alloc: Global, command: Command<'a>) -> Result<Command<
     command
         .arg(option(alloc, "origin", "NAME").help("The origin of relative names"))?
         .arg(option(alloc, "class", "CLASS").help("The zone's class, IN where left out"))
+}
+
+fn present_flag<'a>(alloc: Global) -> Arg<'a> {
+    flag(alloc, "present").help("Data of further types is written in its own form")
 }
 
 fn color_option<'a>(alloc: Global) -> Arg<'a> {

@@ -3,6 +3,8 @@
 ghost use Rattle.std.specs.Prelude.{◌≤◌, length};
 
 use crate::color::{BOLD, PLAIN, RED};
+use dns_field_texts::{DisplayType, read_type};
+use dns_name::Rtype;
 use std::alloc::{AllocError, Global};
 use std::fmt::Write;
 use zone_explain::explain::{Finding, Reason, Wanted};
@@ -55,7 +57,7 @@ pub(crate) fn finding_text(
 }
 
 /// Returns the offset of the first octet of the line of an offset.
-fn line_start(text: &[u8], offset: usize) -> usize
+pub(crate) fn line_start(text: &[u8], offset: usize) -> usize
     ensures { result ≤ offset }
 {
     match text[..offset.min(text.len())]
@@ -68,7 +70,7 @@ fn line_start(text: &[u8], offset: usize) -> usize
 }
 
 /// Returns the offset after the last octet of the line of an offset.
-fn line_end(text: &[u8], offset: usize) -> usize
+pub(crate) fn line_end(text: &[u8], offset: usize) -> usize
     ensures within { result ≤ length text.now }
     ensures behind { offset ≤ length text.now → offset ≤ result }
 {
@@ -106,12 +108,10 @@ fn push_reason(out: &mut String, finding: &Finding, token: &[u8]) -> Result<(), 
         Reason::NoOwner => out.push_str("no owner: the first record states its owner"),
         Reason::Missing(wanted) => write!(out, "the entry ends where {wanted} is wanted"),
         Reason::LongData => out.push_str("data has more than 65535 octets"),
-        Reason::GeneralFormOnly(rtype) => {
-            write!(
-                out,
-                "data of {rtype} is read only as \\# LENGTH OCTETS in base 16"
-            )
+        Reason::OtherKeys => {
+            out.push_str("a key of the service parameters is there twice, or lacks another")
         }
+        Reason::GeneralFormOnly(rtype) => push_general_form(out, *rtype),
         Reason::OutOfZone => match &finding.apex {
             Some(apex) => write!(out, "record outside the zone {apex}"),
             None => out.push_str("record outside the zone"),
@@ -137,9 +137,12 @@ fn push_other_reason(out: &mut String, reason: &Reason, token: &[u8]) -> Result<
         }
         Reason::NearType(mnemonic) => {
             push_about(out, "unknown type ", token, "; did you mean ")?;
-            write!(out, "{mnemonic}?")
+            write!(out, "{}?", DisplayType(*mnemonic))
         }
-        Reason::Not(Wanted::Type) => push_about(out, "unknown type ", token, ""),
+        Reason::Not(Wanted::Type) => match read_type(token) {
+            Some(rtype) => push_general_form(out, rtype),
+            None => push_about(out, "unknown type ", token, ""),
+        },
         Reason::StatedTwice => push_about(out, "", token, " states a TTL or a class again"),
         Reason::OtherClass => push_about(out, "", token, " is not the zone's class"),
         Reason::Quoted => push_about(out, "", token, " is quoted: only strings are"),
@@ -152,6 +155,15 @@ fn push_other_reason(out: &mut String, reason: &Reason, token: &[u8]) -> Result<
         }
         _ => push_about(out, "", token, " is one token too many"),
     }
+}
+
+/// Appends that the type has no presentation form. Fails if out of memory.
+fn push_general_form(out: &mut String, rtype: Rtype) -> Result<(), AllocError> {
+    write!(
+        out,
+        "data of {} is read only as \\# LENGTH OCTETS in base 16",
+        DisplayType(rtype)
+    )
 }
 
 /// Appends the token in single quotes between two texts. Fails if out of memory.

@@ -3,9 +3,11 @@
 use crate::fault::Fault;
 use crate::progress::{is_told, tell, wipe};
 use dns_name::{Class, Name};
+use std::alloc::Global;
 use std::fs;
 use std::io::Read;
-use zone::Zone;
+use zone::{Zone, ZoneError};
+use zone_forms::general_rows;
 
 /// The name of standard input.
 pub(crate) const STANDARD_INPUT: &str = "-";
@@ -41,7 +43,8 @@ pub(crate) struct ZoneRead {
     pub(crate) is_told: bool,
 }
 
-/// Reads the zone whose text is in the file, or in standard input if the file is `-`.
+/// Reads the zone whose text is in the file, or in standard input if the file is `-`. Data of further types is read in
+/// general form and in presentation form.
 pub(crate) fn read_zone<'a>(
     rt: &HostRuntime,
     file: &'a str,
@@ -55,9 +58,9 @@ pub(crate) fn read_zone<'a>(
     let zone = match &reading.origin {
         Some(name) => {
             let name = name.for_ref();
-            Zone::from_text(rt.alloc(), text, Some(&name), reading.class)
+            zone_of(rt.alloc(), text, Some(&name), reading.class)
         }
-        None => Zone::from_text(rt.alloc(), text, None, reading.class),
+        None => zone_of(rt.alloc(), text, None, reading.class),
     };
     if told {
         wipe(rt);
@@ -69,4 +72,21 @@ pub(crate) fn read_zone<'a>(
         }),
         Err(error) => Err(Fault::of_zone(file, error)),
     }
+}
+
+/// Returns the zone of the text. Only if an entry does not read, the text is read once more, with the data of further types in
+/// general form. Its entries keep their numbers.
+fn zone_of(
+    alloc: Global,
+    text: Vec<u8>,
+    origin: Option<&Name<&[u8]>>,
+    class: Class,
+) -> Result<Zone, ZoneError> {
+    match Zone::read(alloc, &text, origin, class) {
+        Err(ZoneError::Text(_)) => {}
+        read => return read,
+    }
+    let general = general_rows(alloc, &text, origin, class)?;
+    drop(text);
+    Zone::from_text(alloc, general, origin, class)
 }

@@ -4,9 +4,11 @@
 
 mod color;
 mod command_line;
+mod explaining;
 mod fault;
 mod finding_text;
 mod input;
+mod presented;
 mod progress;
 mod table;
 mod tasks;

@@ -1,5 +1,6 @@
 //! The numbers of a zone as a table.
 
+use dns_field_texts::DisplayType;
 use std::alloc::{AllocError, Global};
 use std::fmt::{Display, Write};
 use zone::Zone;
@@ -18,14 +19,22 @@ static SPELLINGS: &[(&str, Spelling)] = &[
 static SIZES: &[u16] = &[16384, 65535];
 
 /// Returns the numbers of the zone as a table, a row a line: the records, those of each type, the names, the
-/// delegations, and the octets of the transfer's stream for each way of writing names and each size of messages. Fails
-/// if out of memory.
-pub(crate) fn table_of(alloc: Global, zone: &Zone) -> Result<String, AllocError> {
+/// delegations, and the octets of the transfer's stream for each way of writing names and each size of messages. The types
+/// are named by all mnemonics, or by those that `zonewire` knows. Fails if out of memory.
+pub(crate) fn table_of(
+    alloc: Global,
+    zone: &Zone,
+    all_mnemonics: bool,
+) -> Result<String, AllocError> {
     let numbers = statistics_of(alloc, zone)?;
     let mut table = String::new(alloc);
     push_row(&mut table, "records", &numbers.records)?;
     for it in numbers.types.as_slice() {
-        let name = format!(in alloc; "{}", it.rtype)?;
+        let name = if all_mnemonics {
+            format!(in alloc; "{}", DisplayType(it.rtype))?
+        } else {
+            format!(in alloc; "{}", it.rtype)?
+        };
         push_row(&mut table, &name, &it.count)?;
     }
     push_row(&mut table, "names", &numbers.names)?;

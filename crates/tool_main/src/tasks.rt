@@ -1,16 +1,17 @@
 //! The tasks of the program.
 
 use crate::color::{ColorChoice, colored_difference, is_colored};
+use crate::explaining::findings_of;
 use crate::fault::Fault;
 use crate::finding_text::finding_text;
 use crate::input::{Reading, ZoneRead, read_text, read_zone};
+use crate::presented::{presented_difference, presented_sorted};
 use crate::progress::{is_told, tell, wipe};
 use crate::table::table_of;
 use dns_name::{Class, Name};
 use dns_text::DisplayKind;
-use std::alloc::{AllocError, Global};
+use std::alloc::Global;
 use std::io::Write;
-use zone_explain::explain::{Finding, explain, explain_all};
 use zone_forms::{FormError, general, present};
 use zone_tool::{Selection, difference, framed_query, sorted};
 
@@ -38,6 +39,8 @@ pub(crate) enum Task<'a> {
         reading: Reading,
         /// Which records are compared.
         selection: Selection,
+        /// Whether data of further types is in presentation form.
+        present: bool,
         /// Whether the lines have colours.
         color: ColorChoice,
     },
@@ -47,6 +50,8 @@ pub(crate) enum Task<'a> {
         file: &'a str,
         /// How the zone is read.
         reading: Reading,
+        /// Whether data of further types is in presentation form.
+        present: bool,
         /// How the text is laid out.
         layout: DisplayKind,
     },
@@ -56,6 +61,8 @@ pub(crate) enum Task<'a> {
         file: &'a str,
         /// How the zone is read.
         reading: Reading,
+        /// Whether types are named by all mnemonics.
+        present: bool,
     },
     /// Writes the text of a file with data of further types in general form.
     General {
@@ -98,14 +105,20 @@ pub(crate) fn perform<'a>(rt: &HostRuntime, task: &Task<'a>) -> Result<bool, Fau
             new,
             reading,
             selection,
+            present,
             color,
-        } => diff_files(rt, *old, *new, reading, selection, *color),
+        } => diff_files(rt, *old, *new, reading, selection, *present, *color),
         Task::Sort {
             file,
             reading,
+            present,
             layout,
-        } => sort_file(rt, *file, reading, *layout),
-        Task::Stats { file, reading } => count_file(rt, *file, reading),
+        } => sort_file(rt, *file, reading, *present, *layout),
+        Task::Stats {
+            file,
+            reading,
+            present,
+        } => count_file(rt, *file, reading, *present),
         Task::General { file, reading } => rewrite_file(rt, *file, reading, None),
         Task::Present {
             file,
@@ -158,6 +171,7 @@ fn diff_files<'a>(
     new: &'a str,
     reading: &Reading,
     selection: &Selection,
+    presents: bool,
     color: ColorChoice,
 ) -> Result<bool, Fault<'a>> {
     let before = read_zone(rt, old, reading)?;
@@ -170,7 +184,14 @@ fn diff_files<'a>(
     if is_told {
         wipe(rt);
     }
-    let lines = lines?;
+    let lines = if presents {
+        presented(
+            new,
+            presented_difference(rt.alloc(), &lines?, reading.class),
+        )?
+    } else {
+        lines?
+    };
     if is_colored(rt, color) {
         write_all(rt, colored_difference(rt.alloc(), &lines)?.as_slice())?;
     } else {
@@ -184,13 +205,21 @@ fn sort_file<'a>(
     rt: &HostRuntime,
     file: &'a str,
     reading: &Reading,
+    presents: bool,
     layout: DisplayKind,
 ) -> Result<bool, Fault<'a>> {
     let ZoneRead { zone, is_told } = read_zone(rt, file, reading)?;
     if is_told {
         tell(rt, "sorting", file);
     }
-    let text = sorted(rt.alloc(), zone, layout);
+    let text = if presents {
+        presented_sorted(rt.alloc(), file, zone, layout)
+    } else {
+        match sorted(rt.alloc(), zone, layout) {
+            Ok(text) => Ok(text),
+            Err(error) => Err(Fault::from(error)),
+        }
+    };
     if is_told {
         wipe(rt);
     }
@@ -199,12 +228,17 @@ fn sort_file<'a>(
 }
 
 /// Writes the numbers of the zone of the file.
-fn count_file<'a>(rt: &HostRuntime, file: &'a str, reading: &Reading) -> Result<bool, Fault<'a>> {
+fn count_file<'a>(
+    rt: &HostRuntime,
+    file: &'a str,
+    reading: &Reading,
+    all_mnemonics: bool,
+) -> Result<bool, Fault<'a>> {
     let read = read_zone(rt, file, reading)?;
     if read.is_told {
         tell(rt, "counting", file);
     }
-    let table = table_of(rt.alloc(), &read.zone);
+    let table = table_of(rt.alloc(), &read.zone, all_mnemonics);
     if read.is_told {
         wipe(rt);
     }
@@ -230,11 +264,14 @@ fn rewrite_file<'a>(
         ),
         None => rewritten(rt.alloc(), &text, None, reading.class, layout),
     };
-    match rewritten {
-        Ok(text) => {
-            write_all(rt, text.as_slice())?;
-            Ok(true)
-        }
+    write_all(rt, presented(file, rewritten)?.as_slice())?;
+    Ok(true)
+}
+
+/// Returns the text of the file in another form, or why it has none.
+fn presented<'a>(file: &'a str, text: Result<Vec<u8>, FormError>) -> Result<Vec<u8>, Fault<'a>> {
+    match text {
+        Ok(text) => Ok(text),
         Err(error) => Err(Fault::of_form(file, error)),
     }
 }
@@ -251,24 +288,6 @@ fn rewritten(
         Some(kind) => present(alloc, text, origin, class, kind),
         None => general(alloc, text, origin, class),
     }
-}
-
-/// Returns the first fault of the text, or all of them. Fails if out of memory.
-fn findings_of(
-    alloc: Global,
-    text: &[u8],
-    origin: Option<&Name<&[u8]>>,
-    class: Class,
-    all: bool,
-) -> Result<Vec<Finding>, AllocError> {
-    if all {
-        return explain_all(alloc, text, origin, class);
-    }
-    let mut findings = Vec::new(alloc);
-    if let Some(finding) = explain(alloc, text, origin, class)? {
-        findings.push(finding)?;
-    }
-    Ok(findings)
 }
 
 /// Writes the octets to standard output.

@@ -10,6 +10,7 @@ mod all;
 mod broken_row;
 mod entry_row;
 mod fields;
+mod further_row;
 mod located;
 mod outcome;
 mod reason;

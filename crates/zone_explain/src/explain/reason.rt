@@ -45,6 +45,36 @@ pub enum Wanted {
     /// Octets in base 64 (RFC 4648 4).
     #[error("base 64")]
     Base64,
+    /// A type of records (RFC 4034 3.2, 4.1.2).
+    #[error("a type")]
+    RecordType,
+    /// An algorithm of DNSSEC (RFC 4034 A.1).
+    #[error("an algorithm")]
+    Algorithm,
+    /// A type of certificates (RFC 4398 2.1).
+    #[error("a type of certificates")]
+    CertificateType,
+    /// A point in time (RFC 4034 3.2).
+    #[error("a time as YYYYMMDDHHmmSS or in seconds")]
+    Time,
+    /// A salt (RFC 5155 3.3).
+    #[error("a salt in base 16 or -")]
+    Salt,
+    /// A hash (RFC 5155 3.3).
+    #[error("a hash in base 32")]
+    Hash,
+    /// A hardware address of six octets (RFC 7043 3.2).
+    #[error("an address of six octets")]
+    Eui48,
+    /// A hardware address of eight octets (RFC 7043 4.2).
+    #[error("an address of eight octets")]
+    Eui64,
+    /// What goes on a location (RFC 1876 3).
+    #[error("the next part of a location")]
+    Location,
+    /// A service parameter (RFC 9460 2.1).
+    #[error("a service parameter")]
+    Parameter,
     /// The path of a file, unquoted.
     #[error("a path without quotes")]
     Path,
@@ -91,6 +121,8 @@ pub enum Reason {
     GeneralFormOnly(Rtype),
     /// The general form states another number of octets than follow.
     OtherCount,
+    /// Each service parameter reads, but a key is there twice, or one that another wants is missing (RFC 9460 2.1, 7.1.1, 8).
+    OtherKeys,
     /// The data has more than 65,535 octets.
     LongData,
     /// The entry includes a file.

@@ -7,6 +7,7 @@ use super::outcome::read_or_refused;
 use super::reason::{Reason, Wanted};
 use super::words::{HeadWord, begins_with_dollar, head_word, is_encoded, number16, word_reason};
 use dns_entry_scanner::{EntryError, RowScanner, ScannedName, TokenSpan};
+use dns_fields_more::forms_of;
 use dns_name::{Class, FromBuilder, Name, Rtype, ToName};
 use dns_rdata::with_types;
 use dns_text::Scanner;
@@ -23,11 +24,17 @@ pub(crate) struct TokenRow<'t> {
     pub(crate) class: Class,
 }
 
-/// The type of a record, the index of its first token of data, and that of its class if it states another than the zone's.
+/// The part of a record before its data.
 #[derive(Clone, Copy)]
 struct Head {
     rtype: Rtype,
+    /// Whether zones know the word for the type.
+    known: bool,
+    /// The index of the word for the type.
+    word: usize,
+    /// The index of the first token of data.
     data: usize,
+    /// The index of the class, if it is another than the zone's.
     other_class: Option<usize>,
 }
 
@@ -88,7 +95,7 @@ impl<'t> TokenRow<'t> {
     }
 
     /// Returns that the token at the index is not what is wanted, or is missing.
-    fn unlike(&self, index: usize, wanted: Wanted) -> Located {
+    pub(crate) fn unlike(&self, index: usize, wanted: Wanted) -> Located {
         let reason = match self.spans().get(index) {
             Some(span) if span.is_quoted() && !is_string(wanted) => Reason::Quoted,
             Some(_) => Reason::Not(wanted),
@@ -98,7 +105,7 @@ impl<'t> TokenRow<'t> {
     }
 
     /// Returns the places of the tokens.
-    fn spans(&self) -> &'t [TokenSpan] {
+    pub(crate) fn spans(&self) -> &'t [TokenSpan] {
         self.entry.spans.as_slice()
     }
 
@@ -109,7 +116,7 @@ impl<'t> TokenRow<'t> {
     }
 
     /// Returns a scanner over the tokens from the index on.
-    fn scanner(&self, index: usize) -> RowScanner<'t> {
+    pub(crate) fn scanner(&self, index: usize) -> RowScanner<'t> {
         let origin = self.entry.origin.as_ref();
         RowScanner::new(
             self.alloc,
@@ -121,7 +128,7 @@ impl<'t> TokenRow<'t> {
     }
 
     /// Returns the text of the token at the index, if it is unquoted.
-    fn bare(&self, index: usize) -> Option<&'t [u8]> {
+    pub(crate) fn bare(&self, index: usize) -> Option<&'t [u8]> {
         let span = self.spans().get(index)?;
         if span.is_quoted() {
             return None;
@@ -160,7 +167,7 @@ impl<'t> TokenRow<'t> {
     }
 
     /// Returns why the token at the index is no name, or None if it is one. Fails if out of memory.
-    fn name_fault(&self, index: usize) -> Result<Option<Located>, AllocError> {
+    pub(crate) fn name_fault(&self, index: usize) -> Result<Option<Located>, AllocError> {
         if read_or_refused(self.scanner(index).scan_name())?.is_some() {
             return Ok(None);
         }
@@ -207,21 +214,33 @@ impl<'t> TokenRow<'t> {
                 HeadWord::Ttl if !has_ttl => has_ttl = true,
                 HeadWord::Class(stated) if class.is_none() => class = Some((at, stated)),
                 HeadWord::Ttl | HeadWord::Class(_) => return Err(self.at(at, Reason::StatedTwice)),
-                HeadWord::Type(rtype) => {
-                    let other_class = match class {
-                        Some((at, stated)) if stated != self.class => Some(at),
-                        _ => None,
-                    };
-                    return Ok(Head {
-                        rtype,
-                        data: at + 1,
-                        other_class,
-                    });
-                }
+                HeadWord::Type(rtype) => return Ok(self.head_of(at, rtype, true, class)),
+                HeadWord::FurtherType(rtype) => return Ok(self.head_of(at, rtype, false, class)),
                 HeadWord::Other => return Err(self.at(at, word_reason(text, Wanted::Type))),
             }
         }
         Err(self.unlike(self.spans().len(), Wanted::Type))
+    }
+
+    /// Returns the head whose type is stated at the index, behind this class if one is stated.
+    fn head_of(
+        &self,
+        word: usize,
+        rtype: Rtype,
+        known: bool,
+        class: Option<(usize, Class)>,
+    ) -> Head {
+        let other_class = match class {
+            Some((at, stated)) if stated != self.class => Some(at),
+            _ => None,
+        };
+        Head {
+            rtype,
+            known,
+            word,
+            data: word.saturating_add(1),
+            other_class,
+        }
     }
 
     /// Returns why the data is refused, or, if it is not, why the record is. Fails if out of memory.
@@ -233,9 +252,13 @@ impl<'t> TokenRow<'t> {
             return Ok(self.context_fault(head));
         }
         let rtype = head.rtype;
+        if let Some(forms) = forms_of(rtype) {
+            let located = self.further_fault(head.data, rtype, forms)?;
+            return Ok(located.unwrap_or(self.form_only(head)));
+        }
         let mut scanner = self.scanner(head.data);
         match typed_data(rtype, &mut scanner, self.spans().len())? {
-            TypedData::NoFields => Ok(self.at(head.data, Reason::GeneralFormOnly(rtype))),
+            TypedData::NoFields => Ok(self.form_only(head)),
             TypedData::Fault(fault) => self.field_fault(head.data, fault),
             TypedData::Read(0) => Ok(self.context_fault(head)),
             TypedData::Read(left) => {
@@ -276,7 +299,7 @@ impl<'t> TokenRow<'t> {
     }
 
     /// Returns the index of the first token from the index on that has characters of another encoding, or of the last one.
-    fn first_unlike(&self, index: usize, encoding: Wanted) -> usize {
+    pub(crate) fn first_unlike(&self, index: usize, encoding: Wanted) -> usize {
         for at in index..self.spans().len() {
             match self.bare(at) {
                 Some(text) if is_encoded(encoding, text) => {}
@@ -310,8 +333,19 @@ impl<'t> TokenRow<'t> {
         None
     }
 
-    /// Returns why the record is refused although its row reads.
+    /// Returns that data of the type is only read in the general form, or if its word is not known, that it is not.
+    fn form_only(&self, head: Head) -> Located {
+        if head.known {
+            return self.at(head.data, Reason::GeneralFormOnly(head.rtype));
+        }
+        self.at(head.word, Reason::Not(Wanted::Type))
+    }
+
+    /// Returns why the record is refused although its data reads.
     fn context_fault(&self, head: Head) -> Located {
+        if !head.known {
+            return self.at(head.word, Reason::Not(Wanted::Type));
+        }
         if self.blank_led && !self.entry.has_owner {
             return self.at(0, Reason::NoOwner);
         }

@@ -1,6 +1,7 @@
 //! The words of a row.
 
 use super::reason::{Reason, Wanted};
+use dns_field_texts::read_type;
 use dns_name::{Class, Rtype};
 
 /// What a word before a record's data is (RFC 1035 5.1).
@@ -9,6 +10,8 @@ pub(crate) enum HeadWord {
     Ttl,
     Class(Class),
     Type(Rtype),
+    /// A word for a type that zones do not know.
+    FurtherType(Rtype),
     Other,
 }
 
@@ -31,8 +34,11 @@ pub(crate) fn head_word(word: &[u8]) -> HeadWord {
     if let Some(rtype) = Rtype::from_bytes(word) {
         return HeadWord::Type(rtype);
     }
-    match Class::from_bytes(word) {
-        Some(class) => HeadWord::Class(class),
+    if let Some(class) = Class::from_bytes(word) {
+        return HeadWord::Class(class);
+    }
+    match read_type(word) {
+        Some(rtype) => HeadWord::FurtherType(rtype),
         None => HeadWord::Other,
     }
 }
@@ -110,10 +116,49 @@ fn seconds_with_units(word: &[u8]) -> Option<u32> {
     whole.checked_add(number.unwrap_or(0))
 }
 
-/// The mnemonics of the types that have a presentation form here.
+/// The mnemonics of the types that have a presentation form here, the further ones last.
 static TYPES: &[&str] = &[
-    "A", "NS", "MD", "MF", "CNAME", "SOA", "MB", "MG", "MR", "PTR", "HINFO", "MINFO", "MX", "TXT",
-    "RP", "AAAA", "SRV", "DNAME", "DS", "SSHFP", "DNSKEY", "CAA",
+    "A",
+    "NS",
+    "MD",
+    "MF",
+    "CNAME",
+    "SOA",
+    "MB",
+    "MG",
+    "MR",
+    "PTR",
+    "HINFO",
+    "MINFO",
+    "MX",
+    "TXT",
+    "RP",
+    "AAAA",
+    "SRV",
+    "DNAME",
+    "DS",
+    "SSHFP",
+    "DNSKEY",
+    "CAA",
+    "LOC",
+    "NAPTR",
+    "CERT",
+    "RRSIG",
+    "NSEC",
+    "NSEC3",
+    "NSEC3PARAM",
+    "TLSA",
+    "SMIMEA",
+    "CDS",
+    "CDNSKEY",
+    "OPENPGPKEY",
+    "CSYNC",
+    "ZONEMD",
+    "SVCB",
+    "HTTPS",
+    "EUI48",
+    "EUI64",
+    "URI",
 ];
 
 /// Returns the type whose mnemonic differs from the word in one letter, if there is one.
@@ -123,7 +168,7 @@ fn near_type(word: &[u8]) -> Option<Rtype> {
     }
     for &mnemonic in TYPES {
         if is_near(word, mnemonic.as_bytes()) {
-            return Rtype::from_bytes(mnemonic.as_bytes());
+            return read_type(mnemonic.as_bytes());
         }
     }
     None
