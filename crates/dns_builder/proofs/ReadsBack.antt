@@ -6,8 +6,8 @@ use Rattle.dns_name.specs.Page.{Page, Parts, with_octets, with_name, write}
 use Rattle.dns_name.specs.Page.Parts.{End, Octets, Named, Counted}
 use Rattle.dns_name.specs.RecordData.{page_of, counted_length}
 use Rattle.dns_name.specs.Remembered.{IsSound, sound_none}
-use Rattle.dns_compression_laws.specs.Alike.{HaveNames, LengthsFit, SpellsAlike}
-use Rattle.dns_compression_laws.proofs.ReadParts.{written_read, written_sound}
+use Rattle.dns_compress.specs.Alike.{HaveNames, LengthsFit, SpellsAlike}
+use Rattle.dns_compress.proofs.ReadParts.{written_read, written_sound}
 use Rattle.dns_header.specs.Head.{fixed_octets}
 use Rattle.dns_header.specs.Written.{Written, parts_of, data_length}
 use Rattle.dns_builder.specs.Built.{Built, Draft, IsDraftOf, header_octets, counts_octets, built_page, write_all}

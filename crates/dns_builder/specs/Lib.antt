@@ -15,3 +15,7 @@ pub mod OptAsked
 pub mod OptClosed
 pub mod OptAdded
 pub mod ReadBack
+pub use Rattle.dns_sections.specs.Decision
+pub use Rattle.dns_sections.specs.DecidedNames
+pub use Rattle.dns_compress.specs.Frame
+pub use Rattle.dns_sections.specs.declared.error.PushError

@@ -4,7 +4,7 @@ use Rattle.std.specs.List.{flat_map}
 use Rattle.dns_name.specs.Spelling.{Spelling}
 use Rattle.dns_name.specs.Page.{Page, Parts, write}
 use Rattle.dns_name.specs.RecordData.{page_of}
-use Rattle.dns_compression_laws.specs.Alike.{HaveNames, LengthsFit, SpellsAlike}
+use Rattle.dns_compress.specs.Alike.{HaveNames, LengthsFit, SpellsAlike}
 use Rattle.dns_builder.specs.Built.{Built, header_octets}
 
 -- The message spells the items one after another from the place on, with pointers to suffixes written before

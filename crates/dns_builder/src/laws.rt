@@ -2,7 +2,7 @@
 ghost use Rattle.std.specs.Prelude.{◌≡◌, ◌<◌, ℕ, List, length};
 ghost use Rattle.dns_name.specs.Spelling.{Spelling};
 ghost use Rattle.dns_name.specs.Page.{Page, Parts};
-ghost use Rattle.dns_compression_laws.specs.Alike.{HaveNames, LengthsFit};
+ghost use Rattle.dns_compress.specs.Alike.{HaveNames, LengthsFit};
 ghost use Rattle.dns_header.specs.Written.{Written, parts_of, data_length};
 ghost use Rattle.dns_builder.specs.Built.{Built, Draft, IsDraftOf};
 ghost use Rattle.dns_builder.specs.ReadBack.{IsReadable, ReadsBack};

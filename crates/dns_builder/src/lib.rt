@@ -10,6 +10,11 @@ pub mod laws;
 mod opt;
 mod section;
 
+/// What messages are read by, for `dns_message`.
+pub use dns_sections as sections;
+/// The targets that compress names, for `dns_message`.
+pub use dns_compress as compress;
+
 pub use builder::{
     AdditionalBuilder, AnswerBuilder, AuthorityBuilder, MessageBuilder, QuestionBuilder,
     RecordSectionBuilder, SectionBuilder,

@@ -13,3 +13,4 @@ pub mod Texts
 pub mod Waiting
 pub mod Walking
 pub mod Joined
+pub use Rattle.dns_compression_laws.proofs.ReadParts

@@ -11,3 +11,4 @@ pub mod Tables
 pub mod Waiting
 pub mod Walk
 pub mod Joined
+pub use Rattle.dns_compression_laws.specs.Alike

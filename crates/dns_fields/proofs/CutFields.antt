@@ -3,8 +3,8 @@ use Rattle.std.proofs.Common.{◌≡◌, ◌+◌, ◌-◌, ◌↔◌, ℕ, List,
 use Rattle.std.specs.Prelude.{Ok, IsErrOf}
 use Rattle.dns_label.specs.Spelled as names
 use Rattle.dns_label.specs.Spelled.{DecodesName}
-use Rattle.dns_wire.specs.Cut.{IsCut}
-use Rattle.dns_wire.proofs.Cuts.{cut-root, cut-behind, cut-led_on}
+use Rattle.dns_name.specs.Cut.{IsCut}
+use Rattle.dns_name.proofs.Cuts.{cut-root, cut-behind, cut-led_on}
 use Rattle.dns_fields.specs.Fields.{Kind, Field, kind_of}
 use Rattle.dns_fields.specs.Reading.{ReadsField, NoField, IsCutField, AreCutFields}
 

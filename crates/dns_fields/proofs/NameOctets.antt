@@ -13,9 +13,9 @@ use Rattle.std.specs.Cmp.Lexicographic.{pointwise}
 use lib.Pointwise.{bytes_decides}
 use Rattle.dns_label.specs.Name.{IsLabel, wire, labels_wire, with_root, low}
 use Rattle.dns_scan.specs.CharStr.{string_wire}
-use Rattle.dns_wire.proofs.Case.{same_bool, wire_one}
-use Rattle.dns_wire.proofs.Wire.{labels_wire-with_root}
-use Rattle.dns_wire.proofs.Orders.{then_assoc, cmp_seam}
+use Rattle.dns_name.proofs.Case.{same_bool, wire_one}
+use Rattle.dns_name.proofs.Wire.{labels_wire-with_root}
+use Rattle.dns_name.proofs.Orders.{then_assoc, cmp_seam}
 
 before : (n : ℕ) → 0 < n → nat_cmp 0 n ≡ Less
 before n some = sym (nat_cmp_is 0 n Less some)

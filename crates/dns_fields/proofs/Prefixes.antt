@@ -10,7 +10,7 @@ use Rattle.std.specs.Char.{to_ascii_lowercase}
 use Rattle.std.proofs.lemmas.List.{map-append}
 use Rattle.dns_label.specs.Composed.{label_wire, low_label}
 use Rattle.dns_label.specs.Name.{wire, labels_wire, with_root, low}
-use Rattle.dns_wire.proofs.Wire.{labels_wire-with_root}
+use Rattle.dns_name.proofs.Wire.{labels_wire-with_root}
 use Rattle.dns_fields.specs.Prefix.{Decides}
 
 then_same : (o a b : Ordering) → (o ≡ Equal → a ≡ b) → ordering_then o a ≡ ordering_then o b

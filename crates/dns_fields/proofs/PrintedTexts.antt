@@ -10,8 +10,8 @@ use Rattle.std.specs.Str.Parse.{AllDigits}
 use Rattle.std.proofs.NetLemmas.Alphabet.{IsDigitOrDot, IsHexOrColon}
 use Rattle.dns_label.specs.Symbol.{IsPrintable, spelled, is_plain}
 use Rattle.dns_label.specs.declared.symbol.Symbol.{Symbol}
-use Rattle.dns_values.specs.Mnemonic.{number_spelled}
-use Rattle.dns_values.proofs.Words.{digits_model, number_spelled-digits}
+use Rattle.dns_name.specs.Mnemonic.{number_spelled}
+use Rattle.dns_name.proofs.Words.{digits_model, number_spelled-digits}
 use Rattle.dns_label.specs.Octets.{IsOctet}
 use Rattle.dns_scan.specs.Token.{Token, IsWord, unquoted}
 use Rattle.dns_scan.specs.declared.encoding.base.Base.{Base}

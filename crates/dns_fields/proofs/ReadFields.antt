@@ -8,7 +8,7 @@ use Rattle.dns_label.proofs.Spelling.{reads_one}
 use Rattle.dns_name.specs.Page.{Parts}
 use Rattle.dns_name.specs.Page.Parts.{End, Octets, Named}
 use Rattle.dns_name.specs.SpelledParts.{SpellsParts, nothing, octets, named}
-use Rattle.dns_wire.proofs.Flat.{same_front}
+use Rattle.dns_name.proofs.Flat.{same_front}
 use Rattle.dns_fields.specs.Fields.{Kind, Number8, Number16, Number32, Ipv4, Ipv6, Compressible, Uncompressed, Field, number8, number16, number32, ipv4, ipv6, compressible, uncompressed, kind_of, field_octets, IsField}
 use Rattle.dns_fields.specs.Reading.{read_field, ReadsField, IsSoleField, NoField}
 use Rattle.dns_fields.proofs.FieldKinds.{of_number8, of_number16, of_number32, of_ipv4, of_ipv6, of_compressible, of_uncompressed}

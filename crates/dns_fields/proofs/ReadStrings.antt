@@ -4,7 +4,7 @@ use Rattle.std.proofs.lemmas.List.{append-nil}
 use Rattle.dns_name.specs.Page.{Parts}
 use Rattle.dns_name.specs.Page.Parts.{End, Octets}
 use Rattle.dns_name.specs.SpelledParts.{SpellsParts, nothing, octets}
-use Rattle.dns_wire.proofs.Flat.{same_front}
+use Rattle.dns_name.proofs.Flat.{same_front}
 use Rattle.dns_scan.specs.CharStr.{StartsWithString, string_wire}
 use Rattle.dns_fields.specs.Fields.{Kind, String, Tag, RestText, Rest16, Rest64, Field, string, tag, rest_text, rest16, rest64, kind_of}
 use Rattle.dns_fields.specs.Reading.{read_field, ReadsField, ReadsFields, IsSoleField, AreSoleFields, NoField}

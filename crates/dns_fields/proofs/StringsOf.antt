@@ -2,7 +2,7 @@
 use Rattle.std.proofs.Common.{◌≡◌, ◌≤◌, ◌<◌, ℕ, zero, suc, List, [], ◌∷◌, ◌++◌, length, take, drop, refl, sym, ◌∙◌, ap, subst, arith, length-append}
 use Rattle.std.specs.List.{AllByRecursion, flat_map}
 use Rattle.std.proofs.Math.Seq.{take-append_seam, drop-append_seam}
-use Rattle.dns_wire.proofs.Flat.{same_front}
+use Rattle.dns_name.proofs.Flat.{same_front}
 use Rattle.dns_scan.specs.CharStr.{StartsWithString, string_wire}
 use Rattle.dns_fields.specs.Fields.{IsString}
 use Rattle.dns_fields.specs.Strings.{AreStringOctets, AreCut, first_strings, strings_of}

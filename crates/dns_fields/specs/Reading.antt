@@ -1,7 +1,7 @@
 -- Data as a reader takes it out of a message: fields one after another, up to the end of the octets (RFC 1035 3.2.1).
 use Rattle.std.specs.Prelude.{◌≡◌, ◌≤◌, ◌^◌, ◌⊎◌, ℕ, List, [], ◌∷◌, length, map, Some, IsSomeAnd}
 use Rattle.std.specs.List.{AllByRecursion}
-use Rattle.dns_wire.specs.Cut.{IsCut}
+use Rattle.dns_name.specs.Cut.{IsCut}
 use Rattle.dns_name.specs.Page.{Parts}
 use Rattle.dns_name.specs.Page.Parts.{End, Octets, Named}
 use Rattle.dns_name.specs.SpelledParts.{SpellsParts}

@@ -3,7 +3,7 @@ use Rattle.std.specs.Prelude.{◌≡◌, ◌<◌, ◌≤◌, ◌^◌, ℕ, List,
 use Rattle.std.specs.Str.{chars}
 use Rattle.std.specs.Net.Grammar.{IsDotted, IsColonHex}
 use Rattle.std.specs.Net.Addr.{octets_of}
-use Rattle.dns_values.specs.Mnemonic.{number_spelled}
+use Rattle.dns_name.specs.Mnemonic.{number_spelled}
 use Rattle.dns_scan.specs.Encodings.{Decodes16, Decodes64}
 use Rattle.dns_scan.specs.Scans.{ScansWord}
 use Rattle.dns_scan.specs.Token.{Token, Takes, IsWord, IsEntry, SpellsOctets, SpellsString, unquoted}

@@ -7,7 +7,7 @@ use Rattle.std.specs.Cmp.{IsEquivalence, IsTotalOrder, on_equiv, on_total, and_e
 use Rattle.std.proofs.lemmas.Cmp.{then_total}
 use Rattle.std.specs.Ordering.{is_eq, nat_cmp, ordering_then}
 use Rattle.dns_wire.specs.Order.{labels_order}
-use Rattle.dns_flat.specs.OrderLaws.{labels_equivalence, labels_total, labels_ties, labels_alike}
+use Rattle.dns_name.specs.OrderLaws.{labels_equivalence, labels_total, labels_ties, labels_alike}
 use Rattle.dns_header.specs.Head.{Head, fixed_octets}
 use Rattle.dns_header.specs.HeadOrder.{heads_eq, heads_cmp, head_keys}
 use Rattle.dns_header.specs.QuestionLaws.{both_tie}

@@ -9,7 +9,7 @@ use Rattle.std.specs.Ordering.{is_eq, nat_cmp, ordering_then}
 use Rattle.std.specs.declared.cmp.Ordering.{Ordering}
 use Rattle.std.specs.declared.cmp.Ordering.TheVariants.{Less, Equal, Greater}
 use Rattle.dns_wire.specs.Order.{labels_order}
-use Rattle.dns_flat.specs.OrderLaws.{labels_equivalence, labels_total, labels_ties, labels_alike}
+use Rattle.dns_name.specs.OrderLaws.{labels_equivalence, labels_total, labels_ties, labels_alike}
 use Rattle.dns_header.specs.Question.{Question}
 use Rattle.dns_header.specs.QuestionOrder.{questions_eq, questions_cmp, question_keys}
 

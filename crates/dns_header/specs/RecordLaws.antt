@@ -8,7 +8,7 @@ use Rattle.std.proofs.lemmas.Cmp.{then_total}
 use Rattle.std.specs.Ordering.{is_eq, eq_by_cmp, nat_cmp, ordering_then}
 use Rattle.std.specs.declared.cmp.Ordering.{Ordering}
 use Rattle.dns_wire.specs.Order.{labels_order}
-use Rattle.dns_flat.specs.OrderLaws.{labels_equivalence, labels_total, labels_ties, labels_alike}
+use Rattle.dns_name.specs.OrderLaws.{labels_equivalence, labels_total, labels_ties, labels_alike}
 use Rattle.dns_header.specs.Record.{RecordOf}
 use Rattle.dns_header.specs.RecordOrder.{records_eq, records_cmp}
 use Rattle.dns_header.specs.RecordParts.{record_keys}

@@ -9,20 +9,20 @@ use Rattle.dns_label.specs.Spelled as names
 use Rattle.dns_name.specs.Page.{Parts}
 use Rattle.dns_name.specs.Page.Parts.{End, Octets}
 use Rattle.dns_name.specs.SpelledParts.{SpellsParts}
-use Rattle.dns_scan.specs.CharStr.{StartsWithString, string_wire}
-use Rattle.dns_fields.specs.Fields.{Kind, Number8, Number16, Number32, Ipv4, Ipv6, Compressible, Uncompressed, String, Strings, Tag, RestText, Rest16, Rest64}
-use Rattle.dns_fields.specs.Fields.{Field, number8, number16, number32, ipv4, ipv6, compressible, uncompressed, string, strings, tag, rest_text, rest16, rest64, kind_of, kinds_of, field_octets, octets, IsField}
-use Rattle.dns_fields.specs.Reading.{read_field, ReadsField, ReadsFields, ReadsRow, IsSoleField, NoField, NoFields}
-use Rattle.dns_fields.specs.Strings.{AreStringOctets}
-use Rattle.dns_fields.proofs.FieldKinds.{of_number8, of_number16, of_number32, of_ipv4, of_ipv6}
-use Rattle.dns_fields.proofs.ReadFields.{IsFixed, opened, octets_read, fixed_sole, fixed_none, number8_fixed, number16_fixed, number32_fixed, ipv4_fixed, ipv6_fixed, name_read, compressible_sole, uncompressed_sole, no_compressible, no_uncompressed}
-use Rattle.dns_fields.proofs.ReadParts.{some_left, within, row_read, no_first, no_others, nothing_read, none_left}
-use Rattle.dns_fields.proofs.ReadStrings.{string_read, string_sole, tag_sole, no_string, no_tag, all_read}
-use Rattle.dns_fields.proofs.ReadEach.{none_read}
-use Rattle.dns_fields.proofs.StringsOf.{AreMade, made_more, made_less, none_made, nothing_made, strings_made, strings_some, made_strings}
-use Rattle.dns_fields.proofs.ComposedRows.{EndWell, Fit, fits, sole_fields}
-use Rattle.dns_sections.specs.Decision.{Decision}
-use Rattle.dns_sections.specs.DecidedNames.{Named, decide-named}
+use Rattle.dns_rdata.specs.CharStr.{StartsWithString, string_wire}
+use Rattle.dns_rdata.specs.Fields.{Kind, Number8, Number16, Number32, Ipv4, Ipv6, Compressible, Uncompressed, String, Strings, Tag, RestText, Rest16, Rest64}
+use Rattle.dns_rdata.specs.Fields.{Field, number8, number16, number32, ipv4, ipv6, compressible, uncompressed, string, strings, tag, rest_text, rest16, rest64, kind_of, kinds_of, field_octets, octets, IsField}
+use Rattle.dns_rdata.specs.Reading.{read_field, ReadsField, ReadsFields, ReadsRow, IsSoleField, NoField, NoFields}
+use Rattle.dns_rdata.specs.Strings.{AreStringOctets}
+use Rattle.dns_rdata.proofs.FieldKinds.{of_number8, of_number16, of_number32, of_ipv4, of_ipv6}
+use Rattle.dns_rdata.proofs.ReadFields.{IsFixed, opened, octets_read, fixed_sole, fixed_none, number8_fixed, number16_fixed, number32_fixed, ipv4_fixed, ipv6_fixed, name_read, compressible_sole, uncompressed_sole, no_compressible, no_uncompressed}
+use Rattle.dns_rdata.proofs.ReadParts.{some_left, within, row_read, no_first, no_others, nothing_read, none_left}
+use Rattle.dns_rdata.proofs.ReadStrings.{string_read, string_sole, tag_sole, no_string, no_tag, all_read}
+use Rattle.dns_rdata.proofs.ReadEach.{none_read}
+use Rattle.dns_rdata.proofs.StringsOf.{AreMade, made_more, made_less, none_made, nothing_made, strings_made, strings_some, made_strings}
+use Rattle.dns_rdata.proofs.ComposedRows.{EndWell, Fit, fits, sole_fields}
+use Rattle.dns_builder.specs.Decision.{Decision}
+use Rattle.dns_builder.specs.DecidedNames.{Named, decide-named}
 
 -- what holds, or does not
 abbrev pub Decided : Type 0 → Type 0

@@ -14,8 +14,8 @@ use Rattle.dns_header.specs.Head.{Head, ReadsHead, ReadsWhole}
 use Rattle.dns_header.specs.Question.{Question, ReadsQuestion}
 use Rattle.dns_header.specs.Record.{RecordOf}
 use Rattle.dns_header.proofs.Heads.{no_head, cut_data, heads_one}
-use Rattle.dns_sections.specs.Decision.{Decision}
-use Rattle.dns_sections.specs.DecidedNames.{Named, decide-named}
+use Rattle.dns_builder.specs.Decision.{Decision}
+use Rattle.dns_builder.specs.DecidedNames.{Named, decide-named}
 use Rattle.dns_message.specs.Record.{Record, ReadsRecord}
 use Rattle.dns_message.specs.Held.{TakesRecord, record_of}
 use Rattle.dns_message.proofs.HeldRecords.{taken_read, read_taken}

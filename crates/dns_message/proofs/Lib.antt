@@ -13,3 +13,5 @@ pub mod Spellable
 pub mod DecidedFields
 pub mod DecidedRecords
 pub mod WrittenItems
+pub use Rattle.dns_rdata.proofs.Writing
+pub use Rattle.dns_rdata.proofs.ComposedRows

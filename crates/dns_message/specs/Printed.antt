@@ -1,6 +1,6 @@
 -- How a record is printed: its owner, TTL, class and type, and then its data (RFC 1035 5.1).
 use Rattle.std.specs.Prelude.{◌≡◌, ℕ, List, None}
-use Rattle.dns_text.specs.Document.{Piece}
+use Rattle.dns_rdata.specs.Document.{Piece}
 use Rattle.dns_header.specs.Shown.{record_document}
 use Rattle.dns_rdata.specs.Fields.{kinds_of}
 use Rattle.dns_rdata.specs.Data.{document_of, unknown_data}

@@ -14,3 +14,12 @@ pub mod PrintedSymbols
 pub mod PrintedTexts
 pub mod OneName
 mod Tried
+pub use Rattle.dns_flat.proofs.Front
+pub use Rattle.dns_wire.proofs.Parts
+pub use Rattle.dns_wire.proofs.Flat
+pub use Rattle.dns_values.proofs.Words
+pub use Rattle.dns_octets.proofs.Grows
+pub use Rattle.dns_wire.proofs.Cuts
+pub use Rattle.dns_wire.proofs.Case
+pub use Rattle.dns_wire.proofs.Wire
+pub use Rattle.dns_wire.proofs.Orders

@@ -51,3 +51,8 @@ pub use Rattle.dns_wire.specs.Suffix
 pub use Rattle.dns_wire.specs.Text
 pub use Rattle.dns_wire.specs.TextErrors
 pub use Rattle.dns_wire.specs.Unescaped
+pub use Rattle.dns_values.specs.Mnemonic
+pub use Rattle.dns_octets.specs.declared.error.AppendError
+pub use Rattle.dns_octets.specs.declared.error.ParseError
+pub use Rattle.dns_flat.specs.declared.relative.RelativeNameError
+pub use Rattle.dns_wire.specs.declared.text.FromStrError

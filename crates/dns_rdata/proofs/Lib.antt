@@ -3,3 +3,10 @@ pub mod Pairs
 pub mod ScanAny
 pub mod PrintedData
 pub mod MadeData
+pub use Rattle.dns_fields.proofs.FieldKinds
+pub use Rattle.dns_fields.proofs.ReadFields
+pub use Rattle.dns_fields.proofs.ReadParts
+pub use Rattle.dns_fields.proofs.ReadStrings
+pub use Rattle.dns_fields.proofs.ReadEach
+pub use Rattle.dns_fields.proofs.StringsOf
+pub use Rattle.dns_fields.proofs.Writing

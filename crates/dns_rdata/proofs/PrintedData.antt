@@ -5,14 +5,14 @@ use Rattle.std.specs.List.{AllByRecursion, AllZip}
 use Rattle.dns_label.specs.declared.symbol.Symbol.TheVariants.{SimpleEscape}
 use Rattle.dns_name.specs.Unknown.{UnknownData}
 use Rattle.dns_name.specs.UnknownText.{hex_words}
-use Rattle.dns_scan.specs.declared.encoding.base.Base.TheVariants.{Sixteen}
-use Rattle.dns_scan.specs.Base.{Decodes}
-use Rattle.dns_scan.specs.Encodings.{encoded_16}
+use Rattle.dns_text.specs.ScanBase.TheVariants.{Sixteen}
+use Rattle.dns_text.specs.Base.{Decodes}
+use Rattle.dns_text.specs.Encodings.{encoded_16}
 use Rattle.dns_label.specs.Octets.{IsOctet}
-use Rattle.dns_scan.specs.Token.{Token, IsEntry, IsWord, marker}
-use Rattle.dns_scan.specs.UnknownData.{IsUnknownData}
-use Rattle.dns_scan.proofs.HexWords.{hex_encoded}
-use Rattle.dns_scan.proofs.Encodings.{encoded_decodes, decodes_one, text_decodes_only}
+use Rattle.dns_text.specs.Token.{Token, IsEntry, IsWord, marker}
+use Rattle.dns_text.specs.UnknownData.{IsUnknownData}
+use Rattle.dns_text.proofs.HexWords.{hex_encoded}
+use Rattle.dns_text.proofs.Encodings.{encoded_decodes, decodes_one, text_decodes_only}
 use Rattle.dns_text.specs.Document.{Piece}
 use Rattle.dns_text.specs.Document.Piece.{Token as token_piece, Comment, Close, Newline}
 use Rattle.dns_text.specs.DocumentRows.{HasRows, WritesToken}

@@ -1,8 +1,8 @@
 -- The text of data at one place of a scanner, and at another one where the same names are spelled.
 use Rattle.std.proofs.Common.{◌≡◌, ℕ, Bool, false, List, [], ◌∷◌, Result, Ok, Err, IfOk, IfErr, OnErr, drop, refl, sym, ◌∙◌, ap, subst}
 use Rattle.std.specs.Bool.{IsTrue}
-use Rattle.dns_scan.specs.Token.{Token, IsEnding, SameNames, marker}
-use Rattle.dns_scan.specs.UnknownData.{IsUnknownData}
+use Rattle.dns_text.specs.Token.{Token, IsEnding, SameNames, marker}
+use Rattle.dns_text.specs.UnknownData.{IsUnknownData}
 use Rattle.dns_fields.specs.Fields.{Field, number8, number16, number32, ipv4, ipv6, compressible, uncompressed, string, strings, tag, rest_text, rest16, rest64}
 use Rattle.dns_fields.specs.Scanned.{ScansField, ScansRow, ScansData, ScansLong, NoDataScans}
 use Rattle.dns_rdata.specs.Data.{Data, typed, unknown_data, IsUnmarked, NoAnyDataScans, ScansAnyData}

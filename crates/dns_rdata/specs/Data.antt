@@ -9,8 +9,8 @@ use Rattle.dns_octets.specs.Builder.{IsPast}
 use Rattle.dns_name.specs.Page.{Parts}
 use Rattle.dns_name.specs.Page.Parts.{End, Octets}
 use Rattle.dns_name.specs.Unknown.{UnknownData, IsUnknownAt}
-use Rattle.dns_scan.specs.Token.{Token, marker}
-use Rattle.dns_scan.specs.UnknownData.{IsUnknownData}
+use Rattle.dns_text.specs.Token.{Token, marker}
+use Rattle.dns_text.specs.UnknownData.{IsUnknownData}
 use Rattle.dns_text.specs.Document.{Piece}
 use Rattle.dns_text.specs.Documents.{block_of, unknown_tokens}
 use Rattle.dns_fields.specs.Fields.{Field, kinds_of, canonical_octets}

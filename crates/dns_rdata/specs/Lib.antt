@@ -11,3 +11,6 @@ pub mod DataOctets
 pub mod DataLaws
 pub mod Tried
 pub mod ZoneData
+pub use Rattle.dns_fields.specs.Strings
+pub use Rattle.dns_text.specs.Document
+pub use Rattle.dns_text.specs.CharStr

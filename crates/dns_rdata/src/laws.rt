@@ -1,7 +1,7 @@
 //! Laws of record data. Each function does nothing; what it ensures is the law. Those of rows are `dns_fields`'s.
 ghost use Rattle.std.specs.Prelude.{◌≡◌, ◌++◌, ◌∷◌, [], ℕ, List};
 ghost use Rattle.std.specs.List.{AllZip};
-ghost use Rattle.dns_scan.specs.Token.{Token};
+ghost use Rattle.dns_text.specs.Token.{Token};
 ghost use Rattle.dns_text.specs.Document.{Layout, document_text};
 ghost use Rattle.dns_text.specs.Document.Piece.{Newline};
 ghost use Rattle.dns_text.specs.DocumentRows.{WritesToken};

@@ -6,7 +6,7 @@ use Rattle.std.proofs.Math.Seq.{take-append_seam, drop-append_seam}
 use Rattle.std.proofs.lemmas.Grind.{flat_map-append}
 use Rattle.std.proofs.lemmas.List.{drop-drop, take-append-drop}
 use Rattle.std.proofs.lemmas.List.Folds.{concat-append}
-use Rattle.dns_scan.specs.CharStr.{string_wire}
+use Rattle.dns_text.specs.CharStr.{string_wire}
 use Rattle.dns_fields.specs.Fields.{IsString}
 use Rattle.dns_fields.specs.Strings.{strings_of}
 use Rattle.dns_fields.proofs.StringsOf.{strings_of-written}

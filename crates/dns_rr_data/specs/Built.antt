@@ -1,7 +1,7 @@
 -- Text as strings, and strings while they are built (RFC 1035 3.3.14).
 use Rattle.std.specs.Prelude.{◌≡◌, ◌≤◌, ◌<◌, ◌+◌, ◌/◌, ℕ, List, [], ◌∷◌, ◌++◌, length, take, drop, Option, Some, None}
 use Rattle.std.specs.List.{AllByRecursion, concat, flat_map}
-use Rattle.dns_scan.specs.CharStr.{string_wire}
+use Rattle.dns_text.specs.CharStr.{string_wire}
 use Rattle.dns_fields.specs.Fields.{IsString}
 use Rattle.dns_fields.specs.Strings.{strings_of}
 

@@ -14,7 +14,7 @@ ghost use Rattle.dns_name.specs.RecordData.{IsAtEnd};
 ghost use Rattle.dns_octets.specs.declared.error.AppendError.TheVariants.{ShortBuf, BadLength};
 ghost use Rattle.dns_octets.specs.declared.error.ParseError.TheVariants.{ShortInput};
 ghost use Rattle.dns_octets.specs.Parser.{octets_of, place_of};
-ghost use Rattle.dns_scan.specs.Token.{IsEnding, SameNames};
+ghost use Rattle.dns_text.specs.Token.{IsEnding, SameNames};
 ghost use Rattle.dns_text.specs.Document.{document_text};
 ghost use Rattle.dns_text.specs.Document.Layout.{Simple};
 ghost use Rattle.dns_text.specs.Documents.{block_of};

@@ -9,7 +9,7 @@ ghost use Rattle.dns_fields.specs.Scanned.{NoDataScans, ScansData};
 ghost use Rattle.dns_name.specs.RecordData.{IsAtEnd};
 ghost use Rattle.dns_octets.specs.Parser.{octets_of, place_of};
 ghost use Rattle.dns_octets.specs.declared.error.AppendError.TheVariants.{ShortBuf, BadLength};
-ghost use Rattle.dns_scan.specs.Token.{IsEnding, SameNames};
+ghost use Rattle.dns_text.specs.Token.{IsEnding, SameNames};
 
 use crate::DataType;
 use dns_fields::{Row, RowOctetsOrd, ShowRow};

@@ -11,7 +11,7 @@ use Rattle.dns_scan.specs.declared.encoding.base.Base.TheVariants.{Sixteen, Thir
 use Rattle.dns_scan.specs.Bits.{bits, all_bits, grouped, padded_number, numbers_of, number_of}
 use Rattle.dns_label.specs.Octets.{IsOctet}
 use Rattle.dns_scan.specs.Base.{width, size, character, digit, hex_character, character_64, digit_64, IsCharacter, Groups, IsTextOf, Decodes, DecodesOnly, characters_of, encoded, padding}
-use Rattle.dns_wire.proofs.Flat.{same_front}
+use Rattle.dns_name.proofs.Flat.{same_front}
 use Rattle.dns_scan.proofs.BitLists.{IsBit, bits-number, length-bits, number-bits}
 use Rattle.dns_scan.proofs.Groups.{eq_same, eq_differs}
 use Rattle.dns_scan.proofs.Numbers.{numbers_small, all_bits_are, zeros}

@@ -6,8 +6,8 @@ use Rattle.std.specs.Result.{OkIff, result_ok}
 use Rattle.std.specs.Str.Parse.{digits_value, ParsesUnsigned}
 use Rattle.std.proofs.lemmas.Str.Parse.{parse_digits}
 use Rattle.std.proofs.lemmas.Bool.Decides.{nat_tests}
-use Rattle.dns_values.specs.Mnemonic.{number_spelled}
-use Rattle.dns_values.proofs.Words.{digits_model, number_spelled-other, number_spelled-digits}
+use Rattle.dns_name.specs.Mnemonic.{number_spelled}
+use Rattle.dns_name.proofs.Words.{digits_model, number_spelled-other, number_spelled-digits}
 
 -- what is parsed of digits is what they spell
 spelled_ok : {E : Type 0} (limit : ℕ) (ds : List ℕ) (r : Result ℕ E) → list_all is_ascii_digit ds ≡ true

@@ -5,7 +5,7 @@ use Rattle.std.specs.List.{FoldsTo, flat_map}
 use Rattle.std.proofs.lemmas.List.{map_push}
 use Rattle.dns_label.specs.declared.symbol.Symbol.{Symbol}
 use Rattle.dns_label.specs.Symbol.{IsSymbol, spelled}
-use Rattle.dns_wire.proofs.Parts.{symbol_one, spelled_some}
+use Rattle.dns_name.proofs.Parts.{symbol_one, spelled_some}
 use Rattle.dns_scan.specs.declared.symbols.entry_symbol.EntrySymbol.{EntrySymbol}
 use Rattle.dns_scan.specs.declared.symbols.entry_symbol.EntrySymbol.TheVariants.{Symbol as Within, EndOfToken}
 use Rattle.dns_scan.specs.Symbols.{AreWritten, HasMarked, TakesAll, RefusesOne, marked}

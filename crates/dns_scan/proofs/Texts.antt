@@ -4,7 +4,7 @@ use Rattle.std.specs.List.{AllByRecursion, flat_map}
 use Rattle.dns_label.specs.declared.symbol.Symbol.{Symbol}
 use Rattle.dns_label.specs.Symbol.{IsSymbol, octet, spelled}
 use Rattle.std.proofs.lemmas.List.{map_push}
-use Rattle.dns_wire.proofs.Parts.{symbol_one, spelled_some}
+use Rattle.dns_name.proofs.Parts.{symbol_one, spelled_some}
 use Rattle.dns_scan.specs.StringText.{Spells, IsStringText}
 use Rattle.dns_scan.specs.Refused.{BeginsWith, HasFault}
 use Rattle.dns_scan.specs.declared.char_str.text.PresentationError.TheVariants.{BadSymbol, LongString}

@@ -4,7 +4,7 @@ use Rattle.std.proofs.lemmas.Bool.Decides.{nat_tests}
 use Rattle.std.specs.List.{AllByRecursion, flat_map}
 use Rattle.dns_label.specs.declared.symbol.Symbol.{Symbol}
 use Rattle.dns_label.specs.Symbol.{IsSymbol, IsPrintable, IsNoDigit, octet, spelled, is_printable}
-use Rattle.dns_wire.proofs.Parts.{spelled_some}
+use Rattle.dns_name.proofs.Parts.{spelled_some}
 use Rattle.dns_label.specs.Octets.{IsOctet}
 use Rattle.dns_scan.specs.StringText.{Spells, SpellsOnly, is_escaped, symbol_of, text_of}
 use Rattle.dns_scan.specs.declared.char_str.text.Style.{Style}

@@ -1,7 +1,7 @@
 -- Unknown data as text, after its marker (RFC 3597 5).
 use Rattle.std.specs.Prelude.{◌≡◌, ◌^◌, ℕ, List, [], ◌∷◌, length}
 use Rattle.std.specs.Str.{chars}
-use Rattle.dns_values.specs.Mnemonic.{number_spelled, type_read}
+use Rattle.dns_name.specs.Mnemonic.{number_spelled, type_read}
 use Rattle.dns_name.specs.Unknown.{UnknownData}
 use Rattle.dns_scan.specs.Encodings.{Decodes16}
 use Rattle.dns_scan.specs.Scans.{ScansWord}

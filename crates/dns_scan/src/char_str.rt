@@ -5,11 +5,11 @@ ghost use Rattle.std.specs.Cmp.Lexicographic.{pointwise, slice_cmp};
 ghost use Rattle.std.specs.Cmp.Rules.{comparing, hashing};
 ghost use Rattle.std.specs.Hash as fed;
 ghost use Rattle.std.proofs.Common.{rules};
-ghost use Rattle.dns_octets.specs.Builder.{IsPast};
-ghost use Rattle.dns_octets.specs.declared.error.AppendError.TheVariants.{ShortBuf, BadLength};
-ghost use Rattle.dns_octets.specs.declared.error.ParseError.TheVariants.{ShortInput};
+ghost use Rattle.dns_name.specs.Builder.{IsPast};
+ghost use Rattle.dns_name.specs.AppendError.TheVariants.{ShortBuf, BadLength};
+ghost use Rattle.dns_name.specs.ParseError.TheVariants.{ShortInput};
 ghost use Rattle.dns_scan.specs.CharStr.{string_wire, StartsWithString, lower};
-ghost use Rattle.dns_octets.specs.Parser.{GoesOn, rest_of};
+ghost use Rattle.dns_name.specs.Parser.{GoesOn, rest_of};
 
 mod builder;
 mod iter;

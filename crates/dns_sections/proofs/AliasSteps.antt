@@ -9,10 +9,10 @@ use Rattle.dns_octets.specs.Parser.{octets_of, place_of}
 use Rattle.dns_octets.specs.declared.error.ParseError.{ParseError}
 use Rattle.dns_label.specs.Name.{low}
 use Rattle.dns_label.proofs.Spelling.{reads_one}
-use Rattle.dns_fields.specs.Fields.{Compressible, Field, compressible, kind_of, kinds_of}
-use Rattle.dns_fields.specs.Reading.{ReadsRow}
-use Rattle.dns_fields.proofs.FieldKinds.{of_compressible}
-use Rattle.dns_fields.proofs.ReadFields.{name_opened}
+use Rattle.dns_rr_data.specs.Fields.{Compressible, Field, compressible, kind_of, kinds_of}
+use Rattle.dns_rr_data.specs.Reading.{ReadsRow}
+use Rattle.dns_rr_data.proofs.FieldKinds.{of_compressible}
+use Rattle.dns_rr_data.proofs.ReadFields.{name_opened}
 use Rattle.dns_header.specs.Head.{Head}
 use Rattle.dns_header.specs.ParsedRecord.{Parsed}
 use Rattle.dns_header.specs.Record.{RecordOf}

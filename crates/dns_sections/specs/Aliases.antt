@@ -4,8 +4,8 @@ use Rattle.std.specs.Cmp.Lexicographic.{pointwise}
 use Rattle.std.specs.Ordering.{on}
 use Rattle.dns_octets.specs.declared.error.ParseError.{ParseError}
 use Rattle.dns_label.specs.Name.{low}
-use Rattle.dns_fields.specs.Fields.{compressible}
-use Rattle.dns_fields.specs.Reading.{ReadsRow}
+use Rattle.dns_rr_data.specs.Fields.{compressible}
+use Rattle.dns_rr_data.specs.Reading.{ReadsRow}
 use Rattle.dns_header.specs.Question.{Question}
 use Rattle.dns_header.specs.Record.{RecordOf}
 use Rattle.dns_sections.specs.Asked.{IsFirstQuestion}

@@ -13,3 +13,5 @@ pub mod OneRow
 pub mod UncertainTexts
 pub mod UnknownTokens
 mod Tried
+pub use Rattle.dns_scan.proofs.HexWords
+pub use Rattle.dns_scan.proofs.Encodings

@@ -5,15 +5,15 @@ use Rattle.dns_label.specs.Name.{IsName}
 use Rattle.dns_label.specs.Printed.{printed_name}
 use Rattle.dns_label.specs.NameText.{IsAbsoluteText, IsNameText, IsRelativeNameText}
 use Rattle.dns_label.specs.NameText.IsNameText.{absolute}
-use Rattle.dns_wire.specs.declared.text.FromStrError.{FromStrError}
-use Rattle.dns_wire.specs.declared.text.FromStrError.TheVariants.{Presentation, ShortBuf}
+use Rattle.dns_name.specs.FromStrError.{FromStrError}
+use Rattle.dns_name.specs.FromStrError.TheVariants.{Presentation, ShortBuf}
 use Rattle.dns_label.specs.Octets.{AreOctets}
-use Rattle.dns_flat.specs.PrintedLabels.{printed_relative}
-use Rattle.dns_flat.specs.RelativeText.{SpellsAbsolute}
-use Rattle.dns_wire.specs.Text.{IsRefused}
+use Rattle.dns_name.specs.PrintedLabels.{printed_relative}
+use Rattle.dns_name.specs.RelativeText.{SpellsAbsolute}
+use Rattle.dns_name.specs.Text.{IsRefused}
 use Rattle.dns_text.specs.declared.uncertain.UncertainName.{UncertainName}
 use Rattle.dns_text.specs.declared.uncertain.UncertainName.TheVariants.{Absolute, Relative}
-use Rattle.dns_flat.specs.SpelledText.{IsNotSpelled}
+use Rattle.dns_name.specs.SpelledText.{IsNotSpelled}
 use Rattle.dns_text.specs.Uncertain.{IsTextOf, labels_of, text_of}
 
 -- a text spells one name

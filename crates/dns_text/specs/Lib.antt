@@ -26,3 +26,4 @@ pub use Rattle.dns_scan.specs.ScanError
 pub use Rattle.dns_scan.specs.UnknownData
 pub use Rattle.dns_scan.specs.Symbols
 pub use Rattle.dns_scan.specs.Converted
+pub use Rattle.dns_scan.specs.declared.encoding.base.Base as ScanBase

@@ -2,9 +2,9 @@
 use Rattle.std.specs.Prelude.{◌≡◌, ◌++◌, Bool, true, false, List, ℕ, Option}
 use Rattle.dns_label.specs.Name.{IsName, labels_wire, wire, with_root}
 use Rattle.dns_label.specs.Printed.{printed_name}
-use Rattle.dns_wire.specs.Parsed.{LabelsStandAt}
-use Rattle.dns_flat.specs.Relative.{StandsIn as stands_in_relative}
-use Rattle.dns_flat.specs.PrintedLabels.{printed_relative}
+use Rattle.dns_name.specs.Parsed.{LabelsStandAt}
+use Rattle.dns_name.specs.Relative.{StandsIn as stands_in_relative}
+use Rattle.dns_name.specs.PrintedLabels.{printed_relative}
 use Rattle.dns_label.specs.NameText.{IsEitherText}
 use Rattle.dns_text.specs.declared.uncertain.UncertainName.{UncertainName}
 use Rattle.dns_text.specs.declared.uncertain.UncertainName.TheVariants.{Absolute, Relative}

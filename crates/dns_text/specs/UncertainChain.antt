@@ -1,11 +1,11 @@
 -- What a contract sees of an uncertain name with a suffix.
 use Rattle.std.specs.Prelude.{◌≡◌, List, ℕ, Option, ◌++◌, length, refl}
 use Rattle.dns_label.specs.Name.{labels_wire, wire, with_root}
-use Rattle.dns_wire.specs.Chain.{StandsInOne}
-use Rattle.dns_flat.specs.ChainLaws.{rooted_behind}
-use Rattle.dns_flat.specs.ChainParts.{left_of, right_of}
-use Rattle.dns_wire.specs.Parsed.{LabelsStandAt}
-use Rattle.dns_flat.specs.Relative.{StandsIn as stands_in_relative}
+use Rattle.dns_name.specs.Chain.{StandsInOne}
+use Rattle.dns_name.specs.ChainLaws.{rooted_behind}
+use Rattle.dns_name.specs.ChainParts.{left_of, right_of}
+use Rattle.dns_name.specs.Parsed.{LabelsStandAt}
+use Rattle.dns_name.specs.Relative.{StandsIn as stands_in_relative}
 use Rattle.dns_text.specs.declared.uncertain.chain.UncertainChain.{UncertainChain}
 use Rattle.dns_text.specs.declared.uncertain.chain.UncertainChain.TheVariants.{Absolute, Relative}
 

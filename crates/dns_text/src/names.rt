@@ -1,7 +1,7 @@
 //! Names as tokens: a dot after each label, and the root as a dot.
 ghost use Rattle.std.specs.Prelude.{[], ◌∷◌, ◌++◌, OnOk};
 ghost use Rattle.dns_label.specs.Printed.{printed_name};
-ghost use Rattle.dns_flat.specs.ChainParts.{left_of, right_of};
+ghost use Rattle.dns_name.specs.ChainParts.{left_of, right_of};
 ghost use Rattle.dns_name.specs.ParsedName.{labels_in};
 ghost use Rattle.dns_text.specs.Document.Piece.{Token};
 ghost use Rattle.dns_text.specs.Writing.{Adds};

@@ -1,14 +1,14 @@
 //! Names that may be absolute or relative.
 ghost use Rattle.std.specs.Prelude.{◌≡◌, ◌↔◌, ◌<◌, List, ℕ, Some, Err, length, not, IsTrue, IsOk, IsSome, IfOk, IfErr, IfSome, OnErr, true, false};
 ghost use Rattle.dns_label.specs.Name.{IsName, wire};
-ghost use Rattle.dns_octets.specs.Builder.{IsPast};
+ghost use Rattle.dns_name.specs.Builder.{IsPast};
 ghost use Rattle.dns_label.specs.NameText.{IsAbsoluteText};
 ghost use Rattle.std.specs.Iterator.{IsFinite, Drains};
-ghost use Rattle.dns_flat.specs.NoName.{IsNoRelativeName};
-ghost use Rattle.dns_flat.specs.RelativeText.{SpellsAbsolute};
-ghost use Rattle.dns_flat.specs.declared.relative.RelativeNameError.TheVariants.{LongName};
-ghost use Rattle.dns_flat.specs.SpelledText.{IsNotSpelled, IsNotSpelledBy};
-ghost use Rattle.dns_octets.specs.declared.error.AppendError.TheVariants.{ShortBuf, BadLength};
+ghost use Rattle.dns_name.specs.NoName.{IsNoRelativeName};
+ghost use Rattle.dns_name.specs.RelativeText.{SpellsAbsolute};
+ghost use Rattle.dns_name.specs.RelativeNameError.TheVariants.{LongName};
+ghost use Rattle.dns_name.specs.SpelledText.{IsNotSpelled, IsNotSpelledBy};
+ghost use Rattle.dns_name.specs.AppendError.TheVariants.{ShortBuf, BadLength};
 ghost use Rattle.dns_text.specs.declared.uncertain.UncertainName.TheVariants.{Absolute, Relative};
 ghost use Rattle.dns_text.specs.Uncertain.{is_absolute, labels_of, uncertain_octets, seen_labels, text_of, StandsIn, IsNoName, IsTextOf};
 

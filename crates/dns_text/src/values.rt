@@ -1,6 +1,6 @@
 //! Values of one token, and unknown data.
 ghost use Rattle.std.specs.Prelude.{[], ◌∷◌, OnOk, decimal};
-ghost use Rattle.dns_values.specs.Mnemonic.{class_written, type_written};
+ghost use Rattle.dns_name.specs.Mnemonic.{class_written, type_written};
 ghost use Rattle.dns_text.specs.Document.Piece.{Token};
 ghost use Rattle.dns_text.specs.Documents.{block_of, unknown_tokens};
 ghost use Rattle.dns_text.specs.Writing.{Adds};

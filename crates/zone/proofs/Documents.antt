@@ -14,9 +14,9 @@ use Rattle.dns_rdata.specs.Shown.{commented, comments_of, field_tokens, row_toke
 use Rattle.dns_rdata.specs.Data.{Data, typed, unknown_data, number_of, document_of}
 use Rattle.dns_rdata.specs.DataOctets.{data_octets}
 use Rattle.dns_name.specs.UnknownText.{unknown_words}
-use Rattle.dns_message.specs.Held.{record_of}
-use Rattle.dns_message.specs.Printed.{IsDocument, ShowsData}
-use Rattle.dns_message.specs.Printed.ShowsData.{fields, untold}
+use Rattle.zone_records.specs.Held.{record_of}
+use Rattle.zone_records.specs.Printed.{IsDocument, ShowsData}
+use Rattle.zone_records.specs.Printed.ShowsData.{fields, untold}
 use Rattle.zone_records.specs.Record.{Record}
 use Rattle.zone_records.specs.Typed.{HasFieldsOfType}
 use Rattle.zone_records.proofs.Each.{all_append}

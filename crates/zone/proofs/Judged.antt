@@ -8,7 +8,7 @@ use Rattle.dns_text.specs.Tokens.{Row, is_end}
 use Rattle.dns_entry_scanner.proofs.Rows.{row_shorter}
 use Rattle.dns_rdata.specs.Data.{Data}
 use Rattle.dns_rdata.specs.Fields.{IsData}
-use Rattle.dns_message.specs.Held.{record_of}
+use Rattle.zone_records.specs.Held.{record_of}
 use Rattle.dns_zonefile.specs.Entries.{AreEntries, HasEntries, IsRefusedAfter, refused_number}
 use Rattle.dns_zonefile.specs.Entry.{Context, Entry, IsEntry}
 use Rattle.dns_zonefile.specs.Entry.Entry.{Directive, Include, Resource}

@@ -1,7 +1,7 @@
 -- The last record in octets, and the owner of the first.
 use Rattle.std.proofs.Common.{◌≡◌, ◌≢◌, ◌≤◌, ◌++◌, ◌∙◌, ℕ, List, [], Option, Some, None, length, take, drop, sym, ap, arith, length-append}
 use Rattle.std.proofs.Math.Seq.{take-append_seam, drop-append_seam}
-use Rattle.dns_message.specs.Record.{IsRecord, record_octets}
+use Rattle.zone_records.specs.MessageRecord.{IsRecord, record_octets}
 use Rattle.zone_records.specs.Record.{Record}
 use Rattle.zone.specs.Reading.{BeginWith, StandsLast}
 

@@ -23,3 +23,4 @@ pub mod Tried
 mod Documents
 mod Lines
 mod AppendedLines
+pub use Rattle.zone_canonical.proofs.Alike

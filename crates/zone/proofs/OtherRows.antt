@@ -10,7 +10,7 @@ use Rattle.dns_zonefile.specs.Entry.{Context, Entry, IsEntry}
 use Rattle.dns_zonefile.specs.Entry.Entry.{Directive, Include, Resource}
 use Rattle.dns_zonefile.proofs.OneEntry.{entry_has_tokens, one_entry}
 use Rattle.dns_zonefile.proofs.RowFronts.{all_rows}
-use Rattle.dns_message.specs.Held.{record_of}
+use Rattle.zone_records.specs.Held.{record_of}
 use Rattle.zone_records.specs.Record.{Record}
 use Rattle.zone_records.specs.Zone.{IsZoneFront}
 use Rattle.zone.specs.ZoneText.{IsWellTyped, IsZoneText, NamesNoFile, records_in, start_of}

@@ -9,8 +9,8 @@ use Rattle.dns_rdata.specs.DataOctets.{IsDataDocument}
 use Rattle.dns_rdata.specs.Fields.{Field, IsData, kind_of, kinds_of}
 use Rattle.dns_rdata.specs.Fields.IsData.{typed as of_fields, unknown}
 use Rattle.dns_rdata.proofs.ComposedRows.{same_octets}
-use Rattle.dns_message.specs.Printed.{IsDocument, ShowsData}
-use Rattle.dns_message.specs.Printed.ShowsData.{fields, untold}
+use Rattle.zone_records.specs.Printed.{IsDocument, ShowsData}
+use Rattle.zone_records.specs.Printed.ShowsData.{fields, untold}
 use Rattle.zone_records.specs.Record.{Record}
 use Rattle.zone_records.specs.Records.{IsRecordOf}
 use Rattle.zone.specs.Printed.{IsPrinted}

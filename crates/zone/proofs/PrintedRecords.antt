@@ -26,10 +26,10 @@ use Rattle.dns_rdata.specs.Data.{Data, typed, unknown_data, document_of, number_
 use Rattle.dns_rdata.specs.DataOctets.{data_octets}
 use Rattle.dns_rdata.specs.DataTokens.{HasNoEmptyTag, IsAnyData, tokens_of}
 use Rattle.dns_rdata.proofs.PrintedData.{any_back, data_row, data_written}
-use Rattle.dns_message.specs.Held.{record_of}
-use Rattle.dns_message.specs.Printed.{IsDocument, ShowsData}
-use Rattle.dns_message.specs.Printed.ShowsData.{fields, untold}
-use Rattle.dns_message.specs.Record.{IsRecord}
+use Rattle.zone_records.specs.Held.{record_of}
+use Rattle.zone_records.specs.Printed.{IsDocument, ShowsData}
+use Rattle.zone_records.specs.Printed.ShowsData.{fields, untold}
+use Rattle.zone_records.specs.MessageRecord.{IsRecord}
 use Rattle.dns_entry_scanner.specs.NameInText.{SpellsUnder}
 use Rattle.dns_entry_scanner.specs.NameInText.SpellsUnder.{absolute}
 use Rattle.dns_zonefile.specs.Entry.{Context, IsEntry}

@@ -13,8 +13,8 @@ use Rattle.dns_rdata.specs.Data.{Data, typed, unknown_data, is_unknown, number_o
 use Rattle.dns_rdata.specs.DataOctets.{data_octets}
 use Rattle.dns_rdata.specs.Fields as fields
 use Rattle.dns_rdata.specs.Fields.{IsData}
-use Rattle.dns_message.specs.Held.{record_of}
-use Rattle.dns_message.specs.Record.{IsRecord, record_octets}
+use Rattle.zone_records.specs.Held.{record_of}
+use Rattle.zone_records.specs.MessageRecord.{IsRecord, record_octets}
 use Rattle.dns_entry_scanner.specs.declared.entry_error.EntryError.{EntryError}
 use Rattle.dns_zonefile.proofs.Going.{goes-nowhere}
 use Rattle.dns_zonefile.specs.Composed.{HandsOn, IsHeld}

@@ -6,7 +6,7 @@ use Rattle.dns_header.specs.Record.{RecordOf}
 use Rattle.dns_rdata.specs.Data.{Data}
 use Rattle.dns_rdata.specs.DataOctets.{IsSpellable}
 use Rattle.dns_rdata.specs.Fields.{IsData}
-use Rattle.dns_message.specs.Held.{record_of}
+use Rattle.zone_records.specs.Held.{record_of}
 use Rattle.dns_entry_scanner.specs.EntryError.{is_memory}
 use Rattle.dns_entry_scanner.specs.declared.entry_error.EntryError.{EntryError}
 use Rattle.dns_zonefile.specs.Composed.{HandsOn, included}

@@ -20,8 +20,8 @@ use Rattle.dns_rdata.specs.Fields.IsData.{typed}
 use Rattle.dns_rdata.specs.Data.{document_of}
 use Rattle.dns_rdata.specs.Data as data'
 use Rattle.dns_header.specs.Shown.{record_document}
-use Rattle.dns_message.specs.Printed.ShowsData.{fields}
-use Rattle.dns_message.proofs.Spellable.{spellable_unless_caa}
+use Rattle.zone_records.specs.Printed.ShowsData.{fields}
+use Rattle.zone_records.proofs.Spellable.{spellable_unless_caa}
 use Rattle.dns_zonefile.specs.Statement.Statement.{NameFile}
 use Rattle.dns_zonefile.specs.Statement.Directs.{include}
 use Rattle.dns_zonefile.specs.Statement.Says.{directive}

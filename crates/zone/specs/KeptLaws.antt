@@ -2,7 +2,7 @@
 use Rattle.std.specs.Prelude.{ℕ, List, [], ◌∷◌, refl}
 use Rattle.std.specs.List.{flat_map}
 use Rattle.std.proofs.Common.{◌∙◌, append-nil, sym}
-use Rattle.dns_message.specs.Record.{record_octets}
+use Rattle.zone_records.specs.MessageRecord.{record_octets}
 use Rattle.zone_records.specs.Record.{Record}
 use Rattle.zone_records.specs.Stored.{AreStored}
 use Rattle.zone.specs.Reading.{BeginWith, IsFirst, apex_in}

@@ -6,3 +6,7 @@ pub mod ZoneText
 pub mod Printed
 pub mod Unknown
 pub mod Printing
+pub use Rattle.zone_canonical.specs.Canonical
+pub use Rattle.dns_zonefile.specs.Entries
+pub use Rattle.dns_zonefile.specs.Entry
+pub use Rattle.dns_zonefile.specs.Statement

@@ -2,7 +2,7 @@
 use Rattle.std.specs.Prelude.{◌≡◌, ℕ, List, [], ◌∷◌, ◌++◌}
 use Rattle.dns_text.specs.Document.{Layout, Piece, document_text}
 use Rattle.dns_text.specs.Document.Piece.{Newline}
-use Rattle.dns_message.specs.Printed.{IsDocument}
+use Rattle.zone_records.specs.Printed.{IsDocument}
 use Rattle.zone_records.specs.Record.{Record}
 
 -- The text is that of the records' documents, in order, each followed by a line end.

@@ -2,7 +2,7 @@
 use Rattle.std.specs.Prelude.{◌≡◌, ℕ, List, [], ◌∷◌, ◌++◌}
 use Rattle.dns_text.specs.Document.{Layout, Piece, document_text}
 use Rattle.dns_text.specs.Document.Piece.{Newline}
-use Rattle.dns_message.specs.Printed.{IsDocument}
+use Rattle.zone_records.specs.Printed.{IsDocument}
 use Rattle.zone_records.specs.Record.{Record}
 
 -- the new text is the old one, the record's document and a line end

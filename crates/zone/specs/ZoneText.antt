@@ -6,7 +6,7 @@ use Rattle.dns_header.specs.Record.{RecordOf}
 use Rattle.dns_rdata.specs.Data.{Data}
 use Rattle.dns_rdata.specs.DataOctets.{IsSpellable}
 use Rattle.dns_rdata.specs.Fields.{IsData}
-use Rattle.dns_message.specs.Held.{record_of}
+use Rattle.zone_records.specs.Held.{record_of}
 use Rattle.dns_zonefile.specs.Entries.{AreEntries, HasEntries, IsRefusedAfter, refused_number}
 use Rattle.dns_zonefile.specs.Entry.{Context, Entry, at_start}
 use Rattle.dns_zonefile.specs.Entry.Entry.{Directive, Include, Resource}

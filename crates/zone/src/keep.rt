@@ -1,7 +1,7 @@
 //! What is kept of the records that are read from a text: all of them, or the first and their number.
 ghost use Rattle.std.specs.Prelude.{◌≡◌, ◌<◌, ◌+◌, ◌++◌, ◌^◌, ℕ, List, length, OnOk};
 ghost use Rattle.std.specs.List.{push};
-ghost use Rattle.dns_message.specs.Record.{IsRecord, record_octets};
+ghost use Rattle.zone_records.specs.MessageRecord.{IsRecord, record_octets};
 ghost use Rattle.zone_records.specs.Record as spec;
 ghost use Rattle.zone.specs.Reading.{BeginWith, apex_in};
 

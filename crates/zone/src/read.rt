@@ -4,7 +4,7 @@ ghost use Rattle.std.specs.List.{push};
 ghost use Rattle.dns_label.specs.Name.{IsName};
 ghost use Rattle.dns_zonefile.specs.Reader.{Gives, left_of};
 ghost use Rattle.dns_zonefile.specs.ReaderSeen.{reader_of, refused_in};
-ghost use Rattle.dns_message.specs.Record.{IsRecord, record_octets};
+ghost use Rattle.zone_records.specs.MessageRecord.{IsRecord, record_octets};
 ghost use Rattle.dns_rdata.specs.Fields.{IsData};
 ghost use Rattle.zone_records.specs.Record as spec;
 ghost use Rattle.zone_records.specs.Records.{AreRecordsOf};

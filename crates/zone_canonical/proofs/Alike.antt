@@ -1,7 +1,7 @@
 -- Lists of records that are alike have the same canonical octets, and no others do.
 use Rattle.std.proofs.Common.{◌≡◌, ℕ, List, [], ◌∷◌, sym, ap, ◌∙◌, subst}
 use Rattle.std.specs.List.{AllByRecursion, AllZip, Contains, flat_map}
-use Rattle.dns_message.specs.Record.{IsRecord, record_octets}
+use Rattle.zone_records.specs.MessageRecord.{IsRecord, record_octets}
 use Rattle.zone_records.specs.Record.{Record}
 use Rattle.zone_canonical.specs.Canonical.{IsCanonicalOf, IsCanonical, IsFormOfOne, HaveFormOf, HasCanonicalForm, AreAlike, AreAmong}
 use Rattle.zone_canonical.specs.CanonicalLaws.{canonical_total}

@@ -14,7 +14,7 @@ use Rattle.dns_wire.specs.Order.{labels_order}
 use Rattle.dns_flat.specs.OrderLaws.{labels_ties}
 use Rattle.dns_rdata.specs.Fields.{Field, IsRow, kind_of, kinds_of, canonical_octets}
 use Rattle.dns_rdata.specs.OctetsForm.{IsCanonicalData, typed, unknown}
-use Rattle.dns_fields.proofs.ComposedRows.{same_octets}
+use Rattle.zone_records.proofs.ComposedRows.{same_octets}
 use Rattle.zone_records.specs.Record.{Record}
 use Rattle.zone_canonical.specs.Canonical.{IsCanonicalOf, canonical_cmp}
 

@@ -6,7 +6,7 @@ use Rattle.dns_wire.proofs.LowNames.{length-wire-low, low_name}
 use Rattle.dns_rdata.specs.Fields as fields
 use Rattle.dns_rdata.specs.Fields.{Field, number8, number16, number32, ipv4, ipv6, compressible, uncompressed, string, strings, tag, rest_text, rest16, rest64, IsData, IsField, IsRow, field_octets, kind_of, octets, lowered, canonical_octets}
 use Rattle.dns_rdata.specs.OctetsForm.{IsCanonicalData, typed, unknown}
-use Rattle.dns_message.specs.Record.{IsRecord}
+use Rattle.zone_records.specs.MessageRecord.{IsRecord}
 use Rattle.zone_records.specs.Record.{Record}
 use Rattle.zone_canonical.specs.Canonical.{HasCanonicalForm, IsCanonicalOf}
 

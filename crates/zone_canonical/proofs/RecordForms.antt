@@ -13,8 +13,8 @@ use Rattle.dns_label.specs.Name.{low, wire}
 use Rattle.dns_wire.proofs.Case.{low_wire, wire_one}
 use Rattle.dns_wire.specs.Order.{labels_order}
 use Rattle.dns_flat.specs.OrderLaws.{labels_total}
-use Rattle.dns_header.specs.Head.{fixed_octets}
-use Rattle.dns_message.specs.Record.{IsRecord, record_octets}
+use Rattle.zone_records.specs.Head.{fixed_octets}
+use Rattle.zone_records.specs.MessageRecord.{IsRecord, record_octets}
 use Rattle.dns_rdata.specs.Fields.{IsData}
 use Rattle.dns_rdata.specs.OctetsForm.{IsCanonicalData}
 use Rattle.zone_records.specs.Record.{Record}

@@ -2,7 +2,7 @@
 use Rattle.std.proofs.Common.{◌≡◌, ◌<◌, ℕ, List, [], ◌∷◌, ◌++◌, length, refl, sym, ap, ◌∙◌, arith, length-append}
 use Rattle.std.specs.List.{AllByRecursion, flat_map}
 use Rattle.dns_octets.proofs.Fronts.{same_fronts}
-use Rattle.dns_message.specs.Record.{IsRecord, record_octets}
+use Rattle.zone_records.specs.MessageRecord.{IsRecord, record_octets}
 use Rattle.zone_records.specs.Record.{Record}
 use Rattle.zone_records.proofs.StoredRecords.{record_in_written}
 

@@ -6,7 +6,7 @@ use Rattle.std.specs.Ordering.{eq_by_cmp, is_eq, is_lt}
 use Rattle.std.proofs.lemmas.List.{get_or-map, length-map}
 use Rattle.std.proofs.lemmas.List.Elements.{All-from_recursion, recursion_from_All}
 use Rattle.std.proofs.lemmas.List.Sorted.{All-permutation, IsPermutation-map}
-use Rattle.dns_message.specs.Record.{record_octets}
+use Rattle.zone_records.specs.MessageRecord.{record_octets}
 use Rattle.zone_records.specs.Record.{Record}
 use Rattle.zone_canonical.specs.Canonical.{AreFormsOf, HasCanonicalForm, IsCanonical, canonical_cmp}
 use Rattle.zone_canonical.specs.Form.{form_of}

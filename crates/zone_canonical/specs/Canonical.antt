@@ -9,7 +9,7 @@ use Rattle.dns_label.specs.Name.{low}
 use Rattle.dns_wire.specs.Order.{labels_order}
 use Rattle.dns_rdata.specs.Fields.{IsData}
 use Rattle.dns_rdata.specs.OctetsForm.{IsCanonicalData}
-use Rattle.dns_message.specs.Record.{IsRecord, record_octets}
+use Rattle.zone_records.specs.MessageRecord.{IsRecord, record_octets}
 use Rattle.zone_records.specs.Record.{Record}
 
 -- a record in canonical form: its owner in lower case, its data in canonical form (RFC 4034 6.2)

@@ -4,7 +4,7 @@ use Rattle.std.specs.Cmp.{IsTotalOrder, on_total, nat_cmp_total}
 use Rattle.std.specs.Ordering.{on, then_cmp, nat_cmp}
 use Rattle.std.specs.declared.cmp.Ordering.{Ordering}
 use Rattle.std.proofs.lemmas.Cmp.{then_total}
-use Rattle.dns_message.specs.Record.{record_octets}
+use Rattle.zone_records.specs.MessageRecord.{record_octets}
 use Rattle.zone_records.specs.Record.{Record}
 use Rattle.zone_canonical.specs.Canonical.{AreFormsOf, canonical_cmp}
 use Rattle.zone_canonical.specs.CanonicalLaws.{canonical_total}

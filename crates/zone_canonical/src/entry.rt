@@ -3,7 +3,7 @@ ghost use Rattle.std.specs.Prelude.{◌≡◌, ◌++◌, OnOk};
 ghost use Rattle.std.proofs.Common.{refl};
 ghost use Rattle.std.specs.Cmp.{partial_equiv_from_equiv, partial_order_from_total, partial_order_from_own_ties, eq_by_cmp_equiv};
 ghost use Rattle.std.specs.Ordering.{as_partial_cmp, eq_by_cmp};
-ghost use Rattle.dns_message.specs.Record.{IsRecord};
+ghost use Rattle.zone_records.specs.MessageRecord.{IsRecord};
 ghost use Rattle.zone_canonical.specs.Canonical.{HasCanonicalForm};
 ghost use Rattle.zone_canonical.specs.Form.{form_of};
 ghost use Rattle.zone_canonical.specs.Keyed.{form_octets, keyed_cmp, keyed_total, with_key};

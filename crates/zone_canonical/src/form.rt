@@ -2,7 +2,7 @@
 //! without parsing.
 ghost use Rattle.std.specs.Prelude.{◌≡◌, ◌++◌, OnOk, map};
 ghost use Rattle.std.specs.Char.{to_ascii_lowercase};
-ghost use Rattle.dns_message.specs.Record.{record_octets};
+ghost use Rattle.zone_records.specs.MessageRecord.{record_octets};
 ghost use Rattle.dns_wire.specs.Order.{labels_order};
 ghost use Rattle.zone_canonical.specs.Canonical.{HasCanonicalForm, canonical_cmp};
 ghost use Rattle.zone_canonical.specs.Form.{form_of};

@@ -6,7 +6,7 @@ use Rattle.dns_header.specs.Header.{is_response, opcode_of, rcode_of, question_c
 use Rattle.dns_header.specs.Question.{Question, ReadsQuestion}
 use Rattle.dns_message.specs.Record.{ReadsRecord}
 use Rattle.zone_records.specs.Record.{Record}
-use Rattle.dns_rdata.specs.DataOctets.{IsSpellable}
+use Rattle.zone_records.specs.DataOctets.{IsSpellable}
 use Rattle.zone_records.specs.Records.{SameSoa}
 use Rattle.zone_records.specs.Zone.{IsUnder, axfr_type, soa_type}
 use Rattle.zone_core.specs.Query.{AxfrQuery}

@@ -14,3 +14,6 @@ pub mod WrittenData
 pub mod WrittenRecords
 pub mod RecordOctets
 pub mod CheckedData
+pub use Rattle.dns_message.proofs.ComposedRows
+pub use Rattle.dns_message.proofs.Spellable
+pub use Rattle.dns_message.proofs.Numbers

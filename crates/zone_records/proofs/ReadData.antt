@@ -1,7 +1,7 @@
 -- Data of a type is parsed, in the fields of the type if it has some.
 use Rattle.std.proofs.Common.{◌≡◌, ℕ, List, [], map, refl, sym, ap, ◌∙◌, subst, arith}
 use Rattle.std.specs.Prelude.{Some, None}
-use Rattle.dns_header.specs.Record.{RecordOf}
+use Rattle.dns_message.specs.HeaderRecord.{RecordOf}
 use Rattle.dns_message.specs.Held.{record_of}
 use Rattle.dns_rdata.specs.Fields as fields
 use Rattle.dns_rdata.specs.Fields.{Field, IsData, IsRow, kind_of, kinds_of, octets}

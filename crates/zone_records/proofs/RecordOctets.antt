@@ -4,7 +4,7 @@ use Rattle.std.specs.Int.{to_be_bytes, w16}
 use Rattle.std.specs.List.{AllByRecursion}
 use Rattle.dns_label.specs.Name.{wire}
 use Rattle.dns_label.specs.Octets.{AreOctets}
-use Rattle.dns_header.specs.Head.{after_length, fixed_octets}
+use Rattle.dns_message.specs.Head.{after_length, fixed_octets}
 use Rattle.dns_message.specs.Record.{record_octets}
 use Rattle.zone_records.specs.Record.{Record}
 use Rattle.zone_records.proofs.Each.{wire_back}

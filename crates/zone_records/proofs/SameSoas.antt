@@ -6,7 +6,7 @@ use Rattle.std.specs.Int.{to_be_bytes, w32}
 use lib.Pointwise.{pointwise_decides, bytes_decides}
 use Rattle.dns_label.specs.Name.{low, wire}
 use Rattle.dns_wire.proofs.Case.{wire_one}
-use Rattle.dns_fields.specs.Alike.{keys}
+use Rattle.dns_message.specs.Alike.{keys}
 use Rattle.dns_rdata.specs.Fields.{Field, IsRow, field_octets, kinds_of, lowered, octets}
 use Rattle.dns_rdata.specs.Fields.Field.{compressible, number32}
 use Rattle.dns_rdata.specs.Data.{Data, data_eq, number_of, typed, unknown_data}

@@ -8,7 +8,7 @@ use Rattle.dns_name.specs.Spelling.{plain}
 use Rattle.dns_name.proofs.Spelled.{plain_text, plain_known}
 use Rattle.dns_rdata.specs.Fields.{Field, number8, number16, number32, ipv4, ipv6, compressible, uncompressed, string, strings, tag, rest_text, rest16, rest64, field_octets, octets}
 use Rattle.dns_rdata.specs.Written.{written_field, written_parts}
-use Rattle.dns_fields.proofs.Writing.{write-field}
+use Rattle.dns_message.proofs.Writing.{write-field}
 use Rattle.dns_rdata.specs.Data.{Data, typed, unknown_data, parts_of}
 use Rattle.dns_rdata.specs.DataOctets.{data_octets}
 

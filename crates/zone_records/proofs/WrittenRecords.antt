@@ -8,9 +8,9 @@ use Rattle.dns_name.specs.Page.Parts.{End, Octets, Named, Counted}
 use Rattle.dns_name.specs.RecordData.{page_of}
 use Rattle.dns_name.specs.Spelling.{plain}
 use Rattle.dns_name.proofs.Spelled.{plain_text, plain_known}
-use Rattle.dns_header.specs.Head.{fixed_octets, after_length}
-use Rattle.dns_header.specs.Record.{RecordOf}
-use Rattle.dns_header.specs.Written.{data_length, written_of}
+use Rattle.dns_message.specs.Head.{fixed_octets, after_length}
+use Rattle.dns_message.specs.HeaderRecord.{RecordOf}
+use Rattle.dns_message.specs.Written.{data_length, written_of}
 use Rattle.dns_rdata.specs.Data.{Data, number_of, parts_of}
 use Rattle.dns_rdata.specs.DataOctets.{data_octets}
 use Rattle.dns_message.specs.Held.{record_of, written_parts_of}

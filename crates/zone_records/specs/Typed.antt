@@ -1,6 +1,6 @@
 -- Stored records with their data in fields.
 use Rattle.std.specs.Prelude.{◌≡◌, List, ℕ, None}
-use Rattle.dns_header.specs.Record.{RecordOf}
+use Rattle.dns_message.specs.HeaderRecord.{RecordOf}
 use Rattle.dns_rdata.specs.Fields.{IsRow, IsData, kinds_of}
 use Rattle.dns_rdata.specs.Data.{Data, typed, unknown_data}
 use Rattle.dns_rdata.specs.ZoneData.{data_of}

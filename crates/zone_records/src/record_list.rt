@@ -1,6 +1,6 @@
 //! Records in one vector, one after another.
 ghost use Rattle.std.specs.Prelude.{◌≡◌, ◌==◌, ◌<◌, ◌-◌, ◌^◌, ◌++◌, ◌∷◌, [], List, length, take, slice_get, Some, OnOk, OnErr};
-ghost use Rattle.dns_header.specs.Record.{with_labels};
+ghost use Rattle.dns_message.specs.HeaderRecord.{with_labels};
 ghost use Rattle.dns_message.specs.Held.{record_of};
 ghost use Rattle.dns_message.specs.Record.{IsRecord, record_octets};
 ghost use Rattle.dns_name.specs.ParsedName.{labels_of};

@@ -6,8 +6,8 @@ use Rattle.dns_name.specs.Spelling.{static_spelling, tree_spelling, hash_spellin
 use Rattle.dns_rdata.specs.Fields.{Field, compressible, uncompressed, number8, number16, number32, ipv4, ipv6, string, strings, tag, rest_text, rest16, rest64, field_octets, octets, lowered, canonical_octets, IsData}
 use Rattle.dns_rdata.specs.Fields.IsData.{typed as typed_data, unknown as unknown_data}
 use Rattle.dns_rdata.specs.OctetsForm.{IsCanonicalData, typed, unknown}
-use Rattle.zone_canonical.specs.Canonical.{IsCanonical, HasCanonicalForm, AreAlike}
-use Rattle.zone_canonical.proofs.Alike.{alike_same}
+use Rattle.zone.specs.Canonical.{IsCanonical, HasCanonicalForm, AreAlike}
+use Rattle.zone.proofs.Alike.{alike_same}
 use Rattle.zone_records.specs.Record.{Record}
 use Rattle.zone_records.specs.Records.{AreSendable, IsSendable}
 use Rattle.zone_core.specs.Query.{AxfrQuery}

@@ -9,8 +9,8 @@ use Rattle.dns_name.specs.Spelling.{Spelling}
 use Rattle.dns_name.specs.Page.{Page, Parts}
 use Rattle.dns_header.specs.Question.{Question, question_parts}
 use Rattle.dns_header.specs.Written.{Written, parts_of, data_length}
-use Rattle.dns_sections.specs.declared.error.PushError.{PushError}
-use Rattle.dns_sections.specs.declared.error.PushError.TheVariants.{ShortBuf, BadLength, LimitExceeded, CountOverflow, OutOfMemory}
+use Rattle.dns_message.specs.PushError.{PushError}
+use Rattle.dns_message.specs.PushError.TheVariants.{ShortBuf, BadLength, LimitExceeded, CountOverflow, OutOfMemory}
 use Rattle.dns_builder.specs.Built.{Built, Draft, IsDraftOf, header_octets, nothing_built}
 use Rattle.dns_builder.specs.Steps.{going_to, with_item, with_header, length_with, counted_at, IsTakenBy, IsRefusedBy, KeepsLimits}
 use Rattle.dns_builder.proofs.DraftPages.{counted_is}

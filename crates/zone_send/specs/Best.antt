@@ -8,7 +8,7 @@ use Rattle.dns_name.specs.Spelling as names
 use Rattle.dns_message.specs.Record.{IsWritten}
 use Rattle.dns_compression_laws.specs.Free.{IsFree}
 use Rattle.dns_compression_laws.specs.Groups.{group_parts}
-use Rattle.zone_canonical.specs.Canonical.{IsCanonical}
+use Rattle.zone.specs.Canonical.{IsCanonical}
 use Rattle.zone_records.specs.Record.{Record}
 use Rattle.zone_core.specs.Query.{AxfrQuery, IsQuery}
 use Rattle.zone_core.specs.Frames.{frames, IsFramable}

@@ -9,7 +9,7 @@ use Rattle.std.proofs.lemmas.Bool.Decides.{nat_tests}
 use Rattle.std.proofs.lemmas.List.Elements.{filter-append}
 use Rattle.std.proofs.lemmas.List.{map-append, take_all}
 use Rattle.dns_label.specs.Name.{wire}
-use Rattle.dns_message.specs.Record.{record_octets}
+use Rattle.zone_records.specs.MessageRecord.{record_octets}
 use Rattle.dns_rdata.specs.Fields.{IsData}
 use Rattle.zone_records.specs.Record.{Record}
 use Rattle.zone_records.specs.Zone.{soa_type}

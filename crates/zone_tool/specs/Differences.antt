@@ -4,7 +4,7 @@ use Rattle.dns_text.specs.Document.{Piece, document_text}
 use Rattle.dns_text.specs.Document.Piece.{Newline}
 use Rattle.dns_text.specs.Layout.{layout_of}
 use Rattle.dns_text.specs.declared.layout.DisplayKind.TheVariants.{Simple}
-use Rattle.dns_message.specs.Printed.{IsDocument}
+use Rattle.zone_records.specs.Printed.{IsDocument}
 use Rattle.zone_records.specs.Record.{Record}
 use Rattle.zone_canonical.specs.Changes.{AreChanges, changed}
 use Rattle.zone_canonical.specs.declared.change_list.Change.{Change}

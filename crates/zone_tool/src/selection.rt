@@ -1,7 +1,7 @@
 //! Which records of zones are compared, and which of their fields.
 ghost use Rattle.std.specs.Prelude.{◌≡◌, ◌==◌, ◌&&◌, ◌++◌, length, IfOk, OnOk};
 ghost use Rattle.std.specs.List.{AllByRecursion};
-ghost use Rattle.dns_message.specs.Record.{record_octets};
+ghost use Rattle.zone_records.specs.MessageRecord.{record_octets};
 ghost use Rattle.zone_records.specs.Zone.{soa_type};
 ghost use Rattle.zone_canonical.specs.Canonical.{HasCanonicalForm};
 ghost use Rattle.zone_tool.specs.Selected.{compared_data, compared_of, is_compared, selected_of};

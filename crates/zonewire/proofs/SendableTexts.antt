@@ -11,11 +11,11 @@ use Rattle.dns_rdata.specs.Data.{number_of}
 use Rattle.dns_rdata.specs.Fields.{IsData}
 use Rattle.dns_rdata.specs.Fields.IsData.{unknown, typed}
 use Rattle.dns_entry_scanner.specs.NameInText.{SpellsUnder}
-use Rattle.dns_zonefile.specs.Entries.{AreEntries}
-use Rattle.dns_zonefile.specs.Entry.{Context, Enters, Entry}
-use Rattle.dns_zonefile.specs.Entry.Entry.{Directive, Include, Resource}
-use Rattle.dns_zonefile.specs.Statement.{Directs, HasOwner, IsTtl, Says, Statement, States}
-use Rattle.dns_zonefile.specs.Statement.Statement.{NameFile, SetOrigin, SetTtl, StateRecord}
+use Rattle.zone.specs.Entries.{AreEntries}
+use Rattle.zone.specs.Entry.{Context, Enters, Entry}
+use Rattle.zone.specs.Entry.Entry.{Directive, Include, Resource}
+use Rattle.zone.specs.Statement.{Directs, HasOwner, IsTtl, Says, Statement, States}
+use Rattle.zone.specs.Statement.Statement.{NameFile, SetOrigin, SetTtl, StateRecord}
 use Rattle.zone_records.specs.Record.{Record}
 use Rattle.zone_records.specs.Records.{AreSendable, IsSendable}
 use Rattle.zone.specs.ZoneText.{IsWellTyped, IsZoneText, records_in, start_of}

@@ -14,9 +14,9 @@ use Rattle.dns_name.specs.SpelledParts.SpellsParts.{counted, named, nothing, oct
 use Rattle.dns_rdata.specs.Fields.{Field, IsData, IsField, compressible, field_octets, uncompressed}
 use Rattle.dns_rdata.specs.Fields as fields
 use Rattle.dns_header.specs.Head.{after_length, fixed_octets}
-use Rattle.dns_message.specs.Record.{IsRead, IsRecord, read_parts, record_octets}
-use Rattle.dns_message.specs.Record.IsRead.{unknown, typed}
-use Rattle.dns_message.proofs.Numbers.{octets_from}
+use Rattle.zone_records.specs.MessageRecord.{IsRead, IsRecord, read_parts, record_octets}
+use Rattle.zone_records.specs.MessageRecord.IsRead.{unknown, typed}
+use Rattle.zone_records.proofs.Numbers.{octets_from}
 use Rattle.zone_records.specs.Record.{Record}
 use Rattle.zone_records.specs.Records.{AreRecordsOf, IsRecordOf}
 use Rattle.zone_records.proofs.Each.{all_append, all_fronts}

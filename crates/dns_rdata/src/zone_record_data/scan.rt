@@ -1,7 +1,7 @@
 //! Data of any type, scanned from text.
 ghost use Rattle.std.specs.Prelude.{◌≡◌, ◌∷◌, false, IfOk, IfErr, OnErr};
 ghost use Rattle.dns_fields.specs.Scanned.{NoDataScans};
-ghost use Rattle.dns_scan.specs.Token.{IsEnding, SameNames, marker};
+ghost use Rattle.dns_text.specs.Token.{IsEnding, SameNames, marker};
 ghost use Rattle.dns_rdata.specs.Data.{IsUnmarked, NoAnyDataScans, ScansAnyData};
 ghost use Rattle.dns_rdata.specs.ZoneData.{data_of};
 

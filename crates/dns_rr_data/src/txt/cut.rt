@@ -1,7 +1,7 @@
 //! Text as strings of 255 octets and a rest.
 ghost use Rattle.std.specs.Prelude.{◌≡◌, ◌+◌, ◌<◌, ◌≤◌, ◌↔◌, ◌++◌, List, ℕ, [], length, take, drop, Err, IsTrue, IfOk, OnOk, OnErr};
 ghost use Rattle.std.specs.List.{concat, flat_map};
-ghost use Rattle.dns_scan.specs.CharStr.{string_wire};
+ghost use Rattle.dns_text.specs.CharStr.{string_wire};
 ghost use Rattle.dns_octets.specs.Builder.{IsPast};
 ghost use Rattle.dns_octets.specs.declared.error.AppendError.TheVariants.{ShortBuf, BadLength};
 ghost use Rattle.dns_rr_data.specs.Built.{AddsText, some_strings, text_len};

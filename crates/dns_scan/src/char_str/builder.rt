@@ -1,8 +1,8 @@
 //! Building character strings.
 ghost use Rattle.std.specs.Prelude.{◌≡◌, ◌≤◌, ◌<◌, ◌↔◌, [], length, Err, IsTrue, IsOk, IfOk, OnOk};
-ghost use Rattle.dns_octets.specs.Builder.{IsWithin, IsPast};
+ghost use Rattle.dns_name.specs.Builder.{IsWithin, IsPast};
 ghost use Rattle.dns_scan.specs.CharStr.{at_most_255};
-ghost use Rattle.dns_octets.specs.declared.error.AppendError.TheVariants.{ShortBuf, BadLength};
+ghost use Rattle.dns_name.specs.AppendError.TheVariants.{ShortBuf, BadLength};
 
 use crate::{CharStr, CharStrError};
 use dns_name::{AppendError, EmptyBuilder, FreezeBuilder, Octets, OctetsBuilder, Remembers};

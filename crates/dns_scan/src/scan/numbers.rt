@@ -2,7 +2,7 @@
 ghost use Rattle.std.specs.Prelude.{◌≡◌, ◌^◌};
 ghost use Rattle.std.specs.Char.{is_ascii_digit};
 ghost use Rattle.std.specs.List.{list_all};
-ghost use Rattle.dns_values.specs.Mnemonic.{number_spelled};
+ghost use Rattle.dns_name.specs.Mnemonic.{number_spelled};
 ghost use Rattle.dns_scan.specs.Scans.{ScansWord};
 
 use crate::{Scan, Scanner};

@@ -1,6 +1,6 @@
 //! Numbers of records, types and classes as words, and names.
 ghost use Rattle.std.specs.Prelude.{◌≡◌, ◌^◌, ◌∷◌, List, ℕ};
-ghost use Rattle.dns_values.specs.Mnemonic.{number_spelled, type_read, class_read};
+ghost use Rattle.dns_name.specs.Mnemonic.{number_spelled, type_read, class_read};
 ghost use Rattle.dns_scan.specs.Scans.{ScansWord};
 ghost use Rattle.dns_scan.specs.Token.{unquoted};
 

@@ -1,9 +1,9 @@
 //! Uncertain names with a suffix.
 ghost use Rattle.std.specs.Prelude.{◌≡◌, ◌↔◌, ◌<◌, ◌+◌, length, Some, IsErr, IfOk, false};
 ghost use Rattle.dns_label.specs.Name.{labels_wire};
-ghost use Rattle.dns_wire.specs.Chain.{before_root};
+ghost use Rattle.dns_name.specs.Chain.{before_root};
 ghost use Rattle.dns_text.specs.Uncertain.{is_absolute, labels_of, chained_labels};
-ghost use Rattle.dns_flat.specs.PrintedLabels.{printed_seen};
+ghost use Rattle.dns_name.specs.PrintedLabels.{printed_seen};
 ghost use Rattle.dns_text.specs.UncertainChain.{labels_in, name_in, rooted_in, StandsIn};
 
 use super::UncertainName;

@@ -1,7 +1,7 @@
 //! Laws of the canonical octets of zones that are sent.
 
 ghost use Rattle.std.specs.Prelude.{◌↔◌, ℕ, ◌<◌, ◌^◌, List};
-ghost use Rattle.zone_canonical.specs.Canonical.{IsCanonical};
+ghost use Rattle.zone.specs.Canonical.{IsCanonical};
 ghost use Rattle.zone_records.specs.Record.{Record};
 ghost use Rattle.zone_records.specs.Records.{AreSendable};
 ghost use Rattle.zone_core.specs.Query.{AxfrQuery};
@@ -11,7 +11,7 @@ ghost use Rattle.zone_send.specs.SentBy.{IsSentBy};
 ghost use Rattle.zone_send.specs.SpelledSent.{IsNear};
 ghost use Rattle.zone_send.specs.declared.sending.Spelling.{Spelling};
 ghost use Rattle.std.specs.List.{AllByRecursion, AllZip};
-ghost use Rattle.zone_canonical.specs.Canonical.{HasCanonicalForm};
+ghost use Rattle.zone.specs.Canonical.{HasCanonicalForm};
 
 /// Records that differ only in the ASCII case of owners and compressible names have the same canonical octets.
 pub fn near_records_have_the_same_canonical_octets()

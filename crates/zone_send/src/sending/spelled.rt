@@ -3,7 +3,7 @@ ghost use Rattle.std.specs.Prelude.{◌≡◌, ◌≢◌, ◌<◌, ◌≤◌, �
 ghost use Rattle.std.specs.Bool.{OnTrue, OnFalse};
 ghost use Rattle.std.specs.List.{AllByRecursion};
 ghost use Rattle.dns_name.specs.Page.{Parts};
-ghost use Rattle.dns_sections.specs.declared.error.PushError.TheVariants.{OutOfMemory};
+ghost use Rattle.dns_message.specs.PushError.TheVariants.{OutOfMemory};
 ghost use Rattle.dns_builder.specs.Built.{IsDraftOf, nothing_built};
 ghost use Rattle.dns_builder.specs.Seen.{draft_of};
 ghost use Rattle.zone_records.specs.Record as spec;

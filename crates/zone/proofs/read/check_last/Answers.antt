@@ -1,7 +1,7 @@
 use Rattle.std.proofs.Common.{◌≡◌, ◌≢◌, ◌++◌, [], ℕ, List, sym, subst}
 use Rattle.std.proofs.lemmas.Result.{IfErr-weaker, on_ok_weaker}
 use Rattle.dns_rdata.specs.Fields.{IsData}
-use Rattle.dns_message.specs.Record.{IsRecord, record_octets}
+use Rattle.zone_records.specs.MessageRecord.{IsRecord, record_octets}
 use Rattle.zone_records.specs.Record as spec
 use Rattle.zone.specs.ZoneText.{IsWellTyped}
 use Rattle.zone.specs.Reading.{BeginWith, IsCheckFault, MayStandUnder}

@@ -1,5 +1,5 @@
 use Rattle.std.proofs.Common.{◌≡◌, ◌<◌, ◌^◌, length, arith, refl, rules, ◌∙◌}
-use Rattle.dns_message.specs.Held.{record_of}
+use Rattle.zone_records.specs.Held.{record_of}
 use Rattle.dns_entry_scanner.proofs.HandedOn.{handed_on}
 use Rattle.zone.proofs.ReaderSteps.{number_given}
 use Rattle.zone.specs.Reading.{apex_in}

@@ -1,7 +1,7 @@
 use Rattle.std.proofs.Common.{◌∙◌, ap, sym}
 use Rattle.std.specs.Ordering.{ordering_then, nat_cmp}
 use Rattle.std.specs.Cmp.Lexicographic.{slice_cmp}
-use Rattle.dns_wire.proofs.Orders.{cmp_seam}
+use Rattle.dns_name.proofs.Orders.{cmp_seam}
 use Rattle.dns_fields.proofs.field.addresses.level_cmp.Goals as goal
 
 pub returns : goal.returns

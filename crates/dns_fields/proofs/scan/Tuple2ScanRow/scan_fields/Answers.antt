@@ -1,6 +1,6 @@
 use Rattle.std.proofs.Common.{◌∷◌, subst}
 use Rattle.std.proofs.lemmas.Result.{err_from_is_err_and}
-use Rattle.dns_wire.proofs.Flat.{always_on_err}
+use Rattle.dns_name.proofs.Flat.{always_on_err}
 use Rattle.dns_fields.specs.Fields.{Kind}
 use Rattle.dns_fields.specs.Scanned.{NoRowScans}
 use Rattle.dns_fields.proofs.ScanParts.{left_of_row, row_scanned, no_first, no_others}

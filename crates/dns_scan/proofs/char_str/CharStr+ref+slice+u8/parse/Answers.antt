@@ -1,7 +1,7 @@
 use Rattle.std.proofs.Common.{arith, rules}
-use Rattle.dns_octets.specs.Parser.{octets_of, place_of}
-use Rattle.dns_wire.proofs.Flat.{always_on_err}
-use Rattle.dns_flat.proofs.Front.{goes_rest}
+use Rattle.dns_name.specs.Parser.{octets_of, place_of}
+use Rattle.dns_name.proofs.Flat.{always_on_err}
+use Rattle.dns_name.proofs.Front.{goes_rest}
 use Rattle.dns_scan.proofs.Parsed.{string_fits, string_taken}
 use Rattle.dns_scan.proofs.char_str.CharStr+ref+slice+u8.parse.Goals as goal
 

@@ -1,7 +1,7 @@
 use Rattle.std.proofs.Common.{◌≡◌, ℕ, List, sym, ◌∙◌, subst}
 use Rattle.std.specs.Str.{chars}
 use Rattle.std.specs.Prelude.{string_bytes}
-use Rattle.dns_wire.proofs.Flat.{always_on_err}
+use Rattle.dns_name.proofs.Flat.{always_on_err}
 use Rattle.dns_scan.specs.Base.{Decodes}
 use Rattle.dns_scan.proofs.Entries.{nothing_left, words_one}
 use Rattle.dns_scan.proofs.Decoded.{refused_for_itself}

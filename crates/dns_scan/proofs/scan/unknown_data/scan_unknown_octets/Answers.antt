@@ -1,8 +1,8 @@
 use Rattle.std.proofs.Common.{◌^◌, ℕ, List, length, ◌∙◌, ap, subst, arith}
 use Rattle.std.specs.Str.{chars}
 use Rattle.std.proofs.lemmas.Result.{err_from_is_err_and}
-use Rattle.dns_wire.proofs.Flat.{always_on_err}
-use Rattle.dns_values.specs.Mnemonic.{number_spelled}
+use Rattle.dns_name.proofs.Flat.{always_on_err}
+use Rattle.dns_name.specs.Mnemonic.{number_spelled}
 use Rattle.dns_scan.specs.declared.encoding.base.Base.TheVariants.{Sixteen}
 use Rattle.dns_scan.specs.Base.{Decodes}
 use Rattle.dns_scan.specs.Token.{Token, IsEntry, IsWord}

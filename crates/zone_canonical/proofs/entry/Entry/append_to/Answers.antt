@@ -1,5 +1,5 @@
 use Rattle.std.proofs.Common.{subst}
-use Rattle.dns_message.specs.Record.{IsRecord}
+use Rattle.zone_records.specs.MessageRecord.{IsRecord}
 use Rattle.zone_records.specs.Record.{Record}
 use Rattle.zone_canonical.proofs.RecordForms.{formed_lawful}
 use Rattle.zone_canonical.proofs.entry.Entry.append_to.Goals as goal

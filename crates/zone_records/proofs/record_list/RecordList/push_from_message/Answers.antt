@@ -1,7 +1,7 @@
 use Rattle.std.proofs.Common.{◌≡◌, ◌++◌, ◌∷◌, [], List, ℕ, length, ap, ◌∙◌, arith, rules}
 use Rattle.std.specs.Prelude.{Err}
 use Rattle.std.proofs.lemmas.Grind.{common_steps}
-use Rattle.dns_header.specs.Record.{RecordOf, with_labels}
+use Rattle.dns_message.specs.HeaderRecord.{RecordOf, with_labels}
 use Rattle.dns_message.specs.Held.{record_of}
 use Rattle.dns_name.specs.ParsedName.{labels_of}
 use Rattle.dns_octets.specs.declared.error.AppendError.TheVariants.{BadLength}

@@ -1,7 +1,7 @@
 use Rattle.std.proofs.Common.{◌∙◌, ℕ, length, length-append, refl, ap, arith}
 use Rattle.std.specs.Prelude.{None, Ok, Err}
 use Rattle.std.proofs.lemmas.Result.{err_from_is_err_and}
-use Rattle.dns_scan.specs.CharStr.{string_wire}
+use Rattle.dns_text.specs.CharStr.{string_wire}
 use Rattle.dns_rr_data.specs.Built.{StandsFor, with_string}
 use Rattle.dns_rr_data.proofs.Appended.{ok_not_long, short_not_long, no_long}
 use Rattle.dns_rr_data.proofs.Builds.{stands_string, stands_here, stands_is, stands_seen, string_size}

@@ -1,5 +1,5 @@
 use Rattle.std.proofs.Common.{ℕ, List, refl, sym, subst}
-use Rattle.dns_wire.proofs.Flat.{always_on_err}
+use Rattle.dns_name.proofs.Flat.{always_on_err}
 use Rattle.dns_scan.specs.CharStr.{string_wire}
 use Rattle.dns_scan.specs.Token.{IsStringOnWire, unquoted}
 use Rattle.dns_scan.proofs.Entries.{Entering, entering_more, entering_end, ending_more}

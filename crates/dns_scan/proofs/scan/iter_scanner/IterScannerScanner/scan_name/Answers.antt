@@ -1,4 +1,4 @@
-use Rattle.dns_wire.proofs.Flat.{always_on_err}
+use Rattle.dns_name.proofs.Flat.{always_on_err}
 use Rattle.dns_scan.proofs.Tokens.{one_taken}
 use Rattle.dns_scan.proofs.scan.iter_scanner.IterScannerScanner.scan_name.Goals as goal
 

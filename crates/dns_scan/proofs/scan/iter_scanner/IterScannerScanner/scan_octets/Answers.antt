@@ -1,4 +1,4 @@
-use Rattle.dns_wire.proofs.Flat.{always_on_err}
+use Rattle.dns_name.proofs.Flat.{always_on_err}
 use Rattle.std.proofs.Common.{sym, subst}
 use Rattle.dns_scan.specs.StringText.{Spells}
 use Rattle.dns_scan.specs.Token.{SpellsOctets, unquoted}

@@ -1,7 +1,7 @@
 use Rattle.std.proofs.Common.{ℕ, List, sym, subst}
 use Rattle.std.specs.Str.{IsUtf8}
 use Rattle.std.proofs.lemmas.Result.{err_from_is_err_and}
-use Rattle.dns_wire.proofs.Flat.{always_on_err}
+use Rattle.dns_name.proofs.Flat.{always_on_err}
 use Rattle.dns_scan.specs.StringText.{Spells}
 use Rattle.dns_scan.specs.Token.{SpellsOctets, unquoted}
 use Rattle.dns_scan.proofs.TextsBack.{spells_one}

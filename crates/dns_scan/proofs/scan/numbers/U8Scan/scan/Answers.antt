@@ -1,5 +1,5 @@
 use Rattle.std.proofs.Common.{◌≡◌, ◌^◌, Some, None, ◌∙◌, ap}
-use Rattle.dns_values.specs.Mnemonic.{number_spelled}
+use Rattle.dns_name.specs.Mnemonic.{number_spelled}
 use Rattle.dns_scan.proofs.Tokens.{if_err_weaker}
 use Rattle.dns_scan.proofs.scan.numbers.U8Scan.scan.Goals as goal
 

@@ -1,7 +1,7 @@
 use Rattle.std.proofs.Common.{◌≡◌, Bool, true, false, List, ◌∷◌, sym, ◌∙◌, subst, rules}
 use Rattle.std.proofs.lemmas.Result.{err_from_is_err_and}
-use Rattle.dns_wire.proofs.Flat.{always_on_err}
-use Rattle.dns_values.specs.Mnemonic.{type_read}
+use Rattle.dns_name.proofs.Flat.{always_on_err}
+use Rattle.dns_name.specs.Mnemonic.{type_read}
 use Rattle.dns_scan.specs.Token.{Token, IsEnding, marker}
 use Rattle.dns_scan.specs.UnknownData.{IsUnknownData}
 use Rattle.dns_scan.proofs.Tokens.{if_err_weaker, on_err_weaker, one_taken}

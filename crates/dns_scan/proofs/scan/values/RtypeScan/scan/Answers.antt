@@ -1,5 +1,5 @@
 use Rattle.std.proofs.Common.{◌≡◌, Some, None, ◌∙◌, ap}
-use Rattle.dns_values.specs.Mnemonic.{type_read}
+use Rattle.dns_name.specs.Mnemonic.{type_read}
 use Rattle.dns_scan.proofs.Tokens.{if_err_weaker}
 use Rattle.dns_scan.proofs.scan.values.RtypeScan.scan.Goals as goal
 
