@@ -19,3 +19,4 @@ pub mod OneBitmap
 pub mod TypesLeft
 pub mod TypesSought
 pub mod TypesAscend
+pub mod FrequentTypes

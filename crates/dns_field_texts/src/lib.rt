@@ -7,6 +7,7 @@
 mod append;
 mod bitmap;
 mod digits;
+mod frequent_types;
 mod hardware;
 mod hash_words;
 pub mod laws;
@@ -21,6 +22,7 @@ pub use bitmap::{
     RtypeBitmap, RtypeBitmapError, RtypeBitmapIter, append_types, is_type_bitmap, scan_types_into,
     show_types,
 };
+pub use frequent_types::frequent_type;
 pub use hardware::{DisplayHardware, append_hardware};
 pub use hash_words::{DisplaySalt, append_hash, append_salt};
 pub use location::{is_location, scan_location_into, show_location};

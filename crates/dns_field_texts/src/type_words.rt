@@ -5,6 +5,7 @@ ghost use Rattle.std.specs.Option.{option_copied};
 ghost use Rattle.dns_values.specs.Mnemonic.{number_named, text_of, rows_of};
 ghost use Rattle.dns_field_texts.specs.TypeWords.{more_types, type_word_read, type_word_written};
 
+use crate::frequent_types::frequent_type;
 use dns_name::Rtype;
 use std::fmt;
 use std::marker::Model;
@@ -17,6 +18,9 @@ pub(crate) type Mnemonic = (u16, &'static str);
 pub fn read_type(word: &[u8]) -> Option<Rtype>
     ensures { result ≡ type_word_read word.now }
 {
+    if let Some(rtype) = frequent_type(word) {
+        return Some(rtype);
+    }
     Rtype::from_bytes(word).or_else(|| more_type(word))
 }
 

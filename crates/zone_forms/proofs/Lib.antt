@@ -9,7 +9,6 @@ pub mod ScannedOnce
 pub mod RowData
 pub mod KnownWords
 pub mod TypeOf
-pub mod FrequentTypes
 pub mod GeneralForm
 pub mod GeneralRows
 pub mod LongerRows

@@ -8,7 +8,7 @@ ghost use Rattle.zone_forms.specs.LongerRow.{IsNoTypeWord, IsTypeWord};
 ghost use Rattle.zone_forms.specs.Seen.{HasNoType, HasTypeAt, row_in};
 
 use crate::found_row::FoundRow;
-use dns_field_texts::read_type;
+use dns_field_texts::{frequent_type, read_type};
 use dns_name::Rtype;
 use dns_zonefile::TokenSpan;
 
@@ -123,20 +123,4 @@ fn is_internet(word: &[u8]) -> bool
     ensures { IsTrue result ↔ (word.now ≡ codes "IN") }
 {
     matches!(word, [b'I', b'N'])
-}
-
-/// Returns the type whose mnemonic the word is, in upper case, if it is one of those of most records.
-fn frequent_type(word: &[u8]) -> Option<Rtype>
-    ensures { IfSome result (λ rtype. type_read word.now ≡ Some rtype) }
-{
-    match word {
-        [b'A'] => Some(Rtype::A),
-        [b'N', b'S'] => Some(Rtype::NS),
-        [b'D', b'S'] => Some(Rtype::DS),
-        [b'A', b'A', b'A', b'A'] => Some(Rtype::AAAA),
-        [b'N', b'S', b'E', b'C'] => Some(Rtype::NSEC),
-        [b'R', b'R', b'S', b'I', b'G'] => Some(Rtype::RRSIG),
-        [b'N', b'S', b'E', b'C', b'3'] => Some(Rtype::NSEC3),
-        _ => None,
-    }
 }

@@ -1,6 +1,6 @@
 use Rattle.std.proofs.Common.{arith, rules}
-use Rattle.zone_forms.proofs.FrequentTypes.{octets_1, octets_2, octets_4, octets_5, a_read, ns_read, ds_read, aaaa_read, nsec_read, rrsig_read, nsec3_read}
-use Rattle.zone_forms.proofs.row_type.frequent_type.Goals as goal
+use Rattle.dns_field_texts.proofs.FrequentTypes.{octets_1, octets_2, octets_4, octets_5, a_read, ns_read, ds_read, aaaa_read, nsec_read, rrsig_read, nsec3_read}
+use Rattle.dns_field_texts.proofs.frequent_types.frequent_type.Goals as goal
 
 pub returns-in-65 : goal.returns-in-65
 returns-in-65 c = a_read c.args.word.now (octets_1 c.args.word.now (omega arith) (search rules))
