@@ -17,7 +17,8 @@ kzonesign signs are compared:
 
 tools/further_types.zone has each further type in each of its forms. What `zonetool general` makes of it is compared with what BIND, ldns, Knot
 and NSD read in it, and so is what `zonetool present` writes of that, in each layout, and what other tools write of it. A block of that file
-that begins with `; not NAME, NAME: REASON` is left out for the tools named, `zonetool` for all of this, `written` for what other tools write.
+that begins with `; not NAME, NAME: REASON` is left out for the tools named, `zonetool` for all of this, `written` for what other tools write, `dig`
+for the text that a server has and `dig` prints.
 
 It needs both programs (proved, or those that `rt try` compiled), and of these what is there: bind9, bind9-utils, bind9-dnsutils, knot,
 knot-dnssecutils, knot-dnsutils, nsd, ldnsutils. It names each tool that is not installed, and leaves out what needs it. Servers listen on free ports of
@@ -698,8 +699,10 @@ def compare_further(report, ours, text):
     for name in servers():
         with report.attempt(f"further types, {name}"):
             compare_secondary(report, ours, "further types", name, text_for(name, text))
-            both = text_for("written", text_for("ldns", text_for("BIND", text_for(name, text))))
-            compare_primary(report, ours, "further types", name, both)
+            left = text
+            for mark in (name, "BIND", "ldns", "written", "dig"):
+                left = text_for(mark, left)
+            compare_primary(report, ours, "further types", name, left)
 
 
 def main():

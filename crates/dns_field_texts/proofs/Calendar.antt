@@ -3,36 +3,32 @@ use Rattle.std.proofs.Common.{◌≡◌, ◌<◌, ◌≤◌, ◌+◌, ◌-◌, �
 use Rattle.std.specs.Char.{digit_value}
 use Rattle.std.specs.Str.Parse.{digits_value}
 use Rattle.std.proofs.lemmas.Bool.Decides.{nat_tests}
-use Rattle.dns_field_texts.specs.Time.{is_leap_year, days_in_year, days_of_years, days_of_months, greatest, year_after, month_after}
+use Rattle.dns_field_texts.specs.Time.{is_leap_year, days_in_year, days_of_years, days_of_months, day_number, seconds_before, epoch, greatest, year_after, month_after}
 
 -- one more leap day for each year that is one
-leap_step : (y : ℕ) → 0 < y → days_in_year y + (y - 1) / 4 + (y - 1) / 400 + y / 100 ≡ 365 + y / 4 + y / 400 + (y - 1) / 100
-leap_step y some = grind (arith, nat_tests)
+leap_step : (past : ℕ) → days_in_year (suc past) + past / 4 + past / 400 + suc past / 100 ≡ 365 + suc past / 4 + suc past / 400 + past / 100
+leap_step past = grind (arith, nat_tests)
 
-years_of : (count : ℕ) → days_of_years count + 477 + (1969 + count) / 100 ≡ 365 * count + (1969 + count) / 4 + (1969 + count) / 400
+years_of : (past : ℕ) → days_of_years past + past / 100 ≡ 365 * past + past / 4 + past / 400
 unfolding days_of_years
 years_of zero = refl
-years_of (suc count) = omega (arith, years_of count, leap_step (1970 + count))
+years_of (suc past) = omega (arith, years_of past, leap_step past)
 
-pub days_of_years-is : (year : ℕ) → 1970 ≤ year
-    → 365 * (year - 1970) + (year - 1) / 4 + (year - 1) / 400 - (year - 1) / 100 - 477 ≡ days_of_years (year - 1970)
-days_of_years-is year from =
-    let e : 1969 + (year - 1970) ≡ year - 1 = omega arith in
-    let h = rw e at (years_of (year - 1970)) in
-    omega (arith, h)
+pub days_of_years-is : (past : ℕ) → 365 * past + past / 4 + past / 400 - past / 100 ≡ days_of_years past
+days_of_years-is past = omega (arith, years_of past)
 
 -- a year has at most 366 days, and a month at most 31
 pub years_at_most : (count : ℕ) → days_of_years count ≤ 366 * count
 unfolding days_of_years
 years_at_most zero = omega arith
 years_at_most (suc count) =
-    let h : days_in_year (1970 + count) ≤ 366 = grind (arith, nat_tests) in
+    let h : days_in_year (suc count) ≤ 366 = grind (arith, nat_tests) in
     omega (arith, years_at_most count, h)
 
 pub next_year : (count : ℕ) → days_of_years count < days_of_years (count + 1)
 unfolding days_of_years
 next_year count =
-    let h : 0 < days_in_year (1970 + count) = grind (arith, nat_tests) in
+    let h : 0 < days_in_year (suc count) = grind (arith, nat_tests) in
     rw add-one (omega (arith, h))
 
 pub ruleset year_rules = (days_of_years-is, years_at_most)
@@ -88,12 +84,12 @@ unfolding greatest
 greatest-limit of number zero begun = refl
 greatest-limit of number (suc limit) begun = grind (arith, nat_tests)
 
-pub year_after-is : (days year : ℕ) → 1970 ≤ year → year ≤ 2106
-    → days_of_years (year - 1970) ≤ days → days < days_of_years (year - 1970 + 1) → year ≡ year_after days
+pub year_after-is : (days year : ℕ) → 1 ≤ year → year ≤ 2106
+    → days_of_years (year - 1) ≤ days → days < days_of_years (year - 1 + 1) → year ≡ year_after days
 unfolding year_after
 year_after-is days year from to begun goes_on =
-    let h = greatest-is days_of_years days (year - 1970) (2106 - year) years_pass begun goes_on in
-    let e : year - 1970 + (2106 - year) ≡ 136 = omega arith in
+    let h = greatest-is days_of_years days (year - 1) (2106 - year) years_pass begun goes_on in
+    let e : year - 1 + (2106 - year) ≡ 2105 = omega arith in
     let g = rw e at h in
     omega (arith, g)
 
@@ -176,24 +172,33 @@ four_digits (a ∷ b ∷ c ∷ d ∷ more) long = value (digit_value a) (digit_v
 
 pub ruleset digit_rules = (four_digits)
 
--- the years to 2106 have more days than a time can pass
-pub years_end : (count days : ℕ) → days < 49711 → days_of_years count ≤ days → count ≤ 136
+-- the years to 2106 have more days than there are before a time's end
+pub years_to_2106 : days_of_years 2106 ≡ 769200
 unfolding days_of_years
-years_end count days small begun = by_order (nat_le count 136) refl
-  where
-    end : days_of_years 137 ≡ 50038
-    end = refl
+years_to_2106 = refl
 
-    by_order : (within : Bool) → nat_le count 136 ≡ within → count ≤ 136
+pub years_end : (count days : ℕ) → days < 768873 → days_of_years count ≤ days → count ≤ 2105
+years_end count days small begun = by_order (nat_le count 2105) refl
+  where
+    by_order : (within : Bool) → nat_le count 2105 ≡ within → count ≤ 2105
     by_order true is = grind (arith, nat_tests)
     by_order false is =
-        let far : 137 ≤ count = grind (arith, nat_tests) in
-        let e : 137 + (count - 137) ≡ count = omega arith in
-        let h = rw e at (years_pass 137 (count - 137)) in
-        absurd (omega (arith, end, h))
+        let far : 2106 ≤ count = grind (arith, nat_tests) in
+        let e : 2106 + (count - 2106) ≡ count = omega arith in
+        let h = rw e at (years_pass 2106 (count - 2106)) in
+        absurd (omega (arith, years_to_2106, h))
+
+-- the days and the seconds before 1970
+pub epoch_day : day_number epoch ≡ 719162
+unfolding day_number epoch days_of_years days_of_months
+epoch_day = refl
+
+pub epoch_second : seconds_before epoch ≡ 62135596800
+unfolding seconds_before day_number epoch days_of_years days_of_months
+epoch_second = refl
 
 pub year_days : (count : ℕ) → days_of_years (count + 1) ≤ days_of_years count + 366
 unfolding days_of_years
 year_days count =
-    let h : days_in_year (1970 + count) ≤ 366 = grind (arith, nat_tests) in
+    let h : days_in_year (suc count) ≤ 366 = grind (arith, nat_tests) in
     rw add-one (omega (arith, h))

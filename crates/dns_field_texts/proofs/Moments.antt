@@ -1,16 +1,18 @@
 -- Facts on moments: what is written of a time is a moment of the calendar, and reads as the time.
 use Rattle.std.proofs.Common.{◌≡◌, ◌<◌, ◌≤◌, ◌+◌, ◌-◌, ◌*◌, ◌/◌, ◌%◌, ◌^◌, ◌&&◌, ℕ, suc, true, false, cond, arith, refl, add-one, nat_le, List, [], ◌++◌, Some, ap, ◌∙◌}
+use Rattle.std.specs.Prelude.{pos, ◌-ℤ◌}
 use Rattle.std.specs.Char.{digit_value, is_ascii_digit}
 use Rattle.std.specs.List.{list_all}
 use Rattle.std.specs.Str.Parse.{digits_value}
 use Rattle.std.proofs.lemmas.Bool.Decides.{nat_tests}
+use Rattle.std.proofs.lemmas.Int.{ints}
 use Rattle.dns_field_texts.specs.declared.time.Moment.{Moment}
-use Rattle.dns_field_texts.proofs.Calendar.{IsPlace, greatest_place}
-use Rattle.dns_field_texts.specs.Time.{is_moment, is_from_to, days_in_year, days_in_month, is_leap_year, days_of_years, days_of_months, day_number, seconds_before, greatest, year_after, month_after, moment_after, moment_of, moment_read, time_read, two_digits, date_written, clock_written, moment_written, time_written}
+use Rattle.dns_field_texts.proofs.Calendar.{IsPlace, greatest_place, years_to_2106, epoch_day, epoch_second}
+use Rattle.dns_field_texts.specs.Time.{is_moment, is_from_to, days_in_year, days_in_month, is_leap_year, days_of_years, days_of_months, day_number, seconds_before, epoch, time_of, greatest, year_after, month_after, moment_after, moment_of, moment_read, time_read, two_digits, date_written, clock_written, moment_written, time_written}
 
 -- the bounds of a moment
 pub record AreInBounds (year month day hour minute second most : ℕ) : Type 0 where
-  pub year_from : 1970 ≤ year
+  pub year_from : 1 ≤ year
   pub year_to : year ≤ 9999
   pub month_from : 1 ≤ month
   pub month_to : month ≤ 12
@@ -28,7 +30,7 @@ pub month_most : (year month : ℕ) → days_in_month year month ≤ 31
 month_most year month = grind (arith, nat_tests)
 
 test_bounds : (year month day hour minute second most : ℕ)
-    → (is_from_to 1970 9999 year && is_from_to 1 12 month && is_from_to 1 most day && nat_le hour 23 && nat_le minute 59 && nat_le second 59) ≡ true
+    → (is_from_to 1 9999 year && is_from_to 1 12 month && is_from_to 1 most day && nat_le hour 23 && nat_le minute 59 && nat_le second 59) ≡ true
     → AreInBounds year month day hour minute second most
 test_bounds year month day hour minute second most exists = record {
   year_from = grind (arith, nat_tests);
@@ -43,7 +45,7 @@ test_bounds year month day hour minute second most exists = record {
 }
 
 bounds_test : (year month day hour minute second most : ℕ) → AreInBounds year month day hour minute second most
-    → (is_from_to 1970 9999 year && is_from_to 1 12 month && is_from_to 1 most day && nat_le hour 23 && nat_le minute 59 && nat_le second 59) ≡ true
+    → (is_from_to 1 9999 year && is_from_to 1 12 month && is_from_to 1 most day && nat_le hour 23 && nat_le minute 59 && nat_le second 59) ≡ true
 bounds_test year month day hour minute second most inside =
     let a = inside.year_from in let b = inside.year_to in let c = inside.month_from in let d = inside.month_to in
     let e = inside.day_from in let f = inside.day_to in let g = inside.hour_to in let h = inside.minute_to in let i = inside.second_to in
@@ -56,12 +58,9 @@ pub is_moment-in : (moment : Moment) → InCalendar moment → is_moment moment 
 is_moment-in moment inside = bounds_test _ _ _ _ _ _ (days_in_month moment.year moment.month) inside
 
 -- the year after a number of days has begun by then, and the next one has not
-year_begun : (days : ℕ) → days < 49711 → IsPlace days_of_years days 136 (greatest days_of_years days 136)
+year_begun : (days : ℕ) → days < 768873 → IsPlace days_of_years days 2105 (greatest days_of_years days 2105)
 unfolding days_of_years
-year_begun days small = greatest_place days_of_years days 136 (omega arith) (omega (arith, end))
-  where
-    end : days_of_years 137 ≡ 50038
-    end = refl
+year_begun days small = greatest_place days_of_years days 2105 (omega arith) (omega (arith, years_to_2106))
 
 -- the same of the month
 all_months : (year : ℕ) → days_of_months year 12 ≡ days_in_year year
@@ -78,19 +77,20 @@ month_begun year days within = greatest_place (days_of_months year) days 11 (ome
 
 -- the year after a number of days, and the days of it that are over
 pub record IsYearAfter (days year : ℕ) : Type 0 where
-  pub from : 1970 ≤ year
+  pub from : 1 ≤ year
   pub to : year ≤ 2106
-  pub begun : days_of_years (year - 1970) ≤ days
-  pub goes_on : days < days_of_years (year - 1970) + days_in_year year
+  pub begun : days_of_years (year - 1) ≤ days
+  pub goes_on : days < days_of_years (year - 1) + days_in_year year
 
-year_at : (days count : ℕ) → IsPlace days_of_years days 136 count → IsYearAfter days (1970 + count)
+year_at : (days count : ℕ) → IsPlace days_of_years days 2105 count → IsYearAfter days (1 + count)
 unfolding days_of_years
 year_at days count place =
-    let e : 1970 + count - 1970 ≡ count = omega arith in
+    let e : 1 + count - 1 ≡ count = omega arith in
+    let f : 1 + count ≡ suc count = omega arith in
     let next = rw add-one at place.goes_on in
-    record { from = omega arith; to = omega (arith, place.within); begun = rw e place.begun; goes_on = rw e next }
+    record { from = omega arith; to = omega (arith, place.within); begun = rw e place.begun; goes_on = rw (e, f) next }
 
-pub year_parts : (days : ℕ) → days < 49711 → IsYearAfter days (year_after days)
+pub year_parts : (days : ℕ) → days < 768873 → IsYearAfter days (year_after days)
 unfolding year_after
 year_parts days small = year_at days _ (year_begun days small)
 
@@ -114,11 +114,11 @@ unfolding month_after
 month_parts year days within = month_at year days _ (month_begun year days within)
 
 -- the days of the year that are over
-rest_in : (days year : ℕ) → IsYearAfter days year → days - days_of_years (year - 1970) < days_in_year year
+rest_in : (days year : ℕ) → IsYearAfter days year → days - days_of_years (year - 1) < days_in_year year
 rest_in days year parts = omega (arith, parts.begun, parts.goes_on)
 
-few_days : (seconds : ℕ) → seconds < 2 ^ 32 → seconds / 86400 < 49711
-few_days seconds small = omega arith
+few_days : (time : ℕ) → time < 2 ^ 32 → day_number epoch + time / 86400 < 768873
+few_days time small = omega (arith, epoch_day)
 
 -- the parts of a day
 clock : (seconds : ℕ) → 86400 * (seconds / 86400) + 3600 * (seconds % 86400 / 3600) + 60 * (seconds % 3600 / 60) + seconds % 60 ≡ seconds
@@ -139,28 +139,36 @@ exists_at seconds days year rest month of_year of_month = record {
   second_to = omega arith;
 }
 
-pub moment_exists : (seconds : ℕ) → seconds < 2 ^ 32 → is_moment (moment_after seconds) ≡ true
+pub moment_exists : (time : ℕ) → time < 2 ^ 32 → is_moment (moment_after time) ≡ true
 unfolding moment_after
-moment_exists seconds small =
-    let of_year = year_parts (seconds / 86400) (few_days seconds small) in
+moment_exists time small =
+    let of_year = year_parts (day_number epoch + time / 86400) (few_days time small) in
     let of_month = month_parts _ _ (rest_in _ _ of_year) in
-    is_moment-in (moment_after seconds) (exists_at seconds _ _ _ _ of_year of_month)
+    is_moment-in (moment_after time) (exists_at time _ _ _ _ of_year of_month)
 
 -- the days of a moment are those that it is after
 days_back : (days before rest within : ℕ) → before ≤ days → rest ≡ days - before → within ≤ rest
     → before + within + (rest - within + 1 - 1) ≡ days
 days_back days before rest within begun is begun_month = omega arith
 
-pub moment_back : (seconds : ℕ) → seconds < 2 ^ 32 → seconds_before (moment_after seconds) ≡ seconds
+moment_back : (time : ℕ) → time < 2 ^ 32 → seconds_before (moment_after time) ≡ 62135596800 + time
 unfolding moment_after seconds_before day_number
-moment_back seconds small =
-    let of_year = year_parts (seconds / 86400) (few_days seconds small) in
+moment_back time small =
+    let of_year = year_parts (day_number epoch + time / 86400) (few_days time small) in
     let of_month = month_parts _ _ (rest_in _ _ of_year) in
-    by_parts (seconds / 86400) (year_after (seconds / 86400)) _ (days_back _ _ _ _ of_year.begun refl of_month.begun)
+    by_days _ (days_back _ _ _ _ of_year.begun refl of_month.begun)
   where
-    by_parts : (days year number : ℕ) → number ≡ seconds / 86400
-        → 86400 * number + 3600 * (seconds % 86400 / 3600) + 60 * (seconds % 3600 / 60) + seconds % 60 ≡ seconds
-    by_parts days year number is = rw is (clock seconds)
+    by_days : (number : ℕ) → number ≡ day_number epoch + time / 86400
+        → 86400 * number + 3600 * (time % 86400 / 3600) + 60 * (time % 3600 / 60) + time % 60 ≡ 62135596800 + time
+    by_days number is = let day = is ∙ ap (λ n. n + time / 86400) epoch_day in omega (arith, day, clock time)
+
+-- a time is that of the moment after it
+time_after : (moment : Moment) (time : ℕ) → time < 2 ^ 32 → seconds_before moment ≡ 62135596800 + time → time_of moment ≡ time
+unfolding time_of
+time_after moment time small is =
+    let whole : time % 2 ^ 32 ≡ time = omega arith in
+    let from : pos (62135596800 + time) -ℤ pos 62135596800 ≡ pos time = omega (arith, ints) in
+    rw (is, epoch_second, from) whole
 
 -- digits
 digit_back : (digit : ℕ) → digit < 10 → digit_value (48 + digit) ≡ digit
@@ -221,7 +229,7 @@ moment_reads moment inside =
     same y m d h n s y' m' d' h' n' s' is_y is_m is_d is_h is_n is_s = cc
 
 moment_read-is : (text : List ℕ) (moment : Moment) → list_all is_ascii_digit text ≡ true → moment_of text ≡ moment
-    → is_moment moment ≡ true → moment_read text ≡ Some (seconds_before moment % 2 ^ 32)
+    → is_moment moment ≡ true → moment_read text ≡ Some (time_of moment)
 unfolding moment_read
 moment_read-is text moment digits is exists = rw (digits, is, exists) refl
 
@@ -233,14 +241,11 @@ time_reads_back time small = by_moment (moment_after time) (moment_exists time s
     in_full : (moment : Moment) → time_read (moment_written moment) ≡ moment_read (moment_written moment)
     in_full moment = refl
 
-    whole : time % 2 ^ 32 ≡ time
-    whole = omega arith
-
-    by_moment : (moment : Moment) → is_moment moment ≡ true → seconds_before moment ≡ time
+    by_moment : (moment : Moment) → is_moment moment ≡ true → seconds_before moment ≡ 62135596800 + time
         → time_read (moment_written moment) ≡ Some time
     by_moment moment exists is =
         let inside = in_calendar moment exists in
         in_full moment ∙ moment_read-is (moment_written moment) moment (written_are_digits moment inside) (moment_reads moment inside) exists
-        ∙ ap (λ n. Some (n % 2 ^ 32)) is ∙ ap Some whole
+        ∙ ap Some (time_after moment time small is)
 
 pub ruleset time_reads_back_rules = (time_reads_back)

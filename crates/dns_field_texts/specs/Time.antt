@@ -1,7 +1,8 @@
 -- Times of signatures as text: in digits as a date and a time of day in UTC, or as the number of seconds since the beginning of 1970 (RFC 4034,
 -- section 3.2).
-use Rattle.std.specs.Prelude.{ℕ, zero, suc, ◌+◌, ◌-◌, ◌*◌, ◌/◌, ◌%◌, ◌^◌, Bool, not, ◌&&◌, ◌||◌, ◌==◌, nat_le, if◌then◌else◌, List, [], ◌∷◌, ◌++◌, length, slice_range, Option, Some, None}
+use Rattle.std.specs.Prelude.{ℕ, pos, ◌-ℤ◌, unsigned_abs, zero, suc, ◌+◌, ◌-◌, ◌*◌, ◌/◌, ◌%◌, ◌^◌, Bool, not, ◌&&◌, ◌||◌, ◌==◌, nat_le, if◌then◌else◌, List, [], ◌∷◌, ◌++◌, length, slice_range, Option, Some, None}
 use Rattle.std.specs.Char.{is_ascii_digit}
+use Rattle.std.specs.Int.{int_rem_euclid}
 use Rattle.std.specs.List.{list_all}
 use Rattle.std.specs.Str.Parse.{digits_value}
 use Rattle.dns_values.specs.Mnemonic.{number_spelled}
@@ -20,10 +21,10 @@ days_in_month year month =
     if month == 2 then (if is_leap_year year then 29 else 28)
     else (if (month == 4) || (month == 6) || (month == 9) || (month == 11) then 30 else 31)
 
--- the days of that number of years from 1970 on
+-- the days of that number of years from the year 1 on, in the Gregorian calendar, also before it was in use
 unfoldable pub days_of_years : ℕ → ℕ
 days_of_years zero = 0
-days_of_years (suc count) = days_of_years count + days_in_year (1970 + count)
+days_of_years (suc count) = days_of_years count + days_in_year (suc count)
 
 -- the days of the first months of the year
 unfoldable pub days_of_months : ℕ → ℕ → ℕ
@@ -33,20 +34,28 @@ days_of_months year (suc count) = days_of_months year count + days_in_month year
 abbrev pub is_from_to : ℕ → ℕ → ℕ → Bool
 is_from_to low high number = nat_le low number && nat_le number high
 
--- whether the calendar has this date from 1970 to 9999, and a day has this time; there are no leap seconds
+-- whether the calendar has this date from the year 1 to 9999, and a day has this time; there are no leap seconds
 abbrev pub is_moment : Moment → Bool
 is_moment moment =
-    is_from_to 1970 9999 moment.year && is_from_to 1 12 moment.month
+    is_from_to 1 9999 moment.year && is_from_to 1 12 moment.month
     && is_from_to 1 (days_in_month moment.year moment.month) moment.day
     && nat_le moment.hour 23 && nat_le moment.minute 59 && nat_le moment.second 59
 
--- how many days are before the date, from 1 January 1970 on
+-- how many days are before the date, from 1 January of the year 1 on
 unfoldable pub day_number : Moment → ℕ
-day_number moment = days_of_years (moment.year - 1970) + days_of_months moment.year (moment.month - 1) + (moment.day - 1)
+day_number moment = days_of_years (moment.year - 1) + days_of_months moment.year (moment.month - 1) + (moment.day - 1)
 
--- how many seconds are before the moment, from the beginning of 1970 on
+-- how many seconds are before the moment, from the beginning of the year 1 on
 unfoldable pub seconds_before : Moment → ℕ
 seconds_before moment = 86400 * day_number moment + 3600 * moment.hour + 60 * moment.minute + moment.second
+
+-- the beginning of 1970
+unfoldable pub epoch : Moment
+epoch = record { year = 1970; month = 1; day = 1; hour = 0; minute = 0; second = 0 }
+
+-- the time of a moment: the seconds from the beginning of 1970 to it, which are negative for an earlier one, modulo 2^32
+unfoldable pub time_of : Moment → ℕ
+time_of moment = unsigned_abs (int_rem_euclid (pos (seconds_before moment) -ℤ pos (seconds_before epoch)) (pos (2 ^ 32)))
 
 -- the moment that 14 digits write: YYYYMMDDHHmmSS
 unfoldable pub moment_of : List ℕ → Moment
@@ -60,11 +69,11 @@ moment_of text =
       second = digits_value 10 (slice_range text 12 14);
     }
 
--- the time of a moment, modulo 2^32
+-- the time of the moment that 14 digits write
 unfoldable pub moment_read : List ℕ → Option ℕ
 moment_read text =
     if list_all is_ascii_digit text && is_moment (moment_of text)
-    then Some (seconds_before (moment_of text) % 2 ^ 32)
+    then Some (time_of (moment_of text))
     else None
 
 -- the time that a text is of: 14 digits are a moment, and up to ten are the number
@@ -78,27 +87,27 @@ unfoldable pub greatest : (ℕ → ℕ) → ℕ → ℕ → ℕ
 greatest of number zero = 0
 greatest of number (suc limit) = if nat_le (of (suc limit)) number then suc limit else greatest of number limit
 
--- the year, from 1970 to 2106, and the month and the day of it, after that number of days
+-- the year, up to 2106, after that number of days from the year 1 on, and the month after that number of days of the year
 unfoldable pub year_after : ℕ → ℕ
-year_after days = 1970 + greatest days_of_years days 136
+year_after days = 1 + greatest days_of_years days 2105
 
 unfoldable pub month_after : ℕ → ℕ → ℕ
 month_after year days = 1 + greatest (days_of_months year) days 11
 
--- the moment after that number of seconds
+-- the moment after that number of seconds from the beginning of 1970 on
 unfoldable pub moment_after : ℕ → Moment
-moment_after seconds =
-    let days = seconds / 86400 in
+moment_after time =
+    let days = day_number epoch + time / 86400 in
     let year = year_after days in
-    let rest = days - days_of_years (year - 1970) in
+    let rest = days - days_of_years (year - 1) in
     let month = month_after year rest in
     record {
       year = year;
       month = month;
       day = rest - days_of_months year (month - 1) + 1;
-      hour = seconds % 86400 / 3600;
-      minute = seconds % 3600 / 60;
-      second = seconds % 60;
+      hour = time % 86400 / 3600;
+      minute = time % 3600 / 60;
+      second = time % 60;
     }
 
 -- a number below 100 in two digits

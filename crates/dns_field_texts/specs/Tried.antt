@@ -4,7 +4,7 @@ use Rattle.dns_scan.specs.Bits.{bits}
 use Rattle.dns_values.specs.Mnemonic.{types, number_read, number_named, number_behind, number_spelled, text_of, text_written}
 use Rattle.dns_field_texts.specs.TypeWords.{more_types, type_word_read, type_word_written}
 use Rattle.dns_field_texts.specs.NumberedWords.{algorithms, algorithm_read, certificate_types, certificate_type_read}
-use Rattle.dns_field_texts.specs.Time.{days_of_years, days_of_months, day_number, seconds_before, moment_of, moment_read, time_read, greatest, year_after, month_after, moment_after, date_written, clock_written, moment_written, time_written}
+use Rattle.dns_field_texts.specs.Time.{days_of_years, days_of_months, day_number, seconds_before, epoch, time_of, moment_of, moment_read, time_read, greatest, year_after, month_after, moment_after, date_written, clock_written, moment_written, time_written}
 use Rattle.dns_field_texts.specs.Hardware.{hardware_written}
 use Rattle.dns_field_texts.specs.HashWords.{salt_written, hash_written}
 use Rattle.dns_field_texts.specs.TypeBitmap.{windows_up_to, types_in}
@@ -53,7 +53,7 @@ private = refl
 
 -- the times of RFC 4034, section 3.3, and of RFC 5702, section 6.1
 pub expiration : time_read (codes "20030322173103") ≡ Some 1048354263
-unfolding time_read moment_read moment_of seconds_before day_number days_of_years days_of_months
+unfolding time_read moment_read moment_of time_of seconds_before epoch day_number days_of_years days_of_months
 expiration = refl
 
 pub number : time_read (codes "1048354263") ≡ Some 1048354263
@@ -61,21 +61,51 @@ unfolding time_read number_spelled
 number = refl
 
 pub written : time_written 1048354263 ≡ codes "20030322173103"
-unfolding time_written moment_written date_written clock_written moment_after year_after month_after greatest days_of_years days_of_months
+unfolding time_written moment_written date_written clock_written moment_after epoch day_number year_after month_after greatest days_of_years days_of_months
 written = refl
 
 -- the last second that a time has, and the first one after it
 pub last : time_written 4294967295 ≡ codes "21060207062815"
-unfolding time_written moment_written date_written clock_written moment_after year_after month_after greatest days_of_years days_of_months
+unfolding time_written moment_written date_written clock_written moment_after epoch day_number year_after month_after greatest days_of_years days_of_months
 last = refl
 
 pub wrapped : time_read (codes "21060207062816") ≡ Some 0
-unfolding time_read moment_read moment_of seconds_before day_number days_of_years days_of_months
+unfolding time_read moment_read moment_of time_of seconds_before epoch day_number days_of_years days_of_months
 wrapped = refl
 
 pub no_leap_year : time_read (codes "21000229000000") ≡ None
-unfolding time_read moment_read moment_of seconds_before day_number days_of_years days_of_months
+unfolding time_read moment_read moment_of time_of seconds_before epoch day_number days_of_years days_of_months
 no_leap_year = refl
+
+-- the last second before 1970, and the beginnings of 1901 and of the first year: -1, -2177452800 and -62135596800 modulo 2^32
+pub before : time_read (codes "19691231235959") ≡ Some 4294967295
+unfolding time_read moment_read moment_of time_of seconds_before epoch day_number days_of_years days_of_months
+before = refl
+
+pub early : time_read (codes "19010101000000") ≡ Some 2117514496
+unfolding time_read moment_read moment_of time_of seconds_before epoch day_number days_of_years days_of_months
+early = refl
+
+pub first : time_read (codes "00010101000000") ≡ Some 2288912640
+unfolding time_read moment_read moment_of time_of seconds_before epoch day_number days_of_years days_of_months
+first = refl
+
+-- 1900 has no 29 February, and there is no year 0
+pub february : time_read (codes "19000228235959") ≡ Some 2091076095
+unfolding time_read moment_read moment_of time_of seconds_before epoch day_number days_of_years days_of_months
+february = refl
+
+pub march : time_read (codes "19000301000000") ≡ Some 2091076096
+unfolding time_read moment_read moment_of time_of seconds_before epoch day_number days_of_years days_of_months
+march = refl
+
+pub not_in_1900 : time_read (codes "19000229000000") ≡ None
+unfolding time_read moment_read moment_of time_of seconds_before epoch day_number days_of_years days_of_months
+not_in_1900 = refl
+
+pub no_year : time_read (codes "00000101000000") ≡ None
+unfolding time_read moment_read moment_of time_of seconds_before epoch day_number days_of_years days_of_months
+no_year = refl
 
 -- the addresses of RFC 7043, sections 3.3 and 4.3
 pub eui48 : hardware_written (0 ∷ 0 ∷ 94 ∷ 0 ∷ 83 ∷ 42 ∷ []) ≡ codes "00-00-5e-00-53-2a"

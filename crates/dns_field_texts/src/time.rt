@@ -6,13 +6,16 @@ ghost use Rattle.std.specs.List.{list_all};
 ghost use Rattle.std.specs.Str.Parse.{digits_value};
 ghost use Rattle.dns_values.specs.Mnemonic.{number_spelled};
 ghost use Rattle.dns_field_texts.specs.Time as of_time;
-ghost use Rattle.dns_field_texts.specs.Time.{is_moment, days_of_years, days_of_months, seconds_before, time_read, time_written};
+ghost use Rattle.dns_field_texts.specs.Time.{is_moment, days_of_years, days_of_months, time_of, time_read, time_written};
 
 use crate::digits::{are_digits, as_digits};
 use std::fmt;
 
 /// How many times there are: 2^32.
-const TIMES: u64 = 4_294_967_296;
+const TIMES: i64 = 4_294_967_296;
+
+/// How many days are before 1970, from the beginning of the year 1 on.
+const DAYS_BEFORE_1970: u32 = 719_162;
 
 /// A date and a time of day in UTC.
 #[derive(Clone, Copy, Debug)]
@@ -26,11 +29,11 @@ struct Moment {
 }
 
 impl Moment {
-    /// Returns whether the calendar has this date from 1970 to 9999, and a day has this time.
+    /// Returns whether the calendar has this date from the year 1 to 9999, and a day has this time.
     fn exists(&self) -> bool
         ensures { result ≡ is_moment self.now }
     {
-        1970 <= self.year
+        1 <= self.year
             && self.year <= 9999
             && 1 <= self.month
             && self.month <= 12
@@ -41,24 +44,24 @@ impl Moment {
             && self.second <= 59
     }
 
-    /// Returns the seconds from the beginning of 1970 to the moment, modulo 2^32.
+    /// Returns the seconds from the beginning of 1970 to the moment, which are negative for an earlier one, modulo 2^32.
     fn to_time(&self) -> u32
         requires { is_moment self.now ≡ true }
-        ensures { result ≡ seconds_before self.now % 2 ^ 32 }
+        ensures { result ≡ time_of self.now }
     {
         let month_start = days_before_year(self.year) + days_before_month(self.year, self.month);
         let days = month_start + self.day - 1;
         let of_day = 3_600 * self.hour + 60 * self.minute + self.second;
-        let seconds = 86_400 * u64::from(days) + u64::from(of_day);
-        (seconds % TIMES) as u32
+        let seconds = 86_400 * (i64::from(days) - i64::from(DAYS_BEFORE_1970)) + i64::from(of_day);
+        seconds.rem_euclid(TIMES) as u32
     }
 
     /// Returns the moment after that number of seconds from the beginning of 1970 on.
-    fn after(seconds: u32) -> Self
-        ensures is { result ≡ of_time.moment_after seconds }
+    fn after(time: u32) -> Self
+        ensures is { result ≡ of_time.moment_after time }
         ensures exists { is_moment result ≡ true }
     {
-        let days = seconds / 86_400;
+        let days = DAYS_BEFORE_1970 + time / 86_400;
         let year = year_after(days);
         let rest = days - days_before_year(year);
         let month = month_after(year, rest);
@@ -66,9 +69,9 @@ impl Moment {
             year,
             month,
             day: rest - days_before_month(year, month) + 1,
-            hour: seconds % 86_400 / 3_600,
-            minute: seconds % 3_600 / 60,
-            second: seconds % 60,
+            hour: time % 86_400 / 3_600,
+            minute: time % 3_600 / 60,
+            second: time % 60,
         }
     }
 }
@@ -166,16 +169,15 @@ fn days_in_month(year: u32, month: u32) -> u32
     }
 }
 
-/// Returns the number of days from the beginning of 1970 to that of the year.
+/// Returns the number of days from the beginning of the year 1 to that of the year.
 #[tactic(auto, using(crate::proofs::Calendar::year_rules))]
 fn days_before_year(year: u32) -> u32
-    requires { 1970 ≤ year × (year ≤ 10000) }
-    ensures is { result ≡ days_of_years (year - 1970) }
-    ensures small { result < 3000000 }
+    requires { 1 ≤ year × (year ≤ 10000) }
+    ensures is { result ≡ days_of_years (year - 1) }
+    ensures small { result < 3700000 }
 {
     let past = year - 1;
-    // There are 477 leap years before 1970.
-    365 * (year - 1970) + past / 4 + past / 400 - past / 100 - 477
+    365 * past + past / 4 + past / 400 - past / 100
 }
 
 /// Returns the number of days of the year before the month.
@@ -196,15 +198,15 @@ fn days_before_month(year: u32, month: u32) -> u32
 /// The days before each month in a year that is no leap year.
 static COMMON_MONTHS: [u32; 12] = [0, 31, 59, 90, 120, 151, 181, 212, 243, 273, 304, 334];
 
-/// Returns the year after that number of days from the beginning of 1970 on.
+/// Returns the year after that number of days from the beginning of the year 1 on.
 fn year_after(days: u32) -> u32
-    requires { days < 49711 }
+    requires { days < 768873 }
     ensures is { result ≡ of_time.year_after days }
-    ensures from { 1970 ≤ result × (result ≤ 2106) }
-    ensures begun { days_of_years (result - 1970) ≤ days }
-    ensures goes_on { days < days_of_years (result - 1970 + 1) }
+    ensures from { 1 ≤ result × (result ≤ 2106) }
+    ensures begun { days_of_years (result - 1) ≤ days }
+    ensures goes_on { days < days_of_years (result - 1 + 1) }
 {
-    let mut year = 1970 + days / 366;
+    let mut year = 1 + days / 366;
     while days_before_year(year + 1) <= days {
         year += 1;
     }

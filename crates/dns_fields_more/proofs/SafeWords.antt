@@ -20,7 +20,7 @@ use Rattle.dns_field_texts.specs.Hardware.{hardware_written, small_digit}
 use Rattle.dns_field_texts.specs.HashWords.{hash_written, salt_written}
 use Rattle.dns_field_texts.specs.Location.{IsLocation, Location, Precision}
 use Rattle.dns_field_texts.specs.LocationText.{IsMetres, IsNumeral, SpellsAltitude, SpellsAngle, SpellsArc, SpellsSize, location_words, usual_sizes}
-use Rattle.dns_field_texts.specs.Time.{clock_written, date_written, is_moment, moment_of, moment_read, moment_written, seconds_before, time_read, time_written}
+use Rattle.dns_field_texts.specs.Time.{clock_written, date_written, is_moment, moment_of, moment_read, moment_written, time_of, time_read, time_written}
 use Rattle.dns_field_texts.specs.TypeWords.{more_types, type_word_written}
 use Rattle.dns_field_texts.proofs.LocationNumerals.{IsNear, all_first, all_rest, digit_near, metres_some, numeral_near, numeral_some}
 use Rattle.dns_field_texts.proofs.LocationPrinted.{printed_scans}
@@ -138,7 +138,7 @@ type_safe number small = by (text_of more_types number) refl
 moment_digits : (text : List ℕ) (time : ℕ) → moment_read text ≡ Some time → list_all is_ascii_digit text ≡ true
 unfolding moment_read
 moment_digits text time reads =
-    elim (list_all is_ascii_digit text) as (λ v. (if v && is_moment (moment_of text) then Some (seconds_before (moment_of text) % 2 ^ 32) else None) ≡ Some time
+    elim (list_all is_ascii_digit text) as (λ v. (if v && is_moment (moment_of text) then Some (time_of (moment_of text)) else None) ≡ Some time
     → v ≡ true) [
       | true ↦ (λ e. refl)
       | false ↦ (λ e. cc)
