@@ -1,3 +1,4 @@
+pub mod AppendedBase64
 pub mod TypeWords
 pub mod NumberedWords
 pub mod Calendar

@@ -1,4 +1,5 @@
 pub mod Appended
+pub mod AppendedBase64
 pub mod TypeWords
 pub mod NumberedWords
 pub mod Time

@@ -1,10 +1,11 @@
 //! The texts of fields of further types: words for types, for algorithms and for types of certificates, times, bitmaps of types,
-//! salts and hashes, hardware addresses, and locations (RFC 4034, 4398, 5155, 7043, 1876).
+//! salts and hashes, hardware addresses, locations, and data in base 64 (RFC 4034, 4398, 5155, 7043, 1876, 4648).
 //!
 //! A part of `dns_rdata_more`.
 #![tactic(auto)]
 
 mod append;
+mod base64;
 mod bitmap;
 mod digits;
 mod frequent_types;
@@ -18,6 +19,7 @@ mod time;
 mod type_words;
 
 pub use append::{WordError, append_octets};
+pub use base64::scan_base64_into;
 pub use bitmap::{
     RtypeBitmap, RtypeBitmapError, RtypeBitmapIter, append_types, is_type_bitmap, scan_types_into,
     show_types,

@@ -1,0 +1,214 @@
+-- Octets in base 64: whole groups of characters, and what follows them.
+use Rattle.std.proofs.Common.{◌≡◌, ◌+◌, ◌*◌, ◌/◌, ◌%◌, ◌^◌, ◌<◌, ◌≤◌, ◌-◌, zero, suc, ℕ, true, List, [], ◌∷◌, ◌++◌, length, map, replicate, take, drop, get_or, refl, sym, ◌∙◌, ap, subst, arith, append_assoc, append-nil, length-append}
+use Rattle.std.specs.List.{AllByRecursion, list_all}
+use Rattle.std.specs.Str.{chars}
+use Rattle.std.proofs.lemmas.Bool.{and_parts}
+use Rattle.std.proofs.lemmas.Bool.Decides.{nat_tests}
+use Rattle.std.proofs.lemmas.List.{length-map, map-append, nil_from_length, take_all}
+use Rattle.std.proofs.lemmas.Str.{chars-IsAscii}
+use Rattle.dns_label.specs.Octets.{AreOctets, IsOctet}
+use Rattle.dns_label.specs.Symbol.{is_plain}
+use Rattle.dns_name.proofs.Flat.{same_front}
+use Rattle.dns_scan.specs.Base.{Groups, IsCharacter, digit, digit_64}
+use Rattle.dns_scan.specs.Bits.{all_bits, bits}
+use Rattle.dns_scan.specs.Decoding.{NoneIs}
+use Rattle.dns_scan.specs.Encodings.{Decodes64}
+use Rattle.dns_scan.specs.Token.{IsEntry, IsWord, Token}
+use Rattle.dns_scan.specs.declared.encoding.base.Base.TheVariants.{SixtyFour}
+use Rattle.dns_scan.proofs.BitLists.{bits_join, length-bits}
+use Rattle.dns_scan.proofs.Decoded.{all_bits-append, each_append, length-all_bits, no_pad}
+use Rattle.dns_scan.proofs.Encodings.{Ascii, is_ascii}
+use Rattle.dns_scan.proofs.Entries.{words_one}
+use Rattle.dns_field_texts.specs.AppendedBase64.{AppendsBase64, SpellsNoBase64}
+
+abbrev all_digits : List ℕ → List ℕ
+all_digits characters = all_bits 6 (map (digit SixtyFour) characters)
+
+-- characters before others are split off
+record CharactersBehind (front characters left : List ℕ) (pads : ℕ) : Type 0 where
+  behind : List ℕ
+  is : characters ≡ front ++ behind
+  written : left ≡ behind ++ replicate pads 61
+  each : AllByRecursion (IsCharacter SixtyFour) behind
+
+characters_behind : (front characters left : List ℕ) (pads : ℕ) → AllByRecursion (IsCharacter SixtyFour) front
+    → AllByRecursion (IsCharacter SixtyFour) characters → front ++ left ≡ characters ++ replicate pads 61
+    → CharactersBehind front characters left pads
+characters_behind [] characters left pads each also same = record { behind = characters; is = refl; written = same; each = also }
+characters_behind (c ∷ front) [] left zero each also same = cc
+characters_behind (c ∷ front) [] left (suc pads) each also same =
+    let pad : c ≡ 61 = cc in absurd (no_pad (subst (IsCharacter SixtyFour) pad each.0))
+characters_behind (c ∷ front) (d ∷ characters) left pads each also same =
+    let first : c ≡ d = cc in
+    let others : front ++ left ≡ characters ++ replicate pads 61 = cc in
+    let split = characters_behind front characters left pads each.1 also.1 others in
+    record { behind = split.behind; is = let is = split.is in cc; written = split.written; each = split.each }
+
+-- so are octets
+record OctetsBehind (bits rest : List ℕ) : Type 0 where
+  behind : List ℕ
+  cut : bits ≡ all_bits 8 behind ++ rest
+  are : AreOctets behind
+
+octets_behind : (front octets bits rest : List ℕ) → AreOctets octets → length rest < 8 → all_bits 8 front ++ bits ≡ all_bits 8 octets ++ rest
+    → OctetsBehind bits rest
+octets_behind [] octets bits rest are few same = record { behind = octets; cut = same; are = are }
+octets_behind (x ∷ front) [] bits rest are few same =
+    absurd (omega (arith, ap (length {A = ℕ}) same, length-append (all_bits 8 (x ∷ front)) bits, length-all_bits 8 (x ∷ front)))
+octets_behind (x ∷ front) (y ∷ octets) others rest are few same =
+    let split = same_front (bits 8 x) (bits 8 y) (all_bits 8 front ++ others) (all_bits 8 octets ++ rest)
+    (sym (append_assoc (bits 8 x) (all_bits 8 front) others) ∙ same ∙ append_assoc (bits 8 y) (all_bits 8 octets) rest)
+    (length-bits 8 x ∙ sym (length-bits 8 y)) in
+    octets_behind front octets others rest are.1 few split.1
+
+-- whole groups of four characters, and what is behind them
+module _ (front octets : List ℕ) (groups : Groups SixtyFour front octets) (whole : length front % 4 ≡ 0) where
+  same_bits : all_digits front ≡ all_bits 8 octets
+  same_bits =
+      let lengths = ap (length {A = ℕ}) groups.cut in
+      let none : length groups.rest ≡ 0 =
+      omega (
+        arith,
+        lengths,
+        length-append (all_bits 8 octets) groups.rest,
+        length-all_bits 6 (map (digit SixtyFour) front),
+        length-map front (digit SixtyFour),
+        length-all_bits 8 octets,
+        groups.little,
+        whole,
+      ) in groups.cut ∙ ap (λ (l : List ℕ). all_bits 8 octets ++ l) (nil_from_length groups.rest none) ∙ append-nil (all_bits 8 octets)
+
+  digits_behind : (characters : List ℕ) → all_digits (front ++ characters) ≡ all_bits 8 octets ++ all_digits characters
+  digits_behind characters =
+      ap (all_bits 6) (map-append (digit SixtyFour) front characters)
+      ∙ all_bits-append 6 (map (digit SixtyFour) front) (map (digit SixtyFour) characters) ∙ ap (λ (l : List ℕ). l ++ all_digits characters) same_bits
+
+  pub decodes_behind : (left more : List ℕ) → Decodes64 left more → Decodes64 (front ++ left) (octets ++ more)
+  decodes_behind left more is =
+      let at = is.text_of in record {
+        characters = front ++ is.characters;
+        text_of = record {
+          pads = at.pads;
+          few = at.few;
+          written = ap (λ (l : List ℕ). front ++ l) at.written ∙ sym (append_assoc front is.characters (replicate at.pads 61));
+          fours = omega (arith, at.fours, whole, length-append front left);
+        };
+        groups = record {
+          each = each_append (IsCharacter SixtyFour) front is.characters groups.each is.groups.each;
+          are_octets = each_append IsOctet octets more groups.are_octets is.groups.are_octets;
+          rest = is.groups.rest;
+          cut =
+              digits_behind is.characters ∙ ap (λ (l : List ℕ). all_bits 8 octets ++ l) is.groups.cut
+              ∙ sym (append_assoc (all_bits 8 octets) (all_bits 8 more) is.groups.rest)
+              ∙ ap (λ (l : List ℕ). l ++ is.groups.rest) (sym (all_bits-append 8 octets more));
+          little = is.groups.little;
+        };
+      }
+
+  pub none_behind : (left : List ℕ) → NoneIs SixtyFour left → NoneIs SixtyFour (front ++ left)
+  none_behind left none others is =
+      let at = is.text_of in
+      let split = characters_behind front is.characters left at.pads groups.each is.groups.each at.written in
+      let cut = octets_behind octets others (all_digits split.behind) is.groups.rest is.groups.are_octets (omega (arith, is.groups.little))
+      (sym (digits_behind split.behind) ∙ ap all_digits (sym split.is) ∙ is.groups.cut) in
+      none cut.behind (record {
+        characters = split.behind;
+        text_of = record { pads = at.pads; few = at.few; written = split.written; fours = omega (arith, at.fours, whole, length-append front left) };
+        groups = record { each = split.each; are_octets = cut.are; rest = is.groups.rest; cut = cut.cut; little = is.groups.little };
+      })
+
+-- what is left of a text after whole groups of characters, which are these octets
+pub record Leaves (text left octets : List ℕ) : Type 0 where
+  pub on : (more : List ℕ) → Decodes64 left more → Decodes64 text (octets ++ more)
+  pub none : NoneIs SixtyFour left → NoneIs SixtyFour text
+
+pub leaves_all : (text : List ℕ) → Leaves text text []
+leaves_all text = record { on = λ more decodes. decodes; none = λ none. none }
+
+pub leaves_less : {text left octets : List ℕ} (front behind group : List ℕ) → Leaves text left octets → left ≡ front ++ behind
+    → Groups SixtyFour front group → length front % 4 ≡ 0 → Leaves text behind (octets ++ group)
+leaves_less {text} {left} {octets} front behind group leaves is groups whole = record {
+  on = λ more decodes.
+      subst (λ (l : List ℕ). Decodes64 text l) (sym (append_assoc octets group more))
+      (leaves.on (group ++ more) (subst (λ (l : List ℕ). Decodes64 l (group ++ more)) (sym is) (decodes_behind front group groups whole behind more decodes)));
+  none = λ none. leaves.none (subst (NoneIs SixtyFour) (sym is) (none_behind front group groups whole behind none));
+}
+
+-- the first four of octets, and the others
+pub four_first : (text : List ℕ) → 4 ≤ length text
+    → text ≡ (get_or text 0 0 ∷ get_or text 1 0 ∷ get_or text 2 0 ∷ get_or text 3 0 ∷ []) ++ take (length text - 4) (drop 4 text)
+four_first [] some = absurd (omega arith)
+four_first (a ∷ []) some = absurd (omega arith)
+four_first (a ∷ b ∷ []) some = absurd (omega arith)
+four_first (a ∷ b ∷ c ∷ []) some = absurd (omega arith)
+four_first (a ∷ b ∷ c ∷ d ∷ text) some =
+    ap (λ (l : List ℕ). a ∷ b ∷ c ∷ d ∷ l) (sym (take_all (length (a ∷ b ∷ c ∷ d ∷ text) - 4) text (omega arith)))
+
+-- four digits, and three octets, as one number
+four_joined : (a b c d : ℕ) → b < 64 → c < 64 → d < 64
+    → all_bits 6 (a ∷ b ∷ c ∷ d ∷ []) ≡ bits 24 (a * 2 ^ 18 + (b * 2 ^ 12 + (c * 2 ^ 6 + d)))
+four_joined a b c d few less small =
+    sym
+    (bits_join 6 18 a (b * 2 ^ 12 + (c * 2 ^ 6 + d)) (omega arith)
+    ∙ ap (λ (l : List ℕ). bits 6 a ++ l)
+    (bits_join 6 12 b (c * 2 ^ 6 + d) (omega arith)
+    ∙ ap (λ (l : List ℕ). bits 6 b ++ l) (bits_join 6 6 c d small ∙ ap (λ (l : List ℕ). bits 6 c ++ l) (sym (append-nil (bits 6 d))))))
+
+three_joined : (x y z : ℕ) → y < 256 → z < 256 → all_bits 8 (x ∷ y ∷ z ∷ []) ≡ bits 24 (x * 2 ^ 16 + (y * 2 ^ 8 + z))
+three_joined x y z few less =
+    sym
+    (bits_join 8 16 x (y * 2 ^ 8 + z) (omega arith)
+    ∙ ap (λ (l : List ℕ). bits 8 x ++ l) (bits_join 8 8 y z less ∙ ap (λ (l : List ℕ). bits 8 y ++ l) (sym (append-nil (bits 8 z)))))
+
+same_number : (a b c d x y z : ℕ) → b < 64 → c < 64 → d < 64 → x ≡ a * 4 + b / 16 → y ≡ b % 16 * 16 + c / 4 → z ≡ c % 4 * 64 + d
+    → all_bits 6 (a ∷ b ∷ c ∷ d ∷ []) ≡ all_bits 8 (x ∷ y ∷ z ∷ [])
+same_number a b c d x y z few less small first second third =
+    let same : a * 2 ^ 18 + (b * 2 ^ 12 + (c * 2 ^ 6 + d)) ≡ x * 2 ^ 16 + (y * 2 ^ 8 + z) = omega arith in
+    four_joined a b c d few less small ∙ ap (bits 24) same ∙ sym (three_joined x y z (omega arith) (omega arith))
+
+pub four_digits : (first second third fourth x y z : ℕ) → digit_64 first < 64 → digit_64 second < 64 → digit_64 third < 64 → digit_64 fourth < 64
+    → x ≡ digit_64 first * 4 + digit_64 second / 16 → y ≡ digit_64 second % 16 * 16 + digit_64 third / 4
+    → z ≡ digit_64 third % 4 * 64 + digit_64 fourth → Groups SixtyFour (first ∷ second ∷ third ∷ fourth ∷ []) (x ∷ y ∷ z ∷ [])
+four_digits first second third fourth x y z a b c d is also as_well = record {
+  each = (a, (b, (c, (d, tt))));
+  are_octets = (omega (arith, a, b, is), (omega (arith, b, c, also), (omega (arith, c, d, as_well), tt)));
+  rest = [];
+  cut =
+      same_number (digit_64 first) (digit_64 second) (digit_64 third) (digit_64 fourth) x y z b c d is also as_well
+      ∙ sym (append-nil (all_bits 8 (x ∷ y ∷ z ∷ [])));
+  little = omega arith;
+}
+
+-- the text of words is ASCII
+plain_ascii : (octet : ℕ) → is_plain octet ≡ true → octet < 128
+plain_ascii octet plain = grind (arith, nat_tests)
+
+plain_each : (text : List ℕ) → list_all is_plain text ≡ true → AllByRecursion Ascii text
+plain_each [] plain = tt
+plain_each (octet ∷ text) plain =
+    let both = and_parts (is_plain octet) (list_all is_plain text) plain in (plain_ascii octet both.0, plain_each text both.1)
+
+words_each : (tokens : List Token) (text : List ℕ) → IsEntry IsWord tokens text → AllByRecursion Ascii text
+words_each [] text entry = subst (AllByRecursion Ascii) (sym entry) tt
+words_each (token ∷ tokens) text entry =
+    subst (AllByRecursion Ascii) (sym entry.4) (each_append Ascii entry.0 entry.1 (plain_each entry.0 entry.2.1) (words_each tokens entry.1 entry.3))
+
+words_chars : (tokens : List Token) (text : List ℕ) → IsEntry IsWord tokens text → chars text ≡ text
+words_chars tokens text entry = chars-IsAscii text (is_ascii text (words_each tokens text entry))
+
+-- what was scanned and decoded
+pub base64_appended : (tokens left : List Token) (text octets old new : List ℕ) → IsEntry IsWord tokens text → left ≡ []
+    → Decodes64 text octets → new ≡ old ++ octets → AppendsBase64 tokens left old new
+base64_appended tokens left text octets old new entry none decodes behind = record {
+  text = text;
+  octets = octets;
+  entry = entry;
+  decodes = subst (λ (l : List ℕ). Decodes64 l octets) (sym (words_chars tokens text entry)) decodes;
+  none = none;
+  behind = behind;
+}
+
+pub no_base64 : (tokens : List Token) (text : List ℕ) → IsEntry IsWord tokens text → NoneIs SixtyFour text → SpellsNoBase64 tokens
+no_base64 tokens text entry none other octets also decodes =
+    let same : chars other ≡ text = words_chars tokens other also ∙ words_one tokens other text also entry in
+    none octets (subst (λ (l : List ℕ). Decodes64 l octets) same decodes)
