@@ -11,9 +11,9 @@ mod opt;
 mod section;
 
 /// What messages are read by, for `dns_message`.
-pub use dns_sections as sections;
+pub use dns_sections as reading;
 /// The targets that compress names, for `dns_message`.
-pub use dns_compress as compress;
+pub use dns_compress as compression;
 
 pub use builder::{
     AdditionalBuilder, AnswerBuilder, AuthorityBuilder, MessageBuilder, QuestionBuilder,

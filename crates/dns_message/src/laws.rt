@@ -29,7 +29,7 @@ pub use dns_header::laws::{
     record_header_orders_by_fields, record_orders_by_owner_class_data,
     record_skip_stops_where_parse_stops,
 };
-pub use dns_builder::sections::laws::{
+pub use dns_builder::reading::laws::{
     question_and_record_cursors_end, question_and_record_errors_come_once,
 };
 

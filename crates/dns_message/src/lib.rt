@@ -23,7 +23,7 @@ pub use dns_builder::{
     BegunSection, BuilderSection, MessageBuilder, OptBuilder, OtherThan, QuestionBuilder,
     Questions, RecordSectionBuilder, RecordsSection, SectionBuilder, Start,
 };
-pub use dns_builder::compress::{
+pub use dns_builder::compression::{
     Compressor, HashCompressor, HashTable, StaticCompressor, StaticTable, StreamTarget, Table,
     TreeCompressor, TreeTable,
 };
@@ -32,7 +32,7 @@ pub use dns_header::{
     HeaderCounts, HeaderSection, Opt, OptHeader, OptIter, OptRecord, ParsedRecord,
     PresentationError, Question, Record, RecordHeader, RecordParseError,
 };
-pub use dns_builder::sections::{
+pub use dns_builder::reading::{
     AnyRecordIter, CopyRecordsError, Message, MessageIter, PushError, QuestionSection, RecordIter,
     RecordSection, RecordTarget, Section, ShortMessage,
 };
