@@ -1,6 +1,7 @@
 -- The definitions tried on the standards' own examples.
 use Rattle.std.specs.Prelude.{◌≡◌, [], ◌∷◌, ◌++◌, codes, decimal, Some, None, refl}
 use Rattle.dns_scan.specs.Bits.{bits}
+use Rattle.dns_scan.specs.Encodings.{encoded_64}
 use Rattle.dns_values.specs.Mnemonic.{types, number_read, number_named, number_behind, number_spelled, text_of, text_written}
 use Rattle.dns_field_texts.specs.TypeWords.{more_types, type_word_read, type_word_written}
 use Rattle.dns_field_texts.specs.NumberedWords.{algorithms, algorithm_read, certificate_types, certificate_type_read}
@@ -122,6 +123,19 @@ salt = refl
 pub hash : hash_written (6 ∷ 83 ∷ 104 ∷ 230 ∷ 58 ∷ []) ≡ codes "0P9MHPHQ"
 unfolding bits
 hash = refl
+
+-- the texts of RFC 4648, section 10, with two pads, with one and with none
+pub two_pads : encoded_64 (codes "foob") ≡ codes "Zm9vYg=="
+unfolding bits
+two_pads = refl
+
+pub one_pad : encoded_64 (codes "fooba") ≡ codes "Zm9vYmE="
+unfolding bits
+one_pad = refl
+
+pub no_pad : encoded_64 (codes "foobar") ≡ codes "Zm9vYmFy"
+unfolding bits
+no_pad = refl
 
 -- the bitmap of RFC 4034, section 4.3: A, MX, RRSIG, NSEC and TYPE1234
 pub bitmap : types_in (0 ∷ 6 ∷ 64 ∷ 1 ∷ 0 ∷ 0 ∷ 0 ∷ 3 ∷ 4 ∷ 27 ∷ 0 ∷ 0 ∷ 0 ∷ 0 ∷ 0 ∷ 0 ∷ 0 ∷ 0 ∷ 0 ∷ 0 ∷ 0 ∷ 0
