@@ -1,14 +1,16 @@
 -- Fields that are scanned, and appended to octets.
-use Rattle.std.proofs.Common.{◌≡◌, ◌<◌, ◌≤◌, ◌++◌, ◌∙◌, ◌∷◌, [], ℕ, List, length, ap, refl, sym, append_assoc, arith, inl, inr, subst}
+use Rattle.std.proofs.Common.{◌≡◌, ◌<◌, ◌≤◌, ◌++◌, ◌∙◌, ◌∷◌, [], ℕ, List, length, ap, refl, sym, append_assoc, length-append, arith, inl, inr, subst}
 use Rattle.std.specs.Prelude.{Bool, false, None, Result, Ok, Err, IfErr, OnOk}
 use Rattle.std.specs.Str.{chars}
+use Rattle.std.proofs.lemmas.List.{nil_from_length}
 use Rattle.dns_scan.specs.Encodings.{Decodes16, Decodes64}
 use Rattle.dns_scan.specs.declared.encoding.base.Base.TheVariants.{Sixteen, SixtyFour}
 use Rattle.dns_scan.specs.Token.{Token, IsEntry, IsWord, Takes}
-use Rattle.dns_fields.specs.Fields.{Field, field_octets, string, uncompressed, rest16}
+use Rattle.dns_fields.specs.Fields.{Field, field_octets, string, uncompressed, rest16, rest64}
 use Rattle.dns_fields.proofs.FieldKinds.{of_number8, of_number16, of_number32, of_uncompressed, of_string, of_rest16, of_rest64}
 use Rattle.dns_fields.proofs.ScannedOnce.{decoded_one}
 use Rattle.dns_field_texts.specs.Appended.{Appends, AppendsCounted}
+use Rattle.dns_field_texts.specs.AppendedBase64.{AppendsBase64}
 use Rattle.dns_field_texts.specs.HashWords.{IsHashWord, IsSaltWord}
 use Rattle.dns_field_texts.specs.Hardware.{IsHardwareText}
 use Rattle.dns_field_texts.specs.NumberedWords.{algorithm_read, certificate_type_read}
@@ -76,6 +78,27 @@ module _ {names : List ℕ → List (List ℕ) → Type 0} {tokens : List Token}
   empty_rest64 text octets is decodes none field left scans =
       of_rest64 (λ f. ScansForm names Rest64 f tokens left → ⊥) field
       (λ others s. s.spelled.1 (decoded_one SixtyFour tokens s.spelled.0.0 text others octets s.spelled.0.1 s.spelled.0.2 is decodes ∙ none)) scans.is.kind scans
+
+  -- octets that were scanned in base 64 are a rest if there are any
+  pub base64_scanned : {left : List Token} {old new : List ℕ} → AppendsBase64 tokens left old new → (length new ≡ length old → ⊥)
+      → AppendsForm names Rest64 tokens left old new
+  base64_scanned {old = old} appends some = record {
+    field = rest64 appends.octets;
+    scans = record {
+      is = record { kind = refl; is_field = tt; keeps = tt };
+      spelled = (
+        (appends.text, appends.entry, appends.decodes, appends.none),
+        λ none. some (omega (arith, ap (length {A = ℕ}) appends.behind, length-append old appends.octets, ap (length {A = ℕ}) none)),
+      );
+    };
+    behind = appends.behind;
+  }
+
+  pub empty_base64 : {left : List Token} {old new : List ℕ} → AppendsBase64 tokens left old new → length new ≡ length old
+      → NoFormScans names Rest64 tokens
+  empty_base64 {old = old} appends same =
+      let count : length appends.octets ≡ 0 = omega (arith, same, ap (length {A = ℕ}) appends.behind, length-append old appends.octets) in
+      empty_rest64 appends.text appends.octets appends.entry appends.decodes (nil_from_length appends.octets count)
 
   pub no_rtype : ((text : List ℕ) (left : List Token) → Takes (IsWord text) tokens left → None ≡ type_word_read text) → NoFormScans names RtypeForm tokens
   no_rtype none field left scans =

@@ -13,11 +13,11 @@ use crate::Form;
 use dns_entry_scanner::EntryScanner;
 use dns_field_texts::{
     WordError, append_hardware, append_hash, append_salt, read_algorithm, read_certificate_type,
-    read_time, read_type, scan_location_into, scan_types_into,
+    read_time, read_type, scan_base64_into, scan_location_into, scan_types_into,
 };
 use dns_name::{Octets, Rtype, ToName};
 use dns_service_parameters::scan_parameters_into;
-use dns_text::{Scan, ScannerError, base16, base64};
+use dns_text::{Scan, ScannerError, base16};
 use std::alloc::{AllocError, Global};
 
 /// Scans fields of the forms one after another, takes their tokens, and appends their octets, every name in full.
@@ -191,10 +191,15 @@ fn scan_base64<S: EntryScanner>(scanner: &mut S, octets: &mut Vec<u8>) -> Result
     ensures names { SameNames (S.names scanner.old) (S.names scanner.new) }
     ensures more { GoesOn octets.old.items octets.new.items }
 {
-    match base64::scan_entry(scanner) {
-        Ok(data) => append_some::<S>(octets, data.octets()),
-        Err(error) => Err(error),
+    let before = octets.len();
+    match scan_base64_into(scanner, octets) {
+        Ok(()) => {}
+        Err(error) => return Err(error),
     }
+    if octets.len() == before {
+        return Err(S::Error::custom("no octets"));
+    }
+    Ok(())
 }
 
 /// Scans a name that is in lower case in canonical form.

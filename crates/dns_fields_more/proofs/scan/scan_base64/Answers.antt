@@ -1,18 +1,12 @@
-use Rattle.std.proofs.Common.{refl, sym, ◌∙◌}
-use Rattle.dns_fields.specs.Fields.{rest64}
-use Rattle.dns_fields_more.proofs.Scans.{empty_rest64, if_empty, no_rest64, some_scanned}
+use Rattle.std.proofs.Common.{arith}
+use Rattle.dns_fields_more.proofs.Scans.{base64_scanned, empty_base64, no_rest64}
 use Rattle.dns_fields_more.proofs.scan.scan_base64.Goals as goal
-
-pub returns-in-Ok-clause-ok : goal.returns-in-Ok-clause-ok
-returns-in-Ok-clause-ok g c =
-    some_scanned _ _ _ (rest64 _)
-    (λ some. record { is = record { kind = refl; is_field = tt; keeps = tt }; spelled = (c.in-Ok.ensures.ok, λ none. some (c.octets.ensures ∙ none)) })
-    c.octets.ensures c.append_some.result c.append_some.ensures.ok
 
 pub returns-in-Err-clause-err : goal.returns-in-Err-clause-err
 returns-in-Err-clause-err g c = λ short. no_rest64 (c.in-Err.ensures.err short)
 
-pub returns-in-Ok-clause-err : goal.returns-in-Ok-clause-err
-returns-in-Ok-clause-err g c =
-    let ran = c.in-Ok.ensures.ok in
-    if_empty _ (λ none. empty_rest64 ran.0 _ ran.1 ran.2 (sym c.octets.ensures ∙ none)) c.append_some.result c.append_some.ensures.err
+pub returns-then-len-before-clause-err : goal.returns-then-len-before-clause-err
+returns-then-len-before-clause-err g c = λ short. let same = c.if-len-before.true in empty_base64 c.in-Ok.ensures.ok (omega (arith, same))
+
+pub returns-clause-ok : goal.returns-clause-ok
+returns-clause-ok g c = let differs = c.if-len-before.false in base64_scanned c.in-Ok.ensures.ok (λ same. omega (arith, differs, same))
