@@ -191,12 +191,12 @@ fn scan_base64<S: EntryScanner>(scanner: &mut S, octets: &mut Vec<u8>) -> Result
     ensures names { SameNames (S.names scanner.old) (S.names scanner.new) }
     ensures more { GoesOn octets.old.items octets.new.items }
 {
-    let len = octets.len();
+    let before = octets.len();
     match scan_base64_into(scanner, octets) {
         Ok(()) => {}
         Err(error) => return Err(error),
     }
-    if octets.len() == len {
+    if octets.len() == before {
         return Err(S::Error::custom("no octets"));
     }
     Ok(())
