@@ -1,7 +1,6 @@
 -- The general form of data, by its parts.
 use Rattle.std.proofs.Common.{◌≡◌, ◌<◌, ◌+◌, ◌/◌, ◌%◌, ◌++◌, ◌∙◌, ℕ, true, List, [], ◌∷◌, length, take, decimal, get_or, ap, refl, sym, arith}
 use Rattle.std.specs.Fmt.{digit_glyph}
-use Rattle.std.proofs.lemmas.Fmt.{decimal_digit}
 use Rattle.std.proofs.lemmas.List.{take_more, flat_map_more}
 use Rattle.dns_name.specs.UnknownText.{hex_of, unknown_text}
 
@@ -14,9 +13,6 @@ pub form_some : (octets : List ℕ) → (octets ≡ [] → ⊥)
     → unknown_text octets ≡ ((92 ∷ 35 ∷ 32 ∷ []) ++ decimal (length octets)) ++ 32 ∷ hex_of octets
 form_some [] some = absurd (some refl)
 form_some (octet ∷ octets) some = refl
-
-pub no_octets : (92 ∷ 35 ∷ 32 ∷ 48 ∷ []) ≡ unknown_text []
-no_octets = sym (ap (λ (l : List ℕ). 92 ∷ 35 ∷ 32 ∷ l) (decimal_digit 0 (omega arith)))
 
 -- one octet more
 pub hex_more : (octets : List ℕ) (i : ℕ) → i < length octets

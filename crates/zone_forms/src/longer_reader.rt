@@ -16,6 +16,7 @@ use crate::general_form::append_general_form;
 use crate::rewriting::append_rewritten;
 use crate::row_data::{is_marked, scan_data};
 use crate::row_type::{RowType, row_type};
+use crate::stand_in::append_stand_in;
 use dns_fields_more::forms_of;
 use dns_name::{Class, Name, Rtype, ToName};
 use dns_zonefile::{EntryError, EntryReader, RowFound, TokenSpan, read_row};
@@ -44,7 +45,8 @@ pub(crate) struct LongerReader {
     form: Vec<u8>,
     /// That general row.
     general: Vec<u8>,
-    /// The same row with no octets of data, which is short. It is an entry exactly if that row is, so it is read in its place.
+    /// The same row on one line and with no octets of data, which is short. It is an entry exactly if that row is, so it is read
+    /// in its place.
     stand_in: Vec<u8>,
     /// Its tokens.
     spans: Vec<TokenSpan>,
@@ -153,7 +155,7 @@ impl LongerReader {
         self.general.clear();
         append_rewritten(row, kind.index, &word, &self.form, &mut self.general)?;
         self.stand_in.clear();
-        append_rewritten(row, kind.index, &word, b"\\# 0", &mut self.stand_in)?;
+        append_stand_in(row, kind.index, &word, &mut self.stand_in)?;
         Ok(())
     }
 

@@ -1,10 +1,11 @@
-use Rattle.std.proofs.Common.{◌≡◌, ◌∙◌, ◌+◌, ◌++◌, ℕ, List, Option, ap, drop, sym, subst}
+use Rattle.std.proofs.Common.{◌≡◌, ◌∙◌, ◌+◌, ◌++◌, ℕ, List, Option, ap, drop, sym, subst, take}
 use Rattle.dns_label.specs.Octets.{AreOctets}
 use Rattle.dns_name.specs.UnknownText.{unknown_text}
 use Rattle.dns_entry_scanner.specs.NameInText.{SpellsUnder}
 use Rattle.zone_forms.specs.LongerRow.{ScansLonger}
 use Rattle.zone_forms.specs.Seen.{tokens_in}
-use Rattle.zone_forms.proofs.GeneralForm.{no_octets}
+use Rattle.zone_forms.specs.StandIn.{stand_in_octets}
+use Rattle.zone_forms.proofs.StandIn.{stand_in_row}
 use Rattle.zone_forms.proofs.WrittenRows.{rewrites_same}
 use Rattle.zone_forms.proofs.longer_reader.LongerReader.write_general.Goals as goal
 
@@ -29,9 +30,7 @@ returns-clause-ok c =
 
 pub returns-clause-stand_in : goal.returns-clause-stand_in
 returns-clause-stand_in c =
-    let appended = c.in_ok-append_rewritten-2.ensures in record {
-      word = c.in_ok-word.word.items;
-      word_is = c.in_ok-word.ensures.ok;
-      so = rewrites_same c.args.row c.args.kind.index c.deref-4.ensures.value no_octets
-          (sym (appended.2 ∙ ap (λ (l : List ℕ). l ++ appended.0) c.clear-4.ensures.items)) appended.1;
-    }
+    let tokens = take c.args.kind.index (tokens_in c.args.row) in
+    stand_in_row c.args.row c.requires.has c.requires.found c.in_ok-word.ensures.ok
+    (c.in_ok-append_stand_in.ensures ∙ ap (λ (l : List ℕ). l ++ stand_in_octets c.args.row.blank_led tokens c.deref-4.result.now) c.clear-4.ensures.items
+    ∙ ap (stand_in_octets c.args.row.blank_led tokens) c.deref-4.ensures.value)
