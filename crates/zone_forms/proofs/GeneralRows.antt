@@ -53,7 +53,7 @@ number_token rtype small =
     )
     (safe_decimal rtype small)) (omega arith)
 
-known_token : (word : Token) (rtype : ℕ) → word.quoted ≡ false → IsToken word → rtype < 2 ^ 64 → IsToken (unquoted (known_word word rtype))
+pub known_token : (word : Token) (rtype : ℕ) → word.quoted ≡ false → IsToken word → rtype < 2 ^ 64 → IsToken (unquoted (known_word word rtype))
 known_token word rtype bare is small = by (is_some (type_read word.text))
   where
     by : (known : Bool) → IsToken (unquoted (if known then word.text else codes "TYPE" ++ decimal rtype))

@@ -13,6 +13,7 @@ pub mod GeneralForm
 pub mod GeneralRows
 pub mod LongerRows
 pub mod WrittenRows
+pub mod StandIn
 pub mod ReadRows
 pub mod FoundRows
 pub mod GoneTexts

@@ -63,7 +63,7 @@ space_goes : (inside : Bool) → head_of inside 32 ≡ Go inside
 space_goes true = refl
 space_goes false = refl
 
-space_gap : {inside : Bool} → IsGap inside (32 ∷ []) inside
+pub space_gap : {inside : Bool} → IsGap inside (32 ∷ []) inside
 space_gap {inside} = goes (space_goes inside) none
 
 spaced_gap : {inside out : Bool} {gap : List ℕ} → IsGap inside gap out → IsGap inside (spaced gap) out
@@ -71,11 +71,11 @@ spaced_gap none = space_gap
 spaced_gap (goes head first) = goes head first
 spaced_gap (comment text no_feed first) = comment text no_feed first
 
-words_begin : {inside : Bool} {last : List ℕ} (words : List (List ℕ)) → EndsRow inside last → BeginsWithEnd (row_octets (map spaced_part words) last)
+pub words_begin : {inside : Bool} {last : List ℕ} (words : List (List ℕ)) → EndsRow inside last → BeginsWithEnd (row_octets (map spaced_part words) last)
 words_begin [] ends = ends_begin ends
 words_begin {last = last} (word ∷ words) ends = begins_at ((word ++ flat_map part_octets (map spaced_part words)) ++ last) refl
 
-words_are : {inside : Bool} {last : List ℕ} (words : List (List ℕ)) → AreWords words → EndsRow inside last
+pub words_are : {inside : Bool} {last : List ℕ} (words : List (List ℕ)) → AreWords words → EndsRow inside last
     → AreParts inside (map spaced_part words) last
 words_are [] each ends = ended ends
 words_are (word ∷ words) each ends = more space_gap each.0 (λ _. words_begin words ends) (words_are words each.1 ends)
@@ -150,7 +150,7 @@ data_written (part ∷ parts) last first words =
     simp append_assoc in
     apart ∙ ap (λ l. (spaced part.gap ++ (l ++ gaps_of parts)) ++ last) (sym (words_text first words))
 
-spaced_tokens : (words : List (List ℕ)) → tokens_of (map spaced_part words) ≡ map unquoted words
+pub spaced_tokens : (words : List (List ℕ)) → tokens_of (map spaced_part words) ≡ map unquoted words
 spaced_tokens [] = refl
 spaced_tokens (word ∷ words) = ap (λ l. unquoted word ∷ l) (spaced_tokens words)
 
@@ -330,7 +330,7 @@ safe_token text each some = record {
   some = λ _. some;
 }
 
-marker_token : IsToken marker
+pub marker_token : IsToken marker
 marker_token = record {
   symbols = record { symbols = SimpleEscape 35 ∷ []; each = ((((omega arith, omega arith), inl (omega arith)), tt), tt); written = refl };
   some = λ _. omega arith;
@@ -342,7 +342,7 @@ hex_token (octet ∷ octets) are =
     let word = octet ∷ octets in
     (safe_token (hex_of word) (subst (λ (l : List ℕ). AllByRecursion IsSafe l) (hex_encoded word are) (safe_16 word are)) (omega arith), tt)
 
-unknown_are : (octets : List ℕ) → AreOctets octets → length octets < 2 ^ 64 → AreWords (decimal (length octets) ∷ hex_words octets)
+pub unknown_are : (octets : List ℕ) → AreOctets octets → length octets < 2 ^ 64 → AreWords (decimal (length octets) ∷ hex_words octets)
 unknown_are octets are small =
     (safe_token (decimal (length octets)) (safe_decimal (length octets) small) (decimal_nonempty (length octets) small), hex_token octets are)
 

@@ -1,5 +1,5 @@
 -- A place in the row that was found, and what was appended for the parts before it.
-use Rattle.std.proofs.Common.{◌≡◌, ◌+◌, ◌-◌, ◌<◌, ◌≤◌, ℕ, Bool, false, List, ◌++◌, get_or, length, drop, sym, ◌∙◌, ap, arith}
+use Rattle.std.proofs.Common.{◌≡◌, ◌+◌, ◌<◌, ◌≤◌, ℕ, Bool, false, List, ◌++◌, get_or, length, drop, sym, ◌∙◌, ap, arith}
 use Rattle.std.proofs.lemmas.List.{length-map}
 use Rattle.dns_entry_scanner.specs.TokenEnd.{between}
 use Rattle.dns_entry_scanner.specs.TokenSpan.{token_in}

@@ -1,5 +1,5 @@
 -- A row whose octets were written with its data in general form.
-use Rattle.std.proofs.Common.{◌≡◌, ◌≤◌, ℕ, List, [], length, arith, refl, subst}
+use Rattle.std.proofs.Common.{◌≡◌, ◌≤◌, ℕ, List, length, arith, refl, subst}
 use Rattle.dns_label.specs.Octets.{AreOctets}
 use Rattle.dns_name.specs.UnknownText.{unknown_text}
 use Rattle.dns_scan.specs.Token.{Token}
@@ -13,7 +13,7 @@ use Rattle.zone_forms.specs.LongerRow.IsGeneralRow.{same, further}
 use Rattle.zone_forms.specs.Readable.{HasGeneralRow}
 use Rattle.zone_forms.specs.Rewritten.{AreRow, GoesGeneral, Rewrites}
 use Rattle.zone_forms.specs.Rewritten.IsWrittenAs.{same as written_same, further as written_otherwise}
-use Rattle.zone_forms.specs.Seen.{HasTypeAt, IsFound, RewritesAt, WritesGeneral, WritesNoData, octets_in, row_in}
+use Rattle.zone_forms.specs.Seen.{HasTypeAt, IsFound, RewritesAt, WritesGeneral, octets_in, row_in}
 use Rattle.zone_forms.specs.declared.found_row.FoundRow.{FoundRow}
 use Rattle.zone_forms.specs.declared.row_type.RowType.{RowType}
 use Rattle.zone_forms.proofs.GeneralRows.{general_row, rewrites_row}
@@ -46,10 +46,6 @@ module _ (row : FoundRow) {kind : RowType} (has : HasTypeAt (row_in row) kind) (
   -- they are the general row
   pub is_row : {names : Names} (writes : WritesGeneral names row kind new) → AreRow new (general_of (row_in row) has.front has.word kind.rtype writes.content)
   is_row writes = known_row row has found writes.word_is writes.content writes.octets writes.short writes.so
-
-  -- or that of a record with no octets of data
-  pub is_stand_in : WritesNoData row kind new → AreRow new (general_of (row_in row) has.front has.word kind.rtype [])
-  is_stand_in writes = known_row row has found writes.word_is [] tt (omega arith) writes.so
 
 -- and the row is its entry
 pub goes_general : {context after : Context} {entry : Entry} (row : FoundRow) {kind : RowType} (has : HasTypeAt (row_in row) kind)

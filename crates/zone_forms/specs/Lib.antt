@@ -5,6 +5,7 @@ pub mod Rewritten
 pub mod Readable
 pub mod Refused
 pub mod Presented
+pub mod StandIn
 pub mod Seen
 pub mod Presenting
 pub mod WrittenPart

@@ -4,7 +4,7 @@ use Rattle.std.specs.List.{flat_map}
 use Rattle.dns_label.specs.Octets.{AreOctets}
 use Rattle.dns_name.specs.UnknownText.{unknown_text}
 use Rattle.dns_values.specs.Mnemonic.{type_read}
-use Rattle.dns_scan.specs.Token.{Token}
+use Rattle.dns_scan.specs.Token.{Token, unquoted}
 use Rattle.dns_text.specs.Rows.{TokenRow}
 use Rattle.dns_entry_scanner.specs.RowFound.{IsRowAt}
 use Rattle.dns_entry_scanner.specs.TokenEnd.{between}
@@ -13,9 +13,9 @@ use Rattle.dns_zonefile.specs.Entry.{Context, Entry}
 use Rattle.dns_zonefile.specs.Seen.{row_of}
 use Rattle.dns_zonefile.specs.Statement.{Names}
 use Rattle.zone_forms.specs.LongerEntries.{IsLongerEntry}
-use Rattle.zone_forms.specs.LongerRow.{HasType, ScansLonger, known_word}
+use Rattle.zone_forms.specs.LongerRow.{HasType, ScansLonger, general_tokens, known_word, with_tokens}
 use Rattle.zone_forms.specs.Parts.{AreParts, Part, part_octets, row_octets, tokens_of}
-use Rattle.zone_forms.specs.Rewritten.{data_octets}
+use Rattle.zone_forms.specs.Rewritten.{AreRow, data_octets}
 use Rattle.zone_forms.specs.declared.found_row.FoundRow.{FoundRow}
 use Rattle.zone_forms.specs.declared.longer_reader.LongerReader.{LongerReader}
 use Rattle.zone_forms.specs.declared.longer_reader.RowForm.{RowForm}
@@ -73,12 +73,11 @@ pub record WritesGeneral (names : Names) (row : FoundRow) (kind : RowType) (new 
       → word ≡ known_word stated rtype
   pub so : RewritesAt row kind.index word (unknown_text content) new
 
--- the octets are the row's with a known word for its type and no octets of data
-pub record WritesNoData (row : FoundRow) (kind : RowType) (new : List ℕ) : Type 0 where
-  pub word : List ℕ
-  pub word_is : (front : List Token) (stated : Token) (rtype : ℕ) (data' : List Token) → HasType (row_in row) front stated rtype data'
-      → word ≡ known_word stated rtype
-  pub so : RewritesAt row kind.index word (unknown_text []) new
+-- the octets are the general row of the row with no octets of data
+abbrev pub WritesNoData : FoundRow → RowType → List ℕ → Type 0
+WritesNoData row kind new =
+    (front : List Token) (word : Token) (data' : List Token) → HasType (row_in row) front word kind.rtype data'
+    → AreRow new (with_tokens (row_in row) (front ++ unquoted (known_word word kind.rtype) ∷ general_tokens []))
 
 -- what the rows so far have set
 abbrev pub context_in : LongerReader → Context

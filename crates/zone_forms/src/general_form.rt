@@ -1,5 +1,5 @@
 //! The general form of data (RFC 3597 5).
-ghost use Rattle.std.specs.Prelude.{◌≡◌, ◌<◌, ◌++◌, true, OnOk};
+ghost use Rattle.std.specs.Prelude.{◌≡◌, ◌<◌, ◌≤◌, ◌*◌, ◌++◌, true, length, take, OnOk};
 ghost use Rattle.std.specs.Fmt.{digit_glyph};
 ghost use Rattle.dns_label.specs.Octets.{AreOctets};
 ghost use Rattle.dns_name.specs.UnknownText.{hex_of, unknown_text};
@@ -24,15 +24,33 @@ pub(crate) fn append_general_form(octets: &[u8], text: &mut Vec<u8>) -> Result<(
     append_hex(octets, text)
 }
 
+/// How many octets at most are written in base 16 before their digits are appended.
+const PIECE_LEN: usize = 16;
+
 /// Appends two hexadecimal digits, in capitals, for each octet.
-#[tactic(auto, using(crate::proofs::GeneralForm::hex_more))]
 fn append_hex(octets: &[u8], text: &mut Vec<u8>) -> Result<(), AllocError>
     ensures { OnOk result (text.new.items ≡ text.old.items ++ hex_of octets.now) }
 {
-    for &octet in octets {
-        text.extend_from_slice(&[hex_digit(octet / 16), hex_digit(octet % 16)])?;
+    let mut digits = [0; 2 * PIECE_LEN];
+    let mut left = octets;
+    while !left.is_empty() {
+        let (piece, behind) = left.split_at(left.len().min(PIECE_LEN));
+        write_hex(piece, &mut digits);
+        text.extend_from_slice(&digits[..2 * piece.len()])?;
+        left = behind;
     }
     Ok(())
+}
+
+/// Writes two hexadecimal digits, in capitals, for each of at most 16 octets, from the start of `digits` on.
+fn write_hex(octets: &[u8], digits: &mut [u8; 2 * PIECE_LEN])
+    requires { length octets.now ≤ 16 }
+    ensures { take (2 * length octets.now) digits.new ≡ hex_of octets.now }
+{
+    for (index, &octet) in octets.iter().enumerate() {
+        digits[2 * index] = hex_digit(octet / 16);
+        digits[2 * index + 1] = hex_digit(octet % 16);
+    }
 }
 
 /// Returns the hexadecimal digit of a number, in capitals.

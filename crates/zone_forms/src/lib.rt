@@ -19,6 +19,7 @@ mod readable;
 mod rewriting;
 mod row_data;
 mod row_type;
+mod stand_in;
 mod text_form;
 mod texts;
 

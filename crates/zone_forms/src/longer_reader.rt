@@ -1,5 +1,5 @@
 //! Reading rows by the table that has the further types too.
-ghost use Rattle.std.specs.Prelude.{◌≡◌, ◌↔◌, ◌+◌, ℕ, List, Some, false, true, drop, option_copied, IfErr, IfNone, IfOk, IfSome, IsSome, IsTrue, OnErr, OnOk};
+ghost use Rattle.std.specs.Prelude.{◌≡◌, ◌↔◌, ◌+◌, ◌++◌, ℕ, List, Some, false, true, drop, option_copied, IfErr, IfNone, IfOk, IfSome, IsSome, IsTrue, OnErr, OnOk};
 ghost use Rattle.dns_entry_scanner.specs.EntryError.{is_memory};
 ghost use Rattle.dns_entry_scanner.specs.NameInText.{SpellsUnder};
 ghost use Rattle.dns_scan.specs.Token.{Token};
@@ -16,11 +16,12 @@ use crate::general_form::append_general_form;
 use crate::rewriting::append_rewritten;
 use crate::row_data::{is_marked, scan_data};
 use crate::row_type::{RowType, row_type};
+use crate::stand_in::append_stand_in;
 use dns_fields_more::forms_of;
 use dns_name::{Class, Name, Rtype, ToName};
 use dns_zonefile::{EntryError, EntryReader, RowFound, TokenSpan, read_row};
+use itoa::Buffer;
 use std::alloc::{AllocError, Global};
-use std::fmt::Write;
 
 /// How a row reads.
 #[derive(Clone, Copy, Debug)]
@@ -38,13 +39,16 @@ pub(crate) struct LongerReader {
     entries: EntryReader,
     /// The octets of the last record. Kept from row to row only to reuse the memory.
     record: Vec<u8>,
-    /// The octets of the data of the last row that was read by its general row.
+    /// The word for the type of the last row that was read by its general row.
+    word: Vec<u8>,
+    /// The octets of the data of that row.
     data: Vec<u8>,
     /// The general form of that data.
     form: Vec<u8>,
     /// That general row.
     general: Vec<u8>,
-    /// The same row with no octets of data, which is short. It is an entry exactly if that row is, so it is read in its place.
+    /// The same row on one line and with no octets of data, which is short. It is an entry exactly if that row is, so it is read
+    /// in its place.
     stand_in: Vec<u8>,
     /// Its tokens.
     spans: Vec<TokenSpan>,
@@ -68,6 +72,7 @@ impl LongerReader {
             alloc,
             entries,
             record: Vec::new(alloc),
+            word: Vec::new(alloc),
             data: Vec::new(alloc),
             form: Vec::new(alloc),
             general: Vec::new(alloc),
@@ -145,15 +150,16 @@ impl LongerReader {
             → ScansLonger (SpellsUnder (context_in self.old).origin) kind.rtype (drop (kind.index + 1) (tokens_in row.entry)) content → ⊥) }
         ensures same { context_in self.new ≡ context_in self.old }
     {
-        let word = general_word(self.alloc, row, kind)?;
+        self.word.clear();
+        append_word(row, kind, &mut self.word)?;
         self.data.clear();
         scan_data(self.alloc, row, kind, self.entries.origin(), &mut self.data)?;
         self.form.clear();
         append_general_form(&self.data, &mut self.form)?;
         self.general.clear();
-        append_rewritten(row, kind.index, &word, &self.form, &mut self.general)?;
+        append_rewritten(row, kind.index, &self.word, &self.form, &mut self.general)?;
         self.stand_in.clear();
-        append_rewritten(row, kind.index, &word, b"\\# 0", &mut self.stand_in)?;
+        append_stand_in(row, kind.index, &self.word, &mut self.stand_in)?;
         Ok(())
     }
 
@@ -198,19 +204,17 @@ fn stands(row: FoundRow<'_>, kind: RowType) -> bool
     kind.known && (is_marked(row, kind.index) || forms_of(Rtype::from_int(kind.rtype)).is_none())
 }
 
-/// Returns the word for the type of the general row: the row's own, or if that is not known, `TYPE` and the number.
-fn general_word(alloc: Global, row: FoundRow<'_>, kind: RowType) -> Result<Vec<u8>, EntryError>
+/// Appends the word for the type of the general row: the row's own, or if that is not known, `TYPE` and the number.
+///
+/// Fails if out of memory. It may then have appended a part of the word.
+fn append_word(row: FoundRow<'_>, kind: RowType, text: &mut Vec<u8>) -> Result<(), AllocError>
     requires { HasTypeAt (row_in row) kind }
-    ensures ok { IfOk result (λ text. (front : List Token) (word : Token) (rtype : ℕ) (others : List Token)
-        → HasType (row_in row.entry) front word rtype others → text.items ≡ known_word word rtype) }
-    ensures err { IfErr result (λ error. is_memory error ≡ true) }
+    ensures { OnOk result ((front : List Token) (word : Token) (rtype : ℕ) (others : List Token)
+        → HasType (row_in row.entry) front word rtype others → text.new.items ≡ text.old.items ++ known_word word rtype) }
 {
     if kind.known {
-        return Ok(Vec::from_slice(alloc, row.token(kind.index))?);
+        return text.extend_from_slice(row.token(kind.index));
     }
-    let mut text = String::new(alloc);
-    match write!(text, "TYPE{}", kind.rtype) {
-        Ok(()) => Ok(text.into_bytes()),
-        Err(_) => Err(EntryError::OutOfMemory),
-    }
+    text.extend_from_slice(b"TYPE")?;
+    text.extend_from_slice(Buffer::new().format(kind.rtype).as_bytes())
 }

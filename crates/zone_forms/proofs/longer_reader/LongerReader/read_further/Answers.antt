@@ -8,7 +8,7 @@ use Rattle.zone_forms.specs.LongerRow.{ScansLonger}
 use Rattle.zone_forms.specs.Rewritten.{GoesGeneral}
 use Rattle.zone_forms.specs.Seen.{context_in, octets_in, row_in}
 use Rattle.zone_forms.proofs.LongerRows.{entry_with, general_of, none_further, none_scanned}
-use Rattle.zone_forms.proofs.WrittenRows.{goes_general, is_stand_in}
+use Rattle.zone_forms.proofs.WrittenRows.{goes_general}
 use Rattle.zone_forms.proofs.RowData.{if_err, on_ok}
 use Rattle.zone_forms.proofs.RowTypes.{data_at}
 use Rattle.zone_forms.proofs.longer_reader.LongerReader.read_further.Goals as goal
@@ -24,7 +24,7 @@ returns-in_err-write_general-clause-err c =
 pub read_stand_in-requires : goal.read_stand_in-requires
 read_stand_in-requires c =
     let has = c.requires.has in
-    (general_of (row_in c.args.row) has.front has.word c.args.kind.rtype [], is_stand_in c.args.row has c.requires.found c.in_ok-write_general.ensures.stand_in)
+    (general_of (row_in c.args.row) has.front has.word c.args.kind.rtype [], c.in_ok-write_general.ensures.stand_in has.front has.word has.data' has.has)
 
 pub returns-clause-ok : goal.returns-clause-ok
 returns-clause-ok c =
@@ -34,7 +34,7 @@ returns-clause-ok c =
     let stand_in = general_of (row_in c.args.row) has.front has.word c.args.kind.rtype [] in
     on_ok
     (λ read.
-    let made = read stand_in (is_stand_in c.args.row has c.requires.found c.in_ok-write_general.ensures.stand_in) in
+    let made = read stand_in (c.in_ok-write_general.ensures.stand_in has.front has.word has.data' has.has) in
     let real = entry_with has.has writes.content writes.octets writes.short []
     (subst (λ (before : spec.Context). IsEntry before stand_in made.0 after) c.in_ok-write_general.ensures.same made.1) in (
       real.0,
@@ -51,6 +51,6 @@ returns-clause-err c =
     (λ error none real.
     none_further has.has [] tt (omega arith) c.requires.not
     (λ entry after is.
-    none real stand_in entry after (is_stand_in c.args.row has c.requires.found c.in_ok-write_general.ensures.stand_in)
+    none real stand_in entry after (c.in_ok-write_general.ensures.stand_in has.front has.word has.data' has.has)
     (subst (λ (before : spec.Context). IsEntry before stand_in entry after) (sym c.in_ok-write_general.ensures.same) is)))
     c.read_stand_in.result c.read_stand_in.ensures.err
