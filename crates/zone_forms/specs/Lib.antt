@@ -6,5 +6,6 @@ pub mod Readable
 pub mod Refused
 pub mod Presented
 pub mod Seen
+pub mod Pieces
 pub mod Presenting
 pub mod WrittenPart
