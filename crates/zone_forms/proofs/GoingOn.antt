@@ -1,5 +1,5 @@
 -- A text that is gone over row by row.
-use Rattle.std.proofs.Common.{◌≡◌, ◌≢◌, ◌+◌, ◌-◌, ◌<◌, ◌≤◌, ◌^◌, ◌==◌, ◌++◌, ◌∙◌, ℕ, suc, Bool, true, false, if◌then◌else◌, List, [], ◌∷◌, length, take, drop, refl, subst, sym, ap, append_assoc, append-nil, arith, length-append, take-append-drop, Result, Ok, Err, IfErr}
+use Rattle.std.proofs.Common.{◌≡◌, ◌≢◌, ◌+◌, ◌-◌, ◌<◌, ◌^◌, ◌==◌, ◌++◌, ◌∙◌, ℕ, suc, Bool, true, false, if◌then◌else◌, List, [], ◌∷◌, length, take, drop, refl, subst, sym, ap, append_assoc, append-nil, arith, length-append, take-append-drop, Result, Ok, Err, IfErr}
 use Rattle.std.proofs.Math.Seq.{take-add}
 use Rattle.std.proofs.lemmas.List.{length-take}
 use Rattle.dns_text.specs.Rows.{BeginsWithRows, TokenRow}
@@ -8,7 +8,7 @@ use Rattle.dns_entry_scanner.specs.EntryError.{is_memory}
 use Rattle.dns_entry_scanner.specs.RowFound.{NoRow}
 use Rattle.dns_entry_scanner.specs.declared.entry_error.EntryError.{EntryError}
 use Rattle.dns_zonefile.proofs.Going.{begins-on}
-use Rattle.dns_zonefile.proofs.MarkedLines.{lines-few, lines-some}
+use Rattle.dns_zonefile.proofs.MarkedLines.{lines-few}
 use Rattle.dns_zonefile.specs.Entry.{Context, Entry}
 use Rattle.dns_zonefile.specs.Reader.{line_at, line_behind}
 use Rattle.zone_forms.proofs.FoundRows.{found_row}
@@ -223,5 +223,7 @@ fails_there {start = start} {text = text} {place = place} going few goes_on no_r
     let short : 0 + line_at text place < 2 ^ 64 = omega (arith, few, lines-few (take place text), length-take place text) in
     let both : Line (0 + line_at text place) ≡ Line line = sym (in_line short) ∙ same in
     let number : 0 + line_at text place ≡ line = cc in
+    let counted : line_at text place ≡ 0 + line_at text place = omega arith in
     subst (λ (n : ℕ). FailsInLine start text n) number
-    (subst (λ (l : List ℕ). FailsInLine start l (line_at text place)) (take-append-drop place text) (fails_broken going.gone (drop place text) goes_on no_row))
+    (subst (λ (l : List ℕ). FailsInLine start l (0 + line_at text place)) (take-append-drop place text)
+    (subst (λ (n : ℕ). FailsInLine start (take place text ++ drop place text) n) counted (fails_broken going.gone (drop place text) goes_on no_row)))

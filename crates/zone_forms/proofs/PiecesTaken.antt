@@ -1,11 +1,8 @@
 -- A text that comes in pieces, and what a rewriter has of it.
 use Rattle.std.proofs.Common.{◌≡◌, ◌+◌, ◌<◌, ◌≤◌, ◌^◌, ◌++◌, ◌∙◌, ℕ, true, false, None, List, [], ◌∷◌, length, take, drop, refl, subst, sym, ap, append_assoc, arith, length-append, take-append-drop}
-use Rattle.std.proofs.lemmas.List.{length-take}
-use Rattle.dns_text.specs.Rows.{TokenRow}
 use Rattle.dns_text.specs.Tokens.{is_end}
 use Rattle.dns_text.proofs.OneRow.{no_row_at_end}
 use Rattle.dns_entry_scanner.specs.RowFound.{IsFoundAt, NoRow}
-use Rattle.dns_entry_scanner.specs.TokenSpan.{token_in}
 use Rattle.dns_entry_scanner.specs.declared.row.RowFound.{RowFound}
 use Rattle.dns_entry_scanner.specs.declared.row.RowFound.TheVariants.{Broken, End}
 use Rattle.dns_entry_scanner.specs.declared.row.RowFound.TheVariants.{Row as Found}
@@ -13,12 +10,12 @@ use Rattle.dns_entry_scanner.specs.declared.token_span.TokenSpan.{TokenSpan}
 use Rattle.dns_zonefile.proofs.MarkedLines.{lines-few}
 use Rattle.dns_zonefile.specs.Entry.{Context, Entry}
 use Rattle.dns_zonefile.specs.Reader.{line_at, line_behind}
-use Rattle.zone_forms.proofs.GoingOn.{counted_line, fails_broken, gone_end, gone_then, lines_append}
+use Rattle.zone_forms.proofs.GoingOn.{counted_line, fails_broken, gone_end, gone_then}
 use Rattle.zone_forms.proofs.GoneTexts.{Told, general_gone, presented_gone}
 use Rattle.zone_forms.specs.Pieces.{GoesOn, HasRewritten, HasTaken, IsInForm, Refuses, goes_in}
 use Rattle.zone_forms.specs.Refused.{FailsInLine}
 use Rattle.zone_forms.specs.Rewritten.{GoesTo, HasGone}
-use Rattle.zone_forms.specs.Seen.{FailsBehind, GoesUpTo, context_in}
+use Rattle.zone_forms.specs.Seen.{GoesUpTo, context_in}
 use Rattle.zone_forms.specs.declared.rewriter.Form.{Form}
 use Rattle.zone_forms.specs.declared.rewriter.Form.TheVariants.{General, Presentation}
 use Rattle.zone_forms.specs.declared.rewriter.Rewriter.{Rewriter}
@@ -47,18 +44,6 @@ taken_on {Goes} {old} {new} {piece} {pending} {place = place} came going no_row 
             counted (omega (arith, few, line, lines-few (has.front ++ front))) ∙ sym line;
       };
 }
-
--- it fails in a row of what waited and came
-pub taken_refuses : {Goes : Told} {old : Rewriter} {piece pending : List ℕ} {line : ℕ} → pending ≡ old.pending.items ++ piece
-    → ((rest : List ℕ) → FailsBehind Goes (context_in old.reader) old.feeds (length pending) (pending ++ rest) line)
-    → Refuses (HasTaken Goes) old piece line
-taken_refuses {old = old} {piece} {pending} {line} came fails start text out rest has few =
-    let whole : text ++ piece ≡ has.front ++ pending =
-    ap (λ (l : List ℕ). l ++ piece) has.whole ∙ append_assoc has.front old.pending.items piece ∙ ap (λ (l : List ℕ). has.front ++ l) (sym came) in
-    let count : length (text ++ piece) ≡ length has.front + length pending = ap (length {A = ℕ}) whole ∙ length-append has.front pending in
-    subst (λ (l : List ℕ). FailsInLine start l line)
-    (sym (append_assoc has.front pending rest) ∙ ap (λ (l : List ℕ). l ++ rest) (sym whole))
-    (fails rest start has.front out has.gone (has.feeds (omega (arith, few, count))) (omega (arith, few, count)))
 
 -- the same for a rewriter with a form
 pub rewritten_on : {old new : Rewriter} {piece before after : List ℕ} (form : Form) → old.form ≡ form → new.form ≡ old.form → new.failed ≡ old.failed
@@ -105,10 +90,10 @@ some_left : (text : List ℕ) → is_end text ≡ false → 0 < length text
 some_left [] goes_on = absurd cc
 some_left (octet ∷ text) goes_on = omega arith
 
-pub rewritten_fails : {rewriter : Rewriter} {spans : List TokenSpan} {found : RowFound} {line : ℕ} → IsFoundAt rewriter.pending.items 0 spans found
+pub rewritten_fails : {rewriter : Rewriter} {line : ℕ} (spans : List TokenSpan) (found : RowFound) → IsFoundAt rewriter.pending.items 0 spans found
     → (found ≡ End → ⊥) → (rewriter.feeds + 1 < 2 ^ 64 → line ≡ rewriter.feeds + 1) → (form : Form) (start : Context) (text out : List ℕ)
     → HasRewritten form start text out rewriter → length text < 2 ^ 64 → FailsInLine start text line
-rewritten_fails {rewriter} {spans} {found} {line} is not told form start text out has few =
+rewritten_fails {rewriter} {line} spans found is not told form start text out has few =
     let taken = has.taken in
     let on = goes_on rewriter.pending.items spans found is not taken.no_row in
     let count : length text ≡ length taken.front + length rewriter.pending.items =

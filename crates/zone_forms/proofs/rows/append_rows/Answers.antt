@@ -1,4 +1,4 @@
-use Rattle.std.proofs.Common.{◌≡◌, ◌∙◌, ◌++◌, List, ℕ, true, drop, arith, refl, subst}
+use Rattle.std.proofs.Common.{◌≡◌, ◌∙◌, true, drop, arith, refl, subst}
 use Rattle.std.proofs.lemmas.Grind.{common_steps}
 use Rattle.dns_text.specs.Document.{Layout}
 use Rattle.dns_text.specs.Tokens.{is_end}
