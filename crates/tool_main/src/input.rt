@@ -4,13 +4,17 @@ use crate::fault::Fault;
 use crate::progress::{is_told, tell, wipe};
 use dns_name::{Class, Name};
 use std::alloc::Global;
-use std::fs;
+use std::fs::File;
 use std::io::Read;
+use std::{fs, io};
 use zone::{Zone, ZoneError};
-use zone_forms::general_rows;
+use zone_forms::{FormError, Rewriter, general_rows};
 
 /// The name of standard input.
 pub(crate) const STANDARD_INPUT: &str = "-";
+
+/// The number of octets that are read at a time. More are if more wait for the rest of their row.
+const PIECE_LEN: usize = 65536;
 
 /// What the words say of how a zone's text is read.
 #[derive(Debug, Drop)]
@@ -89,4 +93,60 @@ fn zone_of(
     let general = general_rows(alloc, &text, origin, class)?;
     drop(text);
     Zone::from_text(alloc, general, origin, class)
+}
+
+/// Returns the text of the file, or of standard input if the file is `-`, as the rewriter puts it. The text is read in pieces.
+pub(crate) fn rewritten_file<'a>(
+    rt: &HostRuntime,
+    file: &'a str,
+    rewriter: Rewriter,
+) -> Result<Vec<u8>, Fault<'a>> {
+    if file == STANDARD_INPUT {
+        return rewritten_input(rt.alloc(), file, &mut rt.stdin(), rewriter);
+    }
+    match File::open(rt, file) {
+        Ok(mut input) => rewritten_input(rt.alloc(), file, &mut input, rewriter),
+        Err(error) => Err(Fault::of_read(file, error)),
+    }
+}
+
+/// Returns the text of the input, which is the file's, as the rewriter puts it.
+fn rewritten_input<'a, R: Read>(
+    alloc: Global,
+    file: &'a str,
+    input: &mut R,
+    mut rewriter: Rewriter,
+) -> Result<Vec<u8>, Fault<'a>> {
+    let mut out = Vec::new(alloc);
+    let mut piece = Vec::new(alloc);
+    for _ in 0..u64::MAX {
+        let len = rewriter.pending().max(PIECE_LEN);
+        if let Err(error) = read_piece(input, len, &mut piece) {
+            return Err(Fault::of_read(file, error));
+        }
+        in_file(file, rewriter.feed(&piece, &mut out))?;
+        if piece.len() < len {
+            break;
+        }
+    }
+    in_file(file, rewriter.finish(&mut out))?;
+    Ok(out)
+}
+
+/// Reads the next octets of the input in place of those in the piece: that many, or fewer at the input's end.
+fn read_piece<R: Read>(input: &mut R, len: usize, piece: &mut Vec<u8>) -> io::Result<()> {
+    piece.clear();
+    input.take(len as u64).read_to_end(piece)?;
+    Ok(())
+}
+
+/// Returns the value, or why the text of the file is not rewritten.
+pub(crate) fn in_file<'a, T>(
+    file: &'a str,
+    rewritten: Result<T, FormError>,
+) -> Result<T, Fault<'a>> {
+    match rewritten {
+        Ok(value) => Ok(value),
+        Err(error) => Err(Fault::of_form(file, error)),
+    }
 }

@@ -4,15 +4,14 @@ use crate::color::{ColorChoice, colored_difference, is_colored};
 use crate::explaining::findings_of;
 use crate::fault::Fault;
 use crate::finding_text::finding_text;
-use crate::input::{Reading, ZoneRead, read_text, read_zone};
+use crate::input::{Reading, ZoneRead, in_file, read_text, read_zone, rewritten_file};
 use crate::presented::{presented_difference, presented_sorted};
 use crate::progress::{is_told, tell, wipe};
 use crate::table::table_of;
 use dns_name::{Class, Name};
 use dns_text::DisplayKind;
-use std::alloc::Global;
 use std::io::Write;
-use zone_forms::{FormError, general, present};
+use zone_forms::{Form, Rewriter};
 use zone_tool::{Selection, difference, framed_query, sorted};
 
 /// What the program does.
@@ -119,12 +118,12 @@ pub(crate) fn perform<'a>(rt: &HostRuntime, task: &Task<'a>) -> Result<bool, Fau
             reading,
             present,
         } => count_file(rt, *file, reading, *present),
-        Task::General { file, reading } => rewrite_file(rt, *file, reading, None),
+        Task::General { file, reading } => rewrite_file(rt, *file, reading, Form::General),
         Task::Present {
             file,
             reading,
             layout,
-        } => rewrite_file(rt, *file, reading, Some(*layout)),
+        } => rewrite_file(rt, *file, reading, Form::Presentation(*layout)),
         Task::Query { apex, class, id } => {
             let query = framed_query(rt.alloc(), *id, *class, &apex.for_ref())?;
             write_all(rt, query.as_slice())?;
@@ -185,10 +184,8 @@ fn diff_files<'a>(
         wipe(rt);
     }
     let lines = if presents {
-        presented(
-            new,
-            presented_difference(rt.alloc(), &lines?, reading.class),
-        )?
+        let lines = presented_difference(rt.alloc(), &lines?, reading.class);
+        in_file(new, lines)?
     } else {
         lines?
     };
@@ -246,48 +243,20 @@ fn count_file<'a>(
     Ok(true)
 }
 
-/// Writes the text of the file with data of further types in presentation form, as the layout says, or in general form.
+/// Writes the text of the file with data of further types in the form. Nothing is written if a row is no entry.
 fn rewrite_file<'a>(
     rt: &HostRuntime,
     file: &'a str,
     reading: &Reading,
-    layout: Option<DisplayKind>,
+    form: Form,
 ) -> Result<bool, Fault<'a>> {
-    let text = read_text(rt, file)?;
-    let rewritten = match &reading.origin {
-        Some(name) => rewritten(
-            rt.alloc(),
-            &text,
-            Some(&name.for_ref()),
-            reading.class,
-            layout,
-        ),
-        None => rewritten(rt.alloc(), &text, None, reading.class, layout),
+    let rewriter = match &reading.origin {
+        Some(name) => Rewriter::new(rt.alloc(), form, Some(&name.for_ref()), reading.class),
+        None => Rewriter::new(rt.alloc(), form, None, reading.class),
     };
-    write_all(rt, presented(file, rewritten)?.as_slice())?;
+    let text = rewritten_file(rt, file, rewriter?)?;
+    write_all(rt, text.as_slice())?;
     Ok(true)
-}
-
-/// Returns the text of the file in another form, or why it has none.
-fn presented<'a>(file: &'a str, text: Result<Vec<u8>, FormError>) -> Result<Vec<u8>, Fault<'a>> {
-    match text {
-        Ok(text) => Ok(text),
-        Err(error) => Err(Fault::of_form(file, error)),
-    }
-}
-
-/// Returns the text with data of further types in presentation form, as the layout says, or in general form.
-fn rewritten(
-    alloc: Global,
-    text: &[u8],
-    origin: Option<&Name<&[u8]>>,
-    class: Class,
-    layout: Option<DisplayKind>,
-) -> Result<Vec<u8>, FormError> {
-    match layout {
-        Some(kind) => present(alloc, text, origin, class, kind),
-        None => general(alloc, text, origin, class),
-    }
 }
 
 /// Writes the octets to standard output.

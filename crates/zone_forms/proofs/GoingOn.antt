@@ -1,22 +1,26 @@
 -- A text that is gone over row by row.
-use Rattle.std.proofs.Common.{◌≡◌, ◌≢◌, ◌≤◌, ◌++◌, ◌∙◌, ℕ, Bool, true, false, List, [], ◌∷◌, length, take, drop, refl, subst, sym, append_assoc, arith, take-append-drop, Result, Ok, Err, IfErr}
+use Rattle.std.proofs.Common.{◌≡◌, ◌≢◌, ◌+◌, ◌-◌, ◌<◌, ◌^◌, ◌==◌, ◌++◌, ◌∙◌, ℕ, suc, Bool, true, false, if◌then◌else◌, List, [], ◌∷◌, length, take, drop, refl, subst, sym, ap, append_assoc, append-nil, arith, length-append, take-append-drop, Result, Ok, Err, IfErr}
+use Rattle.std.proofs.Math.Seq.{take-add}
+use Rattle.std.proofs.lemmas.List.{length-take}
 use Rattle.dns_text.specs.Rows.{BeginsWithRows, TokenRow}
 use Rattle.dns_text.specs.Tokens.{is_end}
 use Rattle.dns_entry_scanner.specs.EntryError.{is_memory}
 use Rattle.dns_entry_scanner.specs.RowFound.{NoRow}
 use Rattle.dns_entry_scanner.specs.declared.entry_error.EntryError.{EntryError}
 use Rattle.dns_zonefile.proofs.Going.{begins-on}
+use Rattle.dns_zonefile.proofs.MarkedLines.{lines-few}
 use Rattle.dns_zonefile.specs.Entry.{Context, Entry}
-use Rattle.dns_zonefile.specs.Reader.{line_at}
-use Rattle.zone_forms.proofs.FoundRows.{FoundOctets, found_row}
+use Rattle.dns_zonefile.specs.Reader.{line_at, line_behind}
+use Rattle.zone_forms.proofs.FoundRows.{found_row}
 use Rattle.zone_forms.proofs.GoneTexts.{Told, bare_longer}
 use Rattle.zone_forms.proofs.RewrittenParts.{row_begins}
 use Rattle.zone_forms.specs.LongerEntries.{AreLongerEntries, IsLongerEntry}
 use Rattle.zone_forms.specs.Refused.{FailsInLine}
 use Rattle.zone_forms.specs.Refused.FailsInLine.{broken, no_entry}
-use Rattle.zone_forms.specs.Rewritten.{GoesTo}
-use Rattle.zone_forms.specs.Seen.{AppendsRow, IsFound, octets_in, row_in, tokens_in}
-use Rattle.zone_forms.specs.Seen.AppendsRow.{bare, entry}
+use Rattle.zone_forms.specs.Rewritten.{AreRow, GoesTo, HasGone, RowGoes}
+use Rattle.zone_forms.specs.Rewritten.HasGone.{none, more}
+use Rattle.zone_forms.specs.Rewritten.RowGoes.{bare, entry}
+use Rattle.zone_forms.specs.Seen.{FailsBehind, GoesUpTo, IsFound, octets_in, row_in, tokens_in}
 use Rattle.zone_forms.specs.declared.error.FormError.{FormError}
 use Rattle.zone_forms.specs.declared.error.FormError.TheVariants.{Line, OutOfMemory}
 use Rattle.zone_forms.specs.declared.found_row.FoundRow.{FoundRow}
@@ -25,15 +29,12 @@ pub if_err_weaker : {T E : Type 0} (result : Result T E) (P Q : E → Type 0) �
 if_err_weaker (Ok value) P Q weaker is = tt
 if_err_weaker (Err error) P Q weaker is = weaker error is
 
--- The rows before the place were gone over: what is left goes to a text as the whole does.
-pub record Going (Goes : Told) (start : Context) (text : List ℕ) (place : ℕ) (context : Context) (out : List ℕ) : Type 0 where
-  pub rows : List TokenRow
-  pub done : List Entry
-  pub within : place ≤ length text
-  pub begins : BeginsWithRows text rows (drop place text)
-  pub are : AreLongerEntries start rows done context
-  pub goes : (new : List ℕ) (entries : List Entry) (after : Context) → GoesTo Goes context (drop place text) new entries after
-      → GoesTo Goes start text (out ++ new) (done ++ entries) after
+-- rows that have gone are some rows before any text, and entries
+record Gone (start : Context) (front : List ℕ) (context : Context) : Type 0 where
+  rows : List TokenRow
+  entries : List Entry
+  begins : (rest : List ℕ) → BeginsWithRows (front ++ rest) rows rest
+  are : AreLongerEntries start rows entries context
 
 longer_on : {start mid after : Context} {rows others : List TokenRow} {entries more : List Entry} → AreLongerEntries start rows entries mid
     → AreLongerEntries mid others more after → AreLongerEntries start (rows ++ others) (entries ++ more) after
@@ -41,99 +42,188 @@ longer_on AreLongerEntries.none others = others
 longer_on (AreLongerEntries.bare are) others = AreLongerEntries.bare (longer_on are others)
 longer_on (AreLongerEntries.entry is are) others = AreLongerEntries.entry is (longer_on are others)
 
-pub going_start : (Goes : Told) (start : Context) (text : List ℕ) → Going Goes start text 0 start []
-going_start Goes start text = record {
-  rows = [];
-  done = [];
-  within = omega arith;
-  begins = BeginsWithRows.none;
-  are = AreLongerEntries.none;
-  goes = λ new entries after goes. goes;
-}
+row_entries : {Goes : Told} {context after : Context} {row : TokenRow} {octets others : List ℕ} → RowGoes Goes context row octets others after
+    → (entries : List Entry) × AreLongerEntries context (row ∷ []) entries after
+row_entries {context = context} {row = row} (bare empty same is) =
+    ([], subst (λ (after : Context). AreLongerEntries context (row ∷ []) [] after) (sym same) (bare_longer row empty AreLongerEntries.none))
+row_entries (entry {entry = one} some longer goes) = (one ∷ [], AreLongerEntries.entry longer AreLongerEntries.none)
 
--- the octets of the row go to others, and then what is behind it
-step : {Goes : Told} {start context : Context} {out : List ℕ} (row : FoundRow) (found : FoundOctets row)
-    → Going Goes start row.text.now row.place context out → (others : List ℕ) (next : Context) (also : List Entry)
-    → AreLongerEntries context (row_in row ∷ []) also next
-    → ((new : List ℕ) (entries : List Entry) (after : Context) → GoesTo Goes next (drop row.next row.text.now) new entries after
-    → GoesTo Goes context (octets_in row ++ drop row.next row.text.now) (others ++ new) (also ++ entries) after)
-    → row.next ≤ length row.text.now → Going Goes start row.text.now row.next next (out ++ others)
-step {Goes} {start} {context} {out} row found going others next also are goes within =
-    let text = row.text.now in
-    let rest = drop row.next text in record {
-      rows = going.rows ++ row_in row ∷ [];
-      done = going.done ++ also;
-      within = within;
-      begins = begins-on going.begins
-          (subst (λ (l : List ℕ). BeginsWithRows l (row_in row ∷ []) rest) (sym found.behind) (row_begins found.are rest));
-      are = longer_on going.are are;
-      goes = λ new entries after told.
-          let behind = subst (λ (l : List ℕ). GoesTo Goes context l (others ++ new) (also ++ entries) after) (sym found.behind)
-          (goes new entries after told) in
-          let whole = going.goes (others ++ new) (also ++ entries) after behind in
-          subst (λ (l : List ℕ). GoesTo Goes start text l ((going.done ++ also) ++ entries) after) (sym (append_assoc out others new))
-          (subst (λ (es : List Entry). GoesTo Goes start text (out ++ (others ++ new)) es after) (sym (append_assoc going.done also entries)) whole);
+gone_rows : {Goes : Told} {start context : Context} {front out : List ℕ} → HasGone Goes start front out context → Gone start front context
+gone_rows none = record { rows = []; entries = []; begins = λ rest. BeginsWithRows.none; are = AreLongerEntries.none }
+gone_rows (more {front = front} {octets = octets} {row = row} gone are goes) =
+    let before = gone_rows gone in
+    let here = row_entries goes in record {
+      rows = before.rows ++ row ∷ [];
+      entries = before.entries ++ here.0;
+      begins = λ rest. begins-on
+          (subst (λ (l : List ℕ). BeginsWithRows l before.rows (octets ++ rest)) (sym (append_assoc front octets rest)) (before.begins (octets ++ rest)))
+          (row_begins are rest);
+      are = longer_on before.are here.1;
     }
 
-pub going_row : {Goes : Told} {start context after : Context} {out new : List ℕ} (row : FoundRow) → IsFound row
-    → Going Goes start row.text.now row.place context out → AppendsRow Goes context (row_in row) (octets_in row) after out new
-    → Going Goes start row.text.now row.next after new
-going_row {Goes} {start} {context} {after} {out} {new} row is going (bare none same behind) =
-    let found = found_row row is in
-    let octets = octets_in row in
-    let plain = step row found going octets context [] (bare_longer (row_in row) none AreLongerEntries.none)
-    (λ more entries last told. GoesTo.bare octets found.are none told) is.within in
-    subst (λ (l : List ℕ). Going Goes start row.text.now row.next after l) (sym behind)
-    (subst (λ (it : Context). Going Goes start row.text.now row.next it (out ++ octets)) (sym same) plain)
-going_row {Goes} {start} {context} {after} {out} {new} row is going (entry {entry = one} others some longer told behind) =
-    let found = found_row row is in
-    let next = step row found going others after (one ∷ []) (AreLongerEntries.entry longer AreLongerEntries.none)
-    (λ more entries last goes. GoesTo.more (octets_in row) others found.are some told goes) is.within in
-    subst (λ (l : List ℕ). Going Goes start row.text.now row.next after l) (sym behind) next
+-- rows that have gone, and rows behind them
+pub gone_then : {Goes : Told} {start mid after : Context} {front front' out out' : List ℕ} → HasGone Goes start front out mid
+    → HasGone Goes mid front' out' after → HasGone Goes start (front ++ front') (out ++ out') after
+gone_then {Goes} {start} {mid} {front = front} {out = out} gone none =
+    subst (λ (l : List ℕ). HasGone Goes start l (out ++ []) mid) (sym (append-nil front))
+    (subst (λ (l : List ℕ). HasGone Goes start front l mid) (sym (append-nil out)) gone)
+gone_then {Goes} {start} {after = after} {front = front} {out = out} gone
+    (more {front = front'} {out = out'} {octets = octets} {others = others} behind are goes) =
+    subst (λ (l : List ℕ). HasGone Goes start l (out ++ (out' ++ others)) after) (append_assoc front front' octets)
+    (subst (λ (l : List ℕ). HasGone Goes start ((front ++ front') ++ octets) l after) (append_assoc out out' others)
+    (more (gone_then gone behind) are goes))
 
-pub going_end : {Goes : Told} {start context : Context} {text out new : List ℕ} {place : ℕ} → Going Goes start text place context out
-    → is_end (drop place text) ≡ true → new ≡ out ++ drop place text
-    → (entries : List Entry) × (after : Context) × GoesTo Goes start text new entries after
-going_end {Goes} {start} {context} {text} {out} {new} {place} going ends is =
-    let whole = going.goes (drop place text) [] context (GoesTo.ended ends) in
-    (going.done ++ [], context, subst (λ (l : List ℕ). GoesTo Goes start text l (going.done ++ []) context) (sym is) whole)
+-- a row before a text that goes to another
+row_goes : {Goes : Told} {context next after : Context} {row : TokenRow} {octets others text new : List ℕ} {entries : List Entry} → AreRow octets row
+    → RowGoes Goes context row octets others next → GoesTo Goes next text new entries after
+    → (all : List Entry) × GoesTo Goes context (octets ++ text) (others ++ new) all after
+row_goes {Goes} {context} {after = after} {octets = octets} {text = text} {new = new} {entries = entries} are (bare empty same is) goes = (
+  entries,
+  subst (λ (l : List ℕ). GoesTo Goes context (octets ++ text) (l ++ new) entries after) (sym is)
+      (GoesTo.bare octets are empty (subst (λ (it : Context). GoesTo Goes it text new entries after) same goes)),
+)
+row_goes {octets = octets} {others = others} {entries = entries} are (entry {entry = one} some longer told) goes =
+    (one ∷ entries, GoesTo.more octets others are some told goes)
 
-pub fails_broken : {Goes : Told} {start context : Context} {text out : List ℕ} {place : ℕ} → Going Goes start text place context out
-    → is_end (drop place text) ≡ false → NoRow (drop place text) → FailsInLine start text (line_at text place)
-fails_broken {text = text} {place = place} going goes_on none =
-    broken (take place text) (sym (take-append-drop place text)) going.begins
-    (record { rest = drop place text; begins = going.begins; goes_on = goes_on; no_row = none }) going.are
+gone_before : {Goes : Told} {start context after : Context} {front out text new : List ℕ} {entries : List Entry} → HasGone Goes start front out context
+    → GoesTo Goes context text new entries after → (all : List Entry) × GoesTo Goes start (front ++ text) (out ++ new) all after
+gone_before {entries = entries} none goes = (entries, goes)
+gone_before {Goes} {start} {after = after} {text = text} {new = new} (more {front = front} {out = out} {octets = octets} {others = others} gone are told) goes =
+    let all = gone_before gone (row_goes are told goes).1 in (
+      all.0,
+      subst (λ (l : List ℕ). GoesTo Goes start l ((out ++ others) ++ new) all.0 after) (sym (append_assoc front octets text))
+          (subst (λ (l : List ℕ). GoesTo Goes start (front ++ (octets ++ text)) l all.0 after) (sym (append_assoc out others new)) all.1),
+    )
 
-pub fails_entry : {Goes : Told} {start context : Context} {out : List ℕ} (row : FoundRow) → IsFound row
-    → Going Goes start row.text.now row.place context out → tokens_in row ≢ []
-    → ((one : Entry) (after : Context) → IsLongerEntry context (row_in row) one after → ⊥)
-    → FailsInLine start row.text.now (line_at row.text.now row.place)
-fails_entry row is going some none =
-    let text = row.text.now in
-    let found = found_row row is in
-    no_entry (take row.place text) (sym (take-append-drop row.place text)) going.begins
-    (subst (λ (l : List ℕ). BeginsWithRows l (row_in row ∷ []) (drop row.next text)) (sym found.behind) (row_begins found.are (drop row.next text)))
-    going.are some none
+-- the text ends behind them
+pub gone_end : {Goes : Told} {start context : Context} {front out : List ℕ} → HasGone Goes start front out context → (rest : List ℕ)
+    → is_end rest ≡ true → (entries : List Entry) × GoesTo Goes start (front ++ rest) (out ++ rest) entries context
+gone_end gone rest ends = gone_before gone (GoesTo.ended ends)
+
+-- the text goes on behind them, but with no row
+pub fails_broken : {Goes : Told} {start context : Context} {front out : List ℕ} → HasGone Goes start front out context → (rest : List ℕ)
+    → is_end rest ≡ false → NoRow rest → FailsInLine start (front ++ rest) (line_behind front)
+fails_broken {front = front} gone rest goes_on no_row =
+    let before = gone_rows gone in
+    broken front refl (before.begins rest) (record { rest = rest; begins = before.begins rest; goes_on = goes_on; no_row = no_row }) before.are
+
+-- or with a row that is no entry
+fails_entry : {Goes : Told} {start context : Context} {row : TokenRow} {front out octets : List ℕ} → HasGone Goes start front out context
+    → AreRow octets row → row.tokens ≢ [] → ((one : Entry) (after : Context) → IsLongerEntry context row one after → ⊥) → (rest : List ℕ)
+    → FailsInLine start (front ++ (octets ++ rest)) (line_behind front)
+fails_entry {front = front} {octets = octets} gone are some no_entry' rest =
+    let before = gone_rows gone in no_entry front refl (before.begins (octets ++ rest)) (row_begins are rest) before.are some no_entry'
+
+-- the lines of octets and of those behind them
+lines_step : (feed : Bool) (whole left right : ℕ) → whole + 1 ≡ left + right
+    → (if feed then suc whole else whole) + 1 ≡ (if feed then suc left else left) + right
+lines_step true whole left right is = omega (arith, is)
+lines_step false whole left right is = omega (arith, is)
+
+pub lines_append : (front back : List ℕ) → line_behind (front ++ back) + 1 ≡ line_behind front + line_behind back
+lines_append [] back = omega arith
+lines_append (octet ∷ front) back =
+    lines_step (octet == 10) (line_behind (front ++ back)) (line_behind front) (line_behind back) (lines_append front back)
+
+-- the number of a line that is behind a front with these line feeds
+pub counted_line : (feeds : ℕ) (front back : List ℕ) → feeds + 1 ≡ line_behind front → line_behind (front ++ back) ≡ feeds + line_behind back
+counted_line feeds front back is = omega (arith, is, lines_append front back)
+
+pub counted_few : (feeds count : ℕ) (front back : List ℕ) → feeds + 1 ≡ line_behind front → length front + length back < count
+    → feeds + line_behind back < count + 1
+counted_few feeds count front back is few =
+    omega (arith, is, few, lines_append front back, lines-few (front ++ back), length-append front back)
+
+-- a place in a text that is gone over
+pub going_start : (Goes : Told) (context : Context) (text old : List ℕ) → GoesUpTo Goes context text 0 context old old
+going_start Goes context text old = record { within = omega arith; others = []; appended = sym (append-nil old); gone = none }
+
+up_to : (row : FoundRow) → IsFound row → take row.place row.text.now ++ octets_in row ≡ take row.next row.text.now
+up_to row is =
+    let whole : row.place + (row.next - row.place) ≡ row.next = omega (arith, is.behind) in
+    sym (take-add row.place (row.next - row.place) row.text.now) ∙ ap (λ (n : ℕ). take n row.text.now) whole
+
+pub going_row : {Goes : Told} {start context after : Context} {old now others new : List ℕ} (row : FoundRow) → IsFound row
+    → GoesUpTo Goes start row.text.now row.place context old now → RowGoes Goes context (row_in row) (octets_in row) others after
+    → new ≡ now ++ others → GoesUpTo Goes start row.text.now row.next after old new
+going_row {Goes} {start} {after = after} {old = old} {others = others} row is going told appended = record {
+  within = is.within;
+  others = going.others ++ others;
+  appended = appended ∙ ap (λ (l : List ℕ). l ++ others) going.appended ∙ append_assoc old going.others others;
+  gone = subst (λ (l : List ℕ). HasGone Goes start l (going.others ++ others) after) (up_to row is)
+      (more going.gone (found_row row is).are told);
+}
 
 -- the error of a row that is no entry
-pub fails_row : {Goes : Told} {start context : Context} {out : List ℕ} (row : FoundRow) → IsFound row
-    → Going Goes start row.text.now row.place context out → (error : EntryError)
-    → (is_memory error ≡ false
-    → (tokens_in row ≢ []) × ((one : Entry) (after : Context) → IsLongerEntry context (row_in row) one after → ⊥))
-    → (told : FormError) → (is_memory error ≡ false → told ≡ Line (line_at row.text.now row.place)) → (is_memory error ≡ true → told ≡ OutOfMemory)
-    → (line : ℕ) → told ≡ Line line → FailsInLine start row.text.now line
-fails_row {start = start} row is going error none told in_line memory line same = by (is_memory error) refl
+pub fails_row : {Goes : Told} {context mid : Context} {old now : List ℕ} (feeds : ℕ) (row : FoundRow) → IsFound row
+    → GoesUpTo Goes context row.text.now row.place mid old now → (error : EntryError)
+    → (is_memory error ≡ false → (tokens_in row ≢ []) × ((one : Entry) (after : Context) → IsLongerEntry mid (row_in row) one after → ⊥))
+    → (told : FormError)
+    → (is_memory error ≡ false → feeds + line_at row.text.now row.place < 2 ^ 64 → told ≡ Line (feeds + line_at row.text.now row.place))
+    → (is_memory error ≡ true → told ≡ OutOfMemory) → (line : ℕ) → told ≡ Line line → (rest : List ℕ)
+    → FailsBehind Goes context feeds (length row.text.now) (row.text.now ++ rest) line
+fails_row {Goes} {context} feeds row is going error no_entry' told in_line memory line same rest start front out gone counted few =
+    by (is_memory error) refl
   where
-    by : (m : Bool) → is_memory error ≡ m → FailsInLine start row.text.now line
+    text : List ℕ
+    text = row.text.now
+
+    before : List ℕ
+    before = take row.place text
+
+    behind : List ℕ
+    behind = drop row.next text
+
+    whole : (front ++ before) ++ (octets_in row ++ (behind ++ rest)) ≡ front ++ (text ++ rest)
+    whole =
+        let apart : (front ++ before) ++ (octets_in row ++ (behind ++ rest)) ≡ front ++ ((before ++ (octets_in row ++ behind)) ++ rest) =
+        simp append_assoc in
+        let text_is : before ++ (octets_in row ++ behind) ≡ text =
+        ap (λ (l : List ℕ). before ++ l) (sym (found_row row is).behind) ∙ take-append-drop row.place text in
+        apart ∙ ap (λ (l : List ℕ). front ++ (l ++ rest)) text_is
+
+    short : feeds + line_at text row.place < 2 ^ 64
+    short =
+        omega (arith, counted, few, is.behind, is.within, lines_append front before, lines-few (front ++ before), length-append front before, length-take row.place text)
+
+    by : (m : Bool) → is_memory error ≡ m → FailsInLine start (front ++ (text ++ rest)) line
     by true e = let bad : OutOfMemory ≡ Line line = sym (memory e) ∙ same in cc
     by false e =
-        let one : line_at row.text.now row.place ≡ line = (let both : Line (line_at row.text.now row.place) ≡ Line line = sym (in_line e) ∙ same in cc) in
-        subst (FailsInLine start row.text.now) one (fails_entry row is going (none e).0 (none e).1)
+        let both : Line (feeds + line_at text row.place) ≡ Line line = sym (in_line e short) ∙ same in
+        let number : feeds + line_at text row.place ≡ line = cc in
+        let fails = fails_entry (gone_then gone going.gone) (found_row row is).are (no_entry' e).0 (no_entry' e).1 (behind ++ rest) in
+        subst (λ (n : ℕ). FailsInLine start (front ++ (text ++ rest)) n) (counted_line feeds front before counted ∙ number)
+        (subst (λ (l : List ℕ). FailsInLine start l (line_behind (front ++ before))) whole fails)
 
--- the error of a text that goes on, but with no row
-pub fails_there : {Goes : Told} {start context : Context} {text out : List ℕ} {place : ℕ} → Going Goes start text place context out
-    → is_end (drop place text) ≡ false → NoRow (drop place text) → (told : FormError) → told ≡ Line (line_at text place)
-    → (line : ℕ) → told ≡ Line line → FailsInLine start text line
-fails_there {start = start} {text = text} {place = place} going goes_on none told is line same =
-    let one : line_at text place ≡ line = (let both : Line (line_at text place) ≡ Line line = sym is ∙ same in cc) in
-    subst (FailsInLine start text) one (fails_broken going goes_on none)
+-- a whole text goes to another
+pub goes_whole : {Goes : Told} {start context : Context} {text old now new : List ℕ} {place : ℕ} → GoesUpTo Goes start text place context old now
+    → old ≡ [] → is_end (drop place text) ≡ true → new ≡ now ++ drop place text
+    → (entries : List Entry) × (after : Context) × GoesTo Goes start text new entries after
+goes_whole {Goes} {start} {context} {text} {new = new} {place = place} going empty ends is =
+    let goes = gone_end going.gone (drop place text) ends in
+    let octets : going.others ++ drop place text ≡ new =
+    ap (λ (l : List ℕ). (l ++ going.others) ++ drop place text) (sym empty) ∙ ap (λ (l : List ℕ). l ++ drop place text) (sym going.appended) ∙ sym is in (
+      goes.0,
+      context,
+      subst (λ (l : List ℕ). GoesTo Goes start l new goes.0 context) (take-append-drop place text)
+          (subst (λ (l : List ℕ). GoesTo Goes start (take place text ++ drop place text) l goes.0 context) octets goes.1),
+    )
+
+-- or fails in a row
+pub fails_whole : {Goes : Told} {start : Context} {text : List ℕ} {line : ℕ} → length text < 2 ^ 64
+    → ((rest : List ℕ) → FailsBehind Goes start 0 (length text) (text ++ rest) line) → FailsInLine start text line
+fails_whole {start = start} {text = text} {line = line} few fails =
+    subst (λ (l : List ℕ). FailsInLine start l line) (append-nil text) (fails [] start [] [] none refl (omega (arith, few)))
+
+-- or behind its rows
+pub fails_there : {Goes : Told} {start context : Context} {text old now : List ℕ} {place : ℕ} → GoesUpTo Goes start text place context old now
+    → length text + 1 < 2 ^ 64 → is_end (drop place text) ≡ false → NoRow (drop place text) → (told : FormError)
+    → (0 + line_at text place < 2 ^ 64 → told ≡ Line (0 + line_at text place)) → (line : ℕ) → told ≡ Line line → FailsInLine start text line
+fails_there {start = start} {text = text} {place = place} going few goes_on no_row told in_line line same =
+    let short : 0 + line_at text place < 2 ^ 64 = omega (arith, few, lines-few (take place text), length-take place text) in
+    let both : Line (0 + line_at text place) ≡ Line line = sym (in_line short) ∙ same in
+    let number : 0 + line_at text place ≡ line = cc in
+    let counted : line_at text place ≡ 0 + line_at text place = omega arith in
+    subst (λ (n : ℕ). FailsInLine start text n) number
+    (subst (λ (l : List ℕ). FailsInLine start l (0 + line_at text place)) (take-append-drop place text)
+    (subst (λ (n : ℕ). FailsInLine start (take place text ++ drop place text) n) counted (fails_broken going.gone (drop place text) goes_on no_row)))

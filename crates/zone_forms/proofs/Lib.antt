@@ -18,6 +18,7 @@ pub mod ReadRows
 pub mod FoundRows
 pub mod GoneTexts
 pub mod GoingOn
+pub mod PiecesTaken
 pub mod ReadableRows
 pub mod PlainWords
 pub mod SameRecords

@@ -7,5 +7,6 @@ pub mod Refused
 pub mod Presented
 pub mod StandIn
 pub mod Seen
+pub mod Pieces
 pub mod Presenting
 pub mod WrittenPart

@@ -7,6 +7,7 @@ use Rattle.dns_text.specs.Tokens.{Row, is_end, is_gap}
 use Rattle.dns_name.specs.UnknownText.{unknown_text}
 use Rattle.dns_entry_scanner.specs.NameInText.{SpellsUnder}
 use Rattle.dns_zonefile.specs.Entry.{Context, Entry, IsEntry}
+use Rattle.zone_forms.specs.LongerEntries.{IsLongerEntry}
 use Rattle.zone_forms.specs.LongerRow.{IsGeneralRow, Stands, general_tokens}
 use Rattle.zone_forms.specs.Parts.{AreParts, Part, part_octets, row_octets, tokens_of}
 
@@ -75,3 +76,17 @@ pub data GoesTo (Goes : Context → TokenRow → List ℕ → List ℕ → Entry
   more : {context next after : Context} {text new : List ℕ} {row : TokenRow} {entry : Entry} {entries : List Entry} (octets others : List ℕ)
       → AreRow octets row → row.tokens ≢ [] → Goes context row octets others entry next
       → GoesTo Goes next text new entries after → GoesTo Goes context (octets ++ text) (others ++ new) (entry ∷ entries) after
+
+-- what a row goes to: the same if it has no tokens, and else octets for its entry, as the relation says
+pub data RowGoes (Goes : Context → TokenRow → List ℕ → List ℕ → Entry → Context → Type 0) (context : Context) (row : TokenRow)
+    (octets others : List ℕ) (after : Context) : Type 0 where
+  bare : row.tokens ≡ [] → after ≡ context → others ≡ octets → RowGoes Goes context row octets others after
+  entry : {entry : Entry} → row.tokens ≢ [] → IsLongerEntry context row entry after → Goes context row octets others entry after
+      → RowGoes Goes context row octets others after
+
+-- The front of a text is rows, which have gone to these octets, each in the context of the rows before it.
+pub data HasGone (Goes : Context → TokenRow → List ℕ → List ℕ → Entry → Context → Type 0) (start : Context)
+    : List ℕ → List ℕ → Context → Type 0 where
+  none : HasGone Goes start [] [] start
+  more : {front out octets others : List ℕ} {row : TokenRow} {context after : Context} → HasGone Goes start front out context
+      → AreRow octets row → RowGoes Goes context row octets others after → HasGone Goes start (front ++ octets) (out ++ others) after

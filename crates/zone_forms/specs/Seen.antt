@@ -1,5 +1,5 @@
 -- The views of rows and readers. Only contracts inside the crate name them.
-use Rattle.std.specs.Prelude.{false, ◌≡◌, ◌≢◌, ◌+◌, ◌≤◌, ℕ, List, [], ◌∷◌, ◌++◌, length, map, drop, is_some}
+use Rattle.std.specs.Prelude.{false, ◌≡◌, ◌+◌, ◌^◌, ◌<◌, ◌≤◌, ℕ, List, [], ◌∷◌, ◌++◌, length, map, drop, take, is_some}
 use Rattle.std.specs.List.{flat_map}
 use Rattle.dns_label.specs.Octets.{AreOctets}
 use Rattle.dns_name.specs.UnknownText.{unknown_text}
@@ -10,12 +10,13 @@ use Rattle.dns_entry_scanner.specs.RowFound.{IsRowAt}
 use Rattle.dns_entry_scanner.specs.TokenEnd.{between}
 use Rattle.dns_entry_scanner.specs.TokenSpan.{token_in}
 use Rattle.dns_zonefile.specs.Entry.{Context, Entry}
+use Rattle.dns_zonefile.specs.Reader.{line_behind}
 use Rattle.dns_zonefile.specs.Seen.{row_of}
 use Rattle.dns_zonefile.specs.Statement.{Names}
-use Rattle.zone_forms.specs.LongerEntries.{IsLongerEntry}
 use Rattle.zone_forms.specs.LongerRow.{HasType, ScansLonger, general_tokens, known_word, with_tokens}
 use Rattle.zone_forms.specs.Parts.{AreParts, Part, part_octets, row_octets, tokens_of}
-use Rattle.zone_forms.specs.Rewritten.{AreRow, data_octets}
+use Rattle.zone_forms.specs.Refused.{FailsInLine}
+use Rattle.zone_forms.specs.Rewritten.{AreRow, HasGone, data_octets}
 use Rattle.zone_forms.specs.declared.found_row.FoundRow.{FoundRow}
 use Rattle.zone_forms.specs.declared.longer_reader.LongerReader.{LongerReader}
 use Rattle.zone_forms.specs.declared.longer_reader.RowForm.{RowForm}
@@ -88,9 +89,17 @@ abbrev pub octets_of : RowForm → List ℕ → List ℕ → List ℕ
 octets_of Same octets others = octets
 octets_of Further octets others = others
 
--- The row is appended to the old octets: as it is if it has no tokens, and else as the relation says.
-pub data AppendsRow (Goes : Context → TokenRow → List ℕ → List ℕ → Entry → Context → Type 0) (context : Context) (row : TokenRow)
-    (octets : List ℕ) (after : Context) (old new : List ℕ) : Type 0 where
-  bare : row.tokens ≡ [] → after ≡ context → new ≡ old ++ octets → AppendsRow Goes context row octets after old new
-  entry : {entry : Entry} (more : List ℕ) → row.tokens ≢ [] → IsLongerEntry context row entry after → Goes context row octets more entry after → new ≡ old ++ more
-      → AppendsRow Goes context row octets after old new
+-- the rows before the place have gone to what was appended
+pub record GoesUpTo (Goes : Context → TokenRow → List ℕ → List ℕ → Entry → Context → Type 0) (context : Context) (text : List ℕ) (place : ℕ)
+    (after : Context) (old new : List ℕ) : Type 0 where
+  pub within : place ≤ length text
+  pub others : List ℕ
+  pub appended : new ≡ old ++ others
+  pub gone : HasGone Goes context (take place text) others after
+
+-- Behind a front with this number of line feeds that has gone, the text fails in this line. Front and octets that were read are not too
+-- many to be counted.
+abbrev pub FailsBehind : (Context → TokenRow → List ℕ → List ℕ → Entry → Context → Type 0) → Context → ℕ → ℕ → List ℕ → ℕ → Type 0
+FailsBehind Goes context feeds read text line =
+    (start : Context) (front out : List ℕ) → HasGone Goes start front out context → feeds + 1 ≡ line_behind front
+    → length front + read < 2 ^ 64 → FailsInLine start (front ++ text) line

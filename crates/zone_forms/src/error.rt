@@ -1,5 +1,8 @@
 //! Why a text is not rewritten.
+ghost use Rattle.std.specs.Prelude.{◌≡◌};
+ghost use Rattle.zone_forms.specs.declared.error.FormError.TheVariants.{OutOfMemory};
 
+use std::alloc::AllocError;
 use thiserror::Error;
 
 /// Why a text is not rewritten.
@@ -11,4 +14,12 @@ pub enum FormError {
     /// Out of memory.
     #[error("out of memory")]
     OutOfMemory,
+}
+
+impl From<AllocError> for FormError {
+    ghost from_gives = { λ _ error. error ≡ OutOfMemory };
+
+    fn from(_: AllocError) -> FormError {
+        FormError::OutOfMemory
+    }
 }

@@ -7,6 +7,8 @@
 //! let text = general(alloc, text, origin, Class::IN)?;
 //! let zone = Zone::from_text(alloc, text, origin, Class::IN)?;
 //! ```
+//!
+//! A `Rewriter` takes the text in pieces, and holds no more of it than a row.
 #![tactic(auto)]
 
 mod error;
@@ -16,13 +18,16 @@ pub mod laws;
 mod longer_reader;
 mod presenting;
 mod readable;
+mod rewriter;
 mod rewriting;
 mod row_data;
 mod row_type;
+mod rows;
 mod stand_in;
 mod text_form;
 mod texts;
 
 pub use error::FormError;
 pub use readable::general_rows;
+pub use rewriter::{Form, Rewriter};
 pub use texts::{general, present};

@@ -1,11 +1,10 @@
 use Rattle.std.proofs.Common.{◌≡◌, ◌-◌, length}
-use Rattle.zone_forms.proofs.GoingOn.{Going}
-use Rattle.zone_forms.specs.Seen.{context_in}
-use Rattle.zone_forms.proofs.texts.rewrite.Given as goal
+use Rattle.zone_forms.specs.Seen.{GoesUpTo, context_in}
+use Rattle.zone_forms.proofs.rows.append_rows.Given as goal
 
 abbrev pub invariant-loop-next : goal.invariant-loop-next
 invariant-loop-next g l = record {
-  going : Going (g.F.TextForm.goes (g.F.TextForm.layout l.fn.form)) (context_in l.fn.reader) l.text l.place (context_in l.reader) l.out.items;
+  going : GoesUpTo (g.F.TextForm.goes (g.F.TextForm.layout l.fn.form)) (context_in l.fn.reader) l.text l.place (context_in l.reader) l.fn.out.items l.out.items;
   layout : g.F.TextForm.layout l.form ≡ g.F.TextForm.layout l.fn.form;
 }
 
