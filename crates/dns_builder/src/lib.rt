@@ -10,15 +10,14 @@ pub mod laws;
 mod opt;
 mod section;
 
-/// What messages are read by, for `dns_message`.
-pub use dns_sections as reading;
-/// The targets that compress names, for `dns_message`.
-pub use dns_compress as compression;
-
 pub use builder::{
     AdditionalBuilder, AnswerBuilder, AuthorityBuilder, MessageBuilder, QuestionBuilder,
     RecordSectionBuilder, SectionBuilder,
 };
+/// The targets that compress names, for `dns_message`.
+pub use dns_compress as compression;
+/// What messages are read by, for `dns_message`.
+pub use dns_sections as reading;
 pub use opt::OptBuilder;
 pub use section::{
     Additionals, Answers, Authorities, BegunSection, BuilderSection, OtherThan, Questions,

@@ -22,15 +22,15 @@ pub use dns_builder::laws::{
     built_messages_are_read_back, other_headers_are_readable, other_sections_are_readable,
     pushed_items_are_readable, taken_records_are_readable,
 };
+pub use dns_builder::reading::laws::{
+    question_and_record_cursors_end, question_and_record_errors_come_once,
+};
 pub use dns_header::laws::{
     counts_are_four_numbers, header_is_its_fields, options_are_cut_from_their_octets,
     question_orders_by_name_type_class, question_skip_stops_where_parse_stops,
     questions_in_full_are_read, record_equality_order_and_hash_agree,
     record_header_orders_by_fields, record_orders_by_owner_class_data,
     record_skip_stops_where_parse_stops,
-};
-pub use dns_builder::reading::laws::{
-    question_and_record_cursors_end, question_and_record_errors_come_once,
 };
 
 /// A message has a record at a place exactly if the code parses its header and its data there: a row of the fields of

@@ -18,21 +18,21 @@
 
 pub mod laws;
 
+pub use dns_builder::compression::{
+    Compressor, HashCompressor, HashTable, StaticCompressor, StaticTable, StreamTarget, Table,
+    TreeCompressor, TreeTable,
+};
+pub use dns_builder::reading::{
+    AnyRecordIter, CopyRecordsError, Message, MessageIter, PushError, QuestionSection, RecordIter,
+    RecordSection, RecordTarget, Section, ShortMessage,
+};
 pub use dns_builder::{
     AdditionalBuilder, Additionals, AnswerBuilder, Answers, Authorities, AuthorityBuilder,
     BegunSection, BuilderSection, MessageBuilder, OptBuilder, OtherThan, QuestionBuilder,
     Questions, RecordSectionBuilder, RecordsSection, SectionBuilder, Start,
 };
-pub use dns_builder::compression::{
-    Compressor, HashCompressor, HashTable, StaticCompressor, StaticTable, StreamTarget, Table,
-    TreeCompressor, TreeTable,
-};
 pub use dns_header::{
     ComposeQuestion, ComposeRecord, CountOverflow, Flags, FlagsFromStrError, FromStrError, Header,
     HeaderCounts, HeaderSection, Opt, OptHeader, OptIter, OptRecord, ParsedRecord,
     PresentationError, Question, Record, RecordHeader, RecordParseError,
-};
-pub use dns_builder::reading::{
-    AnyRecordIter, CopyRecordsError, Message, MessageIter, PushError, QuestionSection, RecordIter,
-    RecordSection, RecordTarget, Section, ShortMessage,
 };
