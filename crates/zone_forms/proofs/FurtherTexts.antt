@@ -1,16 +1,14 @@
 -- Data of a further type on one line: its tokens, which scan back as the data, and begin with no marker of data in general form.
-use Rattle.std.proofs.Common.{◌≡◌, ◌+◌, ◌<◌, ◌≤◌, ◌∙◌, ℕ, zero, suc, Bool, true, false, List, [], ◌∷◌, ◌++◌, length, map, refl, sym, ap, subst, arith, rules, append-nil, append_assoc, length-append}
-use Rattle.std.specs.Prelude.{◌==◌, Option, Some, None, ⊤, get_or, if◌then◌else◌, unwrap_or}
+use Rattle.std.proofs.Common.{◌≡◌, ◌∙◌, ℕ, Bool, true, false, List, [], ◌∷◌, ◌++◌, length, map, refl, sym, ap, subst, arith, rules, append-nil, append_assoc, length-append}
+use Rattle.std.specs.Prelude.{◌==◌, Option, Some, None, ⊤, get_or, if◌then◌else◌}
 use Rattle.std.specs.List.{AllByRecursion, AllZip, flat_map, join_with_byte, list_all}
 use Rattle.std.specs.Str.{chars}
 use Rattle.std.proofs.lemmas.Str.{chars-IsAscii}
-use Rattle.dns_label.specs.Name.{IsName}
-use Rattle.dns_label.specs.Octets.{AreOctets}
 use Rattle.dns_label.specs.Printed.{printed_label, printed_labels, printed_name}
 use Rattle.dns_label.specs.Symbol.{is_plain}
 use Rattle.dns_name.proofs.PrintedTexts.{printed_absolute}
 use Rattle.dns_scan.specs.Base.{Decodes}
-use Rattle.dns_scan.specs.Token.{Token, IsWord, Takes, marker, unquoted}
+use Rattle.dns_scan.specs.Token.{Token, IsWord, Takes, marker}
 use Rattle.dns_scan.specs.Token.{IsEntry as AreJoined}
 use Rattle.dns_scan.specs.declared.encoding.base.Base.TheVariants.{SixtyFour}
 use Rattle.dns_scan.proofs.Encodings.{decodes_one, encoded_decodes, is_ascii}
@@ -19,21 +17,20 @@ use Rattle.dns_text.specs.Document.Layout.{Simple}
 use Rattle.dns_text.specs.Document.Piece.{Token as printed, Open, Close}
 use Rattle.dns_text.specs.DocumentRows.{WritesToken}
 use Rattle.dns_text.specs.DocumentRows.WritesToken.{quoted, unquoted as bare}
-use Rattle.dns_text.specs.Lines.{Noted, Part, line_pieces, line_text, noted_pieces, noted_text}
+use Rattle.dns_text.specs.Lines.{Noted, line_pieces, line_text, noted_pieces, noted_text}
 use Rattle.dns_text.specs.Lines.Part.{Block}
 use Rattle.dns_text.proofs.DocumentTexts.{one_line}
-use Rattle.dns_fields.specs.Fields.{Field, octets}
+use Rattle.dns_fields.specs.Fields.{Field}
 use Rattle.dns_fields.specs.SpelledNames.{SpellPrinted}
 use Rattle.dns_fields.proofs.FieldKinds.{of_number8, of_number16, of_number32, of_rest16, of_rest64, of_uncompressed}
 use Rattle.dns_field_texts.specs.Location.{Location}
 use Rattle.dns_field_texts.specs.LocationText.{ScansLocation, SpellsAngle}
 use Rattle.dns_field_texts.proofs.LocationNumerals.{IsNear, numeral_near}
 use Rattle.dns_fields_more.specs.Forms.{AreFieldsOf, IsFieldOf, IsFurtherData, forms_in, forms_of, further}
-use Rattle.dns_fields_more.specs.Printed.{HasNoEmptyRest}
 use Rattle.dns_fields_more.specs.Text.{AppendsFurther, ScansForm, ScansForms, SpellsForm}
 use Rattle.dns_fields_more.specs.declared.form.Form.{Form}
 use Rattle.dns_fields_more.specs.declared.form.Form.TheVariants.{Number8, Number16, Number32, Name, CasedName, String, RestText, Rest16, Rest64, Rtype as RtypeForm, Algorithm, CertificateType, Time, Salt, Hash, Types, Parameters, Location as LocationForm, Eui48, Eui64}
-use Rattle.dns_rdata_more.specs.FurtherData.{forms_or_none, row_read}
+use Rattle.dns_rdata_more.specs.FurtherData.{row_read}
 use Rattle.dns_rdata_more.specs.Shown.{form_tokens, forms_tokens, further_document, further_tokens}
 use Rattle.dns_rdata_more.proofs.Rows.{forms_one}
 use Rattle.dns_rdata_more.proofs.Rows.{row_back as row_read_back}

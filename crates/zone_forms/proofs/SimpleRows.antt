@@ -15,12 +15,12 @@ use Rattle.dns_rdata_more.specs.Shown.{further_document, further_tokens}
 use Rattle.dns_entry_scanner.specs.NameInText.{SpellsUnder}
 use Rattle.dns_zonefile.proofs.OneEntry.{under_once}
 use Rattle.dns_zonefile.specs.Statement.{Names}
-use Rattle.zone_forms.specs.LongerRow.{HasType, IsMarked, ScansLonger, with_tokens}
+use Rattle.zone_forms.specs.LongerRow.{IsMarked, ScansLonger, with_tokens}
 use Rattle.zone_forms.specs.LongerRow.ScansLonger.{marked, fields}
 use Rattle.zone_forms.specs.Parts.{IsToken, token_octets}
-use Rattle.zone_forms.specs.Presented.{HasFieldsText, HasPresentation}
+use Rattle.zone_forms.specs.Presented.{HasFieldsText}
 use Rattle.zone_forms.specs.Presenting.{ReadsBack}
-use Rattle.zone_forms.specs.Seen.{HasTypeAt, IsFound, RewritesAt, row_in, tokens_in}
+use Rattle.zone_forms.specs.Seen.{HasTypeAt, IsFound, RewritesAt, row_in}
 use Rattle.zone_forms.specs.declared.found_row.FoundRow.{FoundRow}
 use Rattle.zone_forms.specs.declared.row_type.RowType.{RowType}
 use Rattle.zone_forms.proofs.FurtherTexts.{are_tokens, begins_plain, simple_text, tokens_texts}

@@ -122,7 +122,9 @@ fn printed_as<'a>(
     ensures none { IfOk result (λ printed. IfNone printed (layout_of layout ≡ Simple → HasFieldsText kind.rtype data.now → ⊥)) }
     ensures err { IfErr result (λ error. is_memory error ≡ true) }
 {
-    let scanner: RowScanner<'_, InlineName> = RowScanner::new(alloc, row.text, row.place, row.spans, origin);
+    let scanner: RowScanner<'_, InlineName> = RowScanner::new(
+        alloc, row.text, row.place, row.spans, origin,
+    );
     printed_further_data_scans_back(&scanner);
     let rtype = Rtype::from_int(kind.rtype);
     let Some(text) = fields_text(alloc, layout, rtype, data)? else {

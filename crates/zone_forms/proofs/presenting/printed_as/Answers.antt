@@ -1,4 +1,4 @@
-use Rattle.std.proofs.Common.{◌≡◌, List, [], ℕ, Option, arith, option_copied, subst}
+use Rattle.std.proofs.Common.{List, [], ℕ, Option, arith, option_copied, subst}
 use Rattle.std.proofs.lemmas.Grind.{common_steps}
 use Rattle.dns_entry_scanner.specs.NameInText.{SpellsUnder}
 use Rattle.dns_fields_more.specs.Text.{AppendsFurther}
@@ -20,9 +20,9 @@ append_rewritten-requires-clause-within c = type_within c.args.row c.requires.ha
 pub returns-clause-none : goal.returns-clause-none
 returns-clause-none c = λ simple text.
     let so : RewritesAt c.args.row c.args.kind.index (type_word_written c.args.kind.rtype)
-        (document_text (layout_of c.args.layout) (further_document c.args.kind.rtype c.args.data.now)) c.deref.result.now = grind (arith, common_steps) in
+    (document_text (layout_of c.args.layout) (further_document c.args.kind.rtype c.args.data.now)) c.deref.result.now = grind (arith, common_steps) in
     let on_line : RewritesAt c.args.row c.args.kind.index (type_word_written c.args.kind.rtype)
-        (document_text Simple (further_document c.args.kind.rtype c.args.data.now)) c.deref.result.now =
+    (document_text Simple (further_document c.args.kind.rtype c.args.data.now)) c.deref.result.now =
     subst (λ (l : Layout). RewritesAt c.args.row c.args.kind.index (type_word_written c.args.kind.rtype)
     (document_text l (further_document c.args.kind.rtype c.args.data.now)) c.deref.result.now) simple so in
     let small = octets_by_place c.args.data.now (λ i. let fits = c.type_inv.data i in omega (arith, fits)) in

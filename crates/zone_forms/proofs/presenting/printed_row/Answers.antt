@@ -26,7 +26,7 @@ returns-clause-none c =
     let same : c.deref-in-None.result.now ≡ told.0 =
     c.deref-in-None.ensures.value ∙ told.3 ∙ ap (λ (l : List ℕ). l ++ told.0) c.new-data.ensures.items in
     let scans : ScansLonger (SpellsUnder (option_copied c.args.origin)) c.in-Some.kind.rtype (drop (c.in-Some.kind.index + 1) (tokens_in c.args.row))
-        c.deref-in-None.result.now =
+    c.deref-in-None.result.now =
     subst (λ (l : List ℕ). ScansLonger (SpellsUnder (option_copied c.args.origin)) c.in-Some.kind.rtype (drop (c.in-Some.kind.index + 1) (tokens_in c.args.row)) l)
     (sym same) told.1 in
     none_weaker c.printed_as-in-None.result

@@ -76,8 +76,7 @@ returns-in-Ok-clause-ok c =
     let all : c.in-Row.next ≡ length c.args.printed.now = grind (arith, common_steps) in
     let led : c.in-Row.blank_led ≡ c.args.row.blank_led = grind (arith, common_steps) in
     let told = c.in-Ok.ensures.ok in
-    let items : c.scan_data.new.octets.items ≡ c.new-octets.result.items ++ told.0 = told.3 in
-    (
+    let items : c.scan_data.new.octets.items ≡ c.new-octets.result.items ++ told.0 = told.3 in (
       λ alike.
           let content : told.0 ≡ c.args.data.now = one_content c.eq.result c.new-octets.ensures.items told.3 c.as_slice-in-Ok.ensures.value c.eq.ensures alike in
           read_back c.args.row other found (all_octets other refl all) led same (same_content content told.1),
