@@ -23,7 +23,7 @@ use Rattle.zone_forms.specs.declared.found_row.FoundRow.{FoundRow}
 use Rattle.zone_forms.proofs.RewrittenParts.{first_token, map_tokens, parts_behind, safe_token, unknown_row}
 
 -- a token is before the type, or white space is
-front_begins : {led : Bool} {front others : List Token} → HasFront led front others → (0 < length front) ⊎ (led ≡ true)
+pub front_begins : {led : Bool} {front others : List Token} → HasFront led front others → (0 < length front) ⊎ (led ≡ true)
 front_begins last = inr refl
 front_begins own = inl (omega arith)
 

@@ -112,7 +112,7 @@ general_gone {start} {after} {text} {new} {entries} goes =
 
 longer_presented : {layout : Layout} {context : Context} {row : TokenRow} {octets new : List ℕ} {entry : Entry} {next : Context}
     → GoesPresented layout context row octets new entry next → IsLongerEntry context row entry next
-longer_presented (same longer) = longer
+longer_presented (same longer none) = longer
 longer_presented (presented shown longer among has marked scans are written is back) = longer
 
 -- the row that is printed, with the same entry
@@ -123,7 +123,7 @@ record Printed (context : Context) (new : List ℕ) (entry : Entry) (next : Cont
 
 printed_row : {layout : Layout} {context : Context} {row : TokenRow} {octets new : List ℕ} {entry : Entry} {next : Context} → AreRow octets row
     → GoesPresented layout context row octets new entry next → Printed context new entry next
-printed_row {row = row} is (same longer) = record { row = row; are = is; longer = longer }
+printed_row {row = row} is (same longer none) = record { row = row; are = is; longer = longer }
 printed_row is (presented {printed = printed} shown longer among has marked scans are written so back) =
     record { row = printed; are = so; longer = back }
 

@@ -23,6 +23,8 @@ pub mod ReadableRows
 pub mod PlainWords
 pub mod SameRecords
 pub mod ReadBack
+pub mod FurtherTexts
+pub mod SimpleRows
 pub mod PresentedRows
 pub mod NoTypeWords
 pub mod StandingRows

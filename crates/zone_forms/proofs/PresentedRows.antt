@@ -1,6 +1,6 @@
 -- A row that is printed with its data in presentation form is the entry of the row that it was printed for.
-use Rattle.std.proofs.Common.{◌≡◌, ◌≤◌, ◌++◌, ◌∙◌, ℕ, Bool, true, List, ◌∷◌, length, map, codes, decimal, is_some, None, inl, inr, refl, sym, ap, subst, arith}
-use Rattle.std.specs.Prelude.{if◌then◌else◌, Result, Ok, Err, IfErr}
+use Rattle.std.proofs.Common.{◌≡◌, ◌≤◌, ◌+◌, ◌++◌, ◌∙◌, ℕ, Bool, true, List, ◌∷◌, length, drop, map, codes, decimal, is_some, None, inl, inr, refl, sym, ap, subst, arith}
+use Rattle.std.specs.Prelude.{if◌then◌else◌, Option, Result, Ok, Err, Some, IfErr, IfNone, IfOk}
 use Rattle.std.specs.Result.{IsErrAnd}
 use Rattle.dns_values.specs.Mnemonic.{type_read}
 use Rattle.dns_name.specs.UnknownText.{hex_words}
@@ -11,16 +11,17 @@ use Rattle.dns_entry_scanner.specs.NameInText.{SpellsUnder}
 use Rattle.dns_text.specs.Document.{Layout}
 use Rattle.dns_text.specs.Rows.{TokenRow}
 use Rattle.dns_zonefile.specs.Entry.{Context, Entry, IsEntry}
-use Rattle.dns_zonefile.specs.Statement.{IsDirective}
+use Rattle.dns_zonefile.specs.Statement.{IsDirective, Names}
 use Rattle.zone_forms.specs.LongerEntries.{IsLongerEntry}
 use Rattle.zone_forms.specs.LongerRow.{HasType, IsGeneralRow, IsMarked, ScansLonger, Stands, general_tokens, known_word, with_tokens}
 use Rattle.zone_forms.specs.LongerRow.IsGeneralRow.{same, further}
-use Rattle.zone_forms.specs.Presented.{GoesPresented}
+use Rattle.zone_forms.specs.Presented.{GoesPresented, HasFieldsText, HasPresentation}
 use Rattle.zone_forms.specs.Presented.GoesPresented.{presented}
 use Rattle.zone_forms.specs.Presenting.{PrintsRow}
 use Rattle.zone_forms.specs.Rewritten.{GoesGeneral}
-use Rattle.zone_forms.specs.Seen.{IsFound, octets_in, row_in}
+use Rattle.zone_forms.specs.Seen.{HasTypeAt, IsFound, octets_in, row_in, tokens_in}
 use Rattle.zone_forms.specs.declared.found_row.FoundRow.{FoundRow}
+use Rattle.zone_forms.specs.declared.row_type.RowType.{RowType}
 use Rattle.zone_forms.proofs.GeneralRows.{rewrites_row}
 use Rattle.zone_forms.proofs.KnownWords.{known_reads}
 use Rattle.zone_forms.proofs.LongerRows.{unknown_is}
@@ -133,6 +134,32 @@ goes_printed {row} {layout} {context} {after} {entry} {new} found prints longer 
     presented prints.shown longer prints.layouts has marks scans furthers (rewrites_row found has prints.has.place prints.prints.so) back.are
     (printed_longer has marks.is (is_general marks.is scans) short longer furthers back.led back.has (sym (back.same ∙ front_taken has prints.has.place)) back.unmarked back.scans)
 
+-- A row with data that has a presentation: its type and data are those that were found.
+module _ {names : Names} (row : FoundRow) {kind : RowType} (has : HasTypeAt (row_in row) kind) (presents : HasPresentation names (row_in row)) where
+  data_found : presents.data' ≡ drop (kind.index + 1) (tokens_in row)
+  data_found = (one_type presents.has has.has).datas ∙ sym (data_at row has)
+
+  pub presents_marked : IsMarked (drop (kind.index + 1) (tokens_in row))
+  presents_marked = subst IsMarked data_found presents.marked
+
+  pub presents_scans : ScansLonger names kind.rtype (drop (kind.index + 1) (tokens_in row)) presents.content
+  presents_scans =
+      subst (λ (n : ℕ). ScansLonger names n (drop (kind.index + 1) (tokens_in row)) presents.content) (one_type presents.has has.has).types
+      (subst (λ (l : List Token). ScansLonger names presents.rtype l presents.content) data_found presents.scans)
+
+  pub presents_text : {content : List ℕ} → ScansLonger names kind.rtype (drop (kind.index + 1) (tokens_in row)) content
+      → HasFieldsText kind.rtype content
+  presents_text {content} scans =
+      let marks = presents_marked in
+      let same : presents.content ≡ content = one_unknown (is_general marks.is presents_scans) (is_general marks.is scans) in
+      subst (HasFieldsText kind.rtype) same
+      (subst (λ (n : ℕ). HasFieldsText n presents.content) (one_type presents.has has.has).types presents.text)
+
+pub none_weaker : {T E : Type 0} {P Q : Type 0} (result : Result (Option T) E) → (P → Q) → IfOk result (λ found. IfNone found P) → IfOk result (λ found. IfNone found Q)
+none_weaker (Ok (Some value)) to holds = tt
+none_weaker (Ok None) to holds = to holds
+none_weaker (Err error) to holds = tt
+
 -- an error is handed on
 pub handed_on : {A E : Type 0} (result : Result A E) (error : E) (Holds : E → Type 0) → IsErrAnd result (λ e. e ≡ error) → Holds error
     → IfErr result Holds
@@ -156,5 +183,6 @@ goes_so row old {entry = entry} {new = new} found prints told is =
     let longer = longer_is told in (entry, new, longer, goes_printed found prints longer, is)
 
 pub goes_as_is : (row : FoundRow) (old : List ℕ) {layout : Layout} {context after : Context} {entry : Entry} {general out : List ℕ}
-    → GoesGeneral context (row_in row) (octets_in row) general entry after → out ≡ old ++ octets_in row → Goes row layout context after old out
-goes_as_is row old {entry = entry} told is = let longer = longer_is told in (entry, octets_in row, longer, GoesPresented.same longer, is)
+    → GoesGeneral context (row_in row) (octets_in row) general entry after → (HasPresentation (SpellsUnder context.origin) (row_in row) → ⊥)
+    → out ≡ old ++ octets_in row → Goes row layout context after old out
+goes_as_is row old {entry = entry} told none is = let longer = longer_is told in (entry, octets_in row, longer, GoesPresented.same longer none, is)

@@ -1,4 +1,4 @@
--- The octets of a row with another word for its type and another text of words for its data are a row.
+-- The octets of a row with another word for its type and other tokens for its data are a row.
 use Rattle.std.proofs.Common.{◌≡◌, ◌⊎◌, ◌<◌, ◌^◌, ℕ, Bool, true, false, List, [], ◌∷◌, ◌++◌, length, map, decimal, if◌then◌else◌, inl, inr, refl, sym, ◌∙◌, ap, subst, arith, append_assoc, append-nil}
 use Rattle.std.proofs.lemmas.List.{length-map}
 use Rattle.std.proofs.lemmas.Bool.{false≢true}
@@ -8,7 +8,7 @@ use Rattle.std.specs.List.{AllByRecursion, flat_map, join_with_byte, list_all}
 use Rattle.dns_label.specs.Octets.{AreOctets}
 use Rattle.dns_label.specs.declared.symbol.Symbol.TheVariants.{Char, SimpleEscape}
 use Rattle.dns_label.specs.Symbol.{spelled}
-use Rattle.dns_name.specs.UnknownText.{hex_of, hex_words, unknown_text}
+use Rattle.dns_name.specs.UnknownText.{hex_of, hex_words, unknown_text, unknown_words}
 use Rattle.dns_scan.specs.Token.{Token, marker, unquoted}
 use Rattle.dns_scan.proofs.HexWords.{hex_encoded}
 use Rattle.dns_entry_scanner.proofs.Rows.{row_shorter}
@@ -51,13 +51,12 @@ row_begins {octets} {row} are rest =
     subst (λ (b : Bool). BeginsWithRows (octets ++ rest) (record { blank_led = b; tokens = row.tokens } ∷ []) rest) led
     (more_rows (row_before are.is rest) no_rows)
 
--- the words of a text, each after a space
-abbrev pub spaced_part : List ℕ → Part
-spaced_part word = record { gap = 32 ∷ []; token = unquoted word }
+-- a token of a text, after a space
+abbrev pub spaced_part : Token → Part
+spaced_part token = record { gap = 32 ∷ []; token = token }
 
--- each word may be a token
-abbrev pub AreWords : List (List ℕ) → Type 0
-AreWords words = AllByRecursion (λ word. IsToken (unquoted word)) words
+abbrev pub AreTokens : List Token → Type 0
+AreTokens tokens = AllByRecursion IsToken tokens
 
 space_goes : (inside : Bool) → head_of inside 32 ≡ Go inside
 space_goes true = refl
@@ -71,24 +70,28 @@ spaced_gap none = space_gap
 spaced_gap (goes head first) = goes head first
 spaced_gap (comment text no_feed first) = comment text no_feed first
 
-pub words_begin : {inside : Bool} {last : List ℕ} (words : List (List ℕ)) → EndsRow inside last → BeginsWithEnd (row_octets (map spaced_part words) last)
-words_begin [] ends = ends_begin ends
-words_begin {last = last} (word ∷ words) ends = begins_at ((word ++ flat_map part_octets (map spaced_part words)) ++ last) refl
+pub tokens_begin : {inside : Bool} {last : List ℕ} (tokens : List Token) → EndsRow inside last → BeginsWithEnd (row_octets (map spaced_part tokens) last)
+tokens_begin [] ends = ends_begin ends
+tokens_begin {last = last} (token ∷ tokens) ends = begins_at ((token_octets token ++ flat_map part_octets (map spaced_part tokens)) ++ last) refl
 
-pub words_are : {inside : Bool} {last : List ℕ} (words : List (List ℕ)) → AreWords words → EndsRow inside last
-    → AreParts inside (map spaced_part words) last
-words_are [] each ends = ended ends
-words_are (word ∷ words) each ends = more space_gap each.0 (λ _. words_begin words ends) (words_are words each.1 ends)
+pub tokens_are : {inside : Bool} {last : List ℕ} (tokens : List Token) → AreTokens tokens → EndsRow inside last
+    → AreParts inside (map spaced_part tokens) last
+tokens_are [] each ends = ended ends
+tokens_are (token ∷ tokens) each ends = more space_gap each.0 (λ _. tokens_begin tokens ends) (tokens_are tokens each.1 ends)
 
--- the text of words, the first alone
-words_text : (first : List ℕ) (words : List (List ℕ)) → join_with_byte 32 (first ∷ words) ≡ first ++ flat_map part_octets (map spaced_part words)
-words_text first [] = sym (append-nil first)
-words_text first (word ∷ words) = ap (λ l. first ++ (32 ∷ l)) (words_text word words)
+-- tokens as they are written, with one space between any two
+abbrev pub spaced_text : List Token → List ℕ
+spaced_text tokens = join_with_byte 32 (map token_octets tokens)
 
--- the new data: these words, the first after what was before the data
-abbrev pub data_parts_of : List Part → List ℕ → List (List ℕ) → List Part
-data_parts_of [] first words = spaced_part first ∷ map spaced_part words
-data_parts_of (part ∷ parts) first words = record { gap = spaced part.gap; token = unquoted first } ∷ map spaced_part words
+tokens_text : (first : Token) (tokens : List Token)
+    → spaced_text (first ∷ tokens) ≡ token_octets first ++ flat_map part_octets (map spaced_part tokens)
+tokens_text first [] = sym (append-nil (token_octets first))
+tokens_text first (token ∷ tokens) = ap (λ l. token_octets first ++ (32 ∷ l)) (tokens_text token tokens)
+
+-- the new data: these tokens, the first after what was before the data
+abbrev pub data_parts_of : List Part → Token → List Token → List Part
+data_parts_of [] first tokens = spaced_part first ∷ map spaced_part tokens
+data_parts_of (part ∷ parts) first tokens = record { gap = spaced part.gap; token = first } ∷ map spaced_part tokens
 
 abbrev pub last_of : List Part → List ℕ → List ℕ
 last_of [] last = last
@@ -120,11 +123,11 @@ gaps_end (ended ends) = ends
 gaps_end {inside} (more {part = part} {parts = parts} {last = last} between is begins others) =
     subst (λ l. EndsRow inside l) (sym (append_assoc (kept part.gap) (gaps_of parts) last)) (gap_ends (kept_gap between) (gaps_end others))
 
-pub data_are : {inside : Bool} {parts : List Part} {last : List ℕ} (first : List ℕ) (words : List (List ℕ)) → AreParts inside parts last
-    → IsToken (unquoted first) → AreWords words → AreParts inside (data_parts_of parts first words) (last_of parts last)
-data_are first words (ended ends) is each = more space_gap is (λ _. words_begin words ends) (words_are words each ends)
-data_are first words (more gap token begins others) is each =
-    let ends = gaps_end others in more (spaced_gap gap) is (λ _. words_begin words ends) (words_are words each ends)
+pub data_are : {inside : Bool} {parts : List Part} {last : List ℕ} (first : Token) (tokens : List Token) → AreParts inside parts last
+    → IsToken first → AreTokens tokens → AreParts inside (data_parts_of parts first tokens) (last_of parts last)
+data_are first tokens (ended ends) is each = more space_gap is (λ _. tokens_begin tokens ends) (tokens_are tokens each ends)
+data_are first tokens (more gap token begins others) is each =
+    let ends = gaps_end others in more (spaced_gap gap) is (λ _. tokens_begin tokens ends) (tokens_are tokens each ends)
 
 spaced_begin : {inside out : Bool} {gap : List ℕ} (rest : List ℕ) → IsGap inside gap out → BeginsWithEnd (spaced gap ++ rest)
 spaced_begin rest none = begins_at rest refl
@@ -132,42 +135,44 @@ spaced_begin {inside} rest (goes {behind = behind} {octet = octet} {gap = gap} h
     begins_at (gap ++ rest) (go_ends inside behind octet head)
 spaced_begin rest (comment {gap = gap} text no_feed first) = begins_at ((text ++ 10 ∷ gap) ++ rest) refl
 
-data_begin : {inside : Bool} {parts : List Part} {last : List ℕ} (first : List ℕ) (words : List (List ℕ)) → AreParts inside parts last
-    → BeginsWithEnd (row_octets (data_parts_of parts first words) (last_of parts last))
-data_begin {last = last} first words (ended ends) = begins_at ((first ++ flat_map part_octets (map spaced_part words)) ++ last) refl
-data_begin {last = last} first words (more {part = part} {parts = parts} gap token begins others) =
-    let text = flat_map part_octets (map spaced_part words) in
-    let apart : spaced part.gap ++ ((first ++ text) ++ (gaps_of parts ++ last)) ≡ ((spaced part.gap ++ first) ++ text) ++ (gaps_of parts ++ last) =
+data_begin : {inside : Bool} {parts : List Part} {last : List ℕ} (first : Token) (tokens : List Token) → AreParts inside parts last
+    → BeginsWithEnd (row_octets (data_parts_of parts first tokens) (last_of parts last))
+data_begin {last = last} first tokens (ended ends) =
+    begins_at ((token_octets first ++ flat_map part_octets (map spaced_part tokens)) ++ last) refl
+data_begin {last = last} first tokens (more {part = part} {parts = parts} gap token begins others) =
+    let text = flat_map part_octets (map spaced_part tokens) in
+    let octets = token_octets first in
+    let apart : spaced part.gap ++ ((octets ++ text) ++ (gaps_of parts ++ last)) ≡ ((spaced part.gap ++ octets) ++ text) ++ (gaps_of parts ++ last) =
     simp append_assoc in
-    subst BeginsWithEnd apart (spaced_begin ((first ++ text) ++ (gaps_of parts ++ last)) gap)
+    subst BeginsWithEnd apart (spaced_begin ((octets ++ text) ++ (gaps_of parts ++ last)) gap)
 
-data_written : (parts : List Part) (last first : List ℕ) (words : List (List ℕ))
-    → row_octets (data_parts_of parts first words) (last_of parts last) ≡ data_octets parts (join_with_byte 32 (first ∷ words)) ++ last
-data_written [] last first words = ap (λ l. 32 ∷ (l ++ last)) (sym (words_text first words))
-data_written (part ∷ parts) last first words =
-    let text = flat_map part_octets (map spaced_part words) in
-    let apart : ((spaced part.gap ++ first) ++ text) ++ (gaps_of parts ++ last) ≡ (spaced part.gap ++ ((first ++ text) ++ gaps_of parts)) ++ last =
+data_written : (parts : List Part) (last : List ℕ) (first : Token) (tokens : List Token)
+    → row_octets (data_parts_of parts first tokens) (last_of parts last) ≡ data_octets parts (spaced_text (first ∷ tokens)) ++ last
+data_written [] last first tokens = ap (λ l. 32 ∷ (l ++ last)) (sym (tokens_text first tokens))
+data_written (part ∷ parts) last first tokens =
+    let text = flat_map part_octets (map spaced_part tokens) in
+    let octets = token_octets first in
+    let apart : ((spaced part.gap ++ octets) ++ text) ++ (gaps_of parts ++ last) ≡ (spaced part.gap ++ ((octets ++ text) ++ gaps_of parts)) ++ last =
     simp append_assoc in
-    apart ∙ ap (λ l. (spaced part.gap ++ (l ++ gaps_of parts)) ++ last) (sym (words_text first words))
+    apart ∙ ap (λ l. (spaced part.gap ++ (l ++ gaps_of parts)) ++ last) (sym (tokens_text first tokens))
 
-pub spaced_tokens : (words : List (List ℕ)) → tokens_of (map spaced_part words) ≡ map unquoted words
+pub spaced_tokens : (tokens : List Token) → tokens_of (map spaced_part tokens) ≡ tokens
 spaced_tokens [] = refl
-spaced_tokens (word ∷ words) = ap (λ l. unquoted word ∷ l) (spaced_tokens words)
+spaced_tokens (token ∷ tokens) = ap (λ l. token ∷ l) (spaced_tokens tokens)
 
-data_tokens : (parts : List Part) (first : List ℕ) (words : List (List ℕ))
-    → tokens_of (data_parts_of parts first words) ≡ map unquoted (first ∷ words)
-data_tokens [] first words = ap (λ l. unquoted first ∷ l) (spaced_tokens words)
-data_tokens (part ∷ parts) first words = ap (λ l. unquoted first ∷ l) (spaced_tokens words)
+data_tokens : (parts : List Part) (first : Token) (tokens : List Token) → tokens_of (data_parts_of parts first tokens) ≡ first ∷ tokens
+data_tokens [] first tokens = ap (λ l. first ∷ l) (spaced_tokens tokens)
+data_tokens (part ∷ parts) first tokens = ap (λ l. first ∷ l) (spaced_tokens tokens)
 
 -- the type's part with another word
 abbrev pub part_with : Part → List ℕ → Part
 part_with part word = record { gap = part.gap; token = unquoted word }
 
-type_are : {inside : Bool} (type_part : Part) (data_parts : List Part) (last word first : List ℕ) (words : List (List ℕ))
-    → IsToken (unquoted word) → IsToken (unquoted first) → AreWords words → AreParts inside (type_part ∷ data_parts) last
-    → AreParts inside (part_with type_part word ∷ data_parts_of data_parts first words) (last_of data_parts last)
-type_are type_part data_parts last word first words is is_first each (more gap token begins others) =
-    more gap is (λ _. data_begin first words others) (data_are first words others is_first each)
+type_are : {inside : Bool} (type_part : Part) (data_parts : List Part) (last word : List ℕ) (first : Token) (tokens : List Token)
+    → IsToken (unquoted word) → IsToken first → AreTokens tokens → AreParts inside (type_part ∷ data_parts) last
+    → AreParts inside (part_with type_part word ∷ data_parts_of data_parts first tokens) (last_of data_parts last)
+type_are type_part data_parts last word first tokens is is_first each (more gap token begins others) =
+    more gap is (λ _. data_begin first tokens others) (data_are first tokens others is_first each)
 
 -- A word before the type's word ends as before: with what is before that word.
 type_begins : (gap : List ℕ) (found : Token) (behind behind' : List ℕ) → IsToken found → found.quoted ≡ false
@@ -249,39 +254,39 @@ rewritten_octets front type_part data_parts last word text =
     flat_map part_octets front ++ (type_part.gap ++ (word ++ (data_octets data_parts text ++ last)))
 
 -- They are the new parts, and so a row.
-pub rewritten_are : (front : List Part) (type_part : Part) (data_parts : List Part) (last word first : List ℕ) (words : List (List ℕ))
+pub rewritten_are : (front : List Part) (type_part : Part) (data_parts : List Part) (last word : List ℕ) (first : Token) (tokens : List Token)
     → AreParts false (front ++ type_part ∷ data_parts) last → type_part.token.quoted ≡ false → IsToken (unquoted word)
-    → IsToken (unquoted first) → AreWords words
-    → AreParts false (front ++ part_with type_part word ∷ data_parts_of data_parts first words) (last_of data_parts last)
-rewritten_are front type_part data_parts last word first words are bare is is_first each =
-    let new_parts = part_with type_part word ∷ data_parts_of data_parts first words in
+    → IsToken first → AreTokens tokens
+    → AreParts false (front ++ part_with type_part word ∷ data_parts_of data_parts first tokens) (last_of data_parts last)
+rewritten_are front type_part data_parts last word first tokens are bare is is_first each =
+    let new_parts = part_with type_part word ∷ data_parts_of data_parts first tokens in
     let new_last = last_of data_parts last in
     let at = parts_behind front (type_part ∷ data_parts) last are in
     let begins = λ (ends : BeginsWithEnd (row_octets (type_part ∷ data_parts) last)).
-    subst BeginsWithEnd (sym (parts_apart (part_with type_part word) (data_parts_of data_parts first words) new_last))
-    (type_begins type_part.gap type_part.token (row_octets data_parts last) (word ++ row_octets (data_parts_of data_parts first words) new_last)
+    subst BeginsWithEnd (sym (parts_apart (part_with type_part word) (data_parts_of data_parts first tokens) new_last))
+    (type_begins type_part.gap type_part.token (row_octets data_parts last) (word ++ row_octets (data_parts_of data_parts first tokens) new_last)
     (first_token at.1) bare (subst BeginsWithEnd (parts_apart type_part data_parts last) ends)) in
     front_are front (type_part ∷ data_parts) new_parts last new_last are
-    (λ out. type_are type_part data_parts last word first words is is_first each) begins
+    (λ out. type_are type_part data_parts last word first tokens is is_first each) begins
 
-pub rewritten_row : (front : List Part) (type_part : Part) (data_parts : List Part) (last word first : List ℕ) (words : List (List ℕ))
+pub rewritten_row : (front : List Part) (type_part : Part) (data_parts : List Part) (last word : List ℕ) (first : Token) (tokens : List Token)
     → AreParts false (front ++ type_part ∷ data_parts) last → type_part.token.quoted ≡ false → IsToken (unquoted word)
-    → IsToken (unquoted first) → AreWords words
-    → Row false (rewritten_octets front type_part data_parts last word (join_with_byte 32 (first ∷ words)))
-    (tokens_of front ++ unquoted word ∷ map unquoted (first ∷ words)) []
-rewritten_row front type_part data_parts last word first words are bare is is_first each =
-    let new_data = data_parts_of data_parts first words in
+    → IsToken first → AreTokens tokens
+    → Row false (rewritten_octets front type_part data_parts last word (spaced_text (first ∷ tokens)))
+    (tokens_of front ++ unquoted word ∷ first ∷ tokens) []
+rewritten_row front type_part data_parts last word first tokens are bare is is_first each =
+    let new_data = data_parts_of data_parts first tokens in
     let new_last = last_of data_parts last in
     let parts = front ++ part_with type_part word ∷ new_data in
-    let row = parts_row parts (rewritten_are front type_part data_parts last word first words are bare is is_first each) [] in
-    let tokens : tokens_of parts ≡ tokens_of front ++ unquoted word ∷ map unquoted (first ∷ words) =
-    map_tokens front (part_with type_part word ∷ new_data) ∙ ap (λ l. tokens_of front ++ unquoted word ∷ l) (data_tokens data_parts first words) in
-    let written : row_octets parts new_last ++ [] ≡ rewritten_octets front type_part data_parts last word (join_with_byte 32 (first ∷ words)) =
+    let row = parts_row parts (rewritten_are front type_part data_parts last word first tokens are bare is is_first each) [] in
+    let all : tokens_of parts ≡ tokens_of front ++ unquoted word ∷ first ∷ tokens =
+    map_tokens front (part_with type_part word ∷ new_data) ∙ ap (λ l. tokens_of front ++ unquoted word ∷ l) (data_tokens data_parts first tokens) in
+    let written : row_octets parts new_last ++ [] ≡ rewritten_octets front type_part data_parts last word (spaced_text (first ∷ tokens)) =
     append-nil (row_octets parts new_last) ∙ front_octets front (part_with type_part word ∷ new_data) new_last
     ∙ ap (λ l. flat_map part_octets front ++ l) (parts_apart (part_with type_part word) new_data new_last)
-    ∙ ap (λ l. flat_map part_octets front ++ (type_part.gap ++ (word ++ l))) (data_written data_parts last first words) in
-    subst (λ (l : List ℕ). Row false l (tokens_of front ++ unquoted word ∷ map unquoted (first ∷ words)) []) written
-    (subst (λ (l : List Token). Row false (row_octets parts new_last ++ []) l []) tokens row)
+    ∙ ap (λ l. flat_map part_octets front ++ (type_part.gap ++ (word ++ l))) (data_written data_parts last first tokens) in
+    subst (λ (l : List ℕ). Row false l (tokens_of front ++ unquoted word ∷ first ∷ tokens) []) written
+    (subst (λ (l : List Token). Row false (row_octets parts new_last ++ []) l []) all row)
 
 -- It begins with white space exactly if the row does, provided that a token or white space is before the type.
 led_front : (front : List Part) (type_part : Part) (data_parts : List Part) (last behind : List ℕ) → 0 < length front
@@ -336,35 +341,49 @@ marker_token = record {
   some = λ _. omega arith;
 }
 
-hex_token : (octets : List ℕ) → AreOctets octets → AreWords (hex_words octets)
+hex_token : (octets : List ℕ) → AreOctets octets → AreTokens (map unquoted (hex_words octets))
 hex_token [] are = tt
 hex_token (octet ∷ octets) are =
     let word = octet ∷ octets in
     (safe_token (hex_of word) (subst (λ (l : List ℕ). AllByRecursion IsSafe l) (hex_encoded word are) (safe_16 word are)) (omega arith), tt)
 
-pub unknown_are : (octets : List ℕ) → AreOctets octets → length octets < 2 ^ 64 → AreWords (decimal (length octets) ∷ hex_words octets)
+pub unknown_are : (octets : List ℕ) → AreOctets octets → length octets < 2 ^ 64
+    → AreTokens (unquoted (decimal (length octets)) ∷ map unquoted (hex_words octets))
 unknown_are octets are small =
     (safe_token (decimal (length octets)) (safe_decimal (length octets) small) (decimal_nonempty (length octets) small), hex_token octets are)
 
--- The new octets are the row with the word, and with the words of unknown data in place of its data.
-pub unknown_row : (content : List ℕ) {row : TokenRow} {front data' : List Token} {word : Token} {other octets new : List ℕ}
-    → Rewrites row front word data' other (unknown_text content) octets new → word.quoted ≡ false
-    → (0 < length front) ⊎ (row.blank_led ≡ true) → IsToken (unquoted other) → AreOctets content → length content < 2 ^ 64
-    → AreRow new (with_tokens row (front ++ unquoted other ∷ general_tokens content))
-unknown_row content {row} {front} {data'} {word} {other} {octets} {new} makes bare begins is are small =
-    let words = decimal (length content) ∷ hex_words content in
+-- The new octets are the row with the word, and with these tokens in place of its data.
+pub tokens_row : (first : Token) (tokens : List Token) {row : TokenRow} {front data' : List Token} {word : Token} {other text octets new : List ℕ}
+    → Rewrites row front word data' other text octets new → text ≡ spaced_text (first ∷ tokens) → word.quoted ≡ false
+    → (0 < length front) ⊎ (row.blank_led ≡ true) → IsToken (unquoted other) → IsToken first → AreTokens tokens
+    → AreRow new (with_tokens row (front ++ unquoted other ∷ first ∷ tokens))
+tokens_row first tokens {row} {front} {data'} {word} {other} {text} {octets} {new} makes text_is bare begins is is_first each =
     let type_bare : makes.type_part.token.quoted ≡ false = ap (λ (t : Token). t.quoted) makes.type_is ∙ bare in
-    let made = rewritten_row makes.front_parts makes.type_part makes.data_parts makes.last other (92 ∷ 35 ∷ []) words makes.are type_bare is
-    marker_token (unknown_are content are small) in
+    let made = rewritten_row makes.front_parts makes.type_part makes.data_parts makes.last other first tokens makes.are type_bare is is_first each in
     let start : (0 < length makes.front_parts) ⊎ (is_led (row_octets (makes.front_parts ++ makes.type_part ∷ makes.data_parts) makes.last) ≡ true) =
     elim begins [
       | inl some ↦ inl (omega (arith, some, ap (length {A = Token}) makes.front_is, length-map makes.front_parts (λ (p : Part). p.token)))
       | inr led ↦ inr (ap is_led (sym makes.written) ∙ sym makes.led ∙ led)
     ] in
-    let same = rewritten_led makes.front_parts makes.type_part makes.data_parts makes.last other (unknown_text content) makes.are type_bare start in
+    let same = rewritten_led makes.front_parts makes.type_part makes.data_parts makes.last other text makes.are type_bare start in
+    let octets_are : rewritten_octets makes.front_parts makes.type_part makes.data_parts makes.last other (spaced_text (first ∷ tokens)) ≡ new =
+    ap (rewritten_octets makes.front_parts makes.type_part makes.data_parts makes.last other) (sym text_is) ∙ sym makes.rewritten in
     record {
       is =
-          subst (λ (l : List Token). Row false new (l ++ unquoted other ∷ general_tokens content) []) makes.front_is
-          (subst (λ (l : List ℕ). Row false l (tokens_of makes.front_parts ++ unquoted other ∷ general_tokens content) []) (sym makes.rewritten) made);
+          subst (λ (l : List Token). Row false new (l ++ unquoted other ∷ first ∷ tokens) []) makes.front_is
+          (subst (λ (l : List ℕ). Row false l (tokens_of makes.front_parts ++ unquoted other ∷ first ∷ tokens) []) octets_are made);
       led = makes.led ∙ ap is_led makes.written ∙ sym same ∙ ap is_led (sym makes.rewritten);
     }
+
+words_octets : (words : List (List ℕ)) → map token_octets (map unquoted words) ≡ words
+words_octets [] = refl
+words_octets (word ∷ words) = ap (λ l. word ∷ l) (words_octets words)
+
+-- So it is with the words of unknown data.
+pub unknown_row : (content : List ℕ) {row : TokenRow} {front data' : List Token} {word : Token} {other octets new : List ℕ}
+    → Rewrites row front word data' other (unknown_text content) octets new → word.quoted ≡ false
+    → (0 < length front) ⊎ (row.blank_led ≡ true) → IsToken (unquoted other) → AreOctets content → length content < 2 ^ 64
+    → AreRow new (with_tokens row (front ++ unquoted other ∷ general_tokens content))
+unknown_row content makes bare begins is are small =
+    tokens_row marker (unquoted (decimal (length content)) ∷ map unquoted (hex_words content)) makes
+    (ap (join_with_byte 32) (sym (words_octets (unknown_words content)))) bare begins is marker_token (unknown_are content are small)

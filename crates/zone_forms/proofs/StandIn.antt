@@ -3,7 +3,6 @@ use Rattle.std.proofs.Common.{◌≡◌, ℕ, Bool, true, false, List, [], ◌�
 use Rattle.std.proofs.lemmas.Fmt.{decimal_digit}
 use Rattle.std.proofs.lemmas.List.{take_at}
 use Rattle.std.specs.List.{AllByRecursion, flat_map}
-use Rattle.dns_name.specs.UnknownText.{unknown_words}
 use Rattle.dns_scan.specs.Token.{Token, unquoted}
 use Rattle.dns_text.specs.Rows.{TokenRow, is_led}
 use Rattle.dns_text.specs.Tokens.{Row}
@@ -22,7 +21,7 @@ use Rattle.zone_forms.specs.declared.found_row.FoundRow.{FoundRow}
 use Rattle.zone_forms.specs.declared.row_type.RowType.{RowType}
 use Rattle.zone_forms.proofs.GeneralRows.{known_token}
 use Rattle.zone_forms.proofs.KnownWords.{type_word_below}
-use Rattle.zone_forms.proofs.RewrittenParts.{AreWords, marker_token, space_gap, spaced_part, spaced_tokens, unknown_are, words_are, words_begin}
+use Rattle.zone_forms.proofs.RewrittenParts.{AreTokens, marker_token, space_gap, spaced_part, spaced_tokens, tokens_are, tokens_begin, unknown_are}
 use Rattle.zone_forms.proofs.RowParts.{begins_at, cut_token, parts_apart, parts_row, token_first}
 use Rattle.zone_forms.proofs.RowTypes.{one_type}
 
@@ -40,29 +39,29 @@ token_behind [] word others each = each.0
 token_behind (first ∷ front) word others each = token_behind front word others each.1
 
 -- no octets of data, and a line feed
-no_words : AreWords (unknown_words [])
-no_words = (marker_token, unknown_are [] tt (omega arith))
+no_tokens : AreTokens (general_tokens [])
+no_tokens = (marker_token, unknown_are [] tt (omega arith))
 
 feed_ends : EndsRow false (10 ∷ [])
 feed_ends = record { gap = []; comment = []; is_gap = none; is_comment = nothing; written = refl }
 
 -- the parts of the row, by the octets before the first
 abbrev line_parts : List ℕ → List Token → List ℕ → List Part
-line_parts gap [] word = record { gap = gap; token = unquoted word } ∷ map spaced_part (unknown_words [])
+line_parts gap [] word = record { gap = gap; token = unquoted word } ∷ map spaced_part (general_tokens [])
 line_parts gap (first ∷ front) word = record { gap = gap; token = first } ∷ line_parts (32 ∷ []) front word
 
 line_begins : (front : List Token) (word : List ℕ) → BeginsWithEnd (row_octets (line_parts (32 ∷ []) front word) (10 ∷ []))
-line_begins [] word = begins_at ((word ++ flat_map part_octets (map spaced_part (unknown_words []))) ++ 10 ∷ []) refl
+line_begins [] word = begins_at ((word ++ flat_map part_octets (map spaced_part (general_tokens []))) ++ 10 ∷ []) refl
 line_begins (first ∷ front) word = begins_at ((token_octets first ++ flat_map part_octets (line_parts (32 ∷ []) front word)) ++ 10 ∷ []) refl
 
 line_are : {gap : List ℕ} (front : List Token) {word : List ℕ} → IsGap false gap false → AllByRecursion IsToken front → IsToken (unquoted word)
     → AreParts false (line_parts gap front word) (10 ∷ [])
-line_are [] gap each is = more gap is (λ _. words_begin (unknown_words []) feed_ends) (words_are (unknown_words []) no_words feed_ends)
+line_are [] gap each is = more gap is (λ _. tokens_begin (general_tokens []) feed_ends) (tokens_are (general_tokens []) no_tokens feed_ends)
 line_are (first ∷ front) {word} gap each is = more gap each.0 (λ _. line_begins front word) (line_are front space_gap each.1 is)
 
 line_tokens : (gap : List ℕ) (front : List Token) (word : List ℕ)
     → tokens_of (line_parts gap front word) ≡ front ++ unquoted word ∷ general_tokens []
-line_tokens gap [] word = ap (λ (l : List Token). unquoted word ∷ l) (spaced_tokens (unknown_words []))
+line_tokens gap [] word = ap (λ (l : List Token). unquoted word ∷ l) (spaced_tokens (general_tokens []))
 line_tokens gap (first ∷ front) word = ap (λ (l : List Token). first ∷ l) (line_tokens (32 ∷ []) front word)
 
 line_octets : (gap : List ℕ) (front : List Token) (word : List ℕ)

@@ -6,18 +6,40 @@ use Rattle.dns_text.specs.Document.Layout.{Simple}
 use Rattle.dns_text.specs.Rows.{TokenRow}
 use Rattle.dns_field_texts.specs.TypeWords.{type_word_written}
 use Rattle.dns_fields_more.specs.Forms.{IsFurtherData}
+use Rattle.dns_fields_more.specs.Printed.{HasNoEmptyRest}
+use Rattle.dns_rdata_more.specs.FurtherData.{row_read}
 use Rattle.dns_rdata_more.specs.Shown.{further_document}
 use Rattle.dns_entry_scanner.specs.NameInText.{SpellsUnder}
 use Rattle.dns_zonefile.specs.Entries.{HasEntries}
 use Rattle.dns_zonefile.specs.Entry.{Context, Entry}
+use Rattle.dns_zonefile.specs.Statement.{Names}
 use Rattle.zone_forms.specs.LongerEntries.{HasLongerEntries, IsLongerEntry}
 use Rattle.zone_forms.specs.LongerRow.{HasType, IsMarked, ScansLonger}
 use Rattle.zone_forms.specs.Rewritten.{AreRow, GoesGeneral, GoesTo, Rewrites}
 
--- The row is this entry; and its octets, and what is printed for it: the same; or, if its data is in general form and is data of a
--- further type, its mnemonic and the fields, in this layout or on one line. What is printed is a row of this entry too.
+-- The octets are data of the further type, and its fields have a text: none that is written in base 16 or 64, as a key, a digest or a
+-- signature, is empty.
+pub record HasFieldsText (rtype : ℕ) (content : List ℕ) : Type 0 where
+  pub are : IsFurtherData rtype content
+  pub some : HasNoEmptyRest rtype (row_read rtype content)
+
+-- The row has data in general form that is data of its type, a further one, whose fields have a text.
+pub record HasPresentation (names : Names) (row : TokenRow) : Type 0 where
+  pub front : List Token
+  pub word : Token
+  pub rtype : ℕ
+  pub data' : List Token
+  pub content : List ℕ
+  pub has : HasType row front word rtype data'
+  pub marked : IsMarked data'
+  pub scans : ScansLonger names rtype data' content
+  pub text : HasFieldsText rtype content
+
+-- The row is this entry; and its octets, and what is printed for it: if its data is in general form and is data of a further type whose
+-- fields have a text, its mnemonic and the fields, in this layout or on one line; else the same. What is printed is a row of this entry
+-- too.
 pub data GoesPresented (layout : Layout) (context : Context) (row : TokenRow) (octets : List ℕ) : List ℕ → Entry → Context → Type 0 where
-  same : {entry : Entry} {after : Context} → IsLongerEntry context row entry after
+  same : {entry : Entry} {after : Context} → IsLongerEntry context row entry after → (HasPresentation (SpellsUnder context.origin) row → ⊥)
       → GoesPresented layout context row octets octets entry after
   presented : {front data' : List Token} {word : Token} {rtype : ℕ} {content new : List ℕ} {printed : TokenRow} {entry : Entry}
       {after : Context} (shown : Layout) → IsLongerEntry context row entry after → (shown ≡ layout) ⊎ (shown ≡ Simple)

@@ -1,18 +1,21 @@
 //! Rows with further data in presentation form.
-ghost use Rattle.std.specs.Prelude.{◌≡◌, ◌<◌, ◌≤◌, ℕ, List, true, length, string_bytes, take, option_copied, IsTrue, IfErr, IfOk, IfSome};
+ghost use Rattle.std.specs.Prelude.{◌≡◌, ◌↔◌, ◌<◌, ◌≤◌, ℕ, List, true, length, string_bytes, take, option_copied, IsTrue, IfErr, IfNone, IfOk, IfSome};
 ghost use Rattle.dns_entry_scanner.specs.EntryError.{is_memory};
 ghost use Rattle.dns_entry_scanner.specs.NameInText.{SpellsUnder};
 ghost use Rattle.dns_field_texts.specs.TypeWords.{type_word_written};
+ghost use Rattle.dns_label.specs.Octets.{AreOctets};
 ghost use Rattle.dns_fields_more.specs.Forms.{IsFurtherData};
 ghost use Rattle.dns_rdata_more.specs.Shown.{further_document};
 ghost use Rattle.dns_text.specs.Document.{document_text};
+ghost use Rattle.dns_text.specs.Document.Layout.{Simple};
 ghost use Rattle.dns_text.specs.Layout.{layout_of};
-ghost use Rattle.zone_forms.specs.Presented.{GoesPresented};
+ghost use Rattle.zone_forms.specs.Presented.{GoesPresented, HasFieldsText, HasPresentation};
 ghost use Rattle.zone_forms.specs.Presenting.{HasSameFront, PrintsAs, PrintsRow, ReadsBack};
 ghost use Rattle.zone_forms.specs.Seen.{HasTypeAt, IsFound, row_in, tokens_in};
 
 use crate::found_row::FoundRow;
 use crate::longer_reader::LongerReader;
+use crate::readable::is_want_of_memory;
 use crate::rewriting::append_rewritten;
 use crate::row_data::{is_marked, scan_data};
 use crate::row_type::{RowType, row_type};
@@ -20,8 +23,9 @@ use crate::text_form::TextForm;
 use dns_field_texts::DisplayType;
 use dns_name::{Name, Rtype};
 use dns_rdata_more::AnyFurtherData;
+use dns_rdata_more::laws::printed_further_data_scans_back;
 use dns_text::{DisplayKind, ZonefileFmt};
-use dns_zonefile::{EntryError, RowFound, read_row};
+use dns_zonefile::{EntryError, InlineName, RowFound, RowScanner, read_row};
 use std::alloc::Global;
 use std::fmt::Write;
 
@@ -61,8 +65,8 @@ impl TextForm for Presenter {
     }
 }
 
-/// Returns the row in presentation form, if its data is in general form and is data of a further type. It is printed in the
-/// layout, or if that does not read as the row, on one line.
+/// Returns the row in presentation form, if its data is in general form and is data of a further type whose fields have a text.
+/// It is printed in the layout, or if that does not read as the row, on one line.
 ///
 /// Fails only with `OutOfMemory`.
 fn printed_row<'a>(
@@ -74,6 +78,7 @@ fn printed_row<'a>(
     requires { IsFound row }
     ensures ok { IfOk result (λ printed. IfSome printed (λ octets. PrintsRow (SpellsUnder (option_copied origin.entry)) row.entry
         (layout_of layout) octets.items)) }
+    ensures none { IfOk result (λ printed. IfNone printed (HasPresentation (SpellsUnder (option_copied origin.entry)) (row_in row.entry) → ⊥)) }
     ensures err { IfErr result (λ error. is_memory error ≡ true) }
 {
     let Some(kind) = row_type(row) else {
@@ -85,8 +90,12 @@ fn printed_row<'a>(
     let mut data = Vec::new(alloc);
     match scan_data(alloc, row, kind, origin, &mut data) {
         Ok(()) => {}
-        Err(EntryError::OutOfMemory) => return Err(EntryError::OutOfMemory),
-        Err(_) => return Ok(None),
+        Err(error) => {
+            if is_want_of_memory(error) {
+                return Err(error);
+            }
+            return Ok(None);
+        }
     }
     match printed_as(alloc, layout, origin, row, kind, &data)? {
         Some(printed) => Ok(Some(printed)),
@@ -95,7 +104,7 @@ fn printed_row<'a>(
 }
 
 /// Returns the row with these octets of data as fields in the layout, if they are data of a further type and what is printed
-/// reads as the row.
+/// reads as the row. On one line it does if the fields have a text.
 ///
 /// Fails only with `OutOfMemory`.
 fn printed_as<'a>(
@@ -110,8 +119,13 @@ fn printed_as<'a>(
     requires has { HasTypeAt (row_in row) kind }
     ensures ok { IfOk result (λ printed. IfSome printed (λ octets. PrintsAs (SpellsUnder (option_copied origin.entry)) row.entry kind
         (layout_of layout) data.now octets.items)) }
+    ensures none { IfOk result (λ printed. IfNone printed (layout_of layout ≡ Simple → HasFieldsText kind.rtype data.now → ⊥)) }
     ensures err { IfErr result (λ error. is_memory error ≡ true) }
 {
+    let scanner: RowScanner<'_, InlineName> = RowScanner::new(
+        alloc, row.text, row.place, row.spans, origin,
+    );
+    printed_further_data_scans_back(&scanner);
     let rtype = Rtype::from_int(kind.rtype);
     let Some(text) = fields_text(alloc, layout, rtype, data)? else {
         return Ok(None);
@@ -143,6 +157,7 @@ fn fields_text(
 ) -> Result<Option<String>, EntryError>
     ensures ok { IfOk result (λ text. IfSome text (λ text. IsFurtherData rtype octets.now
         × (string_bytes text ≡ document_text (layout_of layout) (further_document rtype octets.now)))) }
+    ensures none { IfOk result (λ text. IfNone text (IsFurtherData rtype octets.now → ⊥)) }
     ensures err { IfErr result (λ error. is_memory error ≡ true) }
 {
     let Ok(data) = AnyFurtherData::from_octets(rtype, octets) else {
@@ -181,7 +196,7 @@ fn reads_back<'a>(
 ) -> Result<bool, EntryError>
     requires { HasTypeAt (row_in row) kind }
     ensures ok { IfOk result (λ alike. IsTrue alike
-        → ReadsBack (SpellsUnder (option_copied origin.entry)) (row_in row.entry) kind data.now printed.now) }
+        ↔ ReadsBack (SpellsUnder (option_copied origin.entry)) (row_in row.entry) kind data.now printed.now) }
     ensures err { IfErr result (λ error. is_memory error ≡ true) }
 {
     let mut spans = Vec::new(alloc);
@@ -203,17 +218,30 @@ fn reads_back<'a>(
     }
     let mut octets = Vec::new(alloc);
     match scan_data(alloc, other, kind, origin, &mut octets) {
-        Ok(()) => Ok(octets.as_slice() == data),
-        Err(EntryError::OutOfMemory) => Err(EntryError::OutOfMemory),
-        Err(_) => Ok(false),
+        Ok(()) => {
+            are_octets(data);
+            are_octets(octets.as_slice());
+            Ok(octets.as_slice() == data)
+        }
+        Err(error) => {
+            if is_want_of_memory(error) {
+                return Err(error);
+            }
+            Ok(false)
+        }
     }
 }
+
+/// Does nothing. It tells the proof what the type guarantees: that each of these is an octet.
+fn are_octets(_octets: &[u8])
+    ensures { AreOctets _octets.now }
+{}
 
 /// Returns whether the other row has the same type at the same place, behind the same tokens, and data that is not in general
 /// form.
 fn has_same_front(row: FoundRow<'_>, other: FoundRow<'_>, kind: RowType) -> bool
     requires { kind.index < length row.spans.now }
-    ensures { IsTrue result → HasSameFront (row_in row.entry) (row_in other.entry) kind }
+    ensures { IsTrue result ↔ HasSameFront (row_in row.entry) (row_in other.entry) kind }
 {
     let Some(found) = row_type(other) else {
         return false;
@@ -228,7 +256,7 @@ fn has_same_front(row: FoundRow<'_>, other: FoundRow<'_>, kind: RowType) -> bool
 fn have_same_tokens(row: FoundRow<'_>, other: FoundRow<'_>, count: usize) -> bool
     requires row { count ≤ length row.spans.now }
     requires other { count ≤ length other.spans.now }
-    ensures { IsTrue result → take count (tokens_in other.entry) ≡ take count (tokens_in row.entry) }
+    ensures { IsTrue result ↔ (take count (tokens_in other.entry) ≡ take count (tokens_in row.entry)) }
 {
     for index in 0..count {
         if row.spans[index].is_quoted() != other.spans[index].is_quoted()

@@ -39,9 +39,9 @@ pub fn general(
     rewrite(alloc, text, &mut reader, &mut GeneralForm)
 }
 
-/// Returns the text with the data of further types in presentation form, where it is in general form and fits the fields of
-/// its type. It is laid out as the kind says, but on one line if that does not read, as inside parentheses. All else stays as
-/// it is, but the word for the type becomes its mnemonic.
+/// Returns the text with the data of further types in presentation form, where it is in general form and its fields have a
+/// text: all but data whose digest, certificate, key or signature has no octets. It is laid out as the kind says, but on one
+/// line if that does not read, as inside parentheses. All else stays as it is, but the word for the type becomes its mnemonic.
 ///
 /// The entries are those of a file of the class; names are relative to the origin, if there is one. Fails with `Line` exactly
 /// if a row is no entry, and with `OutOfMemory` if out of memory. A `Rewriter` takes a text in pieces.

@@ -2,8 +2,9 @@ use Rattle.std.proofs.Common.{◌≡◌, ◌++◌, List, ℕ, arith, subst, opti
 use Rattle.std.proofs.lemmas.Grind.{common_steps}
 use Rattle.dns_entry_scanner.specs.NameInText.{SpellsUnder}
 use Rattle.dns_text.specs.Layout.{layout_of}
+use Rattle.zone_forms.specs.Presented.{HasPresentation}
 use Rattle.zone_forms.specs.Presenting.{PrintsRow}
-use Rattle.zone_forms.specs.Seen.{context_in, octets_in}
+use Rattle.zone_forms.specs.Seen.{context_in, octets_in, row_in}
 use Rattle.zone_forms.proofs.PresentedRows.{goes_as_is, goes_so, handed_on}
 use Rattle.zone_forms.proofs.presenting.PresenterTextForm.append_row.Goals as goal
 
@@ -26,5 +27,8 @@ returns-in_ok-extend_from_slice-in-Some-clause-ok c =
 pub returns-in_ok-extend_from_slice-in-None-clause-ok : goal.returns-in_ok-extend_from_slice-in-None-clause-ok
 returns-in_ok-extend_from_slice-in-None-clause-ok c =
     let told = c.in_ok-read_entry.ensures.ok in
+    let made : HasPresentation (SpellsUnder (option_copied c.origin.result)) (row_in c.args.row) → ⊥ = rw c.in-None.is at c.in_ok-printed.ensures.none in
+    let none : HasPresentation (SpellsUnder (context_in c.args.reader.now).origin) (row_in c.args.row) → ⊥ =
+    subst (λ (o : Option (List (List ℕ))). HasPresentation (SpellsUnder o) (row_in c.args.row) → ⊥) c.origin.ensures made in
     let all : c.extend_from_slice-in-None.new.self.items ≡ c.args.out.now.items ++ octets_in c.args.row = grind (arith, common_steps) in
-    goes_as_is c.args.row c.args.out.now.items told.1 all
+    goes_as_is c.args.row c.args.out.now.items told.1 none all
