@@ -178,6 +178,10 @@ def general(*parts):
     return f"\\# {len(octets)} {octets.hex().upper()}"
 
 
+ROW_GAPS = " (" + "\n" * 40000 + ")\n"
+ROW_FIELDS = "a.z. 60 IN TLSA 3 1 1 (" + "\naa" * 40000 + ")\n"
+ROW_GENERAL = "a.z. 60 IN TLSA " + general(bytes([3, 1, 1]), b"\xaa" * 40000) + ROW_GAPS
+BEFORE = bytes.fromhex("00010801 00000005 ffffffff 7e36b500 0001 00 000000".replace(" ", ""))
 NEXT = "$ORIGIN example.com.\nalfa 86400 IN NSEC {}{}\n"
 FIELDS, GAPS = "host A ( ; next\n  MX\tRRSIG NSEC TYPE1234 ) ; end", " ( ; next\n   ) ; end"
 SHOWN = "host.example.com. A MX RRSIG NSEC TYPE1234"
@@ -224,6 +228,14 @@ FORMS = [
     Case("general", 2, said="zonetool: -: line 1 does not read", given="a. 5 IN CERT PKI 0 0 Zm9v\n"),
     Case("general", 0, "a. 5 IN TLSA \\# 3 030101\n", given="a. 5 IN TLSA \\# 3 030101\n"),
     Case("general unended", 2, said="zonetool: unended: line 2 does not read"),
+    # Texts that are longer than the pieces in which they are read: a row of 120,000 octets, and a row that is refused far behind the first piece.
+    Case("general", 0, ROW_GENERAL + A, given=ROW_FIELDS + A),
+    Case("present", 0, "a.z. 60 IN TLSA 3 1 1 " + "AA" * 40000 + ROW_GAPS + A, given=ROW_GENERAL + A),
+    Case("general", 2, said="zonetool: -: line 3001 does not read", given="; a line of a comment that is long\n" * 3000 + "a.z. 5 IN NSEC\n" + A),
+    Case("general", 2, said="zonetool: -: line 4002 does not read", given="; a line of a comment that is long\n" * 4000 + A + "a.z. 5 IN A (\n"),
+    # Times before 1970, which are those of 2^32 seconds later.
+    Case("general", 0, f"a. 5 IN RRSIG {general(BEFORE)}\n", given="a. 5 IN RRSIG A 8 1 5 19691231235959 19010101000000 1 . AAAA\n"),
+    Case("general", 2, said="zonetool: -: line 1 does not read", given="a. 5 IN RRSIG A 8 1 5 00001231235959 19010101000000 1 . AAAA\n"),
     Case("general relative", 2, said="zonetool: relative: line 1 does not read"),
     Case("general missing", 2, said="zonetool: missing: read failed: No such file or directory (os error 2)"),
     Case("general --layout simple", 2, said=unexpected("--layout")),
