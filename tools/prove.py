@@ -9,7 +9,7 @@ import sys
 from crates import processors
 
 # Measured from nothing: the processor seconds of a whole run, and the minutes that its longest chain of crates takes at the least.
-PROCESSOR_SECONDS, CHAIN = 13000, 55
+PROCESSOR_SECONDS, CHAIN = 20000, 55
 # How much longer a run takes than if no processor ever waited, at the best and on a machine with other work.
 LEAST, MOST = 1.05, 1.3
 
