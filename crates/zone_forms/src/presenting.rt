@@ -122,6 +122,7 @@ fn printed_as<'a>(
     ensures none { IfOk result (λ printed. IfNone printed (layout_of layout ≡ Simple → HasFieldsText kind.rtype data.now → ⊥)) }
     ensures err { IfErr result (λ error. is_memory error ≡ true) }
 {
+    // Nothing happens here: the law tells the proof that what is printed is scanned as the same data.
     let scanner: RowScanner<'_, InlineName> = RowScanner::new(
         alloc, row.text, row.place, row.spans, origin,
     );
