@@ -36,7 +36,7 @@ use Rattle.dns_rdata_more.proofs.Rows.{forms_one}
 use Rattle.dns_rdata_more.proofs.Rows.{row_back as row_read_back}
 use Rattle.dns_entry_scanner.specs.NameInText.{SpellsUnder}
 use Rattle.dns_entry_scanner.specs.NameInText.SpellsUnder.{absolute}
-use Rattle.zone_forms.specs.Parts.{IsToken, token_octets}
+use Rattle.zone_general.specs.Parts.{IsToken, token_octets}
 
 -- a name is spelled by the text that it is printed as, whatever the origin
 pub names_spelled : (origin : Option (List (List ℕ))) → SpellPrinted (SpellsUnder origin)

@@ -11,19 +11,20 @@ use Rattle.dns_zonefile.proofs.Going.{begins-on}
 use Rattle.dns_zonefile.proofs.MarkedLines.{lines-few}
 use Rattle.dns_zonefile.specs.Entry.{Context, Entry}
 use Rattle.dns_zonefile.specs.Reader.{line_at, line_behind}
-use Rattle.zone_forms.proofs.FoundRows.{found_row}
+use Rattle.zone_general.proofs.FoundRows.{found_row}
 use Rattle.zone_forms.proofs.GoneTexts.{Told, bare_longer}
-use Rattle.zone_forms.proofs.RewrittenParts.{row_begins}
-use Rattle.zone_forms.specs.LongerEntries.{AreLongerEntries, IsLongerEntry}
+use Rattle.zone_general.proofs.RewrittenParts.{row_begins}
+use Rattle.zone_general.specs.LongerEntries.{AreLongerEntries, IsLongerEntry}
 use Rattle.zone_forms.specs.Refused.{FailsInLine}
 use Rattle.zone_forms.specs.Refused.FailsInLine.{broken, no_entry}
-use Rattle.zone_forms.specs.Rewritten.{AreRow, GoesTo, HasGone, RowGoes}
-use Rattle.zone_forms.specs.Rewritten.HasGone.{none, more}
-use Rattle.zone_forms.specs.Rewritten.RowGoes.{bare, entry}
-use Rattle.zone_forms.specs.Seen.{FailsBehind, GoesUpTo, IsFound, octets_in, row_in, tokens_in}
+use Rattle.zone_general.specs.Rewritten.{AreRow}
+use Rattle.zone_forms.specs.Going.{FailsBehind, GoesTo, GoesUpTo, HasGone, RowGoes}
+use Rattle.zone_forms.specs.Going.HasGone.{none, more}
+use Rattle.zone_forms.specs.Going.RowGoes.{bare, entry}
+use Rattle.zone_general.specs.Seen.{IsFound, octets_in, row_in, tokens_in}
 use Rattle.zone_forms.specs.declared.error.FormError.{FormError}
 use Rattle.zone_forms.specs.declared.error.FormError.TheVariants.{Line, OutOfMemory}
-use Rattle.zone_forms.specs.declared.found_row.FoundRow.{FoundRow}
+use Rattle.zone_general.specs.declared.found_row.FoundRow.{FoundRow}
 
 pub if_err_weaker : {T E : Type 0} (result : Result T E) (P Q : E → Type 0) → ((error : E) → P error → Q error) → IfErr result P → IfErr result Q
 if_err_weaker (Ok value) P Q weaker is = tt

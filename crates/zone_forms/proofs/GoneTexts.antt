@@ -5,13 +5,14 @@ use Rattle.dns_text.specs.Tokens.{is_end}
 use Rattle.dns_zonefile.proofs.Going.{begins-on}
 use Rattle.dns_zonefile.specs.Entries.{AreEntries}
 use Rattle.dns_zonefile.specs.Entry.{Context, Entry}
-use Rattle.zone_forms.proofs.RewrittenParts.{row_begins}
-use Rattle.zone_forms.specs.LongerEntries.{AreLongerEntries, HasLongerEntries, IsLongerEntry}
+use Rattle.zone_general.proofs.RewrittenParts.{row_begins}
+use Rattle.zone_general.specs.LongerEntries.{AreLongerEntries, HasLongerEntries, IsLongerEntry}
 use Rattle.dns_text.specs.Document.{Layout}
 use Rattle.zone_forms.specs.Presented.{GoesPresented, IsGeneralOf, IsPresentedOf}
 use Rattle.zone_forms.specs.Presented.GoesPresented.{same, presented}
-use Rattle.zone_forms.specs.Rewritten.{AreRow, GoesGeneral, GoesTo}
-use Rattle.zone_forms.specs.Rewritten.GoesTo.{ended, bare, more}
+use Rattle.zone_general.specs.Rewritten.{AreRow, GoesGeneral}
+use Rattle.zone_forms.specs.Going.{GoesTo}
+use Rattle.zone_forms.specs.Going.GoesTo.{ended, bare, more}
 
 -- a relation between rows and their entries
 abbrev pub Told : Type 1

@@ -17,7 +17,7 @@ use Rattle.dns_scan.specs.UnknownData.{IsUnknownData}
 use Rattle.dns_scan.specs.declared.encoding.base.Base.TheVariants.{Sixteen}
 use Rattle.dns_scan.proofs.BitLists.{bits_join, bits_low}
 use Rattle.dns_scan.proofs.Encodings.{Ascii, decodes_one, digit-character, is_ascii}
-use Rattle.zone_forms.proofs.KnownWords.{both_hold}
+use Rattle.zone_general.proofs.KnownWords.{both_hold}
 
 -- the low eight bits
 abbrev pub low : ℕ → ℕ

@@ -7,15 +7,16 @@ use Rattle.dns_zonefile.specs.Entries.AreEntries.{none, bare, entry}
 use Rattle.dns_zonefile.specs.Entry.{Context, Entry, IsEntry}
 use Rattle.dns_zonefile.proofs.Going.{begins-on}
 use Rattle.dns_zonefile.proofs.OneEntry.{entry_has_tokens, one_entry}
-use Rattle.zone_forms.specs.LongerRow.{Stands}
+use Rattle.zone_general.specs.LongerRow.{Stands}
 use Rattle.zone_forms.specs.Presented.{IsGeneralOf}
-use Rattle.zone_forms.specs.Rewritten.{GoesGeneral, GoesTo, IsWrittenAs}
-use Rattle.zone_forms.specs.Rewritten.GoesTo.{ended, more}
-use Rattle.zone_forms.specs.Rewritten.GoesTo.{bare as goes_bare}
-use Rattle.zone_forms.specs.Rewritten.IsWrittenAs.{same, further}
-use Rattle.zone_forms.proofs.RewrittenParts.{row_begins}
+use Rattle.zone_general.specs.Rewritten.{GoesGeneral, IsWrittenAs}
+use Rattle.zone_forms.specs.Going.{GoesTo}
+use Rattle.zone_forms.specs.Going.GoesTo.{ended, more}
+use Rattle.zone_forms.specs.Going.GoesTo.{bare as goes_bare}
+use Rattle.zone_general.specs.Rewritten.IsWrittenAs.{same, further}
+use Rattle.zone_general.proofs.RewrittenParts.{row_begins}
 use Rattle.zone_forms.proofs.StandingRows.{entry_stands}
-use Rattle.zone_forms.proofs.WrittenRows.{standing_entry}
+use Rattle.zone_general.proofs.WrittenRows.{standing_entry}
 
 -- the first of the rows with entries
 record First (context : Context) (row : TokenRow) (rows : List TokenRow) (after : Context) : Type 0 where

@@ -12,8 +12,8 @@ use Rattle.dns_field_texts.specs.TypeWords.{more_types, type_word_read}
 use Rattle.dns_zonefile.specs.Statement.{IsClass, IsTtl, States}
 use Rattle.dns_zonefile.specs.Statement.States.{nothing, ttl_class, class_ttl}
 use Rattle.dns_zonefile.specs.Statement.States.{ttl as ttl_alone, class as class_alone}
-use Rattle.zone_forms.specs.LongerRow.{IsNoTypeWord}
-use Rattle.zone_forms.proofs.KnownWords.{begins_letter, behind_in, either, letter_alike, letter_no_digits, named_in, type_no_digits}
+use Rattle.zone_general.specs.LongerRow.{IsNoTypeWord}
+use Rattle.zone_general.proofs.KnownWords.{begins_letter, behind_in, either, letter_alike, letter_no_digits, named_in, type_no_digits}
 
 more_letters : list_all (λ row. begins_letter row.1) more_types ≡ true
 unfolding more_types

@@ -17,16 +17,16 @@ use Rattle.dns_zonefile.specs.Entry.{Context, Entry, IsEntry}
 use Rattle.dns_zonefile.specs.Statement.{Names, Says, Statement}
 use Rattle.dns_zonefile.specs.Statement.Says.{directive, resource}
 use Rattle.dns_zonefile.proofs.OneEntry.{entry_has_tokens, one_entry, under_once}
-use Rattle.zone_forms.specs.LongerEntries.{IsLongerEntry}
-use Rattle.zone_forms.specs.LongerRow.{HasType, IsGeneralRow, IsTypeWord, ScansLonger, general_tokens, known_word}
-use Rattle.zone_forms.specs.LongerRow.IsGeneralRow.{same, further}
-use Rattle.zone_forms.specs.LongerRow.ScansLonger.{marked, fields}
+use Rattle.zone_general.specs.LongerEntries.{IsLongerEntry}
+use Rattle.zone_general.specs.LongerRow.{HasType, IsGeneralRow, IsTypeWord, ScansLonger, general_tokens, known_word}
+use Rattle.zone_general.specs.LongerRow.IsGeneralRow.{same, further}
+use Rattle.zone_general.specs.LongerRow.ScansLonger.{marked, fields}
 use Rattle.zone_forms.proofs.HexedNumbers.{AreHexed, all_low, reads_hexed}
-use Rattle.zone_forms.proofs.KnownWords.{known_reads}
-use Rattle.zone_forms.proofs.LongerRows.{general_of, still_none}
+use Rattle.zone_general.proofs.KnownWords.{known_reads}
+use Rattle.zone_general.proofs.LongerRows.{general_of, still_none}
 use Rattle.zone_forms.proofs.LowFields.{rows_low}
-use Rattle.zone_forms.proofs.RowTypes.{one_type}
-use Rattle.zone_forms.proofs.SameRecords.{IsKnownWord, one_unknown, same_record}
+use Rattle.zone_general.proofs.RowTypes.{one_type}
+use Rattle.zone_general.proofs.SameRecords.{IsKnownWord, one_unknown, same_record}
 use Rattle.zone_forms.proofs.StandingRows.{stated_type}
 
 -- the words for these numbers as unknown data

@@ -5,8 +5,8 @@ use Rattle.dns_text.specs.Rows.{TokenRow}
 use Rattle.dns_text.proofs.OneRow.{one_text}
 use Rattle.dns_zonefile.specs.Entries.{HasEntries}
 use Rattle.dns_zonefile.specs.Entry.{Context, Entry}
-use Rattle.zone_forms.specs.LongerEntries.{AreLongerEntries, HasLongerEntries, IsLongerEntry}
-use Rattle.zone_forms.specs.LongerEntries.AreLongerEntries.{none, bare, entry}
+use Rattle.zone_general.specs.LongerEntries.{AreLongerEntries, HasLongerEntries, IsLongerEntry}
+use Rattle.zone_general.specs.LongerEntries.AreLongerEntries.{none, bare, entry}
 use Rattle.zone_forms.specs.Presented.{IsGeneralOf, IsPresentedOf}
 use Rattle.zone_forms.proofs.OneLongerEntry.{longer_has_tokens, one_longer}
 use Rattle.zone_forms.proofs.StandingRows.{longer}

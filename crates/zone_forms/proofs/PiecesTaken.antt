@@ -14,8 +14,8 @@ use Rattle.zone_forms.proofs.GoingOn.{counted_line, fails_broken, gone_end, gone
 use Rattle.zone_forms.proofs.GoneTexts.{Told, general_gone, presented_gone}
 use Rattle.zone_forms.specs.Pieces.{GoesOn, HasRewritten, HasTaken, IsInForm, Refuses, goes_in}
 use Rattle.zone_forms.specs.Refused.{FailsInLine}
-use Rattle.zone_forms.specs.Rewritten.{GoesTo, HasGone}
-use Rattle.zone_forms.specs.Seen.{GoesUpTo, context_in}
+use Rattle.zone_forms.specs.Going.{GoesTo, GoesUpTo, HasGone}
+use Rattle.zone_general.specs.Seen.{context_in}
 use Rattle.zone_forms.specs.declared.rewriter.Form.{Form}
 use Rattle.zone_forms.specs.declared.rewriter.Form.TheVariants.{General, Presentation}
 use Rattle.zone_forms.specs.declared.rewriter.Rewriter.{Rewriter}

@@ -12,23 +12,23 @@ use Rattle.dns_text.specs.Document.{Layout}
 use Rattle.dns_text.specs.Rows.{TokenRow}
 use Rattle.dns_zonefile.specs.Entry.{Context, Entry, IsEntry}
 use Rattle.dns_zonefile.specs.Statement.{IsDirective, Names}
-use Rattle.zone_forms.specs.LongerEntries.{IsLongerEntry}
-use Rattle.zone_forms.specs.LongerRow.{HasType, IsGeneralRow, IsMarked, ScansLonger, Stands, general_tokens, known_word, with_tokens}
-use Rattle.zone_forms.specs.LongerRow.IsGeneralRow.{same, further}
+use Rattle.zone_general.specs.LongerEntries.{IsLongerEntry}
+use Rattle.zone_general.specs.LongerRow.{HasType, IsGeneralRow, IsMarked, ScansLonger, Stands, general_tokens, known_word, with_tokens}
+use Rattle.zone_general.specs.LongerRow.IsGeneralRow.{same, further}
 use Rattle.zone_forms.specs.Presented.{GoesPresented, HasFieldsText, HasPresentation}
 use Rattle.zone_forms.specs.Presented.GoesPresented.{presented}
 use Rattle.zone_forms.specs.Presenting.{PrintsRow}
-use Rattle.zone_forms.specs.Rewritten.{GoesGeneral}
-use Rattle.zone_forms.specs.Seen.{HasTypeAt, IsFound, octets_in, row_in, tokens_in}
-use Rattle.zone_forms.specs.declared.found_row.FoundRow.{FoundRow}
-use Rattle.zone_forms.specs.declared.row_type.RowType.{RowType}
-use Rattle.zone_forms.proofs.GeneralRows.{rewrites_row}
-use Rattle.zone_forms.proofs.KnownWords.{known_reads}
-use Rattle.zone_forms.proofs.LongerRows.{unknown_is}
+use Rattle.zone_general.specs.Rewritten.{GoesGeneral}
+use Rattle.zone_general.specs.Seen.{HasTypeAt, IsFound, octets_in, row_in, tokens_in}
+use Rattle.zone_general.specs.declared.found_row.FoundRow.{FoundRow}
+use Rattle.zone_general.specs.declared.stated_type.RowType.{RowType}
+use Rattle.zone_general.proofs.GeneralRows.{rewrites_row}
+use Rattle.zone_general.proofs.KnownWords.{known_reads}
+use Rattle.zone_general.proofs.LongerRows.{unknown_is}
 use Rattle.zone_forms.proofs.ReadBack.{front_taken}
-use Rattle.zone_forms.proofs.RowData.{is_general}
-use Rattle.zone_forms.proofs.RowTypes.{data_at, one_type}
-use Rattle.zone_forms.proofs.SameRecords.{IsKnownWord, marked_row, one_unknown, same_record, still_none, unknown_octets}
+use Rattle.zone_general.proofs.RowData.{is_general}
+use Rattle.zone_general.proofs.RowTypes.{data_at, one_type}
+use Rattle.zone_general.proofs.SameRecords.{IsKnownWord, marked_row, one_unknown, same_record, still_none, unknown_octets}
 
 -- the words behind the marker
 abbrev words_of : List ℕ → List Token

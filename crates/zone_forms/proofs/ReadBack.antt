@@ -13,15 +13,15 @@ use Rattle.dns_zonefile.specs.Statement.{Names}
 use Rattle.dns_text.specs.Rows.{TokenRow}
 use Rattle.dns_text.proofs.OneRow.{one_row}
 use Rattle.dns_entry_scanner.specs.RowFound.{IsRowAt}
-use Rattle.zone_forms.specs.LongerRow.{HasType, IsMarked, ScansLonger}
+use Rattle.zone_general.specs.LongerRow.{HasType, IsMarked, ScansLonger}
 use Rattle.zone_forms.specs.Presenting.{HasSameFront, ReadsBack}
-use Rattle.zone_forms.specs.Rewritten.{AreRow}
-use Rattle.zone_forms.specs.Seen.{HasTypeAt, IsFound, octets_in, row_in, tokens_in}
-use Rattle.zone_forms.specs.declared.found_row.FoundRow.{FoundRow}
-use Rattle.zone_forms.specs.declared.row_type.RowType.{RowType}
-use Rattle.zone_forms.proofs.FoundRows.{found_row}
-use Rattle.zone_forms.proofs.GeneralRows.{row_found}
-use Rattle.zone_forms.proofs.RowTypes.{data_from, one_type, token_at, type_within}
+use Rattle.zone_general.specs.Rewritten.{AreRow}
+use Rattle.zone_general.specs.Seen.{HasTypeAt, IsFound, octets_in, row_in, tokens_in}
+use Rattle.zone_general.specs.declared.found_row.FoundRow.{FoundRow}
+use Rattle.zone_general.specs.declared.stated_type.RowType.{RowType}
+use Rattle.zone_general.proofs.FoundRows.{found_row}
+use Rattle.zone_general.proofs.GeneralRows.{row_found}
+use Rattle.zone_general.proofs.RowTypes.{data_from, one_type, token_at, type_within}
 
 -- one more token is the same
 take_more : (index : ℕ) (tokens others : List Token) (token : Token) → slice_get tokens index ≡ Some token → slice_get others index ≡ Some token

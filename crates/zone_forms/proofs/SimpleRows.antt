@@ -15,22 +15,22 @@ use Rattle.dns_rdata_more.specs.Shown.{further_document, further_tokens}
 use Rattle.dns_entry_scanner.specs.NameInText.{SpellsUnder}
 use Rattle.dns_zonefile.proofs.OneEntry.{under_once}
 use Rattle.dns_zonefile.specs.Statement.{Names}
-use Rattle.zone_forms.specs.LongerRow.{IsMarked, ScansLonger, with_tokens}
-use Rattle.zone_forms.specs.LongerRow.ScansLonger.{marked, fields}
-use Rattle.zone_forms.specs.Parts.{IsToken, token_octets}
+use Rattle.zone_general.specs.LongerRow.{IsMarked, ScansLonger, with_tokens}
+use Rattle.zone_general.specs.LongerRow.ScansLonger.{marked, fields}
+use Rattle.zone_general.specs.Parts.{IsToken, token_octets}
 use Rattle.zone_forms.specs.Presented.{HasFieldsText}
 use Rattle.zone_forms.specs.Presenting.{ReadsBack}
-use Rattle.zone_forms.specs.Seen.{HasTypeAt, IsFound, RewritesAt, row_in}
-use Rattle.zone_forms.specs.declared.found_row.FoundRow.{FoundRow}
-use Rattle.zone_forms.specs.declared.row_type.RowType.{RowType}
+use Rattle.zone_general.specs.Seen.{HasTypeAt, IsFound, RewritesAt, row_in}
+use Rattle.zone_general.specs.declared.found_row.FoundRow.{FoundRow}
+use Rattle.zone_general.specs.declared.stated_type.RowType.{RowType}
 use Rattle.zone_forms.proofs.FurtherTexts.{are_tokens, begins_plain, simple_text, tokens_texts}
-use Rattle.zone_forms.proofs.GeneralRows.{front_begins, rewrites_row}
-use Rattle.zone_forms.proofs.KnownWords.{type_word_below}
-use Rattle.zone_forms.proofs.LongerRows.{still_none}
+use Rattle.zone_general.proofs.GeneralRows.{front_begins, rewrites_row}
+use Rattle.zone_general.proofs.KnownWords.{type_word_below}
+use Rattle.zone_general.proofs.LongerRows.{still_none}
 use Rattle.zone_forms.proofs.ReadBack.{front_taken}
-use Rattle.zone_forms.proofs.RewrittenParts.{safe_token, spaced_text, tokens_row}
-use Rattle.zone_forms.proofs.ScannedOnce.{one_octets}
-use Rattle.zone_forms.proofs.SameRecords.{one_unknown}
+use Rattle.zone_general.proofs.RewrittenParts.{safe_token, spaced_text, tokens_row}
+use Rattle.zone_general.proofs.ScannedOnce.{one_octets}
+use Rattle.zone_general.proofs.SameRecords.{one_unknown}
 
 no_marks : {first : Token} {others : List Token} → (first ≡ marker → ⊥) → IsMarked (first ∷ others) → ⊥
 no_marks plain marks = plain (let both = marks.is in cc)

@@ -16,13 +16,13 @@ use Rattle.dns_zonefile.specs.Entry.{Context, Entry, IsEntry}
 use Rattle.dns_zonefile.specs.Statement.{HasOwner, IsDirective, Names, Says, Stated, Statement, StatesRecord}
 use Rattle.dns_zonefile.specs.Statement.HasOwner.{last as last_owner, own as own_owner}
 use Rattle.dns_zonefile.specs.Statement.Says.{directive, resource}
-use Rattle.zone_forms.specs.LongerEntries.{AreLongerEntries, HasLongerEntries}
-use Rattle.zone_forms.specs.LongerRow.{HasType, IsKnown, IsMarked, IsNoTypeWord, IsTypeWord, Stands}
-use Rattle.zone_forms.specs.LongerRow.HasFront.{last, own}
-use Rattle.zone_forms.specs.LongerRow.IsGeneralRow.{same as same_row}
+use Rattle.zone_general.specs.LongerEntries.{AreLongerEntries, HasLongerEntries}
+use Rattle.zone_general.specs.LongerRow.{HasType, IsKnown, IsMarked, IsNoTypeWord, IsTypeWord, Stands}
+use Rattle.zone_general.specs.LongerRow.HasFront.{last, own}
+use Rattle.zone_general.specs.LongerRow.IsGeneralRow.{same as same_row}
 use Rattle.zone_forms.proofs.NoTypeWords.{stated_no_types}
-use Rattle.zone_forms.proofs.RowTypes.{one_type}
-use Rattle.zone_forms.proofs.SameRecords.{is_type_word}
+use Rattle.zone_general.proofs.RowTypes.{one_type}
+use Rattle.zone_general.proofs.SameRecords.{is_type_word}
 
 -- the type of a row behind its owner
 type_behind : {names : Names} {row : TokenRow} {owner : Option (List (List ℕ))} {tokens : List Token} → HasOwner names row owner tokens

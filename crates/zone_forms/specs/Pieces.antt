@@ -7,8 +7,9 @@ use Rattle.dns_zonefile.specs.Entry.{Context, Entry}
 use Rattle.dns_zonefile.specs.Reader.{line_behind}
 use Rattle.zone_forms.specs.Presented.{GoesPresented, IsGeneralOf, IsPresentedOf}
 use Rattle.zone_forms.specs.Refused.{FailsInLine}
-use Rattle.zone_forms.specs.Rewritten.{GoesGeneral, HasGone}
-use Rattle.zone_forms.specs.Seen.{context_in}
+use Rattle.zone_general.specs.Rewritten.{GoesGeneral}
+use Rattle.zone_forms.specs.Going.{HasGone}
+use Rattle.zone_general.specs.Seen.{context_in}
 use Rattle.zone_forms.specs.declared.error.FormError.{FormError}
 use Rattle.zone_forms.specs.declared.rewriter.Form.{Form}
 use Rattle.zone_forms.specs.declared.rewriter.Form.TheVariants.{General, Presentation}

@@ -13,9 +13,10 @@ use Rattle.dns_entry_scanner.specs.NameInText.{SpellsUnder}
 use Rattle.dns_zonefile.specs.Entries.{HasEntries}
 use Rattle.dns_zonefile.specs.Entry.{Context, Entry}
 use Rattle.dns_zonefile.specs.Statement.{Names}
-use Rattle.zone_forms.specs.LongerEntries.{HasLongerEntries, IsLongerEntry}
-use Rattle.zone_forms.specs.LongerRow.{HasType, IsMarked, ScansLonger}
-use Rattle.zone_forms.specs.Rewritten.{AreRow, GoesGeneral, GoesTo, Rewrites}
+use Rattle.zone_general.specs.LongerEntries.{HasLongerEntries, IsLongerEntry}
+use Rattle.zone_general.specs.LongerRow.{HasType, IsMarked, ScansLonger}
+use Rattle.zone_general.specs.Rewritten.{AreRow, GoesGeneral, Rewrites}
+use Rattle.zone_forms.specs.Going.{GoesTo}
 
 -- The octets are data of the further type, and its fields have a text: none that is written in base 16 or 64, as a key, a digest or a
 -- signature, is empty.

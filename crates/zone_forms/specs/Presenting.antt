@@ -8,11 +8,11 @@ use Rattle.dns_field_texts.specs.TypeWords.{type_word_written}
 use Rattle.dns_fields_more.specs.Forms.{IsFurtherData}
 use Rattle.dns_rdata_more.specs.Shown.{further_document}
 use Rattle.dns_zonefile.specs.Statement.{Names}
-use Rattle.zone_forms.specs.LongerRow.{HasType, IsMarked, ScansLonger}
-use Rattle.zone_forms.specs.Rewritten.{AreRow}
-use Rattle.zone_forms.specs.Seen.{HasTypeAt, RewritesAt, row_in, tokens_in}
-use Rattle.zone_forms.specs.declared.found_row.FoundRow.{FoundRow}
-use Rattle.zone_forms.specs.declared.row_type.RowType.{RowType}
+use Rattle.zone_general.specs.LongerRow.{HasType, IsMarked, ScansLonger}
+use Rattle.zone_general.specs.Rewritten.{AreRow}
+use Rattle.zone_general.specs.Seen.{HasTypeAt, RewritesAt, row_in, tokens_in}
+use Rattle.zone_general.specs.declared.found_row.FoundRow.{FoundRow}
+use Rattle.zone_general.specs.declared.stated_type.RowType.{RowType}
 
 -- the other row has the same tokens before its type, the same type, and data that is not in general form
 pub record HasSameFront (row other : TokenRow) (kind : RowType) : Type 0 where

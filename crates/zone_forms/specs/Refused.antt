@@ -3,7 +3,7 @@ use Rattle.std.specs.Prelude.{◌≡◌, ◌≢◌, ◌++◌, ◌∷◌, [], ℕ
 use Rattle.dns_text.specs.Rows.{BeginsWithRows, BreaksAfter, TokenRow}
 use Rattle.dns_zonefile.specs.Entry.{Context, Entry}
 use Rattle.dns_zonefile.specs.Reader.{line_behind}
-use Rattle.zone_forms.specs.LongerEntries.{AreLongerEntries, IsLongerEntry}
+use Rattle.zone_general.specs.LongerEntries.{AreLongerEntries, IsLongerEntry}
 
 -- After some entries the text fails, in this line: what follows is no row, or a row with tokens that is no entry.
 pub data FailsInLine (start : Context) (text : List ℕ) : ℕ → Type 0 where

@@ -3,7 +3,7 @@ ghost use Rattle.std.specs.Prelude.{◌≡◌, ℕ, List};
 ghost use Rattle.dns_text.specs.Document.{Layout};
 ghost use Rattle.dns_zonefile.specs.Entries.{HasEntries};
 ghost use Rattle.dns_zonefile.specs.Entry.{Context, Entry};
-ghost use Rattle.zone_forms.specs.LongerEntries.{HasLongerEntries};
+ghost use Rattle.zone_general.specs.LongerEntries.{HasLongerEntries};
 ghost use Rattle.zone_forms.specs.Presented.{IsGeneralOf, IsPresentedOf};
 
 /// A text that a `Zonefile` reads has the same entries by the longer table, which has the further types too.

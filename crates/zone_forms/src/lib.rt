@@ -12,22 +12,14 @@
 #![tactic(auto)]
 
 mod error;
-mod found_row;
-mod general_form;
 pub mod laws;
-mod longer_reader;
 mod presenting;
-mod readable;
 mod rewriter;
-mod rewriting;
-mod row_data;
-mod row_type;
 mod rows;
-mod stand_in;
 mod text_form;
 mod texts;
 
 pub use error::FormError;
-pub use readable::general_rows;
 pub use rewriter::{Form, Rewriter};
 pub use texts::{general, present};
+pub use zone_general::general_rows;

@@ -11,14 +11,8 @@ ghost use Rattle.dns_text.specs.Document.Layout.{Simple};
 ghost use Rattle.dns_text.specs.Layout.{layout_of};
 ghost use Rattle.zone_forms.specs.Presented.{GoesPresented, HasFieldsText, HasPresentation};
 ghost use Rattle.zone_forms.specs.Presenting.{HasSameFront, PrintsAs, PrintsRow, ReadsBack};
-ghost use Rattle.zone_forms.specs.Seen.{HasTypeAt, IsFound, row_in, tokens_in};
+ghost use Rattle.zone_general.specs.Seen.{HasTypeAt, IsFound, row_in, tokens_in};
 
-use crate::found_row::FoundRow;
-use crate::longer_reader::LongerReader;
-use crate::readable::is_want_of_memory;
-use crate::rewriting::append_rewritten;
-use crate::row_data::{is_marked, scan_data};
-use crate::row_type::{RowType, row_type};
 use crate::text_form::TextForm;
 use dns_field_texts::DisplayType;
 use dns_name::{Name, Rtype};
@@ -28,6 +22,9 @@ use dns_text::{DisplayKind, ZonefileFmt};
 use dns_zonefile::{EntryError, InlineName, RowFound, RowScanner, read_row};
 use std::alloc::Global;
 use std::fmt::Write;
+use zone_general::{
+    FoundRow, LongerReader, RowType, append_rewritten, is_marked, row_type, scan_data,
+};
 
 /// The presentation form.
 #[derive(Drop)]
@@ -91,7 +88,7 @@ fn printed_row<'a>(
     match scan_data(alloc, row, kind, origin, &mut data) {
         Ok(()) => {}
         Err(error) => {
-            if is_want_of_memory(error) {
+            if error == EntryError::OutOfMemory {
                 return Err(error);
             }
             return Ok(None);
@@ -225,7 +222,7 @@ fn reads_back<'a>(
             Ok(octets.as_slice() == data)
         }
         Err(error) => {
-            if is_want_of_memory(error) {
+            if error == EntryError::OutOfMemory {
                 return Err(error);
             }
             Ok(false)

@@ -6,7 +6,6 @@ ghost use Rattle.zone_forms.specs.Refused.{FailsInLine};
 ghost use Rattle.zone_forms.specs.declared.error.FormError.TheVariants.{Line};
 
 use crate::FormError;
-use crate::longer_reader::LongerReader;
 use crate::presenting::Presenter;
 use crate::rows::{append_rows, feeds_at};
 use crate::text_form::{GeneralForm, TextForm};
@@ -14,6 +13,7 @@ use dns_name::{Class, Name};
 use dns_text::DisplayKind;
 use dns_zonefile::{RowFound, TokenSpan, read_row};
 use std::alloc::{AllocError, Global};
+use zone_general::LongerReader;
 
 /// A form of the data of further types in a text.
 #[derive(Clone, Copy, Debug)]

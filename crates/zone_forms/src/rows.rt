@@ -5,16 +5,15 @@ ghost use Rattle.dns_entry_scanner.specs.RowFound.{NoRow};
 ghost use Rattle.dns_text.specs.Tokens.{is_end};
 ghost use Rattle.dns_zonefile.specs.Entry as spec;
 ghost use Rattle.dns_zonefile.specs.Reader.{line_at};
-ghost use Rattle.zone_forms.specs.LongerEntries.{IsLongerEntry};
-ghost use Rattle.zone_forms.specs.Rewritten.{RowGoes};
-ghost use Rattle.zone_forms.specs.Seen.{FailsBehind, GoesUpTo, IsFound, context_in, octets_in, row_in, tokens_in};
+ghost use Rattle.zone_general.specs.LongerEntries.{IsLongerEntry};
+ghost use Rattle.zone_forms.specs.Going.{FailsBehind, GoesUpTo, RowGoes};
+ghost use Rattle.zone_general.specs.Seen.{IsFound, context_in, octets_in, row_in, tokens_in};
 ghost use Rattle.zone_forms.specs.declared.error.FormError.TheVariants.{Line, OutOfMemory};
 
 use crate::FormError;
-use crate::found_row::FoundRow;
-use crate::longer_reader::LongerReader;
 use crate::text_form::TextForm;
 use dns_zonefile::{EntryError, LineMark, RowFound, TokenSpan, read_row};
+use zone_general::{FoundRow, LongerReader};
 
 /// Where a text is cut into no further row.
 #[derive(Clone, Copy, Debug)]

@@ -5,13 +5,12 @@ ghost use Rattle.dns_text.specs.Document.{Layout};
 ghost use Rattle.dns_text.specs.Document.Layout.{Simple};
 ghost use Rattle.dns_text.specs.Rows.{TokenRow};
 ghost use Rattle.dns_zonefile.specs.Entry as spec;
-ghost use Rattle.zone_forms.specs.LongerEntries.{IsLongerEntry};
-ghost use Rattle.zone_forms.specs.Rewritten.{GoesGeneral};
-ghost use Rattle.zone_forms.specs.Seen.{IsFound, context_in, octets_in, row_in, tokens_in};
+ghost use Rattle.zone_general.specs.LongerEntries.{IsLongerEntry};
+ghost use Rattle.zone_general.specs.Rewritten.{GoesGeneral};
+ghost use Rattle.zone_general.specs.Seen.{IsFound, context_in, octets_in, row_in, tokens_in};
 
-use crate::found_row::FoundRow;
-use crate::longer_reader::{LongerReader, RowForm};
 use dns_zonefile::EntryError;
+use zone_general::{FoundRow, LongerReader, RowForm};
 
 /// A form of further data in a text.
 ///

@@ -5,18 +5,18 @@ ghost use Rattle.dns_zonefile.specs.Entry as spec;
 ghost use Rattle.dns_zonefile.specs.Entry.{at_start};
 ghost use Rattle.zone_forms.specs.Presented.{IsGeneralOf, IsPresentedOf};
 ghost use Rattle.zone_forms.specs.Refused.{FailsInLine};
-ghost use Rattle.zone_forms.specs.Rewritten.{GoesTo};
-ghost use Rattle.zone_forms.specs.Seen.{context_in};
+ghost use Rattle.zone_forms.specs.Going.{GoesTo};
+ghost use Rattle.zone_general.specs.Seen.{context_in};
 ghost use Rattle.zone_forms.specs.declared.error.FormError.TheVariants.{Line};
 
 use crate::FormError;
-use crate::longer_reader::LongerReader;
 use crate::presenting::Presenter;
 use crate::rows::{append_rows, error_at};
 use crate::text_form::{GeneralForm, TextForm};
 use dns_name::{Class, Name};
 use dns_text::DisplayKind;
 use std::alloc::Global;
+use zone_general::LongerReader;
 
 /// Returns the text with the data of further types in general form (RFC 3597 5), where it is in presentation form. All else
 /// stays as it is, but a word for a type that only this crate knows becomes `TYPE` and its number.

@@ -1,7 +1,7 @@
 use Rattle.std.proofs.Common.{◌≡◌, ◌+◌, IsTrue, drop, arith}
 use Rattle.std.proofs.lemmas.Grind.{common_steps}
-use Rattle.zone_forms.specs.LongerRow.{IsMarked}
-use Rattle.zone_forms.specs.Seen.{tokens_in}
+use Rattle.zone_general.specs.LongerRow.{IsMarked}
+use Rattle.zone_general.specs.Seen.{tokens_in}
 use Rattle.zone_forms.proofs.ReadBack.{front_found, front_same, front_unmarked, no_truth, same_front}
 use Rattle.zone_forms.proofs.presenting.has_same_front.Goals as goal
 

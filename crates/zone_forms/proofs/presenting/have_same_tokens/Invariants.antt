@@ -1,5 +1,5 @@
 use Rattle.std.proofs.Common.{◌≡◌, take}
-use Rattle.zone_forms.specs.Seen.{tokens_in}
+use Rattle.zone_general.specs.Seen.{tokens_in}
 use Rattle.zone_forms.proofs.presenting.have_same_tokens.Given as goal
 
 -- so many tokens are the same

@@ -7,10 +7,10 @@ use Rattle.dns_rdata_more.specs.Shown.{further_document}
 use Rattle.dns_text.specs.Document.{Layout, document_text}
 use Rattle.dns_text.specs.Document.Layout.{Simple}
 use Rattle.dns_text.specs.Layout.{layout_of}
-use Rattle.zone_forms.specs.Seen.{RewritesAt}
+use Rattle.zone_general.specs.Seen.{RewritesAt}
 use Rattle.zone_forms.proofs.FurtherTexts.{names_spelled}
 use Rattle.zone_forms.proofs.ReadBack.{octets_by_place}
-use Rattle.zone_forms.proofs.RowTypes.{type_within}
+use Rattle.zone_general.proofs.RowTypes.{type_within}
 use Rattle.zone_forms.proofs.SimpleRows.{simple_back}
 use Rattle.zone_forms.proofs.presenting.printed_as.Goals as goal
 

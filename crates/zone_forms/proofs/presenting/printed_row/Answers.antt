@@ -1,8 +1,8 @@
 use Rattle.std.proofs.Common.{◌≡◌, ◌+◌, ◌++◌, ◌∙◌, List, ℕ, ap, arith, drop, option_copied, refl, subst, sym}
 use Rattle.std.proofs.lemmas.Grind.{common_steps}
 use Rattle.dns_entry_scanner.specs.NameInText.{SpellsUnder}
-use Rattle.zone_forms.specs.LongerRow.{ScansLonger}
-use Rattle.zone_forms.specs.Seen.{tokens_in}
+use Rattle.zone_general.specs.LongerRow.{ScansLonger}
+use Rattle.zone_general.specs.Seen.{tokens_in}
 use Rattle.zone_forms.proofs.PresentedRows.{none_weaker, presents_marked, presents_scans, presents_text}
 use Rattle.zone_forms.proofs.presenting.printed_row.Goals as goal
 

@@ -5,12 +5,12 @@ use Rattle.std.proofs.lemmas.Grind.{common_steps}
 use Rattle.dns_label.specs.Octets.{AreOctets}
 use Rattle.dns_entry_scanner.specs.RowFound.{IsRowAt}
 use Rattle.zone_forms.specs.Presenting.{HasSameFront}
-use Rattle.zone_forms.specs.Seen.{IsFound, row_in}
-use Rattle.zone_forms.specs.declared.found_row.FoundRow.{FoundRow}
-use Rattle.zone_forms.proofs.GeneralRows.{row_found}
-use Rattle.zone_forms.proofs.ReadRows.{is_found}
+use Rattle.zone_general.specs.Seen.{IsFound, row_in}
+use Rattle.zone_general.specs.declared.found_row.FoundRow.{FoundRow}
+use Rattle.zone_general.proofs.GeneralRows.{row_found}
+use Rattle.zone_general.proofs.ReadRows.{is_found}
 use Rattle.zone_forms.proofs.ReadBack.{all_octets, data_back, front_back, front_within, no_truth, one_content, read_back, same_content, whole_row}
-use Rattle.zone_forms.proofs.RowTypes.{type_within}
+use Rattle.zone_general.proofs.RowTypes.{type_within}
 use Rattle.zone_forms.proofs.SimpleRows.{one_scanned}
 use Rattle.zone_forms.proofs.presenting.reads_back.Goals as goal
 

@@ -2,8 +2,8 @@ use Rattle.std.proofs.Common.{◌≢◌, [], arith}
 use Rattle.std.proofs.lemmas.Grind.{common_steps}
 use Rattle.dns_entry_scanner.proofs.Refused.{on_ok_weaker}
 use Rattle.zone_forms.proofs.GoingOn.{if_err_weaker}
-use Rattle.zone_forms.specs.Rewritten.RowGoes.{entry}
-use Rattle.zone_forms.specs.Seen.{tokens_in}
+use Rattle.zone_forms.specs.Going.RowGoes.{entry}
+use Rattle.zone_general.specs.Seen.{tokens_in}
 use Rattle.zone_forms.proofs.rows.append_row.Goals as goal
 
 pub returns-clause-ok : goal.returns-clause-ok

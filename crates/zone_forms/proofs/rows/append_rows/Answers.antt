@@ -4,9 +4,9 @@ use Rattle.dns_text.specs.Document.{Layout}
 use Rattle.dns_text.specs.Tokens.{is_end}
 use Rattle.dns_text.proofs.OneRow.{no_row_at_end}
 use Rattle.zone_forms.proofs.GoingOn.{fails_row, going_row, going_start}
-use Rattle.zone_forms.specs.Rewritten.{RowGoes}
-use Rattle.zone_forms.specs.Seen.{IsFound, context_in, octets_in, row_in}
-use Rattle.zone_forms.specs.declared.found_row.FoundRow.{FoundRow}
+use Rattle.zone_forms.specs.Going.{RowGoes}
+use Rattle.zone_general.specs.Seen.{IsFound, context_in, octets_in, row_in}
+use Rattle.zone_general.specs.declared.found_row.FoundRow.{FoundRow}
 use Rattle.zone_forms.proofs.rows.append_rows.Goals as goal
 
 pub loop-next-init : goal.loop-next-init

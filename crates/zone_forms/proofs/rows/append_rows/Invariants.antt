@@ -1,5 +1,6 @@
 use Rattle.std.proofs.Common.{◌≡◌, ◌-◌, length}
-use Rattle.zone_forms.specs.Seen.{GoesUpTo, context_in}
+use Rattle.zone_general.specs.Seen.{context_in}
+use Rattle.zone_forms.specs.Going.{GoesUpTo}
 use Rattle.zone_forms.proofs.rows.append_rows.Given as goal
 
 abbrev pub invariant-loop-next : goal.invariant-loop-next

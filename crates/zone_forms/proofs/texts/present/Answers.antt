@@ -4,7 +4,7 @@ use Rattle.dns_text.specs.Layout.{layout_of}
 use Rattle.dns_text.specs.declared.layout.DisplayKind.{DisplayKind}
 use Rattle.dns_zonefile.specs.Entry.{Context, at_start}
 use Rattle.zone_forms.specs.Presented.{IsPresentedOf}
-use Rattle.zone_forms.specs.Seen.{context_in}
+use Rattle.zone_general.specs.Seen.{context_in}
 use Rattle.zone_forms.proofs.GoneTexts.{presented_gone}
 use Rattle.zone_forms.proofs.texts.present.Goals as goal
 

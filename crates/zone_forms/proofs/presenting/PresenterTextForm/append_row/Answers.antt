@@ -4,7 +4,7 @@ use Rattle.dns_entry_scanner.specs.NameInText.{SpellsUnder}
 use Rattle.dns_text.specs.Layout.{layout_of}
 use Rattle.zone_forms.specs.Presented.{HasPresentation}
 use Rattle.zone_forms.specs.Presenting.{PrintsRow}
-use Rattle.zone_forms.specs.Seen.{context_in, octets_in, row_in}
+use Rattle.zone_general.specs.Seen.{context_in, octets_in, row_in}
 use Rattle.zone_forms.proofs.PresentedRows.{goes_as_is, goes_so, handed_on}
 use Rattle.zone_forms.proofs.presenting.PresenterTextForm.append_row.Goals as goal
 

@@ -1,0 +1,27 @@
+use Rattle.std.proofs.Common.{◌+◌, arith}
+use Rattle.zone_general.specs.Seen.{tokens_in}
+use Rattle.zone_general.proofs.RowData.{fields_scanned, general_scanned, if_err, no_fields, no_general, on_ok}
+use Rattle.zone_general.proofs.row_data.scan_data.Goals as goal
+
+pub returns-then-is_marked-clause-ok : goal.returns-then-is_marked-clause-ok
+returns-then-is_marked-clause-ok c =
+    on_ok
+    (general_scanned (c.args.kind.index + 1) (c.args.kind.index + 2) (tokens_in c.args.row) (omega arith) (c.is_marked.ensures.0 c.if-is_marked.true)
+    c.args.octets.now.items c.scan_general.new.octets.items)
+    c.scan_general.result c.scan_general.ensures.ok
+
+pub returns-then-is_marked-clause-err : goal.returns-then-is_marked-clause-err
+returns-then-is_marked-clause-err c =
+    if_err
+    (λ error none real.
+    no_general (c.args.kind.index + 1) (c.args.kind.index + 2) (tokens_in c.args.row) (omega arith) (c.is_marked.ensures.0 c.if-is_marked.true) (none real))
+    c.scan_general.result c.scan_general.ensures.err
+
+pub returns-clause-ok : goal.returns-clause-ok
+returns-clause-ok c =
+    on_ok (fields_scanned c.args.octets.now.items c.scan_fields.new.octets.items (λ marked. let yes = c.is_marked.ensures.1 marked in cc))
+    c.scan_fields.result c.scan_fields.ensures.ok
+
+pub returns-clause-err : goal.returns-clause-err
+returns-clause-err c =
+    if_err (λ error none real. no_fields (λ marked. let yes = c.is_marked.ensures.1 marked in cc) (none real)) c.scan_fields.result c.scan_fields.ensures.err
