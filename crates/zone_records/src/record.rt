@@ -6,6 +6,7 @@ ghost use Rattle.dns_wire.specs.Suffix.{EndsWith};
 ghost use Rattle.zone_records.specs.Record as spec;
 ghost use Rattle.zone_records.specs.Zone.{soa_type};
 
+use crate::suffix::flat_ends_with;
 use dns_name::{Class, Name, Rtype, ToName, Ttl, first_name};
 use dns_octets::number_at;
 use std::marker::Model;
@@ -105,7 +106,10 @@ impl<'a> Record<'a> {
     pub fn is_under<N: ToName>(&self, apex: &N) -> bool
         ensures { IsTrue result ↔ EndsWith (low self.now.owner) (low (N.name apex.now)) }
     {
-        self.owner().ends_with(apex)
+        match apex.as_flat_slice() {
+            Some(end) => flat_ends_with(self.owner().as_slice(), end),
+            None => self.owner().ends_with(apex),
+        }
     }
 
     /// Returns whether the owner is the name, up to ASCII case.
