@@ -38,7 +38,7 @@ def programs():
     zone_crates = [it for it in lower("zone_main", needs) if it in ("zonewire", "zone") or it.startswith("zone_")]
     return [
         Program("zonewire", "zonewire", "zone_main", zone_crates, frozenset({"--help"})),
-        Program("zonetool", "tool_main", "tool_main", ["zone", "zone_forms", "tool_main"], frozenset({"--help", "--version"})),
+        Program("zonetool", "tool_words", "tool_main", ["zone", "zone_forms", "tool_words"], frozenset({"--help", "--version"})),
     ]
 
 

@@ -3,15 +3,7 @@
 use std::alloc::{AllocError, Global};
 use std::env;
 use std::io::IsTerminal;
-
-/// When the output has colours.
-#[derive(Clone, Copy, Debug, PartialEq, Eq)]
-pub(crate) enum ColorChoice {
-    /// On a terminal, unless the environment has `NO_COLOR`.
-    Auto,
-    Always,
-    Never,
-}
+use tool_words::ColorChoice;
 
 /// The escape sequences that begin a style (ECMA-48 8.3.117).
 pub(crate) const BOLD: &str = "\x1b[1m";

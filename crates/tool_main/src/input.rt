@@ -7,23 +7,12 @@ use std::alloc::Global;
 use std::fs::File;
 use std::io::Read;
 use std::{fs, io};
+use tool_words::{Reading, STANDARD_INPUT};
 use zone::{Zone, ZoneError};
 use zone_forms::{FormError, Rewriter, general_rows};
 
-/// The name of standard input.
-pub(crate) const STANDARD_INPUT: &str = "-";
-
 /// The number of octets that are read at a time. More are if more wait for the rest of their row.
 const PIECE_LEN: usize = 65536;
-
-/// What the words say of how a zone's text is read.
-#[derive(Debug, Drop)]
-pub(crate) struct Reading {
-    /// The origin of relative names in the text.
-    pub(crate) origin: Option<Name<Vec<u8>>>,
-    /// The zone's class.
-    pub(crate) class: Class,
-}
 
 /// Reads the octets of the file, or of standard input if the file is `-`.
 pub(crate) fn read_text<'a>(rt: &HostRuntime, file: &'a str) -> Result<Vec<u8>, Fault<'a>> {

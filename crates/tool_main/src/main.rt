@@ -3,7 +3,6 @@
 #![tactic(auto)]
 
 mod color;
-mod command_line;
 mod explaining;
 mod fault;
 mod finding_text;
@@ -14,11 +13,11 @@ mod table;
 mod tasks;
 
 use clap::error::ErrorKind;
-use command_line::{WordsFault, task_of};
 use fault::Fault;
 use program_words::{UsageError, words_after_path};
 use std::process::ExitCode;
 use tasks::perform;
+use tool_words::{WordsFault, task_of};
 
 /// The program's name, as the first word of a command line.
 const NAME: &str = "zonetool";

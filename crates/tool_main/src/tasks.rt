@@ -1,94 +1,18 @@
-//! The tasks of the program.
+//! The tasks of the program, performed.
 
-use crate::color::{ColorChoice, colored_difference, is_colored};
+use crate::color::{colored_difference, is_colored};
 use crate::explaining::findings_of;
 use crate::fault::Fault;
 use crate::finding_text::finding_text;
-use crate::input::{Reading, ZoneRead, in_file, read_text, read_zone, rewritten_file};
+use crate::input::{ZoneRead, in_file, read_text, read_zone, rewritten_file};
 use crate::presented::{presented_difference, presented_sorted};
 use crate::progress::{is_told, tell, wipe};
 use crate::table::table_of;
-use dns_name::{Class, Name};
 use dns_text::DisplayKind;
 use std::io::Write;
+use tool_words::{ColorChoice, Reading, Task};
 use zone_forms::{Form, Rewriter};
 use zone_tool::{Selection, difference, framed_query, sorted};
-
-/// What the program does.
-#[derive(Debug, Drop)]
-pub(crate) enum Task<'a> {
-    /// Writes why the text of a file is no zone's.
-    Explain {
-        /// The zone's file.
-        file: &'a str,
-        /// How the zone is read.
-        reading: Reading,
-        /// Whether each fault is written, not only the first.
-        all: bool,
-        /// Whether it has colours.
-        color: ColorChoice,
-    },
-    /// Writes what changed between the zones of two files.
-    Diff {
-        /// The file of the old zone.
-        old: &'a str,
-        /// The file of the new zone.
-        new: &'a str,
-        /// How the zones are read.
-        reading: Reading,
-        /// Which records are compared.
-        selection: Selection,
-        /// Whether data of further types is in presentation form.
-        present: bool,
-        /// Whether the lines have colours.
-        color: ColorChoice,
-    },
-    /// Writes the zone of a file in canonical order.
-    Sort {
-        /// The zone's file.
-        file: &'a str,
-        /// How the zone is read.
-        reading: Reading,
-        /// Whether data of further types is in presentation form.
-        present: bool,
-        /// How the text is laid out.
-        layout: DisplayKind,
-    },
-    /// Writes the numbers of the zone of a file.
-    Stats {
-        /// The zone's file.
-        file: &'a str,
-        /// How the zone is read.
-        reading: Reading,
-        /// Whether types are named by all mnemonics.
-        present: bool,
-    },
-    /// Writes the text of a file with data of further types in general form.
-    General {
-        /// The zone's file.
-        file: &'a str,
-        /// How the zone is read.
-        reading: Reading,
-    },
-    /// Writes the text of a file with data of further types in presentation form.
-    Present {
-        /// The zone's file.
-        file: &'a str,
-        /// How the zone is read.
-        reading: Reading,
-        /// How the data is laid out.
-        layout: DisplayKind,
-    },
-    /// Writes the query for a zone's transfer, after its length.
-    Query {
-        /// The zone's name.
-        apex: Name<Vec<u8>>,
-        /// The zone's class.
-        class: Class,
-        /// The ID of the query.
-        id: u16,
-    },
-}
 
 /// Performs the task. Returns false if it writes a difference, or why a text is no zone's.
 pub(crate) fn perform<'a>(rt: &HostRuntime, task: &Task<'a>) -> Result<bool, Fault<'a>> {

@@ -18,7 +18,7 @@ use Rattle.dns_zonefile.proofs.RowFronts.{all_rows}
 use Rattle.zone.specs.ZoneText.{IsZoneFault, Reaches}
 use Rattle.zone.specs.declared.zone_error.ZoneError.{ZoneError}
 use Rattle.zone.specs.declared.zone_error.ZoneError.TheVariants as zone_error
-use Rattle.zone_explain.specs.declared.explain.located.Located.{Located}
+use Rattle.zone_reasons.specs.declared.located.Located.{Located}
 use Rattle.zone_explain.specs.EntryRow.{HasPassed, IsEntryRow, IsFaultRow, breaks_entry, number_of}
 use Rattle.zone_explain.specs.Explained.{BeginsAt, IsRulePlace, any_tokens, behind_blanks, has_tokens}
 

@@ -7,27 +7,17 @@ ghost use Rattle.zone_explain.specs.EntryRow.{IsFaultRow, breaks_entry, number_o
 ghost use Rattle.zone_explain.specs.Explained.{IsExplained, IsRulePlace, behind_blanks};
 
 mod all;
-mod broken_row;
 mod entry_row;
-mod fields;
-mod further_row;
-mod located;
-mod outcome;
-mod reason;
-mod token_row;
 mod walk;
-mod words;
 
 pub use all::explain_all;
-use broken_row::broken_row_fault;
 use dns_name::{Class, Name};
 use dns_zonefile::LineMark;
 use entry_row::{EntryRow, entry_row};
-pub use located::Located;
-pub use reason::{Reason, Wanted};
 use std::alloc::{AllocError, Global};
-use token_row::TokenRow;
 use zone::{Zone, ZoneError};
+pub use zone_reasons::{Located, Reason, Wanted};
+use zone_reasons::{TokenRow, broken_row_fault};
 
 /// The first rule that a zone's text breaks, and where.
 #[derive(Debug, Drop)]
@@ -127,7 +117,7 @@ fn entry_fault(
         → drop located.start text.now ≡ behind_blanks (drop row.now.place text.now)) }
 {
     let Some(blank_led) = row.blank_led else {
-        return Ok(broken_row_fault(text, row));
+        return Ok(broken_row_fault(text, row.place, row.mark));
     };
     if let Some(reason) = rule_reason(fault, row.soa_line) {
         return Ok(row.at_start(text, reason));
@@ -135,8 +125,11 @@ fn entry_fault(
     let tokens = TokenRow {
         alloc,
         text,
-        entry: row,
+        place: row.place,
         blank_led,
+        spans: row.spans.as_slice(),
+        origin: row.origin.as_ref(),
+        has_owner: row.has_owner,
         class,
     };
     tokens.fault()

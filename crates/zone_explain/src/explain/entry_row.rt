@@ -4,11 +4,8 @@ ghost use Rattle.zone_explain.specs.Explained.{behind_blanks as spec_behind_blan
 ghost use Rattle.dns_zonefile.specs.LineMark.{MarksLine};
 ghost use Rattle.zone_explain.specs.EntryRow.{IsEntryRow};
 
-use super::located::Located;
-use super::outcome::read_or_refused;
-use super::reason::Reason;
-use super::words::begins_with_dollar;
-use dns_entry_scanner::{RowFound, RowScanner, TokenSpan, read_row};
+use super::{Located, Reason};
+use dns_entry_scanner::{EntryError, RowFound, RowScanner, TokenSpan, read_row};
 use dns_name::{Name, ToName};
 use dns_text::Scanner;
 use dns_zonefile::LineMark;
@@ -124,7 +121,7 @@ impl EntryRow {
             return Ok(());
         };
         let word = first.text(text);
-        if self.blank_led == Some(true) || first.is_quoted() || !begins_with_dollar(word) {
+        if self.blank_led == Some(true) || first.is_quoted() || !word.starts_with(b"$") {
             if !self.has_owner {
                 let line = self.mark.line_of(text, first.start());
                 let apex = name_in(alloc, text, self.place, spans, self.origin.as_ref())?;
@@ -153,9 +150,10 @@ fn name_in(
     origin: Option<&Name<Vec<u8>>>,
 ) -> Result<Option<Name<Vec<u8>>>, AllocError> {
     let mut scanner: RowScanner<'_> = RowScanner::new(alloc, text, place, tokens, origin);
-    match read_or_refused(scanner.scan_name())? {
-        Some(name) => Ok(Some(name.to_vec(alloc)?)),
-        None => Ok(None),
+    match scanner.scan_name() {
+        Ok(name) => Ok(Some(name.to_vec(alloc)?)),
+        Err(EntryError::OutOfMemory) => Err(AllocError),
+        Err(_) => Ok(None),
     }
 }
 

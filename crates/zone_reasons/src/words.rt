@@ -1,6 +1,6 @@
 //! The words of a row.
 
-use super::reason::{Reason, Wanted};
+use crate::reason::{Reason, Wanted};
 use dns_field_texts::read_type;
 use dns_name::{Class, Rtype};
 

@@ -1,9 +1,8 @@
 //! How far a row reads as data of a further type.
 
-use super::located::Located;
-use super::outcome::read_or_refused;
-use super::reason::{Reason, Wanted};
-use super::token_row::TokenRow;
+use crate::outcome::read_or_refused;
+use crate::reason::{Reason, Wanted};
+use crate::token_row::{TokenFault, TokenRow};
 use dns_entry_scanner::RowScanner;
 use dns_field_texts::{
     WordError, append_hardware, append_hash, append_salt, read_algorithm, read_certificate_type,
@@ -23,7 +22,7 @@ impl<'t> TokenRow<'t> {
         index: usize,
         rtype: Rtype,
         forms: &[Form],
-    ) -> Result<Option<Located>, AllocError> {
+    ) -> Result<Option<TokenFault>, AllocError> {
         let mut scanner = self.scanner(index);
         let mut octets = Vec::new(self.alloc);
         let read = read_or_refused(scan_further_into(rtype, &mut scanner, &mut octets))?;
@@ -32,23 +31,23 @@ impl<'t> TokenRow<'t> {
         }
         let mut at = index;
         for form in forms {
-            if let Some(located) = self.form_fault(at, *form)? {
-                return Ok(Some(located));
+            if let Some(fault) = self.form_fault(at, *form)? {
+                return Ok(Some(fault));
             }
             at = if takes_all(*form) {
-                self.spans().len()
+                self.spans.len()
             } else {
                 at.saturating_add(1)
             };
         }
-        if at < self.spans().len() {
-            return Ok(Some(self.at(at, Reason::Surplus)));
+        if at < self.spans.len() {
+            return Ok(Some(TokenFault::at(at, Reason::Surplus)));
         }
-        Ok(Some(self.at(index, Reason::LongData)))
+        Ok(Some(TokenFault::at(index, Reason::LongData)))
     }
 
     /// Returns why no field of the form begins at the index, or None if one does. Fails if out of memory.
-    fn form_fault(&self, at: usize, form: Form) -> Result<Option<Located>, AllocError> {
+    fn form_fault(&self, at: usize, form: Form) -> Result<Option<TokenFault>, AllocError> {
         let (reads, wanted) = match form {
             Form::Number8 => (self.reads::<u8>(at)?, Wanted::Number8),
             Form::Number16 => (self.reads::<u16>(at)?, Wanted::Number16),
@@ -58,7 +57,7 @@ impl<'t> TokenRow<'t> {
                 let string = read_or_refused(self.scanner(at).scan_charstr())?;
                 (string.is_some(), Wanted::CharacterString)
             }
-            Form::RestText => (at < self.spans().len(), Wanted::Text),
+            Form::RestText => (at < self.spans.len(), Wanted::Text),
             Form::Rest16 | Form::Rest64 => return self.encoded_fault(at, form),
             Form::Rtype => (self.is_type(at), Wanted::RecordType),
             Form::Algorithm => (self.is_algorithm(at), Wanted::Algorithm),
@@ -132,22 +131,22 @@ impl<'t> TokenRow<'t> {
     }
 
     /// Returns why the tokens from the index on are not of the encoding, or None if they are. Fails if out of memory.
-    fn encoded_fault(&self, index: usize, form: Form) -> Result<Option<Located>, AllocError> {
+    fn encoded_fault(&self, index: usize, form: Form) -> Result<Option<TokenFault>, AllocError> {
         let mut scanner = self.scanner(index);
         let (data, wanted) = match form {
             Form::Rest16 => (base16::scan_entry(&mut scanner), Wanted::Base16),
             _ => (base64::scan_entry(&mut scanner), Wanted::Base64),
         };
         let reads = read_or_refused(data)?.is_some();
-        if reads && index < self.spans().len() {
+        if reads && index < self.spans.len() {
             return Ok(None);
         }
         Ok(Some(self.unlike(self.first_unlike(index, wanted), wanted)))
     }
 
     /// Returns that a token from the index on is no type, or None if each is one.
-    fn types_fault(&self, index: usize) -> Option<Located> {
-        for at in index..self.spans().len() {
+    fn types_fault(&self, index: usize) -> Option<TokenFault> {
+        for at in index..self.spans.len() {
             if !self.is_type(at) {
                 return Some(self.unlike(at, Wanted::RecordType));
             }
@@ -156,14 +155,14 @@ impl<'t> TokenRow<'t> {
     }
 
     /// Returns where the tokens from the index on go on as no location, or None if they are one. Fails if out of memory.
-    fn location_fault(&self, index: usize) -> Result<Option<Located>, AllocError> {
+    fn location_fault(&self, index: usize) -> Result<Option<TokenFault>, AllocError> {
         let mut scanner = self.scanner(index);
         let mut octets = Vec::new(self.alloc);
         if read_or_refused(scan_location_into(&mut scanner, &mut octets))?.is_some() {
             return Ok(None);
         }
-        let mut at = self.spans().len();
-        for _ in index..self.spans().len() {
+        let mut at = self.spans.len();
+        for _ in index..self.spans.len() {
             if !scanner.continues() {
                 break;
             }
@@ -175,12 +174,12 @@ impl<'t> TokenRow<'t> {
 
     /// Returns which token from the index on is no service parameter, or that the parameters are not together, or None if
     /// they are. Fails if out of memory.
-    fn parameters_fault(&self, index: usize) -> Result<Option<Located>, AllocError> {
-        if self.are_parameters(index, self.spans().len())? {
+    fn parameters_fault(&self, index: usize) -> Result<Option<TokenFault>, AllocError> {
+        if self.are_parameters(index, self.spans.len())? {
             return Ok(None);
         }
         let mut next = index;
-        for at in index..self.spans().len() {
+        for at in index..self.spans.len() {
             if at < next {
                 continue;
             }
@@ -189,18 +188,17 @@ impl<'t> TokenRow<'t> {
                 return Ok(Some(self.unlike(at, Wanted::Parameter)));
             }
         }
-        Ok(Some(self.at(index, Reason::OtherKeys)))
+        Ok(Some(TokenFault::at(index, Reason::OtherKeys)))
     }
 
     /// Returns whether the tokens from the start up to the end are service parameters. Fails if out of memory.
     fn are_parameters(&self, start: usize, end: usize) -> Result<bool, AllocError> {
-        let spans = self.spans();
-        let end = end.min(spans.len());
+        let end = end.min(self.spans.len());
         let mut scanner: RowScanner<'_> = RowScanner::new(
             self.alloc,
             self.text,
-            self.entry.place,
-            &spans[start.min(end)..end],
+            self.place,
+            &self.spans[start.min(end)..end],
             None,
         );
         let mut octets = Vec::new(self.alloc);
@@ -214,7 +212,7 @@ impl<'t> TokenRow<'t> {
             (_, Some(value)) => value.is_empty(),
             (_, None) => false,
         };
-        let is_quoted = match self.spans().get(next) {
+        let is_quoted = match self.spans.get(next) {
             Some(span) => span.is_quoted(),
             None => false,
         };

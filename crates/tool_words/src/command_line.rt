@@ -1,10 +1,11 @@
 //! The program's command line.
-ghost use Rattle.std.specs.Prelude.{◌≡◌};
-ghost use Rattle.tool_main.specs.declared.command_line.WordsFault.TheVariants.{Line, OutOfMemory};
+ghost use Rattle.std.specs.Prelude.{◌≡◌, IfOk};
+ghost use Rattle.tool_words.specs.Task.{ReadsInputOnce};
+ghost use Rattle.tool_words.specs.declared.command_line.WordsFault.TheVariants.{Line, OutOfMemory};
 
-use crate::color::ColorChoice;
-use crate::input::{Reading, STANDARD_INPUT};
-use crate::tasks::Task;
+use crate::color_choice::ColorChoice;
+use crate::reading::{Reading, STANDARD_INPUT};
+use crate::task::Task;
 use clap::{Arg, ArgAction, ArgMatches, Command, value_parser};
 use dns_field_texts::read_type;
 use dns_name::{Class, FromStrError, Name, Rtype, ToName, ToRelativeName};
@@ -15,7 +16,7 @@ use zone_tool::Selection;
 
 /// Why a command line names no task.
 #[derive(Debug, Drop, Error)]
-pub(crate) enum WordsFault {
+pub enum WordsFault {
     /// The words are not a command line of the program, or ask for help or the version.
     #[error("{0}")]
     Line(clap::Error),
@@ -62,7 +63,15 @@ static LAYOUTS: &[&str] = &["simple", "tabbed", "multiline"];
 static COLORS: &[&str] = &["auto", "always", "never"];
 
 /// Returns the task that the words of a command line name. The first word is the program's name.
-pub(crate) fn task_of<'a>(alloc: Global, words: &'a [&'a str]) -> Result<Task<'a>, WordsFault> {
+///
+/// One command of `clap` parses the words, with a subcommand for each kind of task.
+///
+/// Fails with `Line` if `clap` rejects the words; a call for help or the version is such an error too. If it accepts them, `diff`
+/// fails with `InputTwice` if both zones are standard input, and each command with `BadName`, `BadClass` or `BadType` for the
+/// first value, in this order, that is none. Fails with `OutOfMemory`, or a `Line` of that kind, if out of memory.
+pub fn task_of<'a>(alloc: Global, words: &'a [&'a str]) -> Result<Task<'a>, WordsFault>
+    ensures { IfOk result ReadsInputOnce }
+{
     let command = command(alloc)?;
     let matches = command.try_get_matches_from(words)?;
     let Some((name, options)) = matches.subcommand() else {
@@ -80,7 +89,9 @@ pub(crate) fn task_of<'a>(alloc: Global, words: &'a [&'a str]) -> Result<Task<'a
     }
 }
 
-fn explain_task<'a>(alloc: Global, options: &ArgMatches<'a>) -> Result<Task<'a>, WordsFault> {
+fn explain_task<'a>(alloc: Global, options: &ArgMatches<'a>) -> Result<Task<'a>, WordsFault>
+    ensures { IfOk result ReadsInputOnce }
+{
     let reading = reading(alloc, options)?;
     Ok(Task::Explain {
         file: file_or_input(options, "file"),
@@ -90,7 +101,9 @@ fn explain_task<'a>(alloc: Global, options: &ArgMatches<'a>) -> Result<Task<'a>,
     })
 }
 
-fn diff_task<'a>(alloc: Global, options: &ArgMatches<'a>) -> Result<Task<'a>, WordsFault> {
+fn diff_task<'a>(alloc: Global, options: &ArgMatches<'a>) -> Result<Task<'a>, WordsFault>
+    ensures { IfOk result ReadsInputOnce }
+{
     let old = file_or_input(options, "old");
     let new = file_or_input(options, "new");
     if old == STANDARD_INPUT && new == STANDARD_INPUT {
@@ -112,7 +125,9 @@ fn diff_task<'a>(alloc: Global, options: &ArgMatches<'a>) -> Result<Task<'a>, Wo
     })
 }
 
-fn sort_task<'a>(alloc: Global, options: &ArgMatches<'a>) -> Result<Task<'a>, WordsFault> {
+fn sort_task<'a>(alloc: Global, options: &ArgMatches<'a>) -> Result<Task<'a>, WordsFault>
+    ensures { IfOk result ReadsInputOnce }
+{
     let reading = reading(alloc, options)?;
     Ok(Task::Sort {
         file: file_or_input(options, "file"),
@@ -122,7 +137,9 @@ fn sort_task<'a>(alloc: Global, options: &ArgMatches<'a>) -> Result<Task<'a>, Wo
     })
 }
 
-fn stats_task<'a>(alloc: Global, options: &ArgMatches<'a>) -> Result<Task<'a>, WordsFault> {
+fn stats_task<'a>(alloc: Global, options: &ArgMatches<'a>) -> Result<Task<'a>, WordsFault>
+    ensures { IfOk result ReadsInputOnce }
+{
     let reading = reading(alloc, options)?;
     Ok(Task::Stats {
         file: file_or_input(options, "file"),
@@ -131,7 +148,9 @@ fn stats_task<'a>(alloc: Global, options: &ArgMatches<'a>) -> Result<Task<'a>, W
     })
 }
 
-fn general_task<'a>(alloc: Global, options: &ArgMatches<'a>) -> Result<Task<'a>, WordsFault> {
+fn general_task<'a>(alloc: Global, options: &ArgMatches<'a>) -> Result<Task<'a>, WordsFault>
+    ensures { IfOk result ReadsInputOnce }
+{
     let reading = reading(alloc, options)?;
     Ok(Task::General {
         file: file_or_input(options, "file"),
@@ -139,7 +158,9 @@ fn general_task<'a>(alloc: Global, options: &ArgMatches<'a>) -> Result<Task<'a>,
     })
 }
 
-fn present_task<'a>(alloc: Global, options: &ArgMatches<'a>) -> Result<Task<'a>, WordsFault> {
+fn present_task<'a>(alloc: Global, options: &ArgMatches<'a>) -> Result<Task<'a>, WordsFault>
+    ensures { IfOk result ReadsInputOnce }
+{
     let reading = reading(alloc, options)?;
     Ok(Task::Present {
         file: file_or_input(options, "file"),
@@ -148,7 +169,9 @@ fn present_task<'a>(alloc: Global, options: &ArgMatches<'a>) -> Result<Task<'a>,
     })
 }
 
-fn query_task<'a>(alloc: Global, options: &ArgMatches<'a>) -> Result<Task<'a>, WordsFault> {
+fn query_task<'a>(alloc: Global, options: &ArgMatches<'a>) -> Result<Task<'a>, WordsFault>
+    ensures { IfOk result ReadsInputOnce }
+{
     let apex = apex(alloc, options)?;
     let class = class(options)?;
     let id = options.get_one::<u16>("id").unwrap_or(0);

@@ -2,8 +2,8 @@
 ghost use Rattle.std.specs.Prelude.{◌≡◌, IfOk, IfSome};
 ghost use Rattle.dns_fields.specs.Scanned.{NoRowScans};
 
-use super::outcome::is_want_of_memory;
-use super::reason::Wanted;
+use crate::outcome::is_want_of_memory;
+use crate::reason::Wanted;
 use dns_entry_scanner::EntryError;
 use dns_name::{FromBuilder, ToName};
 use dns_rdata::rows::{

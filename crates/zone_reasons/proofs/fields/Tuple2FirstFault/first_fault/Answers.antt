@@ -2,7 +2,7 @@ use Rattle.std.proofs.Common.{◌∷◌, subst, sym}
 use Rattle.dns_fields.specs.Fields.{Kind}
 use Rattle.dns_fields.specs.Scanned.{NoRowScans}
 use Rattle.dns_fields.proofs.ScanParts.{no_first, no_others}
-use Rattle.zone_explain.proofs.explain.fields.Tuple2FirstFault.first_fault.Goals as goal
+use Rattle.zone_reasons.proofs.fields.Tuple2FirstFault.first_fault.Goals as goal
 
 pub returns-in-Ok-Some : goal.returns-in-Ok-Some
 returns-in-Ok-Some g c =

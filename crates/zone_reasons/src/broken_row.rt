@@ -1,26 +1,30 @@
 //! Where a text fails that is cut into no row.
+ghost use Rattle.zone_reasons.specs.Located.{IsPlaceIn};
 
-use super::entry_row::EntryRow;
-use super::located::Located;
-use super::reason::Reason;
+use crate::located::Located;
+use crate::reason::Reason;
 use dns_entry_scanner::RowReader;
 use dns_name::Symbol;
+use dns_zonefile::LineMark;
 
-/// Returns why there is no row at the row's place in the text, although the text goes on there.
-pub(crate) fn broken_row_fault(text: &[u8], row: &EntryRow) -> Located {
-    let mut reader = RowReader::new(text, row.place);
+/// Returns why there is no row at the place in the text, although the text goes on there. The mark is of a line of the text,
+/// up to that of the place.
+pub fn broken_row_fault(text: &[u8], place: usize, mark: LineMark) -> Located
+    ensures { IsPlaceIn text.now result }
+{
+    let mut reader = RowReader::new(text, place);
     let mut inside = false;
-    let mut open = row.place;
+    let mut open = place;
     for _ in 0..=text.len() {
         let gap = gap_at(text, reader.place(), inside);
         inside = gap.inside;
         open = gap.opened.unwrap_or(open);
         match reader.next_token() {
             Ok(Some(_)) => {}
-            _ => return gap_fault(text, gap, open, row),
+            _ => return gap_fault(text, gap, open, mark),
         }
     }
-    located(Reason::NoLineFeed, text.len(), 0)
+    Located::within(text, Reason::NoLineFeed, text.len(), 0)
 }
 
 /// The octets between two tokens of a row.
@@ -65,22 +69,26 @@ fn gap_at(text: &[u8], start: usize, was_inside: bool) -> Gap {
 
 /// Returns why no token and no line feed follows the octets. `open` is the offset of the parenthesis that is open, if one
 /// is.
-fn gap_fault(text: &[u8], gap: Gap, open: usize, row: &EntryRow) -> Located {
+fn gap_fault(text: &[u8], gap: Gap, open: usize, mark: LineMark) -> Located
+    ensures { IsPlaceIn text.now result }
+{
     match text.get(gap.end) {
-        None if gap.inside => located(Reason::OpenParenthesis, open, 1),
-        None => located(Reason::NoLineFeed, gap.end, 0),
+        None if gap.inside => Located::within(text, Reason::OpenParenthesis, open, 1),
+        None => Located::within(text, Reason::NoLineFeed, gap.end, 0),
         Some(b'"') => quote_fault(text, gap.end),
         Some(b'(') => {
-            let line = row.mark.line_of(text, open);
-            located(Reason::NestedParenthesis(line), gap.end, 1)
+            let line = mark.line_of(text, open);
+            Located::within(text, Reason::NestedParenthesis(line), gap.end, 1)
         }
-        Some(b')') => located(Reason::MisplacedParenthesis, gap.end, 1),
-        Some(_) => located(Reason::BadOctet, gap.end, 1),
+        Some(b')') => Located::within(text, Reason::MisplacedParenthesis, gap.end, 1),
+        Some(_) => Located::within(text, Reason::BadOctet, gap.end, 1),
     }
 }
 
 /// Returns why the quote at the offset begins no token: an octet before its end is no symbol, or it has no end.
-fn quote_fault(text: &[u8], quote: usize) -> Located {
+fn quote_fault(text: &[u8], quote: usize) -> Located
+    ensures { IsPlaceIn text.now result }
+{
     let mut at = quote.saturating_add(1);
     for _ in quote..text.len() {
         match Symbol::split_from(&text[at.min(text.len())..]) {
@@ -89,16 +97,7 @@ fn quote_fault(text: &[u8], quote: usize) -> Located {
         }
     }
     match text.get(at) {
-        None | Some(b'\n') => located(Reason::OpenQuote, quote, 1),
-        Some(_) => located(Reason::BadOctet, at, 1),
-    }
-}
-
-/// Returns the reason with the place of octets from the offset on.
-fn located(reason: Reason, start: usize, len: usize) -> Located {
-    Located {
-        reason,
-        start,
-        end: start.saturating_add(len),
+        None | Some(b'\n') => Located::within(text, Reason::OpenQuote, quote, 1),
+        Some(_) => Located::within(text, Reason::BadOctet, at, 1),
     }
 }
