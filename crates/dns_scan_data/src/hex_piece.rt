@@ -40,9 +40,10 @@ fn digit_values(digits: u8x16) -> u8x16
     requires { AllByRecursion IsHexDigit digits }
     ensures { result ≡ map digit_value digits }
 {
-    let letters = digits
-        .simd_lt(u8x16::splat(b'a'))
-        .select(digits - u8x16::splat(b'A' - 10), digits - u8x16::splat(b'a' - 10));
+    let letters = digits.simd_lt(u8x16::splat(b'a')).select(
+        digits - u8x16::splat(b'A' - 10),
+        digits - u8x16::splat(b'a' - 10),
+    );
     digits
         .simd_lt(u8x16::splat(b'A'))
         .select(digits - u8x16::splat(b'0'), letters)

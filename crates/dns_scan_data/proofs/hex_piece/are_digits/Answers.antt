@@ -1,4 +1,3 @@
-use Rattle.std.proofs.Common.{◌≡◌}
 use Rattle.dns_scan_data.proofs.HexLanes.{sixteen_marked}
 use Rattle.dns_scan_data.proofs.hex_piece.are_digits.Goals as goal
 

@@ -12,5 +12,5 @@ returns c =
     let whole : take 16 digits ≡ digits = take_all 16 digits (omega (arith, c.told-digits)) in
     let are : AllByRecursion IsHexDigit (take 16 digits) = c.are_digits.ensures (let yes = c.if-not-are_digits.false in cc) in
     let spelled = sixteen_spell (take 16 digits) (ap (length {A = ℕ}) whole ∙ c.told-digits) are in
-    subst (λ (l : List ℕ). SpellsPairs l (picked c.digit_values.result)) whole
-    (subst (λ (v : List ℕ). SpellsPairs (take 16 digits) (picked v)) (sym c.digit_values.ensures) spelled)
+    subst (λ (l : List ℕ). SpellsPairs l (picked c.digit_values-values.result)) whole
+    (subst (λ (v : List ℕ). SpellsPairs (take 16 digits) (picked v)) (sym c.digit_values-values.ensures) spelled)

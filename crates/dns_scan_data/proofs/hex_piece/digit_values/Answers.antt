@@ -1,4 +1,3 @@
-use Rattle.std.proofs.Common.{◌≡◌}
 use Rattle.dns_scan_data.proofs.HexLanes.{sixteen_values}
 use Rattle.dns_scan_data.proofs.hex_piece.digit_values.Goals as goal
 
