@@ -1,10 +1,12 @@
 -- Hexadecimal digits that are read in twos, an octet for each two.
-use Rattle.std.proofs.Common.{◌≡◌, ◌+◌, ◌*◌, ◌^◌, ◌<◌, ℕ, List, [], ◌∷◌, ◌++◌, refl, sym, ◌∙◌, ap, subst, arith, append_assoc, append-nil}
+use Rattle.std.proofs.Common.{◌≡◌, ◌+◌, ◌*◌, ◌^◌, ◌<◌, ℕ, List, [], ◌∷◌, ◌++◌, refl, sym, ◌∙◌, ap, subst, arith, append_assoc, append-nil, drop, take}
 use Rattle.std.specs.Char.{digit_value}
+use Rattle.std.proofs.lemmas.List.{take-append-drop}
 use Rattle.dns_scan.specs.Bits.{bits}
 use Rattle.dns_scan.specs.Decoding.{HasRead, NoneIs, Progress, progress_of}
 use Rattle.dns_scan.specs.Encodings.{Decodes16}
 use Rattle.dns_scan.specs.declared.encoding.base.Base.TheVariants.{Sixteen}
+use Rattle.dns_scan_data.specs.AppendedHex.{SpellsPairs}
 use Rattle.dns_scan.proofs.BitLists.{bits_join, length-bits}
 use Rattle.dns_scan.proofs.Decoded.{no_character, not_whole, read_more, read_none, whole_decodes}
 
@@ -71,3 +73,28 @@ module _ (octets read : List ℕ) (so_far : Read octets read) where
     pub still_whole : (first second : ℕ) (behind : List ℕ) → left ≡ first ∷ second ∷ behind → (read ++ first ∷ second ∷ []) ++ behind ≡ text
     still_whole first second behind is =
         append_assoc read (first ∷ second ∷ []) behind ∙ ap (λ (l : List ℕ). read ++ l) (sym is) ∙ whole
+
+-- digits in twos, one after another
+pub spells_more : (digits octets behind new : List ℕ) → SpellsPairs digits octets → SpellsPairs behind new → SpellsPairs (digits ++ behind) (octets ++ new)
+spells_more [] octets behind new is more = subst (λ (l : List ℕ). SpellsPairs behind (l ++ new)) (sym is) more
+spells_more (_ ∷ []) octets behind new is more = absurd is
+spells_more (high ∷ low ∷ digits) octets behind new is more =
+    (is.0 ++ new, is.1, is.2, ap (λ (l : List ℕ). l ++ new) is.3, spells_more digits is.0 behind new is.4 more)
+
+pub pairs_read : (octets read digits new : List ℕ) → Read octets read → SpellsPairs digits new → Read (octets ++ new) (read ++ digits)
+pairs_read octets read [] new so_far is =
+    subst (λ (l : List ℕ). Read (octets ++ l) (read ++ [])) (sym is)
+    (subst (λ (l : List ℕ). Read l (read ++ [])) (sym (append-nil octets)) (subst (λ (l : List ℕ). Read octets l) (sym (append-nil read)) so_far))
+pairs_read octets read (_ ∷ []) new so_far is = absurd is
+pairs_read octets read (high ∷ low ∷ digits) new so_far is =
+    let octet = 16 * digit_value high + digit_value low in
+    let two = two_read octets read so_far high low octet is.1 is.2 refl in
+    let all = pairs_read (octets ++ octet ∷ []) (read ++ high ∷ low ∷ []) digits is.0 two is.4 in
+    let text = subst (λ (l : List ℕ). Read ((octets ++ octet ∷ []) ++ is.0) l) (append_assoc read (high ∷ low ∷ []) digits) all in
+    subst (λ (l : List ℕ). Read (octets ++ l) (read ++ high ∷ low ∷ digits)) (sym is.3)
+    (subst (λ (l : List ℕ). Read l (read ++ high ∷ low ∷ digits)) (append_assoc octets (octet ∷ []) is.0) text)
+
+-- a list by its front and what follows
+pub front_and_back : (n : ℕ) (whole front behind : List ℕ) → front ≡ take n whole → behind ≡ drop n whole → whole ≡ front ++ behind
+front_and_back n whole front behind is left =
+    sym (take-append-drop n whole) ∙ ap (λ (l : List ℕ). l ++ drop n whole) (sym is) ∙ ap (λ (l : List ℕ). front ++ l) (sym left)

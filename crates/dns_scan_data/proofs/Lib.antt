@@ -2,5 +2,6 @@ mod InFull
 mod Names
 mod Strings
 mod HexDigits
+mod HexLanes
 mod AppendedHex
 pub mod Appending

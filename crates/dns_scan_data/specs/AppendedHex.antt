@@ -1,5 +1,6 @@
 -- Octets in base 16 that are appended to others. Only contracts inside the crate name them.
-use Rattle.std.specs.Prelude.{◌≡◌, ℕ, List, [], ◌++◌}
+use Rattle.std.specs.Prelude.{◌≡◌, ◌+◌, ◌*◌, ◌<◌, ℕ, List, [], ◌∷◌, ◌++◌}
+use Rattle.std.specs.Char.{digit_value}
 use Rattle.std.specs.Str.{chars}
 use Rattle.dns_scan.specs.Encodings.{Decodes16}
 use Rattle.dns_scan.specs.Token.{IsEntry, IsWord, Token}
@@ -16,3 +17,14 @@ pub record AppendsHex (tokens left : List Token) (old new : List ℕ) : Type 0 w
 -- the tokens are no such text
 abbrev pub SpellsNoHex : List Token → Type 0
 SpellsNoHex tokens = (text octets : List ℕ) → IsEntry IsWord tokens text → Decodes16 (chars text) octets → ⊥
+
+-- a hexadecimal digit, in upper or lower case
+abbrev pub IsHexDigit : ℕ → Type 0
+IsHexDigit octet = digit_value octet < 16
+
+-- the digits spell the octets, two digits for each (RFC 4648 8)
+abbrev pub SpellsPairs : List ℕ → List ℕ → Type 0
+SpellsPairs [] octets = octets ≡ []
+SpellsPairs (_ ∷ []) octets = ⊥
+SpellsPairs (high ∷ low ∷ digits) octets =
+    (more : List ℕ) × IsHexDigit high × IsHexDigit low × (octets ≡ (16 * digit_value high + digit_value low) ∷ more) × SpellsPairs digits more

@@ -1,13 +1,15 @@
 //! Octets in base 16, decoded straight behind other octets (RFC 4648 8).
-ghost use Rattle.std.specs.Prelude.{◌≡◌, ◌<◌, ◌++◌, List, ℕ, false, IfErr, IfSome, IfNone, OnOk};
+ghost use Rattle.std.specs.Prelude.{◌≡◌, ◌<◌, ◌++◌, List, ℕ, false, IfErr, IfOk, IfSome, IfNone, OnOk};
 ghost use Rattle.std.specs.Char.{digit_value};
 ghost use Rattle.dns_scan.specs.Encodings.{Decodes16};
 ghost use Rattle.dns_scan.specs.ScanError.{is_want_of_room};
 ghost use Rattle.dns_scan.specs.Token.{SameNames};
 ghost use Rattle.dns_scan_data.specs.Appended.{GoesOn};
-ghost use Rattle.dns_scan_data.specs.AppendedHex.{AppendsHex, SpellsNoHex};
+ghost use Rattle.dns_scan_data.specs.AppendedHex.{AppendsHex, SpellsNoHex, SpellsPairs};
 
+use crate::hex_piece::{PIECE_LEN, decode_piece};
 use dns_text::{DecodeError, Scanner, ScannerError};
+use std::alloc::AllocError;
 
 /// Scans all words that are left, joined to one text in base 16, and appends its octets.
 ///
@@ -52,7 +54,10 @@ fn append_hex(text: &[u8], octets: &mut Vec<u8>) -> Result<(), DecodeError>
     ensures err { IfErr result (λ error. is_want_of_room error ≡ false → (new : List ℕ) → Decodes16 text.now new → ⊥) }
     ensures more { GoesOn octets.old.items octets.new.items }
 {
-    let mut left = text;
+    let mut left = match append_pieces(text, octets) {
+        Ok(left) => left,
+        Err(_) => return Err(DecodeError::ShortBuf),
+    };
     while let Some((&first, behind)) = left.split_first() {
         let Some(high) = hex_value(first) else {
             return Err(DecodeError::IllegalChar(char::from(first)));
@@ -69,6 +74,26 @@ fn append_hex(text: &[u8], octets: &mut Vec<u8>) -> Result<(), DecodeError>
         }
     }
     Ok(())
+}
+
+/// Appends the octets of the pieces of sixteen digits that the text begins with, and returns what is left of it: fewer
+/// than sixteen octets, or a piece with an octet that is no digit.
+///
+/// Fails if out of memory. It may then have appended some of the octets.
+fn append_pieces<'t>(text: &'t [u8], octets: &mut Vec<u8>) -> Result<&'t [u8], AllocError>
+    ensures ok { IfOk result (λ left. (digits : List ℕ) × (new : List ℕ) × SpellsPairs digits new × (text.now ≡ digits ++ left.now)
+        × (octets.new.items ≡ octets.old.items ++ new)) }
+    ensures more { GoesOn octets.old.items octets.new.items }
+{
+    let mut left = text;
+    while let Some((digits, behind)) = left.split_first_chunk::<PIECE_LEN>() {
+        let Some(piece) = decode_piece(digits) else {
+            return Ok(left);
+        };
+        octets.extend_from_slice(&piece)?;
+        left = behind;
+    }
+    Ok(left)
 }
 
 /// Returns the value of a hexadecimal digit, in upper or lower case.

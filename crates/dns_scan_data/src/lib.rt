@@ -7,6 +7,7 @@
 mod data;
 mod field;
 mod hex;
+mod hex_piece;
 mod row;
 
 pub use data::scan_data_into;

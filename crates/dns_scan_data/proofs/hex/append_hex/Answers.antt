@@ -1,11 +1,13 @@
 use Rattle.std.proofs.Common.{◌≡◌, ◌+◌, ◌*◌, ◌<◌, ◌∷◌, ◌++◌, [], length, refl, sym, ◌∙◌, ap, arith, rules, append_assoc, append-nil}
 use Rattle.std.specs.Char.{digit_value}
 use Rattle.std.proofs.lemmas.List.{nil_from_length}
-use Rattle.dns_scan_data.proofs.HexDigits.{all_read, no_first, no_half, no_second, nothing_read, still_whole, two_read}
+use Rattle.dns_scan_data.proofs.HexDigits.{all_read, no_first, no_half, no_second, nothing_read, pairs_read, still_whole, two_read}
 use Rattle.dns_scan_data.proofs.hex.append_hex.Goals as goal
 
 pub loop-first-init : goal.loop-first-init
-loop-first-init c = ([], [], nothing_read, refl, sym (append-nil c.args.octets.now.items))
+loop-first-init c =
+    let pieces = c.in-Ok.ensures.ok in
+    (pieces.1, pieces.0, pairs_read [] [] pieces.0 pieces.1 nothing_read pieces.2, sym pieces.3, pieces.4)
 
 pub returns-in_default-hex_value-clause-err : goal.returns-in_default-hex_value-clause-err
 returns-in_default-hex_value-clause-err c = λ short.
@@ -49,7 +51,7 @@ loop-first-preserved c =
       so_far.1 ++ first ∷ second ∷ [],
       two_read so_far.0 so_far.1 so_far.2 first second octet few less value,
       still_whole so_far.0 so_far.1 so_far.2 c.args.text.now left so_far.3 first second behind at,
-      c.in-Ok.ensures.items ∙ ap (λ l. l ++ octet ∷ []) so_far.4 ∙ append_assoc c.args.octets.now.items so_far.0 (octet ∷ []),
+      c.in-Ok-push.ensures.items ∙ ap (λ l. l ++ octet ∷ []) so_far.4 ∙ append_assoc c.args.octets.now.items so_far.0 (octet ∷ []),
     )
 
 pub returns-clause-ok : goal.returns-clause-ok
