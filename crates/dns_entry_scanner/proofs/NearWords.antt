@@ -10,7 +10,6 @@ use Rattle.dns_text.specs.Tokens.Next.{goes}
 use Rattle.dns_entry_scanner.specs.Octets.{is_plain_in}
 use Rattle.dns_entry_scanner.specs.Step.{StepsTo, over_word, past_space}
 use Rattle.dns_entry_scanner.specs.TokenEnd.{NoEscape, between}
-use Rattle.dns_entry_scanner.specs.TokenSpan.{len_of, start_of, token_in}
 use Rattle.dns_entry_scanner.specs.declared.token_end.TokenEnd.{TokenEnd}
 use Rattle.dns_entry_scanner.specs.declared.token_span.TokenSpan.{TokenSpan}
 use Rattle.dns_entry_scanner.proofs.Steps.{next_word}
@@ -57,8 +56,3 @@ steps_over inside text place end within most head is some no_escape =
       marked = run.marked;
       within = omega (arith, ends, most);
     }
-
--- the same once it is passed
-pub next_passed : {inside out : Bool} {text behind : List ℕ} {place : ℕ} (span : TokenSpan) → StepsTo inside text place (over_word inside span)
-    → out ≡ inside → behind ≡ drop (start_of span + len_of span) text → Next inside (drop place text) (Some (token_in text span)) out behind
-next_passed span steps out_is behind_is = rw (out_is, behind_is) steps.next

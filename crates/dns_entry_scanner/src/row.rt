@@ -38,11 +38,6 @@ pub fn read_row(
     tokens.clear();
     let mut reader = RowReader::new(text, place);
     loop {
-        if let Some(word) = reader.near_word() {
-            reader.pass(word);
-            tokens.push(word.by_fields())?;
-            continue;
-        }
         match reader.next_token() {
             Ok(Some(token)) => tokens.push(token.by_fields())?,
             Ok(None) => {

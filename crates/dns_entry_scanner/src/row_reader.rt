@@ -1,5 +1,5 @@
 //! A reader of the tokens of rows.
-ghost use Rattle.std.specs.Prelude.{◌≤◌, ◌≡◌, ◌+◌, false, length, drop, IfSome, IfOk, OnErr, option_map};
+ghost use Rattle.std.specs.Prelude.{◌≤◌, ◌≡◌, false, length, drop, IfSome, IfOk, OnErr, option_map};
 
 use crate::TokenSpan;
 use crate::near_word::near_word;
@@ -23,8 +23,7 @@ pub struct RowReader<'t> {
 impl<'t> RowReader<'t> {
     ghost use Rattle.dns_text.specs.Tokens.{Next};
     ghost use Rattle.dns_entry_scanner.specs.RowReader.{is_inside, left_of, text_of};
-    ghost use Rattle.dns_entry_scanner.specs.Step.{StepsTo, over_word};
-    ghost use Rattle.dns_entry_scanner.specs.TokenSpan.{IsMarked, NoNext, len_of, start_of, token_in};
+    ghost use Rattle.dns_entry_scanner.specs.TokenSpan.{IsMarked, NoNext, token_in};
 
     /// Returns a reader at the place, outside parentheses. A place after the end of the text counts as the end.
     pub fn new(text: &'t [u8], place: usize) -> Self
@@ -58,28 +57,13 @@ impl<'t> RowReader<'t> {
         ensures broken { OnErr result (NoNext (is_inside self.old) (left_of self.old)) }
         ensures stays { OnErr result (self.new ≡ self.old) }
     {
+        if let Some(word) = near_word(self.text, self.place, self.inside) {
+            self.place = word.start + word.len;
+            return Ok(Some(word));
+        }
         let step = next_step(self.text, self.place, self.inside).ok_or(BrokenRow)?;
         self.place = step.place;
         self.inside = step.inside;
         Ok(step.found)
-    }
-
-    /// Returns the next token if it is a word without a backslash and at most one space precedes it. It is not read yet.
-    #[inline(always)]
-    pub(crate) fn near_word(&self) -> Option<TokenSpan>
-        ensures { IfSome result (λ span. StepsTo (is_inside self.now) (text_of self.now) self.now.place (over_word (is_inside self.now) span)) }
-    {
-        near_word(self.text, self.place, self.inside)
-    }
-
-    /// Goes on after the word.
-    #[inline(always)]
-    pub(crate) fn pass(&mut self, word: TokenSpan)
-        requires { start_of word + len_of word ≤ length (text_of self.old) }
-        ensures text { text_of self.new ≡ text_of self.old }
-        ensures inside { is_inside self.new ≡ is_inside self.old }
-        ensures left { left_of self.new ≡ drop (start_of word + len_of word) (text_of self.old) }
-    {
-        self.place = word.start + word.len;
     }
 }
