@@ -23,7 +23,8 @@ use dns_zonefile::{EntryError, InlineName, RowFound, RowScanner, read_row};
 use std::alloc::Global;
 use std::fmt::Write;
 use zone_general::{
-    FoundRow, LongerReader, RowType, append_rewritten, is_marked, row_type, scan_data,
+    FoundRow, LongerReader, RowType, append_rewritten, is_marked, is_want_of_memory, row_type,
+    scan_data,
 };
 
 /// The presentation form.
@@ -88,7 +89,7 @@ fn printed_row<'a>(
     match scan_data(alloc, row, kind, origin, &mut data) {
         Ok(()) => {}
         Err(error) => {
-            if error == EntryError::OutOfMemory {
+            if is_want_of_memory(error) {
                 return Err(error);
             }
             return Ok(None);
@@ -222,7 +223,7 @@ fn reads_back<'a>(
             Ok(octets.as_slice() == data)
         }
         Err(error) => {
-            if error == EntryError::OutOfMemory {
+            if is_want_of_memory(error) {
                 return Err(error);
             }
             Ok(false)

@@ -15,7 +15,7 @@ mod stated_type;
 
 pub use found_row::FoundRow;
 pub use longer_reader::{LongerReader, RowForm};
-pub use readable::general_rows;
+pub use readable::{general_rows, is_want_of_memory};
 pub use rewriting::append_rewritten;
 pub use row_data::{is_marked, scan_data};
 pub use stated_type::{RowType, row_type};

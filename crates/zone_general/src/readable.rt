@@ -109,7 +109,7 @@ fn append_refused(
 }
 
 /// Returns whether the error is out of memory.
-fn is_want_of_memory(error: EntryError) -> bool
+pub fn is_want_of_memory(error: EntryError) -> bool
     ensures { result ≡ is_memory error }
 {
     matches!(error, EntryError::OutOfMemory)

@@ -1,7 +1,7 @@
 use Rattle.std.proofs.Common.{◌∙◌, ℕ, List, sym, subst}
 use Rattle.dns_scan.specs.Token.{IsEntry, IsWord}
 use Rattle.dns_field_texts.proofs.AppendedBase64.{base64_appended, no_base64}
-use Rattle.dns_field_texts.proofs.base64.scan_base64_into.Goals as goal
+use Rattle.dns_field_texts.proofs.base64.scan_joined_into.Goals as goal
 
 pub returns-in-Ok-append_base64-clause-ok : goal.returns-in-Ok-append_base64-clause-ok
 returns-in-Ok-append_base64-clause-ok g c =
