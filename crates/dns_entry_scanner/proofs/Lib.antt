@@ -1,7 +1,6 @@
 pub mod PlainOctets
 pub mod TokenRuns
 pub mod Steps
-pub mod NearWords
 pub mod Rows
 pub mod PlainTokens
 pub mod OneNameInText

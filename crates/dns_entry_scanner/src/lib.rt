@@ -18,7 +18,6 @@ mod entry_scanner;
 mod gap;
 mod head;
 mod inline_name;
-mod near_word;
 mod plain_octets;
 mod row;
 mod row_reader;

@@ -2,7 +2,6 @@
 ghost use Rattle.std.specs.Prelude.{◌≤◌, ◌≡◌, false, length, drop, IfSome, IfOk, OnErr, option_map};
 
 use crate::TokenSpan;
-use crate::near_word::near_word;
 use crate::step::next_step;
 use thiserror::Error;
 
@@ -57,10 +56,6 @@ impl<'t> RowReader<'t> {
         ensures broken { OnErr result (NoNext (is_inside self.old) (left_of self.old)) }
         ensures stays { OnErr result (self.new ≡ self.old) }
     {
-        if let Some(word) = near_word(self.text, self.place, self.inside) {
-            self.place = word.start + word.len;
-            return Ok(Some(word));
-        }
         let step = next_step(self.text, self.place, self.inside).ok_or(BrokenRow)?;
         self.place = step.place;
         self.inside = step.inside;

@@ -98,7 +98,6 @@ impl<'t, N> RowScanner<'t, N> {
     }
 
     /// Returns the next token without taking it.
-    #[inline(always)]
     fn peek(&self) -> Option<RowToken<'t>>
         ensures some { IfSome result (λ token. tokens_of self.now ≡ token_of token ∷ drop 1 (tokens_of self.now)) }
         ensures none { IfNone result (tokens_of self.now ≡ []) }
@@ -113,7 +112,6 @@ impl<'t, N> RowScanner<'t, N> {
     }
 
     /// Takes the next token. Fails with `EndOfEntry` if there is none.
-    #[inline(always)]
     fn take_token(&mut self) -> Result<RowToken<'t>, EntryError>
         ensures ok { IfOk result (λ token. tokens_of self.old ≡ token_of token ∷ tokens_of self.new) }
         ensures err { OnErr result ((tokens_of self.old ≡ []) × (tokens_of self.new ≡ [])) }
@@ -152,7 +150,6 @@ impl<'t, N> RowScanner<'t, N> {
 }
 
 impl<'t, N: TextName> EntryScanner for RowScanner<'t, N> {
-    #[inline(always)]
     fn next_is_quoted(&self) -> bool {
         match self.peek() {
             Some(token) => token.quoted,

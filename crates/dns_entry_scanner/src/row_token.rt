@@ -25,7 +25,6 @@ impl<'t> RowToken<'t> {
     ghost use Rattle.dns_entry_scanner.specs.RowToken.{token_of};
 
     /// Returns the token's text if the token is a word: unquoted, and without a backslash.
-    #[inline(always)]
     pub(crate) fn word(self) -> Option<&'t str>
         ensures some { IfSome result (λ word. IsWord word.now (token_of self.entry)) }
         ensures none { IfNone result ((text : List ℕ) → IsWord text (token_of self.entry) → ⊥) }
@@ -45,7 +44,6 @@ impl<'t> RowToken<'t> {
     }
 
     /// Returns whether the token is `\#`, the marker of unknown data (RFC 3597 5).
-    #[inline(always)]
     pub(crate) fn is_marker(self) -> bool
         ensures { IsTrue result ↔ (token_of self.entry ≡ marker) }
     {

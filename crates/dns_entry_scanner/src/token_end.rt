@@ -36,8 +36,7 @@ pub(crate) fn token_end(text: &[u8], place: usize, quoted: bool) -> TokenEnd
 }
 
 /// Returns the place after the escape at `place`, or None if there is no escape.
-#[inline(always)]
-pub(crate) fn escape_end(text: &[u8], place: usize) -> Option<usize>
+fn escape_end(text: &[u8], place: usize) -> Option<usize>
     requires { place ≤ length text.now }
     ensures found { IfSome result (λ end. HasEscape (drop place text.now) (drop end text.now)) }
     ensures within { IfSome result (λ end. end ≤ length text.now) }

@@ -58,7 +58,6 @@ impl TokenSpan {
     /// Returns the token as it is written in the text that it was read from, without quotes.
     ///
     /// In a shorter text, the token ends where that text ends.
-    #[inline(always)]
     pub fn text<'t>(&self, of: &'t [u8]) -> &'t [u8]
         ensures { result.now ≡ (token_in of.now self.now).text }
     {

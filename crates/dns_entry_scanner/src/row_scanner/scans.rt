@@ -27,7 +27,6 @@ impl<'t, N: TextName> Scanner for RowScanner<'t, N> {
         ends_white(self.gap())
     }
 
-    #[inline(always)]
     fn continues(&mut self) -> bool {
         !self.left.is_empty()
     }
@@ -42,7 +41,6 @@ impl<'t, N: TextName> Scanner for RowScanner<'t, N> {
         string_of(self.alloc, token)
     }
 
-    #[inline(always)]
     fn scan_opt_unknown_marker(&mut self) -> Result<bool, EntryError> {
         match self.peek() {
             Some(token) if token.is_marker() => {
@@ -53,7 +51,6 @@ impl<'t, N: TextName> Scanner for RowScanner<'t, N> {
         }
     }
 
-    #[inline(always)]
     fn scan_ascii_str<F, T>(&mut self, op: F) -> Result<T, EntryError>
     where
         F: FnOnce(&str) -> Option<T>,
