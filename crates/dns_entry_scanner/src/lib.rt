@@ -36,6 +36,7 @@ use dns_name::{Chain, Name, RelativeName};
 pub use entry_error::EntryError;
 pub use entry_scanner::EntryScanner;
 pub use inline_name::to_inline_name;
+pub use plain_octets::line_end;
 pub use row::{RowFound, read_row};
 pub use row_reader::{BrokenRow, RowReader};
 pub use row_scanner::RowScanner;

@@ -21,8 +21,9 @@ pub(crate) fn plain_end(text: &[u8], place: usize, quoted: bool) -> usize
     }
 }
 
-/// Returns the place of the first line feed at or after `place`, or the end of the text if there is none.
-pub(crate) fn comment_end(text: &[u8], place: usize) -> usize
+/// Returns the place of the first line feed at or after `place`, or the end of the text if there is none. It is where a comment
+/// or a line ends (RFC 1035 5.1).
+pub fn line_end(text: &[u8], place: usize) -> usize
     requires { place ≤ length text.now }
     ensures feed { drop result text.now ≡ from_feed (drop place text.now) }
     ensures behind { place ≤ result }

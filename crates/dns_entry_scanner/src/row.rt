@@ -5,7 +5,7 @@ ghost use Rattle.dns_text.specs.Tokens.{is_end};
 ghost use Rattle.dns_entry_scanner.specs.RowFound.{NoRow, IsFoundAt};
 ghost use Rattle.dns_entry_scanner.specs.declared.token_span.TokenSpan.{TokenSpan};
 
-use crate::plain_octets::comment_end;
+use crate::plain_octets::line_end;
 use crate::{RowReader, TokenSpan};
 use std::alloc::AllocError;
 
@@ -78,7 +78,7 @@ fn is_end_at(text: &[u8], place: usize) -> bool
     while at < text.len() {
         match text[at] {
             b' ' | b'\t' | b'\r' => at += 1,
-            b';' => at = comment_end(text, at + 1),
+            b';' => at = line_end(text, at + 1),
             _ => return false,
         }
     }

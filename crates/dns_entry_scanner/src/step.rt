@@ -7,7 +7,7 @@ ghost use Rattle.dns_entry_scanner.specs.TokenSpan.{NoNext};
 
 use crate::TokenSpan;
 use crate::head::{Head, head_of};
-use crate::plain_octets::comment_end;
+use crate::plain_octets::line_end;
 use crate::token_end::token_end;
 
 /// What comes next in a row, and where the text goes on.
@@ -36,7 +36,7 @@ pub(crate) fn next_step(text: &[u8], place: usize, inside: bool) -> Option<Step>
                 now_inside = behind;
                 at += 1;
             }
-            Head::Comment => at = comment_end(text, at + 1),
+            Head::Comment => at = line_end(text, at + 1),
             Head::Feed => {
                 return Some(Step {
                     found: None,

@@ -5,4 +5,4 @@ use Rattle.dns_entry_scanner.proofs.row.is_end_at.Goals as goal
 pub loop-at-preserved : goal.loop-at-preserved
 loop-at-preserved c =
     c.loop-at.invariant
-    ∙ end_at_comment c.args.text.now c.loop-at.at c.comment_end-at.result (omega arith) c.in-59.is c.comment_end-at.ensures.feed
+    ∙ end_at_comment c.args.text.now c.loop-at.at c.line_end-at.result (omega arith) c.in-59.is c.line_end-at.ensures.feed

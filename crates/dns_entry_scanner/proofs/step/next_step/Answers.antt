@@ -10,9 +10,9 @@ loop-at-preserved-in-Go c = record {
 
 pub loop-at-preserved : goal.loop-at-preserved
 loop-at-preserved c = record {
-  same = same_comment c.args.text.now c.loop-at.at (omega arith) c.loop-at.invariant.same c.comment_end-at.result c.in-Comment.ensures
-      c.comment_end-at.ensures.feed;
-  within = c.comment_end-at.ensures.within;
+  same = same_comment c.args.text.now c.loop-at.at (omega arith) c.loop-at.invariant.same c.line_end-at.result c.in-Comment.ensures
+      c.line_end-at.ensures.feed;
+  within = c.line_end-at.ensures.within;
 }
 
 pub returns-in-Feed-clause-found : goal.returns-in-Feed-clause-found
