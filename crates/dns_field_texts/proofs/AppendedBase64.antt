@@ -2,6 +2,7 @@
 use Rattle.std.proofs.Common.{◌≡◌, ◌+◌, ◌*◌, ◌/◌, ◌%◌, ◌^◌, ◌<◌, ◌≤◌, ◌-◌, zero, suc, ℕ, true, List, [], ◌∷◌, ◌++◌, length, map, replicate, take, drop, get_or, refl, sym, ◌∙◌, ap, subst, arith, append_assoc, append-nil, length-append}
 use Rattle.std.specs.List.{AllByRecursion, list_all}
 use Rattle.std.specs.Str.{chars}
+use Rattle.std.proofs.Math.Seq.{take-append_seam}
 use Rattle.std.proofs.lemmas.Bool.{and_parts}
 use Rattle.std.proofs.lemmas.Bool.Decides.{nat_tests}
 use Rattle.std.proofs.lemmas.List.{length-map, map-append, nil_from_length, take_all}
@@ -13,13 +14,14 @@ use Rattle.dns_scan.specs.Base.{Groups, IsCharacter, digit, digit_64}
 use Rattle.dns_scan.specs.Bits.{all_bits, bits}
 use Rattle.dns_scan.specs.Decoding.{NoneIs}
 use Rattle.dns_scan.specs.Encodings.{Decodes64}
-use Rattle.dns_scan.specs.Token.{IsEntry, IsWord, Token}
+use Rattle.dns_scan.specs.Token.{HasText, IsEntry, IsWord, Takes, Token}
 use Rattle.dns_scan.specs.declared.encoding.base.Base.TheVariants.{SixtyFour}
 use Rattle.dns_scan.proofs.BitLists.{bits_join, length-bits}
 use Rattle.dns_scan.proofs.Decoded.{all_bits-append, each_append, length-all_bits, no_pad}
 use Rattle.dns_scan.proofs.Encodings.{Ascii, is_ascii}
 use Rattle.dns_scan.proofs.Entries.{words_one}
-use Rattle.dns_field_texts.specs.AppendedBase64.{AppendsBase64, SpellsNoBase64}
+use Rattle.dns_field_texts.specs.Appended.{GoesOn}
+use Rattle.dns_field_texts.specs.AppendedBase64.{AppendsBase64, AppendsGroups, BeginsWithGroups, SpellsNoBase64}
 
 abbrev all_digits : List ℕ → List ℕ
 all_digits characters = all_bits 6 (map (digit SixtyFour) characters)
@@ -83,6 +85,18 @@ module _ (front octets : List ℕ) (groups : Groups SixtyFour front octets) (who
       ap (all_bits 6) (map-append (digit SixtyFour) front characters)
       ∙ all_bits-append 6 (map (digit SixtyFour) front) (map (digit SixtyFour) characters) ∙ ap (λ (l : List ℕ). l ++ all_digits characters) same_bits
 
+  pub groups_behind : (more others : List ℕ) → Groups SixtyFour more others → Groups SixtyFour (front ++ more) (octets ++ others)
+  groups_behind more others is = record {
+    each = each_append (IsCharacter SixtyFour) front more groups.each is.each;
+    are_octets = each_append IsOctet octets others groups.are_octets is.are_octets;
+    rest = is.rest;
+    cut =
+        digits_behind more ∙ ap (λ (l : List ℕ). all_bits 8 octets ++ l) is.cut
+        ∙ sym (append_assoc (all_bits 8 octets) (all_bits 8 others) is.rest)
+        ∙ ap (λ (l : List ℕ). l ++ is.rest) (sym (all_bits-append 8 octets others));
+    little = is.little;
+  }
+
   pub decodes_behind : (left more : List ℕ) → Decodes64 left more → Decodes64 (front ++ left) (octets ++ more)
   decodes_behind left more is =
       let at = is.text_of in record {
@@ -93,16 +107,7 @@ module _ (front octets : List ℕ) (groups : Groups SixtyFour front octets) (who
           written = ap (λ (l : List ℕ). front ++ l) at.written ∙ sym (append_assoc front is.characters (replicate at.pads 61));
           fours = omega (arith, at.fours, whole, length-append front left);
         };
-        groups = record {
-          each = each_append (IsCharacter SixtyFour) front is.characters groups.each is.groups.each;
-          are_octets = each_append IsOctet octets more groups.are_octets is.groups.are_octets;
-          rest = is.groups.rest;
-          cut =
-              digits_behind is.characters ∙ ap (λ (l : List ℕ). all_bits 8 octets ++ l) is.groups.cut
-              ∙ sym (append_assoc (all_bits 8 octets) (all_bits 8 more) is.groups.rest)
-              ∙ ap (λ (l : List ℕ). l ++ is.groups.rest) (sym (all_bits-append 8 octets more));
-          little = is.groups.little;
-        };
+        groups = groups_behind is.characters more is.groups;
       }
 
   pub none_behind : (left : List ℕ) → NoneIs SixtyFour left → NoneIs SixtyFour (front ++ left)
@@ -212,3 +217,112 @@ pub no_base64 : (tokens : List Token) (text : List ℕ) → IsEntry IsWord token
 no_base64 tokens text entry none other octets also decodes =
     let same : chars other ≡ text = words_chars tokens other also ∙ words_one tokens other text also entry in
     none octets (subst (λ (l : List ℕ). Decodes64 l octets) same decodes)
+
+-- groups that a text begins with
+pub groups_none : (text old : List ℕ) → AppendsGroups text text old old
+groups_none text old = record {
+  front = [];
+  octets = [];
+  is = refl;
+  groups = record { each = tt; are_octets = tt; rest = []; cut = refl; little = omega arith };
+  whole = refl;
+  behind = sym (append-nil old);
+}
+
+pub groups_more : {text left old now new : List ℕ} (first behind group : List ℕ) → AppendsGroups text left old now → left ≡ first ++ behind
+    → Groups SixtyFour first group → length first % 4 ≡ 0 → new ≡ now ++ group → AppendsGroups text behind old new
+groups_more {old = old} first behind group so is groups whole appended = record {
+  front = so.front ++ first;
+  octets = so.octets ++ group;
+  is = so.is ∙ ap (λ (l : List ℕ). so.front ++ l) is ∙ sym (append_assoc so.front first behind);
+  groups = groups_behind so.front so.octets so.groups so.whole first group groups;
+  whole = omega (arith, length-append so.front first, so.whole, whole);
+  behind = appended ∙ ap (λ (l : List ℕ). l ++ group) so.behind ∙ append_assoc old so.octets group;
+}
+
+pub groups_leave : {text left old new : List ℕ} (so : AppendsGroups text left old new) → Leaves text left so.octets
+groups_leave {text} {left} so = leaves_less so.front left so.octets (leaves_all text) so.is so.groups so.whole
+
+-- if nothing is left, the token that has the text
+pub token_groups : {tokens left : List Token} {text end old new : List ℕ} → Takes (HasText text) tokens left → end ≡ []
+    → AppendsGroups text end old new → BeginsWithGroups tokens old new
+token_groups {left = left} {text} takes none so =
+    let same : so.front ≡ takes.token.text =
+    sym (takes.fits ∙ so.is ∙ ap (λ (l : List ℕ). so.front ++ l) none ∙ append-nil so.front) in record {
+      token = takes.token;
+      left = left;
+      is = takes.is;
+      octets = so.octets;
+      groups = subst (λ (l : List ℕ). Groups SixtyFour l so.octets) same so.groups;
+      whole = subst (λ (l : List ℕ). length l % 4 ≡ 0) same so.whole;
+      behind = so.behind;
+    }
+
+-- words that were taken, before others in base 64
+pub record TakesOn (tokens left : List Token) (old now : List ℕ) : Type 0 where
+  pub on : (end : List Token) (new : List ℕ) → AppendsBase64 left end now new → AppendsBase64 tokens end old new
+  pub none : SpellsNoBase64 left → SpellsNoBase64 tokens
+
+pub takes_none : (tokens : List Token) (old : List ℕ) → TakesOn tokens tokens old old
+takes_none tokens old = record { on = λ end new is. is; none = λ none. none }
+
+pub takes_word : {tokens before left : List Token} {old now new : List ℕ} → TakesOn tokens before old now → (begins : BeginsWithGroups before now new)
+    → (word : List ℕ) → Takes (IsWord word) before left → TakesOn tokens left old new
+takes_word {before = before} {left} {now = now} so begins word takes =
+    let both : begins.token ∷ begins.left ≡ takes.token ∷ left = sym begins.is ∙ takes.is in
+    let first : begins.token ≡ takes.token = cc in
+    let same : begins.token.text ≡ word = ap (λ (t : Token). t.text) (first ∙ takes.fits.0) in
+    let groups : Groups SixtyFour word begins.octets = subst (λ (l : List ℕ). Groups SixtyFour l begins.octets) same begins.groups in
+    let whole : length word % 4 ≡ 0 = subst (λ (l : List ℕ). length l % 4 ≡ 0) same begins.whole in record {
+      on = λ end last is.
+          let text = word ++ is.text in
+          let entry : IsEntry IsWord before text =
+          subst (λ (t : List Token). IsEntry IsWord t text) (sym takes.is) (word, is.text, takes.fits, is.entry, refl) in
+          let decodes = subst (λ (l : List ℕ). Decodes64 l is.octets) (words_chars left is.text is.entry) is.decodes in
+          so.on end last (record {
+            text = text;
+            octets = begins.octets ++ is.octets;
+            entry = entry;
+            decodes =
+                subst (λ (l : List ℕ). Decodes64 l (begins.octets ++ is.octets)) (sym (words_chars before text entry))
+                (decodes_behind word begins.octets groups whole is.text is.octets decodes);
+            none = is.none;
+            behind = is.behind ∙ ap (λ (l : List ℕ). l ++ is.octets) begins.behind ∙ append_assoc now begins.octets is.octets;
+          });
+      none = λ none. so.none (λ text octets entry decodes.
+          let at = subst (λ (t : List Token). IsEntry IsWord t text) takes.is entry in
+          let piece : at.0 ≡ word = ap (λ (t : Token). t.text) (sym at.2.0 ∙ takes.fits.0) in
+          let whole_text : chars text ≡ word ++ at.1 = words_chars before text entry ∙ at.4 ∙ ap (λ (l : List ℕ). l ++ at.1) piece in
+          none_behind word begins.octets groups whole at.1
+          (λ others is. none at.1 others at.3 (subst (λ (l : List ℕ). Decodes64 l others) (sym (words_chars left at.1 at.3)) is))
+          octets (subst (λ (l : List ℕ). Decodes64 l octets) whole_text decodes));
+    }
+
+-- a token that is no word
+pub no_word : {tokens : List Token} → (tokens ≡ [] → ⊥) → ((word : List ℕ) (left : List Token) → Takes (IsWord word) tokens left → ⊥)
+    → SpellsNoBase64 tokens
+no_word {tokens = []} some none text octets entry decodes = some refl
+no_word {tokens = token ∷ tokens} some none text octets entry decodes =
+    none entry.0 tokens (record { token = token; is = refl; fits = entry.2 })
+
+-- octets that were appended, and others behind them
+pub goes_none : (old : List ℕ) → GoesOn old old
+goes_none old = record { more = []; is = sym (append-nil old) }
+
+pub goes_join : {old middle new : List ℕ} → GoesOn old middle → GoesOn middle new → GoesOn old new
+goes_join {old} first second = record {
+  more = first.more ++ second.more;
+  is = second.is ∙ ap (λ (l : List ℕ). l ++ second.more) first.is ∙ append_assoc old first.more second.more;
+}
+
+pub groups_go : {text left old new : List ℕ} → AppendsGroups text left old new → GoesOn old new
+groups_go so = record { more = so.octets; is = so.behind }
+
+pub goes_back : {old middle new : List ℕ} {count : ℕ} → GoesOn old middle → count ≡ length old → new ≡ take count middle → GoesOn old new
+goes_back {old} {middle} goes is back = record {
+  more = [];
+  is = back ∙ ap (λ (n : ℕ). take n middle) is ∙ ap (take {A = ℕ} (length old)) goes.is ∙ take-append_seam old goes.more ∙ sym (append-nil old);
+}
+
+pub goes_same : {old middle new : List ℕ} → GoesOn old middle → new ≡ middle → GoesOn old new
+goes_same goes is = record { more = goes.more; is = is ∙ goes.is }

@@ -25,7 +25,7 @@ pub(crate) fn append_general_form(octets: &[u8], text: &mut Vec<u8>) -> Result<(
 }
 
 /// How many octets at most are written in base 16 before their digits are appended.
-const PIECE_LEN: usize = 16;
+const PIECE_LEN: usize = 64;
 
 /// Appends two hexadecimal digits, in capitals, for each octet.
 fn append_hex(octets: &[u8], text: &mut Vec<u8>) -> Result<(), AllocError>
@@ -42,9 +42,9 @@ fn append_hex(octets: &[u8], text: &mut Vec<u8>) -> Result<(), AllocError>
     Ok(())
 }
 
-/// Writes two hexadecimal digits, in capitals, for each of at most 16 octets, from the start of `digits` on.
+/// Writes two hexadecimal digits, in capitals, for each of at most 64 octets, from the start of `digits` on.
 fn write_hex(octets: &[u8], digits: &mut [u8; 2 * PIECE_LEN])
-    requires { length octets.now ≤ 16 }
+    requires { length octets.now ≤ 64 }
     ensures { take (2 * length octets.now) digits.new ≡ hex_of octets.now }
 {
     for (index, &octet) in octets.iter().enumerate() {

@@ -1,17 +1,42 @@
-use Rattle.std.proofs.Common.{◌∙◌, ℕ, List, sym, subst}
-use Rattle.dns_scan.specs.Token.{IsEntry, IsWord}
-use Rattle.dns_field_texts.proofs.AppendedBase64.{base64_appended, no_base64}
+use Rattle.std.proofs.Common.{◌≡◌, ◌∙◌, ◌++◌, List, ℕ, false, true, refl, ap, sym, subst}
+use Rattle.std.proofs.lemmas.Result.{IfErr-weaker}
+use Rattle.dns_scan.specs.Token.{Token}
+use Rattle.dns_scan.proofs.SymbolsRead.{same_names_join}
+use Rattle.dns_field_texts.specs.Appended.{GoesOn}
+use Rattle.dns_field_texts.proofs.AppendedBase64.{TakesOn, goes_join, goes_same, no_word, takes_word}
 use Rattle.dns_field_texts.proofs.base64.scan_base64_into.Goals as goal
+use Rattle.dns_field_texts.proofs.base64.scan_base64_into.Goals.{else-loop-scanner-test, then-loop-scanner-test+in-Ok-false}
 
-pub returns-in-Ok-append_base64-clause-ok : goal.returns-in-Ok-append_base64-clause-ok
-returns-in-Ok-append_base64-clause-ok g c =
-    let before = g.S.Scanner.tokens c.args.scanner.now in
-    let entry = subst (λ (l : List ℕ). IsEntry IsWord before l) (sym c.as_bytes.ensures.value) c.in-Ok.ensures.ok.0 in
-    let decoded = c.in-Ok-append_base64.ensures.ok in
-    base64_appended before _ c.as_bytes.result.now decoded.0 _ _ entry c.in-Ok.ensures.ok.1 decoded.1 decoded.2
+pub loop-scanner-preserved : goal.loop-scanner-preserved
+loop-scanner-preserved g c =
+    let P : List Token → Type 0 = λ l. TakesOn (g.S.Scanner.tokens c.args.scanner.now) l c.args.octets.now.items c.loop-scanner.octets.items in
+    let so = subst P (sym c.continues.ensures.stays) c.loop-scanner.invariant.so in
+    let left = g.S.Scanner.tokens c.scan_ascii_str.new.self in
+    record {
+      so = takes_word {left = left} so (c.in-Ok-true.ensures.whole c.in-Ok-true.field-0-test) c.in-Ok.ensures.ok.0 c.in-Ok.ensures.ok.1;
+      more = goes_join c.loop-scanner.invariant.more c.append_next_groups.ensures.more;
+      names =
+          same_names_join _ _ _ (same_names_join _ _ _ c.loop-scanner.invariant.names c.continues.ensures.names) c.scan_ascii_str.ensures.names;
+    }
+
+pub returns-in-Err-scan_ascii_str-clause-err : goal.returns-in-Err-scan_ascii_str-clause-err
+returns-in-Err-scan_ascii_str-clause-err g c = λ short.
+    let P : List Token → Type 0 = λ l. TakesOn (g.S.Scanner.tokens c.args.scanner.now) l c.args.octets.now.items c.loop-scanner.octets.items in
+    let so = subst P (sym c.continues.ensures.stays) c.loop-scanner.invariant.so in
+    so.none (no_word (λ none. c.loop-scanner-test.ensures.some.0 refl (sym c.continues.ensures.stays ∙ none))
+    (λ word left takes. let ran = c.in-Err-scan_ascii_str.ensures.err short word left takes in let bad : false ≡ true = ran.1 in cc))
 
 pub returns-clause-err : goal.returns-clause-err
-returns-clause-err g c = λ short.
-    let before = g.S.Scanner.tokens c.args.scanner.now in
-    let entry = subst (λ (l : List ℕ). IsEntry IsWord before l) (sym c.as_bytes.ensures.value) c.in-Ok.ensures.ok.0 in
-    no_base64 before c.as_bytes.result.now entry (c.in-Err-append_base64.ensures.err (sym c.scan_error.ensures ∙ short))
+returns-clause-err g c =
+    let P : List Token → Type 0 = λ l. TakesOn (g.S.Scanner.tokens c.args.scanner.now) l c.args.octets.now.items c.loop-scanner.octets.items in
+    let so = subst P (sym c.continues.ensures.stays) c.loop-scanner.invariant.so in
+    IfErr-weaker c.scan_joined_into.result _ _ (λ error none short. so.none (none short)) c.scan_joined_into.ensures.err
+
+pub returns-clause-more : goal.returns-clause-more
+returns-clause-more g c =
+    let before : GoesOn c.args.octets.now.items c.loop-scanner-test.octets.items = elim c.loop-scanner-test.branch [
+      | else-loop-scanner-test w ↦ goes_same c.loop-scanner.invariant.more (ap (λ v. v.items) w.octets-is)
+      | then-loop-scanner-test+in-Ok-false w ↦
+          goes_same (goes_join c.loop-scanner.invariant.more w.append_next_groups.ensures.more) (ap (λ v. v.items) w.octets-is)
+    ] in
+    goes_join before c.scan_joined_into.ensures.more

@@ -1,0 +1,9 @@
+use Rattle.std.proofs.Common.{length}
+use Rattle.dns_field_texts.specs.AppendedBase64.{AppendsGroups}
+use Rattle.dns_field_texts.proofs.base64.append_groups.Given as goal
+
+abbrev pub invariant-loop-left : goal.invariant-loop-left
+invariant-loop-left l = AppendsGroups l.text l.left l.fn.octets.items l.octets.items
+
+abbrev pub decreases-loop-left : goal.decreases-loop-left
+decreases-loop-left l = length l.left
